@@ -1,0 +1,35 @@
+-- `new` makes the struct without bytes, and picks 0 for its number.
+use Rattle.std.proofs.Common.{[], ◌∷◌, refl}
+use Rattle.std.proofs.raw_atomic.Walks.{proved}
+use mir.Val.{vstruct, vnil}
+use base.Fml.{ftrue}
+use types.Kit.{‵, raw, ◌⊛◌, ◌$◌, ◌∵◌, !, qed, move, keep, split, suffices, done}
+use types.Run.{enter, returns, no_more}
+use types.Part.{agg}
+use types.ByLocal.{alloc_all, pass_all, free_all, look_at, sets}
+use denote.RattleType.{owns}
+use denote.Shadow.{pure_i}
+use denote.Signature.{types_at}
+use denote.Triple.Entry.{alive}
+use denote.Triple.Walked.{Stays, says, ends_at}
+use Rattle.half_store.specs.contracts.count.Count as count
+use Rattle.half_store.specs.contracts.count.Count.new as f
+use Rattle.half_store.proofs.count.Count.new.Statement.{statement}
+use Rattle.half_store.proofs.count.Count.new.Code as code
+
+abbrev stayed : Stays f.ended.signature.params f.ended.kept
+stayed = tt
+
+pub new_spec : {M : Type 1} → statement M
+new_spec 𝓤 𝓛 𝓜 𝓡 wired =
+    let c = f.clauses 𝓛 𝓜.mem 𝓡.returns in
+    proved 𝓛 f.ended stayed c 𝓜 𝓡 tt f.Key.name code.function (code.unfolded 𝓤 𝓛.H 𝓜 𝓡 wired)
+    (λ κs. tt) (λ κs. tt) (λ κs qs bounds a _ are.
+    qed 𝓛 ((raw (alive 𝓛 f.signature κs qs) ⊛ ‵ (owns (types_at f.signature.params κs) a tt)) ∷ ‵ ftrue ∷ []) ∵
+    keep ! (0 ∷ []) $ split ! $
+    enter ! _ _ _ _ _ $ alloc_all ! (λ l. pass_all ! refl tt $
+    sets ! (agg ! (no_more !)) refl (tt, tt) $
+    returns ! (look_at ! 0 refl) $ free_all ! refl $
+    suffices ! _ (ends_at 𝓛 f.ended stayed c ((κs, qs, bounds, a, tt), tt) (vstruct vnil) (record { number = 0 }) tt tt) $ says ! refl $
+    pure_i ! (count.the_row.own_val (record { number = 0 }) (vstruct vnil ∷ [])) ((λ vss. (tt, tt)), tt) ((tt, (refl, tt)), tt) $
+    move ! (1 ∷ 2 ∷ 0 ∷ []) $ done !))

@@ -1,0 +1,10 @@
+//! What a map in two forms stands on: pairs in two columns, and the account of the work done on them.
+#![tactic(auto)]
+
+mod count;
+pub mod counting;
+pub mod refusal;
+pub mod tally;
+
+pub use refusal::Refusal;
+pub use tally::Tally;

@@ -1,0 +1,64 @@
+//! The account of the work that look-ups and insertions do.
+ghost use Rattle.std.specs.Prelude.{◌≡◌, ◌+◌};
+ghost use Rattle.half_store.specs.Work.{Work, no_work, one_asked, one_compared, one_looked};
+
+use crate::count::Count;
+use std::marker::Model;
+
+/// How often the builder was asked for a hash, two keys were compared, and a bucket was read.
+///
+/// Contracts see the three numbers, which have no upper bound. When the program runs a tally takes no bytes, and
+/// counting costs nothing.
+#[derive(Drop)]
+pub struct Tally {
+    asked: Count,
+    compared: Count,
+    looked: Count,
+}
+
+impl Model for Tally {
+    ghost use Rattle.half_store.specs.Work.{Work};
+
+    ghost Value = { Work };
+
+    ghost view = { λ t. record { asked = t.asked.number; compared = t.compared.number; looked = t.looked.number } };
+}
+
+const _: () = prove!(size_of::<Tally>() == 0);
+
+impl Tally {
+    /// A tally that has seen no work.
+    pub fn new() -> Tally
+        ensures { result ≡ no_work }
+    {
+        Tally {
+            asked: Count::new(),
+            compared: Count::new(),
+            looked: Count::new(),
+        }
+    }
+
+    // The builder was asked once more.
+    pub(crate) fn add_asked(&mut self)
+        ensures { self.new ≡ one_asked self.old }
+    {
+        let next = self.asked.plus_one();
+        self.asked = next;
+    }
+
+    // Two keys were compared once more.
+    pub(crate) fn add_compared(&mut self)
+        ensures { self.new ≡ one_compared self.old }
+    {
+        let next = self.compared.plus_one();
+        self.compared = next;
+    }
+
+    // One more bucket was read.
+    pub(crate) fn add_looked(&mut self)
+        ensures { self.new ≡ one_looked self.old }
+    {
+        let next = self.looked.plus_one();
+        self.looked = next;
+    }
+}
