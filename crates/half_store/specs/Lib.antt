@@ -1,2 +1,4 @@
 pub mod Hash
+pub mod Pairs
+pub mod Refusal
 pub mod Work

@@ -1,5 +1,5 @@
 -- The work that a tally has seen.
-use Rattle.std.specs.Prelude.{ℕ, ◌+◌}
+use Rattle.std.specs.Prelude.{ℕ, ◌+◌, Option, None, Some}
 
 -- how often the builder was asked, keys were compared, and buckets were read
 pub record Work : Type 0 where
@@ -22,3 +22,12 @@ one_compared w = record w { compared = w.compared + 1 }
 -- a bucket was read once more
 abbrev pub one_looked : Work → Work
 one_looked w = record w { looked = w.looked + 1 }
+
+-- so many more comparisons of keys
+abbrev pub compared_more : ℕ → Work → Work
+compared_more n w = record w { compared = w.compared + n }
+
+-- how many comparisons a search from first to last makes among so many keys: up to and with the one that it finds, or all
+abbrev pub first_match_cost : Option ℕ → ℕ → ℕ
+first_match_cost None len = len
+first_match_cost (Some number) len = number + 1

@@ -5,6 +5,8 @@ mod count;
 pub mod counting;
 pub mod refusal;
 pub mod tally;
+pub mod vecmap;
 
 pub use refusal::Refusal;
 pub use tally::Tally;
+pub use vecmap::VecMap;

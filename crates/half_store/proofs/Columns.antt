@@ -1,0 +1,42 @@
+-- What the two columns of a `VecMap` are to its list of pairs.
+use Rattle.std.proofs.Common.{◌≡◌, ℕ, zero, suc, ◌<◌, ◌≤◌, min, List, [], ◌∷◌, length, get_or, Some, sym, refl, ap, ◌∙◌, arith}
+use Rattle.std.specs.List.{zip, slice_get, swap_remove}
+use Rattle.std.specs.declared.vec.Vec.{Vec}
+use Rattle.std.specs.Map.{keys_of, values_of}
+use Rattle.half_store.proofs.Zip.{length-zip, keys_of-zip, values_of-zip}
+use Rattle.half_store.specs.Pairs.{Pairs, set_value, swap_out, with_pairs}
+
+module _ {K V Z : Type 0} where
+  -- what is known of the columns of a map whose pairs and room are these
+  pub record Opened (keys : Vec K Z) (values : Vec V Z) (map : Pairs K V) : Type 0 where
+    pub pairs : zip keys.items values.items ≡ map.pairs
+    pub room : min keys.cap values.cap ≡ map.room
+    pub keys_are : keys.items ≡ keys_of map.pairs
+    pub values_are : values.items ≡ values_of map.pairs
+    pub keys_length : length keys.items ≡ length map.pairs
+    pub values_length : length values.items ≡ length map.pairs
+    pub keys_len : keys.len ≡ length map.pairs
+    pub values_len : values.len ≡ length map.pairs
+
+  pub opened : (keys : Vec K Z) (values : Vec V Z) (map : Pairs K V)
+      → ◌≡◌ {A = Pairs K V} (record { pairs = zip keys.items values.items; room = min keys.cap values.cap }) map
+      → length values.items ≡ length keys.items → Opened keys values map
+  opened keys values map view even =
+      let same : zip keys.items values.items ≡ map.pairs = ap (λ m. m.pairs) view in
+      let n : length keys.items ≡ length map.pairs = sym (length-zip keys.items values.items even) ∙ ap length same in
+      record {
+        pairs = same;
+        room = ap (λ m. m.room) view;
+        keys_are = sym (keys_of-zip keys.items values.items even) ∙ ap keys_of same;
+        values_are = sym (values_of-zip keys.items values.items even) ∙ ap values_of same;
+        keys_length = n;
+        values_length = even ∙ n;
+        keys_len = keys.ok.0 ∙ n;
+        values_len = values.ok.0 ∙ even ∙ n;
+      }
+
+module _ {K V : Type 0} where
+  -- a map of these pairs with the room of another
+  pub pairs_are : (map : Pairs K V) {ps qs : List (K × V)} {room : ℕ} → ps ≡ qs → room ≡ map.room
+      → ◌≡◌ {A = Pairs K V} (record { pairs = ps; room = room }) (with_pairs map qs)
+  pairs_are map p q = λ i. record { pairs = p i; room = q i }

@@ -1,0 +1,92 @@
+-- Two columns side by side as one list of pairs.
+use Rattle.std.proofs.Common.{◌≡◌, ℕ, zero, suc, ◌-◌, ◌<◌, List, [], ◌∷◌, ◌++◌, length, get_or, take, Some, sym, refl, ap, ◌∙◌, arith}
+use Rattle.std.proofs.Math.ListN.{set}
+use Rattle.std.specs.List.{zip, slice_get, swap_remove}
+use Rattle.std.specs.Map.{keys_of, values_of}
+use Rattle.half_store.specs.Pairs.{set_value, swap_out}
+
+get_or_within : {X : Type 0} (xs : List X) (i : ℕ) (d e : X) → i < length xs → get_or xs i d ≡ get_or xs i e
+get_or_within [] i d e within = absurd (omega arith)
+get_or_within (x ∷ xs) zero d e within = refl
+get_or_within (x ∷ xs) (suc i) d e within = get_or_within xs i d e (omega arith)
+
+-- a swap removal does not depend on the default
+pub swap_out_is : {X : Type 0} (xs : List X) (i : ℕ) (d : X) → swap_remove xs i d ≡ swap_out xs i
+swap_out_is [] i d = refl
+swap_out_is (x ∷ xs) i d = ap (λ y. take (length (x ∷ xs) - 1) (set (x ∷ xs) i y)) (get_or_within (x ∷ xs) (length (x ∷ xs) - 1) d x (omega arith))
+
+module _ {K V : Type 0} where
+  pub length-zip : (ks : List K) (vs : List V) → length vs ≡ length ks → length (zip ks vs) ≡ length ks
+  length-zip [] vs even = refl
+  length-zip (k ∷ ks) [] even = absurd (omega arith)
+  length-zip (k ∷ ks) (v ∷ vs) even = ap suc (length-zip ks vs (omega arith))
+
+  pub keys_of-zip : (ks : List K) (vs : List V) → length vs ≡ length ks → keys_of (zip ks vs) ≡ ks
+  keys_of-zip [] vs even = refl
+  keys_of-zip (k ∷ ks) [] even = absurd (omega arith)
+  keys_of-zip (k ∷ ks) (v ∷ vs) even = ap (λ l. k ∷ l) (keys_of-zip ks vs (omega arith))
+
+  pub values_of-zip : (ks : List K) (vs : List V) → length vs ≡ length ks → values_of (zip ks vs) ≡ vs
+  values_of-zip [] [] even = refl
+  values_of-zip [] (v ∷ vs) even = absurd (omega arith)
+  values_of-zip (k ∷ ks) [] even = absurd (omega arith)
+  values_of-zip (k ∷ ks) (v ∷ vs) even = ap (λ l. v ∷ l) (values_of-zip ks vs (omega arith))
+
+  pub zip_push : (ks : List K) (vs : List V) (k : K) (v : V) → length vs ≡ length ks → zip (ks ++ k ∷ []) (vs ++ v ∷ []) ≡ zip ks vs ++ (k, v) ∷ []
+  zip_push [] [] k v even = refl
+  zip_push [] (w ∷ vs) k v even = absurd (omega arith)
+  zip_push (l ∷ ks) [] k v even = absurd (omega arith)
+  zip_push (l ∷ ks) (w ∷ vs) k v even = ap (λ r. (l, w) ∷ r) (zip_push ks vs k v (omega arith))
+
+  -- the pair at a place, from what stands there in each column
+  pub slice_get-zip : (ks : List K) (vs : List V) (i : ℕ) (k : K) (v : V) → i < length ks → i < length vs → k ≡ get_or ks i k → v ≡ get_or vs i v → slice_get (zip ks vs) i ≡ Some (k, v)
+  slice_get-zip [] vs i k v in_keys in_values at_k at_v = absurd (omega arith)
+  slice_get-zip (x ∷ ks) [] i k v in_keys in_values at_k at_v = absurd (omega arith)
+  slice_get-zip (x ∷ ks) (y ∷ vs) zero k v in_keys in_values at_k at_v = λ j. Some (sym at_k j, sym at_v j)
+  slice_get-zip (x ∷ ks) (y ∷ vs) (suc i) k v in_keys in_values at_k at_v = slice_get-zip ks vs i k v (omega arith) (omega arith) at_k at_v
+
+  pub zip-set_value : (ks : List K) (vs : List V) (i : ℕ) (v : V) → zip ks (set vs i v) ≡ set_value (zip ks vs) i v
+  zip-set_value [] vs i v = refl
+  zip-set_value (k ∷ ks) [] i v = refl
+  zip-set_value (k ∷ ks) (w ∷ vs) zero v = refl
+  zip-set_value (k ∷ ks) (w ∷ vs) (suc i) v = ap (λ l. (k, w) ∷ l) (zip-set_value ks vs i v)
+
+  zip-nil : (ks : List K) → ◌≡◌ {A = List (K × V)} (zip ks []) []
+  zip-nil [] = refl
+  zip-nil (k ∷ ks) = refl
+
+  zip-take : (n : ℕ) (ks : List K) (vs : List V) → zip (take n ks) (take n vs) ≡ take n (zip ks vs)
+  zip-take zero ks vs = refl
+  zip-take (suc n) [] vs = refl
+  zip-take (suc n) (k ∷ ks) [] = refl
+  zip-take (suc n) (k ∷ ks) (v ∷ vs) = ap (λ l. (k, v) ∷ l) (zip-take n ks vs)
+
+  zip-set : (ks : List K) (vs : List V) (i : ℕ) (k : K) (v : V) → zip (set ks i k) (set vs i v) ≡ set (zip ks vs) i (k, v)
+  zip-set [] vs i k v = refl
+  zip-set (x ∷ ks) [] i k v = zip-nil (set (x ∷ ks) i k)
+  zip-set (x ∷ ks) (y ∷ vs) zero k v = refl
+  zip-set (x ∷ ks) (y ∷ vs) (suc i) k v = ap (λ l. (x, y) ∷ l) (zip-set ks vs i k v)
+
+  get_or-zip : (ks : List K) (vs : List V) (i : ℕ) (k : K) (v : V) → length vs ≡ length ks → get_or (zip ks vs) i (k, v) ≡ (get_or ks i k, get_or vs i v)
+  get_or-zip [] [] i k v even = refl
+  get_or-zip [] (y ∷ vs) i k v even = absurd (omega arith)
+  get_or-zip (x ∷ ks) [] i k v even = absurd (omega arith)
+  get_or-zip (x ∷ ks) (y ∷ vs) zero k v even = refl
+  get_or-zip (x ∷ ks) (y ∷ vs) (suc i) k v even = get_or-zip ks vs i k v (omega arith)
+
+  -- a swap removal in each column is one in the list of pairs
+  zip-swap_remove : (ks : List K) (vs : List V) (i : ℕ) (k : K) (v : V) → length vs ≡ length ks → zip (swap_remove ks i k) (swap_remove vs i v) ≡ swap_remove (zip ks vs) i (k, v)
+  zip-swap_remove ks vs i k v even =
+      let n = length ks - 1 in
+      ap (λ m. zip (swap_remove ks i k) (take (m - 1) (set vs i (get_or vs (m - 1) v)))) even
+      ∙ zip-take n _ _ ∙ ap (take n) (zip-set ks vs i _ _ ∙ ap (set (zip ks vs) i) (sym (get_or-zip ks vs n k v even)))
+      ∙ ap (λ m. take (m - 1) (set (zip ks vs) i (get_or (zip ks vs) (m - 1) (k, v)))) (sym (length-zip ks vs even))
+
+  pub zip-swap_out : (ks : List K) (vs : List V) (i : ℕ) (k : K) (v : V) → length vs ≡ length ks → zip (swap_remove ks i k) (swap_remove vs i v) ≡ swap_out (zip ks vs) i
+  zip-swap_out ks vs i k v even = zip-swap_remove ks vs i k v even ∙ swap_out_is (zip ks vs) i (k, v)
+
+-- the element at a place, read with itself as the default
+pub slice_get_at : {X : Type 0} (xs : List X) (i : ℕ) (x : X) → i < length xs → x ≡ get_or xs i x → slice_get xs i ≡ Some x
+slice_get_at [] i x within at_x = absurd (omega arith)
+slice_get_at (y ∷ ys) zero x within at_x = ap Some (sym at_x)
+slice_get_at (y ∷ ys) (suc i) x within at_x = slice_get_at ys i x (omega arith) at_x

@@ -1,0 +1,187 @@
+//! Pairs in two columns, one of keys and one of values: dense, in order, searched by `==`.
+ghost use Rattle.std.specs.Prelude.{◌≡◌, ℕ, ◌+◌, ◌^◌, ◌<◌, ◌≤◌, max, min, [], ◌∷◌, ◌++◌, length, slice_get, OnOk, OnErr, IfErr, slice_index_or, vec_len, vec_capacity};
+ghost use Rattle.std.specs.Map.{keys_of, values_of};
+ghost use Rattle.half_store.specs.Pairs.{with_pairs, set_value, swap_out, number_of};
+ghost use Rattle.half_store.specs.Refusal.{refusal_of};
+ghost use Rattle.half_store.specs.Work.{compared_more, first_match_cost};
+
+mod search;
+
+use crate::refusal::check_size;
+use crate::{Refusal, Tally};
+use std::alloc::{AllocError, Global};
+use std::marker::Model;
+use std::mem::replace;
+
+/// Pairs in order, in two vectors of equal length. A pair's number is its place there.
+#[derive(Drop)]
+pub struct VecMap<K, V> {
+    keys: Vec<K>,
+    values: Vec<V>,
+}
+
+impl<K, V> Model for VecMap<K, V> {
+    ghost use Rattle.std.specs.Prelude.{◌≡◌, length, min, vec_capacity};
+    ghost use Rattle.std.specs.List.{zip};
+    ghost use Rattle.half_store.specs.Pairs.{Pairs, pairs_code};
+
+    ghost Value = { Pairs K V };
+
+    ghost coded = { pairs_code K.code V.code };
+
+    ghost view = { λ m. record { pairs = zip m.keys.items m.values.items; room = min (vec_capacity m.keys) (vec_capacity m.values) } };
+
+    ghost invariant = { λ m. length m.values.items ≡ length m.keys.items };
+}
+
+impl<K, V> VecMap<K, V> {
+    /// No pairs, and no memory taken.
+    pub fn new(alloc: Global) -> VecMap<K, V>
+        ensures pairs { result.pairs ≡ [] }
+        ensures room { result.room ≡ 0 }
+    {
+        VecMap {
+            keys: Vec::new(alloc),
+            values: Vec::new(alloc),
+        }
+    }
+
+    /// How many pairs are held.
+    pub fn len(&self) -> usize
+        ensures len { result ≡ length self.now.pairs }
+        ensures fits { length self.now.pairs ≤ self.now.room }
+        ensures small { length self.now.pairs < 2 ^ 63 }
+    {
+        self.keys.len()
+    }
+
+    /// How many pairs fit before memory is asked for: the smaller room of the two columns.
+    pub fn room(&self) -> usize
+        ensures { result ≡ self.now.room }
+    {
+        self.keys.capacity().min(self.values.capacity())
+    }
+
+    /// The keys, in order.
+    pub fn keys(&self) -> &[K]
+        ensures keys { result.now ≡ keys_of self.now.pairs }
+        ensures small { length self.now.pairs < 2 ^ 63 }
+    {
+        self.keys.as_slice()
+    }
+
+    /// The value of the pair with this number.
+    pub fn value_at(&self, number: usize) -> &V
+        requires { number < length self.now.pairs }
+        ensures { slice_get (values_of self.now.pairs) number ≡ Some result.now }
+    {
+        &self.values[number]
+    }
+
+    /// Puts a value in the place of that of the pair with this number, and answers the old one.
+    pub fn replace_value(&mut self, number: usize, value: V) -> V
+        requires { number < length self.old.pairs }
+        ensures old { slice_get (values_of self.old.pairs) number ≡ Some result }
+        ensures after { self.new ≡ with_pairs self.old (set_value self.old.pairs number value) }
+    {
+        replace(&mut self.values[number], value)
+    }
+
+    /// Appends a pair. There is room for it.
+    pub fn push(&mut self, key: K, value: V)
+        requires { length self.old.pairs < self.old.room }
+        ensures { self.new ≡ with_pairs self.old (self.old.pairs ++ (key, value) ∷ []) }
+    {
+        self.keys.push_reserved(key);
+        self.values.push_reserved(value);
+    }
+
+    /// Takes out the pair with this number. The last pair takes its place.
+    pub fn swap_remove(&mut self, number: usize) -> (K, V)
+        requires { number < length self.old.pairs }
+        ensures taken { slice_get self.old.pairs number ≡ Some result }
+        ensures after { self.new ≡ with_pairs self.old (swap_out self.old.pairs number) }
+    {
+        (
+            self.keys.swap_remove(number),
+            self.values.swap_remove(number),
+        )
+    }
+
+    /// Makes room for `wanted` pairs in all, and for no more where that needs memory.
+    ///
+    /// Both columns get their memory before anything else happens. The column with the smaller room grows last, so that
+    /// a refusal leaves the room as it was.
+    pub fn reserve(&mut self, wanted: usize) -> Result<(), AllocError>
+        ensures pairs { self.new.pairs ≡ self.old.pairs }
+        ensures ok { OnOk result (self.new.room ≡ max self.old.room wanted) }
+        ensures err { OnErr result (self.new ≡ self.old) }
+        ensures needed { OnErr result (self.old.room < wanted) }
+    {
+        if self.keys.capacity() <= self.values.capacity() {
+            reserve_in_all(&mut self.values, wanted)?;
+            reserve_in_all(&mut self.keys, wanted)
+        } else {
+            reserve_in_all(&mut self.keys, wanted)?;
+            reserve_in_all(&mut self.values, wanted)
+        }
+    }
+
+    /// Makes room for `wanted` pairs in all. Where that needs memory it asks for twice the room there was, so that many
+    /// insertions cost few growths, but never for more than `limit` pairs.
+    pub fn grow(&mut self, wanted: usize, limit: usize) -> Result<(), Refusal>
+        requires { wanted ≤ limit }
+        ensures pairs { self.new.pairs ≡ self.old.pairs }
+        ensures ok { OnOk result (wanted ≤ self.new.room) }
+        ensures keeps_room { self.old.room ≤ self.new.room }
+        ensures within_limit { self.new.room ≤ max self.old.room limit }
+        ensures err { OnErr result (self.new ≡ self.old) }
+        ensures needed { OnErr result (self.old.room < wanted) }
+        ensures size { IfErr result (λ why. why ≡ refusal_of wanted) }
+        ensures within_size { OnOk result (self.old.room < wanted → wanted ≤ 2 ^ 60) }
+    {
+        let room = self.room();
+        if wanted <= room {
+            return Ok(());
+        }
+        check_size(wanted)?;
+        let generous = room
+            .saturating_mul(2)
+            .max(FIRST_ROOM)
+            .max(wanted)
+            .min(limit);
+        self.reserve(generous)?;
+        Ok(())
+    }
+}
+
+// What a vector without room asks for first.
+const FIRST_ROOM: usize = 4;
+
+impl<K: Eq, V> VecMap<K, V> {
+    /// The number of the pair whose key equals this one.
+    ///
+    /// The keys are compared in order. Where none is equal each held key is compared once.
+    pub fn find(&self, key: &K, tally: &mut Tally) -> Option<usize>
+        ensures number { result ≡ number_of (K.eq key.now) (keys_of self.now.pairs) }
+        ensures work { tally.new ≡ compared_more (first_match_cost result (length self.now.pairs)) tally.old }
+    {
+        let keys = self.keys();
+        let matches = |number: usize| -> bool
+            requires { number < length keys.now }
+            ensures { (d : K) → result ≡ K.eq key.entry.now (slice_index_or keys.entry.now number d) }
+        { *key == keys[number] };
+        search::first_match(keys.len(), &matches, tally)
+    }
+}
+
+// Makes room in one column for `wanted` elements in all.
+fn reserve_in_all<T>(column: &mut Vec<T>, wanted: usize) -> Result<(), AllocError>
+    ensures items { column.new.items ≡ column.old.items }
+    ensures len { vec_len column.new ≡ vec_len column.old }
+    ensures ok { OnOk result (vec_capacity column.new ≡ max (vec_capacity column.old) wanted) }
+    ensures err { OnErr result (vec_capacity column.new ≡ vec_capacity column.old) }
+    ensures needed { OnErr result (vec_capacity column.old < wanted) }
+{
+    column.reserve_exact(wanted.saturating_sub(column.len()))
+}
