@@ -1,2 +1,3 @@
 pub mod Hash
+pub mod Rooms
 pub mod Work
