@@ -1,3 +1,4 @@
 pub mod Columns
 pub mod Numbers
+pub mod RoomsLemmas
 pub mod Zip

@@ -4,6 +4,7 @@
 mod count;
 pub mod counting;
 pub mod refusal;
+pub mod rooms;
 pub mod tally;
 pub mod vecmap;
 

@@ -22,7 +22,6 @@ impl From<AllocError> for Refusal {
     }
 }
 
-
 /// Refuses a number of pairs that no map may hold. It is asked before any memory is.
 pub fn check_size(wanted: usize) -> Result<(), Refusal>
     ensures ok { OnOk result (wanted ≤ 2 ^ 60) }

@@ -1,0 +1,114 @@
+-- Bucket counts and rooms: which count comes next, and which is the least that serves.
+use Rattle.std.proofs.Common.{◌≡◌, ℕ, zero, suc, ◌+◌, ◌-◌, ◌*◌, ◌/◌, ◌^◌, ◌<◌, ◌≤◌, ◌⊎◌, ◌==◌, eqb, ltb, nat_lt, Bool, true, false, cond, inl, inr, refl, sym, ap, ◌∙◌, subst, arith}
+use Rattle.std.proofs.Math.Nat.{pow-le-pow_right}
+use Rattle.std.proofs.lemmas.Nat.{pow_pos, pow-add, pow_below}
+use Rattle.std.proofs.lemmas.Grind.{pow_more, common_steps}
+use Rattle.std.proofs.lemmas.Bool.{cases_lt, cases_eq}
+use Rattle.std.proofs.lemmas.Bool.Decides.{nat_tests}
+use Rattle.half_store.specs.Rooms.{room_of, buckets_of, IsBucketCount, more_buckets, buckets_for_more, buckets_for, room_for, IsLeastFor}
+
+-- a bucket count that is not 0 is at least 4
+pub four-le_count : (m : ℕ) → IsBucketCount m → 0 < m → 4 ≤ m
+four-le_count m (inl e) h = absurd (omega arith)
+four-le_count m (inr (k, two, e)) h = let p : 2 ^ 2 ≤ 2 ^ k = pow-le-pow_right {n = 2} (omega arith) two in omega arith
+
+-- a power of two above another is at least twice as large
+pow-double : (i j : ℕ) → 2 ^ i < 2 ^ j → 2 * 2 ^ i ≤ 2 ^ j
+pow-double i j h =
+    elim (cases_lt i j) [
+      | inl lt ↦ let p : 2 ^ (i + 1) ≤ 2 ^ j = pow-le-pow_right {n = 2} (omega arith) (omega arith) in omega (arith, pow_more 2 i)
+      | inr ge ↦ let p : 2 ^ j ≤ 2 ^ i = pow-le-pow_right {n = 2} (omega arith) ge in absurd (omega arith)
+    ]
+
+more_buckets-zero : more_buckets 0 ≡ 4
+more_buckets-zero = refl
+
+pub more_buckets-some : (m : ℕ) → 0 < m → more_buckets m ≡ 2 * m
+more_buckets-some m h = grind (arith, nat_tests)
+
+-- the next bucket count is one
+pub more_buckets-count : (m : ℕ) → IsBucketCount m → IsBucketCount (more_buckets m)
+more_buckets-count m (inl e) = inr (2, omega arith, ap more_buckets e)
+more_buckets-count m (inr (k, two, e)) =
+    let p = pow_pos k in
+    inr (k + 1, omega arith, more_buckets-some m (omega arith) ∙ omega (arith, pow_more 2 k))
+
+-- no bucket count lies between one and the next
+pub more_buckets-least : (m other : ℕ) → IsBucketCount m → IsBucketCount other → m < other → more_buckets m ≤ other
+more_buckets-least m other (inl e) c h = rw e (four-le_count other c (omega arith))
+more_buckets-least m other (inr (k, two, e)) (inl z) h = absurd (omega arith)
+more_buckets-least m other (inr (k, two, e)) (inr (j, two_j, f)) h =
+    let p = pow_pos k in
+    let s = more_buckets-some m (omega arith) in
+    let d = pow-double k j (omega arith) in
+    omega arith
+
+-- where the room is just filled, the next bucket count has room for one more
+pub room_of-more : (m : ℕ) → IsBucketCount m → room_of m < room_of (more_buckets m)
+room_of-more m (inl e) = rw e (omega arith)
+room_of-more m (inr (k, two, e)) =
+    let f = four-le_count m (inr (k, two, e)) (let p = pow_pos k in omega arith) in
+    rw (more_buckets-some m (omega arith)) (omega arith)
+
+-- more room, more buckets
+pub room_of-below : (a b : ℕ) → room_of a < room_of b → a < b
+room_of-below a b h = omega arith
+
+pub IsLeastFor-more : (n m : ℕ) → IsLeastFor n m → IsLeastFor (suc n) (buckets_for_more n m)
+IsLeastFor-more n m l =
+    elim (cases_lt n (room_of m)) [
+      | inl lt ↦
+          let e : buckets_for_more n m ≡ m = grind (arith, nat_tests) in
+          rw e record { count = l.count; serves = omega arith; least = λ o c s. l.least o c (omega arith) }
+      | inr ge ↦
+          let e : buckets_for_more n m ≡ more_buckets m = grind (arith, nat_tests) in
+          let full : room_of m ≡ n = let s = l.serves in omega arith in
+          rw e record {
+            count = more_buckets-count m l.count;
+            serves = let r = room_of-more m l.count in omega arith;
+            least = λ o c s. more_buckets-least m o l.count c (room_of-below m o (omega arith));
+          }
+    ]
+
+-- the function answers the least bucket count that serves
+pub buckets_for-least : (n : ℕ) → IsLeastFor n (buckets_for n)
+unfolding buckets_for
+buckets_for-least zero = record { count = inl refl; serves = omega arith; least = λ o c s. omega arith }
+buckets_for-least (suc n) = IsLeastFor-more n (buckets_for n) (buckets_for-least n)
+
+-- there is one alone
+pub IsLeastFor-unique : (n a b : ℕ) → IsLeastFor n a → IsLeastFor n b → a ≡ b
+IsLeastFor-unique n a b x y =
+    let p = x.least b y.count y.serves in
+    let q = y.least a x.count x.serves in
+    omega arith
+
+pub buckets_for-is : (n m : ℕ) → IsLeastFor n m → m ≡ buckets_for n
+buckets_for-is n m l = IsLeastFor-unique n m (buckets_for n) l (buckets_for-least n)
+
+-- a bucket count is a multiple of 4
+pub quarter : (m : ℕ) → IsBucketCount m → (q : ℕ) × (m ≡ 4 * q)
+quarter m (inl e) = (0, omega arith)
+quarter m (inr (k, two, e)) =
+    let j = k - 2 in
+    let split : j + 2 ≡ k = omega arith in
+    let p : 2 ^ k ≡ 2 ^ j * 4 = ap (λ x. 2 ^ x) (sym split) ∙ pow-add 2 j 2 in
+    (2 ^ j, omega arith)
+
+-- the room tells the buckets
+pub buckets_of-room_of : (m : ℕ) → IsBucketCount m → buckets_of (room_of m) ≡ m
+buckets_of-room_of m c =
+    let q = (quarter m c).0 in
+    let e : m ≡ 4 * q = (quarter m c).1 in
+    rw e (omega arith)
+
+-- where the buckets are just filled, one pair more wants the next bucket count
+pub buckets_for-grown : (m : ℕ) → IsBucketCount m → buckets_for (suc (room_of m)) ≡ more_buckets m
+buckets_for-grown m c =
+    let r = room_of-more m c in
+    sym (buckets_for-is (suc (room_of m)) (more_buckets m)
+    record {
+      count = more_buckets-count m c;
+      serves = omega arith;
+      least = λ o is s. more_buckets-least m o c is (room_of-below m o (omega arith));
+    })

@@ -1,0 +1,15 @@
+use Rattle.std.proofs.Common.{ℕ, ◌-◌, ◌^◌, ◌<◌, ◌≤◌}
+use Rattle.half_store.specs.Rooms.{room_of, IsBucketCount}
+use Rattle.half_store.proofs.rooms.buckets_for.Given as goal
+
+-- the count is one of the series, and no smaller one serves
+abbrev pub invariant-loop-buckets : goal.invariant-loop-buckets
+invariant-loop-buckets l = record {
+  count : IsBucketCount l.buckets;
+  some : 4 ≤ l.buckets;
+  small : l.buckets < 2 ^ 62;
+  least : (other : ℕ) → IsBucketCount other → l.wanted ≤ room_of other → l.buckets ≤ other;
+}
+
+abbrev pub decreases-loop-buckets : goal.decreases-loop-buckets
+decreases-loop-buckets l = l.wanted - room_of l.buckets
