@@ -31,3 +31,7 @@ compared_more n w = record w { compared = w.compared + n }
 abbrev pub first_match_cost : Option ℕ → ℕ → ℕ
 first_match_cost None len = len
 first_match_cost (Some number) len = number + 1
+
+-- the builder was asked so many times more
+abbrev pub asked_more : ℕ → Work → Work
+asked_more n w = record w { asked = w.asked + n }

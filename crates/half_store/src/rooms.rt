@@ -35,7 +35,9 @@ pub fn buckets_for(wanted: usize) -> usize
 /// The least of the rooms 0, 3, 6, 12, 24, .. that so many pairs fit in.
 pub fn room_for(wanted: usize) -> usize
     requires { wanted ≤ 2 ^ 60 }
-    ensures { result ≡ room_for wanted }
+    ensures value { result ≡ room_for wanted }
+    ensures serves { wanted ≤ result }
+    ensures series { result ≡ room_for result }
 {
     room_of(buckets_for(wanted))
 }

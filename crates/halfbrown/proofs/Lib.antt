@@ -1,1 +1,5 @@
+pub mod Kept
+pub mod Places
+pub mod Searches
 pub mod Stored
+pub mod SwapOut

@@ -1,2 +1,8 @@
 pub mod Costs
+pub mod Form
+pub mod Growth
+pub mod Layout
+pub mod Pairs
+pub mod Search
+pub mod State
 pub mod StoredHashes

@@ -2,11 +2,13 @@
 #![tactic(auto)]
 
 mod limit;
-//mod map;
+mod map;
 mod refused;
+pub mod run;
 mod stored_hashes;
 
 pub use half_store::{Refusal, Tally};
 pub use limit::{Limit, UpTo};
-//pub use map::{DefaultHashBuilder, HashMap, LimitedHashMap, SizedHashMap};
+pub use map::{DefaultHashBuilder, HashMap, LimitedHashMap, SizedHashMap};
 pub use refused::Refused;
+pub use run::{Command, Reply};

@@ -1,0 +1,132 @@
+//! The map, and what it says of itself.
+ghost use Rattle.std.specs.Prelude.{◌≡◌, ◌^◌, ◌<◌, ◌↔◌, true, false, [], length, IsTrue};
+ghost use Rattle.halfbrown.specs.State.{IsState};
+
+mod growth;
+mod insert;
+mod look_up;
+mod remove;
+pub(crate) mod search;
+mod switch;
+
+use crate::stored_hashes::StoredHashes;
+use crate::{Limit, UpTo};
+use half_store::VecMap;
+use std::alloc::Global;
+use std::hash::{BuildHasher, BuildHasherDefault, FoldHasher, Hash};
+use std::marker::{Model, PhantomData};
+
+/// The builder that `new` takes. Its seed is fixed.
+pub type DefaultHashBuilder = BuildHasherDefault<FoldHasher>;
+
+/// A map that holds at most `N` pairs in a vector.
+pub type SizedHashMap<K, V, S, const N: usize> = LimitedHashMap<K, V, S, UpTo<N>>;
+
+/// A map that holds at most 32 pairs in a vector.
+pub type HashMap<K, V, S> = LimitedHashMap<K, V, S, UpTo<32>>;
+
+/// A map in two forms. Up to the limit its pairs stand in a vector, are searched by `==`, and nothing is hashed. A
+/// switching call on as many pairs as the limit makes it a hashed table, and no call goes back.
+///
+/// The pairs stand in the order of their insertion in both forms, until a removal moves the last one into the gap.
+pub struct LimitedHashMap<K: Eq + Hash, V, S: BuildHasher, L: Limit> {
+    columns: VecMap<K, V>,
+    table: Option<StoredHashes>,
+    builder: S,
+    alloc: Global,
+    limit: PhantomData<L>,
+}
+
+impl<K: Eq + Hash, V, S: BuildHasher, L: Limit> Model for LimitedHashMap<K, V, S, L> {
+    ghost use Rattle.std.specs.Prelude.{is_none};
+    ghost use Rattle.halfbrown.specs.State.{State, state_code};
+    ghost use Rattle.halfbrown.specs.Costs.{key_hash};
+    ghost use Rattle.halfbrown.specs.Layout.{hashes_in, room_in, IsKept};
+
+    ghost Value = { State K V S };
+
+    ghost coded = { state_code K.code V.code S.code };
+
+    ghost view = { λ m. record { is_vec = is_none m.table; pairs = m.columns.pairs; room = room_in L.LIMIT m.columns.room m.table; builder = m.builder } };
+
+    ghost invariant = { λ m. IsKept K.eq (key_hash S.BuildHasher S.Hasher.Hasher K.hash_input m.builder) m.columns.pairs m.columns.room (is_none m.table) (hashes_in m.table) (room_in L.LIMIT m.columns.room m.table) };
+}
+
+// Written out, since the limit is a type that no value of the map holds.
+impl<K: Eq + Hash + Drop, V: Drop, S: BuildHasher + Drop, L: Limit> Drop
+    for LimitedHashMap<K, V, S, L> {
+    fn drop(self) {
+        let LimitedHashMap {
+            columns,
+            table,
+            builder,
+            alloc: _,
+            limit: _,
+        } = self;
+        drop(columns);
+        drop(table);
+        drop(builder);
+    }
+}
+
+impl<K: Eq + Hash, V, L: Limit> LimitedHashMap<K, V, DefaultHashBuilder, L> {
+    /// An empty vector with the default builder. It takes no memory.
+    pub fn new(alloc: Global) -> Self
+        ensures form { result.is_vec ≡ true }
+        ensures pairs { result.pairs ≡ [] }
+        ensures state { IsState K.eq L.LIMIT result }
+    {
+        LimitedHashMap::with_hasher(alloc, BuildHasherDefault::new())
+    }
+}
+
+impl<K: Eq + Hash, V, S: BuildHasher, L: Limit> LimitedHashMap<K, V, S, L> {
+    /// An empty vector with this builder. It takes no memory.
+    pub fn with_hasher(alloc: Global, builder: S) -> Self
+        ensures form { result.is_vec ≡ true }
+        ensures pairs { result.pairs ≡ [] }
+        ensures hasher { result.builder ≡ builder }
+        ensures state { IsState K.eq L.LIMIT result }
+    {
+        LimitedHashMap {
+            columns: VecMap::new(alloc),
+            table: None,
+            builder,
+            alloc,
+            limit: PhantomData,
+        }
+    }
+
+    /// How many pairs are held.
+    pub fn len(&self) -> usize
+        ensures len { result ≡ length self.now.pairs }
+        ensures small { result < 2 ^ 63 }
+        ensures state { IsState K.eq L.LIMIT self.now }
+    {
+        self.columns.len()
+    }
+
+    /// Whether the pairs stand in a vector.
+    pub fn is_vec(&self) -> bool
+        ensures { result ≡ self.now.is_vec }
+    {
+        self.table.is_none()
+    }
+
+    /// Whether the pairs stand in a table.
+    pub fn is_map(&self) -> bool
+        ensures { IsTrue result ↔ (self.now.is_vec ≡ false) }
+    {
+        self.table.is_some()
+    }
+
+    /// How many pairs fit before more room is wanted. A vector's room ends at the limit.
+    pub fn capacity(&self) -> usize
+        ensures { result ≡ self.now.room }
+    {
+        match &self.table {
+            None => self.columns.room().min(L::LIMIT),
+            Some(table) => table.room(),
+        }
+    }
+}

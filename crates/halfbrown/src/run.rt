@@ -1,0 +1,86 @@
+//! Whole runs: a list of commands, answered one after another.
+
+use crate::{Limit, LimitedHashMap, Refused};
+use half_store::{Refusal, Tally};
+use std::alloc::Global;
+use std::hash::{BuildHasher, Hash};
+
+/// One call on a map.
+#[derive(Clone, Copy, Debug, PartialEq, Eq, Drop)]
+pub enum Command<K, V> {
+    /// `insert`.
+    Insert(K, V),
+    /// `get`.
+    Get(K),
+    /// `remove_entry`.
+    Remove(K),
+    /// `is_vec`.
+    IsVec,
+    /// `len`.
+    Len,
+}
+
+/// What a command is answered.
+#[derive(Clone, Copy, Debug, PartialEq, Eq, Drop)]
+pub enum Reply<K, V> {
+    /// The old value of an inserted key, or none where it was new.
+    Was(Option<V>),
+    /// The value of the key, or none where it is not held.
+    Found(Option<V>),
+    /// The pair that was taken out, or none where the key was not held.
+    Removed(Option<(K, V)>),
+    /// Whether the pairs stand in a vector.
+    Form(bool),
+    /// How many pairs are held.
+    Length(usize),
+    /// The command was refused, and nothing has changed.
+    Refused(Command<K, V>, Refusal),
+}
+
+/// Runs the commands in order, and answers a reply for each.
+///
+/// The room for all replies is made first. Where it is refused the commands come back, and nothing was done. A command
+/// that is refused is answered so, and the run goes on.
+pub fn run<K: Eq + Hash + Drop, V: Copy, S: BuildHasher, L: Limit>(
+    alloc: Global,
+    map: &mut LimitedHashMap<K, V, S, L>,
+    commands: Vec<Command<K, V>>,
+) -> Result<Vec<Reply<K, V>>, Vec<Command<K, V>>> {
+    run_counted(alloc, map, commands, &mut Tally::new())
+}
+
+/// `run`, with the work of all commands counted.
+pub fn run_counted<K: Eq + Hash + Drop, V: Copy, S: BuildHasher, L: Limit>(
+    alloc: Global,
+    map: &mut LimitedHashMap<K, V, S, L>,
+    commands: Vec<Command<K, V>>,
+    tally: &mut Tally,
+) -> Result<Vec<Reply<K, V>>, Vec<Command<K, V>>> {
+    let Ok(mut replies) = Vec::with_capacity(alloc, commands.len()) else {
+        return Err(commands);
+    };
+    let mut left = commands.into_iter();
+    while let Some(command) = left.next() {
+        replies.push_reserved(step(map, command, tally));
+    }
+    left.destroy_empty();
+    Ok(replies)
+}
+
+// One command.
+fn step<K: Eq + Hash + Drop, V: Copy, S: BuildHasher, L: Limit>(
+    map: &mut LimitedHashMap<K, V, S, L>,
+    command: Command<K, V>,
+    tally: &mut Tally,
+) -> Reply<K, V> {
+    match command {
+        Command::Insert(key, value) => match map.insert_counted(key, value, tally) {
+            Ok(old) => Reply::Was(old),
+            Err(Refused { key, value, why }) => Reply::Refused(Command::Insert(key, value), why),
+        },
+        Command::Get(key) => Reply::Found(map.get_counted(&key, tally).copied()),
+        Command::Remove(key) => Reply::Removed(map.remove_entry_counted(&key, tally)),
+        Command::IsVec => Reply::Form(map.is_vec()),
+        Command::Len => Reply::Length(map.len()),
+    }
+}
