@@ -1,5 +1,6 @@
 pub mod Kept
 pub mod Places
+pub mod RunLemmas
 pub mod Searches
 pub mod Stored
 pub mod SwapOut

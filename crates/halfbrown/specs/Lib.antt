@@ -3,6 +3,8 @@ pub mod Form
 pub mod Growth
 pub mod Layout
 pub mod Pairs
+pub mod Run
 pub mod Search
 pub mod State
+pub mod Step
 pub mod StoredHashes

@@ -108,7 +108,8 @@ impl<K: Eq + Hash, V, S: BuildHasher, L: Limit> LimitedHashMap<K, V, S, L> {
 
     /// Whether the pairs stand in a vector.
     pub fn is_vec(&self) -> bool
-        ensures { result ≡ self.now.is_vec }
+        ensures form { result ≡ self.now.is_vec }
+        ensures state { IsState K.eq L.LIMIT self.now }
     {
         self.table.is_none()
     }

@@ -1,4 +1,9 @@
 //! Whole runs: a list of commands, answered one after another.
+ghost use Rattle.std.specs.Prelude.{◌≡◌, [], IsOk, IfOk, IfErr, OnErr};
+ghost use Rattle.halfbrown.specs.Costs.{key_hash};
+ghost use Rattle.halfbrown.specs.Run.{Runs};
+ghost use Rattle.halfbrown.specs.State.{IsState};
+ghost use Rattle.halfbrown.specs.Step.{Cost, GrewBy, Steps, command_cost, is_refused};
 
 use crate::{Limit, LimitedHashMap, Refused};
 use half_store::{Refusal, Tally};
@@ -45,7 +50,12 @@ pub fn run<K: Eq + Hash + Drop, V: Copy, S: BuildHasher, L: Limit>(
     alloc: Global,
     map: &mut LimitedHashMap<K, V, S, L>,
     commands: Vec<Command<K, V>>,
-) -> Result<Vec<Reply<K, V>>, Vec<Command<K, V>>> {
+) -> Result<Vec<Reply<K, V>>, Vec<Command<K, V>>>
+    ensures run { IfOk result (λ replies. (cost : Cost) × Runs L.LIMIT K.eq (key_hash S.BuildHasher S.Hasher.Hasher K.hash_input) map.old commands.items replies.items map.new cost) }
+    ensures empty { commands.items ≡ [] → IsOk result }
+    ensures returned { IfErr result (λ back. back.items ≡ commands.items) }
+    ensures err { OnErr result (map.new ≡ map.old) }
+{
     run_counted(alloc, map, commands, &mut Tally::new())
 }
 
@@ -55,7 +65,16 @@ pub fn run_counted<K: Eq + Hash + Drop, V: Copy, S: BuildHasher, L: Limit>(
     map: &mut LimitedHashMap<K, V, S, L>,
     commands: Vec<Command<K, V>>,
     tally: &mut Tally,
-) -> Result<Vec<Reply<K, V>>, Vec<Command<K, V>>> {
+) -> Result<Vec<Reply<K, V>>, Vec<Command<K, V>>>
+    // The replies and the map afterwards are a run of one list of pairs, and the tally grew by what the run costs.
+    ensures run { IfOk result (λ replies. (cost : Cost) × Runs L.LIMIT K.eq (key_hash S.BuildHasher S.Hasher.Hasher K.hash_input) map.old commands.items replies.items map.new cost × GrewBy cost tally.old tally.new) }
+    ensures empty { commands.items ≡ [] → IsOk result }
+
+    // Where the room for the replies is refused, nothing was done.
+    ensures returned { IfErr result (λ back. back.items ≡ commands.items) }
+    ensures err { OnErr result (map.new ≡ map.old) }
+    ensures no_work { OnErr result (tally.new ≡ tally.old) }
+{
     let Ok(mut replies) = Vec::with_capacity(alloc, commands.len()) else {
         return Err(commands);
     };
@@ -72,7 +91,11 @@ fn step<K: Eq + Hash + Drop, V: Copy, S: BuildHasher, L: Limit>(
     map: &mut LimitedHashMap<K, V, S, L>,
     command: Command<K, V>,
     tally: &mut Tally,
-) -> Reply<K, V> {
+) -> Reply<K, V>
+    ensures step { Steps L.LIMIT K.eq map.old command result map.new }
+    ensures state { IsState K.eq L.LIMIT map.new }
+    ensures cost { GrewBy (command_cost L.LIMIT (key_hash S.BuildHasher S.Hasher.Hasher K.hash_input) map.old command (is_refused result)) tally.old tally.new }
+{
     match command {
         Command::Insert(key, value) => match map.insert_counted(key, value, tally) {
             Ok(old) => Reply::Was(old),
