@@ -1,4 +1,5 @@
 pub mod Hash
+pub mod Lending
 pub mod Pairs
 pub mod Refusal
 pub mod Rooms

@@ -38,6 +38,7 @@ pub fn room_for(wanted: usize) -> usize
     ensures value { result ≡ room_for wanted }
     ensures serves { wanted ≤ result }
     ensures series { result ≡ room_for result }
+    ensures small { result < 2 ^ 62 }
 {
     room_of(buckets_for(wanted))
 }

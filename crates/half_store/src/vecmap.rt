@@ -1,5 +1,6 @@
 //! Pairs in two columns, one of keys and one of values: dense, in order, searched by `==`.
-ghost use Rattle.std.specs.Prelude.{◌≡◌, ℕ, ◌+◌, ◌^◌, ◌<◌, ◌≤◌, max, min, [], ◌∷◌, ◌++◌, length, slice_get, OnOk, OnErr, IfErr, slice_index_or, vec_len, vec_capacity};
+ghost use Rattle.std.specs.Prelude.{◌≡◌, ℕ, ◌+◌, ◌^◌, ◌<◌, ◌≤◌, max, min, [], ◌∷◌, ◌++◌, length, slice_get, IsOk, IfOk, OnOk, OnErr, IfErr, slice_index_or, vec_len, vec_capacity};
+ghost use Rattle.std.specs.Borrow.{sem};
 ghost use Rattle.std.specs.Map.{keys_of, values_of};
 ghost use Rattle.half_store.specs.Pairs.{with_pairs, set_value, swap_out, number_of};
 ghost use Rattle.half_store.specs.Refusal.{refusal_of};
@@ -35,6 +36,8 @@ impl<K, V> Model for VecMap<K, V> {
 }
 
 impl<K, V> VecMap<K, V> {
+    ghost use Rattle.half_store.specs.Lending.{LendsValue};
+
     /// No pairs, and no memory taken.
     pub fn new(alloc: Global) -> VecMap<K, V>
         ensures pairs { result.pairs ≡ [] }
@@ -43,6 +46,22 @@ impl<K, V> VecMap<K, V> {
         VecMap {
             keys: Vec::new(alloc),
             values: Vec::new(alloc),
+        }
+    }
+
+    /// No pairs, with room for so many.
+    pub fn with_room(alloc: Global, room: usize) -> Result<VecMap<K, V>, AllocError>
+        ensures pairs { IfOk result (λ m. m.pairs ≡ []) }
+        ensures room { IfOk result (λ m. m.room ≡ room) }
+        ensures needed { room ≡ 0 → IsOk result }
+    {
+        let keys = Vec::with_capacity(alloc, room)?;
+        match Vec::with_capacity(alloc, room) {
+            Ok(values) => Ok(VecMap { keys, values }),
+            Err(refused) => {
+                keys.destroy_empty();
+                Err(refused)
+            }
         }
     }
 
@@ -78,6 +97,15 @@ impl<K, V> VecMap<K, V> {
         &self.values[number]
     }
 
+    /// The value of the pair with this number, to be written.
+    pub fn value_at_mut(&mut self, number: usize) -> &mut V
+        requires { number < length self.old.pairs }
+        ensures* writes_back { sem 𝓛 (LendsValue K.row V.row self.entry number result) }
+        ensures value { slice_get (values_of self.old.pairs) number ≡ Some result.now }
+    {
+        &mut self.values[number]
+    }
+
     /// Puts a value in the place of that of the pair with this number, and answers the old one.
     pub fn replace_value(&mut self, number: usize, value: V) -> V
         requires { number < length self.old.pairs }
@@ -106,6 +134,27 @@ impl<K, V> VecMap<K, V> {
             self.keys.swap_remove(number),
             self.values.swap_remove(number),
         )
+    }
+
+    /// Lets all pairs go. The room stays.
+    pub fn clear(&mut self)
+    where
+        K: Drop,
+        V: Drop,
+        ensures { self.new ≡ with_pairs self.old [] }
+    {
+        self.keys.clear();
+        self.values.clear();
+    }
+
+    /// Gives memory back, down to room for `wanted` pairs or those that are held. Without memory the room stays.
+    pub fn shrink_to(&mut self, wanted: usize)
+        ensures pairs { self.new.pairs ≡ self.old.pairs }
+        ensures room { self.new.room ≤ self.old.room }
+        ensures serves { min wanted self.old.room ≤ self.new.room }
+    {
+        self.keys.shrink_to(wanted);
+        self.values.shrink_to(wanted);
     }
 
     /// Makes room for `wanted` pairs in all, and for no more where that needs memory.
