@@ -9,7 +9,7 @@ use Rattle.halfbrown.specs.declared.run.Reply.TheVariants.{Was, Found, Removed, 
 use Rattle.halfbrown.specs.Costs.{candidates, search_asks, insert_asks}
 use Rattle.halfbrown.specs.Growth.{is_full, stays_vec, insert_wants, IsRefusal, IsGrantable, HasRoomAfter}
 use Rattle.halfbrown.specs.Pairs.{value_of, pair_of, put, take_out}
-use Rattle.halfbrown.specs.State.{State, with_pairs}
+use Rattle.halfbrown.specs.State.{State, WithPairs}
 
 -- a granted insertion of the pair (k, v) that answers the old value
 pub record Inserts {K V S : Type 0} (limit : ℕ) (eq : K → K → Bool) (old : State K V S) (k : K) (v : V) (before : Option V) (new : State K V S) : Type 0 where
@@ -35,7 +35,7 @@ module _ {K V S : Type 0} (limit : ℕ) (eq : K → K → Bool) where
   Steps old command (Refused back why) new = (back ≡ command) × IsRefusal (command_wants old command) why × (new ≡ old)
   Steps old (Insert k v) (Was before) new = Inserts limit eq old k v before new
   Steps old (Get k) (Found value) new = (value ≡ value_of eq old.pairs k) × (new ≡ old)
-  Steps old (Remove k) (Removed pair) new = (pair ≡ pair_of eq old.pairs k) × (new ≡ with_pairs old (take_out eq old.pairs k))
+  Steps old (Remove k) (Removed pair) new = (pair ≡ pair_of eq old.pairs k) × WithPairs old (take_out eq old.pairs k) new
   Steps old IsVec (Form is_vec) new = (is_vec ≡ old.is_vec) × (new ≡ old)
   Steps old Len (Length len) new = (len ≡ length old.pairs) × (new ≡ old)
   -- no command is answered in another way

@@ -8,7 +8,7 @@ ghost use Rattle.half_store.specs.Pairs.{set_value};
 ghost use Rattle.halfbrown.specs.Form.{with_hash};
 ghost use Rattle.halfbrown.specs.Pairs.{value_of, holds, put};
 ghost use Rattle.halfbrown.specs.Search.{IsAbsent, IsVacancy};
-ghost use Rattle.halfbrown.specs.State.{IsState, with_pairs};
+ghost use Rattle.halfbrown.specs.State.{IsState, WithPairs};
 
 use super::LimitedHashMap;
 use super::search::{Search, Vacancy};
@@ -89,7 +89,7 @@ impl<K: Eq + Hash, V, S: BuildHasher, L: Limit> LimitedHashMap<K, V, S, L> {
     fn set_at(&mut self, number: usize, value: V) -> V
         requires { number < length self.old.pairs }
         ensures old { slice_get (values_of self.old.pairs) number ≡ Some result }
-        ensures after { self.new ≡ with_pairs self.old (set_value self.old.pairs number value) }
+        ensures after { WithPairs self.old (set_value self.old.pairs number value) self.new }
         ensures state { IsState K.eq L.LIMIT self.new }
     {
         self.columns.replace_value(number, value)
@@ -123,7 +123,7 @@ impl<K: Eq + Hash, V, S: BuildHasher, L: Limit> LimitedHashMap<K, V, S, L> {
         requires room { length self.old.pairs < self.old.room }
         requires absent { IsAbsent K.eq self.old.pairs key }
         requires vacant { IsVacancy self.old.is_vec (key_hash S.BuildHasher S.Hasher.Hasher K.hash_input self.old.builder key) vacancy }
-        ensures after { self.new ≡ with_pairs self.old (self.old.pairs ++ (key, value) ∷ []) }
+        ensures after { WithPairs self.old (self.old.pairs ++ (key, value) ∷ []) self.new }
         ensures state { IsState K.eq L.LIMIT self.new }
     {
         store_hash(&mut self.table, vacancy);

@@ -5,7 +5,7 @@ ghost use Rattle.halfbrown.specs.Costs.{Compares, candidates, key_hash, search_a
 ghost use Rattle.std.specs.Option.{ForSome};
 ghost use Rattle.halfbrown.specs.Form.{without_hash};
 ghost use Rattle.halfbrown.specs.Pairs.{pair_of, take_out};
-ghost use Rattle.halfbrown.specs.State.{IsState, with_pairs};
+ghost use Rattle.halfbrown.specs.State.{IsState, WithPairs};
 
 use super::LimitedHashMap;
 use super::search::Search;
@@ -18,7 +18,7 @@ impl<K: Eq + Hash, V, S: BuildHasher, L: Limit> LimitedHashMap<K, V, S, L> {
     /// Takes out the stored pair of the held key that equals this one. The last pair takes its place.
     pub fn remove_entry(&mut self, key: &K) -> Option<(K, V)>
         ensures pair { result ≡ pair_of K.eq self.old.pairs key.now }
-        ensures after { self.new ≡ with_pairs self.old (take_out K.eq self.old.pairs key.now) }
+        ensures after { WithPairs self.old (take_out K.eq self.old.pairs key.now) self.new }
         ensures state { IsState K.eq L.LIMIT self.new }
     {
         self.remove_entry_counted(key, &mut Tally::new())
@@ -27,7 +27,7 @@ impl<K: Eq + Hash, V, S: BuildHasher, L: Limit> LimitedHashMap<K, V, S, L> {
     /// `remove_entry`, with its work counted: that of one search.
     pub fn remove_entry_counted(&mut self, key: &K, tally: &mut Tally) -> Option<(K, V)>
         ensures pair { result ≡ pair_of K.eq self.old.pairs key.now }
-        ensures after { self.new ≡ with_pairs self.old (take_out K.eq self.old.pairs key.now) }
+        ensures after { WithPairs self.old (take_out K.eq self.old.pairs key.now) self.new }
         ensures asked { tally.new.asked ≡ tally.old.asked + search_asks self.old.is_vec }
         ensures compared { Compares (is_some result) (candidates (key_hash S.BuildHasher S.Hasher.Hasher K.hash_input self.old.builder) self.old.is_vec self.old.pairs key.now) tally.old.compared tally.new.compared }
         ensures state { IsState K.eq L.LIMIT self.new }
@@ -42,7 +42,7 @@ impl<K: Eq + Hash, V, S: BuildHasher, L: Limit> LimitedHashMap<K, V, S, L> {
     fn take_at(&mut self, number: usize) -> (K, V)
         requires { number < length self.old.pairs }
         ensures taken { slice_get self.old.pairs number ≡ Some result }
-        ensures after { self.new ≡ with_pairs self.old (swap_out self.old.pairs number) }
+        ensures after { WithPairs self.old (swap_out self.old.pairs number) self.new }
         ensures state { IsState K.eq L.LIMIT self.new }
     {
         take_hash(&mut self.table, number);
