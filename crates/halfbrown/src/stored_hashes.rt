@@ -1,11 +1,16 @@
 //! The hashed form at its plainest: a column of stored hashes, scanned from first to last.
-ghost use Rattle.std.specs.Prelude.{◌≡◌, ℕ, ◌+◌, ◌<◌, ◌≤◌, true, false, [], ◌∷◌, ◌++◌, length, slice_get, Some, IfSome, IfNone, IfOk, OnOk, OnErr, count_by, ◌==◌, is_some, IsTrue, if◌then◌else◌};
+ghost use Rattle.std.specs.Prelude.{◌≡◌, ℕ, ◌+◌, ◌<◌, ◌≤◌, true, false, [], ◌∷◌, ◌++◌, length, slice_get, Some, IfSome, IfNone, IfOk, IfErr, OnOk, OnErr, ◌^◌, count_by, ◌==◌, is_some, IsTrue, if◌then◌else◌};
 ghost use Rattle.half_store.specs.Pairs.{swap_out};
+ghost use Rattle.half_store.specs.Refusal.{refusal_of};
+ghost use Rattle.half_store.specs.Rooms.{room_for};
+ghost use Rattle.half_store.specs.declared.refusal.Refusal.TheVariants.{Memory};
 ghost use Rattle.halfbrown.specs.Costs.{Compares};
 ghost use Rattle.halfbrown.specs.StoredHashes.{with_hashes};
 
-use half_store::{Tally, counting};
-use std::alloc::{AllocError, Global};
+use half_store::refusal::check_size;
+use half_store::rooms::room_for;
+use half_store::{Refusal, Tally, counting};
+use std::alloc::Global;
 use std::marker::Model;
 
 /// The hashes of a map's pairs, in the order of their numbers, with room for so many.
@@ -27,11 +32,17 @@ impl Model for StoredHashes {
 }
 
 impl StoredHashes {
-    /// No hashes, with room for so many.
-    pub(crate) fn with_room(alloc: Global, room: usize) -> Result<StoredHashes, AllocError>
+    /// No hashes, with the least room of the series for so many.
+    pub(crate) fn with_room(alloc: Global, wanted: usize) -> Result<StoredHashes, Refusal>
         ensures hashes { IfOk result (λ t. t.hashes ≡ []) }
-        ensures room { IfOk result (λ t. t.room ≡ room) }
+        ensures room { IfOk result (λ t. t.room ≡ room_for wanted) }
+        ensures series { IfOk result (λ t. t.room ≡ room_for t.room) }
+        ensures serves { IfOk result (λ t. wanted ≤ t.room) }
+        ensures granted { OnOk result (wanted ≤ 2 ^ 60) }
+        ensures refused { IfErr result (λ why. why ≡ refusal_of wanted) }
     {
+        check_size(wanted)?;
+        let room = room_for(wanted);
         let hashes = Vec::with_capacity(alloc, room)?;
         Ok(StoredHashes { hashes, room })
     }
@@ -76,12 +87,17 @@ impl StoredHashes {
     }
 
     /// Makes room for so many hashes in all.
-    pub(crate) fn grow(&mut self, room: usize) -> Result<(), AllocError>
-        requires { self.old.room ≤ room }
+    pub(crate) fn reserve(&mut self, wanted: usize) -> Result<(), Refusal>
+        requires less { self.old.room < wanted }
+        requires few { wanted ≤ 2 ^ 60 }
         ensures hashes { self.new.hashes ≡ self.old.hashes }
-        ensures ok { OnOk result (self.new.room ≡ room) }
+        ensures ok { OnOk result (self.new.room ≡ room_for wanted) }
+        ensures series { OnOk result (self.new.room ≡ room_for self.new.room) }
+        ensures serves { OnOk result (wanted ≤ self.new.room) }
+        ensures refused { IfErr result (λ why. why ≡ Memory) }
         ensures err { OnErr result (self.new ≡ self.old) }
     {
+        let room = room_for(wanted);
         self.hashes
             .reserve_exact(room.saturating_sub(self.hashes.len()))?;
         self.room = room;

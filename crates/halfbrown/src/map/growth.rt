@@ -1,6 +1,6 @@
-//! Room for one more pair.
-ghost use Rattle.std.specs.Prelude.{◌≡◌, ◌+◌, ◌<◌, true, false, length, OnOk, OnErr, IfErr};
-ghost use Rattle.halfbrown.specs.Growth.{is_full, addition_wants, IsRefusal, IsGrantable, HasRoomAfter};
+//! More room, and less.
+ghost use Rattle.std.specs.Prelude.{◌≡◌, ◌+◌, ◌<◌, ◌≤◌, true, false, None, length, IsOk, OnOk, OnErr, IfErr};
+ghost use Rattle.halfbrown.specs.Growth.{is_full, addition_wants, room_wants, IsRefusal, IsGrantable, HasRoomAfter, HasRoomShrunk};
 ghost use Rattle.halfbrown.specs.State.{IsState};
 
 use super::LimitedHashMap;
@@ -11,7 +11,39 @@ use half_store::rooms::room_for;
 use std::hash::{BuildHasher, Hash};
 
 impl<K: Eq + Hash, V, S: BuildHasher, L: Limit> LimitedHashMap<K, V, S, L> {
-    /// Makes room for one more pair where there is none. All memory is there before anything changes.
+    /// Makes room for so many pairs more, so that as many insertions need none. The room never falls.
+    ///
+    /// A table asks for the least room of its series that serves, and a vector for no more than the limit, whatever is
+    /// wanted. It is refused only where there is less room, and then nothing has changed. Nothing is hashed.
+    pub fn reserve(&mut self, additional: usize) -> Result<(), Refusal>
+        ensures room { OnOk result (HasRoomAfter self.old (room_wants L.LIMIT self.old (length self.old.pairs + additional)) self.new) }
+        ensures serves { OnOk result (room_wants L.LIMIT self.new (length self.old.pairs + additional) ≡ None) }
+        ensures granted { OnOk result (IsGrantable (room_wants L.LIMIT self.old (length self.old.pairs + additional))) }
+        ensures refused { IfErr result (IsRefusal (room_wants L.LIMIT self.old (length self.old.pairs + additional))) }
+        ensures err { OnErr result (self.new ≡ self.old) }
+        ensures pairs { self.new.pairs ≡ self.old.pairs }
+        ensures form { self.new.is_vec ≡ self.old.is_vec }
+        ensures hasher { self.new.builder ≡ self.old.builder }
+        ensures state { IsState K.eq L.LIMIT self.new }
+    {
+        let len = self.columns.len();
+        let Some(table) = &mut self.table else {
+            let wanted = len.saturating_add(additional).min(L::LIMIT);
+            return self.columns.grow(wanted, L::LIMIT);
+        };
+        if additional <= table.room() - len {
+            return Ok(());
+        }
+        let Some(wanted) = len.checked_add(additional) else {
+            return Err(Refusal::Size);
+        };
+        // The columns may have more room than the table, which decides: so they grow first.
+        check_size(wanted)?;
+        self.columns.reserve(room_for(wanted))?;
+        table.reserve(wanted)
+    }
+
+    // Makes room for one more pair where there is none.
     pub(crate) fn make_room(&mut self) -> Result<(), Refusal>
         requires { is_full L.LIMIT self.old ≡ false }
         ensures pairs { self.new.pairs ≡ self.old.pairs }
@@ -24,17 +56,6 @@ impl<K: Eq + Hash, V, S: BuildHasher, L: Limit> LimitedHashMap<K, V, S, L> {
         ensures granted { OnOk result (IsGrantable (addition_wants self.old)) }
         ensures state { IsState K.eq L.LIMIT self.new }
     {
-        let wanted = self.columns.len() + 1;
-        let Some(table) = &mut self.table else {
-            return self.columns.grow(wanted, L::LIMIT);
-        };
-        if wanted <= table.room() {
-            return Ok(());
-        }
-        check_size(wanted)?;
-        let room = room_for(wanted);
-        self.columns.reserve(room)?;
-        table.grow(room)?;
-        Ok(())
+        self.reserve(1)
     }
 }

@@ -10,8 +10,6 @@ ghost use Rattle.halfbrown.specs.State.{IsState};
 use super::LimitedHashMap;
 use crate::Limit;
 use crate::stored_hashes::StoredHashes;
-use half_store::refusal::check_size;
-use half_store::rooms::room_for;
 use half_store::{Refusal, Tally, counting};
 use std::hash::{BuildHasher, Hash};
 
@@ -52,10 +50,8 @@ impl<K: Eq + Hash, V, S: BuildHasher, L: Limit> LimitedHashMap<K, V, S, L> {
     {
         let _ = &self.columns;
         let wanted = L::LIMIT.saturating_add(1);
-        check_size(wanted)?;
-        let room = room_for(wanted);
-        let mut table = StoredHashes::with_room(self.alloc, room)?;
-        self.columns.reserve(room)?;
+        let mut table = StoredHashes::with_room(self.alloc, wanted)?;
+        self.columns.reserve(table.room())?;
         store_hashes(&self.builder, self.columns.keys(), &mut table, tally);
         self.table = Some(table);
         Ok(())
