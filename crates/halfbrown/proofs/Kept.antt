@@ -13,7 +13,7 @@ use Rattle.half_store.specs.Rooms.{room_for}
 use Rattle.halfbrown.specs.Layout.{IsKept, hashes_in, room_in}
 use Rattle.halfbrown.specs.StoredHashes.{Stored, with_hashes}
 use Rattle.halfbrown.specs.Search.{IsAbsent, IsVacancy}
-use Rattle.halfbrown.specs.Form.{with_hash, without_hash}
+use Rattle.halfbrown.specs.Form.{with_hash, without_hash, without_hashes}
 use Rattle.halfbrown.specs.declared.map.search.Vacancy.{Vacancy}
 use Rattle.halfbrown.specs.declared.map.search.Vacancy.TheVariants.{InVector, InTable}
 use Rattle.halfbrown.specs.State.{State, IsState, IsTableRoom}
@@ -152,3 +152,29 @@ module _ {K V : Type 0} (eq : K → K → Bool) (limit : ℕ) where
         let taken = kept_swap_out eq hash laws columns.pairs columns.room (is_none table) (hashes_in table) (hashes_in (without_hash i table)) (room_in limit columns.room table) i kept within (hashes_in-map f (λ hs. swap_out hs i) (λ t. refl) table) in
         subst (λ b. IsKept eq hash (swap_out columns.pairs i) columns.room b (hashes_in (without_hash i table)) (room_in limit columns.room (without_hash i table))) (sym form)
         (subst (λ r. IsKept eq hash (swap_out columns.pairs i) columns.room (is_none table) (hashes_in (without_hash i table)) r) (sym rooms) taken)
+
+    -- no pair and no hash any more
+    pub kept_cleared : (columns : Pairs K V) (table : Option Stored) → FieldsKept hash columns table → FieldsKept hash (with_pairs columns []) (without_hashes table)
+    unfolding IsDistinct
+    kept_cleared columns table kept =
+        let f = λ (t : Stored). with_hashes t [] in
+        let form = is_none-map f table in
+        let rooms = room_in-map limit columns.room f (λ t. refl) table in
+        record {
+          distinct = tt;
+          fits = omega arith;
+          backed = omega (arith, rooms, kept.backed);
+          hashed = λ is_table. hashes_in-map f (λ hs. []) (λ t. refl) table (sym form ∙ is_table);
+          series = λ is_table. subst IsTableRoom (sym rooms) (kept.series (sym form ∙ is_table));
+        }
+
+    -- an empty table of this room
+    pub kept_new_table : (columns : Pairs K V) (t : Stored) → columns.pairs ≡ [] → t.hashes ≡ [] → t.room ≤ columns.room → IsTableRoom t.room → FieldsKept hash columns (Some t)
+    unfolding IsDistinct
+    kept_new_table columns t none no_hashes backed series = record {
+      distinct = subst (λ qs. IsDistinct eq (keys_of qs)) (sym none) tt;
+      fits = omega (arith, ap length none);
+      backed = backed;
+      hashed = λ form. no_hashes ∙ ap (λ qs. map hash (keys_of qs)) (sym none);
+      series = λ form. series;
+    }

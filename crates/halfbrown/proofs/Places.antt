@@ -1,5 +1,5 @@
 -- Where a key stands among pairs of distinct keys, and what that says of reading and changing them.
-use Rattle.std.proofs.Common.{◌≡◌, ℕ, zero, suc, ◌+◌, ◌<◌, Bool, true, false, cond, ◌||◌, List, [], ◌∷◌, ◌++◌, length, map, get_or, slice_get, Option, None, Some, sym, refl, ap, subst, ◌∙◌, arith, true≢false}
+use Rattle.std.proofs.Common.{◌≡◌, ℕ, zero, suc, ◌+◌, ◌<◌, Bool, true, false, cond, ◌||◌, List, [], ◌∷◌, ◌++◌, length, map, get_or, slice_get, Option, None, Some, is_some, sym, refl, ap, subst, ◌∙◌, arith, true≢false}
 use Rattle.std.specs.Option.{option_map, option_map_or}
 use Rattle.std.specs.Cmp.{IsEquivalence}
 use Rattle.std.specs.List.{IsDistinct, list_any}
@@ -9,7 +9,7 @@ use Rattle.std.proofs.lemmas.Option.{slice_get-get_or}
 use Rattle.std.proofs.lemmas.Map.Entries.{length-keys_of}
 use Rattle.std.proofs.lemmas.Map.Keys.{apart_from_distinct}
 use Rattle.half_store.specs.Pairs.{number_of, set_value, swap_out}
-use Rattle.halfbrown.specs.Pairs.{value_of, pair_of, put, take_out}
+use Rattle.halfbrown.specs.Pairs.{value_of, pair_of, holds, put, take_out}
 use Rattle.halfbrown.specs.Search.{IsPlaceOf, IsAbsent}
 
 module _ {K : Type 0} (test : K → Bool) where
@@ -120,6 +120,19 @@ module _ {K V : Type 0} (eq : K → K → Bool) (k : K) where
     put_is = λ v. put_none ps v n;
     take_is = ap (λ m. option_map_or (swap_out ps) m ps) (number_of-none (eq k) (keys_of ps) n);
   }
+
+  unheld_by : (p : K × V) (ps : List (K × V)) (b : Bool) → eq k p.0 ≡ b → (is_some (lookup (eq k) ps) ≡ false → NonePasses (eq k) (keys_of ps))
+      → is_some (cond b (Some p.1) (lookup (eq k) ps)) ≡ false → NonePasses (eq k) (keys_of (p ∷ ps))
+  unheld_by p ps true passes more h = absurd (true≢false h)
+  unheld_by p ps false fails more h = (fails, more h)
+
+  none_of_unheld : (ps : List (K × V)) → is_some (lookup (eq k) ps) ≡ false → NonePasses (eq k) (keys_of ps)
+  none_of_unheld [] h = tt
+  none_of_unheld (p ∷ ps) h = unheld_by p ps (eq k p.0) refl (none_of_unheld ps) h
+
+  -- where no key equal to k is held
+  pub absent_of_unheld : (ps : List (K × V)) → holds eq ps k ≡ false → IsAbsent eq ps k
+  absent_of_unheld ps h = absent_of_none ps (none_of_unheld ps h)
 
   -- from the answer of a search from first to last
   pub place_of_number : (ps : List (K × V)) (i : ℕ) → Some i ≡ number_of (eq k) (keys_of ps) → IsPlaceOf eq ps k i

@@ -14,3 +14,7 @@ with_hash (InTable hash) table = option_map (λ t. with_hashes t (t.hashes ++ ha
 -- without the hash of the pair with this number, the last one in its place
 abbrev pub without_hash : ℕ → Option Stored → Option Stored
 without_hash number table = option_map (λ t. with_hashes t (swap_out t.hashes number)) table
+
+-- without any hash
+abbrev pub without_hashes : Option Stored → Option Stored
+without_hashes table = option_map (λ t. with_hashes t []) table

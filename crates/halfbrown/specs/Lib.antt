@@ -2,6 +2,7 @@ pub mod Costs
 pub mod Form
 pub mod Growth
 pub mod Layout
+pub mod Lending
 pub mod Pairs
 pub mod Run
 pub mod Search

@@ -17,6 +17,10 @@ state_code k v s = coded_via (coded× coded_bool (coded× (coded_list (coded× k
     (λ m. (m.is_vec, (m.pairs, (m.room, m.builder))))
     (λ a b e i. record { is_vec = (e i).0; pairs = (e i).1.0; room = (e i).1.1.0; builder = (e i).1.1.1 })
 
+-- the map with these pairs, all else the same
+abbrev pub with_pairs : {K V S : Type 0} → State K V S → List (K × V) → State K V S
+with_pairs m ps = record m { pairs = ps }
+
 -- new is old with these pairs: form, room and builder are the same
 pub record WithPairs {K V S : Type 0} (old : State K V S) (ps : List (K × V)) (new : State K V S) : Type 0 where
   pub pairs : new.pairs ≡ ps

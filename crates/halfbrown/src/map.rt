@@ -1,10 +1,12 @@
 //! The map, and what it says of itself.
-ghost use Rattle.std.specs.Prelude.{◌≡◌, ◌^◌, ◌<◌, ◌↔◌, true, false, [], length, IsTrue};
-ghost use Rattle.halfbrown.specs.State.{IsState};
+ghost use Rattle.std.specs.Prelude.{◌≡◌, ◌^◌, ◌<◌, ◌↔◌, false, [], length, IsTrue};
+ghost use Rattle.halfbrown.specs.Form.{without_hashes};
+ghost use Rattle.halfbrown.specs.State.{IsState, WithPairs};
 
 mod growth;
 mod insert;
 mod look_up;
+mod make;
 mod remove;
 pub(crate) mod search;
 mod switch;
@@ -69,34 +71,7 @@ impl<K: Eq + Hash + Drop, V: Drop, S: BuildHasher + Drop, L: Limit> Drop
     }
 }
 
-impl<K: Eq + Hash, V, L: Limit> LimitedHashMap<K, V, DefaultHashBuilder, L> {
-    /// An empty vector with the default builder. It takes no memory.
-    pub fn new(alloc: Global) -> Self
-        ensures form { result.is_vec ≡ true }
-        ensures pairs { result.pairs ≡ [] }
-        ensures state { IsState K.eq L.LIMIT result }
-    {
-        LimitedHashMap::with_hasher(alloc, BuildHasherDefault::new())
-    }
-}
-
 impl<K: Eq + Hash, V, S: BuildHasher, L: Limit> LimitedHashMap<K, V, S, L> {
-    /// An empty vector with this builder. It takes no memory.
-    pub fn with_hasher(alloc: Global, builder: S) -> Self
-        ensures form { result.is_vec ≡ true }
-        ensures pairs { result.pairs ≡ [] }
-        ensures hasher { result.builder ≡ builder }
-        ensures state { IsState K.eq L.LIMIT result }
-    {
-        LimitedHashMap {
-            columns: VecMap::new(alloc),
-            table: None,
-            builder,
-            alloc,
-            limit: PhantomData,
-        }
-    }
-
     /// How many pairs are held.
     pub fn len(&self) -> usize
         ensures len { result ≡ length self.now.pairs }
@@ -104,6 +79,20 @@ impl<K: Eq + Hash, V, S: BuildHasher, L: Limit> LimitedHashMap<K, V, S, L> {
         ensures state { IsState K.eq L.LIMIT self.now }
     {
         self.columns.len()
+    }
+
+    /// Whether no pair is held.
+    pub fn is_empty(&self) -> bool
+        ensures { IsTrue result ↔ (length self.now.pairs ≡ 0) }
+    {
+        self.len() == 0
+    }
+
+    /// The builder that the map was made with, in both forms.
+    pub fn hasher(&self) -> &S
+        ensures { result.now ≡ self.now.builder }
+    {
+        &self.builder
     }
 
     /// Whether the pairs stand in a vector.
@@ -129,5 +118,26 @@ impl<K: Eq + Hash, V, S: BuildHasher, L: Limit> LimitedHashMap<K, V, S, L> {
             None => self.columns.room().min(L::LIMIT),
             Some(table) => table.room(),
         }
+    }
+
+    /// Lets all pairs go. The form, the room and the builder stay.
+    pub fn clear(&mut self)
+    where
+        K: Drop,
+        V: Drop,
+        ensures after { WithPairs self.old [] self.new }
+        ensures state { IsState K.eq L.LIMIT self.new }
+    {
+        clear_hashes(&mut self.table);
+        self.columns.clear();
+    }
+}
+
+// Lets all stored hashes go. A vector stores none.
+fn clear_hashes(table: &mut Option<StoredHashes>)
+    ensures { table.new ≡ without_hashes table.old }
+{
+    if let Some(table) = table {
+        table.clear();
     }
 }

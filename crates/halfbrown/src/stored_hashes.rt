@@ -103,6 +103,13 @@ impl StoredHashes {
         self.room = room;
         Ok(())
     }
+
+    /// Lets all hashes go. The room stays.
+    pub(crate) fn clear(&mut self)
+        ensures { self.new ≡ with_hashes self.old [] }
+    {
+        self.hashes.clear();
+    }
 }
 
 // The first number of this hash that matches. Only numbers of this hash are asked.

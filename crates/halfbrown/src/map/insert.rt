@@ -1,7 +1,7 @@
 //! Insertion.
 ghost use Rattle.std.specs.Prelude.{◌≡◌, ◌+◌, ◌<◌, true, false, None, Some, [], ◌∷◌, ◌++◌, length, slice_get, IsOk, OnOk, OnErr, IfOk, IfErr, is_ok};
-ghost use Rattle.halfbrown.specs.Costs.{Compares, candidates, key_hash, insert_asks, InsertCompares};
-ghost use Rattle.halfbrown.specs.Growth.{is_full, stays_vec, insert_wants, addition_wants, IsRefusal, IsGrantable, HasRoomAfter};
+ghost use Rattle.halfbrown.specs.Costs.{Compares, candidates, key_hash, search_asks, insert_asks, InsertCompares};
+ghost use Rattle.halfbrown.specs.Growth.{is_full, stays_vec, insert_wants, unchecked_wants, addition_wants, IsRefusal, IsGrantable, HasRoomAfter};
 ghost use Rattle.std.specs.Map.{values_of};
 ghost use Rattle.std.specs.Option.{ForSome};
 ghost use Rattle.half_store.specs.Pairs.{set_value};
@@ -14,7 +14,7 @@ use super::LimitedHashMap;
 use super::search::{Search, Vacancy};
 use crate::stored_hashes::StoredHashes;
 use crate::{Limit, Refused};
-use half_store::Tally;
+use half_store::{Tally, counting};
 use std::hash::{BuildHasher, Hash};
 
 impl<K: Eq + Hash, V, S: BuildHasher, L: Limit> LimitedHashMap<K, V, S, L> {
@@ -85,6 +85,65 @@ impl<K: Eq + Hash, V, S: BuildHasher, L: Limit> LimitedHashMap<K, V, S, L> {
         }
     }
 
+    /// Adds a pair whose key is not held, without a search for it.
+    ///
+    /// It is refused as `insert` of a new key is.
+    pub fn insert_nocheck(&mut self, key: K, value: V) -> Result<(), Refused<K, V>>
+        requires { holds K.eq self.old.pairs key ≡ false }
+        ensures pairs { OnOk result (self.new.pairs ≡ self.old.pairs ++ (key, value) ∷ []) }
+        ensures form { OnOk result (self.new.is_vec ≡ stays_vec L.LIMIT self.old) }
+        ensures room { OnOk result (HasRoomAfter self.old (unchecked_wants L.LIMIT self.old) self.new) }
+        ensures granted { OnOk result (IsGrantable (unchecked_wants L.LIMIT self.old)) }
+        ensures refused { IfErr result (λ r. IsRefusal (unchecked_wants L.LIMIT self.old) r.why) }
+        ensures err { OnErr result (self.new ≡ self.old) }
+        ensures key_returned { IfErr result (λ r. r.key ≡ key) }
+        ensures value_returned { IfErr result (λ r. r.value ≡ value) }
+        ensures hasher { self.new.builder ≡ self.old.builder }
+        ensures state { IsState K.eq L.LIMIT self.new }
+    {
+        self.insert_nocheck_counted(key, value, &mut Tally::new())
+    }
+
+    /// `insert_nocheck`, with its work counted: the switch's hashes, and one hash in a table; no key is compared.
+    pub fn insert_nocheck_counted(
+        &mut self,
+        key: K,
+        value: V,
+        tally: &mut Tally,
+    ) -> Result<(), Refused<K, V>>
+        requires { holds K.eq self.old.pairs key ≡ false }
+        ensures pairs { OnOk result (self.new.pairs ≡ self.old.pairs ++ (key, value) ∷ []) }
+        ensures form { OnOk result (self.new.is_vec ≡ stays_vec L.LIMIT self.old) }
+        ensures room { OnOk result (HasRoomAfter self.old (unchecked_wants L.LIMIT self.old) self.new) }
+        ensures granted { OnOk result (IsGrantable (unchecked_wants L.LIMIT self.old)) }
+        ensures refused { IfErr result (λ r. IsRefusal (unchecked_wants L.LIMIT self.old) r.why) }
+        ensures err { OnErr result (self.new ≡ self.old) }
+        ensures key_returned { IfErr result (λ r. r.key ≡ key) }
+        ensures value_returned { IfErr result (λ r. r.value ≡ value) }
+        ensures asked { tally.new.asked ≡ tally.old.asked + insert_asks L.LIMIT self.old (is_ok result) }
+        ensures compared { tally.new.compared ≡ tally.old.compared }
+        ensures hasher { self.new.builder ≡ self.old.builder }
+        ensures state { IsState K.eq L.LIMIT self.new }
+    {
+        if let Err(why) = self.switch_if_full(tally) {
+            return Err(Refused { key, value, why });
+        }
+        let vacancy = self.unsearched(&key, tally);
+        self.add(key, value, vacancy)
+    }
+
+    // Where a pair may be added whose key is not held. The builder is asked in a table, and nothing is searched.
+    fn unsearched(&self, key: &K, tally: &mut Tally) -> Vacancy
+        ensures vacant { IsVacancy self.now.is_vec (key_hash S.BuildHasher S.Hasher.Hasher K.hash_input self.now.builder key.now) result }
+        ensures asked { tally.new.asked ≡ tally.old.asked + search_asks self.now.is_vec }
+        ensures compared { tally.new.compared ≡ tally.old.compared }
+    {
+        match &self.table {
+            None => Vacancy::InVector,
+            Some(_) => Vacancy::InTable(counting::ask(&self.builder, key, tally)),
+        }
+    }
+
     // Gives the pair with this number another value, and answers the old one.
     fn set_at(&mut self, number: usize, value: V) -> V
         requires { number < length self.old.pairs }
@@ -98,7 +157,7 @@ impl<K: Eq + Hash, V, S: BuildHasher, L: Limit> LimitedHashMap<K, V, S, L> {
     // Adds a pair whose key is not held, with room made for it where there is none.
     fn add(&mut self, key: K, value: V, vacancy: Vacancy) -> Result<(), Refused<K, V>>
         requires not_full { is_full L.LIMIT self.old ≡ false }
-        requires absent { IsAbsent K.eq self.old.pairs key }
+        requires absent { holds K.eq self.old.pairs key ≡ false }
         requires vacant { IsVacancy self.old.is_vec (key_hash S.BuildHasher S.Hasher.Hasher K.hash_input self.old.builder key) vacancy }
         ensures pairs { OnOk result (self.new.pairs ≡ self.old.pairs ++ (key, value) ∷ []) }
         ensures form { self.new.is_vec ≡ self.old.is_vec }
@@ -121,7 +180,7 @@ impl<K: Eq + Hash, V, S: BuildHasher, L: Limit> LimitedHashMap<K, V, S, L> {
     // Adds a pair whose key is not held. There is room for it.
     fn push(&mut self, key: K, value: V, vacancy: Vacancy)
         requires room { length self.old.pairs < self.old.room }
-        requires absent { IsAbsent K.eq self.old.pairs key }
+        requires absent { holds K.eq self.old.pairs key ≡ false }
         requires vacant { IsVacancy self.old.is_vec (key_hash S.BuildHasher S.Hasher.Hasher K.hash_input self.old.builder key) vacancy }
         ensures after { WithPairs self.old (self.old.pairs ++ (key, value) ∷ []) self.new }
         ensures state { IsState K.eq L.LIMIT self.new }

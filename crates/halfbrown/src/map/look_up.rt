@@ -1,8 +1,10 @@
 //! Reading by key.
-ghost use Rattle.std.specs.Prelude.{◌≡◌, ◌+◌, is_some};
-ghost use Rattle.std.specs.Option.{option_copied};
+ghost use Rattle.std.specs.Prelude.{◌≡◌, ◌+◌, is_some, IsTrue, Some, true, ◌<◌, length, slice_get};
+ghost use Rattle.std.specs.Borrow.{sem};
+ghost use Rattle.std.specs.Map.{values_of};
+ghost use Rattle.std.specs.Option.{option_copied, option_copied_mut};
 ghost use Rattle.halfbrown.specs.Costs.{Compares, candidates, key_hash, search_asks};
-ghost use Rattle.halfbrown.specs.Pairs.{value_of};
+ghost use Rattle.halfbrown.specs.Pairs.{value_of, holds};
 ghost use Rattle.halfbrown.specs.State.{IsState};
 
 use super::LimitedHashMap;
@@ -10,8 +12,11 @@ use super::search::Search;
 use crate::Limit;
 use half_store::Tally;
 use std::hash::{BuildHasher, Hash};
+use std::ops::Index;
 
 impl<K: Eq + Hash, V, S: BuildHasher, L: Limit> LimitedHashMap<K, V, S, L> {
+    ghost use Rattle.halfbrown.specs.Lending.{LendsValueOf, LendsValueAt};
+
     /// The value of the held key that equals this one.
     pub fn get(&self, key: &K) -> Option<&V>
         ensures { option_copied result ≡ value_of K.eq self.now.pairs key.now }
@@ -30,5 +35,82 @@ impl<K: Eq + Hash, V, S: BuildHasher, L: Limit> LimitedHashMap<K, V, S, L> {
             Search::Found(number) => Some(self.columns.value_at(number)),
             Search::Missing(_) => None,
         }
+    }
+
+    /// The value of the held key that equals this one, to be written.
+    pub fn get_mut(&mut self, key: &K) -> Option<&mut V>
+        ensures* writes_back { sem 𝓛 (LendsValueOf K.row V.row S.row L.row S.Hasher.row K.Hash S.BuildHasher S.Hasher.Hasher L.Limit self.entry key.now result) }
+        ensures value { option_copied_mut result ≡ value_of K.eq self.old.pairs key.now }
+    {
+        self.get_mut_counted(key, &mut Tally::new())
+    }
+
+    /// `get_mut`, with its work counted: that of one search.
+    pub fn get_mut_counted(&mut self, key: &K, tally: &mut Tally) -> Option<&mut V>
+        ensures* writes_back { sem 𝓛 (LendsValueOf K.row V.row S.row L.row S.Hasher.row K.Hash S.BuildHasher S.Hasher.Hasher L.Limit self.entry key.now result) }
+        ensures value { option_copied_mut result ≡ value_of K.eq self.old.pairs key.now }
+        ensures asked { tally.new.asked ≡ tally.old.asked + search_asks self.old.is_vec }
+        ensures compared { Compares (is_some result) (candidates (key_hash S.BuildHasher S.Hasher.Hasher K.hash_input self.old.builder) self.old.is_vec self.old.pairs key.now) tally.old.compared tally.new.compared }
+        ensures state { IsState K.eq L.LIMIT self.old }
+    {
+        match self.search(key, tally) {
+            Search::Found(number) => Some(self.value_at_mut(number)),
+            Search::Missing(_) => None,
+        }
+    }
+
+    /// Whether a key equal to this one is held.
+    pub fn contains_key(&self, key: &K) -> bool
+        ensures { result ≡ holds K.eq self.now.pairs key.now }
+    {
+        self.contains_key_counted(key, &mut Tally::new())
+    }
+
+    /// `contains_key`, with its work counted: that of one search.
+    pub fn contains_key_counted(&self, key: &K, tally: &mut Tally) -> bool
+        ensures held { result ≡ holds K.eq self.now.pairs key.now }
+        ensures asked { tally.new.asked ≡ tally.old.asked + search_asks self.now.is_vec }
+        ensures compared { Compares result (candidates (key_hash S.BuildHasher S.Hasher.Hasher K.hash_input self.now.builder) self.now.is_vec self.now.pairs key.now) tally.old.compared tally.new.compared }
+        ensures state { IsState K.eq L.LIMIT self.now }
+    {
+        match self.search(key, tally) {
+            Search::Found(_) => true,
+            Search::Missing(_) => false,
+        }
+    }
+
+    /// `map[key]`, with its work counted: that of one search. A key equal to this one has to be held.
+    pub fn index_counted(&self, key: &K, tally: &mut Tally) -> &V
+        requires { IsTrue (holds K.eq self.now.pairs key.now) }
+        ensures value { value_of K.eq self.now.pairs key.now ≡ Some result.now }
+        ensures asked { tally.new.asked ≡ tally.old.asked + search_asks self.now.is_vec }
+        ensures compared { Compares true (candidates (key_hash S.BuildHasher S.Hasher.Hasher K.hash_input self.now.builder) self.now.is_vec self.now.pairs key.now) tally.old.compared tally.new.compared }
+    {
+        match self.search(key, tally) {
+            Search::Found(number) => self.columns.value_at(number),
+            Search::Missing(_) => unreachable!(),
+        }
+    }
+
+    // The value of the pair with this number, to be written.
+    fn value_at_mut(&mut self, number: usize) -> &mut V
+        requires { number < length self.old.pairs }
+        ensures* writes_back { sem 𝓛 (LendsValueAt K.row V.row S.row L.row S.Hasher.row K.Hash S.BuildHasher S.Hasher.Hasher L.Limit self.entry number result) }
+        ensures value { slice_get (values_of self.old.pairs) number ≡ Some result.now }
+    {
+        self.columns.value_at_mut(number)
+    }
+}
+
+impl<'a, K: Eq + Hash, V, S: BuildHasher, L: Limit> Index<&'a K> for LimitedHashMap<K, V, S, L> {
+    type Output = V;
+
+    ghost can_index = { λ m k. IsTrue (holds K.eq m.pairs k.now) };
+
+    ghost index_gives = { λ m k v. value_of K.eq m.pairs k.now ≡ Some v };
+
+    /// The value of the held key that equals this one. There has to be one.
+    fn index(&self, key: &'a K) -> &V {
+        self.index_counted(key, &mut Tally::new())
     }
 }

@@ -4,6 +4,7 @@ use Rattle.halfbrown.specs.Costs.{key_hash}
 use Rattle.halfbrown.specs.Form.{with_hash}
 use Rattle.halfbrown.specs.Layout.{room_in}
 use Rattle.halfbrown.specs.Search.{IsAbsent, IsVacancy}
+use Rattle.halfbrown.proofs.Places.{absent_of_unheld}
 use Rattle.halfbrown.proofs.Kept.{FieldsKept, kept_added, state_of_kept}
 use Rattle.halfbrown.proofs.map.LimitedHashMap.push.Goals as goal
 
@@ -15,7 +16,7 @@ kept g c =
     let columns = c.self.inside.columns in
     let table = c.self.inside.table in
     let pairs = ap (λ m. m.pairs) c.self.view_is in
-    let absent : IsAbsent eq columns.pairs c.args.key = subst (λ ps. IsAbsent eq ps c.args.key) (sym pairs) c.requires.absent in
+    let absent : IsAbsent eq columns.pairs c.args.key = subst (λ ps. IsAbsent eq ps c.args.key) (sym pairs) (absent_of_unheld eq c.args.key c.args.self.now.pairs c.requires.absent) in
     let fits : length columns.pairs < room_in limit columns.room table = omega (arith, c.requires.room, ap length pairs, ap (λ m. m.room) c.self.view_is) in
     let vacant = subst (λ m. IsVacancy m.is_vec (key_hash g.S.BuildHasher g.S.Hasher.Hasher g.K.Hash.hash_input m.builder c.args.key) c.args.vacancy) (sym c.self.view_is) c.requires.vacant in
     subst (λ cs. FieldsKept eq limit hash cs c.store_hash.new.table) (sym c.push.ensures)

@@ -1,0 +1,25 @@
+-- What a map ends as, once a value of it that was lent to be written comes back.
+use Rattle.std.specs.Prelude.{◌≡◌, ℕ, Bool, List, Option}
+use Rattle.std.specs.Borrow.{Fml, RattleType, MutBor, Lends, LendsIf}
+use Rattle.std.specs.HashMap.Lent.{HashMembers}
+use Rattle.std.specs.declared.hash.Hasher as hasher
+use Rattle.std.specs.declared.hash.BuildHasher as builder
+use Rattle.half_store.specs.Pairs.{set_value}
+use Rattle.halfbrown.specs.declared.limit.Limit as limits
+use Rattle.halfbrown.specs.Pairs.{put}
+use Rattle.halfbrown.specs.State.{State, with_pairs}
+use Rattle.halfbrown.specs.contracts.map.LimitedHashMap.{the_row}
+
+module _ (K V S L H : RattleType) (key : HashMembers K.Denot) (build : builder.Ghosts S.Denot H.Denot) (hash : hasher.Ghosts H.Denot) (most : limits.Ghosts L.Denot) where
+  -- the map's type, as the logic holds it
+  abbrev pub map_row : RattleType
+  map_row = the_row K V S L H (record { eq = key.eq }) (record { hash_input = key.hash_input }) build hash most
+
+  module _ (m : MutBor (State K.Denot V.Denot S.Denot)) where
+    -- the pair with this number has the last value written through the reference
+    abbrev pub LendsValueAt : ℕ → MutBor V.Denot → Fml
+    LendsValueAt number r = Lends map_row V m r (λ w. with_pairs m.now (set_value m.now.pairs number w))
+
+    -- the key that equals k has the last value written through the reference, and where none is held the map stays as it is
+    abbrev pub LendsValueOf : K.Denot → Option (MutBor V.Denot) → Fml
+    LendsValueOf k r = LendsIf map_row V m r (λ w. with_pairs m.now (put key.eq m.now.pairs k w)) m.now
