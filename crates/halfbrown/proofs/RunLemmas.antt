@@ -4,7 +4,8 @@ use Rattle.half_store.specs.Work.{Work}
 use Rattle.halfbrown.specs.declared.run.Command.{Command}
 use Rattle.halfbrown.specs.declared.run.Reply.{Reply}
 use Rattle.halfbrown.specs.State.{State, IsState}
-use Rattle.halfbrown.specs.Step.{Steps, Cost, GrewBy, no_cost, add_costs, command_cost, is_refused}
+use Rattle.halfbrown.specs.Step.{Steps, is_refused}
+use Rattle.halfbrown.specs.RunCost.{Cost, GrewBy, no_cost, add_costs, command_cost}
 use Rattle.halfbrown.specs.Run.{Runs}
 
 costs_are : (a b c d : ℕ) → a ≡ c → b ≡ d → ◌≡◌ {A = Cost} (record { asked = a; compared = b }) (record { asked = c; compared = d })
@@ -31,10 +32,10 @@ module _ {K V S : Type 0} (limit : ℕ) (eq : K → K → Bool) (hash : S → K 
   }
 
   pub step_more : (old : State K V S) (commands : List (Command K V)) (now next : State K V S) (command : Command K V) (left : List (Command K V)) (replies : List (Reply K V)) (reply : Reply K V) (before middle after : Work)
-      → RunSoFar old commands now (command ∷ left) replies before middle → Steps limit eq now command reply next → IsState eq limit next → GrewBy (command_cost limit hash now command (is_refused reply)) middle after
+      → RunSoFar old commands now (command ∷ left) replies before middle → Steps limit eq now command reply next → IsState eq limit next → GrewBy (command_cost limit eq hash now command (is_refused reply)) middle after
       → RunSoFar old commands next left (replies ++ reply ∷ []) before after
   step_more old commands now next command left replies reply before middle after so_far step state spent =
-      let once = command_cost limit hash now command (is_refused reply) in
+      let once = command_cost limit eq hash now command (is_refused reply) in
       record {
         cost = add_costs so_far.cost once;
         spent = (omega (arith, so_far.spent.0, spent.0), omega (arith, so_far.spent.1, spent.1));

@@ -3,7 +3,8 @@ ghost use Rattle.std.specs.Prelude.{◌≡◌, [], IsOk, IfOk, IfErr, OnErr};
 ghost use Rattle.halfbrown.specs.Costs.{key_hash};
 ghost use Rattle.halfbrown.specs.Run.{Runs};
 ghost use Rattle.halfbrown.specs.State.{IsState};
-ghost use Rattle.halfbrown.specs.Step.{Cost, GrewBy, Steps, command_cost, is_refused};
+ghost use Rattle.halfbrown.specs.RunCost.{Cost, GrewBy, command_cost};
+ghost use Rattle.halfbrown.specs.Step.{Steps, is_refused};
 
 use crate::{Limit, LimitedHashMap, Refused};
 use half_store::{Refusal, Tally};
@@ -15,10 +16,18 @@ use std::hash::{BuildHasher, Hash};
 pub enum Command<K, V> {
     /// `insert`.
     Insert(K, V),
+    /// `contains_key`, and `insert_nocheck` where the key is not held.
+    InsertNew(K, V),
     /// `get`.
     Get(K),
     /// `remove_entry`.
     Remove(K),
+    /// `clear`.
+    Clear,
+    /// `reserve`.
+    Reserve(usize),
+    /// `shrink_to_fit`.
+    Shrink,
     /// `is_vec`.
     IsVec,
     /// `len`.
@@ -30,10 +39,16 @@ pub enum Command<K, V> {
 pub enum Reply<K, V> {
     /// The old value of an inserted key, or none where it was new.
     Was(Option<V>),
+    /// The pair is new, and is held now.
+    Added,
+    /// An equal key was held, so the pair comes back.
+    Present(K, V),
     /// The value of the key, or none where it is not held.
     Found(Option<V>),
     /// The pair that was taken out, or none where the key was not held.
     Removed(Option<(K, V)>),
+    /// It is done.
+    Done,
     /// Whether the pairs stand in a vector.
     Form(bool),
     /// How many pairs are held.
@@ -94,16 +109,49 @@ fn step<K: Eq + Hash + Drop, V: Copy, S: BuildHasher, L: Limit>(
 ) -> Reply<K, V>
     ensures step { Steps L.LIMIT K.eq map.old command result map.new }
     ensures state { IsState K.eq L.LIMIT map.new }
-    ensures cost { GrewBy (command_cost L.LIMIT (key_hash S.BuildHasher S.Hasher.Hasher K.hash_input) map.old command (is_refused result)) tally.old tally.new }
+    ensures cost { GrewBy (command_cost L.LIMIT K.eq (key_hash S.BuildHasher S.Hasher.Hasher K.hash_input) map.old command (is_refused result)) tally.old tally.new }
 {
     match command {
         Command::Insert(key, value) => match map.insert_counted(key, value, tally) {
             Ok(old) => Reply::Was(old),
             Err(Refused { key, value, why }) => Reply::Refused(Command::Insert(key, value), why),
         },
+        Command::InsertNew(key, value) => insert_new(map, key, value, tally),
+        Command::Clear => {
+            map.clear();
+            Reply::Done
+        }
+        Command::Reserve(additional) => match map.reserve(additional) {
+            Ok(()) => Reply::Done,
+            Err(why) => Reply::Refused(Command::Reserve(additional), why),
+        },
+        Command::Shrink => {
+            map.shrink_to_fit();
+            Reply::Done
+        }
         Command::Get(key) => Reply::Found(map.get_counted(&key, tally).copied()),
         Command::Remove(key) => Reply::Removed(map.remove_entry_counted(&key, tally)),
         Command::IsVec => Reply::Form(map.is_vec()),
         Command::Len => Reply::Length(map.len()),
+    }
+}
+
+// Inserts a pair whose key is not held.
+fn insert_new<K: Eq + Hash + Drop, V: Copy, S: BuildHasher, L: Limit>(
+    map: &mut LimitedHashMap<K, V, S, L>,
+    key: K,
+    value: V,
+    tally: &mut Tally,
+) -> Reply<K, V>
+    ensures step { Steps L.LIMIT K.eq map.old (Command.InsertNew key value) result map.new }
+    ensures state { IsState K.eq L.LIMIT map.new }
+    ensures cost { GrewBy (command_cost L.LIMIT K.eq (key_hash S.BuildHasher S.Hasher.Hasher K.hash_input) map.old (Command.InsertNew key value) (is_refused result)) tally.old tally.new }
+{
+    if map.contains_key_counted(&key, tally) {
+        return Reply::Present(key, value);
+    }
+    match map.insert_nocheck_counted(key, value, tally) {
+        Ok(()) => Reply::Added,
+        Err(Refused { key, value, why }) => Reply::Refused(Command::InsertNew(key, value), why),
     }
 }

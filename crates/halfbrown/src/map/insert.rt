@@ -90,7 +90,7 @@ impl<K: Eq + Hash, V, S: BuildHasher, L: Limit> LimitedHashMap<K, V, S, L> {
     /// It is refused as `insert` of a new key is.
     pub fn insert_nocheck(&mut self, key: K, value: V) -> Result<(), Refused<K, V>>
         requires { holds K.eq self.old.pairs key ≡ false }
-        ensures pairs { OnOk result (self.new.pairs ≡ self.old.pairs ++ (key, value) ∷ []) }
+        ensures pairs { OnOk result (self.new.pairs ≡ put K.eq self.old.pairs key value) }
         ensures form { OnOk result (self.new.is_vec ≡ stays_vec L.LIMIT self.old) }
         ensures room { OnOk result (HasRoomAfter self.old (unchecked_wants L.LIMIT self.old) self.new) }
         ensures granted { OnOk result (IsGrantable (unchecked_wants L.LIMIT self.old)) }
@@ -112,7 +112,7 @@ impl<K: Eq + Hash, V, S: BuildHasher, L: Limit> LimitedHashMap<K, V, S, L> {
         tally: &mut Tally,
     ) -> Result<(), Refused<K, V>>
         requires { holds K.eq self.old.pairs key ≡ false }
-        ensures pairs { OnOk result (self.new.pairs ≡ self.old.pairs ++ (key, value) ∷ []) }
+        ensures pairs { OnOk result (self.new.pairs ≡ put K.eq self.old.pairs key value) }
         ensures form { OnOk result (self.new.is_vec ≡ stays_vec L.LIMIT self.old) }
         ensures room { OnOk result (HasRoomAfter self.old (unchecked_wants L.LIMIT self.old) self.new) }
         ensures granted { OnOk result (IsGrantable (unchecked_wants L.LIMIT self.old)) }
@@ -159,7 +159,7 @@ impl<K: Eq + Hash, V, S: BuildHasher, L: Limit> LimitedHashMap<K, V, S, L> {
         requires not_full { is_full L.LIMIT self.old ≡ false }
         requires absent { holds K.eq self.old.pairs key ≡ false }
         requires vacant { IsVacancy self.old.is_vec (key_hash S.BuildHasher S.Hasher.Hasher K.hash_input self.old.builder key) vacancy }
-        ensures pairs { OnOk result (self.new.pairs ≡ self.old.pairs ++ (key, value) ∷ []) }
+        ensures pairs { OnOk result (self.new.pairs ≡ put K.eq self.old.pairs key value) }
         ensures form { self.new.is_vec ≡ self.old.is_vec }
         ensures room { OnOk result (HasRoomAfter self.old (addition_wants self.old) self.new) }
         ensures hasher { self.new.builder ≡ self.old.builder }

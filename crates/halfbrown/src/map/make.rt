@@ -17,6 +17,8 @@ impl<K: Eq + Hash, V, L: Limit> LimitedHashMap<K, V, DefaultHashBuilder, L> {
     pub fn new(alloc: Global) -> Self
         ensures form { result.is_vec ≡ true }
         ensures pairs { result.pairs ≡ [] }
+        ensures room { result.room ≡ 0 }
+        ensures hasher { ⟦<DefaultHashBuilder as Default>⟧.is_default result.builder }
         ensures state { IsState K.eq L.LIMIT result }
     {
         LimitedHashMap::with_hasher(alloc, BuildHasherDefault::new())
@@ -28,6 +30,7 @@ impl<K: Eq + Hash, V, L: Limit> LimitedHashMap<K, V, DefaultHashBuilder, L> {
         ensures form { IfOk result (λ m. m.is_vec ≡ nat_le capacity L.LIMIT) }
         ensures pairs { IfOk result (λ m. m.pairs ≡ []) }
         ensures room { IfOk result (HasRoomMade capacity) }
+        ensures hasher { IfOk result (λ m. ⟦<DefaultHashBuilder as Default>⟧.is_default m.builder) }
         ensures granted { OnOk result (IsGrantable (making_wants capacity)) }
         ensures refused { IfErr result (IsRefusal (making_wants capacity)) }
         ensures state { IfOk result (IsState K.eq L.LIMIT) }
@@ -41,6 +44,7 @@ impl<K: Eq + Hash, V, L: Limit> LimitedHashMap<K, V, DefaultHashBuilder, L> {
         ensures form { IfOk result (λ m. m.is_vec ≡ true) }
         ensures pairs { IfOk result (λ m. m.pairs ≡ []) }
         ensures room { IfOk result (HasRoomMade (min capacity L.LIMIT)) }
+        ensures hasher { IfOk result (λ m. ⟦<DefaultHashBuilder as Default>⟧.is_default m.builder) }
         ensures granted { OnOk result (IsGrantable (making_wants (min capacity L.LIMIT))) }
         ensures refused { IfErr result (IsRefusal (making_wants (min capacity L.LIMIT))) }
         ensures state { IfOk result (IsState K.eq L.LIMIT) }
@@ -54,6 +58,7 @@ impl<K: Eq + Hash, V, S: BuildHasher, L: Limit> LimitedHashMap<K, V, S, L> {
     pub fn with_hasher(alloc: Global, builder: S) -> Self
         ensures form { result.is_vec ≡ true }
         ensures pairs { result.pairs ≡ [] }
+        ensures room { result.room ≡ 0 }
         ensures hasher { result.builder ≡ builder }
         ensures state { IsState K.eq L.LIMIT result }
     {
@@ -72,6 +77,7 @@ impl<K: Eq + Hash, V, S: BuildHasher, L: Limit> LimitedHashMap<K, V, S, L> {
         S: Default,
         ensures form { result.is_vec ≡ true }
         ensures pairs { result.pairs ≡ [] }
+        ensures room { result.room ≡ 0 }
         ensures hasher { S.is_default result.builder }
         ensures state { IsState K.eq L.LIMIT result }
     {
