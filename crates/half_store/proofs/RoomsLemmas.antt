@@ -107,8 +107,8 @@ pub buckets_for-grown : (m : ℕ) → IsBucketCount m → buckets_for (suc (room
 buckets_for-grown m c =
     let r = room_of-more m c in
     sym (buckets_for-is (suc (room_of m)) (more_buckets m)
-      record {
-        count = more_buckets-count m c;
-        serves = omega arith;
-        least = λ o is s. more_buckets-least m o c is (room_of-below m o (omega arith));
-      })
+    record {
+      count = more_buckets-count m c;
+      serves = omega arith;
+      least = λ o is s. more_buckets-least m o c is (room_of-below m o (omega arith));
+    })

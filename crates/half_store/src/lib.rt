@@ -5,7 +5,10 @@ mod count;
 pub mod counting;
 pub mod refusal;
 pub mod rooms;
+pub mod table;
 pub mod tally;
 
 pub use refusal::Refusal;
+pub use table::Table;
+pub use table::search::Search;
 pub use tally::Tally;
