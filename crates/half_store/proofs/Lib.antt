@@ -1,1 +1,5 @@
+pub mod Circle
+pub mod Counts
+pub mod ReachLemmas
 pub mod RoomsLemmas
+pub mod SlotsLemmas
