@@ -105,3 +105,14 @@ stretch_part m b t (suc n) in_b in_t in_n =
 -- a stretch of t buckets has t places
 pub stretch_size : (m b t : ℕ) → b < m → t ≤ m → count_to (λ p. ltb (steps m p b) t) m ≡ t
 stretch_size m b t in_b in_t = stretch_part m b t m in_b in_t (omega arith) ∙ omega arith
+
+-- the places below n that lie among the first t buckets from b
+ahead_part : (m b t n : ℕ) → b < m → t ≤ m → n ≤ m → count_to (λ p. ltb (steps m b p) t) n ≡ (min n (b + t) - b) + min n (b + t - m)
+ahead_part m b t zero in_b in_t in_n = omega arith
+ahead_part m b t (suc n) in_b in_t in_n =
+    let rest = ahead_part m b t n in_b in_t (omega arith) in
+    omega (arith, one_if (steps m b n) t, steps_are m b n in_b)
+
+-- there are t of them
+pub ahead_size : (m b t : ℕ) → b < m → t ≤ m → count_to (λ p. ltb (steps m b p) t) m ≡ t
+ahead_size m b t in_b in_t = ahead_part m b t m in_b in_t (omega arith) ∙ omega arith

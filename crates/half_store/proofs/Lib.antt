@@ -3,3 +3,4 @@ pub mod Counts
 pub mod ReachLemmas
 pub mod RoomsLemmas
 pub mod SlotsLemmas
+pub mod WalkLemmas
