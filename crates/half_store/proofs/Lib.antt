@@ -4,3 +4,4 @@ pub mod ReachLemmas
 pub mod RoomsLemmas
 pub mod SlotsLemmas
 pub mod WalkLemmas
+pub mod WorkLemmas

@@ -1,12 +1,12 @@
 -- Full buckets are loaded, empty ones are not; so a walk ends where `reach` says.
-use Rattle.std.proofs.Common.{◌≡◌, ◌≢◌, ℕ, zero, suc, ◌+◌, ◌-◌, ◌%◌, ◌<◌, ◌≤◌, Bool, true, false, cond, ltb, nat_lt, ◌==◌, ◌&&◌, ◌⊎◌, inl, inr, refl, sym, ap, ◌∙◌, subst, arith, List, [], ◌∷◌, length, get_or, Option, Some, None, count_by}
-use Rattle.std.proofs.lemmas.Bool.{cases_lt, cases_eq, cases_Bool, lt-ltb, le-ltb, false≢true}
+use Rattle.std.proofs.Common.{◌≡◌, ◌≢◌, ℕ, zero, suc, ◌+◌, ◌-◌, ◌%◌, ◌<◌, ◌≤◌, Bool, true, false, cond, ltb, nat_lt, ◌==◌, ◌&&◌, ◌⊎◌, inl, inr, refl, sym, ap, ◌∙◌, subst, arith, List, [], ◌∷◌, length, get_or, Option, Some, None, is_some, count_by}
+use Rattle.std.proofs.lemmas.Bool.{cases_lt, cases_eq, cases_Bool, lt-ltb, le-ltb, false≢true, true≢false}
 use Rattle.std.proofs.lemmas.Nat.{mod_below}
 use Rattle.std.proofs.lemmas.List.{get_or_past}
 use borrow.Author.Tests.{ltb-true, ltb-false}
 use Rattle.half_store.specs.Reach.{home, steps, up, load, is_loaded, loaded_run, reach, IsLoaded}
 use Rattle.half_store.specs.Slots.{slot_at, stored, FullBefore, IsVacancyFor, IsFoundAt, SomeVacant, ComeBeforeVacancies, steps_from_home}
-use Rattle.half_store.proofs.Circle.{steps-lt, steps_self, up-lt, up-zero, steps-up, up-steps, steps_same, down-lt, steps-down, down-steps, home_in_stretch, nearer_than_home, up_is}
+use Rattle.half_store.proofs.Circle.{steps-lt, steps_self, up-lt, up-zero, up-up, steps-up, up-steps, steps_same, down-lt, steps-down, down-steps, home_in_stretch, nearer_than_home, up_is}
 use Rattle.half_store.proofs.Counts.{count_to, count_to-same, count_to-le, count_to-lt, count_to_more, count_to-none, count_by-count_to, stretch_size, tick, tick_yes, tick_no}
 use Rattle.half_store.proofs.ReachLemmas.{is_loaded-yes, is_loaded-no, loaded_run-is, loaded_run-ge, reach-some}
 
@@ -20,6 +20,14 @@ some≢none h e = cc
 -- a bucket that holds a hash is not empty
 pub full_from : (o : Option ℕ) (h : ℕ) → o ≡ Some h → o ≢ None
 full_from o h e z = some≢none h (sym e ∙ z)
+
+pub none_from : (o : Option ℕ) → is_some o ≡ false → o ≡ None
+none_from None e = refl
+none_from (Some h) e = absurd (true≢false e)
+
+pub full_from_some : (o : Option ℕ) → is_some o ≡ true → o ≢ None
+full_from_some None e z = false≢true e
+full_from_some (Some h) e z = some≢none h z
 
 pub home-lt : (m h : ℕ) → 0 < m → home m h < m
 home-lt m h p = mod_below h m p
@@ -116,3 +124,50 @@ module _ (slots : List (Option ℕ)) where
         let own : ltb (steps m b b) size ≡ true = lt-ltb _ _ (omega (arith, steps_self m b in_b)) in
         let fewer = count_to-lt (in_stretch b size) (λ p. ltb (steps m p b) size) m b in_b out own inside in
         omega (arith, stretch_size m b size in_b (omega arith), slots_load-count_to b size)
+
+-- a walk for the hash has passed so many full buckets and is at this place
+pub record Walks (slots : List (Option ℕ)) (hash place count : ℕ) : Type 0 where
+  pub inside : place < length slots
+  pub on_the_way : place ≡ up (length slots) (home (length slots) hash) count
+  pub full : (other : ℕ) → other < length slots → steps_from_home slots hash other < count → slot_at slots other ≢ None
+
+module _ (slots : List (Option ℕ)) (hash : ℕ) where
+  pub Walks-start : (place : ℕ) → place < length slots → place ≡ home (length slots) hash → Walks slots hash place 0
+  Walks-start place in_place e = record {
+    inside = in_place;
+    on_the_way = e ∙ sym (up-zero (length slots) (home (length slots) hash) (home-lt (length slots) hash (omega arith)));
+    full = λ o in_o near. absurd (omega arith);
+  }
+
+  module _ (place count : ℕ) (w : Walks slots hash place count) (few : count < length slots) where
+    in_home : home (length slots) hash < length slots
+    in_home = home-lt (length slots) hash (omega arith)
+
+    pub Walks-steps : steps_from_home slots hash place ≡ count
+    Walks-steps = ap (steps (length slots) (home (length slots) hash)) w.on_the_way ∙ steps-up (length slots) (home (length slots) hash) in_home count few
+
+    before_place : FullBefore slots (home (length slots) hash) place
+    before_place o in_o near = w.full o in_o (subst (λ n. steps_from_home slots hash o < n) Walks-steps near)
+
+    pub Walks-vacancy : slot_at slots place ≡ None → IsVacancyFor slots hash place
+    Walks-vacancy none = record { within = w.inside; vacant = none; passed = before_place }
+
+    pub Walks-found : slot_at slots place ≡ Some hash → IsFoundAt slots hash place
+    Walks-found is = record { found = is; passed = before_place }
+
+    pub Walks-next : (next : ℕ) → slot_at slots place ≢ None → next < length slots → next ≡ up (length slots) place 1 → Walks slots hash next (count + 1)
+    Walks-next next full in_next e = record {
+      inside = in_next;
+      on_the_way = e ∙ ap (λ p. up (length slots) p 1) w.on_the_way ∙ up-up (length slots) (home (length slots) hash) in_home count few;
+      full = λ o in_o near. elim (cases_eq (steps_from_home slots hash o) count) [
+        inl at ↦
+          let same : o ≡ place = steps_same (length slots) (home (length slots) hash) in_home o place in_o w.inside (at ∙ sym Walks-steps) in
+          subst (λ p. slot_at slots p ≢ None) (sym same) full
+      | inr ne ↦ w.full o in_o (omega arith)
+      ];
+    }
+
+  -- a walk does not pass all buckets, where one is empty
+  pub Walks-ends : (place count : ℕ) → Walks slots hash place count → length slots ≤ count → SomeVacant slots → ⊥
+  Walks-ends place count w all (v, in_v, none) =
+      w.full v in_v (let l = steps-lt (length slots) (home (length slots) hash) (home-lt (length slots) hash (omega arith)) v in_v in omega arith) none

@@ -1,7 +1,5 @@
 use Rattle.std.proofs.Common.{arith}
 use Rattle.half_store.proofs.Circle.{steps_are}
-use Rattle.half_store.proofs.Counts.{count_to}
-use Rattle.half_store.proofs.WalkLemmas.{passed}
 use Rattle.half_store.proofs.table.gap.steps.Goals as goal
 
 pub returns-then-from-to : goal.returns-then-from-to
