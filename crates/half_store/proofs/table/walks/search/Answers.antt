@@ -75,11 +75,11 @@ loop-step-preserved g c =
       else-held-hash-via-then-held-hash+else-compare w ↦
         Searches-refused (g.P.Places.slots c.args.places.now) c.args.hash (λ place. goal.F-post g c.args.matches.now (slice_index c.args.numbers.now place) false)
         c.loop-step.place c.loop-step._step c.args.tally.now c.loop-step.tally c.loop-step.invariant (omega arith) c.next-place.result c.else-held-hash.tally
-        (sym c.in-Some.ensures.stored ∙ ap Some w.if-held-hash.true) ? (w.tally-is ∙ w.compare.ensures.counted ∙ ap one_compared c.in-Some.ensures.counted) (omega arith) (rw (← same) c.next-place.ensures.value)
+        (sym c.in-Some.ensures.stored ∙ ap Some w.if-held-hash.true) w.if-compare.ensures.answer (w.tally-is ∙ w.compare.ensures.counted ∙ ap one_compared c.in-Some.ensures.counted) (omega arith) (rw (← same) c.next-place.ensures.value)
     | else-held-hash-via-else-held-hash w ↦
         Searches-skip (g.P.Places.slots c.args.places.now) c.args.hash (λ place. goal.F-post g c.args.matches.now (slice_index c.args.numbers.now place) false)
         c.loop-step.place c.loop-step._step c.args.tally.now c.loop-step.tally c.loop-step.invariant (omega arith) c.next-place.result c.in-Some.held c.else-held-hash.tally
-        (sym c.in-Some.ensures.stored) ? (w.tally-is ∙ c.in-Some.ensures.counted) (omega arith) (rw (← same) c.next-place.ensures.value)
+        (sym c.in-Some.ensures.stored) w.if-held-hash.false (w.tally-is ∙ c.in-Some.ensures.counted) (omega arith) (rw (← same) c.next-place.ensures.value)
     ]
 
 pub unreachable-requires : goal.unreachable-requires
