@@ -72,7 +72,6 @@ count_to_more Q R (suc n) x l q r h =
         omega arith
     ]
 
--- where the place does not pass either way, nothing changes; where both agree, nothing changes
 pub count_to-none : (Q : ℕ → Bool) (n : ℕ) → ((p : ℕ) → p < n → Q p ≡ false) → count_to Q n ≡ 0
 count_to-none Q zero h = refl
 count_to-none Q (suc n) h =
@@ -116,3 +115,7 @@ ahead_part m b t (suc n) in_b in_t in_n =
 -- there are t of them
 pub ahead_size : (m b t : ℕ) → b < m → t ≤ m → count_to (λ p. ltb (steps m b p) t) m ≡ t
 ahead_size m b t in_b in_t = ahead_part m b t m in_b in_t (omega arith) ∙ omega arith
+
+pub count_to-all : (n : ℕ) → count_to (λ p. true) n ≡ n
+count_to-all zero = refl
+count_to-all (suc n) = omega (arith, count_to-all n)

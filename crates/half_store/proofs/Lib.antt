@@ -5,3 +5,4 @@ pub mod RoomsLemmas
 pub mod SlotsLemmas
 pub mod WalkLemmas
 pub mod WorkLemmas
+pub mod StepLemmas
