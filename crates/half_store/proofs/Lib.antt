@@ -6,3 +6,4 @@ pub mod SlotsLemmas
 pub mod WalkLemmas
 pub mod WorkLemmas
 pub mod StepLemmas
+pub mod TableLemmas

@@ -14,3 +14,6 @@ looked_more-zero w = ap (λ (k : ℕ). record w { looked = k }) (none_more w.loo
 
 pub looked_more-one : (w v : Work) (n : ℕ) → v ≡ looked_more w n → one_looked v ≡ looked_more w (n + 1)
 looked_more-one w v n e = ap one_looked e ∙ ap (λ (k : ℕ). record w { looked = k }) (one_more w.looked n)
+
+pub same_work : (a b : Work) → a.asked ≡ b.asked → a.compared ≡ b.compared → a.looked ≡ b.looked → a ≡ b
+same_work a b x y z = λ i. record { asked = x i; compared = y i; looked = z i }
