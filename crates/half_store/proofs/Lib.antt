@@ -7,3 +7,4 @@ pub mod WalkLemmas
 pub mod WorkLemmas
 pub mod StepLemmas
 pub mod TableLemmas
+pub mod AddLemmas

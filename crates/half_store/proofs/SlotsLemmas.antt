@@ -14,7 +14,7 @@ pub slot_cases : (o : Option ℕ) → (o ≡ None) ⊎ ((hash : ℕ) × (o ≡ S
 slot_cases None = inl refl
 slot_cases (Some h) = inr (h, refl)
 
-some≢none : (h : ℕ) → Some h ≡ None → ⊥
+pub some≢none : (h : ℕ) → Some h ≡ None → ⊥
 some≢none h e = cc
 
 -- a bucket that holds a hash is not empty

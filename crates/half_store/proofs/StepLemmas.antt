@@ -15,7 +15,7 @@ use Rattle.half_store.proofs.Counts.{count_to, count_to-le, count_to-all, count_
 use Rattle.half_store.proofs.RoomsLemmas.{four-le_count}
 use Rattle.half_store.proofs.SlotsLemmas.{slot_cases, full_from, full-lt, home-lt, first_none, passes_stored}
 
-abbrev hash_in : List (Option ℕ) → ℕ → ℕ
+abbrev pub hash_in : List (Option ℕ) → ℕ → ℕ
 hash_in slots place = unwrap_or (slot_at slots place) 0
 
 pub length-hashes_at : (slots : List (Option ℕ)) (places : List ℕ) → length (hashes_at slots places) ≡ length places
