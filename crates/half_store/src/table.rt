@@ -2,10 +2,10 @@
 //!
 //! The buckets hold stored hashes and numbers, and no keys: a search is handed the test of a number. Walks go up from
 //! the bucket that is a hash's home, and a removal closes the gap that it leaves, so that nothing of it stays.
-ghost use Rattle.std.specs.Prelude.{◌≡◌, ℕ, ◌+◌, ◌<◌, ◌≤◌, ◌↔◌, true, false, List, [], ◌∷◌, ◌++◌, length, replicate, Some, None, slice_get};
+ghost use Rattle.std.specs.Prelude.{◌≡◌, ℕ, ◌+◌, ◌^◌, ◌<◌, ◌≤◌, ◌↔◌, true, false, List, [], ◌∷◌, ◌++◌, length, replicate, Some, None, slice_get};
 ghost use Rattle.std.specs.List.{swap_remove};
 ghost use Rattle.half_store.specs.Reach.{reach};
-ghost use Rattle.half_store.specs.Rooms.{room_of};
+ghost use Rattle.half_store.specs.Rooms.{room_of, IsBucketCount};
 ghost use Rattle.half_store.specs.Search.{IfFound, OnMissing, IfVacant, looked_more, after_missing, AddsFinding};
 ghost use Rattle.half_store.specs.Slots.{IsVacancyFor};
 ghost use Rattle.half_store.specs.Table.{slots_of, no_buckets};
@@ -64,14 +64,17 @@ impl Table {
 
     /// How many pairs it holds.
     pub fn len(&self) -> usize
-        ensures { result ≡ length self.now.hashes }
+        ensures value { result ≡ length self.now.hashes }
+        ensures small { result ≤ 2 ^ 62 }
     {
         self.places.len()
     }
 
     /// How many pairs it has room for, those that it holds among them.
     pub fn room(&self) -> usize
-        ensures { result ≡ room_of self.now.buckets }
+        ensures value { result ≡ room_of self.now.buckets }
+        ensures within { length self.now.hashes ≤ result }
+        ensures count { IsBucketCount self.now.buckets }
     {
         room_of(self.hashes.len())
     }

@@ -65,6 +65,9 @@ impl Table {
         ensures granted { length self.old.hashes < room_of self.old.buckets → IsOk result × (self.new ≡ self.old) }
         ensures err { OnErr result (self.new ≡ self.old) }
     {
+        if self.len() < self.room() {
+            return Ok(());
+        }
         self.reserve(self.len() + 1)
     }
 
@@ -92,7 +95,7 @@ impl Table {
     fn copied(&self) -> Result<Table, AllocError>
         ensures { IfOk result (λ t. t ≡ self.now) }
     {
-        let alloc = *self.hashes.allocator();
+        let alloc = self.allocator();
         let hashes = Vec::from_slice(alloc, self.hashes.as_slice())?;
         let numbers = Vec::from_slice(alloc, self.numbers.as_slice())?;
         let mut places = Vec::with_capacity(alloc, self.room())?;
@@ -133,12 +136,16 @@ impl Table {
         ensures granted { buckets ≡ 0 → IsOk result }
         ensures err { OnErr result (self.new ≡ self.old) }
     {
-        let mut rebuilt = Table::empty(*self.hashes.allocator(), buckets)?;
+        let mut rebuilt = Table::empty(self.allocator(), buckets)?;
         for number in 0..self.len() {
             rebuilt.add(self.hash_of(number), &mut Tally::new());
         }
         *self = rebuilt;
         Ok(())
+    }
+
+    fn allocator(&self) -> Global {
+        *self.hashes.allocator()
     }
 
     // The stored hash of a pair.
