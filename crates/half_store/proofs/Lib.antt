@@ -8,3 +8,4 @@ pub mod WorkLemmas
 pub mod StepLemmas
 pub mod TableLemmas
 pub mod AddLemmas
+pub mod GapLemmas

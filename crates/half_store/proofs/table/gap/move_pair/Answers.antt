@@ -1,0 +1,1 @@
+use Rattle.half_store.proofs.GapLemmas.{InStep-move}
