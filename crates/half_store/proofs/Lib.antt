@@ -9,3 +9,4 @@ pub mod StepLemmas
 pub mod TableLemmas
 pub mod AddLemmas
 pub mod GapLemmas
+pub mod ClosingLemmas
