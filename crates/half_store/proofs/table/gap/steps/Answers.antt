@@ -1,5 +1,4 @@
 use Rattle.std.proofs.Common.{arith}
-use Rattle.half_store.proofs.ClosingLemmas.{Gap}
 use Rattle.half_store.proofs.Circle.{steps_are}
 use Rattle.half_store.proofs.table.gap.steps.Goals as goal
 

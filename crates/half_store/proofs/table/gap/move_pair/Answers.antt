@@ -1,1 +1,0 @@
-use Rattle.half_store.proofs.GapLemmas.{InStep-move}
