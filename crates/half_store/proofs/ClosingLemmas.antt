@@ -1,13 +1,14 @@
 -- Closing a gap: what holds while the walk goes on, and that the order is whole again at its end.
 use Rattle.std.proofs.Common.{◌≡◌, ◌≢◌, ℕ, zero, suc, ◌+◌, ◌-◌, ◌<◌, ◌≤◌, ◌⊎◌, inl, inr, refl, sym, ap, ◌∙◌, subst, arith, List, length, set, slice_index, Option, Some, None}
 use Rattle.std.proofs.lemmas.Bool.{cases_lt, cases_eq}
+use Rattle.std.proofs.lemmas.List.{length-set}
 use Rattle.std.proofs.lemmas.Option.{same_Some}
 use Rattle.half_store.specs.Reach.{home, steps, up}
-use Rattle.half_store.specs.Slots.{slot_at, ComeBeforeVacancies}
-use Rattle.half_store.specs.TableLayout.{InStep}
+use Rattle.half_store.specs.Slots.{slot_at, SomeVacant, ComeBeforeVacancies}
+use Rattle.half_store.specs.TableLayout.{InStep, HasGap}
 use Rattle.half_store.proofs.Circle.{steps_are, steps-lt, steps_self, steps_same, steps-up, up-lt, up-up}
 use Rattle.half_store.proofs.SlotsLemmas.{full_from, full-lt, home-lt, some≢none}
-use Rattle.half_store.proofs.GapLemmas.{move-from, move-to, move-other, move-length}
+use Rattle.half_store.proofs.GapLemmas.{move-from, move-to, move-other, move-length, remove-slot, remove-other}
 
 -- from bucket `start` on the walk has passed `count` full buckets; the gap is among them, or at `start`
 pub record Gap (m : ℕ) (slots : List (Option ℕ)) (start gap place count : ℕ) : Type 0 where
@@ -182,3 +183,23 @@ module _ (m : ℕ) (slots : List (Option ℕ)) where
             ];
           passed = λ q h at_q after close. absurd (omega arith);
         }
+
+-- the bucket of a pair that is taken out is the only gap
+pub HasGap-remove : (slots : List (Option ℕ)) (numbers places : List ℕ) (s : InStep slots numbers places) → ComeBeforeVacancies slots → SomeVacant slots → (number last : ℕ) (in_number : number < length places) (is_last : suc last ≡ length places) →
+  HasGap (set slots (slice_index places number) None) (slice_index places number)
+HasGap-remove slots numbers places s ordered (v, in_v, none_v) number last in_number is_last =
+    let place : ℕ = slice_index places number in
+    let full = s.stands number in_number in
+    let same : length (set slots place None) ≡ length slots = length-set slots place None in
+    let emptied = remove-slot slots numbers places s number last in_number is_last in
+    let other = remove-other slots numbers places s number last in_number is_last in
+    let apart : v ≢ place = λ e. full (ap (slot_at slots) (sym e) ∙ none_v) in
+    let in_place = full-lt slots place full in
+    record {
+      within = omega arith;
+      vacant = emptied;
+      another = (v, omega arith, other v apart ∙ none_v, apart);
+      others = λ q w h is in_w none_w np.
+        let nq : q ≢ place = λ e. full_from _ h is (ap (slot_at (set slots place None)) e ∙ emptied) in
+        subst (λ n. steps n (home n h) q < steps n (home n h) w) (sym same) (ordered.before q w h (sym (other q nq) ∙ is) (omega arith) (sym (other w np) ∙ none_w));
+    }
