@@ -1,4 +1,15 @@
+pub mod AddLemmas
+pub mod Circle
+pub mod ClosingLemmas
 pub mod Columns
+pub mod Counts
+pub mod GapLemmas
 pub mod Numbers
+pub mod ReachLemmas
 pub mod RoomsLemmas
+pub mod SlotsLemmas
+pub mod StepLemmas
+pub mod TableLemmas
+pub mod WalkLemmas
+pub mod WorkLemmas
 pub mod Zip

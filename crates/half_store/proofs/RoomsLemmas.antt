@@ -1,5 +1,5 @@
 -- Bucket counts and rooms: which count comes next, and which is the least that serves.
-use Rattle.std.proofs.Common.{◌≡◌, ℕ, zero, suc, ◌+◌, ◌-◌, ◌*◌, ◌/◌, ◌^◌, ◌<◌, ◌≤◌, ◌⊎◌, ◌==◌, eqb, ltb, nat_lt, Bool, true, false, cond, inl, inr, refl, sym, ap, ◌∙◌, subst, arith}
+use Rattle.std.proofs.Common.{◌≡◌, ℕ, zero, suc, ◌+◌, ◌-◌, ◌*◌, ◌/◌, ◌^◌, ◌<◌, ◌≤◌, max, ◌⊎◌, ◌==◌, eqb, ltb, nat_lt, Bool, true, false, cond, inl, inr, refl, sym, ap, ◌∙◌, subst, arith}
 use Rattle.std.proofs.Math.Nat.{pow-le-pow_right}
 use Rattle.std.proofs.lemmas.Nat.{pow_pos, pow-add, pow_below}
 use Rattle.std.proofs.lemmas.Grind.{pow_more, common_steps}
@@ -112,3 +112,24 @@ buckets_for-grown m c =
       serves = omega arith;
       least = λ o is s. more_buckets-least m o c is (room_of-below m o (omega arith));
     })
+
+-- a reservation that its room already holds keeps the buckets
+pub max-buckets_for : (m n : ℕ) → IsBucketCount m → n ≤ room_of m → m ≡ max m (buckets_for n)
+max-buckets_for m n c h = let l = (buckets_for-least n).least m c h in omega arith
+
+-- one more than fills the buckets takes the next bucket count
+pub max-buckets_for-grown : (m n : ℕ) → IsBucketCount m → n ≡ room_of m → max m (buckets_for (n + 1)) ≡ buckets_for_more n m
+max-buckets_for-grown m n c e =
+    let grown : buckets_for (n + 1) ≡ more_buckets m = ap buckets_for (omega arith) ∙ buckets_for-grown m c in
+    let more : m < more_buckets m = room_of-below m (more_buckets m) (room_of-more m c) in
+    let pick : buckets_for_more n m ≡ more_buckets m = grind (arith, nat_tests) in
+    omega arith
+
+-- a bucket count below 2^63 is at most 2^62
+pub count-le : (m : ℕ) → IsBucketCount m → m < 2 ^ 63 → m ≤ 2 ^ 62
+count-le m (inl e) h = omega arith
+count-le m (inr (k, two, e)) h =
+    elim (cases_lt k 63) [
+      | inl l ↦ let low : k ≤ 62 = omega arith in let p : 2 ^ k ≤ 2 ^ 62 = pow-le-pow_right {n = 2} (omega arith) low in omega arith
+      | inr ge ↦ let p : 2 ^ 63 ≤ 2 ^ k = pow-le-pow_right {n = 2} (omega arith) ge in absurd (omega arith)
+    ]

@@ -1,6 +1,11 @@
 pub mod Hash
 pub mod Lending
 pub mod Pairs
+pub mod Reach
 pub mod Refusal
 pub mod Rooms
+pub mod Search
+pub mod Slots
+pub mod Table
+pub mod TableLayout
 pub mod Work

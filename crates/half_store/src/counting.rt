@@ -1,11 +1,13 @@
 //! The three functions that do the counted work, each with the call that it counts.
 //!
 //! Every hash that is asked for, every comparison of keys and every bucket that a counted walk reads goes through one of these.
-ghost use Rattle.std.specs.Prelude.{◌≡◌};
+ghost use Rattle.std.specs.Prelude.{◌≡◌, ◌<◌, length};
 ghost use Rattle.half_store.specs.Hash.{hash_by};
-ghost use Rattle.half_store.specs.Work.{one_asked, one_compared};
+ghost use Rattle.half_store.specs.Work.{one_asked, one_compared, one_looked};
+ghost use Rattle.half_store.specs.Slots.{slot_at};
 
 use crate::Tally;
+use crate::table::walks::Places;
 use std::hash::{BuildHasher, Hash};
 
 /// Asks the builder for the hash of a key.
@@ -25,4 +27,14 @@ pub fn compare<F: Fn(usize) -> bool>(matches: &F, number: usize, tally: &mut Tal
 {
     tally.add_compared();
     matches(number)
+}
+
+/// Reads the bucket at a place.
+pub(crate) fn look<P: Places>(places: &P, place: usize, tally: &mut Tally) -> Option<u64>
+    requires { place < length (P.slots places.now) }
+    ensures stored { result ≡ slot_at (P.slots places.now) place }
+    ensures counted { tally.new ≡ one_looked tally.old }
+{
+    tally.add_looked();
+    places.hash_at(place)
 }

@@ -5,9 +5,12 @@ mod count;
 pub mod counting;
 pub mod refusal;
 pub mod rooms;
+pub mod table;
 pub mod tally;
 pub mod vecmap;
 
 pub use refusal::Refusal;
+pub use table::Table;
+pub use table::search::Search;
 pub use tally::Tally;
 pub use vecmap::VecMap;

@@ -2,7 +2,7 @@
 //!
 //! A table has no buckets, or a power of two from 4 on; its room is three quarters of them, so one bucket at least
 //! stays empty.
-ghost use Rattle.std.specs.Prelude.{◌≡◌, ◌^◌, ◌<◌, ◌≤◌};
+ghost use Rattle.std.specs.Prelude.{◌≡◌, ◌^◌, ◌≤◌};
 ghost use Rattle.half_store.specs.Rooms.{room_of, buckets_for, room_for, IsLeastFor};
 
 /// The most pairs that may be wanted at once.
@@ -17,10 +17,9 @@ pub fn room_of(buckets: usize) -> usize
 
 /// The least bucket count with room for so many pairs.
 pub fn buckets_for(wanted: usize) -> usize
-    requires { wanted ≤ 2 ^ 60 }
+    requires { wanted ≤ 2 ^ 62 }
     ensures value { result ≡ buckets_for wanted }
     ensures least { IsLeastFor wanted result }
-    ensures bound { result < 2 ^ 62 }
 {
     if wanted == 0 {
         return 0;
@@ -34,11 +33,10 @@ pub fn buckets_for(wanted: usize) -> usize
 
 /// The least of the rooms 0, 3, 6, 12, 24, .. that so many pairs fit in.
 pub fn room_for(wanted: usize) -> usize
-    requires { wanted ≤ 2 ^ 60 }
+    requires { wanted ≤ 2 ^ 62 }
     ensures value { result ≡ room_for wanted }
     ensures serves { wanted ≤ result }
     ensures series { result ≡ room_for result }
-    ensures small { result < 2 ^ 62 }
 {
     room_of(buckets_for(wanted))
 }

@@ -7,7 +7,7 @@ abbrev pub invariant-loop-buckets : goal.invariant-loop-buckets
 invariant-loop-buckets l = record {
   count : IsBucketCount l.buckets;
   some : 4 ≤ l.buckets;
-  small : l.buckets < 2 ^ 62;
+  small : l.buckets < 2 ^ 64;
   least : (other : ℕ) → IsBucketCount other → l.wanted ≤ room_of other → l.buckets ≤ other;
 }
 

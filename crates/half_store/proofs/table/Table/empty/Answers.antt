@@ -1,0 +1,17 @@
+use Rattle.std.proofs.Common.{◌≡◌, ◌≤◌, ◌∙◌, ℕ, List, [], Option, None, length, replicate, sym, ap, subst, rules, arith}
+use Rattle.std.specs.Vec.{vec_capacity, vec_len}
+use Rattle.half_store.specs.Rooms.{room_of}
+use Rattle.half_store.specs.TableLayout.{IsTable}
+use Rattle.half_store.proofs.AddLemmas.{IsTable-empty}
+use Rattle.half_store.proofs.table.Table.empty.Goals as goal
+
+pub invariant_of-result : goal.invariant_of-result
+invariant_of-result c =
+    let m : ℕ = c.args.buckets in
+    let none : Option ℕ = None in
+    let hashes : c.in_ok-hashes.hashes.items ≡ replicate m none = c.in_ok-hashes.ensures.items_if_clones_equal (λ y e. search rules) in
+    let long : length c.in_ok-numbers.numbers.items ≡ m = sym c.in_ok-numbers.numbers.ok.0 ∙ c.in_ok-numbers.ensures.len in
+    let enough : room_of m ≤ vec_capacity c.in_ok-places.places = omega (arith, c.room_of.ensures, c.in_ok-places.ensures.capacity) in
+    subst (λ x. IsTable x c.in_ok-numbers.numbers.items c.in_ok-places.places.items (vec_capacity c.in_ok-places.places)) (sym hashes)
+    (subst (λ x. IsTable (replicate m none) c.in_ok-numbers.numbers.items x (vec_capacity c.in_ok-places.places)) (sym c.in_ok-places.ensures.items)
+    (IsTable-empty m c.in_ok-numbers.numbers.items (vec_capacity c.in_ok-places.places) c.requires long enough))

@@ -1,0 +1,88 @@
+use Rattle.std.proofs.Common.{◌≡◌, ◌≢◌, ℕ, ◌+◌, ◌<◌, ◌≤◌, ◌==◌, false, true, length, slice_index, count_by, Some, None, refl, sym, ap, subst, ◌∙◌, arith, rules}
+use Rattle.half_store.specs.Slots.{slot_at, steps_from_home}
+use Rattle.half_store.specs.Work.{Work, one_looked, one_compared}
+use Rattle.half_store.proofs.SlotsLemmas.{Walks-steps, Walks-vacancy, Walks-found, Walks-ends}
+use Rattle.half_store.proofs.WalkLemmas.{Searches, Searches-start, Searches-skip, Searches-refused, Searches-found, Searches-missing, Searches-all}
+use Rattle.half_store.proofs.table.walks.search.Goals as goal
+use Rattle.half_store.proofs.table.walks.search.Goals.{else-held-hash-via-then-held-hash+else-compare, else-held-hash-via-else-held-hash}
+
+pub loop-step-init : goal.loop-step-init
+loop-step-init g c =
+    let same = c.requires.columns in
+    Searches-start (g.P.Places.slots c.args.places.now) c.args.hash (λ place. goal.F-post g c.args.matches.now (slice_index c.args.numbers.now place) false)
+    c.home-place.result c.args.tally.now (omega arith) (rw (← same) c.home-place.ensures.value)
+
+pub look-requires : goal.look-requires
+look-requires g c = c.loop-step.invariant.walks.inside
+
+pub returns-in-None-clause-vacancy : goal.returns-in-None-clause-vacancy
+returns-in-None-clause-vacancy g c =
+    let same = c.requires.columns in
+    Walks-vacancy (g.P.Places.slots c.args.places.now) c.args.hash c.loop-step.place c.loop-step._step c.loop-step.invariant.walks (omega arith) (sym c.in-None.ensures.stored)
+
+pub returns-in-None-clause-refused : goal.returns-in-None-clause-refused
+returns-in-None-clause-refused g c =
+    let same = c.requires.columns in
+    Searches-all (g.P.Places.slots c.args.places.now) c.args.hash (λ place. goal.F-post g c.args.matches.now (slice_index c.args.numbers.now place) false)
+    c.loop-step.place c.loop-step._step c.args.tally.now c.loop-step.tally c.loop-step.invariant (omega arith) c.requires.ordered (sym c.in-None.ensures.stored)
+
+pub returns-in-None-clause-asked : goal.returns-in-None-clause-asked
+returns-in-None-clause-asked g c = ap (λ (w : Work). w.asked) c.in-None.ensures.counted ∙ c.loop-step.invariant.asked
+
+pub returns-in-None-clause-looked_missing : goal.returns-in-None-clause-looked_missing
+returns-in-None-clause-looked_missing g c =
+    let same = c.requires.columns in
+    let at = Walks-steps (g.P.Places.slots c.args.places.now) c.args.hash c.loop-step.place c.loop-step._step c.loop-step.invariant.walks (omega arith) in
+    let looked = c.loop-step.invariant.looked in
+    ap (λ (w : Work). w.looked) c.in-None.ensures.counted ∙ omega arith
+
+pub returns-in-None-clause-compared_all : goal.returns-in-None-clause-compared_all
+returns-in-None-clause-compared_all g c =
+    let same = c.requires.columns in
+    ap (λ (w : Work). w.compared) c.in-None.ensures.counted
+    ∙ Searches-missing (g.P.Places.slots c.args.places.now) c.args.hash (λ place. goal.F-post g c.args.matches.now (slice_index c.args.numbers.now place) false)
+    c.loop-step.place c.loop-step._step c.args.tally.now c.loop-step.tally c.loop-step.invariant (omega arith) c.requires.ordered (sym c.in-None.ensures.stored)
+
+pub returns-in-None-clause-compared_most : goal.returns-in-None-clause-compared_most
+returns-in-None-clause-compared_most g c =
+    let same = c.requires.columns in
+    let all =
+    Searches-missing (g.P.Places.slots c.args.places.now) c.args.hash (λ place. goal.F-post g c.args.matches.now (slice_index c.args.numbers.now place) false)
+    c.loop-step.place c.loop-step._step c.args.tally.now c.loop-step.tally c.loop-step.invariant (omega arith) c.requires.ordered (sym c.in-None.ensures.stored) in
+    let e = ap (λ (w : Work). w.compared) c.in-None.ensures.counted in
+    omega arith
+
+pub returns-then-compare-clause-looked_found : goal.returns-then-compare-clause-looked_found
+returns-then-compare-clause-looked_found g c =
+    let same = c.requires.columns in
+    let at = Walks-steps (g.P.Places.slots c.args.places.now) c.args.hash c.loop-step.place c.loop-step._step c.loop-step.invariant.walks (omega arith) in
+    let looked = c.loop-step.invariant.looked in
+    ap (λ (w : Work). w.looked) (c.compare.ensures.counted ∙ ap one_compared c.in-Some.ensures.counted) ∙ omega arith
+
+pub returns-then-compare-clause-compared_most : goal.returns-then-compare-clause-compared_most
+returns-then-compare-clause-compared_most g c =
+    let same = c.requires.columns in
+    let few =
+    Searches-found (g.P.Places.slots c.args.places.now) c.args.hash (λ place. goal.F-post g c.args.matches.now (slice_index c.args.numbers.now place) false)
+    c.loop-step.place c.loop-step._step c.args.tally.now c.loop-step.tally c.loop-step.invariant (omega arith) (sym c.in-Some.ensures.stored ∙ ap Some c.if-held-hash.true) in
+    let e = ap (λ (w : Work). w.compared) (c.compare.ensures.counted ∙ ap one_compared c.in-Some.ensures.counted) in
+    omega arith
+
+pub loop-step-preserved : goal.loop-step-preserved
+loop-step-preserved g c =
+    let same = c.requires.columns in
+    elim c.else-held-hash.branch [
+      | else-held-hash-via-then-held-hash+else-compare w ↦
+          Searches-refused (g.P.Places.slots c.args.places.now) c.args.hash (λ place. goal.F-post g c.args.matches.now (slice_index c.args.numbers.now place) false)
+          c.loop-step.place c.loop-step._step c.args.tally.now c.loop-step.tally c.loop-step.invariant (omega arith) c.next-place.result c.else-held-hash.tally
+          (sym c.in-Some.ensures.stored ∙ ap Some w.if-held-hash.true) w.if-compare.ensures.answer (w.tally-is ∙ w.compare.ensures.counted ∙ ap one_compared c.in-Some.ensures.counted) (omega arith) (rw (← same) c.next-place.ensures.value)
+      | else-held-hash-via-else-held-hash w ↦
+          Searches-skip (g.P.Places.slots c.args.places.now) c.args.hash (λ place. goal.F-post g c.args.matches.now (slice_index c.args.numbers.now place) false)
+          c.loop-step.place c.loop-step._step c.args.tally.now c.loop-step.tally c.loop-step.invariant (omega arith) c.next-place.result c.in-Some.held c.else-held-hash.tally
+          (sym c.in-Some.ensures.stored) w.if-held-hash.false (w.tally-is ∙ c.in-Some.ensures.counted) (omega arith) (rw (← same) c.next-place.ensures.value)
+    ]
+
+pub unreachable-requires : goal.unreachable-requires
+unreachable-requires g c =
+    let same = c.requires.columns in
+    Walks-ends (g.P.Places.slots c.args.places.now) c.args.hash c.loop-step.place c.loop-step._step c.loop-step.invariant.walks (omega arith) c.requires.vacant

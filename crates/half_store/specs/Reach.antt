@@ -1,0 +1,47 @@
+-- Where a hash is at home among the buckets, and how far a walk from there goes.
+--
+-- All of it is said over the held hashes and the number of buckets alone: nothing here knows what a bucket holds.
+use Rattle.std.specs.Prelude.{◌≡◌, ◌≢◌, ℕ, zero, suc, ◌+◌, ◌-◌, ◌%◌, ◌<◌, ◌≤◌, Bool, true, false, ◌==◌, ◌||◌, nat_lt, nat_le, if◌then◌else◌, List, count_by, AllPairs}
+
+-- the bucket where a walk for this hash begins
+abbrev pub home : ℕ → ℕ → ℕ
+home buckets hash = hash % buckets
+
+-- how many steps lead up from bucket `from` to bucket `to`; the first bucket follows the last
+unfoldable pub steps : ℕ → ℕ → ℕ → ℕ
+steps buckets from to = if nat_le from to then to - from else to + buckets - from
+
+-- the bucket so many steps up from bucket `from`
+unfoldable pub up : ℕ → ℕ → ℕ → ℕ
+up buckets from count = if nat_lt (from + count) buckets then from + count else from + count - buckets
+
+module _ (hashes : List ℕ) (buckets : ℕ) where
+  -- how many of the hashes have their home in the stretch of `size` buckets that ends with bucket `last`
+  unfoldable pub load : ℕ → ℕ → ℕ
+  load last size = count_by (λ hash. nat_lt (steps buckets (home buckets hash) last) size) hashes
+
+  -- some stretch that ends with this bucket is home to at least as many hashes as it has buckets
+  abbrev pub IsLoaded : ℕ → Type 0
+  IsLoaded last = (size : ℕ) × (1 ≤ size) × (size < buckets) × (size ≤ load last size)
+
+  -- is one of the stretches of 1 to `most` buckets that end with bucket `last` home to at least as many hashes?
+  unfoldable pub loaded_within : ℕ → ℕ → Bool
+  loaded_within last zero = false
+  loaded_within last (suc most) = nat_le (suc most) (load last (suc most)) || loaded_within last most
+
+  -- the same question as `IsLoaded`
+  abbrev pub is_loaded : ℕ → Bool
+  is_loaded last = loaded_within last (buckets - 1)
+
+  -- how many loaded buckets follow one another from this bucket on, at most `most`
+  unfoldable pub loaded_run : ℕ → ℕ → ℕ
+  loaded_run zero bucket = 0
+  loaded_run (suc most) bucket = if is_loaded bucket then suc (loaded_run most (up buckets bucket 1)) else 0
+
+  -- how many buckets a walk for this hash reads that ends at the first empty one: the loaded buckets from its home on, and one more
+  unfoldable pub reach : ℕ → ℕ
+  reach hash = if buckets == 0 then 0 else suc (loaded_run (buckets - 1) (home buckets hash))
+
+  -- no two of the hashes have the same home
+  abbrev pub HomesApart : Type 0
+  HomesApart = AllPairs (λ one other. home buckets one ≢ home buckets other) hashes
