@@ -1,4 +1,5 @@
 pub mod AddLemmas
+pub mod BucketsSeen
 pub mod Circle
 pub mod ClosingLemmas
 pub mod Columns

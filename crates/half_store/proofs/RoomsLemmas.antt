@@ -133,3 +133,15 @@ count-le m (inr (k, two, e)) h =
       | inl l ↦ let low : k ≤ 62 = omega arith in let p : 2 ^ k ≤ 2 ^ 62 = pow-le-pow_right {n = 2} (omega arith) low in omega arith
       | inr ge ↦ let p : 2 ^ 63 ≤ 2 ^ k = pow-le-pow_right {n = 2} (omega arith) ge in absurd (omega arith)
     ]
+
+-- the room of a bucket count is one of the series
+pub room_for-room_of : (m : ℕ) → IsBucketCount m → room_of m ≡ room_for (room_of m)
+room_for-room_of m count =
+    ap room_of (buckets_for-is (room_of m) m record {
+      count = count;
+      serves = omega arith;
+      least = λ other is serves. elim (cases_lt other m) [
+        | inl below ↦ let next = more_buckets-least other m is count below in let more = room_of-more other is in absurd (omega arith)
+        | inr ge ↦ ge
+      ];
+    })

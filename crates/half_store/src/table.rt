@@ -5,7 +5,7 @@
 ghost use Rattle.std.specs.Prelude.{◌≡◌, ℕ, ◌+◌, ◌^◌, ◌<◌, ◌≤◌, ◌↔◌, true, false, List, [], ◌∷◌, ◌++◌, length, replicate, Some, None, slice_get};
 ghost use Rattle.std.specs.List.{swap_remove};
 ghost use Rattle.half_store.specs.Reach.{reach};
-ghost use Rattle.half_store.specs.Rooms.{room_of, IsBucketCount};
+ghost use Rattle.half_store.specs.Rooms.{room_of, IsBucketCount, room_for, buckets_of};
 ghost use Rattle.half_store.specs.Search.{IfFound, OnMissing, IfVacant, looked_more, after_missing, AddsFinding};
 ghost use Rattle.half_store.specs.Slots.{IsVacancyFor};
 ghost use Rattle.half_store.specs.Table.{slots_of, no_buckets};
@@ -75,6 +75,8 @@ impl Table {
         ensures value { result ≡ room_of self.now.buckets }
         ensures within { length self.now.hashes ≤ result }
         ensures count { IsBucketCount self.now.buckets }
+        ensures series { result ≡ room_for result }
+        ensures buckets { self.now.buckets ≡ buckets_of result }
     {
         room_of(self.hashes.len())
     }
@@ -92,6 +94,7 @@ impl Table {
         ensures missing_cost { OnMissing result (tally.new ≡ after_missing self.now.hashes self.now.buckets hash tally.old) }
         ensures found_cost { IfFound result (λ _. AddsFinding self.now.hashes self.now.buckets hash tally.old tally.new) }
         ensures short { reach self.now.hashes self.now.buckets hash ≤ length self.now.hashes + 1 }
+        ensures buckets { self.now.buckets ≡ buckets_of (room_of self.now.buckets) }
     {
         if self.hashes.is_empty() {
             return Search::NoBuckets;
@@ -132,7 +135,9 @@ impl Table {
         ensures hashes { self.new.hashes ≡ self.old.hashes ++ hash ∷ [] }
         ensures buckets { self.new.buckets ≡ self.old.buckets }
         ensures cost { tally.new ≡ looked_more tally.old (reach self.old.hashes self.old.buckets hash) }
+        ensures room { self.old.buckets ≡ buckets_of (room_of self.old.buckets) }
     {
+        let _ = &self.hashes;
         let place = self.vacancy(hash, tally);
         self.add_at(hash, place);
     }

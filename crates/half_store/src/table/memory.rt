@@ -43,6 +43,7 @@ impl Table {
     pub fn reserve(&mut self, wanted: usize) -> Result<(), Refusal>
         ensures hashes { self.new.hashes ≡ self.old.hashes }
         ensures buckets { OnOk result (self.new.buckets ≡ max self.old.buckets (buckets_for wanted)) }
+        ensures more { OnOk result (room_of self.old.buckets < wanted → self.new.buckets ≡ buckets_for wanted) }
         ensures size { (result ≡ Err Refusal.Size) ↔ ((room_of self.old.buckets < wanted) × (2 ^ 60 < wanted)) }
         ensures granted { wanted ≤ room_of self.old.buckets → IsOk result × (self.new ≡ self.old) }
         ensures err { OnErr result (self.new ≡ self.old) }

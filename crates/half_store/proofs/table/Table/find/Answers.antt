@@ -9,6 +9,7 @@ use Rattle.half_store.specs.Table.{HashIndex, slots_of}
 use Rattle.half_store.specs.TableLayout.{InStep}
 use Rattle.half_store.proofs.SlotsLemmas.{full_from, full-lt}
 use Rattle.half_store.proofs.TableLemmas.{columns_at, view_at, seen, missing_cost_seen, found_cost_seen, short_seen, number_seen, each_number, vacant_seen, empty_cost_seen}
+use Rattle.half_store.proofs.BucketsSeen.{buckets_seen}
 use Rattle.half_store.proofs.table.Table.find.Goals as goal
 
 pub returns-then-is_empty-clause-missing_cost : goal.returns-then-is_empty-clause-missing_cost
@@ -111,3 +112,13 @@ pub returns-in-Err-clause-short : goal.returns-in-Err-clause-short
 returns-in-Err-clause-short g c =
     let t = c.self.inside in
     short_seen t.hashes.items t.numbers.items t.places.items (vec_capacity t.places) c.self.invariant c.args.self.now c.self.view_is c.args.hash
+
+pub returns-in-Ok-clause-buckets : goal.returns-in-Ok-clause-buckets
+returns-in-Ok-clause-buckets g c =
+    let t = c.self.inside in
+    buckets_seen t.hashes.items t.numbers.items t.places.items (vec_capacity t.places) c.self.invariant c.args.self.now c.self.view_is
+
+pub returns-in-Err-clause-buckets : goal.returns-in-Err-clause-buckets
+returns-in-Err-clause-buckets g c =
+    let t = c.self.inside in
+    buckets_seen t.hashes.items t.numbers.items t.places.items (vec_capacity t.places) c.self.invariant c.args.self.now c.self.view_is
