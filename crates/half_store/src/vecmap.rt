@@ -151,10 +151,11 @@ impl<K, V> VecMap<K, V> {
     pub fn shrink_to(&mut self, wanted: usize)
         ensures pairs { self.new.pairs ≡ self.old.pairs }
         ensures room { self.new.room ≤ self.old.room }
-        ensures serves { min wanted self.old.room ≤ self.new.room }
+        ensures serves { min (max wanted (length self.old.pairs)) self.old.room ≤ self.new.room }
     {
-        self.keys.shrink_to(wanted);
-        self.values.shrink_to(wanted);
+        let kept = wanted.max(self.len());
+        self.keys.shrink_to(kept);
+        self.values.shrink_to(kept);
     }
 
     /// Makes room for `wanted` pairs in all, and for no more where that needs memory.

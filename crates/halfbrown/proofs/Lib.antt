@@ -1,6 +1,6 @@
+pub mod Full
 pub mod Kept
 pub mod Places
 pub mod RunLemmas
 pub mod Searches
-pub mod Stored
 pub mod SwapOut

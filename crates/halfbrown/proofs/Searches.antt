@@ -1,7 +1,14 @@
 -- What a search costs.
-use Rattle.std.proofs.Common.{◌≡◌, ℕ, ◌+◌, ◌<◌, ◌==◌, Bool, true, false, List, [], ◌∷◌, length, map, count_by, fold, cond, refl, ap, sym, ◌∙◌, arith}
+use Rattle.std.proofs.Common.{◌≡◌, ℕ, ◌+◌, ◌<◌, ◌≤◌, ◌==◌, Bool, true, false, List, [], ◌∷◌, length, map, count_by, fold, cond, refl, ap, sym, subst, ◌∙◌, arith, true≢false}
+use Rattle.std.proofs.Math.ListN.{length-map}
+use Rattle.std.proofs.lemmas.Map.Entries.{length-keys_of}
 use Rattle.std.specs.Map.{keys_of}
-use Rattle.halfbrown.specs.Costs.{Compares, candidates}
+use Rattle.half_store.specs.Reach.{reach, HomesApart}
+use Rattle.half_store.specs.Rooms.{buckets_of}
+use Rattle.half_store.specs.Search.{AddsFinding, after_missing}
+use Rattle.half_store.specs.Work.{Work, compared_more, one_asked}
+use Rattle.halfbrown.specs.Costs.{Compares, Looks, candidates, walk_length, search_asks, SearchCosts, NoHomeIsShared}
+use Rattle.halfbrown.specs.State.{State}
 
 module _ {K : Type 0} (hash : K → ℕ) (h : ℕ) where
   fold-map : (ks : List K) (n : ℕ) → fold (λ a x. a + cond (x == h) 1 0) n (map hash ks) ≡ fold (λ a q. a + cond (hash q == h) 1 0) n ks
@@ -12,18 +19,71 @@ module _ {K : Type 0} (hash : K → ℕ) (h : ℕ) where
   pub count-map : (ks : List K) → count_by (λ x. x == h) (map hash ks) ≡ count_by (λ q. hash q == h) ks
   count-map ks = fold-map ks 0
 
-module _ {K V : Type 0} (hash : K → ℕ) where
-  -- in a vector a search that finds compares the keys up to the one found
-  pub found_in_vector : (is_vec : Bool) (ps : List (K × V)) (k : K) (before after n : ℕ) → is_vec ≡ true → n < length ps → after ≡ before + (n + 1) → Compares true (candidates hash is_vec ps k) before after
-  found_in_vector is_vec ps k before after n form within spent =
-      let all : candidates hash is_vec ps k ≡ length ps = ap (λ b. candidates hash b ps k) form in (omega arith, omega arith)
+module _ {K V S : Type 0} (hash : S → K → ℕ) (m : State K V S) (k : K) (before after : Work) where
+  abbrev pub keys_hash : K → ℕ
+  keys_hash = hash m.builder
 
-  -- and all of them where it finds none
-  pub missing_in_vector : (is_vec : Bool) (ps : List (K × V)) (k : K) (before after : ℕ) → is_vec ≡ true → after ≡ before + length ps → Compares false (candidates hash is_vec ps k) before after
-  missing_in_vector is_vec ps k before after form spent =
-      let all : candidates hash is_vec ps k ≡ length ps = ap (λ b. candidates hash b ps k) form in omega arith
+  module _ (form : m.is_vec ≡ true) where
+    all : candidates keys_hash m.is_vec m.pairs k ≡ length m.pairs
+    all = ap (λ b. candidates keys_hash b m.pairs k) form
 
-  -- in a table the candidates are the held pairs of the hash
-  pub candidates_in_table : (is_vec : Bool) (ps : List (K × V)) (k : K) (stored : List ℕ) (h : ℕ) → is_vec ≡ false → stored ≡ map hash (keys_of ps) → h ≡ hash k → count_by (λ x. x == h) stored ≡ candidates hash is_vec ps k
-  candidates_in_table is_vec ps k stored h form is_map is_hash =
-      (λ i. count_by (λ x. x == is_hash i) (is_map i)) ∙ count-map hash (hash k) (keys_of ps) ∙ sym (ap (λ b. candidates hash b ps k) form)
+    no_asking : search_asks m.is_vec ≡ 0
+    no_asking = ap search_asks form
+
+    no_walk : walk_length keys_hash m.is_vec m.room m.pairs k ≡ 0
+    no_walk = ap (λ b. walk_length keys_hash b m.room m.pairs k) form
+
+    -- in a vector a search that finds compares the keys up to the one found
+    pub found_in_vector : (n : ℕ) → n < length m.pairs → after ≡ compared_more (n + 1) before → SearchCosts hash m k true before after
+    found_in_vector n within spent = record {
+      asked = omega (arith, no_asking, ap (λ w. w.asked) spent);
+      compared = (omega (arith, ap (λ w. w.compared) spent), omega (arith, all, ap (λ w. w.compared) spent));
+      looked = subst (λ b. Looks b true (walk_length keys_hash b m.room m.pairs k) before.looked after.looked) (sym form) (ap (λ w. w.looked) spent);
+      looked_once = λ in_table. absurd (true≢false (sym form ∙ in_table));
+      short = omega (arith, no_walk);
+    }
+
+    -- and all of them where it finds none
+    pub missing_in_vector : after ≡ compared_more (length m.pairs) before → SearchCosts hash m k false before after
+    missing_in_vector spent = record {
+      asked = omega (arith, no_asking, ap (λ w. w.asked) spent);
+      compared = omega (arith, all, ap (λ w. w.compared) spent);
+      looked = subst (λ b. Looks b false (walk_length keys_hash b m.room m.pairs k) before.looked after.looked) (sym form) (ap (λ w. w.looked) spent);
+      looked_once = λ in_table. absurd (true≢false (sym form ∙ in_table));
+      short = omega (arith, no_walk);
+    }
+
+  module _ (middle : Work) (hashes : List ℕ) (buckets h : ℕ) (form : m.is_vec ≡ false) (is_map : hashes ≡ map keys_hash (keys_of m.pairs)) (is_count : buckets ≡ buckets_of m.room) (is_hash : h ≡ keys_hash k)
+    (asking : middle ≡ one_asked before) (near : reach hashes buckets h ≤ length hashes + 1) where
+    one_asking : search_asks m.is_vec ≡ 1
+    one_asking = ap search_asks form
+
+    -- in a table the candidates are the held pairs of the hash
+    counted : count_by (λ x. x == h) hashes ≡ candidates keys_hash m.is_vec m.pairs k
+    counted = (λ i. count_by (λ x. x == is_hash i) (is_map i)) ∙ count-map keys_hash (keys_hash k) (keys_of m.pairs) ∙ sym (ap (λ b. candidates keys_hash b m.pairs k) form)
+
+    walked : reach hashes buckets h ≡ walk_length keys_hash m.is_vec m.room m.pairs k
+    walked = (λ i. reach (is_map i) (is_count i) (is_hash i)) ∙ sym (ap (λ b. walk_length keys_hash b m.room m.pairs k) form)
+
+    short : walk_length keys_hash m.is_vec m.room m.pairs k ≤ length m.pairs + 1
+    short = omega (arith, near, walked, ap length is_map, length-map (keys_of m.pairs) keys_hash, length-keys_of m.pairs)
+
+    pub found_in_table : AddsFinding hashes buckets h middle after → SearchCosts hash m k true before after
+    found_in_table adds = record {
+      asked = omega (arith, one_asking, adds.asked, ap (λ w. w.asked) asking);
+      compared = (omega (arith, adds.compared_some, ap (λ w. w.compared) asking), omega (arith, adds.compared_most, counted, ap (λ w. w.compared) asking));
+      looked = subst (λ b. Looks b true (walk_length keys_hash m.is_vec m.room m.pairs k) before.looked after.looked) (sym form)
+          (omega (arith, adds.looked_some, ap (λ w. w.looked) asking), omega (arith, adds.looked_most, walked, ap (λ w. w.looked) asking));
+      looked_once = λ in_table found apart. adds.looked_once (subst (λ hs. HomesApart hs buckets) (sym is_map) (subst (λ n. HomesApart (map keys_hash (keys_of m.pairs)) n) (sym is_count) apart)) ∙ ap (λ w. w.looked + 1) asking;
+      short = short;
+    }
+
+    pub missing_in_table : after ≡ after_missing hashes buckets h middle → SearchCosts hash m k false before after
+    missing_in_table spent = record {
+      asked = omega (arith, one_asking, ap (λ w. w.asked) spent, ap (λ w. w.asked) asking);
+      compared = omega (arith, counted, ap (λ w. w.compared) spent, ap (λ w. w.compared) asking);
+      looked = subst (λ b. Looks b false (walk_length keys_hash m.is_vec m.room m.pairs k) before.looked after.looked) (sym form)
+          (omega (arith, walked, ap (λ w. w.looked) spent, ap (λ w. w.looked) asking));
+      looked_once = λ in_table found. absurd (true≢false (sym found));
+      short = short;
+    }

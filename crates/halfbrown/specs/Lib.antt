@@ -1,5 +1,4 @@
 pub mod Costs
-pub mod Form
 pub mod Growth
 pub mod Layout
 pub mod Lending
@@ -9,4 +8,3 @@ pub mod RunCost
 pub mod Search
 pub mod State
 pub mod Step
-pub mod StoredHashes

@@ -5,7 +5,6 @@ mod limit;
 mod map;
 mod refused;
 pub mod run;
-mod stored_hashes;
 
 pub use half_store::{Refusal, Tally};
 pub use limit::{Limit, UpTo};

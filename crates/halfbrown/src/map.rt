@@ -1,6 +1,6 @@
 //! The map, and what it says of itself.
-ghost use Rattle.std.specs.Prelude.{◌≡◌, ◌^◌, ◌<◌, ◌↔◌, false, [], length, IsTrue};
-ghost use Rattle.halfbrown.specs.Form.{without_hashes};
+ghost use Rattle.std.specs.Prelude.{◌≡◌, ◌^◌, ◌<◌, ◌↔◌, false, [], length, IsTrue, is_none};
+ghost use Rattle.halfbrown.specs.Layout.{hashes_in, buckets_in};
 ghost use Rattle.halfbrown.specs.State.{IsState, WithPairs};
 
 mod growth;
@@ -11,8 +11,8 @@ mod remove;
 pub(crate) mod search;
 mod switch;
 
-use crate::stored_hashes::StoredHashes;
 use crate::{Limit, UpTo};
+use half_store::table::Table;
 use half_store::VecMap;
 use std::alloc::Global;
 use std::hash::{BuildHasher, BuildHasherDefault, FoldHasher, Hash};
@@ -33,7 +33,7 @@ pub type HashMap<K, V, S> = LimitedHashMap<K, V, S, UpTo<32>>;
 /// The pairs stand in the order of their insertion in both forms, until a removal moves the last one into the gap.
 pub struct LimitedHashMap<K: Eq + Hash, V, S: BuildHasher, L: Limit> {
     columns: VecMap<K, V>,
-    table: Option<StoredHashes>,
+    table: Option<Table>,
     builder: S,
     alloc: Global,
     limit: PhantomData<L>,
@@ -41,17 +41,17 @@ pub struct LimitedHashMap<K: Eq + Hash, V, S: BuildHasher, L: Limit> {
 
 impl<K: Eq + Hash, V, S: BuildHasher, L: Limit> Model for LimitedHashMap<K, V, S, L> {
     ghost use Rattle.std.specs.Prelude.{is_none};
-    ghost use Rattle.halfbrown.specs.State.{State, state_code};
+    ghost use Rattle.halfbrown.specs.State.{State, state, state_code};
     ghost use Rattle.halfbrown.specs.Costs.{key_hash};
-    ghost use Rattle.halfbrown.specs.Layout.{hashes_in, room_in, IsKept};
+    ghost use Rattle.halfbrown.specs.Layout.{hashes_in, buckets_in, slots_in, room_in, IsKept};
 
     ghost Value = { State K V S };
 
     ghost coded = { state_code K.code V.code S.code };
 
-    ghost view = { λ m. record { is_vec = is_none m.table; pairs = m.columns.pairs; room = room_in L.LIMIT m.columns.room m.table; builder = m.builder } };
+    ghost view = { λ m. state (is_none m.table) m.columns.pairs (room_in L.LIMIT m.columns.room (is_none m.table) (buckets_in m.table)) m.builder (slots_in m.table) };
 
-    ghost invariant = { λ m. IsKept K.eq (key_hash S.BuildHasher S.Hasher.Hasher K.hash_input m.builder) m.columns.pairs m.columns.room (is_none m.table) (hashes_in m.table) (room_in L.LIMIT m.columns.room m.table) };
+    ghost invariant = { λ m. IsKept K.eq (key_hash S.BuildHasher S.Hasher.Hasher K.hash_input m.builder) L.LIMIT m.columns.pairs m.columns.room (is_none m.table) (hashes_in m.table) (buckets_in m.table) };
 }
 
 // Written out, since the limit is a type that no value of the map holds.
@@ -134,8 +134,10 @@ impl<K: Eq + Hash, V, S: BuildHasher, L: Limit> LimitedHashMap<K, V, S, L> {
 }
 
 // Lets all stored hashes go. A vector stores none.
-fn clear_hashes(table: &mut Option<StoredHashes>)
-    ensures { table.new ≡ without_hashes table.old }
+fn clear_hashes(table: &mut Option<Table>)
+    ensures form { is_none table.new ≡ is_none table.old }
+    ensures buckets { buckets_in table.new ≡ buckets_in table.old }
+    ensures hashes { hashes_in table.new ≡ [] }
 {
     if let Some(table) = table {
         table.clear();

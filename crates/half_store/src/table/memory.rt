@@ -76,6 +76,7 @@ impl Table {
     /// there are no buckets afterwards, and no memory is taken.
     pub fn shrink_to_fit(&mut self)
         ensures hashes { self.new.hashes ≡ self.old.hashes }
+        ensures fewer { self.new.buckets ≤ self.old.buckets }
         ensures buckets { (self.new.buckets ≡ buckets_for (length self.old.hashes)) ⊎ (self.new ≡ self.old) }
         ensures empty { length self.old.hashes ≡ 0 → self.new.buckets ≡ 0 }
     {

@@ -43,19 +43,21 @@ impl<K: Eq + Hash, V, S: BuildHasher, L: Limit> LimitedHashMap<K, V, S, L> {
         table.reserve(wanted)
     }
 
-    // Makes room for one more pair where there is none.
-    pub(crate) fn make_room(&mut self) -> Result<(), Refusal>
-        requires { is_full L.LIMIT self.old ≡ false }
+    /// Gives memory back as far as the pairs allow. A table has the least room of its series that serves afterwards, or
+    /// without memory for that the room that it had; an empty one has no room, and needs no memory for that.
+    pub fn shrink_to_fit(&mut self)
+        ensures room { HasRoomShrunk self.old self.new }
         ensures pairs { self.new.pairs ≡ self.old.pairs }
-        ensures hasher { self.new.builder ≡ self.old.builder }
         ensures form { self.new.is_vec ≡ self.old.is_vec }
-        ensures ok { OnOk result (length self.new.pairs < self.new.room) }
-        ensures room { OnOk result (HasRoomAfter self.old (addition_wants self.old) self.new) }
-        ensures err { OnErr result (self.new ≡ self.old) }
-        ensures refused { IfErr result (IsRefusal (addition_wants self.old)) }
-        ensures granted { OnOk result (IsGrantable (addition_wants self.old)) }
+        ensures hasher { self.new.builder ≡ self.old.builder }
         ensures state { IsState K.eq L.LIMIT self.new }
     {
-        self.reserve(1)
+        match &mut self.table {
+            None => self.columns.shrink_to(0),
+            Some(table) => {
+                table.shrink_to_fit();
+                self.columns.shrink_to(table.room());
+            }
+        }
     }
 }

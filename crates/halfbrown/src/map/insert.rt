@@ -1,19 +1,23 @@
 //! Insertion.
-ghost use Rattle.std.specs.Prelude.{◌≡◌, ◌+◌, ◌<◌, true, false, None, Some, [], ◌∷◌, ◌++◌, length, slice_get, IsOk, OnOk, OnErr, IfOk, IfErr, is_ok};
-ghost use Rattle.halfbrown.specs.Costs.{Compares, candidates, key_hash, search_asks, insert_asks, InsertCompares};
-ghost use Rattle.halfbrown.specs.Growth.{is_full, stays_vec, insert_wants, unchecked_wants, addition_wants, IsRefusal, IsGrantable, HasRoomAfter};
+ghost use Rattle.std.specs.Prelude.{◌≡◌, ◌<◌, true, false, Some, [], ◌∷◌, ◌++◌, length, slice_get, OnOk, OnErr, IfOk, IfErr, is_ok, is_none, if◌then◌else◌};
 ghost use Rattle.std.specs.Map.{values_of};
 ghost use Rattle.std.specs.Option.{ForSome};
 ghost use Rattle.half_store.specs.Pairs.{set_value};
-ghost use Rattle.halfbrown.specs.Form.{with_hash};
+ghost use Rattle.half_store.specs.Reach.{reach};
+ghost use Rattle.half_store.specs.Rooms.{room_of, buckets_of};
+ghost use Rattle.half_store.specs.Search.{looked_more};
+ghost use Rattle.half_store.specs.Work.{asked_more};
+ghost use Rattle.halfbrown.specs.Costs.{key_hash, search_asks, walk_length, adding_looks, InsertCosts, UncheckedCosts};
+ghost use Rattle.halfbrown.specs.Growth.{is_full, stays_vec, insert_wants, unchecked_wants, addition_wants, IsRefusal, IsGrantable, HasRoomAfter};
+ghost use Rattle.halfbrown.specs.Layout.{hashes_in, buckets_in, slots_in};
 ghost use Rattle.halfbrown.specs.Pairs.{value_of, holds, put};
-ghost use Rattle.halfbrown.specs.Search.{IsAbsent, IsVacancy};
-ghost use Rattle.halfbrown.specs.State.{IsState, WithPairs};
+ghost use Rattle.halfbrown.specs.Search.{IsVacancy, stored_hash, is_unplaced};
+ghost use Rattle.halfbrown.specs.State.{IsState, WithPairs, slots_of};
 
 use super::LimitedHashMap;
 use super::search::{Search, Vacancy};
-use crate::stored_hashes::StoredHashes;
 use crate::{Limit, Refused};
+use half_store::table::Table;
 use half_store::{Tally, counting};
 use std::hash::{BuildHasher, Hash};
 
@@ -67,8 +71,7 @@ impl<K: Eq + Hash, V, S: BuildHasher, L: Limit> LimitedHashMap<K, V, S, L> {
         ensures value_returned { IfErr result (λ r. r.value ≡ value) }
 
         // The builder is asked by the switch, and once by the search in a table. A refused switch searches nothing.
-        ensures asked { tally.new.asked ≡ tally.old.asked + insert_asks L.LIMIT self.old (is_ok result) }
-        ensures compared { InsertCompares L.LIMIT K.eq (key_hash S.BuildHasher S.Hasher.Hasher K.hash_input self.old.builder) self.old key (is_ok result) tally.old.compared tally.new.compared }
+        ensures cost { InsertCosts L.LIMIT K.eq (key_hash S.BuildHasher S.Hasher.Hasher K.hash_input) self.old key (is_ok result) tally.old tally.new }
 
         ensures hasher { self.new.builder ≡ self.old.builder }
         ensures state { IsState K.eq L.LIMIT self.new }
@@ -78,7 +81,7 @@ impl<K: Eq + Hash, V, S: BuildHasher, L: Limit> LimitedHashMap<K, V, S, L> {
         }
         match self.search(&key, tally) {
             Search::Found(number) => Ok(Some(self.set_at(number, value))),
-            Search::Missing(vacancy) => match self.add(key, value, vacancy) {
+            Search::Missing(vacancy) => match self.add(key, value, vacancy, tally) {
                 Ok(()) => Ok(None),
                 Err(refused) => Err(refused),
             },
@@ -120,8 +123,7 @@ impl<K: Eq + Hash, V, S: BuildHasher, L: Limit> LimitedHashMap<K, V, S, L> {
         ensures err { OnErr result (self.new ≡ self.old) }
         ensures key_returned { IfErr result (λ r. r.key ≡ key) }
         ensures value_returned { IfErr result (λ r. r.value ≡ value) }
-        ensures asked { tally.new.asked ≡ tally.old.asked + insert_asks L.LIMIT self.old (is_ok result) }
-        ensures compared { tally.new.compared ≡ tally.old.compared }
+        ensures cost { UncheckedCosts L.LIMIT K.eq (key_hash S.BuildHasher S.Hasher.Hasher K.hash_input) self.old key (is_ok result) tally.old tally.new }
         ensures hasher { self.new.builder ≡ self.old.builder }
         ensures state { IsState K.eq L.LIMIT self.new }
     {
@@ -129,18 +131,18 @@ impl<K: Eq + Hash, V, S: BuildHasher, L: Limit> LimitedHashMap<K, V, S, L> {
             return Err(Refused { key, value, why });
         }
         let vacancy = self.unsearched(&key, tally);
-        self.add(key, value, vacancy)
+        self.add(key, value, vacancy, tally)
     }
 
     // Where a pair may be added whose key is not held. The builder is asked in a table, and nothing is searched.
     fn unsearched(&self, key: &K, tally: &mut Tally) -> Vacancy
-        ensures vacant { IsVacancy self.now.is_vec (key_hash S.BuildHasher S.Hasher.Hasher K.hash_input self.now.builder key.now) result }
-        ensures asked { tally.new.asked ≡ tally.old.asked + search_asks self.now.is_vec }
-        ensures compared { tally.new.compared ≡ tally.old.compared }
+        ensures vacant { IsVacancy self.now.is_vec (slots_of self.now) (key_hash S.BuildHasher S.Hasher.Hasher K.hash_input self.now.builder key.now) result }
+        ensures unplaced { self.now.is_vec ≡ false → is_unplaced result ≡ true }
+        ensures work { tally.new ≡ asked_more (search_asks self.now.is_vec) tally.old }
     {
         match &self.table {
             None => Vacancy::InVector,
-            Some(_) => Vacancy::InTable(counting::ask(&self.builder, key, tally)),
+            Some(_) => Vacancy::InTable(counting::ask(&self.builder, key, tally), None),
         }
     }
 
@@ -155,10 +157,16 @@ impl<K: Eq + Hash, V, S: BuildHasher, L: Limit> LimitedHashMap<K, V, S, L> {
     }
 
     // Adds a pair whose key is not held, with room made for it where there is none.
-    fn add(&mut self, key: K, value: V, vacancy: Vacancy) -> Result<(), Refused<K, V>>
+    fn add(
+        &mut self,
+        key: K,
+        value: V,
+        vacancy: Vacancy,
+        tally: &mut Tally,
+    ) -> Result<(), Refused<K, V>>
         requires not_full { is_full L.LIMIT self.old ≡ false }
         requires absent { holds K.eq self.old.pairs key ≡ false }
-        requires vacant { IsVacancy self.old.is_vec (key_hash S.BuildHasher S.Hasher.Hasher K.hash_input self.old.builder key) vacancy }
+        requires vacant { IsVacancy self.old.is_vec (slots_of self.old) (key_hash S.BuildHasher S.Hasher.Hasher K.hash_input self.old.builder key) vacancy }
         ensures pairs { OnOk result (self.new.pairs ≡ put K.eq self.old.pairs key value) }
         ensures form { self.new.is_vec ≡ self.old.is_vec }
         ensures room { OnOk result (HasRoomAfter self.old (addition_wants self.old) self.new) }
@@ -168,36 +176,49 @@ impl<K: Eq + Hash, V, S: BuildHasher, L: Limit> LimitedHashMap<K, V, S, L> {
         ensures granted { OnOk result (IsGrantable (addition_wants self.old)) }
         ensures key_returned { IfErr result (λ r. r.key ≡ key) }
         ensures value_returned { IfErr result (λ r. r.value ≡ value) }
+        ensures work { tally.new ≡ looked_more tally.old (adding_looks (key_hash S.BuildHasher S.Hasher.Hasher K.hash_input self.old.builder) self.old key (is_unplaced vacancy) (is_ok result)) }
         ensures state { IsState K.eq L.LIMIT self.new }
     {
-        if let Err(why) = self.make_room() {
+        if self.len() < self.capacity() {
+            self.push(key, value, vacancy, tally);
+            return Ok(());
+        }
+        if let Err(why) = self.reserve(1) {
             return Err(Refused { key, value, why });
         }
-        self.push(key, value, vacancy);
+        self.push(key, value, vacancy.unplaced(), tally);
         Ok(())
     }
 
     // Adds a pair whose key is not held. There is room for it.
-    fn push(&mut self, key: K, value: V, vacancy: Vacancy)
+    fn push(&mut self, key: K, value: V, vacancy: Vacancy, tally: &mut Tally)
         requires room { length self.old.pairs < self.old.room }
         requires absent { holds K.eq self.old.pairs key ≡ false }
-        requires vacant { IsVacancy self.old.is_vec (key_hash S.BuildHasher S.Hasher.Hasher K.hash_input self.old.builder key) vacancy }
+        requires vacant { IsVacancy self.old.is_vec (slots_of self.old) (key_hash S.BuildHasher S.Hasher.Hasher K.hash_input self.old.builder key) vacancy }
         ensures after { WithPairs self.old (self.old.pairs ++ (key, value) ∷ []) self.new }
+        ensures work { tally.new ≡ looked_more tally.old (if is_unplaced vacancy then walk_length (key_hash S.BuildHasher S.Hasher.Hasher K.hash_input self.old.builder) self.old.is_vec self.old.room self.old.pairs key else 0) }
         ensures state { IsState K.eq L.LIMIT self.new }
     {
-        store_hash(&mut self.table, vacancy);
+        store_hash(&mut self.table, vacancy, tally);
         self.columns.push(key, value);
     }
 }
 
 // Stores the hash of a pair that is added. A vector stores none.
-fn store_hash(table: &mut Option<StoredHashes>, vacancy: Vacancy)
-    requires { ForSome table.old (λ t. length t.hashes < t.room) }
-    ensures { table.new ≡ with_hash vacancy table.old }
+fn store_hash(table: &mut Option<Table>, vacancy: Vacancy, tally: &mut Tally)
+    requires room { ForSome table.old (λ t. length t.hashes < room_of t.buckets) }
+    requires vacant { IsVacancy (is_none table.old) (slots_in table.old) (stored_hash vacancy) vacancy }
+    ensures form { is_none table.new ≡ is_none table.old }
+    ensures buckets { buckets_in table.new ≡ buckets_in table.old }
+    ensures hashes { is_none table.old ≡ false → hashes_in table.new ≡ hashes_in table.old ++ stored_hash vacancy ∷ [] }
+    ensures work { tally.new ≡ looked_more tally.old (if is_unplaced vacancy then reach (hashes_in table.old) (buckets_of (room_of (buckets_in table.old))) (stored_hash vacancy) else 0) }
 {
     if let Some(table) = table {
-        if let Vacancy::InTable(hash) = vacancy {
-            table.push(hash);
+        if let Vacancy::InTable(hash, place) = vacancy {
+            match place {
+                Some(place) => table.add_at(hash, place),
+                None => table.add(hash, tally),
+            }
         }
     }
 }

@@ -3,7 +3,7 @@ ghost use Rattle.std.specs.Prelude.{◌≡◌, ◌+◌, is_some, IsTrue, Some, t
 ghost use Rattle.std.specs.Borrow.{sem};
 ghost use Rattle.std.specs.Map.{values_of};
 ghost use Rattle.std.specs.Option.{option_copied, option_copied_mut};
-ghost use Rattle.halfbrown.specs.Costs.{Compares, candidates, key_hash, search_asks};
+ghost use Rattle.halfbrown.specs.Costs.{key_hash, SearchCosts};
 ghost use Rattle.halfbrown.specs.Pairs.{value_of, holds};
 ghost use Rattle.halfbrown.specs.State.{IsState};
 
@@ -27,8 +27,7 @@ impl<K: Eq + Hash, V, S: BuildHasher, L: Limit> LimitedHashMap<K, V, S, L> {
     /// `get`, with its work counted: one hash in a table and none in a vector, and no key of another hash is compared.
     pub fn get_counted(&self, key: &K, tally: &mut Tally) -> Option<&V>
         ensures value { option_copied result ≡ value_of K.eq self.now.pairs key.now }
-        ensures asked { tally.new.asked ≡ tally.old.asked + search_asks self.now.is_vec }
-        ensures compared { Compares (is_some result) (candidates (key_hash S.BuildHasher S.Hasher.Hasher K.hash_input self.now.builder) self.now.is_vec self.now.pairs key.now) tally.old.compared tally.new.compared }
+        ensures cost { SearchCosts (key_hash S.BuildHasher S.Hasher.Hasher K.hash_input) self.now key.now (is_some result) tally.old tally.new }
         ensures state { IsState K.eq L.LIMIT self.now }
     {
         match self.search(key, tally) {
@@ -49,8 +48,7 @@ impl<K: Eq + Hash, V, S: BuildHasher, L: Limit> LimitedHashMap<K, V, S, L> {
     pub fn get_mut_counted(&mut self, key: &K, tally: &mut Tally) -> Option<&mut V>
         ensures* writes_back { sem 𝓛 (LendsValueOf K.row V.row S.row L.row S.Hasher.row K.Hash S.BuildHasher S.Hasher.Hasher L.Limit self.entry key.now result) }
         ensures value { option_copied_mut result ≡ value_of K.eq self.old.pairs key.now }
-        ensures asked { tally.new.asked ≡ tally.old.asked + search_asks self.old.is_vec }
-        ensures compared { Compares (is_some result) (candidates (key_hash S.BuildHasher S.Hasher.Hasher K.hash_input self.old.builder) self.old.is_vec self.old.pairs key.now) tally.old.compared tally.new.compared }
+        ensures cost { SearchCosts (key_hash S.BuildHasher S.Hasher.Hasher K.hash_input) self.old key.now (is_some result) tally.old tally.new }
         ensures state { IsState K.eq L.LIMIT self.old }
     {
         match self.search(key, tally) {
@@ -69,8 +67,7 @@ impl<K: Eq + Hash, V, S: BuildHasher, L: Limit> LimitedHashMap<K, V, S, L> {
     /// `contains_key`, with its work counted: that of one search.
     pub fn contains_key_counted(&self, key: &K, tally: &mut Tally) -> bool
         ensures held { result ≡ holds K.eq self.now.pairs key.now }
-        ensures asked { tally.new.asked ≡ tally.old.asked + search_asks self.now.is_vec }
-        ensures compared { Compares result (candidates (key_hash S.BuildHasher S.Hasher.Hasher K.hash_input self.now.builder) self.now.is_vec self.now.pairs key.now) tally.old.compared tally.new.compared }
+        ensures cost { SearchCosts (key_hash S.BuildHasher S.Hasher.Hasher K.hash_input) self.now key.now result tally.old tally.new }
         ensures state { IsState K.eq L.LIMIT self.now }
     {
         match self.search(key, tally) {
@@ -83,8 +80,7 @@ impl<K: Eq + Hash, V, S: BuildHasher, L: Limit> LimitedHashMap<K, V, S, L> {
     pub fn index_counted(&self, key: &K, tally: &mut Tally) -> &V
         requires { IsTrue (holds K.eq self.now.pairs key.now) }
         ensures value { value_of K.eq self.now.pairs key.now ≡ Some result.now }
-        ensures asked { tally.new.asked ≡ tally.old.asked + search_asks self.now.is_vec }
-        ensures compared { Compares true (candidates (key_hash S.BuildHasher S.Hasher.Hasher K.hash_input self.now.builder) self.now.is_vec self.now.pairs key.now) tally.old.compared tally.new.compared }
+        ensures cost { SearchCosts (key_hash S.BuildHasher S.Hasher.Hasher K.hash_input) self.now key.now true tally.old tally.new }
     {
         match self.search(key, tally) {
             Search::Found(number) => self.columns.value_at(number),

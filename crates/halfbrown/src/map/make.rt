@@ -5,8 +5,8 @@ ghost use Rattle.halfbrown.specs.State.{IsState};
 
 use super::{DefaultHashBuilder, LimitedHashMap};
 use crate::Limit;
-use crate::stored_hashes::StoredHashes;
 use half_store::refusal::check_size;
+use half_store::table::Table;
 use half_store::{Refusal, VecMap};
 use std::alloc::Global;
 use std::hash::{BuildHasher, BuildHasherDefault, Hash};
@@ -112,7 +112,7 @@ impl<K: Eq + Hash, V, S: BuildHasher, L: Limit> LimitedHashMap<K, V, S, L> {
                 limit: PhantomData,
             });
         }
-        let table = StoredHashes::with_room(alloc, capacity)?;
+        let table = Table::with_room(alloc, capacity)?;
         let columns = VecMap::with_room(alloc, table.room())?;
         Ok(LimitedHashMap {
             columns,

@@ -1,18 +1,18 @@
 //! Removal.
-ghost use Rattle.std.specs.Prelude.{◌≡◌, ◌+◌, ◌<◌, length, slice_get, Some, is_some};
+ghost use Rattle.std.specs.Prelude.{◌≡◌, ◌<◌, length, slice_get, Some, is_some, is_none, false};
 ghost use Rattle.half_store.specs.Pairs.{swap_out};
-ghost use Rattle.halfbrown.specs.Costs.{Compares, candidates, key_hash, search_asks};
+ghost use Rattle.halfbrown.specs.Costs.{key_hash, SearchCosts};
 ghost use Rattle.std.specs.Map.{values_of};
 ghost use Rattle.std.specs.Option.{ForSome};
-ghost use Rattle.halfbrown.specs.Form.{without_hash};
+ghost use Rattle.halfbrown.specs.Layout.{hashes_in, buckets_in};
 ghost use Rattle.halfbrown.specs.Pairs.{value_of, pair_of, take_out};
 ghost use Rattle.halfbrown.specs.State.{IsState, WithPairs};
 
 use super::LimitedHashMap;
 use super::search::Search;
 use crate::Limit;
-use crate::stored_hashes::StoredHashes;
 use half_store::Tally;
+use half_store::table::Table;
 use std::hash::{BuildHasher, Hash};
 
 impl<K: Eq + Hash, V, S: BuildHasher, L: Limit> LimitedHashMap<K, V, S, L> {
@@ -33,8 +33,7 @@ impl<K: Eq + Hash, V, S: BuildHasher, L: Limit> LimitedHashMap<K, V, S, L> {
         K: Drop,
         ensures value { result ≡ value_of K.eq self.old.pairs key.now }
         ensures after { WithPairs self.old (take_out K.eq self.old.pairs key.now) self.new }
-        ensures asked { tally.new.asked ≡ tally.old.asked + search_asks self.old.is_vec }
-        ensures compared { Compares (is_some result) (candidates (key_hash S.BuildHasher S.Hasher.Hasher K.hash_input self.old.builder) self.old.is_vec self.old.pairs key.now) tally.old.compared tally.new.compared }
+        ensures cost { SearchCosts (key_hash S.BuildHasher S.Hasher.Hasher K.hash_input) self.old key.now (is_some result) tally.old tally.new }
         ensures state { IsState K.eq L.LIMIT self.new }
     {
         match self.search(key, tally) {
@@ -56,8 +55,7 @@ impl<K: Eq + Hash, V, S: BuildHasher, L: Limit> LimitedHashMap<K, V, S, L> {
     pub fn remove_entry_counted(&mut self, key: &K, tally: &mut Tally) -> Option<(K, V)>
         ensures pair { result ≡ pair_of K.eq self.old.pairs key.now }
         ensures after { WithPairs self.old (take_out K.eq self.old.pairs key.now) self.new }
-        ensures asked { tally.new.asked ≡ tally.old.asked + search_asks self.old.is_vec }
-        ensures compared { Compares (is_some result) (candidates (key_hash S.BuildHasher S.Hasher.Hasher K.hash_input self.old.builder) self.old.is_vec self.old.pairs key.now) tally.old.compared tally.new.compared }
+        ensures cost { SearchCosts (key_hash S.BuildHasher S.Hasher.Hasher K.hash_input) self.old key.now (is_some result) tally.old tally.new }
         ensures state { IsState K.eq L.LIMIT self.new }
     {
         match self.search(key, tally) {
@@ -80,11 +78,13 @@ impl<K: Eq + Hash, V, S: BuildHasher, L: Limit> LimitedHashMap<K, V, S, L> {
 }
 
 // Takes out the hash of the pair with this number. A vector stores none.
-fn take_hash(table: &mut Option<StoredHashes>, number: usize)
+fn take_hash(table: &mut Option<Table>, number: usize)
     requires { ForSome table.old (λ t. number < length t.hashes) }
-    ensures { table.new ≡ without_hash number table.old }
+    ensures form { is_none table.new ≡ is_none table.old }
+    ensures buckets { buckets_in table.new ≡ buckets_in table.old }
+    ensures hashes { is_none table.old ≡ false → hashes_in table.new ≡ swap_out (hashes_in table.old) number }
 {
     if let Some(table) = table {
-        table.swap_remove(number);
+        table.remove(number);
     }
 }

@@ -1,12 +1,12 @@
 //! The search for a key, which is all that differs by the form.
-ghost use Rattle.std.specs.Prelude.{◌≡◌, ◌+◌, ◌<◌, slice_index_or, length};
-ghost use Rattle.std.specs.Map.{keys_of};
-ghost use Rattle.halfbrown.specs.Costs.{Compares, candidates, key_hash, search_asks};
-ghost use Rattle.halfbrown.specs.Search.{Searches, is_found};
+ghost use Rattle.std.specs.Prelude.{◌≡◌, ◌<◌, slice_index_or, length};
+ghost use Rattle.halfbrown.specs.Costs.{key_hash, SearchCosts};
+ghost use Rattle.halfbrown.specs.Search.{Searches, is_found, unplaced};
 ghost use Rattle.halfbrown.specs.State.{IsState};
 
 use super::LimitedHashMap;
 use crate::Limit;
+use half_store::table::search::Search as Bucket;
 use half_store::{Tally, counting};
 use std::hash::{BuildHasher, Hash};
 
@@ -19,19 +19,31 @@ pub(crate) enum Search {
     Missing(Vacancy),
 }
 
-/// Where a pair may be added: behind the others, and in a table under its key's hash.
+/// Where a pair may be added: behind the others, and in a table under its key's hash at an empty bucket, if that is
+/// known already.
 #[derive(Clone, Copy)]
 pub(crate) enum Vacancy {
     InVector,
-    InTable(u64),
+    InTable(u64, Option<usize>),
+}
+
+impl Vacancy {
+    /// The same, its bucket not known: growth has moved the empty ones.
+    pub(crate) fn unplaced(self) -> Vacancy
+        ensures { result ≡ unplaced self }
+    {
+        match self {
+            Vacancy::InVector => Vacancy::InVector,
+            Vacancy::InTable(hash, _) => Vacancy::InTable(hash, None),
+        }
+    }
 }
 
 impl<K: Eq + Hash, V, S: BuildHasher, L: Limit> LimitedHashMap<K, V, S, L> {
     /// Looks for a key: in a vector by `==` alone, in a table among the keys of its hash.
     pub(crate) fn search(&self, key: &K, tally: &mut Tally) -> Search
-        ensures found { Searches K.eq (key_hash S.BuildHasher S.Hasher.Hasher K.hash_input self.now.builder) self.now.is_vec self.now.pairs key.now result }
-        ensures asked { tally.new.asked ≡ tally.old.asked + search_asks self.now.is_vec }
-        ensures compared { Compares (is_found result) (candidates (key_hash S.BuildHasher S.Hasher.Hasher K.hash_input self.now.builder) self.now.is_vec self.now.pairs key.now) tally.old.compared tally.new.compared }
+        ensures found { Searches K.eq (key_hash S.BuildHasher S.Hasher.Hasher K.hash_input) self.now key.now result }
+        ensures cost { SearchCosts (key_hash S.BuildHasher S.Hasher.Hasher K.hash_input) self.now key.now (is_found result) tally.old tally.new }
         ensures state { IsState K.eq L.LIMIT self.now }
     {
         let Some(table) = &self.table else {
@@ -47,8 +59,9 @@ impl<K: Eq + Hash, V, S: BuildHasher, L: Limit> LimitedHashMap<K, V, S, L> {
             ensures { (d : K) → result ≡ K.eq key.entry.now (slice_index_or keys.entry.now number d) }
         { *key == keys[number] };
         match table.find(hash, &matches, tally) {
-            Some(number) => Search::Found(number),
-            None => Search::Missing(Vacancy::InTable(hash)),
+            Bucket::Found(number) => Search::Found(number),
+            Bucket::Vacant(place) => Search::Missing(Vacancy::InTable(hash, Some(place))),
+            Bucket::NoBuckets => Search::Missing(Vacancy::InTable(hash, None)),
         }
     }
 }

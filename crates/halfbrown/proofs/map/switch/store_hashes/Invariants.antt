@@ -7,6 +7,6 @@ use Rattle.halfbrown.proofs.map.switch.store_hashes.Given as goal
 abbrev pub invariant-loop-key : goal.invariant-loop-key
 invariant-loop-key g l = record {
   hashes : l.table.hashes ≡ map (key_hash g.S.BuildHasher g.S.Hasher.Hasher g.K.Hash.hash_input l.builder) (take l.key-index l.keys);
-  room : l.table.room ≡ l.initial.table.room;
+  buckets : l.table.buckets ≡ l.initial.table.buckets;
   work : l.tally ≡ asked_more l.key-index l.initial.tally;
 }

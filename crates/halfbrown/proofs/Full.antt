@@ -1,0 +1,12 @@
+-- A full vector holds as many pairs as the limit allows.
+use Rattle.std.proofs.Common.{◌≡◌, ℕ, Bool, true, false, ◌&&◌, ◌==◌, length, arith, true≢false, sym}
+use Rattle.std.proofs.lemmas.Bool.Decides.{nat_tests}
+use Rattle.halfbrown.specs.Growth.{is_full}
+use Rattle.halfbrown.specs.State.{State}
+
+equal_of_both : (b : Bool) (n limit : ℕ) → (b && (n == limit)) ≡ true → n ≡ limit
+equal_of_both true n limit both = grind (arith, nat_tests)
+equal_of_both false n limit both = absurd (true≢false (sym both))
+
+pub full_len : {K V S : Type 0} (limit : ℕ) (m : State K V S) → is_full limit m ≡ true → length m.pairs ≡ limit
+full_len limit m full = equal_of_both m.is_vec (length m.pairs) limit full
