@@ -1,18 +1,18 @@
 -- A pair that is added at the end of a walk.
-use Rattle.std.proofs.Common.{◌≡◌, ◌≢◌, ℕ, zero, suc, ◌+◌, ◌-◌, ◌<◌, ◌≤◌, Bool, true, false, cond, ◌⊎◌, inl, inr, refl, sym, ap, ◌∙◌, subst, arith, List, [], ◌∷◌, ◌++◌, length, get_or, set, map, replicate, slice_index, Option, Some, None, unwrap_or, count_by}
+use Rattle.std.proofs.Common.{◌≡◌, ◌≢◌, ℕ, ◌+◌, ◌<◌, ◌≤◌, Bool, inl, inr, refl, sym, ap, ◌∙◌, subst, arith, List, [], ◌∷◌, ◌++◌, length, set, replicate, slice_index, Option, Some, None, unwrap_or, count_by}
 use Rattle.std.proofs.lemmas.Bool.{cases_lt, cases_eq}
-use Rattle.std.proofs.lemmas.List.{length-set, length-map, length_push, length-replicate, map_push, get_or-set_same, get_or-set_other, get_or_append_left, get_or_push, get_or-replicate, get_or_past, nil_from_length}
+use Rattle.std.proofs.lemmas.List.{length-set, length_push, length-replicate, map_push, get_or-set_same, get_or-set_other, get_or_append_left, get_or_push, get_or-replicate, get_or_past}
 use Rattle.std.proofs.lemmas.List.Sums.{sum_by_push, sum_by-set}
 use Rattle.std.proofs.lemmas.Option.{same_Some}
 use Rattle.half_store.specs.Reach.{home, steps}
 use Rattle.half_store.specs.Rooms.{room_of, IsBucketCount}
-use Rattle.half_store.specs.Slots.{slot_at, stored, IsVacancyFor, SomeVacant, ComeBeforeVacancies, steps_from_home}
+use Rattle.half_store.specs.Slots.{slot_at, stored, IsVacancyFor, ComeBeforeVacancies}
 use Rattle.half_store.specs.Table.{hashes_at}
 use Rattle.half_store.specs.TableLayout.{InStep, IsTable}
 use Rattle.half_store.proofs.Circle.{steps_same}
-use Rattle.half_store.proofs.Counts.{tick, count_to, count_to-none, count_by-count_to}
-use Rattle.half_store.proofs.SlotsLemmas.{slot_cases, full_from, full-lt, home-lt, some≢none}
-use Rattle.half_store.proofs.StepLemmas.{length-hashes_at, hashes_at-same, hash_in}
+use Rattle.half_store.proofs.Counts.{tick, count_to-none, count_by-count_to}
+use Rattle.half_store.proofs.SlotsLemmas.{full_from, home-lt, some≢none}
+use Rattle.half_store.proofs.StepLemmas.{hashes_at-same, hash_in}
 
 -- a bucket that was written, and each other one
 pub slot_set : (slots : List (Option ℕ)) (p : ℕ) (o : Option ℕ) → p < length slots → slot_at (set slots p o) p ≡ o

@@ -1,10 +1,10 @@
 -- What the two columns of a `VecMap` are to its list of pairs.
-use Rattle.std.proofs.Common.{◌≡◌, ℕ, zero, suc, ◌<◌, ◌≤◌, min, List, [], ◌∷◌, length, get_or, Some, sym, refl, ap, ◌∙◌, arith}
-use Rattle.std.specs.List.{zip, slice_get, swap_remove}
+use Rattle.std.proofs.Common.{◌≡◌, ℕ, min, List, length, sym, ap, ◌∙◌}
+use Rattle.std.specs.List.{zip}
 use Rattle.std.specs.declared.vec.Vec.{Vec}
 use Rattle.std.specs.Map.{keys_of, values_of}
 use Rattle.half_store.proofs.Zip.{length-zip, keys_of-zip, values_of-zip}
-use Rattle.half_store.specs.Pairs.{Pairs, set_value, swap_out, with_pairs}
+use Rattle.half_store.specs.Pairs.{Pairs, with_pairs}
 
 module _ {K V Z : Type 0} where
   -- what is known of the columns of a map whose pairs and room are these

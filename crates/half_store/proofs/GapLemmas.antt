@@ -1,18 +1,15 @@
 -- A pair that is moved, a pair that is taken out, and the gap that is closed behind it.
-use Rattle.std.proofs.Common.{◌≡◌, ◌≢◌, ℕ, zero, suc, ◌+◌, ◌-◌, ◌<◌, ◌≤◌, Bool, true, false, cond, ◌⊎◌, inl, inr, refl, sym, ap, ◌∙◌, subst, arith, List, [], ◌∷◌, ◌++◌, length, get_or, set, take, map, slice_index, Option, Some, None, unwrap_or, count_by}
+use Rattle.std.proofs.Common.{◌≡◌, ◌≢◌, ℕ, suc, ◌-◌, ◌<◌, Bool, ◌⊎◌, inl, inr, sym, ap, ◌∙◌, arith, List, length, get_or, set, slice_index, Option, Some, None, unwrap_or, count_by}
 use Rattle.std.specs.List.{swap_remove}
-use Rattle.std.proofs.lemmas.Bool.{cases_lt, cases_eq}
-use Rattle.std.proofs.lemmas.List.{length-set, length-map, length-take, get_or-take, take-map, map-set, get_or-map, ext_get_or}
+use Rattle.std.proofs.lemmas.Bool.{cases_eq}
+use Rattle.std.proofs.lemmas.List.{length-set, length-take, get_or-take, ext_get_or}
 use Rattle.std.proofs.lemmas.List.Sums.{sum_by-swap_remove}
-use Rattle.std.proofs.lemmas.Option.{same_Some}
-use Rattle.half_store.specs.Reach.{home, steps, up}
-use Rattle.half_store.specs.Slots.{slot_at, stored, SomeVacant, ComeBeforeVacancies}
+use Rattle.half_store.specs.Slots.{slot_at, stored}
 use Rattle.half_store.specs.Table.{hashes_at}
 use Rattle.half_store.specs.TableLayout.{InStep}
-use Rattle.half_store.proofs.Circle.{steps_are, steps-lt, steps_self, steps_same, steps-up, up-lt, up-up, up-zero, up_is}
 use Rattle.half_store.proofs.Counts.{tick}
-use Rattle.half_store.proofs.SlotsLemmas.{slot_cases, full_from, full-lt, home-lt, some≢none}
-use Rattle.half_store.proofs.StepLemmas.{length-hashes_at, hashes_at-get, hashes_at-same, hash_in, hash_at_place, same_place, same_number}
+use Rattle.half_store.proofs.SlotsLemmas.{full_from, full-lt, some≢none}
+use Rattle.half_store.proofs.StepLemmas.{length-hashes_at, hashes_at-get, hashes_at-same, hash_at_place, same_place, same_number}
 use Rattle.half_store.proofs.AddLemmas.{slot_set, slot_other, number_set, number_other, stored-set}
 
 -- the pair at place `from` is moved to the empty bucket at place `to`

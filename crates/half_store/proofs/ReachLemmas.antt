@@ -1,7 +1,7 @@
 -- How far a walk goes, said of loads alone.
-use Rattle.std.proofs.Common.{◌≡◌, ◌≢◌, ℕ, zero, suc, ◌+◌, ◌-◌, ◌<◌, ◌≤◌, Bool, true, false, cond, ltb, leb, nat_le, nat_lt, ◌||◌, ◌⊎◌, inl, inr, refl, sym, ap, ◌∙◌, subst, arith, List, length, count_by, eqb}
-use Rattle.std.proofs.lemmas.Bool.{cases_lt, cases_eq, le-leb, lt-leb, ne_eqb, false≢true}
-use Rattle.half_store.specs.Reach.{home, steps, up, load, loaded_within, is_loaded, loaded_run, reach, IsLoaded}
+use Rattle.std.proofs.Common.{◌≡◌, ℕ, zero, suc, ◌-◌, ◌<◌, ◌≤◌, Bool, true, false, leb, ◌||◌, inl, inr, refl, ap, subst, arith, List}
+use Rattle.std.proofs.lemmas.Bool.{cases_eq, le-leb, lt-leb, ne_eqb, false≢true}
+use Rattle.half_store.specs.Reach.{home, up, load, loaded_within, is_loaded, loaded_run, reach, IsLoaded}
 use Rattle.half_store.proofs.Circle.{up-zero, up_next, up-lt}
 
 module _ (hashes : List ℕ) (m : ℕ) where

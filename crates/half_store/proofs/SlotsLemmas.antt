@@ -1,14 +1,13 @@
 -- Full buckets are loaded, empty ones are not; so a walk ends where `reach` says.
-use Rattle.std.proofs.Common.{◌≡◌, ◌≢◌, ℕ, zero, suc, ◌+◌, ◌-◌, ◌%◌, ◌<◌, ◌≤◌, Bool, true, false, cond, ltb, nat_lt, ◌==◌, ◌&&◌, ◌⊎◌, inl, inr, refl, sym, ap, ◌∙◌, subst, arith, List, [], ◌∷◌, length, get_or, Option, Some, None, is_some, count_by}
-use Rattle.std.proofs.lemmas.Bool.{cases_lt, cases_eq, cases_Bool, lt-ltb, le-ltb, false≢true, true≢false}
+use Rattle.std.proofs.Common.{◌≡◌, ◌≢◌, ℕ, zero, suc, ◌+◌, ◌-◌, ◌<◌, ◌≤◌, Bool, true, false, ltb, nat_lt, ◌⊎◌, inl, inr, refl, sym, ap, ◌∙◌, subst, arith, List, length, Option, Some, None, is_some, count_by}
+use Rattle.std.proofs.lemmas.Bool.{cases_lt, cases_eq, lt-ltb, false≢true, true≢false}
 use Rattle.std.proofs.lemmas.Nat.{mod_below}
 use Rattle.std.proofs.lemmas.List.{get_or_past}
-use borrow.Author.Tests.{ltb-true, ltb-false}
-use Rattle.half_store.specs.Reach.{home, steps, up, load, is_loaded, loaded_run, reach, IsLoaded}
+use borrow.Author.Tests.{ltb-true}
+use Rattle.half_store.specs.Reach.{home, steps, up}
 use Rattle.half_store.specs.Slots.{slot_at, stored, FullBefore, IsVacancyFor, IsFoundAt, SomeVacant, ComeBeforeVacancies, steps_from_home}
 use Rattle.half_store.proofs.Circle.{steps-lt, steps_self, up-lt, up-zero, up-up, steps-up, up-steps, steps_same, down-lt, steps-down, down-steps, home_in_stretch, nearer_than_home, up_is}
-use Rattle.half_store.proofs.Counts.{count_to, count_to-same, count_to-le, count_to-lt, count_to_more, count_to-none, count_by-count_to, stretch_size, tick, tick_yes, tick_no}
-use Rattle.half_store.proofs.ReachLemmas.{is_loaded-yes, is_loaded-no, loaded_run-is, loaded_run-ge, reach-some}
+use Rattle.half_store.proofs.Counts.{count_to, count_to-le, count_to-lt, count_by-count_to, stretch_size}
 
 pub slot_cases : (o : Option ℕ) → (o ≡ None) ⊎ ((hash : ℕ) × (o ≡ Some hash))
 slot_cases None = inl refl

@@ -1,17 +1,16 @@
 -- Numbers and places that lead to one another, and the hashes that they stand for.
-use Rattle.std.proofs.Common.{◌≡◌, ◌≢◌, ℕ, zero, suc, ◌+◌, ◌-◌, ◌/◌, ◌<◌, ◌≤◌, Bool, true, false, cond, ltb, ◌⊎◌, inl, inr, refl, sym, ap, ◌∙◌, subst, arith, List, [], ◌∷◌, ◌++◌, length, get_or, map, slice_index, Option, Some, None, unwrap_or, count_by}
+use Rattle.std.proofs.Common.{◌≡◌, ◌≢◌, ℕ, zero, suc, ◌<◌, Bool, true, inl, inr, refl, sym, ap, ◌∙◌, arith, List, length, slice_index, Option, Some, None, unwrap_or}
 use Rattle.std.specs.List.{slice_get}
 use Rattle.std.proofs.lemmas.Bool.{cases_lt, cases_eq}
 use Rattle.std.proofs.lemmas.List.{length-map, get_or-map, ext_get_or}
 use Rattle.std.proofs.lemmas.List.Sums.{count_by-le-length}
-use Rattle.std.proofs.lemmas.Option.{same_Some, slice_get_within, slice_get-get_or, get_or_from_slice_get}
-use Rattle.half_store.specs.Reach.{home, steps, reach, HomesApart}
-use Rattle.half_store.specs.Rooms.{room_of, IsBucketCount}
-use Rattle.half_store.specs.Slots.{slot_at, stored, IsVacancyFor, IsFoundAt, SomeVacant, ComeBeforeVacancies, steps_from_home}
+use Rattle.std.proofs.lemmas.Option.{slice_get_within, slice_get-get_or, get_or_from_slice_get}
+use Rattle.half_store.specs.Reach.{home, steps, HomesApart}
+use Rattle.half_store.specs.Slots.{slot_at, stored, SomeVacant, ComeBeforeVacancies}
 use Rattle.half_store.specs.Table.{hashes_at}
 use Rattle.half_store.specs.TableLayout.{InStep, IsTable}
-use Rattle.half_store.proofs.Circle.{steps_are, steps_self, steps-lt}
-use Rattle.half_store.proofs.Counts.{count_to, count_to-le, count_to-all, count_by-count_to}
+use Rattle.half_store.proofs.Circle.{steps_are, steps_self}
+use Rattle.half_store.proofs.Counts.{count_to-le, count_to-all, count_by-count_to}
 use Rattle.half_store.proofs.RoomsLemmas.{four-le_count}
 use Rattle.half_store.proofs.SlotsLemmas.{slot_cases, full_from, full-lt, home-lt, first_none, passes_stored}
 

@@ -1,18 +1,16 @@
 -- What callers see of a table, and its columns.
-use Rattle.std.proofs.Common.{◌≡◌, ◌≢◌, ℕ, ◌+◌, ◌-◌, ◌/◌, ◌<◌, ◌≤◌, Bool, ◌⊎◌, inl, inr, refl, sym, ap, ◌∙◌, subst, arith, List, [], ◌∷◌, ◌++◌, length, get_or, slice_index, Option, Some, None, count_by, ◌==◌}
+use Rattle.std.proofs.Common.{◌≡◌, ℕ, ◌+◌, ◌<◌, ◌≤◌, inl, inr, refl, sym, ap, ◌∙◌, subst, arith, List, length, slice_index, Option, Some, count_by, ◌==◌}
 use Rattle.std.specs.List.{slice_get}
 use Rattle.std.proofs.lemmas.Bool.{cases_eq}
-use Rattle.std.proofs.lemmas.List.{get_or_read}
 use Rattle.std.proofs.lemmas.List.Sums.{count_by-le-length}
-use Rattle.half_store.specs.Reach.{home, steps, reach, HomesApart}
-use Rattle.half_store.specs.Rooms.{room_of, IsBucketCount}
-use Rattle.half_store.specs.Search.{after_missing, AddsFinding, count_of, looked_more}
-use Rattle.half_store.specs.Slots.{slot_at, stored, IsVacancyFor, IsFoundAt, SomeVacant, ComeBeforeVacancies, steps_from_home}
+use Rattle.half_store.specs.Reach.{home, steps, reach}
+use Rattle.half_store.specs.Search.{after_missing, AddsFinding, looked_more}
+use Rattle.half_store.specs.Slots.{slot_at, stored, IsVacancyFor, IsFoundAt, SomeVacant, steps_from_home}
 use Rattle.half_store.specs.Table.{HashIndex, hash_index, hashes_at, slots_of}
-use Rattle.half_store.specs.TableLayout.{InStep, IsTable}
+use Rattle.half_store.specs.TableLayout.{IsTable}
 use Rattle.half_store.specs.Work.{Work}
 use Rattle.half_store.proofs.Circle.{steps_self}
-use Rattle.half_store.proofs.SlotsLemmas.{full_from, full-lt, home-lt}
+use Rattle.half_store.proofs.SlotsLemmas.{full_from, full-lt}
 use Rattle.half_store.proofs.StepLemmas.{length-hashes_at, number-lt, place_of_number, number_at_place, at_home, table_vacant}
 use Rattle.half_store.proofs.WalkLemmas.{reach_at_vacancy, reach_past_found, reach_short}
 use Rattle.half_store.proofs.ReachLemmas.{reach-none}

@@ -1,16 +1,16 @@
 -- Where walks end, and what they read and compare, over the held hashes alone.
-use Rattle.std.proofs.Common.{◌≡◌, ◌≢◌, ℕ, zero, suc, ◌+◌, ◌-◌, ◌%◌, ◌<◌, ◌≤◌, Bool, true, false, cond, ltb, eqb, nat_lt, ◌==◌, ◌&&◌, ◌⊎◌, inl, inr, refl, sym, ap, ◌∙◌, subst, arith, List, [], ◌∷◌, length, get_or, Option, Some, None, count_by}
-use Rattle.std.proofs.lemmas.Bool.{cases_lt, cases_eq, cases_Bool, lt-ltb, le-ltb, eq-eqb, ne_eqb, and_parts, and_from, and_left, and_right, false≢true}
+use Rattle.std.proofs.Common.{◌≡◌, ◌≢◌, ℕ, ◌+◌, ◌-◌, ◌<◌, ◌≤◌, Bool, true, false, nat_lt, ◌==◌, ◌&&◌, inl, inr, refl, sym, ap, ◌∙◌, subst, arith, List, length, Option, Some, None, count_by}
+use Rattle.std.proofs.lemmas.Bool.{cases_lt, cases_eq, cases_Bool, lt-ltb, le-ltb, eq-eqb, ne_eqb, and_parts, and_from, and_left, and_right}
 use Rattle.std.proofs.lemmas.Option.{same_Some}
 use Rattle.std.proofs.lemmas.List.Sums.{count_by-le-length}
 use borrow.Author.Tests.{ltb-true, eqb-true}
-use Rattle.half_store.specs.Reach.{home, steps, up, load, is_loaded, loaded_run, reach, IsLoaded}
+use Rattle.half_store.specs.Reach.{home, steps, up, load, is_loaded, reach}
 use Rattle.half_store.specs.Slots.{slot_at, stored, FullBefore, IsVacancyFor, IsFoundAt, SomeVacant, ComeBeforeVacancies, steps_from_home}
-use Rattle.half_store.proofs.Circle.{steps-lt, steps_self, up-lt, up-zero, steps-up, up-steps, steps_same}
-use Rattle.half_store.proofs.Counts.{count_to, count_to-same, count_to-le, count_to-lt, count_to_more, count_to-none, count_by-count_to, ahead_size}
-use Rattle.half_store.proofs.ReachLemmas.{is_loaded-yes, is_loaded-no, loaded_run-is, loaded_run-ge, reach-some}
+use Rattle.half_store.proofs.Circle.{steps-lt, up-lt, steps-up, up-steps, steps_same}
+use Rattle.half_store.proofs.Counts.{count_to, count_to-same, count_to-le, count_to_more, count_to-none, count_by-count_to, ahead_size}
+use Rattle.half_store.proofs.ReachLemmas.{is_loaded-yes, is_loaded-no, loaded_run-is, reach-some}
 use Rattle.half_store.specs.Work.{Work, one_looked, one_compared}
-use Rattle.half_store.proofs.SlotsLemmas.{Walks, Walks-start, Walks-steps, Walks-vacancy, Walks-next, slot_cases, full_from, home-lt, full-lt, vacancy_for, full_loaded, vacant_unloaded, slots_load, stored_passes, passes_stored}
+use Rattle.half_store.proofs.SlotsLemmas.{Walks, Walks-start, Walks-steps, Walks-vacancy, Walks-next, slot_cases, full_from, home-lt, full-lt, vacancy_for, full_loaded, vacant_unloaded, stored_passes, passes_stored}
 
 -- the hashes are those that are stored, counted by each test
 abbrev pub SameCounts : List ℕ → List (Option ℕ) → Type 0

@@ -1,5 +1,5 @@
 -- What the fields of a map keep, from call to call.
-use Rattle.std.proofs.Common.{◌≡◌, ℕ, zero, suc, ◌+◌, ◌<◌, ◌≤◌, Bool, true, false, List, [], ◌∷◌, ◌++◌, length, map, min, Option, None, Some, sym, refl, ap, subst, ◌∙◌, arith, true≢false}
+use Rattle.std.proofs.Common.{◌≡◌, ℕ, zero, suc, ◌<◌, ◌≤◌, Bool, true, false, List, [], ◌∷◌, ◌++◌, length, map, min, Option, sym, refl, ap, subst, ◌∙◌, arith, true≢false}
 use Rattle.std.proofs.Math.ListN.{length-append}
 use Rattle.std.proofs.lemmas.List.{map-append}
 use Rattle.std.specs.Cmp.{IsEquivalence}
@@ -7,13 +7,13 @@ use Rattle.std.specs.List.{IsDistinct}
 use Rattle.std.specs.Map.{keys_of}
 use Rattle.std.proofs.lemmas.Map.Entries.{length-keys_of}
 use Rattle.std.proofs.lemmas.Map.Keys.{IsDistinct-push}
-use Rattle.half_store.specs.Pairs.{Pairs, set_value, swap_out}
+use Rattle.half_store.specs.Pairs.{set_value, swap_out}
 use Rattle.half_store.specs.Rooms.{room_of}
 use Rattle.halfbrown.specs.Layout.{IsKept, room_in}
 use Rattle.halfbrown.specs.Search.{IsAbsent, IsVacancy, stored_hash}
 use Rattle.halfbrown.specs.declared.map.search.Vacancy.{Vacancy}
 use Rattle.halfbrown.specs.declared.map.search.Vacancy.TheVariants.{InVector, InTable}
-use Rattle.halfbrown.specs.State.{State, state, IsState, IsTableRoom}
+use Rattle.halfbrown.specs.State.{state, IsState, IsTableRoom}
 use Rattle.halfbrown.proofs.SwapOut.{map-swap_out, length-swap_out, IsDistinct-swap_out}
 use Rattle.halfbrown.proofs.Places.{none_of_number, any_of_none}
 

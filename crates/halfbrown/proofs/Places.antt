@@ -1,5 +1,5 @@
 -- Where a key stands among pairs of distinct keys, and what that says of reading and changing them.
-use Rattle.std.proofs.Common.{◌≡◌, ℕ, zero, suc, ◌+◌, ◌<◌, Bool, true, false, cond, ◌||◌, List, [], ◌∷◌, ◌++◌, length, map, get_or, slice_get, Option, None, Some, is_some, sym, refl, ap, subst, ◌∙◌, arith, true≢false}
+use Rattle.std.proofs.Common.{◌≡◌, ℕ, zero, suc, ◌<◌, Bool, true, false, cond, ◌||◌, List, [], ◌∷◌, ◌++◌, length, map, get_or, slice_get, Option, None, Some, is_some, sym, refl, ap, subst, ◌∙◌, arith, true≢false}
 use Rattle.std.specs.Option.{option_map, option_map_or}
 use Rattle.std.specs.Cmp.{IsEquivalence}
 use Rattle.std.specs.List.{IsDistinct, list_any}
@@ -9,7 +9,7 @@ use Rattle.std.proofs.lemmas.Option.{slice_get-get_or}
 use Rattle.std.proofs.lemmas.Map.Entries.{length-keys_of}
 use Rattle.std.proofs.lemmas.Map.Keys.{apart_from_distinct}
 use Rattle.half_store.specs.Pairs.{number_of, set_value, swap_out}
-use Rattle.halfbrown.specs.Pairs.{value_of, pair_of, holds, put, take_out}
+use Rattle.halfbrown.specs.Pairs.{holds, put}
 use Rattle.halfbrown.specs.Search.{IsPlaceOf, IsAbsent}
 
 module _ {K : Type 0} (test : K → Bool) where

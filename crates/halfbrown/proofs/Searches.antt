@@ -1,5 +1,5 @@
 -- What a search costs.
-use Rattle.std.proofs.Common.{◌≡◌, ℕ, ◌+◌, ◌<◌, ◌≤◌, ◌==◌, Bool, true, false, List, [], ◌∷◌, length, map, count_by, fold, cond, refl, ap, sym, subst, ◌∙◌, arith, true≢false}
+use Rattle.std.proofs.Common.{◌≡◌, ℕ, ◌+◌, ◌<◌, ◌≤◌, ◌==◌, true, false, List, [], ◌∷◌, length, map, count_by, fold, cond, refl, ap, sym, subst, ◌∙◌, arith, true≢false}
 use Rattle.std.proofs.Math.ListN.{length-map}
 use Rattle.std.proofs.lemmas.Map.Entries.{length-keys_of}
 use Rattle.std.specs.Map.{keys_of}
@@ -7,7 +7,7 @@ use Rattle.half_store.specs.Reach.{reach, HomesApart}
 use Rattle.half_store.specs.Rooms.{buckets_of}
 use Rattle.half_store.specs.Search.{AddsFinding, after_missing}
 use Rattle.half_store.specs.Work.{Work, compared_more, one_asked}
-use Rattle.halfbrown.specs.Costs.{Compares, Looks, candidates, walk_length, search_asks, SearchCosts, NoHomeIsShared}
+use Rattle.halfbrown.specs.Costs.{Looks, candidates, walk_length, search_asks, SearchCosts}
 use Rattle.halfbrown.specs.State.{State}
 
 module _ {K : Type 0} (hash : K → ℕ) (h : ℕ) where
@@ -54,7 +54,7 @@ module _ {K V S : Type 0} (hash : S → K → ℕ) (m : State K V S) (k : K) (be
     }
 
   module _ (middle : Work) (hashes : List ℕ) (buckets h : ℕ) (form : m.is_vec ≡ false) (is_map : hashes ≡ map keys_hash (keys_of m.pairs)) (is_count : buckets ≡ buckets_of m.room) (is_hash : h ≡ keys_hash k)
-    (asking : middle ≡ one_asked before) (near : reach hashes buckets h ≤ length hashes + 1) where
+      (asking : middle ≡ one_asked before) (near : reach hashes buckets h ≤ length hashes + 1) where
     one_asking : search_asks m.is_vec ≡ 1
     one_asking = ap search_asks form
 

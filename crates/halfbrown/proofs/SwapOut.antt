@@ -6,7 +6,6 @@ use Rattle.std.proofs.lemmas.List.Sorted.{IsPermutation-swap_remove}
 use Rattle.std.proofs.lemmas.Map.Keys.{IsDistinct-IsPermutation, IsDistinct-tail}
 use Rattle.std.specs.Cmp.{IsEquivalence}
 use Rattle.std.specs.List.{IsDistinct, swap_remove}
-use Rattle.std.specs.Map.{keys_of}
 use Rattle.half_store.specs.Pairs.{swap_out}
 
 module _ {A B : Type 0} (f : A → B) where

@@ -81,23 +81,27 @@ module _ {K V S : Type 0} (limit : ℕ) where
   abbrev pub room_made : State K V S → ℕ
   room_made m = if nat_lt (length m.pairs) (room_switched m) then room_switched m else room_for (length m.pairs + 1)
 
-  module _ (eq : K → K → Bool) (hash : S → K → ℕ) where
+  module _ (hash : S → K → ℕ) where
     -- how many buckets an insertion of a new key k reads: those of its search, and after growth those of one placing
     abbrev pub addition_looks : State K V S → K → Bool → ℕ
     addition_looks m k granted =
         walk_length (hash m.builder) (stays_vec limit m) (room_switched m) m.pairs k
         + (if granted && not (nat_lt (length m.pairs) (room_switched m)) then walk_length (hash m.builder) (stays_vec limit m) (room_made m) m.pairs k else 0)
 
+    -- how many buckets an insertion of a new key k without a search reads: those of one placing, once there is room
+    abbrev pub placing_looks : State K V S → K → Bool → ℕ
+    placing_looks m k granted = if granted then walk_length (hash m.builder) (stays_vec limit m) (room_made m) m.pairs k else 0
+
     -- what an insertion of k costs: a refused switch costs nothing; else the switch asks for its hashes, and one search is made once
     -- the form has changed, and one placing after growth
-    pub record InsertCosts (m : State K V S) (k : K) (granted : Bool) (before after : Work) : Type 0 where
+    pub record InsertCosts (eq : K → K → Bool) (m : State K V S) (k : K) (granted : Bool) (before after : Work) : Type 0 where
       pub asked : after.asked ≡ before.asked + insert_asks m granted
       pub compared : MatchBool (is_switch_refused m granted) (after.compared ≡ before.compared)
           (Compares (holds eq m.pairs k) (candidates (hash m.builder) (stays_vec limit m) m.pairs k) before.compared after.compared)
       pub looked : MatchBool (is_switch_refused m granted) (after.looked ≡ before.looked)
           (MatchBool (holds eq m.pairs k)
-            (Looks (stays_vec limit m) true (walk_length (hash m.builder) (stays_vec limit m) (room_switched m) m.pairs k) before.looked after.looked)
-            (after.looked ≡ before.looked + addition_looks m k granted))
+          (Looks (stays_vec limit m) true (walk_length (hash m.builder) (stays_vec limit m) (room_switched m) m.pairs k) before.looked after.looked)
+          (after.looked ≡ before.looked + addition_looks m k granted))
       pub looked_once : m.is_vec ≡ false → holds eq m.pairs k ≡ true → NoHomeIsShared (hash m.builder) m.room m.pairs → after.looked ≡ before.looked + 1
 
     -- what an insertion of a new key k without a search costs: a refused switch costs nothing; else the switch asks for its hashes,
@@ -105,4 +109,4 @@ module _ {K V S : Type 0} (limit : ℕ) where
     pub record UncheckedCosts (m : State K V S) (k : K) (granted : Bool) (before after : Work) : Type 0 where
       pub asked : after.asked ≡ before.asked + insert_asks m granted
       pub compared : after.compared ≡ before.compared
-      pub looked : after.looked ≡ before.looked + (if granted then walk_length (hash m.builder) (stays_vec limit m) (room_made m) m.pairs k else 0)
+      pub looked : after.looked ≡ before.looked + placing_looks m k granted

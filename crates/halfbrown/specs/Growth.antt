@@ -1,5 +1,5 @@
 -- Where a call needs more room, how much it wants, and what room there is afterwards.
-use Rattle.std.specs.Prelude.{◌≡◌, ℕ, ◌+◌, ◌^◌, ◌<◌, ◌≤◌, ◌⊎◌, min, Bool, not, ◌&&◌, ◌==◌, nat_lt, List, length, Option, None, Some, IfNone, IfSome, MatchBool, MatchOption, if◌then◌else◌}
+use Rattle.std.specs.Prelude.{◌≡◌, ℕ, ◌+◌, ◌^◌, ◌<◌, ◌≤◌, ◌⊎◌, min, Bool, not, ◌&&◌, ◌==◌, nat_lt, length, Option, None, Some, IfNone, IfSome, MatchBool, MatchOption, if◌then◌else◌}
 use Rattle.half_store.specs.declared.refusal.Refusal.{Refusal}
 use Rattle.half_store.specs.Refusal.{refusal_of}
 use Rattle.half_store.specs.Rooms.{room_for}

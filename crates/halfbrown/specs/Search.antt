@@ -1,5 +1,5 @@
 -- What a search for a key in a map says.
-use Rattle.std.specs.Prelude.{◌≡◌, ℕ, ◌<◌, Bool, true, false, List, [], ◌∷◌, ◌++◌, length, slice_get, Option, None, Some, IfSome, is_none}
+use Rattle.std.specs.Prelude.{◌≡◌, ℕ, ◌<◌, Bool, true, false, List, [], ◌∷◌, ◌++◌, length, slice_get, Option, None, IfSome, is_none}
 use Rattle.std.specs.Map.{keys_of, values_of}
 use Rattle.half_store.specs.Pairs.{number_of, set_value, swap_out}
 use Rattle.half_store.specs.Slots.{IsVacancyFor}

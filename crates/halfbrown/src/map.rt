@@ -12,8 +12,8 @@ pub(crate) mod search;
 mod switch;
 
 use crate::{Limit, UpTo};
-use half_store::table::Table;
 use half_store::VecMap;
+use half_store::table::Table;
 use std::alloc::Global;
 use std::hash::{BuildHasher, BuildHasherDefault, FoldHasher, Hash};
 use std::marker::{Model, PhantomData};

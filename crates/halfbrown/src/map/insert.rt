@@ -71,7 +71,7 @@ impl<K: Eq + Hash, V, S: BuildHasher, L: Limit> LimitedHashMap<K, V, S, L> {
         ensures value_returned { IfErr result (λ r. r.value ≡ value) }
 
         // The builder is asked by the switch, and once by the search in a table. A refused switch searches nothing.
-        ensures cost { InsertCosts L.LIMIT K.eq (key_hash S.BuildHasher S.Hasher.Hasher K.hash_input) self.old key (is_ok result) tally.old tally.new }
+        ensures cost { InsertCosts L.LIMIT (key_hash S.BuildHasher S.Hasher.Hasher K.hash_input) K.eq self.old key (is_ok result) tally.old tally.new }
 
         ensures hasher { self.new.builder ≡ self.old.builder }
         ensures state { IsState K.eq L.LIMIT self.new }
@@ -123,7 +123,7 @@ impl<K: Eq + Hash, V, S: BuildHasher, L: Limit> LimitedHashMap<K, V, S, L> {
         ensures err { OnErr result (self.new ≡ self.old) }
         ensures key_returned { IfErr result (λ r. r.key ≡ key) }
         ensures value_returned { IfErr result (λ r. r.value ≡ value) }
-        ensures cost { UncheckedCosts L.LIMIT K.eq (key_hash S.BuildHasher S.Hasher.Hasher K.hash_input) self.old key (is_ok result) tally.old tally.new }
+        ensures cost { UncheckedCosts L.LIMIT (key_hash S.BuildHasher S.Hasher.Hasher K.hash_input) self.old key (is_ok result) tally.old tally.new }
         ensures hasher { self.new.builder ≡ self.old.builder }
         ensures state { IsState K.eq L.LIMIT self.new }
     {

@@ -1,5 +1,5 @@
 use Rattle.std.proofs.Common.{◌≡◌, ap, ◌∙◌, arith}
-use Rattle.half_store.specs.Rooms.{room_of, room_for}
+use Rattle.half_store.specs.Rooms.{room_of}
 use Rattle.half_store.proofs.RoomsLemmas.{buckets_for-is}
 use Rattle.half_store.proofs.rooms.room_for.Goals as goal
 

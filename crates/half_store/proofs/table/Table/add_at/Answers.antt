@@ -1,8 +1,8 @@
 use Rattle.std.proofs.Common.{◌≡◌, ◌<◌, ◌++◌, ◌∷◌, [], ◌∙◌, ℕ, List, Option, Some, length, set, sym, ap, subst, arith}
-use Rattle.std.specs.Vec.{vec_capacity, vec_len}
+use Rattle.std.specs.Vec.{vec_capacity}
 use Rattle.half_store.specs.Rooms.{room_of}
 use Rattle.half_store.specs.Slots.{IsVacancyFor}
-use Rattle.half_store.specs.Table.{HashIndex, hashes_at, slots_of}
+use Rattle.half_store.specs.Table.{hashes_at}
 use Rattle.half_store.specs.TableLayout.{IsTable}
 use Rattle.half_store.proofs.AddLemmas.{IsTable-add, hashes_at-add}
 use Rattle.half_store.proofs.TableLemmas.{seen}

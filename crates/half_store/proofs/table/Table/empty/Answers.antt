@@ -1,5 +1,5 @@
-use Rattle.std.proofs.Common.{◌≡◌, ◌≤◌, ◌∙◌, ℕ, List, [], Option, None, length, replicate, sym, ap, subst, rules, arith}
-use Rattle.std.specs.Vec.{vec_capacity, vec_len}
+use Rattle.std.proofs.Common.{◌≡◌, ◌≤◌, ◌∙◌, ℕ, Option, None, length, replicate, sym, subst, rules, arith}
+use Rattle.std.specs.Vec.{vec_capacity}
 use Rattle.half_store.specs.Rooms.{room_of}
 use Rattle.half_store.specs.TableLayout.{IsTable}
 use Rattle.half_store.proofs.AddLemmas.{IsTable-empty}

@@ -3,9 +3,7 @@ use Rattle.std.proofs.lemmas.List.{get_or_read}
 use Rattle.std.specs.List.{slice_get}
 use borrow.Author.Tests.{eqb-true, eqb-false}
 use Rattle.std.specs.Vec.{vec_len, vec_capacity}
-use Rattle.half_store.specs.Search.{after_missing, AddsFinding}
-use Rattle.half_store.specs.Slots.{slot_at, IsVacancyFor, IsFoundAt}
-use Rattle.half_store.specs.Table.{HashIndex, slots_of}
+use Rattle.half_store.specs.Slots.{slot_at}
 use Rattle.half_store.specs.TableLayout.{InStep}
 use Rattle.half_store.proofs.SlotsLemmas.{full_from, full-lt}
 use Rattle.half_store.proofs.TableLemmas.{columns_at, view_at, seen, missing_cost_seen, found_cost_seen, short_seen, number_seen, each_number, vacant_seen, empty_cost_seen}

@@ -1,12 +1,12 @@
-use Rattle.std.proofs.Common.{◌≡◌, ◌≢◌, ◌++◌, ◌+◌, ◌-◌, ◌<◌, ◌≤◌, ◌∙◌, ℕ, suc, inl, inr, List, Option, Some, None, length, get_or, set, take, drop, slice_index, refl, sym, ap, subst, arith}
+use Rattle.std.proofs.Common.{◌≡◌, ◌-◌, ◌<◌, ◌∙◌, ℕ, List, Option, Some, None, length, get_or, set, take, drop, slice_index, sym, ap, subst, arith}
 use Rattle.std.specs.List.{slice_get, swap_remove}
-use Rattle.std.specs.Vec.{vec_len, vec_capacity}
-use Rattle.std.proofs.lemmas.List.{get_or_read, get_or_default, length-set, take_at}
+use Rattle.std.specs.Vec.{vec_capacity}
+use Rattle.std.proofs.lemmas.List.{get_or_read, get_or_default, take_at}
 use Rattle.std.proofs.lemmas.Option.{slice_get-get_or}
 use Rattle.half_store.specs.Slots.{slot_at}
-use Rattle.half_store.specs.Table.{HashIndex, hashes_at}
+use Rattle.half_store.specs.Table.{hashes_at}
 use Rattle.half_store.specs.TableLayout.{InStep, HasGap}
-use Rattle.half_store.proofs.SlotsLemmas.{slot_cases, full_from_some, full-lt}
+use Rattle.half_store.proofs.SlotsLemmas.{full-lt}
 use Rattle.half_store.proofs.StepLemmas.{length-hashes_at, hash_at_place, table_vacant}
 use Rattle.half_store.proofs.GapLemmas.{InStep-remove, hashes_at-remove}
 use Rattle.half_store.proofs.ClosingLemmas.{HasGap-remove}

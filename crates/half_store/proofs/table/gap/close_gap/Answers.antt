@@ -1,6 +1,6 @@
-use Rattle.std.proofs.Common.{◌≡◌, ◌≢◌, ◌+◌, ◌<◌, ◌≤◌, ◌∙◌, ℕ, suc, inl, inr, List, Option, Some, None, length, set, slice_index, refl, sym, ap, subst, arith}
+use Rattle.std.proofs.Common.{◌≡◌, ◌+◌, ◌<◌, ◌≤◌, ◌∙◌, ℕ, suc, inl, inr, List, Option, Some, None, length, set, slice_index, refl, sym, ap, subst, arith}
 use Rattle.half_store.specs.Reach.{home, steps, up}
-use Rattle.half_store.specs.Slots.{slot_at, ComeBeforeVacancies}
+use Rattle.half_store.specs.Slots.{slot_at}
 use Rattle.half_store.specs.Table.{hashes_at}
 use Rattle.half_store.specs.TableLayout.{InStep}
 use Rattle.half_store.proofs.SlotsLemmas.{slot_cases}

@@ -1,8 +1,7 @@
-use Rattle.std.proofs.Common.{◌≡◌, ◌≢◌, ℕ, ◌+◌, ◌<◌, ◌≤◌, ◌==◌, false, true, length, slice_index, count_by, Some, None, refl, sym, ap, subst, ◌∙◌, arith, rules}
-use Rattle.half_store.specs.Slots.{slot_at, steps_from_home}
-use Rattle.half_store.specs.Work.{Work, one_looked, one_compared}
-use Rattle.half_store.proofs.SlotsLemmas.{Walks-steps, Walks-vacancy, Walks-found, Walks-ends}
-use Rattle.half_store.proofs.WalkLemmas.{Searches, Searches-start, Searches-skip, Searches-refused, Searches-found, Searches-missing, Searches-all}
+use Rattle.std.proofs.Common.{false, slice_index, Some, sym, ap, ◌∙◌, arith}
+use Rattle.half_store.specs.Work.{Work, one_compared}
+use Rattle.half_store.proofs.SlotsLemmas.{Walks-steps, Walks-vacancy, Walks-ends}
+use Rattle.half_store.proofs.WalkLemmas.{Searches-start, Searches-skip, Searches-refused, Searches-found, Searches-missing, Searches-all}
 use Rattle.half_store.proofs.table.walks.search.Goals as goal
 use Rattle.half_store.proofs.table.walks.search.Goals.{else-held-hash-via-then-held-hash+else-compare, else-held-hash-via-else-held-hash}
 

@@ -1,4 +1,4 @@
-use Rattle.std.proofs.Common.{◌≡◌, [], ◌∷◌, ◌++◌, min, ap, ◌∙◌, arith}
+use Rattle.std.proofs.Common.{[], ◌∷◌, ◌++◌, min, ap, ◌∙◌, arith}
 use Rattle.std.specs.List.{zip}
 use Rattle.half_store.proofs.Columns.{opened, pairs_are}
 use Rattle.half_store.proofs.Zip.{zip_push}

@@ -1,4 +1,4 @@
-use Rattle.std.proofs.Common.{[], sym, ap, subst, refl, ◌∙◌, arith}
+use Rattle.std.proofs.Common.{[], sym, subst, refl}
 use Rattle.std.specs.Option.{is_none}
 use Rattle.halfbrown.specs.Costs.{key_hash}
 use Rattle.halfbrown.specs.Layout.{IsKept, hashes_in, buckets_in, slots_in}
