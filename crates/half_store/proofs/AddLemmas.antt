@@ -1,18 +1,18 @@
 -- A pair that is added at the end of a walk.
-use Rattle.std.proofs.Common.{◌≡◌, ◌≢◌, ℕ, zero, suc, ◌+◌, ◌-◌, ◌<◌, ◌≤◌, Bool, true, false, cond, ◌⊎◌, inl, inr, refl, sym, ap, ◌∙◌, subst, arith, List, [], ◌∷◌, ◌++◌, length, get_or, set, map, replicate, slice_index, Option, Some, None, unwrap_or, count_by}
+use Rattle.std.proofs.Common.{◌≡◌, ◌≢◌, ℕ, ◌+◌, ◌<◌, ◌≤◌, Bool, inl, inr, refl, sym, ap, ◌∙◌, subst, arith, List, [], ◌∷◌, ◌++◌, length, set, replicate, slice_index, Option, Some, None, unwrap_or, count_by}
 use Rattle.std.proofs.lemmas.Bool.{cases_lt, cases_eq}
-use Rattle.std.proofs.lemmas.List.{length-set, length-map, length_push, length-replicate, map_push, get_or-set_same, get_or-set_other, get_or_append_left, get_or_push, get_or-replicate, get_or_past, nil_from_length}
+use Rattle.std.proofs.lemmas.List.{length-set, length_push, length-replicate, map_push, get_or-set_same, get_or-set_other, get_or_append_left, get_or_push, get_or-replicate, get_or_past}
 use Rattle.std.proofs.lemmas.List.Sums.{sum_by_push, sum_by-set}
 use Rattle.std.proofs.lemmas.Option.{same_Some}
 use Rattle.half_store.specs.Reach.{home, steps}
 use Rattle.half_store.specs.Rooms.{room_of, IsBucketCount}
-use Rattle.half_store.specs.Slots.{slot_at, stored, IsVacancyFor, SomeVacant, ComeBeforeVacancies, steps_from_home}
+use Rattle.half_store.specs.Slots.{slot_at, stored, IsVacancyFor, ComeBeforeVacancies}
 use Rattle.half_store.specs.Table.{hashes_at}
 use Rattle.half_store.specs.TableLayout.{InStep, IsTable}
 use Rattle.half_store.proofs.Circle.{steps_same}
-use Rattle.half_store.proofs.Counts.{tick, count_to, count_to-none, count_by-count_to}
-use Rattle.half_store.proofs.SlotsLemmas.{slot_cases, full_from, full-lt, home-lt, some≢none}
-use Rattle.half_store.proofs.StepLemmas.{length-hashes_at, hashes_at-same, hash_in}
+use Rattle.half_store.proofs.Counts.{tick, count_to-none, count_by-count_to}
+use Rattle.half_store.proofs.SlotsLemmas.{full_from, home-lt, some≢none}
+use Rattle.half_store.proofs.StepLemmas.{hashes_at-same, hash_in}
 
 -- a bucket that was written, and each other one
 pub slot_set : (slots : List (Option ℕ)) (p : ℕ) (o : Option ℕ) → p < length slots → slot_at (set slots p o) p ≡ o
@@ -62,21 +62,21 @@ module _ (slots : List (Option ℕ)) (numbers places : List ℕ) (s : InStep slo
   stands_add : (i : ℕ) → i < length places' → slot_at slots' (slice_index places' i) ≢ None
   stands_add i l z =
       elim (cases_lt i (length places)) [
-        inl old ↦ s.stands i old (sym (old_slot i old) ∙ z)
-      | inr ge ↦
-          let e : i ≡ length places = omega (arith, length_push places p) in
-          some≢none h (sym (slot_set slots p (Some h) in_p) ∙ ap (slot_at slots') (sym (ap (slice_index places') e ∙ new_place)) ∙ z)
+        | inl old ↦ s.stands i old (sym (old_slot i old) ∙ z)
+        | inr ge ↦
+            let e : i ≡ length places = omega (arith, length_push places p) in
+            some≢none h (sym (slot_set slots p (Some h) in_p) ∙ ap (slot_at slots') (sym (ap (slice_index places') e ∙ new_place)) ∙ z)
       ]
 
   number_back_add : (i : ℕ) → i < length places' → slice_index numbers' (slice_index places' i) ≡ i
   number_back_add i l =
       elim (cases_lt i (length places)) [
-        inl old ↦
-          ap (slice_index numbers') (old_place i old) ∙ number_other numbers p (slice_index places i) (length places) (not_p (slice_index places i) (s.stands i old)) ∙ s.number_back i old
-      | inr ge ↦
-          let e : i ≡ length places = omega (arith, length_push places p) in
-          let in_numbers : p < length numbers = omega (arith, s.columns) in
-          ap (λ k. slice_index numbers' (slice_index places' k)) e ∙ ap (slice_index numbers') new_place ∙ number_set numbers p (length places) in_numbers ∙ sym e
+        | inl old ↦
+            ap (slice_index numbers') (old_place i old) ∙ number_other numbers p (slice_index places i) (length places) (not_p (slice_index places i) (s.stands i old)) ∙ s.number_back i old
+        | inr ge ↦
+            let e : i ≡ length places = omega (arith, length_push places p) in
+            let in_numbers : p < length numbers = omega (arith, s.columns) in
+            ap (λ k. slice_index numbers' (slice_index places' k)) e ∙ ap (slice_index numbers') new_place ∙ number_set numbers p (length places) in_numbers ∙ sym e
       ]
 
   old_full : (q : ℕ) → q ≢ p → slot_at slots' q ≢ None → slot_at slots q ≢ None
@@ -85,22 +85,22 @@ module _ (slots : List (Option ℕ)) (numbers places : List ℕ) (s : InStep slo
   numbered_add : (q : ℕ) → slot_at slots' q ≢ None → slice_index numbers' q < length places'
   numbered_add q full =
       elim (cases_eq q p) [
-        inl e ↦
-          let n : slice_index numbers' q ≡ length places = ap (slice_index numbers') e ∙ number_set numbers p (length places) (omega (arith, s.columns)) in
-          omega (arith, length_push places p)
-      | inr ne ↦
-          let n = number_other numbers p q (length places) ne in
-          let l = s.numbered q (old_full q ne full) in
-          omega (arith, length_push places p)
+        | inl e ↦
+            let n : slice_index numbers' q ≡ length places = ap (slice_index numbers') e ∙ number_set numbers p (length places) (omega (arith, s.columns)) in
+            omega (arith, length_push places p)
+        | inr ne ↦
+            let n = number_other numbers p q (length places) ne in
+            let l = s.numbered q (old_full q ne full) in
+            omega (arith, length_push places p)
       ]
 
   place_back_add : (q : ℕ) → slot_at slots' q ≢ None → slice_index places' (slice_index numbers' q) ≡ q
   place_back_add q full =
       elim (cases_eq q p) [
-        inl e ↦ ap (slice_index places') (ap (slice_index numbers') e ∙ number_set numbers p (length places) (omega (arith, s.columns))) ∙ new_place ∙ sym e
-      | inr ne ↦
-          let old = old_full q ne full in
-          ap (slice_index places') (number_other numbers p q (length places) ne) ∙ old_place (slice_index numbers q) (s.numbered q old) ∙ s.place_back q old
+        | inl e ↦ ap (slice_index places') (ap (slice_index numbers') e ∙ number_set numbers p (length places) (omega (arith, s.columns))) ∙ new_place ∙ sym e
+        | inr ne ↦
+            let old = old_full q ne full in
+            ap (slice_index places') (number_other numbers p q (length places) ne) ∙ old_place (slice_index numbers q) (s.numbered q old) ∙ s.place_back q old
       ]
 
   counted_add : (test : ℕ → Bool) → count_by test (hashes_at slots' places') ≡ count_by (stored test) slots'
@@ -129,28 +129,28 @@ ordered-add slots p h w o =
     let same : length (set slots p (Some h)) ≡ m = length-set slots p (Some h) in
     record {
       before = λ q v g is in_v none.
-        let v_old : v ≢ p = λ e. some≢none h (sym (slot_set slots p (Some h) in_p) ∙ ap (slot_at (set slots p (Some h))) (sym e) ∙ none) in
-        let in_v' : v < m = omega arith in
-        let none' : slot_at slots v ≡ None = sym (slot_other slots p v (Some h) v_old) ∙ none in
-        subst (λ n. steps n (home n g) q < steps n (home n g) v) (sym same)
-        (elim (cases_eq q p) [
-          inr ne ↦ o.before q v g (sym (slot_other slots p q (Some h) ne) ∙ is) in_v' none'
-        | inl e ↦
-            let g_is_h : g ≡ h = same_Some g h (sym is ∙ ap (slot_at (set slots p (Some h))) e ∙ slot_set slots p (Some h) in_p) in
-            let in_h : home m g < m = home-lt m g (omega arith) in
-            let to_p : IsVacancyFor slots g p = subst (λ k. IsVacancyFor slots k p) (sym g_is_h) w in
-            elim (cases_lt (steps m (home m g) v) (steps m (home m g) p)) [
-              inl nearer ↦ absurd (to_p.passed v in_v' nearer none')
-            | inr ge ↦ elim (cases_eq (steps m (home m g) v) (steps m (home m g) p)) [
-                inl at ↦ absurd (v_old (steps_same m (home m g) in_h v p in_v' in_p at))
-              | inr off ↦ subst (λ x. steps m (home m g) x < steps m (home m g) v) (sym e) (omega arith)
-              ]
-            ]
-        ]);
+          let v_old : v ≢ p = λ e. some≢none h (sym (slot_set slots p (Some h) in_p) ∙ ap (slot_at (set slots p (Some h))) (sym e) ∙ none) in
+          let in_v' : v < m = omega arith in
+          let none' : slot_at slots v ≡ None = sym (slot_other slots p v (Some h) v_old) ∙ none in
+          subst (λ n. steps n (home n g) q < steps n (home n g) v) (sym same)
+          (elim (cases_eq q p) [
+            | inr ne ↦ o.before q v g (sym (slot_other slots p q (Some h) ne) ∙ is) in_v' none'
+            | inl e ↦
+                let g_is_h : g ≡ h = same_Some g h (sym is ∙ ap (slot_at (set slots p (Some h))) e ∙ slot_set slots p (Some h) in_p) in
+                let in_h : home m g < m = home-lt m g (omega arith) in
+                let to_p : IsVacancyFor slots g p = subst (λ k. IsVacancyFor slots k p) (sym g_is_h) w in
+                elim (cases_lt (steps m (home m g) v) (steps m (home m g) p)) [
+                  | inl nearer ↦ absurd (to_p.passed v in_v' nearer none')
+                  | inr ge ↦ elim (cases_eq (steps m (home m g) v) (steps m (home m g) p)) [
+                    | inl at ↦ absurd (v_old (steps_same m (home m g) in_h v p in_v' in_p at))
+                    | inr off ↦ subst (λ x. steps m (home m g) x < steps m (home m g) v) (sym e) (omega arith)
+                  ]
+                ]
+          ]);
     }
 
 pub IsTable-add : (slots : List (Option ℕ)) (numbers places : List ℕ) (capacity p h : ℕ) → IsTable slots numbers places capacity → IsVacancyFor slots h p → length places < room_of (length slots) →
-  IsTable (set slots p (Some h)) (set numbers p (length places)) (places ++ p ∷ []) capacity
+    IsTable (set slots p (Some h)) (set numbers p (length places)) (places ++ p ∷ []) capacity
 IsTable-add slots numbers places capacity p h t w few =
     let same = length-set slots p (Some h) in
     let buckets = t.buckets in

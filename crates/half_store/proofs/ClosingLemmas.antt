@@ -1,5 +1,5 @@
 -- Closing a gap: what holds while the walk goes on, and that the order is whole again at its end.
-use Rattle.std.proofs.Common.{◌≡◌, ◌≢◌, ℕ, zero, suc, ◌+◌, ◌-◌, ◌<◌, ◌≤◌, ◌⊎◌, inl, inr, refl, sym, ap, ◌∙◌, subst, arith, List, length, set, slice_index, Option, Some, None}
+use Rattle.std.proofs.Common.{◌≡◌, ◌≢◌, ℕ, suc, ◌<◌, ◌≤◌, ◌⊎◌, inl, inr, sym, ap, ◌∙◌, subst, arith, List, length, set, slice_index, Option, Some, None}
 use Rattle.std.proofs.lemmas.Bool.{cases_lt, cases_eq}
 use Rattle.std.proofs.lemmas.List.{length-set}
 use Rattle.std.proofs.lemmas.Option.{same_Some}
@@ -31,7 +31,7 @@ stays_before m hash at gap = steps m (home m hash) at < steps m (home m hash) ga
 
 -- a pair that stands outside the stretch from the gap to an empty place, and comes before that place, comes before the gap
 outside : (m start gap place h q : ℕ) → start < m → gap < m → place < m → h < m → q < m → steps m start gap < steps m start place → q ≢ gap →
-  (steps m start q < steps m start gap) ⊎ (steps m start place < steps m start q) → steps m h q < steps m h place → steps m h q < steps m h gap
+    (steps m start q < steps m start gap) ⊎ (steps m start place < steps m start q) → steps m h q < steps m h place → steps m h q < steps m h gap
 outside m start gap place h q in_start in_gap in_place in_h in_q order apart (inl low) before =
     omega (arith, steps_are m start gap in_start, steps_are m start place in_start, steps_are m start q in_start, steps_are m h q in_h, steps_are m h place in_h, steps_are m h gap in_h)
 outside m start gap place h q in_start in_gap in_place in_h in_q order apart (inr high) before =
@@ -47,9 +47,9 @@ gap_after_home m gap place h in_gap in_place in_h x = omega (arith, steps_are m 
 
 module _ (m : ℕ) (slots : List (Option ℕ)) where
   pub Gap-start : (start place : ℕ) → length slots ≡ m → start < m → place ≡ up m start 1 → slot_at slots start ≡ None →
-    ((vacant : ℕ) × (vacant < m) × (slot_at slots vacant ≡ None) × (vacant ≢ start)) →
-    ((at vacant hash : ℕ) → slot_at slots at ≡ Some hash → vacant < m → slot_at slots vacant ≡ None → vacant ≢ start → steps m (home m hash) at < steps m (home m hash) vacant) →
-    Gap m slots start start place 0
+      ((vacant : ℕ) × (vacant < m) × (slot_at slots vacant ≡ None) × (vacant ≢ start)) →
+      ((at vacant hash : ℕ) → slot_at slots at ≡ Some hash → vacant < m → slot_at slots vacant ≡ None → vacant ≢ start → steps m (home m hash) at < steps m (home m hash) vacant) →
+      Gap m slots start start place 0
   Gap-start start place size in_start e none (v, in_v, none_v, other) others = record {
     size = size;
     start_in = in_start;
@@ -81,39 +81,42 @@ module _ (m : ℕ) (slots : List (Option ℕ)) where
     -- an empty bucket ahead of a full one
     farther : slot_at slots place ≢ None → (vacant : ℕ) × (vacant < m) × (slot_at slots vacant ≡ None) × (suc (suc count) ≤ steps m start vacant)
     farther full =
-        let a = g.ahead in
-        (a.0, a.1, a.2,
+        let a = g.ahead in (
+          a.0,
+          a.1,
+          a.2,
           elim (cases_eq (steps m start a.0) (suc count)) [
-            inl e ↦ absurd (full (ap (slot_at slots) (steps_same m start g.start_in place a.0 place-lt a.1 (place_steps ∙ sym e)) ∙ a.2))
-          | inr ne ↦ let l = a.3 in omega arith
-          ])
+            | inl e ↦ absurd (full (ap (slot_at slots) (steps_same m start g.start_in place a.0 place-lt a.1 (place_steps ∙ sym e)) ∙ a.2))
+            | inr ne ↦ let l = a.3 in omega arith
+          ],
+        )
 
     -- the walk ends at an empty bucket: the order is whole
     pub Gap-end : slot_at slots place ≡ None → ComeBeforeVacancies slots
     Gap-end none = record {
       before = λ q v h is in_v none_v.
-        let in_q = within q (full_from _ h is) in
-        let in_v' : v < m = subst (λ n. v < n) g.size in_v in
-        subst (λ n. steps n (home n h) q < steps n (home n h) v) (sym g.size)
-        (elim (cases_eq v gap) [
-          inr ne ↦ g.others q v h is in_v' none_v ne
-        | inl e ↦ subst (λ x. steps m (home m h) q < steps m (home m h) x) (sym e)
-            (let apart : place ≢ gap = λ same. (let l = g.gap_near in let s = place_steps in let t = ap (steps m start) same in absurd (omega arith)) in
-              let before = g.others q place h is place-lt none apart in
-              let not_place : q ≢ place = λ same. full_from _ h is (ap (slot_at slots) same ∙ none) in
-              let not_gap : q ≢ gap = λ same. full_from _ h is (ap (slot_at slots) same ∙ g.gap_empty) in
-              let in_h = home-lt m h (let l = place-lt in omega arith) in
-              let order : steps m start gap < steps m start place = let l = g.gap_near in let s = place_steps in omega arith in
-              let off_gap : steps m start q ≢ steps m start gap = λ same. not_gap (steps_same m start g.start_in q gap in_q g.gap_in same) in
-              let off_place : steps m start q ≢ steps m start place = λ same. not_place (steps_same m start g.start_in q place in_q place-lt same) in
-              elim (cases_lt (steps m start gap) (steps m start q)) [
-                inr ge ↦ outside m start gap place (home m h) q g.start_in g.gap_in place-lt in_h in_q order not_gap (inl (omega arith)) before
-              | inl after ↦ elim (cases_lt count (steps m start q)) [
-                  inr near ↦ g.passed q h is after near
-                | inl far ↦ outside m start gap place (home m h) q g.start_in g.gap_in place-lt in_h in_q order not_gap (inr (let s = place_steps in omega arith)) before
-                ]
-              ])
-        ]);
+          let in_q = within q (full_from _ h is) in
+          let in_v' : v < m = subst (λ n. v < n) g.size in_v in
+          subst (λ n. steps n (home n h) q < steps n (home n h) v) (sym g.size)
+          (elim (cases_eq v gap) [
+            | inr ne ↦ g.others q v h is in_v' none_v ne
+            | inl e ↦ subst (λ x. steps m (home m h) q < steps m (home m h) x) (sym e)
+                (let apart : place ≢ gap = λ same. (let l = g.gap_near in let s = place_steps in let t = ap (steps m start) same in absurd (omega arith)) in
+                let before = g.others q place h is place-lt none apart in
+                let not_place : q ≢ place = λ same. full_from _ h is (ap (slot_at slots) same ∙ none) in
+                let not_gap : q ≢ gap = λ same. full_from _ h is (ap (slot_at slots) same ∙ g.gap_empty) in
+                let in_h = home-lt m h (let l = place-lt in omega arith) in
+                let order : steps m start gap < steps m start place = let l = g.gap_near in let s = place_steps in omega arith in
+                let off_gap : steps m start q ≢ steps m start gap = λ same. not_gap (steps_same m start g.start_in q gap in_q g.gap_in same) in
+                let off_place : steps m start q ≢ steps m start place = λ same. not_place (steps_same m start g.start_in q place in_q place-lt same) in
+                elim (cases_lt (steps m start gap) (steps m start q)) [
+                  | inr ge ↦ outside m start gap place (home m h) q g.start_in g.gap_in place-lt in_h in_q order not_gap (inl (omega arith)) before
+                  | inl after ↦ elim (cases_lt count (steps m start q)) [
+                    | inr near ↦ g.passed q h is after near
+                    | inl far ↦ outside m start gap place (home m h) q g.start_in g.gap_in place-lt in_h in_q order not_gap (inr (let s = place_steps in omega arith)) before
+                  ]
+                ])
+          ]);
     }
 
     -- the pair at the place stays
@@ -130,21 +133,21 @@ module _ (m : ℕ) (slots : List (Option ℕ)) where
           ahead = farther (full_from _ hash is);
           others = g.others;
           passed = λ q h at_q after close.
-            elim (cases_eq (steps m start q) (suc count)) [
-              inl same ↦
-                let in_q = within q (full_from _ h at_q) in
-                let here : q ≡ place = steps_same m start g.start_in q place in_q place-lt (same ∙ sym place_steps) in
-                let hash_is : hash ≡ h = same_Some hash h (sym is ∙ ap (slot_at slots) (sym here) ∙ at_q) in
-                let in_h = home-lt m hash (let l = place-lt in omega arith) in
-                let ok = home_after_gap m gap place (home m hash) g.gap_in place-lt in_h stays in
-                subst (λ k. stays_before m k q gap) hash_is (subst (λ x. stays_before m hash x gap) (sym here) ok)
-            | inr ne ↦ g.passed q h at_q after (omega arith)
-            ];
+              elim (cases_eq (steps m start q) (suc count)) [
+                | inl same ↦
+                    let in_q = within q (full_from _ h at_q) in
+                    let here : q ≡ place = steps_same m start g.start_in q place in_q place-lt (same ∙ sym place_steps) in
+                    let hash_is : hash ≡ h = same_Some hash h (sym is ∙ ap (slot_at slots) (sym here) ∙ at_q) in
+                    let in_h = home-lt m hash (let l = place-lt in omega arith) in
+                    let ok = home_after_gap m gap place (home m hash) g.gap_in place-lt in_h stays in
+                    subst (λ k. stays_before m k q gap) hash_is (subst (λ x. stays_before m hash x gap) (sym here) ok)
+                | inr ne ↦ g.passed q h at_q after (omega arith)
+              ];
         }
 
     -- the pair at the place is moved into the gap
     pub Gap-move : (numbers places : List ℕ) (s : InStep slots numbers places) (next hash : ℕ) → slot_at slots place ≡ Some hash → steps m gap place ≤ steps m (home m hash) place → next ≡ up m place 1 →
-      Gap m (set (set slots gap (Some hash)) place None) start place next (suc count)
+        Gap m (set (set slots gap (Some hash)) place None) start place next (suc count)
     Gap-move numbers places s next hash is moves e =
         let in_gap : gap < length slots = subst (λ n. gap < n) (sym g.size) g.gap_in in
         let slots' : List (Option ℕ) = set (set slots gap (Some hash)) place None in
@@ -155,8 +158,8 @@ module _ (m : ℕ) (slots : List (Option ℕ)) where
         let far = farther (full_from _ hash is) in
         let steps_here = place_steps in
         let left_alone : (v : ℕ) → v ≢ place → slot_at slots' v ≡ None → (v ≢ gap) × (slot_at slots v ≡ None) = λ v np none.
-          let ng : v ≢ gap = λ same. some≢none hash (sym to ∙ ap (slot_at slots') (sym same) ∙ none) in
-          (ng, sym (other v np ng) ∙ none) in
+        let ng : v ≢ gap = λ same. some≢none hash (sym to ∙ ap (slot_at slots') (sym same) ∙ none) in
+        (ng, sym (other v np ng) ∙ none) in
         record {
           size = move-length slots numbers places s place gap hash in_gap is g.gap_empty ∙ g.size;
           start_in = g.start_in;
@@ -164,29 +167,32 @@ module _ (m : ℕ) (slots : List (Option ℕ)) where
           on_the_way = next_place next e;
           gap_empty = from;
           gap_near = omega arith;
-          ahead = (far.0, far.1,
+          ahead = (
+            far.0,
+            far.1,
             other far.0 (λ same. (let t = ap (steps m start) same in let f = far.3 in absurd (omega arith))) (λ same. (let t = ap (steps m start) same in let f = far.3 in absurd (omega arith))) ∙ far.2,
-            far.3);
+            far.3,
+          );
           others = λ q v h at_q in_v none np.
-            let old = left_alone v np none in
-            elim (cases_eq q gap) [
-              inl same ↦
-                let hash_is : hash ≡ h = same_Some hash h (sym to ∙ ap (slot_at slots') (sym same) ∙ at_q) in
-                let in_h = home-lt m hash (let l = place-lt in omega arith) in
-                let before = g.others place v hash is in_v old.1 old.0 in
-                let back = gap_after_home m gap place (home m hash) g.gap_in place-lt in_h moves in
-                let ok : stays_before m hash gap v = omega arith in
-                subst (λ k. stays_before m k q v) hash_is (subst (λ x. stays_before m hash x v) (sym same) ok)
-            | inr ng ↦
-                let nq : q ≢ place = λ same. full_from _ h at_q (ap (slot_at slots') same ∙ from) in
-                g.others q v h (sym (other q nq ng) ∙ at_q) in_v old.1 old.0
-            ];
+              let old = left_alone v np none in
+              elim (cases_eq q gap) [
+                | inl same ↦
+                    let hash_is : hash ≡ h = same_Some hash h (sym to ∙ ap (slot_at slots') (sym same) ∙ at_q) in
+                    let in_h = home-lt m hash (let l = place-lt in omega arith) in
+                    let before = g.others place v hash is in_v old.1 old.0 in
+                    let back = gap_after_home m gap place (home m hash) g.gap_in place-lt in_h moves in
+                    let ok : stays_before m hash gap v = omega arith in
+                    subst (λ k. stays_before m k q v) hash_is (subst (λ x. stays_before m hash x v) (sym same) ok)
+                | inr ng ↦
+                    let nq : q ≢ place = λ same. full_from _ h at_q (ap (slot_at slots') same ∙ from) in
+                    g.others q v h (sym (other q nq ng) ∙ at_q) in_v old.1 old.0
+              ];
           passed = λ q h at_q after close. absurd (omega arith);
         }
 
 -- the bucket of a pair that is taken out is the only gap
 pub HasGap-remove : (slots : List (Option ℕ)) (numbers places : List ℕ) (s : InStep slots numbers places) → ComeBeforeVacancies slots → SomeVacant slots → (number last : ℕ) (in_number : number < length places) (is_last : suc last ≡ length places) →
-  HasGap (set slots (slice_index places number) None) (slice_index places number)
+    HasGap (set slots (slice_index places number) None) (slice_index places number)
 HasGap-remove slots numbers places s ordered (v, in_v, none_v) number last in_number is_last =
     let place : ℕ = slice_index places number in
     let full = s.stands number in_number in
@@ -200,6 +206,6 @@ HasGap-remove slots numbers places s ordered (v, in_v, none_v) number last in_nu
       vacant = emptied;
       another = (v, omega arith, other v apart ∙ none_v, apart);
       others = λ q w h is in_w none_w np.
-        let nq : q ≢ place = λ e. full_from _ h is (ap (slot_at (set slots place None)) e ∙ emptied) in
-        subst (λ n. steps n (home n h) q < steps n (home n h) w) (sym same) (ordered.before q w h (sym (other q nq) ∙ is) (omega arith) (sym (other w np) ∙ none_w));
+          let nq : q ≢ place = λ e. full_from _ h is (ap (slot_at (set slots place None)) e ∙ emptied) in
+          subst (λ n. steps n (home n h) q < steps n (home n h) w) (sym same) (ordered.before q w h (sym (other q nq) ∙ is) (omega arith) (sym (other w np) ∙ none_w));
     }

@@ -1,7 +1,6 @@
 -- Counting the places that pass a test.
-use Rattle.std.proofs.Common.{◌≡◌, ◌≢◌, ℕ, zero, suc, ◌+◌, ◌-◌, ◌<◌, ◌≤◌, Bool, true, false, cond, ltb, ◌⊎◌, inl, inr, refl, sym, ap, ◌∙◌, subst, arith, List, [], ◌∷◌, length, get_or, take, min, count_by}
-use Rattle.std.proofs.lemmas.Bool.{cases_lt, cases_eq, cases_Bool, lt-ltb, le-ltb, false≢true}
-use Rattle.std.proofs.lemmas.Bool.Decides.{nat_tests}
+use Rattle.std.proofs.Common.{◌≡◌, ◌≢◌, ℕ, zero, suc, ◌+◌, ◌-◌, ◌<◌, ◌≤◌, Bool, true, false, cond, ltb, ◌⊎◌, inl, inr, refl, sym, ap, ◌∙◌, arith, List, length, get_or, take, min, count_by}
+use Rattle.std.proofs.lemmas.Bool.{cases_lt, cases_eq, lt-ltb, le-ltb}
 use Rattle.std.proofs.lemmas.List.{take_all}
 use Rattle.std.proofs.lemmas.List.Sums.{sum_by_more}
 use Rattle.half_store.specs.Reach.{steps}
@@ -45,15 +44,15 @@ pub count_to-lt : (Q R : ℕ → Bool) (n x : ℕ) → x < n → Q x ≡ false �
 count_to-lt Q R zero x l q r h = absurd (omega arith)
 count_to-lt Q R (suc n) x l q r h =
     elim (cases_eq x n) [
-      inl e ↦
-        let rest = count_to-le Q R n (λ p l. h p (omega arith)) in
-        let no = tick_no (Q n) (ap Q (sym e) ∙ q) in
-        let yes = tick_yes (R n) (ap R (sym e) ∙ r) in
-        omega arith
-    | inr ne ↦
-        let rest = count_to-lt Q R n x (omega arith) q r (λ p l. h p (omega arith)) in
-        let here = one_le (Q n) (R n) (h n (omega arith)) in
-        omega arith
+      | inl e ↦
+          let rest = count_to-le Q R n (λ p l. h p (omega arith)) in
+          let no = tick_no (Q n) (ap Q (sym e) ∙ q) in
+          let yes = tick_yes (R n) (ap R (sym e) ∙ r) in
+          omega arith
+      | inr ne ↦
+          let rest = count_to-lt Q R n x (omega arith) q r (λ p l. h p (omega arith)) in
+          let here = one_le (Q n) (R n) (h n (omega arith)) in
+          omega arith
     ]
 
 -- exactly one place more passes
@@ -61,15 +60,15 @@ pub count_to_more : (Q R : ℕ → Bool) (n x : ℕ) → x < n → Q x ≡ false
 count_to_more Q R zero x l q r h = absurd (omega arith)
 count_to_more Q R (suc n) x l q r h =
     elim (cases_eq x n) [
-      inl e ↦
-        let rest = count_to-same Q R n (λ p l. h p (omega arith) (omega arith)) in
-        let no = tick_no (Q n) (ap Q (sym e) ∙ q) in
-        let yes = tick_yes (R n) (ap R (sym e) ∙ r) in
-        omega arith
-    | inr ne ↦
-        let rest = count_to_more Q R n x (omega arith) q r (λ p l ne. h p (omega arith) ne) in
-        let here = ap tick (h n (omega arith) (omega arith)) in
-        omega arith
+      | inl e ↦
+          let rest = count_to-same Q R n (λ p l. h p (omega arith) (omega arith)) in
+          let no = tick_no (Q n) (ap Q (sym e) ∙ q) in
+          let yes = tick_yes (R n) (ap R (sym e) ∙ r) in
+          omega arith
+      | inr ne ↦
+          let rest = count_to_more Q R n x (omega arith) q r (λ p l ne. h p (omega arith) ne) in
+          let here = ap tick (h n (omega arith) (omega arith)) in
+          omega arith
     ]
 
 pub count_to-none : (Q : ℕ → Bool) (n : ℕ) → ((p : ℕ) → p < n → Q p ≡ false) → count_to Q n ≡ 0

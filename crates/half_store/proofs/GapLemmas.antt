@@ -1,18 +1,15 @@
 -- A pair that is moved, a pair that is taken out, and the gap that is closed behind it.
-use Rattle.std.proofs.Common.{◌≡◌, ◌≢◌, ℕ, zero, suc, ◌+◌, ◌-◌, ◌<◌, ◌≤◌, Bool, true, false, cond, ◌⊎◌, inl, inr, refl, sym, ap, ◌∙◌, subst, arith, List, [], ◌∷◌, ◌++◌, length, get_or, set, take, map, slice_index, Option, Some, None, unwrap_or, count_by}
+use Rattle.std.proofs.Common.{◌≡◌, ◌≢◌, ℕ, suc, ◌-◌, ◌<◌, Bool, ◌⊎◌, inl, inr, sym, ap, ◌∙◌, arith, List, length, get_or, set, slice_index, Option, Some, None, unwrap_or, count_by}
 use Rattle.std.specs.List.{swap_remove}
-use Rattle.std.proofs.lemmas.Bool.{cases_lt, cases_eq}
-use Rattle.std.proofs.lemmas.List.{length-set, length-map, length-take, get_or-take, take-map, map-set, get_or-map, ext_get_or}
+use Rattle.std.proofs.lemmas.Bool.{cases_eq}
+use Rattle.std.proofs.lemmas.List.{length-set, length-take, get_or-take, ext_get_or}
 use Rattle.std.proofs.lemmas.List.Sums.{sum_by-swap_remove}
-use Rattle.std.proofs.lemmas.Option.{same_Some}
-use Rattle.half_store.specs.Reach.{home, steps, up}
-use Rattle.half_store.specs.Slots.{slot_at, stored, SomeVacant, ComeBeforeVacancies}
+use Rattle.half_store.specs.Slots.{slot_at, stored}
 use Rattle.half_store.specs.Table.{hashes_at}
 use Rattle.half_store.specs.TableLayout.{InStep}
-use Rattle.half_store.proofs.Circle.{steps_are, steps-lt, steps_self, steps_same, steps-up, up-lt, up-up, up-zero, up_is}
 use Rattle.half_store.proofs.Counts.{tick}
-use Rattle.half_store.proofs.SlotsLemmas.{slot_cases, full_from, full-lt, home-lt, some≢none}
-use Rattle.half_store.proofs.StepLemmas.{length-hashes_at, hashes_at-get, hashes_at-same, hash_in, hash_at_place, same_place, same_number}
+use Rattle.half_store.proofs.SlotsLemmas.{full_from, full-lt, some≢none}
+use Rattle.half_store.proofs.StepLemmas.{length-hashes_at, hashes_at-get, hashes_at-same, hash_at_place, same_place, same_number}
 use Rattle.half_store.proofs.AddLemmas.{slot_set, slot_other, number_set, number_other, stored-set}
 
 -- the pair at place `from` is moved to the empty bucket at place `to`
@@ -71,9 +68,9 @@ module _ (slots : List (Option ℕ)) (numbers places : List ℕ) (s : InStep slo
   same_slot : (i : ℕ) → i < length places → slot_at slots' (slice_index places' i) ≡ slot_at slots (slice_index places i)
   same_slot i l =
       elim (cases_eq i (slice_index numbers from)) [
-        inl e ↦
-          ap (slot_at slots') (ap (slice_index places') e ∙ moved_place) ∙ move-to ∙ sym is ∙ ap (slot_at slots) (sym (ap (slice_index places) e ∙ s.place_back from full_one))
-      | inr ne ↦ ap (slot_at slots') (kept_place i ne) ∙ kept_slot i l ne
+        | inl e ↦
+            ap (slot_at slots') (ap (slice_index places') e ∙ moved_place) ∙ move-to ∙ sym is ∙ ap (slot_at slots) (sym (ap (slice_index places) e ∙ s.place_back from full_one))
+        | inr ne ↦ ap (slot_at slots') (kept_place i ne) ∙ kept_slot i l ne
       ]
 
   short : (i : ℕ) → i < length places' → i < length places
@@ -85,20 +82,20 @@ module _ (slots : List (Option ℕ)) (numbers places : List ℕ) (s : InStep slo
   number_back_move : (i : ℕ) → i < length places' → slice_index numbers' (slice_index places' i) ≡ i
   number_back_move i l =
       elim (cases_eq i (slice_index numbers from)) [
-        inl e ↦ ap (slice_index numbers') (ap (slice_index places') e ∙ moved_place) ∙ number_set numbers to (slice_index numbers from) (omega (arith, s.columns)) ∙ sym e
-      | inr ne ↦
-          let old = short i l in
-          ap (slice_index numbers') (kept_place i ne) ∙ number_other numbers to (slice_index places i) (slice_index numbers from) (not_to (slice_index places i) (s.stands i old)) ∙ s.number_back i old
+        | inl e ↦ ap (slice_index numbers') (ap (slice_index places') e ∙ moved_place) ∙ number_set numbers to (slice_index numbers from) (omega (arith, s.columns)) ∙ sym e
+        | inr ne ↦
+            let old = short i l in
+            ap (slice_index numbers') (kept_place i ne) ∙ number_other numbers to (slice_index places i) (slice_index numbers from) (not_to (slice_index places i) (s.stands i old)) ∙ s.number_back i old
       ]
 
   -- a full bucket is the new one, or an old one that was left alone
   full_cases : (q : ℕ) → slot_at slots' q ≢ None → (q ≡ to) ⊎ ((q ≢ from) × (q ≢ to) × (slot_at slots q ≢ None))
   full_cases q full =
       elim (cases_eq q to) [
-        inl e ↦ inl e
-      | inr ne ↦ elim (cases_eq q from) [
-          inl e ↦ absurd (full (ap (slot_at slots') e ∙ move-from))
-        | inr nf ↦ inr (nf, ne, λ z. full (move-other q nf ne ∙ z))
+        | inl e ↦ inl e
+        | inr ne ↦ elim (cases_eq q from) [
+          | inl e ↦ absurd (full (ap (slot_at slots') e ∙ move-from))
+          | inr nf ↦ inr (nf, ne, λ z. full (move-other q nf ne ∙ z))
         ]
       ]
 
@@ -106,23 +103,23 @@ module _ (slots : List (Option ℕ)) (numbers places : List ℕ) (s : InStep slo
   numbered_move q full =
       let long = length-set places (slice_index numbers from) to in
       elim (full_cases q full) [
-        inl e ↦
-          let n : slice_index numbers' q ≡ slice_index numbers from = ap (slice_index numbers') e ∙ number_set numbers to (slice_index numbers from) (omega (arith, s.columns)) in
-          let l = in_moved in
-          omega arith
-      | inr (nf, nt, old) ↦
-          let n = number_other numbers to q (slice_index numbers from) nt in
-          let l = s.numbered q old in
-          omega arith
+        | inl e ↦
+            let n : slice_index numbers' q ≡ slice_index numbers from = ap (slice_index numbers') e ∙ number_set numbers to (slice_index numbers from) (omega (arith, s.columns)) in
+            let l = in_moved in
+            omega arith
+        | inr (nf, nt, old) ↦
+            let n = number_other numbers to q (slice_index numbers from) nt in
+            let l = s.numbered q old in
+            omega arith
       ]
 
   place_back_move : (q : ℕ) → slot_at slots' q ≢ None → slice_index places' (slice_index numbers' q) ≡ q
   place_back_move q full =
       elim (full_cases q full) [
-        inl e ↦ ap (slice_index places') (ap (slice_index numbers') e ∙ number_set numbers to (slice_index numbers from) (omega (arith, s.columns))) ∙ moved_place ∙ sym e
-      | inr (nf, nt, old) ↦
-          let other : slice_index numbers q ≢ slice_index numbers from = λ e. nf (same_place slots numbers places s q from old full_one e) in
-          ap (slice_index places') (number_other numbers to q (slice_index numbers from) nt) ∙ kept_place (slice_index numbers q) other ∙ s.place_back q old
+        | inl e ↦ ap (slice_index places') (ap (slice_index numbers') e ∙ number_set numbers to (slice_index numbers from) (omega (arith, s.columns))) ∙ moved_place ∙ sym e
+        | inr (nf, nt, old) ↦
+            let other : slice_index numbers q ≢ slice_index numbers from = λ e. nf (same_place slots numbers places s q from old full_one e) in
+            ap (slice_index places') (number_other numbers to q (slice_index numbers from) nt) ∙ kept_place (slice_index numbers q) other ∙ s.place_back q old
       ]
 
   counted_move : (test : ℕ → Bool) → count_by test (hashes_at slots' places') ≡ count_by (stored test) slots'
@@ -223,13 +220,13 @@ module _ (slots : List (Option ℕ)) (numbers places : List ℕ) (s : InStep slo
   left_slot k l =
       let long : suc last ≡ length (hashes_at slots places) = is_last ∙ sym (length-hashes_at slots places) in
       elim (cases_eq k number) [
-        inl e ↦
-          let n : number < last = omega arith in
-          ap (λ i. slot_at slots° (slice_index places° i)) e ∙ ap (slot_at slots°) (from_last n) ∙ remove-other last_place (last_apart n) ∙ hash_at_place slots numbers places s last in_last
-          ∙ ap Some (sym (swap_remove-at (hashes_at slots places) number last long n)) ∙ ap (λ i. Some (slice_index (swap_remove (hashes_at slots places) number 0) i)) (sym e)
-      | inr ne ↦
-          ap (slot_at slots°) (kept k l ne) ∙ remove-other (slice_index places k) (kept_apart k l ne) ∙ hash_at_place slots numbers places s k (omega arith)
-          ∙ ap Some (sym (swap_remove-other (hashes_at slots places) number k last long l ne))
+        | inl e ↦
+            let n : number < last = omega arith in
+            ap (λ i. slot_at slots° (slice_index places° i)) e ∙ ap (slot_at slots°) (from_last n) ∙ remove-other last_place (last_apart n) ∙ hash_at_place slots numbers places s last in_last
+            ∙ ap Some (sym (swap_remove-at (hashes_at slots places) number last long n)) ∙ ap (λ i. Some (slice_index (swap_remove (hashes_at slots places) number 0) i)) (sym e)
+        | inr ne ↦
+            ap (slot_at slots°) (kept k l ne) ∙ remove-other (slice_index places k) (kept_apart k l ne) ∙ hash_at_place slots numbers places s k (omega arith)
+            ∙ ap Some (sym (swap_remove-other (hashes_at slots places) number k last long l ne))
       ]
 
   pub hashes_at-remove : hashes_at slots° places° ≡ swap_remove (hashes_at slots places) number 0
@@ -238,8 +235,8 @@ module _ (slots : List (Option ℕ)) (numbers places : List ℕ) (s : InStep slo
       ext_get_or 0 (hashes_at slots° places°) (swap_remove (hashes_at slots places) number 0)
       (length-hashes_at slots° places° ∙ length-places° ∙ sym (length-swap_remove (hashes_at slots places) number last long))
       (λ k l.
-        let few : k < last = omega (arith, length-hashes_at slots° places°, length-places°) in
-        hashes_at-get slots° places° k (omega (arith, length-places°)) ∙ ap (λ o. unwrap_or o 0) (left_slot k few))
+      let few : k < last = omega (arith, length-hashes_at slots° places°, length-places°) in
+      hashes_at-get slots° places° k (omega (arith, length-places°)) ∙ ap (λ o. unwrap_or o 0) (left_slot k few))
 
   below_last : (k : ℕ) → k < length places° → k < last
   below_last k l = omega (arith, length-places°)
@@ -248,16 +245,16 @@ module _ (slots : List (Option ℕ)) (numbers places : List ℕ) (s : InStep slo
   number_back_remove k l =
       let few = below_last k l in
       elim (cases_eq k number) [
-        inl e ↦ ap (λ i. slice_index numbers° (slice_index places° i)) e ∙ ap (slice_index numbers°) (from_last (omega arith)) ∙ number_set numbers last_place number in_column ∙ sym e
-      | inr ne ↦ ap (slice_index numbers°) (kept k few ne) ∙ number_other numbers last_place (slice_index places k) number (kept_last k few) ∙ s.number_back k (omega arith)
+        | inl e ↦ ap (λ i. slice_index numbers° (slice_index places° i)) e ∙ ap (slice_index numbers°) (from_last (omega arith)) ∙ number_set numbers last_place number in_column ∙ sym e
+        | inr ne ↦ ap (slice_index numbers°) (kept k few ne) ∙ number_other numbers last_place (slice_index places k) number (kept_last k few) ∙ s.number_back k (omega arith)
       ]
 
   -- a bucket that is still full is an old one, and not the emptied one
   still_full : (q : ℕ) → slot_at slots° q ≢ None → (q ≢ place) × (slot_at slots q ≢ None)
   still_full q full =
       elim (cases_eq q place) [
-        inl e ↦ absurd (full (ap (slot_at slots°) e ∙ remove-slot))
-      | inr ne ↦ (ne, λ z. full (remove-other q ne ∙ z))
+        | inl e ↦ absurd (full (ap (slot_at slots°) e ∙ remove-slot))
+        | inr ne ↦ (ne, λ z. full (remove-other q ne ∙ z))
       ]
 
   numbered_remove : (q : ℕ) → slot_at slots° q ≢ None → slice_index numbers° q < length places°
@@ -265,29 +262,29 @@ module _ (slots : List (Option ℕ)) (numbers places : List ℕ) (s : InStep slo
       let f = still_full q full in
       let len = length-places° in
       elim (cases_eq q last_place) [
-        inl e ↦
-          let n : slice_index numbers° q ≡ number = ap (slice_index numbers°) e ∙ number_set numbers last_place number in_column in
-          let apart : number ≢ last = λ same. f.0 (e ∙ ap (slice_index places) (sym same)) in
-          omega arith
-      | inr ne ↦
-          let n = number_other numbers last_place q number ne in
-          let l = s.numbered q f.1 in
-          let apart : slice_index numbers q ≢ last = λ same. ne (sym (s.place_back q f.1) ∙ ap (slice_index places) same) in
-          omega arith
+        | inl e ↦
+            let n : slice_index numbers° q ≡ number = ap (slice_index numbers°) e ∙ number_set numbers last_place number in_column in
+            let apart : number ≢ last = λ same. f.0 (e ∙ ap (slice_index places) (sym same)) in
+            omega arith
+        | inr ne ↦
+            let n = number_other numbers last_place q number ne in
+            let l = s.numbered q f.1 in
+            let apart : slice_index numbers q ≢ last = λ same. ne (sym (s.place_back q f.1) ∙ ap (slice_index places) same) in
+            omega arith
       ]
 
   place_back_remove : (q : ℕ) → slot_at slots° q ≢ None → slice_index places° (slice_index numbers° q) ≡ q
   place_back_remove q full =
       let f = still_full q full in
       elim (cases_eq q last_place) [
-        inl e ↦
-          let apart : number ≢ last = λ same. f.0 (e ∙ ap (slice_index places) (sym same)) in
-          ap (slice_index places°) (ap (slice_index numbers°) e ∙ number_set numbers last_place number in_column) ∙ from_last (omega arith) ∙ sym e
-      | inr ne ↦
-          let l = s.numbered q f.1 in
-          let not_last : slice_index numbers q ≢ last = λ same. ne (sym (s.place_back q f.1) ∙ ap (slice_index places) same) in
-          let not_number : slice_index numbers q ≢ number = λ same. f.0 (sym (s.place_back q f.1) ∙ ap (slice_index places) same) in
-          ap (slice_index places°) (number_other numbers last_place q number ne) ∙ kept (slice_index numbers q) (omega arith) not_number ∙ s.place_back q f.1
+        | inl e ↦
+            let apart : number ≢ last = λ same. f.0 (e ∙ ap (slice_index places) (sym same)) in
+            ap (slice_index places°) (ap (slice_index numbers°) e ∙ number_set numbers last_place number in_column) ∙ from_last (omega arith) ∙ sym e
+        | inr ne ↦
+            let l = s.numbered q f.1 in
+            let not_last : slice_index numbers q ≢ last = λ same. ne (sym (s.place_back q f.1) ∙ ap (slice_index places) same) in
+            let not_number : slice_index numbers q ≢ number = λ same. f.0 (sym (s.place_back q f.1) ∙ ap (slice_index places) same) in
+            ap (slice_index places°) (number_other numbers last_place q number ne) ∙ kept (slice_index numbers q) (omega arith) not_number ∙ s.place_back q f.1
       ]
 
   counted_remove : (test : ℕ → Bool) → count_by test (hashes_at slots° places°) ≡ count_by (stored test) slots°

@@ -1,7 +1,7 @@
 -- How far a walk goes, said of loads alone.
-use Rattle.std.proofs.Common.{◌≡◌, ◌≢◌, ℕ, zero, suc, ◌+◌, ◌-◌, ◌<◌, ◌≤◌, Bool, true, false, cond, ltb, leb, nat_le, nat_lt, ◌||◌, ◌⊎◌, inl, inr, refl, sym, ap, ◌∙◌, subst, arith, List, length, count_by, eqb}
-use Rattle.std.proofs.lemmas.Bool.{cases_lt, cases_eq, le-leb, lt-leb, ne_eqb, false≢true}
-use Rattle.half_store.specs.Reach.{home, steps, up, load, loaded_within, is_loaded, loaded_run, reach, IsLoaded}
+use Rattle.std.proofs.Common.{◌≡◌, ℕ, zero, suc, ◌-◌, ◌<◌, ◌≤◌, Bool, true, false, leb, ◌||◌, inl, inr, refl, ap, subst, arith, List}
+use Rattle.std.proofs.lemmas.Bool.{cases_eq, le-leb, lt-leb, ne_eqb, false≢true}
+use Rattle.half_store.specs.Reach.{home, up, load, loaded_within, is_loaded, loaded_run, reach, IsLoaded}
 use Rattle.half_store.proofs.Circle.{up-zero, up_next, up-lt}
 
 module _ (hashes : List ℕ) (m : ℕ) where
@@ -22,8 +22,8 @@ module _ (hashes : List ℕ) (m : ℕ) where
   loaded_within-yes last size zero one small full = absurd (omega arith)
   loaded_within-yes last size (suc most) one small full =
       elim (cases_eq size (suc most)) [
-        inl e ↦ or_left (leb (suc most) (load hashes m last (suc most))) (loaded_within hashes m last most) (le-leb _ _ (subst (λ n. n ≤ load hashes m last n) e full))
-      | inr ne ↦ or_right (leb (suc most) (load hashes m last (suc most))) (loaded_within hashes m last most) (loaded_within-yes last size most one (omega arith) full)
+        | inl e ↦ or_left (leb (suc most) (load hashes m last (suc most))) (loaded_within hashes m last most) (le-leb _ _ (subst (λ n. n ≤ load hashes m last n) e full))
+        | inr ne ↦ or_right (leb (suc most) (load hashes m last (suc most))) (loaded_within hashes m last most) (loaded_within-yes last size most one (omega arith) full)
       ]
 
   pub loaded_within-no : (last most : ℕ) → ((size : ℕ) → 1 ≤ size → size ≤ most → load hashes m last size < size) → loaded_within hashes m last most ≡ false
@@ -49,8 +49,8 @@ module _ (hashes : List ℕ) (m : ℕ) where
   loaded_run-is (suc most) (suc d) b in_b in_most small run stop =
       let e : is_loaded hashes m b ≡ true = rw (← up-zero m b in_b) (run 0 (omega arith)) in
       let rest = loaded_run-is most d (up m b 1) (up-lt m b in_b 1 (omega arith)) (omega arith) (omega arith)
-        (λ k h. rw (up_next m b in_b k (omega arith)) (run (suc k) (omega arith)))
-        (λ h. rw (up_next m b in_b d (omega arith)) (stop (omega arith))) in
+      (λ k h. rw (up_next m b in_b k (omega arith)) (run (suc k) (omega arith)))
+      (λ h. rw (up_next m b in_b d (omega arith)) (stop (omega arith))) in
       rw e (ap suc rest)
 
   -- and where d of them are loaded
@@ -61,7 +61,7 @@ module _ (hashes : List ℕ) (m : ℕ) where
   loaded_run-ge (suc most) (suc d) b in_b in_most small run =
       let e : is_loaded hashes m b ≡ true = rw (← up-zero m b in_b) (run 0 (omega arith)) in
       let rest = loaded_run-ge most d (up m b 1) (up-lt m b in_b 1 (omega arith)) (omega arith) (omega arith)
-        (λ k h. rw (up_next m b in_b k (omega arith)) (run (suc k) (omega arith))) in
+      (λ k h. rw (up_next m b in_b k (omega arith)) (run (suc k) (omega arith))) in
       rw e (omega arith)
 
   pub reach-none : (hash : ℕ) → m ≡ 0 → reach hashes m hash ≡ 0

@@ -1,11 +1,11 @@
 -- Bucket counts and rooms: which count comes next, and which is the least that serves.
-use Rattle.std.proofs.Common.{◌≡◌, ℕ, zero, suc, ◌+◌, ◌-◌, ◌*◌, ◌/◌, ◌^◌, ◌<◌, ◌≤◌, max, ◌⊎◌, ◌==◌, eqb, ltb, nat_lt, Bool, true, false, cond, inl, inr, refl, sym, ap, ◌∙◌, subst, arith}
+use Rattle.std.proofs.Common.{◌≡◌, ℕ, zero, suc, ◌+◌, ◌-◌, ◌*◌, ◌^◌, ◌<◌, ◌≤◌, max, inl, inr, refl, sym, ap, ◌∙◌, arith}
 use Rattle.std.proofs.Math.Nat.{pow-le-pow_right}
-use Rattle.std.proofs.lemmas.Nat.{pow_pos, pow-add, pow_below}
-use Rattle.std.proofs.lemmas.Grind.{pow_more, common_steps}
-use Rattle.std.proofs.lemmas.Bool.{cases_lt, cases_eq}
+use Rattle.std.proofs.lemmas.Nat.{pow_pos, pow-add}
+use Rattle.std.proofs.lemmas.Grind.{pow_more}
+use Rattle.std.proofs.lemmas.Bool.{cases_lt}
 use Rattle.std.proofs.lemmas.Bool.Decides.{nat_tests}
-use Rattle.half_store.specs.Rooms.{room_of, buckets_of, IsBucketCount, more_buckets, buckets_for_more, buckets_for, room_for, IsLeastFor}
+use Rattle.half_store.specs.Rooms.{room_of, buckets_of, IsBucketCount, more_buckets, buckets_for_more, buckets_for, IsLeastFor}
 
 -- a bucket count that is not 0 is at least 4
 pub four-le_count : (m : ℕ) → IsBucketCount m → 0 < m → 4 ≤ m
@@ -130,6 +130,6 @@ pub count-le : (m : ℕ) → IsBucketCount m → m < 2 ^ 63 → m ≤ 2 ^ 62
 count-le m (inl e) h = omega arith
 count-le m (inr (k, two, e)) h =
     elim (cases_lt k 63) [
-      inl l ↦ let low : k ≤ 62 = omega arith in let p : 2 ^ k ≤ 2 ^ 62 = pow-le-pow_right {n = 2} (omega arith) low in omega arith
-    | inr ge ↦ let p : 2 ^ 63 ≤ 2 ^ k = pow-le-pow_right {n = 2} (omega arith) ge in absurd (omega arith)
+      | inl l ↦ let low : k ≤ 62 = omega arith in let p : 2 ^ k ≤ 2 ^ 62 = pow-le-pow_right {n = 2} (omega arith) low in omega arith
+      | inr ge ↦ let p : 2 ^ 63 ≤ 2 ^ k = pow-le-pow_right {n = 2} (omega arith) ge in absurd (omega arith)
     ]

@@ -1,14 +1,13 @@
 -- Full buckets are loaded, empty ones are not; so a walk ends where `reach` says.
-use Rattle.std.proofs.Common.{◌≡◌, ◌≢◌, ℕ, zero, suc, ◌+◌, ◌-◌, ◌%◌, ◌<◌, ◌≤◌, Bool, true, false, cond, ltb, nat_lt, ◌==◌, ◌&&◌, ◌⊎◌, inl, inr, refl, sym, ap, ◌∙◌, subst, arith, List, [], ◌∷◌, length, get_or, Option, Some, None, is_some, count_by}
-use Rattle.std.proofs.lemmas.Bool.{cases_lt, cases_eq, cases_Bool, lt-ltb, le-ltb, false≢true, true≢false}
+use Rattle.std.proofs.Common.{◌≡◌, ◌≢◌, ℕ, zero, suc, ◌+◌, ◌-◌, ◌<◌, ◌≤◌, Bool, true, false, ltb, nat_lt, ◌⊎◌, inl, inr, refl, sym, ap, ◌∙◌, subst, arith, List, length, Option, Some, None, is_some, count_by}
+use Rattle.std.proofs.lemmas.Bool.{cases_lt, cases_eq, lt-ltb, false≢true, true≢false}
 use Rattle.std.proofs.lemmas.Nat.{mod_below}
 use Rattle.std.proofs.lemmas.List.{get_or_past}
-use borrow.Author.Tests.{ltb-true, ltb-false}
-use Rattle.half_store.specs.Reach.{home, steps, up, load, is_loaded, loaded_run, reach, IsLoaded}
+use borrow.Author.Tests.{ltb-true}
+use Rattle.half_store.specs.Reach.{home, steps, up}
 use Rattle.half_store.specs.Slots.{slot_at, stored, FullBefore, IsVacancyFor, IsFoundAt, SomeVacant, ComeBeforeVacancies, steps_from_home}
 use Rattle.half_store.proofs.Circle.{steps-lt, steps_self, up-lt, up-zero, up-up, steps-up, up-steps, steps_same, down-lt, steps-down, down-steps, home_in_stretch, nearer_than_home, up_is}
-use Rattle.half_store.proofs.Counts.{count_to, count_to-same, count_to-le, count_to-lt, count_to_more, count_to-none, count_by-count_to, stretch_size, tick, tick_yes, tick_no}
-use Rattle.half_store.proofs.ReachLemmas.{is_loaded-yes, is_loaded-no, loaded_run-is, loaded_run-ge, reach-some}
+use Rattle.half_store.proofs.Counts.{count_to, count_to-le, count_to-lt, count_by-count_to, stretch_size}
 
 pub slot_cases : (o : Option ℕ) → (o ≡ None) ⊎ ((hash : ℕ) × (o ≡ Some hash))
 slot_cases None = inl refl
@@ -45,10 +44,10 @@ module _ (slots : List (Option ℕ)) where
   first_none f zero = inl (λ k l. absurd (omega arith))
   first_none f (suc n) =
       elim (first_none f n) [
-        inr (k, l, none, before) ↦ inr (k, omega arith, none, before)
-      | inl all ↦ elim (slot_cases (slot_at slots (f n))) [
-          inl none ↦ inr (n, omega arith, none, all)
-        | inr (h, is) ↦ inl (λ k l. elim (cases_eq k n) [ inl e ↦ subst (λ i. slot_at slots (f i) ≢ None) (sym e) (full_from _ h is) | inr ne ↦ all k (omega arith) ])
+        | inr (k, l, none, before) ↦ inr (k, omega arith, none, before)
+        | inl all ↦ elim (slot_cases (slot_at slots (f n))) [
+          | inl none ↦ inr (n, omega arith, none, all)
+          | inr (h, is) ↦ inl (λ k l. elim (cases_eq k n) [ inl e ↦ subst (λ i. slot_at slots (f i) ≢ None) (sym e) (full_from _ h is) | inr ne ↦ all k (omega arith) ])
         ]
       ]
 
@@ -56,10 +55,13 @@ module _ (slots : List (Option ℕ)) where
   pub walk_ends : (b : ℕ) → b < m → SomeVacant slots → (p : ℕ) × (p < m) × (slot_at slots p ≡ None) × FullBefore slots b p
   walk_ends b in_b (v, in_v, none_v) =
       elim (first_none (λ k. up m b k) m) [
-        inl all ↦ absurd (all (steps m b v) (steps-lt m b in_b v in_v) (ap (slot_at slots) (up-steps m b in_b v in_v) ∙ none_v))
-      | inr (k, l, none, before) ↦
-          (up m b k, up-lt m b in_b k (omega arith), none,
-            λ o in_o nearer. subst (λ q. slot_at slots q ≢ None) (up-steps m b in_b o in_o) (before (steps m b o) (subst (λ n. steps m b o < n) (steps-up m b in_b k l) nearer)))
+        | inl all ↦ absurd (all (steps m b v) (steps-lt m b in_b v in_v) (ap (slot_at slots) (up-steps m b in_b v in_v) ∙ none_v))
+        | inr (k, l, none, before) ↦ (
+          up m b k,
+          up-lt m b in_b k (omega arith),
+          none,
+          λ o in_o nearer. subst (λ q. slot_at slots q ≢ None) (up-steps m b in_b o in_o) (before (steps m b o) (subst (λ n. steps m b o < n) (steps-up m b in_b k l) nearer)),
+        )
       ]
 
   pub vacancy_for : (hash : ℕ) → SomeVacant slots → (p : ℕ) × IsVacancyFor slots hash p
@@ -90,36 +92,36 @@ module _ (slots : List (Option ℕ)) where
     pub full_loaded : (b : ℕ) → b < m → slot_at slots b ≢ None → SomeVacant slots → (size : ℕ) × (1 ≤ size) × (size < m) × (size ≤ slots_load b size)
     full_loaded b in_b full (v, in_v, none_v) =
         elim (first_none (λ k. up m b (m - k)) m) [
-          inl all ↦ absurd (all (steps m v b) (steps-lt m v in_v b in_b) (ap (slot_at slots) (down-steps m b in_b v in_v) ∙ none_v))
-        | inr (k, l, none, before) ↦
-            let e : ℕ = up m b (m - k) in
-            let in_e : e < m = down-lt m b in_b k (omega arith) in
-            let far : steps m e b ≡ k = steps-down m b in_b k l in
-            let some : 1 ≤ k = elim (cases_eq k 0) [ inl z ↦ absurd (full (ap (slot_at slots) (omega (arith, up_is m b (m - k))) ∙ none)) | inr ne ↦ omega arith ] in
-            let homes : (p : ℕ) → p < m → ltb (steps m p b) k ≡ true → in_stretch b k p ≡ true = λ p in_p near.
+          | inl all ↦ absurd (all (steps m v b) (steps-lt m v in_v b in_b) (ap (slot_at slots) (down-steps m b in_b v in_v) ∙ none_v))
+          | inr (k, l, none, before) ↦
+              let e : ℕ = up m b (m - k) in
+              let in_e : e < m = down-lt m b in_b k (omega arith) in
+              let far : steps m e b ≡ k = steps-down m b in_b k l in
+              let some : 1 ≤ k = elim (cases_eq k 0) [ inl z ↦ absurd (full (ap (slot_at slots) (omega (arith, up_is m b (m - k))) ∙ none)) | inr ne ↦ omega arith ] in
+              let homes : (p : ℕ) → p < m → ltb (steps m p b) k ≡ true → in_stretch b k p ≡ true = λ p in_p near.
               let n : steps m p b < k = ltb-true _ _ near in
               elim (slot_cases (slot_at slots p)) [
-                inl z ↦ absurd (before (steps m p b) n (ap (slot_at slots) (down-steps m b in_b p in_p) ∙ z))
-              | inr (h, is) ↦
-                  let in_h = home-lt m h (omega arith) in
-                  let x = ordered.before p e h is in_e none in
-                  let y = home_in_stretch m (home m h) p e b in_h in_p in_e in_b x (omega arith) in
-                  passes_stored (λ hash. nat_lt (steps m (home m hash) b) k) (slot_at slots p) h is (lt-ltb _ _ (omega arith))
+                | inl z ↦ absurd (before (steps m p b) n (ap (slot_at slots) (down-steps m b in_b p in_p) ∙ z))
+                | inr (h, is) ↦
+                    let in_h = home-lt m h (omega arith) in
+                    let x = ordered.before p e h is in_e none in
+                    let y = home_in_stretch m (home m h) p e b in_h in_p in_e in_b x (omega arith) in
+                    passes_stored (λ hash. nat_lt (steps m (home m hash) b) k) (slot_at slots p) h is (lt-ltb _ _ (omega arith))
               ] in
-            let count = count_to-le (λ p. ltb (steps m p b) k) (in_stretch b k) m homes in
-            (k, some, l, omega (arith, stretch_size m b k in_b (omega arith), slots_load-count_to b k))
+              let count = count_to-le (λ p. ltb (steps m p b) k) (in_stretch b k) m homes in
+              (k, some, l, omega (arith, stretch_size m b k in_b (omega arith), slots_load-count_to b k))
         ]
 
     -- no pair passes an empty bucket, so those at home in a stretch that ends there lie in the rest of it
     pub vacant_unloaded : (b : ℕ) → b < m → slot_at slots b ≡ None → (size : ℕ) → 1 ≤ size → size < m → slots_load b size < size
     vacant_unloaded b in_b none size one small =
         let inside : (p : ℕ) → p < m → in_stretch b size p ≡ true → ltb (steps m p b) size ≡ true = λ p in_p near.
-          let s = stored_passes _ (slot_at slots p) near in
-          let h : ℕ = s.0 in
-          let n : steps m (home m h) b < size = ltb-true _ _ s.2 in
-          let x = ordered.before p b h s.1 in_b none in
-          let y = nearer_than_home m (home m h) p b (home-lt m h (omega arith)) in_p in_b x in
-          lt-ltb _ _ (omega arith) in
+        let s = stored_passes _ (slot_at slots p) near in
+        let h : ℕ = s.0 in
+        let n : steps m (home m h) b < size = ltb-true _ _ s.2 in
+        let x = ordered.before p b h s.1 in_b none in
+        let y = nearer_than_home m (home m h) p b (home-lt m h (omega arith)) in_p in_b x in
+        lt-ltb _ _ (omega arith) in
         let out : in_stretch b size b ≡ false = ap (stored (λ hash. nat_lt (steps m (home m hash) b) size)) none in
         let own : ltb (steps m b b) size ≡ true = lt-ltb _ _ (omega (arith, steps_self m b in_b)) in
         let fewer = count_to-lt (in_stretch b size) (λ p. ltb (steps m p b) size) m b in_b out own inside in
@@ -160,10 +162,10 @@ module _ (slots : List (Option ℕ)) (hash : ℕ) where
       inside = in_next;
       on_the_way = e ∙ ap (λ p. up (length slots) p 1) w.on_the_way ∙ up-up (length slots) (home (length slots) hash) in_home count few;
       full = λ o in_o near. elim (cases_eq (steps_from_home slots hash o) count) [
-        inl at ↦
-          let same : o ≡ place = steps_same (length slots) (home (length slots) hash) in_home o place in_o w.inside (at ∙ sym Walks-steps) in
-          subst (λ p. slot_at slots p ≢ None) (sym same) full
-      | inr ne ↦ w.full o in_o (omega arith)
+        | inl at ↦
+            let same : o ≡ place = steps_same (length slots) (home (length slots) hash) in_home o place in_o w.inside (at ∙ sym Walks-steps) in
+            subst (λ p. slot_at slots p ≢ None) (sym same) full
+        | inr ne ↦ w.full o in_o (omega arith)
       ];
     }
 

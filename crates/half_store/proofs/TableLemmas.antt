@@ -1,18 +1,16 @@
 -- What callers see of a table, and its columns.
-use Rattle.std.proofs.Common.{◌≡◌, ◌≢◌, ℕ, ◌+◌, ◌-◌, ◌/◌, ◌<◌, ◌≤◌, Bool, ◌⊎◌, inl, inr, refl, sym, ap, ◌∙◌, subst, arith, List, [], ◌∷◌, ◌++◌, length, get_or, slice_index, Option, Some, None, count_by, ◌==◌}
+use Rattle.std.proofs.Common.{◌≡◌, ℕ, ◌+◌, ◌<◌, ◌≤◌, inl, inr, refl, sym, ap, ◌∙◌, subst, arith, List, length, slice_index, Option, Some, count_by, ◌==◌}
 use Rattle.std.specs.List.{slice_get}
 use Rattle.std.proofs.lemmas.Bool.{cases_eq}
-use Rattle.std.proofs.lemmas.List.{get_or_read}
 use Rattle.std.proofs.lemmas.List.Sums.{count_by-le-length}
-use Rattle.half_store.specs.Reach.{home, steps, reach, HomesApart}
-use Rattle.half_store.specs.Rooms.{room_of, IsBucketCount}
-use Rattle.half_store.specs.Search.{after_missing, AddsFinding, count_of, looked_more}
-use Rattle.half_store.specs.Slots.{slot_at, stored, IsVacancyFor, IsFoundAt, SomeVacant, ComeBeforeVacancies, steps_from_home}
+use Rattle.half_store.specs.Reach.{home, steps, reach}
+use Rattle.half_store.specs.Search.{after_missing, AddsFinding, looked_more}
+use Rattle.half_store.specs.Slots.{slot_at, stored, IsVacancyFor, IsFoundAt, SomeVacant, steps_from_home}
 use Rattle.half_store.specs.Table.{HashIndex, hash_index, hashes_at, slots_of}
-use Rattle.half_store.specs.TableLayout.{InStep, IsTable}
+use Rattle.half_store.specs.TableLayout.{IsTable}
 use Rattle.half_store.specs.Work.{Work}
 use Rattle.half_store.proofs.Circle.{steps_self}
-use Rattle.half_store.proofs.SlotsLemmas.{full_from, full-lt, home-lt}
+use Rattle.half_store.proofs.SlotsLemmas.{full_from, full-lt}
 use Rattle.half_store.proofs.StepLemmas.{length-hashes_at, number-lt, place_of_number, number_at_place, at_home, table_vacant}
 use Rattle.half_store.proofs.WalkLemmas.{reach_at_vacancy, reach_past_found, reach_short}
 use Rattle.half_store.proofs.ReachLemmas.{reach-none}
@@ -42,7 +40,7 @@ module _ (slots : List (Option ℕ)) (numbers places : List ℕ) (capacity : ℕ
 
   -- what a search that found none added
   pub missing_cost : (p : ℕ) (old new : Work) → IsVacancyFor slots hash p → new.asked ≡ old.asked → new.looked ≡ old.looked + (steps_from_home slots hash p + 1) →
-    new.compared ≡ old.compared + count_by (stored (λ held. held == hash)) slots → new ≡ after_missing hs (length slots) hash old
+      new.compared ≡ old.compared + count_by (stored (λ held. held == hash)) slots → new ≡ after_missing hs (length slots) hash old
   missing_cost p old new w asked looked compared =
       let r = reach_at_vacancy slots t.ordered hs t.in_step.counted hash p w in
       let c = t.in_step.counted (λ held. held == hash) in
@@ -50,7 +48,7 @@ module _ (slots : List (Option ℕ)) (numbers places : List ℕ) (capacity : ℕ
 
   -- what a search that found one added
   pub found_cost : (p : ℕ) (old new : Work) → IsFoundAt slots hash p → new.asked ≡ old.asked → new.looked ≡ old.looked + (steps_from_home slots hash p + 1) →
-    old.compared + 1 ≤ new.compared → new.compared ≤ old.compared + count_by (stored (λ held. held == hash)) slots → AddsFinding hs (length slots) hash old new
+      old.compared + 1 ≤ new.compared → new.compared ≤ old.compared + count_by (stored (λ held. held == hash)) slots → AddsFinding hs (length slots) hash old new
   found_cost p old new f asked looked some most =
       let full = full_from _ hash f.found in
       let in_p : p < length slots = full-lt slots p full in
@@ -64,9 +62,9 @@ module _ (slots : List (Option ℕ)) (numbers places : List ℕ) (capacity : ℕ
         looked_some = omega arith;
         looked_most = omega arith;
         looked_once = λ apart.
-          let here : home (length slots) hash ≡ p = at_home slots numbers places t.in_step t.ordered apart v p hash f.found in
-          let none : steps_from_home slots hash p ≡ 0 = ap (λ b. steps (length slots) b p) here ∙ steps_self (length slots) p in_p in
-          omega arith;
+            let here : home (length slots) hash ≡ p = at_home slots numbers places t.in_step t.ordered apart v p hash f.found in
+            let none : steps_from_home slots hash p ≡ 0 = ap (λ b. steps (length slots) b p) here ∙ steps_self (length slots) p in_p in
+            omega arith;
       }
 
   -- a placing
@@ -77,8 +75,8 @@ module _ (slots : List (Option ℕ)) (numbers places : List ℕ) (capacity : ℕ
   pub short : reach hs (length slots) hash ≤ length hs + 1
   short =
       elim (cases_eq (length slots) 0) [
-        inl e ↦ omega (arith, reach-none hs (length slots) hash e)
-      | inr ne ↦ reach_short slots t.ordered hs t.in_step.counted hash (table_vacant slots numbers places capacity t (omega arith))
+        | inl e ↦ omega (arith, reach-none hs (length slots) hash e)
+        | inr ne ↦ reach_short slots t.ordered hs t.in_step.counted hash (table_vacant slots numbers places capacity t (omega arith))
       ]
 
 -- the same columns by other names
@@ -92,11 +90,11 @@ view_at slots rows places t e v = ap (λ x. hash_index (hashes_at x places) x) e
 -- what callers see of the costs
 module _ (slots : List (Option ℕ)) (numbers places : List ℕ) (capacity : ℕ) (t : IsTable slots numbers places capacity) (x : HashIndex) (view_is : hash_index (hashes_at slots places) slots ≡ x) (hash : ℕ) where
   pub missing_cost_seen : (p : ℕ) (old new : Work) → IsVacancyFor slots hash p → new.asked ≡ old.asked → new.looked ≡ old.looked + (steps_from_home slots hash p + 1) →
-    new.compared ≡ old.compared + count_by (stored (λ held. held == hash)) slots → new ≡ after_missing x.hashes x.buckets hash old
+      new.compared ≡ old.compared + count_by (stored (λ held. held == hash)) slots → new ≡ after_missing x.hashes x.buckets hash old
   missing_cost_seen p old new w a b c = subst (λ (y : HashIndex). new ≡ after_missing y.hashes y.buckets hash old) view_is (missing_cost slots numbers places capacity t hash p old new w a b c)
 
   pub found_cost_seen : (p : ℕ) (old new : Work) → IsFoundAt slots hash p → new.asked ≡ old.asked → new.looked ≡ old.looked + (steps_from_home slots hash p + 1) →
-    old.compared + 1 ≤ new.compared → new.compared ≤ old.compared + count_by (stored (λ held. held == hash)) slots → AddsFinding x.hashes x.buckets hash old new
+      old.compared + 1 ≤ new.compared → new.compared ≤ old.compared + count_by (stored (λ held. held == hash)) slots → AddsFinding x.hashes x.buckets hash old new
   found_cost_seen p old new f a b c d = subst (λ (y : HashIndex). AddsFinding y.hashes y.buckets hash old new) view_is (found_cost slots numbers places capacity t hash p old new f a b c d)
 
   pub placing_cost_seen : (p : ℕ) (old new : Work) → IsVacancyFor slots hash p → new ≡ looked_more old (steps_from_home slots hash p + 1) → new ≡ looked_more old (reach x.hashes x.buckets hash)
@@ -122,10 +120,10 @@ module _ (slots : List (Option ℕ)) (numbers places : List ℕ) (capacity : ℕ
   empty_cost_seen w none =
       subst (λ (y : HashIndex). w ≡ after_missing y.hashes y.buckets hash w) view_is
       (let r = reach-none (hashes_at slots places) (length slots) hash none in
-        let few = count_by-le-length (λ held. held == hash) (hashes_at slots places) in
-        let within = t.within in
-        let long = length-hashes_at slots places in
-        same_work w (after_missing (hashes_at slots places) (length slots) hash w) refl (omega arith) (omega arith))
+      let few = count_by-le-length (λ held. held == hash) (hashes_at slots places) in
+      let within = t.within in
+      let long = length-hashes_at slots places in
+      same_work w (after_missing (hashes_at slots places) (length slots) hash w) refl (omega arith) (omega arith))
 
   pub no_buckets_seen : length slots ≡ 0 → x.buckets ≡ 0
   no_buckets_seen none = subst (λ (y : HashIndex). y.buckets ≡ 0) view_is none

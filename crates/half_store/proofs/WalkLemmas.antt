@@ -1,16 +1,16 @@
 -- Where walks end, and what they read and compare, over the held hashes alone.
-use Rattle.std.proofs.Common.{◌≡◌, ◌≢◌, ℕ, zero, suc, ◌+◌, ◌-◌, ◌%◌, ◌<◌, ◌≤◌, Bool, true, false, cond, ltb, eqb, nat_lt, ◌==◌, ◌&&◌, ◌⊎◌, inl, inr, refl, sym, ap, ◌∙◌, subst, arith, List, [], ◌∷◌, length, get_or, Option, Some, None, count_by}
-use Rattle.std.proofs.lemmas.Bool.{cases_lt, cases_eq, cases_Bool, lt-ltb, le-ltb, eq-eqb, ne_eqb, and_parts, and_from, and_left, and_right, false≢true}
+use Rattle.std.proofs.Common.{◌≡◌, ◌≢◌, ℕ, ◌+◌, ◌-◌, ◌<◌, ◌≤◌, Bool, true, false, nat_lt, ◌==◌, ◌&&◌, inl, inr, refl, sym, ap, ◌∙◌, subst, arith, List, length, Option, Some, None, count_by}
+use Rattle.std.proofs.lemmas.Bool.{cases_lt, cases_eq, cases_Bool, lt-ltb, le-ltb, eq-eqb, ne_eqb, and_parts, and_from, and_left, and_right}
 use Rattle.std.proofs.lemmas.Option.{same_Some}
 use Rattle.std.proofs.lemmas.List.Sums.{count_by-le-length}
 use borrow.Author.Tests.{ltb-true, eqb-true}
-use Rattle.half_store.specs.Reach.{home, steps, up, load, is_loaded, loaded_run, reach, IsLoaded}
+use Rattle.half_store.specs.Reach.{home, steps, up, load, is_loaded, reach}
 use Rattle.half_store.specs.Slots.{slot_at, stored, FullBefore, IsVacancyFor, IsFoundAt, SomeVacant, ComeBeforeVacancies, steps_from_home}
-use Rattle.half_store.proofs.Circle.{steps-lt, steps_self, up-lt, up-zero, steps-up, up-steps, steps_same}
-use Rattle.half_store.proofs.Counts.{count_to, count_to-same, count_to-le, count_to-lt, count_to_more, count_to-none, count_by-count_to, ahead_size}
-use Rattle.half_store.proofs.ReachLemmas.{is_loaded-yes, is_loaded-no, loaded_run-is, loaded_run-ge, reach-some}
+use Rattle.half_store.proofs.Circle.{steps-lt, up-lt, steps-up, up-steps, steps_same}
+use Rattle.half_store.proofs.Counts.{count_to, count_to-same, count_to-le, count_to_more, count_to-none, count_by-count_to, ahead_size}
+use Rattle.half_store.proofs.ReachLemmas.{is_loaded-yes, is_loaded-no, loaded_run-is, reach-some}
 use Rattle.half_store.specs.Work.{Work, one_looked, one_compared}
-use Rattle.half_store.proofs.SlotsLemmas.{Walks, Walks-start, Walks-steps, Walks-vacancy, Walks-next, slot_cases, full_from, home-lt, full-lt, vacancy_for, full_loaded, vacant_unloaded, slots_load, stored_passes, passes_stored}
+use Rattle.half_store.proofs.SlotsLemmas.{Walks, Walks-start, Walks-steps, Walks-vacancy, Walks-next, slot_cases, full_from, home-lt, full-lt, vacancy_for, full_loaded, vacant_unloaded, stored_passes, passes_stored}
 
 -- the hashes are those that are stored, counted by each test
 abbrev pub SameCounts : List ℕ → List (Option ℕ) → Type 0
@@ -40,13 +40,13 @@ module _ (slots : List (Option ℕ)) where
   pub passed-skip : (start hash d p : ℕ) → start < m → p < m → steps m start p ≡ d → stored (λ held. held == hash) (slot_at slots p) ≡ false → passed start hash (d + 1) ≡ passed start hash d
   passed-skip start hash d p in_start in_p at other =
       sym (count_to-same (passes start hash d) (passes start hash (d + 1)) m (λ q in_q.
-        elim (cases_eq (steps m start q) d) [
-          inl e ↦
+      elim (cases_eq (steps m start q) d) [
+        | inl e ↦
             let same : q ≡ p = steps_same m start in_start q p in_q in_p (e ∙ sym at) in
             let none : stored (λ held. held == hash) (slot_at slots q) ≡ false = ap (λ x. stored (λ held. held == hash) (slot_at slots x)) same ∙ other in
             and_right _ _ none ∙ sym (and_right _ _ none)
         | inr ne ↦ same_and _ _ _ (same_order _ _ ne)
-        ]))
+      ]))
 
   pub passed-one : (start hash d p : ℕ) → start < m → p < m → steps m start p ≡ d → slot_at slots p ≡ Some hash → passed start hash (d + 1) ≡ passed start hash d + 1
   passed-one start hash d p in_start in_p at is =
@@ -68,13 +68,13 @@ module _ (slots : List (Option ℕ)) (ordered : ComeBeforeVacancies slots) where
   pub passed-all : (hash p : ℕ) → IsVacancyFor slots hash p → passed slots (home (m slots) hash) hash (steps_from_home slots hash p) ≡ count_by (stored (λ held. held == hash)) slots
   passed-all hash p w =
       count_to-same (passes slots (home (m slots) hash) hash (steps_from_home slots hash p)) (λ q. stored (λ held. held == hash) (slot_at slots q)) (m slots) (λ q in_q.
-        elim (cases_Bool (stored (λ held. held == hash) (slot_at slots q))) [
-          inl yes_q ↦
+      elim (cases_Bool (stored (λ held. held == hash) (slot_at slots q))) [
+        | inl yes_q ↦
             let s = stored_passes slots (λ held. held == hash) (slot_at slots q) yes_q in
             let is : slot_at slots q ≡ Some hash = s.1 ∙ ap Some (eqb-true _ _ s.2) in
             and_from _ _ (lt-ltb _ _ (found-before hash q p is w)) yes_q ∙ sym yes_q
         | inr no_q ↦ and_right _ _ no_q ∙ sym no_q
-        ])
+      ])
       ∙ sym (count_by-count_to (stored (λ held. held == hash)) slots None)
 
   module _ (hashes : List ℕ) (counted : SameCounts hashes slots) where
@@ -127,10 +127,10 @@ module _ (slots : List (Option ℕ)) (ordered : ComeBeforeVacancies slots) where
         let l : back < (m slots) = steps-lt (m slots) b in_b p in_p in
         let all : ℕ → Bool = λ h. true in
         let full : (q : ℕ) → q < (m slots) → nat_lt (steps (m slots) b q) back ≡ true → stored all (slot_at slots q) ≡ true = λ q in_q near.
-          elim (slot_cases (slot_at slots q)) [
-            inl z ↦ absurd (w.1.passed q in_q (ltb-true _ _ near) z)
+        elim (slot_cases (slot_at slots q)) [
+          | inl z ↦ absurd (w.1.passed q in_q (ltb-true _ _ near) z)
           | inr (h, is) ↦ passes_stored slots all (slot_at slots q) h is refl
-          ] in
+        ] in
         let some = count_to-le (λ q. nat_lt (steps (m slots) b q) back) (λ q. stored all (slot_at slots q)) (m slots) full in
         let ahead = ahead_size (m slots) b back in_b (omega arith) in
         let held = count_by-le-length all hashes in
@@ -164,19 +164,19 @@ module _ (slots : List (Option ℕ)) (hash : ℕ) (Refused : ℕ → Type 0) whe
     at = Walks-steps slots hash place count s.walks few
 
     here_or_before : (P : ℕ → Type 0) → P place → ((other : ℕ) → steps_from_home slots hash other < count → P other) →
-      (other : ℕ) → other < length slots → steps_from_home slots hash other < count + 1 → P other
+        (other : ℕ) → other < length slots → steps_from_home slots hash other < count + 1 → P other
     here_or_before P here before o in_o near =
         elim (cases_eq (steps_from_home slots hash o) count) [
-          inl e ↦ subst P (sym (steps_same (length slots) (home (length slots) hash) start_in o place in_o s.walks.inside (e ∙ sym at))) here
-        | inr ne ↦ before o (omega arith)
+          | inl e ↦ subst P (sym (steps_same (length slots) (home (length slots) hash) start_in o place in_o s.walks.inside (e ∙ sym at))) here
+          | inr ne ↦ before o (omega arith)
         ]
 
     -- the bucket holds another hash
     pub Searches-skip : (next held : ℕ) (new : Work) → slot_at slots place ≡ Some held → held ≢ hash → new ≡ one_looked now → next < length slots → next ≡ up (length slots) place 1 →
-      Searches slots hash Refused next (count + 1) old new
+        Searches slots hash Refused next (count + 1) old new
     Searches-skip next held new is other e in_next up_one =
         let same = passed-skip slots (home (length slots) hash) hash count place start_in s.walks.inside at
-          (ap (stored (λ h. h == hash)) is ∙ ne_eqb held hash other) in
+        (ap (stored (λ h. h == hash)) is ∙ ne_eqb held hash other) in
         let asked = s.asked in
         let looked = s.looked in
         let compared = s.compared in
@@ -186,13 +186,13 @@ module _ (slots : List (Option ℕ)) (hash : ℕ) (Refused : ℕ → Type 0) whe
           looked = ap (λ (w : Work). w.looked) e ∙ omega arith;
           compared = ap (λ (w : Work). w.compared) e ∙ omega arith;
           refused = λ o stored_o near.
-            here_or_before (λ p. slot_at slots p ≡ Some hash → Refused p) (λ z. absurd (other (same_Some held hash (sym is ∙ z)))) (λ p n z. s.refused p z n)
-            o (full-lt slots o (full_from _ hash stored_o)) near stored_o;
+              here_or_before (λ p. slot_at slots p ≡ Some hash → Refused p) (λ z. absurd (other (same_Some held hash (sym is ∙ z)))) (λ p n z. s.refused p z n)
+              o (full-lt slots o (full_from _ hash stored_o)) near stored_o;
         }
 
     -- the bucket holds a pair of the hash, which was refused
     pub Searches-refused : (next : ℕ) (new : Work) → slot_at slots place ≡ Some hash → Refused place → new ≡ one_compared (one_looked now) → next < length slots → next ≡ up (length slots) place 1 →
-      Searches slots hash Refused next (count + 1) old new
+        Searches slots hash Refused next (count + 1) old new
     Searches-refused next new is no_match e in_next up_one =
         let more = passed-one slots (home (length slots) hash) hash count place start_in s.walks.inside at is in
         let asked = s.asked in
@@ -204,8 +204,8 @@ module _ (slots : List (Option ℕ)) (hash : ℕ) (Refused : ℕ → Type 0) whe
           looked = ap (λ (w : Work). w.looked) e ∙ omega arith;
           compared = ap (λ (w : Work). w.compared) e ∙ omega arith;
           refused = λ o stored_o near.
-            here_or_before (λ p. slot_at slots p ≡ Some hash → Refused p) (λ z. no_match) (λ p n z. s.refused p z n)
-            o (full-lt slots o (full_from _ hash stored_o)) near stored_o;
+              here_or_before (λ p. slot_at slots p ≡ Some hash → Refused p) (λ z. no_match) (λ p n z. s.refused p z n)
+              o (full-lt slots o (full_from _ hash stored_o)) near stored_o;
         }
 
     -- the bucket holds a pair of the hash: at most as many comparisons as there are such pairs

@@ -1,5 +1,5 @@
 -- Work that is added up.
-use Rattle.std.proofs.Common.{◌≡◌, ℕ, ◌+◌, refl, sym, ap, ◌∙◌, arith}
+use Rattle.std.proofs.Common.{◌≡◌, ℕ, ◌+◌, ap, ◌∙◌, arith}
 use Rattle.half_store.specs.Search.{looked_more}
 use Rattle.half_store.specs.Work.{Work, one_looked}
 

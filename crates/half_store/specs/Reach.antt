@@ -1,7 +1,7 @@
 -- Where a hash is at home among the buckets, and how far a walk from there goes.
 --
 -- All of it is said over the held hashes and the number of buckets alone: nothing here knows what a bucket holds.
-use Rattle.std.specs.Prelude.{◌≡◌, ◌≢◌, ℕ, zero, suc, ◌+◌, ◌-◌, ◌%◌, ◌<◌, ◌≤◌, Bool, true, false, ◌==◌, ◌||◌, nat_lt, nat_le, if◌then◌else◌, List, count_by, AllPairs}
+use Rattle.std.specs.Prelude.{◌≢◌, ℕ, zero, suc, ◌+◌, ◌-◌, ◌%◌, ◌<◌, ◌≤◌, Bool, false, ◌==◌, ◌||◌, nat_lt, nat_le, if◌then◌else◌, List, count_by, AllPairs}
 
 -- the bucket where a walk for this hash begins
 abbrev pub home : ℕ → ℕ → ℕ

@@ -1,5 +1,5 @@
 -- How many buckets a table has, and how many pairs it has room for.
-use Rattle.std.specs.Prelude.{◌≡◌, ℕ, zero, suc, ◌+◌, ◌-◌, ◌*◌, ◌/◌, ◌^◌, ◌<◌, ◌≤◌, ◌⊎◌, ◌==◌, nat_lt, if◌then◌else◌}
+use Rattle.std.specs.Prelude.{◌≡◌, ℕ, zero, suc, ◌+◌, ◌-◌, ◌*◌, ◌/◌, ◌^◌, ◌≤◌, ◌⊎◌, ◌==◌, nat_lt, if◌then◌else◌}
 
 -- three quarters of the buckets: 0, 3, 6, 12, 24, .. for 0, 4, 8, 16, 32, ..
 abbrev pub room_of : ℕ → ℕ

@@ -1,5 +1,5 @@
 -- What the buckets hold: a stored hash at each full place.
-use Rattle.std.specs.Prelude.{◌≡◌, ◌≢◌, ℕ, ◌+◌, ◌<◌, Bool, false, List, length, Option, Some, None, slice_index_or}
+use Rattle.std.specs.Prelude.{◌≡◌, ◌≢◌, ℕ, ◌<◌, Bool, false, List, length, Option, Some, None, slice_index_or}
 use Rattle.half_store.specs.Reach.{home, steps}
 
 -- the hash at a place, or none where the bucket is empty

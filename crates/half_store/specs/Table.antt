@@ -1,9 +1,8 @@
 -- The value of a table.
-use Rattle.std.specs.Prelude.{◌≡◌, ℕ, ◌≤◌, Bool, List, [], map, length, Option, unwrap_or, slice_index, count_by}
+use Rattle.std.specs.Prelude.{ℕ, List, [], map, length, Option, unwrap_or}
 use Rattle.std.specs.Coded.{Coded, coded×, coded_list, coded_option, coded_ℕ}
 use base.Stored.{coded_via}
-use Rattle.half_store.specs.Rooms.{room_of, IsBucketCount}
-use Rattle.half_store.specs.Slots.{slot_at, stored, ComeBeforeVacancies}
+use Rattle.half_store.specs.Slots.{slot_at}
 
 -- what callers see: the stored hashes in the order of the pairs' numbers, and how many buckets there are
 pub record HashIndex : Type 0 where

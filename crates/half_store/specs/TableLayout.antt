@@ -27,4 +27,4 @@ pub record HasGap (slots : List (Option ℕ)) (gap : ℕ) : Type 0 where
   pub vacant : slot_at slots gap ≡ None
   pub another : (place : ℕ) × (place < length slots) × (slot_at slots place ≡ None) × (place ≢ gap)
   pub others : (place vacant hash : ℕ) → slot_at slots place ≡ Some hash → vacant < length slots → slot_at slots vacant ≡ None → vacant ≢ gap →
-    steps_from_home slots hash place < steps_from_home slots hash vacant
+      steps_from_home slots hash place < steps_from_home slots hash vacant

@@ -78,7 +78,11 @@ mod tests {
             (32, 64),
             (47, 64),
         ] {
-            assert_eq!(rt; buckets_for(usize::from(limit) + 1), buckets, "one more than {limit}");
+            assert_eq!(rt;
+                buckets_for(usize::from(limit) + 1),
+                buckets,
+                "one more than {limit}"
+            );
         }
         assert_eq!(rt; room_for(33), 48);
     }

@@ -1,8 +1,8 @@
 use Rattle.std.proofs.Common.{◌≡◌, ◌<◌, ◌++◌, ◌∷◌, [], ◌∙◌, ℕ, List, Option, Some, length, set, sym, ap, subst, arith}
-use Rattle.std.specs.Vec.{vec_capacity, vec_len}
+use Rattle.std.specs.Vec.{vec_capacity}
 use Rattle.half_store.specs.Rooms.{room_of}
 use Rattle.half_store.specs.Slots.{IsVacancyFor}
-use Rattle.half_store.specs.Table.{HashIndex, hashes_at, slots_of}
+use Rattle.half_store.specs.Table.{hashes_at}
 use Rattle.half_store.specs.TableLayout.{IsTable}
 use Rattle.half_store.proofs.AddLemmas.{IsTable-add, hashes_at-add}
 use Rattle.half_store.proofs.TableLemmas.{seen}
@@ -19,8 +19,8 @@ invariant_of-self c =
     let number : length t.places.items ≡ c.len-number.result = sym (c.len-number.ensures ∙ t.places.ok.0) in
     subst (λ n. IsTable slots (set t.numbers.items c.args.place n) c.push_reserved.new.self.items (vec_capacity c.push_reserved.new.self)) number
     (subst (λ ps. IsTable slots (set t.numbers.items c.args.place (length t.places.items)) ps (vec_capacity c.push_reserved.new.self)) (sym out.items)
-      (subst (IsTable slots (set t.numbers.items c.args.place (length t.places.items)) (t.places.items ++ c.args.place ∷ [])) (sym out.capacity)
-        (IsTable-add t.hashes.items t.numbers.items t.places.items (vec_capacity t.places) c.args.place c.args.hash c.self.invariant w few)))
+    (subst (IsTable slots (set t.numbers.items c.args.place (length t.places.items)) (t.places.items ++ c.args.place ∷ [])) (sym out.capacity)
+    (IsTable-add t.hashes.items t.numbers.items t.places.items (vec_capacity t.places) c.args.place c.args.hash c.self.invariant w few)))
 
 pub returns-clause-hashes : goal.returns-clause-hashes
 returns-clause-hashes c =

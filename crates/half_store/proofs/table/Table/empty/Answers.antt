@@ -1,5 +1,5 @@
-use Rattle.std.proofs.Common.{◌≡◌, ◌≤◌, ◌∙◌, ℕ, List, [], Option, None, length, replicate, sym, ap, subst, rules, arith}
-use Rattle.std.specs.Vec.{vec_capacity, vec_len}
+use Rattle.std.proofs.Common.{◌≡◌, ◌≤◌, ◌∙◌, ℕ, Option, None, length, replicate, sym, subst, rules, arith}
+use Rattle.std.specs.Vec.{vec_capacity}
 use Rattle.half_store.specs.Rooms.{room_of}
 use Rattle.half_store.specs.TableLayout.{IsTable}
 use Rattle.half_store.proofs.AddLemmas.{IsTable-empty}
@@ -14,4 +14,4 @@ invariant_of-result c =
     let enough : room_of m ≤ vec_capacity c.in_ok-places.places = omega (arith, c.room_of.ensures, c.in_ok-places.ensures.capacity) in
     subst (λ x. IsTable x c.in_ok-numbers.numbers.items c.in_ok-places.places.items (vec_capacity c.in_ok-places.places)) (sym hashes)
     (subst (λ x. IsTable (replicate m none) c.in_ok-numbers.numbers.items x (vec_capacity c.in_ok-places.places)) (sym c.in_ok-places.ensures.items)
-      (IsTable-empty m c.in_ok-numbers.numbers.items (vec_capacity c.in_ok-places.places) c.requires long enough))
+    (IsTable-empty m c.in_ok-numbers.numbers.items (vec_capacity c.in_ok-places.places) c.requires long enough))

@@ -3,9 +3,7 @@ use Rattle.std.proofs.lemmas.List.{get_or_read}
 use Rattle.std.specs.List.{slice_get}
 use borrow.Author.Tests.{eqb-true, eqb-false}
 use Rattle.std.specs.Vec.{vec_len, vec_capacity}
-use Rattle.half_store.specs.Search.{after_missing, AddsFinding}
-use Rattle.half_store.specs.Slots.{slot_at, IsVacancyFor, IsFoundAt}
-use Rattle.half_store.specs.Table.{HashIndex, slots_of}
+use Rattle.half_store.specs.Slots.{slot_at}
 use Rattle.half_store.specs.TableLayout.{InStep}
 use Rattle.half_store.proofs.SlotsLemmas.{full_from, full-lt}
 use Rattle.half_store.proofs.TableLemmas.{columns_at, view_at, seen, missing_cost_seen, found_cost_seen, short_seen, number_seen, each_number, vacant_seen, empty_cost_seen}
@@ -31,8 +29,8 @@ search-requires-clause-vacant g c =
     (columns_at t.hashes.items c.as_slice-hashes.result.now t.numbers.items t.numbers.items t.places.items (vec_capacity t.places) rows refl c.self.invariant)
     c.args.self.now (view_at t.hashes.items c.as_slice-hashes.result.now t.places.items c.args.self.now rows c.self.view_is) c.args.hash
     (let some : vec_len t.hashes ≢ 0 = eqb-false _ _ (sym c.is_empty.ensures ∙ c.if-is_empty.false) in
-      let s = seen t.hashes.items t.places.items c.args.self.now c.self.view_is in
-      omega (arith, t.hashes.ok.0, s.buckets))
+    let s = seen t.hashes.items t.places.items c.args.self.now c.self.view_is in
+    omega (arith, t.hashes.ok.0, s.buckets))
 
 pub search-requires-clause-callable : goal.search-requires-clause-callable
 search-requires-clause-callable g c = λ p is.
@@ -41,8 +39,8 @@ search-requires-clause-callable g c = λ p is.
     let nums = c.as_slice.ensures.value in
     c.requires (slice_index c.as_slice.result.now p)
     (number_seen c.as_slice-hashes.result.now c.as_slice.result.now t.places.items (vec_capacity t.places)
-      (columns_at t.hashes.items c.as_slice-hashes.result.now t.numbers.items c.as_slice.result.now t.places.items (vec_capacity t.places) rows nums c.self.invariant)
-      c.args.self.now (view_at t.hashes.items c.as_slice-hashes.result.now t.places.items c.args.self.now rows c.self.view_is) c.args.hash p is)
+    (columns_at t.hashes.items c.as_slice-hashes.result.now t.numbers.items c.as_slice.result.now t.places.items (vec_capacity t.places) rows nums c.self.invariant)
+    c.args.self.now (view_at t.hashes.items c.as_slice-hashes.result.now t.places.items c.args.self.now rows c.self.view_is) c.args.hash p is)
 
 -- the number that was read
 read_number : (slots : List (Option ℕ)) (rows : List (Option ℕ)) (numbers places : List ℕ) (hash place number : ℕ) → rows ≡ slots → InStep slots numbers places → slot_at rows place ≡ Some hash → number ≡ get_or numbers place number → number ≡ slice_index numbers place
@@ -60,8 +58,8 @@ returns-in-Ok-clause-found g c =
     let number = read_number t.hashes.items c.as_slice-hashes.result.now t.numbers.items t.places.items c.args.hash c.in-Ok.place c.index.result.now rows c.self.invariant.in_step is c.index.ensures in
     ap (slice_get c.args.self.now.hashes) number
     ∙ number_seen c.as_slice-hashes.result.now t.numbers.items t.places.items (vec_capacity t.places)
-      (columns_at t.hashes.items c.as_slice-hashes.result.now t.numbers.items t.numbers.items t.places.items (vec_capacity t.places) rows refl c.self.invariant)
-      c.args.self.now (view_at t.hashes.items c.as_slice-hashes.result.now t.places.items c.args.self.now rows c.self.view_is) c.args.hash c.in-Ok.place is
+    (columns_at t.hashes.items c.as_slice-hashes.result.now t.numbers.items t.numbers.items t.places.items (vec_capacity t.places) rows refl c.self.invariant)
+    c.args.self.now (view_at t.hashes.items c.as_slice-hashes.result.now t.places.items c.args.self.now rows c.self.view_is) c.args.hash c.in-Ok.place is
 
 pub returns-in-Ok-clause-accepted : goal.returns-in-Ok-clause-accepted
 returns-in-Ok-clause-accepted g c =

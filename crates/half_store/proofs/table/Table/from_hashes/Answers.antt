@@ -1,5 +1,5 @@
-use Rattle.std.proofs.Common.{◌≡◌, ◌<◌, length, ap, subst, sym, arith}
-use Rattle.half_store.specs.Rooms.{room_of, buckets_for}
+use Rattle.std.proofs.Common.{◌<◌, length, ap, subst, sym, arith}
+use Rattle.half_store.specs.Rooms.{room_of}
 use Rattle.std.proofs.lemmas.List.{length-take}
 use Rattle.half_store.proofs.RoomsLemmas.{buckets_for-least}
 use Rattle.half_store.proofs.table.Table.from_hashes.Goals as goal

@@ -25,7 +25,7 @@ index-requires-2 c =
 
 -- the bucket that was read is the one of this number
 at_place : (slots : List (Option ℕ)) (numbers places : List ℕ) → InStep slots numbers places → (number place : ℕ) (o : Option ℕ) → number < length places → place ≡ get_or places number place → o ≡ get_or slots place o →
-  o ≡ Some (slice_index (hashes_at slots places) number)
+    o ≡ Some (slice_index (hashes_at slots places) number)
 at_place slots numbers places s number place o few at is =
     let p : place ≡ slice_index places number = get_or_read places number place few at 0 in
     let within : place < length slots = subst (λ q. q < length slots) (sym p) (full-lt slots (slice_index places number) (s.stands number few)) in

@@ -1,4 +1,4 @@
-use Rattle.std.proofs.Common.{◌≡◌, ◌∙◌, ◌++◌, ◌∷◌, [], take, sym, ap}
+use Rattle.std.proofs.Common.{◌∙◌, ◌++◌, ◌∷◌, [], take, sym, ap}
 use Rattle.std.proofs.lemmas.List.{take_more}
 use Rattle.std.proofs.lemmas.Option.{slice_get_within, get_or_from_slice_get}
 use Rattle.half_store.proofs.table.Table.rebuild.Goals as goal
@@ -11,8 +11,8 @@ loop-number-preserved c =
     let at = c.hash_of.ensures in
     record {
       hashes =
-        c.add.ensures.hashes ∙ ap (λ xs. xs ++ h ∷ []) c.loop-number.invariant.hashes
-        ∙ ap (λ x. take n hs ++ x ∷ []) (sym (get_or_from_slice_get hs n h 0 at))
-        ∙ sym (take_more hs n 0 (slice_get_within hs n h at));
+          c.add.ensures.hashes ∙ ap (λ xs. xs ++ h ∷ []) c.loop-number.invariant.hashes
+          ∙ ap (λ x. take n hs ++ x ∷ []) (sym (get_or_from_slice_get hs n h 0 at))
+          ∙ sym (take_more hs n 0 (slice_get_within hs n h at));
       buckets = c.add.ensures.buckets ∙ c.loop-number.invariant.buckets;
     }

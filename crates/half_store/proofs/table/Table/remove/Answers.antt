@@ -1,12 +1,12 @@
-use Rattle.std.proofs.Common.{◌≡◌, ◌≢◌, ◌++◌, ◌+◌, ◌-◌, ◌<◌, ◌≤◌, ◌∙◌, ℕ, suc, inl, inr, List, Option, Some, None, length, get_or, set, take, drop, slice_index, refl, sym, ap, subst, arith}
+use Rattle.std.proofs.Common.{◌≡◌, ◌-◌, ◌<◌, ◌∙◌, ℕ, List, Option, Some, None, length, get_or, set, take, drop, slice_index, sym, ap, subst, arith}
 use Rattle.std.specs.List.{slice_get, swap_remove}
-use Rattle.std.specs.Vec.{vec_len, vec_capacity}
-use Rattle.std.proofs.lemmas.List.{get_or_read, get_or_default, length-set, take_at}
+use Rattle.std.specs.Vec.{vec_capacity}
+use Rattle.std.proofs.lemmas.List.{get_or_read, get_or_default, take_at}
 use Rattle.std.proofs.lemmas.Option.{slice_get-get_or}
 use Rattle.half_store.specs.Slots.{slot_at}
-use Rattle.half_store.specs.Table.{HashIndex, hashes_at}
+use Rattle.half_store.specs.Table.{hashes_at}
 use Rattle.half_store.specs.TableLayout.{InStep, HasGap}
-use Rattle.half_store.proofs.SlotsLemmas.{slot_cases, full_from_some, full-lt}
+use Rattle.half_store.proofs.SlotsLemmas.{full-lt}
 use Rattle.half_store.proofs.StepLemmas.{length-hashes_at, hash_at_place, table_vacant}
 use Rattle.half_store.proofs.GapLemmas.{InStep-remove, hashes_at-remove}
 use Rattle.half_store.proofs.ClosingLemmas.{HasGap-remove}
@@ -42,7 +42,7 @@ index-requires c =
 
 -- the bucket that was read
 slot_read : (slots : List (Option ℕ)) (numbers places : List ℕ) → InStep slots numbers places → (number place : ℕ) (o : Option ℕ) → number < length places → place ≡ slice_index places number → o ≡ get_or slots place o →
-  o ≡ Some (slice_index (hashes_at slots places) number)
+    o ≡ Some (slice_index (hashes_at slots places) number)
 slot_read slots numbers places s number place o few at read =
     let within : place < length slots = subst (λ q. q < length slots) (sym at) (full-lt slots (slice_index places number) (s.stands number few)) in
     get_or_read slots place o within read None ∙ ap (slot_at slots) at ∙ hash_at_place slots numbers places s number few
@@ -91,7 +91,7 @@ close_gap-requires-clause-gap c =
     let full = full-lt t.hashes.items (slice_index ps c.args.number) (c.self.invariant.in_step.stands c.args.number few) in
     let vacant = table_vacant t.hashes.items t.numbers.items ps (vec_capacity t.places) c.self.invariant (omega arith) in
     subst (λ p. HasGap c.as_mut_slice.result.now p) (sym place) (subst (λ x. HasGap x (slice_index ps c.args.number)) (sym rows)
-      (HasGap-remove t.hashes.items t.numbers.items ps c.self.invariant.in_step c.self.invariant.ordered vacant c.args.number (length ps - 1) few (omega arith)))
+    (HasGap-remove t.hashes.items t.numbers.items ps c.self.invariant.in_step c.self.invariant.ordered vacant c.args.number (length ps - 1) few (omega arith)))
 
 pub returns-clause-hash : goal.returns-clause-hash
 returns-clause-hash c =

@@ -1,4 +1,4 @@
-use Rattle.std.proofs.Common.{◌≡◌, arith}
+use Rattle.std.proofs.Common.{arith}
 use Rattle.half_store.proofs.RoomsLemmas.{max-buckets_for}
 use Rattle.half_store.proofs.table.Table.reserve.Goals as goal
 

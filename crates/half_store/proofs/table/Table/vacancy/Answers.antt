@@ -1,8 +1,8 @@
-use Rattle.std.proofs.Common.{◌<◌, ◌∙◌, length, refl, sym, ap, subst, arith}
+use Rattle.std.proofs.Common.{◌∙◌, refl, ap, subst}
 use Rattle.std.specs.Vec.{vec_capacity}
 use Rattle.half_store.specs.Slots.{IsVacancyFor}
-use Rattle.half_store.specs.Table.{HashIndex, slots_of}
-use Rattle.half_store.proofs.TableLemmas.{columns_at, view_at, seen, placing_cost_seen, vacant_seen}
+use Rattle.half_store.specs.Table.{slots_of}
+use Rattle.half_store.proofs.TableLemmas.{columns_at, view_at, placing_cost_seen, vacant_seen}
 use Rattle.half_store.proofs.table.Table.vacancy.Goals as goal
 
 pub vacancy-requires-clause-vacant : goal.vacancy-requires-clause-vacant

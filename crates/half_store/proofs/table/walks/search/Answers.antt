@@ -1,8 +1,7 @@
-use Rattle.std.proofs.Common.{◌≡◌, ◌≢◌, ℕ, ◌+◌, ◌<◌, ◌≤◌, ◌==◌, false, true, length, slice_index, count_by, Some, None, refl, sym, ap, subst, ◌∙◌, arith, rules}
-use Rattle.half_store.specs.Slots.{slot_at, steps_from_home}
-use Rattle.half_store.specs.Work.{Work, one_looked, one_compared}
-use Rattle.half_store.proofs.SlotsLemmas.{Walks-steps, Walks-vacancy, Walks-found, Walks-ends}
-use Rattle.half_store.proofs.WalkLemmas.{Searches, Searches-start, Searches-skip, Searches-refused, Searches-found, Searches-missing, Searches-all}
+use Rattle.std.proofs.Common.{false, slice_index, Some, sym, ap, ◌∙◌, arith}
+use Rattle.half_store.specs.Work.{Work, one_compared}
+use Rattle.half_store.proofs.SlotsLemmas.{Walks-steps, Walks-vacancy, Walks-ends}
+use Rattle.half_store.proofs.WalkLemmas.{Searches-start, Searches-skip, Searches-refused, Searches-found, Searches-missing, Searches-all}
 use Rattle.half_store.proofs.table.walks.search.Goals as goal
 use Rattle.half_store.proofs.table.walks.search.Goals.{else-held-hash-via-then-held-hash+else-compare, else-held-hash-via-else-held-hash}
 
@@ -41,14 +40,14 @@ returns-in-None-clause-compared_all g c =
     let same = c.requires.columns in
     ap (λ (w : Work). w.compared) c.in-None.ensures.counted
     ∙ Searches-missing (g.P.Places.slots c.args.places.now) c.args.hash (λ place. goal.F-post g c.args.matches.now (slice_index c.args.numbers.now place) false)
-      c.loop-step.place c.loop-step._step c.args.tally.now c.loop-step.tally c.loop-step.invariant (omega arith) c.requires.ordered (sym c.in-None.ensures.stored)
+    c.loop-step.place c.loop-step._step c.args.tally.now c.loop-step.tally c.loop-step.invariant (omega arith) c.requires.ordered (sym c.in-None.ensures.stored)
 
 pub returns-in-None-clause-compared_most : goal.returns-in-None-clause-compared_most
 returns-in-None-clause-compared_most g c =
     let same = c.requires.columns in
     let all =
-      Searches-missing (g.P.Places.slots c.args.places.now) c.args.hash (λ place. goal.F-post g c.args.matches.now (slice_index c.args.numbers.now place) false)
-      c.loop-step.place c.loop-step._step c.args.tally.now c.loop-step.tally c.loop-step.invariant (omega arith) c.requires.ordered (sym c.in-None.ensures.stored) in
+    Searches-missing (g.P.Places.slots c.args.places.now) c.args.hash (λ place. goal.F-post g c.args.matches.now (slice_index c.args.numbers.now place) false)
+    c.loop-step.place c.loop-step._step c.args.tally.now c.loop-step.tally c.loop-step.invariant (omega arith) c.requires.ordered (sym c.in-None.ensures.stored) in
     let e = ap (λ (w : Work). w.compared) c.in-None.ensures.counted in
     omega arith
 
@@ -63,8 +62,8 @@ pub returns-then-compare-clause-compared_most : goal.returns-then-compare-clause
 returns-then-compare-clause-compared_most g c =
     let same = c.requires.columns in
     let few =
-      Searches-found (g.P.Places.slots c.args.places.now) c.args.hash (λ place. goal.F-post g c.args.matches.now (slice_index c.args.numbers.now place) false)
-      c.loop-step.place c.loop-step._step c.args.tally.now c.loop-step.tally c.loop-step.invariant (omega arith) (sym c.in-Some.ensures.stored ∙ ap Some c.if-held-hash.true) in
+    Searches-found (g.P.Places.slots c.args.places.now) c.args.hash (λ place. goal.F-post g c.args.matches.now (slice_index c.args.numbers.now place) false)
+    c.loop-step.place c.loop-step._step c.args.tally.now c.loop-step.tally c.loop-step.invariant (omega arith) (sym c.in-Some.ensures.stored ∙ ap Some c.if-held-hash.true) in
     let e = ap (λ (w : Work). w.compared) (c.compare.ensures.counted ∙ ap one_compared c.in-Some.ensures.counted) in
     omega arith
 
@@ -72,14 +71,14 @@ pub loop-step-preserved : goal.loop-step-preserved
 loop-step-preserved g c =
     let same = c.requires.columns in
     elim c.else-held-hash.branch [
-      else-held-hash-via-then-held-hash+else-compare w ↦
-        Searches-refused (g.P.Places.slots c.args.places.now) c.args.hash (λ place. goal.F-post g c.args.matches.now (slice_index c.args.numbers.now place) false)
-        c.loop-step.place c.loop-step._step c.args.tally.now c.loop-step.tally c.loop-step.invariant (omega arith) c.next-place.result c.else-held-hash.tally
-        (sym c.in-Some.ensures.stored ∙ ap Some w.if-held-hash.true) w.if-compare.ensures.answer (w.tally-is ∙ w.compare.ensures.counted ∙ ap one_compared c.in-Some.ensures.counted) (omega arith) (rw (← same) c.next-place.ensures.value)
-    | else-held-hash-via-else-held-hash w ↦
-        Searches-skip (g.P.Places.slots c.args.places.now) c.args.hash (λ place. goal.F-post g c.args.matches.now (slice_index c.args.numbers.now place) false)
-        c.loop-step.place c.loop-step._step c.args.tally.now c.loop-step.tally c.loop-step.invariant (omega arith) c.next-place.result c.in-Some.held c.else-held-hash.tally
-        (sym c.in-Some.ensures.stored) w.if-held-hash.false (w.tally-is ∙ c.in-Some.ensures.counted) (omega arith) (rw (← same) c.next-place.ensures.value)
+      | else-held-hash-via-then-held-hash+else-compare w ↦
+          Searches-refused (g.P.Places.slots c.args.places.now) c.args.hash (λ place. goal.F-post g c.args.matches.now (slice_index c.args.numbers.now place) false)
+          c.loop-step.place c.loop-step._step c.args.tally.now c.loop-step.tally c.loop-step.invariant (omega arith) c.next-place.result c.else-held-hash.tally
+          (sym c.in-Some.ensures.stored ∙ ap Some w.if-held-hash.true) w.if-compare.ensures.answer (w.tally-is ∙ w.compare.ensures.counted ∙ ap one_compared c.in-Some.ensures.counted) (omega arith) (rw (← same) c.next-place.ensures.value)
+      | else-held-hash-via-else-held-hash w ↦
+          Searches-skip (g.P.Places.slots c.args.places.now) c.args.hash (λ place. goal.F-post g c.args.matches.now (slice_index c.args.numbers.now place) false)
+          c.loop-step.place c.loop-step._step c.args.tally.now c.loop-step.tally c.loop-step.invariant (omega arith) c.next-place.result c.in-Some.held c.else-held-hash.tally
+          (sym c.in-Some.ensures.stored) w.if-held-hash.false (w.tally-is ∙ c.in-Some.ensures.counted) (omega arith) (rw (← same) c.next-place.ensures.value)
     ]
 
 pub unreachable-requires : goal.unreachable-requires

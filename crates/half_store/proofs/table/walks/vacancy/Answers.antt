@@ -1,7 +1,4 @@
-use Rattle.std.proofs.Common.{◌≡◌, ◌≢◌, ◌+◌, ◌<◌, ◌≤◌, length, None, is_none, Option, ℕ, sym, ap, subst, ◌∙◌, arith, rules}
-use Rattle.half_store.specs.Reach.{home, up}
-use Rattle.half_store.specs.Search.{looked_more}
-use Rattle.half_store.specs.Slots.{slot_at, steps_from_home}
+use Rattle.std.proofs.Common.{sym, ◌∙◌, arith}
 use Rattle.half_store.proofs.SlotsLemmas.{none_from, full_from_some, Walks-start, Walks-steps, Walks-vacancy, Walks-next, Walks-ends}
 use Rattle.half_store.proofs.WorkLemmas.{looked_more-zero, looked_more-one}
 use Rattle.half_store.proofs.table.walks.vacancy.Goals as goal
