@@ -120,7 +120,7 @@ impl Table {
         ensures hashes { self.new.hashes ≡ self.old.hashes ++ hash ∷ [] }
         ensures buckets { self.new.buckets ≡ self.old.buckets }
     {
-        let number = self.places.len();
+        let number = self.len();
         self.hashes[place] = Some(hash);
         self.numbers[place] = number;
         self.places.push_reserved(place);
@@ -144,7 +144,8 @@ impl Table {
         ensures hashes { self.new.hashes ≡ swap_remove self.old.hashes number 0 }
         ensures buckets { self.new.buckets ≡ self.old.buckets }
     {
-        let last_place = self.places[self.places.len() - 1];
+        let last = self.len() - 1;
+        let last_place = self.places[last];
         self.numbers[last_place] = number;
         let place = self.places.swap_remove(number);
         let Some(hash) = self.hashes[place] else {
