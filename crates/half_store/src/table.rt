@@ -2,7 +2,7 @@
 //!
 //! The buckets hold stored hashes and numbers, and no keys: a search is handed the test of a number. Walks go up from
 //! the bucket that is a hash's home, and a removal closes the gap that it leaves, so that nothing of it stays.
-ghost use Rattle.std.specs.Prelude.{◌≡◌, ℕ, ◌+◌, ◌^◌, ◌<◌, ◌≤◌, ◌↔◌, true, false, List, [], ◌∷◌, ◌++◌, length, replicate, Some, None, slice_get};
+ghost use Rattle.std.specs.Prelude.{◌≡◌, ℕ, ◌+◌, ◌^◌, ◌<◌, ◌≤◌, ◌↔◌, true, false, List, [], ◌∷◌, ◌++◌, length, replicate, Some, None, IsTrue, slice_get};
 ghost use Rattle.std.specs.List.{swap_remove};
 ghost use Rattle.half_store.specs.Reach.{reach};
 ghost use Rattle.half_store.specs.Rooms.{room_of, IsBucketCount};
@@ -68,6 +68,13 @@ impl Table {
         ensures small { result ≤ 2 ^ 62 }
     {
         self.places.len()
+    }
+
+    /// Whether it holds no pair.
+    pub fn is_empty(&self) -> bool
+        ensures { IsTrue result ↔ (length self.now.hashes ≡ 0) }
+    {
+        self.places.is_empty()
     }
 
     /// How many pairs it has room for, those that it holds among them.
