@@ -48,7 +48,7 @@ mod tests {
     #[test]
     fn rooms_and_buckets(rt: HostRuntime) {
         for (buckets, room) in [
-            (0, 0),
+            (0u16, 0u16),
             (4, 3),
             (8, 6),
             (16, 12),
@@ -59,6 +59,7 @@ mod tests {
             (512, 384),
             (1024, 768),
         ] {
+            let (buckets, room) = (usize::from(buckets), usize::from(room));
             assert_eq!(rt; room_of(buckets), room, "the room of {buckets} buckets");
             assert_eq!(rt; buckets_for(room), buckets, "the buckets for {room} pairs");
         }
@@ -67,7 +68,7 @@ mod tests {
     #[test]
     fn buckets_after_the_switch(rt: HostRuntime) {
         for (limit, buckets) in [
-            (0, 4),
+            (0u8, 4),
             (2, 4),
             (3, 8),
             (5, 8),
@@ -79,7 +80,11 @@ mod tests {
             (32, 64),
             (47, 64),
         ] {
-            assert_eq!(rt; buckets_for(limit + 1), buckets, "one more than {limit}");
+            assert_eq!(rt;
+                buckets_for(usize::from(limit) + 1),
+                buckets,
+                "one more than {limit}"
+            );
         }
         assert_eq!(rt; room_for(33), 48);
     }

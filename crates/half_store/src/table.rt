@@ -2,7 +2,7 @@
 //!
 //! The buckets hold stored hashes and numbers, and no keys: a search is handed the test of a number. Walks go up from
 //! the bucket that is a hash's home, and a removal closes the gap that it leaves, so that nothing of it stays.
-ghost use Rattle.std.specs.Prelude.{◌≡◌, ℕ, ◌+◌, ◌^◌, ◌<◌, ◌≤◌, ◌↔◌, true, false, List, [], ◌∷◌, ◌++◌, length, replicate, Some, None, slice_get};
+ghost use Rattle.std.specs.Prelude.{◌≡◌, ℕ, ◌+◌, ◌^◌, ◌<◌, ◌≤◌, ◌↔◌, true, false, List, [], ◌∷◌, ◌++◌, length, replicate, Some, None, IsTrue, slice_get};
 ghost use Rattle.std.specs.List.{swap_remove};
 ghost use Rattle.half_store.specs.Reach.{reach};
 ghost use Rattle.half_store.specs.Rooms.{room_of, IsBucketCount, room_for, buckets_of};
@@ -70,6 +70,13 @@ impl Table {
         self.places.len()
     }
 
+    /// Whether it holds no pair.
+    pub fn is_empty(&self) -> bool
+        ensures { IsTrue result ↔ (length self.now.hashes ≡ 0) }
+    {
+        self.places.is_empty()
+    }
+
     /// How many pairs it has room for, those that it holds among them.
     pub fn room(&self) -> usize
         ensures value { result ≡ room_of self.now.buckets }
@@ -123,7 +130,7 @@ impl Table {
         ensures hashes { self.new.hashes ≡ self.old.hashes ++ hash ∷ [] }
         ensures buckets { self.new.buckets ≡ self.old.buckets }
     {
-        let number = self.places.len();
+        let number = self.len();
         self.hashes[place] = Some(hash);
         self.numbers[place] = number;
         self.places.push_reserved(place);
@@ -149,7 +156,8 @@ impl Table {
         ensures hashes { self.new.hashes ≡ swap_remove self.old.hashes number 0 }
         ensures buckets { self.new.buckets ≡ self.old.buckets }
     {
-        let last_place = self.places[self.places.len() - 1];
+        let last = self.len() - 1;
+        let last_place = self.places[last];
         self.numbers[last_place] = number;
         let place = self.places.swap_remove(number);
         let Some(hash) = self.hashes[place] else {

@@ -15,6 +15,7 @@ impl Table {
     pub fn with_room(alloc: Global, wanted: usize) -> Result<Table, Refusal>
         ensures hashes { IfOk result (λ t. t.hashes ≡ []) }
         ensures buckets { IfOk result (λ t. t.buckets ≡ buckets_for wanted) }
+        ensures room { IfOk result (λ t. wanted ≤ room_of t.buckets) }
         ensures size { (result ≡ Err Refusal.Size) ↔ (2 ^ 60 < wanted) }
         ensures granted { wanted ≡ 0 → IsOk result }
     {
@@ -29,6 +30,7 @@ impl Table {
         requires { length hashes.now ≤ wanted }
         ensures hashes { IfOk result (λ t. t.hashes ≡ hashes.now) }
         ensures buckets { IfOk result (λ t. t.buckets ≡ buckets_for wanted) }
+        ensures room { IfOk result (λ t. wanted ≤ room_of t.buckets) }
         ensures size { (result ≡ Err Refusal.Size) ↔ (2 ^ 60 < wanted) }
         ensures granted { wanted ≡ 0 → IsOk result }
     {
@@ -44,6 +46,7 @@ impl Table {
         ensures hashes { self.new.hashes ≡ self.old.hashes }
         ensures buckets { OnOk result (self.new.buckets ≡ max self.old.buckets (buckets_for wanted)) }
         ensures more { OnOk result (room_of self.old.buckets < wanted → self.new.buckets ≡ buckets_for wanted) }
+        ensures room { OnOk result (wanted ≤ room_of self.new.buckets) }
         ensures size { (result ≡ Err Refusal.Size) ↔ ((room_of self.old.buckets < wanted) × (2 ^ 60 < wanted)) }
         ensures granted { wanted ≤ room_of self.old.buckets → IsOk result × (self.new ≡ self.old) }
         ensures err { OnErr result (self.new ≡ self.old) }
@@ -62,6 +65,7 @@ impl Table {
     pub fn grow(&mut self) -> Result<(), Refusal>
         ensures hashes { self.new.hashes ≡ self.old.hashes }
         ensures buckets { OnOk result (self.new.buckets ≡ buckets_for_more (length self.old.hashes) self.old.buckets) }
+        ensures room { OnOk result (length self.new.hashes < room_of self.new.buckets) }
         ensures size { (result ≡ Err Refusal.Size) ↔ ((room_of self.old.buckets ≤ length self.old.hashes) × (2 ^ 60 ≤ length self.old.hashes)) }
         ensures granted { length self.old.hashes < room_of self.old.buckets → IsOk result × (self.new ≡ self.old) }
         ensures err { OnErr result (self.new ≡ self.old) }

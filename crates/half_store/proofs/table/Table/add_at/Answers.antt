@@ -16,7 +16,7 @@ invariant_of-self c =
     let slots : List (Option ℕ) = set t.hashes.items c.args.place (Some c.args.hash) in
     let w = subst (λ x. IsVacancyFor x c.args.hash c.args.place) (sym s.slots_are) c.requires.vacancy in
     let few : length t.places.items < room_of (length t.hashes.items) = omega (arith, s.count, s.buckets, c.requires.room) in
-    let number : length t.places.items ≡ c.len-number.result = sym (c.len-number.ensures ∙ t.places.ok.0) in
+    let number : length t.places.items ≡ c.len-number.result = s.count ∙ sym c.len-number.ensures.value in
     subst (λ n. IsTable slots (set t.numbers.items c.args.place n) c.push_reserved.new.self.items (vec_capacity c.push_reserved.new.self)) number
     (subst (λ ps. IsTable slots (set t.numbers.items c.args.place (length t.places.items)) ps (vec_capacity c.push_reserved.new.self)) (sym out.items)
     (subst (IsTable slots (set t.numbers.items c.args.place (length t.places.items)) (t.places.items ++ c.args.place ∷ [])) (sym out.capacity)

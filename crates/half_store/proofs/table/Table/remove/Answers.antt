@@ -27,7 +27,7 @@ index_mut-requires c =
     let s = seen t.hashes.items t.places.items c.args.self.now c.self.view_is in
     let i = c.self.invariant.in_step in
     let some : 0 < length t.places.items = omega (arith, s.count, c.requires) in
-    let last = last_read t.places.items c.len.result c.index-last_place.result.now some (c.len.ensures ∙ t.places.ok.0) c.index-last_place.ensures in
+    let last = last_read t.places.items c.len-last.result c.index-last_place.result.now some (c.len-last.ensures.value ∙ sym s.count) c.index-last_place.ensures in
     let within = full-lt t.hashes.items (slice_index t.places.items (length t.places.items - 1)) (i.stands (length t.places.items - 1) (omega arith)) in
     omega (arith, t.numbers.ok, i.columns)
 
@@ -74,7 +74,7 @@ close_gap-requires-clause-in_step c =
     let s = seen t.hashes.items ps c.args.self.now c.self.view_is in
     let few : c.args.number < length ps = omega (arith, s.count, c.requires) in
     let place = get_or_read ps c.args.number c.swap_remove-place.result few c.swap_remove-place.ensures.value 0 in
-    let last = last_read ps c.len.result c.index-last_place.result.now (omega arith) (c.len.ensures ∙ t.places.ok.0) c.index-last_place.ensures in
+    let last = last_read ps c.len-last.result c.index-last_place.result.now (omega arith) (c.len-last.ensures.value ∙ sym s.count) c.index-last_place.ensures in
     let rows = c.as_mut_slice.ensures.value ∙ ap (λ p. set t.hashes.items p None) place in
     let nums = c.as_mut_slice-2.ensures.value ∙ ap (λ p. set t.numbers.items p c.args.number) last in
     let rest = c.as_mut_slice-3.ensures.value ∙ c.swap_remove-place.ensures.items ∙ left ps c.args.number c.swap_remove-place.result few in
