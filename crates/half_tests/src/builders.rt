@@ -1,4 +1,5 @@
 //! Builders whose hashes are known beforehand, and which count how often they are asked.
+ghost use Rattle.std.specs.Prelude.{◌≡◌};
 ghost use Rattle.half_tests.specs.Hashes.{hash_by, shifted};
 
 use std::cell::Cell;

@@ -36,6 +36,17 @@ fn commands(alloc: Global) -> Result<Vec<Command<Name, u64>>, AllocError> {
     Ok(commands)
 }
 
+fn with_counting_keys(
+    alloc: Global,
+    commands: Vec<Command<Name, u64>>,
+    compared: &Cell<u64>,
+) -> Result<Vec<Command<Key<'_>, u64>>, AllocError> {
+    commands
+        .into_iter()
+        .map(|command| with_counting_key(command, compared))
+        .collect(alloc)
+}
+
 // Command by command: the reply, the work, the form and the room.
 fn answers_as_a_list<const N: usize>(
     rt: &impl Abort,
@@ -92,15 +103,15 @@ fn runs_as_a_list<const N: usize>(rt: &impl Abort, alloc: Global, rule: Rule) ->
         Counting::new(rule, &asked),
     );
     let mut expected = Expected::new(alloc, N, rule);
-    let mut list = Vec::new(alloc);
+    let commands = commands(alloc)?;
     let mut wanted = Vec::new(alloc);
     let mut work = Work::NONE;
-    for command in &commands(alloc)? {
+    for command in &commands {
         let (reply, more) = expected.answer(*command)?;
-        list.push(with_counting_key(*command, &compared))?;
         wanted.push(reply)?;
         work = work.plus(more);
     }
+    let list = with_counting_keys(alloc, commands, &compared)?;
     let replies = run(alloc, &mut map, list)
         .ok()
         .expect(rt, "the room for the replies");
