@@ -68,7 +68,17 @@ def a_million_lines_take_seconds():
     return ended_well(program, output, "".join(wanted).encode(), errors)
 
 
-ut_ends_it_with_status_1():
+def ended_well(program, output, wanted, errors):
+    if program.returncode != 0:
+        return f"status {program.returncode}"
+    if errors:
+        return f"on standard error: {errors!r}"
+    if output != wanted:
+        return "other answers"
+    return None
+
+
+def a_closed_output_ends_it_with_status_1():
     program = start()
     timer = stop_late(program)
     program.stdout.close()
