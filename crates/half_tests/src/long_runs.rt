@@ -5,7 +5,7 @@ use crate::expected::{Expected, Work};
 use crate::keys::Key;
 use crate::names::{Name, with_counting_key, with_names};
 use halfbrown::run::run;
-use halfbrown::{Command, SizedHashMap};
+use halfbrown::{Command, Reply, SizedHashMap};
 use std::alloc::{AllocError, Global};
 use std::cell::Cell;
 use std::process::Abort;
@@ -34,17 +34,6 @@ fn commands(alloc: Global) -> Result<Vec<Command<Name, u64>>, AllocError> {
         })?;
     }
     Ok(commands)
-}
-
-fn with_counting_keys(
-    alloc: Global,
-    commands: Vec<Command<Name, u64>>,
-    compared: &Cell<u64>,
-) -> Result<Vec<Command<Key<'_>, u64>>, AllocError> {
-    commands
-        .into_iter()
-        .map(|command| with_counting_key(command, compared))
-        .collect(alloc)
 }
 
 // Command by command: the reply, the work, the form and the room.
@@ -97,13 +86,8 @@ fn answers_as_a_list<const N: usize>(
 
 // All commands at once: the replies, and the work as a sum.
 fn runs_as_a_list<const N: usize>(rt: &impl Abort, alloc: Global, rule: Rule) -> Result<(), Fail> {
-    let (asked, compared) = (Cell::new(0), Cell::new(0));
-    let mut map: SizedHashMap<Key<'_>, u64, Counting<'_>, N> = SizedHashMap::with_hasher(
-        alloc,
-        Counting::new(rule, &asked),
-    );
-    let mut expected = Expected::new(alloc, N, rule);
     let commands = commands(alloc)?;
+    let mut expected = Expected::new(alloc, N, rule);
     let mut wanted = Vec::new(alloc);
     let mut work = Work::NONE;
     for command in &commands {
@@ -111,18 +95,37 @@ fn runs_as_a_list<const N: usize>(rt: &impl Abort, alloc: Global, rule: Rule) ->
         wanted.push(reply)?;
         work = work.plus(more);
     }
-    let list = with_counting_keys(alloc, commands, &compared)?;
-    let replies = run(alloc, &mut map, list)
-        .ok()
-        .expect(rt, "the room for the replies");
-    let spent = (asked.get(), compared.get());
-    let replies: Vec<_> = replies.into_iter().map(with_names).collect(alloc)?;
+    let (asked, compared) = (Cell::new(0), Cell::new(0));
+    let builder = Counting::new(rule, &asked);
+    let replies = replies_to::<N>(rt, alloc, builder, commands, &compared)?;
     assert!(rt; replies == wanted, "limit {N}, {rule:?}");
+    let spent = (asked.get(), compared.get());
     assert!(rt;
         work.allows(spent.0, spent.1),
         "limit {N}, {rule:?}: {spent:?} for {work:?}"
     );
     Ok(())
+}
+
+// What one run over a new map answers.
+fn replies_to<const N: usize>(
+    rt: &impl Abort,
+    alloc: Global,
+    builder: Counting<'_>,
+    commands: Vec<Command<Name, u64>>,
+    compared: &Cell<u64>,
+) -> Result<Vec<Reply<Name, u64>>, AllocError> {
+    let mut map: SizedHashMap<Key<'_>, u64, Counting<'_>, N> = SizedHashMap::with_hasher(
+        alloc, builder,
+    );
+    let commands = commands
+        .into_iter()
+        .map(|command| with_counting_key(command, compared))
+        .collect(alloc)?;
+    let replies = run(alloc, &mut map, commands)
+        .ok()
+        .expect(rt, "the room for the replies");
+    replies.into_iter().map(with_names).collect(alloc)
 }
 
 #[test]
