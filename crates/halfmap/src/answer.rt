@@ -1,4 +1,6 @@
 //! What a request is answered.
+ghost use Rattle.std.specs.Prelude.{◌≡◌};
+ghost use Rattle.halfmap.specs.Answer.{Answers, was as was_answer};
 
 use crate::request::Request;
 use halfbrown::{DefaultHashBuilder, SizedHashMap};
@@ -41,7 +43,9 @@ impl fmt::Display for Answer {
 }
 
 /// Does what the request asks, and answers it.
-pub(crate) fn perform(map: &mut Numbers, request: Request) -> Answer {
+pub(crate) fn perform(map: &mut Numbers, request: Request) -> Answer
+    ensures { Answers request map.old result map.new }
+{
     match request {
         Request::Insert(key, value) => match map.insert(key, value) {
             Ok(old) => was(old),
@@ -57,7 +61,9 @@ pub(crate) fn perform(map: &mut Numbers, request: Request) -> Answer {
     }
 }
 
-fn was(old: Option<u64>) -> Answer {
+fn was(old: Option<u64>) -> Answer
+    ensures { result ≡ was_answer old }
+{
     match old {
         Some(value) => Answer::Was(value),
         None => Answer::Absent,

@@ -1,4 +1,5 @@
 //! Lines in, answers out.
+ghost use Rattle.halfmap.specs.Line.{IsTextOfLine, IsWithout};
 
 use crate::answer::{Answer, Numbers, perform};
 use crate::request::parse;
@@ -72,10 +73,21 @@ fn reply(map: &mut Numbers, line: &[u8]) -> Answer {
     }
 }
 
-// The line without its LF and a CR before it.
-fn without_end(line: &[u8]) -> &[u8] {
-    let line = line.strip_suffix(b"\n").unwrap_or(line);
-    line.strip_suffix(b"\r").unwrap_or(line)
+// The line without a LF at its end, and then without a CR.
+fn without_end(line: &[u8]) -> &[u8]
+    ensures { IsTextOfLine line.now result.now }
+{
+    without(b"\r", without(b"\n", line))
+}
+
+// The text without this end, where it has it.
+fn without<'a>(end: &[u8], text: &'a [u8]) -> &'a [u8]
+    ensures { IsWithout end.now text.now result.now }
+{
+    match text.strip_suffix(end) {
+        Some(front) => front,
+        None => text,
+    }
 }
 
 #[cfg(test)]
