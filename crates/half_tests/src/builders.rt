@@ -56,13 +56,15 @@ impl Hasher for NumberHasher {
 /// A builder that hashes by a rule, and counts how often it is asked for a hash.
 #[derive(Clone, Copy)]
 pub struct Counting<'a> {
-    rule: Rule,
+    pub rule: Rule,
     asked: &'a Cell<u64>,
 }
 
 impl<'a> Counting<'a> {
     /// Hashes by this rule, and adds one to `asked` for each hash.
-    pub fn new(rule: Rule, asked: &'a Cell<u64>) -> Counting<'a> {
+    pub fn new(rule: Rule, asked: &'a Cell<u64>) -> Counting<'a>
+        ensures { result.rule ≡ rule }
+    {
         Counting { rule, asked }
     }
 }

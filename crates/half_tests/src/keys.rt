@@ -1,5 +1,5 @@
 //! Keys that are equal by their number alone, and count how often they are compared.
-ghost use Rattle.std.specs.Prelude.{◌==◌};
+ghost use Rattle.std.specs.Prelude.{◌≡◌, ◌==◌};
 ghost use Rattle.std.specs.Hash as fed;
 ghost use Rattle.std.specs.Cmp.Rules.{comparing, hashing};
 ghost use Rattle.std.proofs.Common.{rules};
@@ -18,12 +18,17 @@ pub struct Key<'a> {
 
 impl<'a> Key<'a> {
     /// Adds one to `compared` for each comparison that it is the left side of.
-    pub fn new(id: u64, mark: u64, compared: &'a Cell<u64>) -> Key<'a> {
+    pub fn new(id: u64, mark: u64, compared: &'a Cell<u64>) -> Key<'a>
+        ensures id { result.id ≡ id }
+        ensures mark { result.mark ≡ mark }
+    {
         Key { id, mark, compared }
     }
 
     /// What is compared of a key, and what is not.
-    pub fn name(self) -> (u64, u64) {
+    pub fn name(self) -> (u64, u64)
+        ensures { result ≡ (self.entry.id, self.entry.mark) }
+    {
         (self.id, self.mark)
     }
 }
