@@ -1,7 +1,7 @@
 // Refuses memory to a program that it is preloaded into.
 //
-// From the line "now" on, which the program writes, its requests are counted. The request whose number stands in the
-// environment variable REFUSE is answered with NULL, and with REFUSE=all each is. A line on standard error tells of each
+// Its requests are counted: all of them, or, where REFUSE_AFTER is a line, those after it has written this line. The request
+// whose number REFUSE gives is answered with NULL, and with REFUSE=all each is. A line on standard error tells of each
 // refusal. The programs of this repository ask by malloc and realloc alone.
 #include <errno.h>
 #include <stdlib.h>
@@ -12,12 +12,12 @@
 extern void *__libc_malloc(size_t size);
 extern void *__libc_realloc(void *block, size_t size);
 
-static int is_counting;
+static int is_after;
 static long requests;
 
 static int is_refused(void) {
     const char *which = getenv("REFUSE");
-    if (!is_counting || which == NULL)
+    if (which == NULL || (getenv("REFUSE_AFTER") != NULL && !is_after))
         return 0;
     requests++;
     if (strcmp(which, "all") != 0 && atol(which) != requests)
@@ -36,8 +36,8 @@ void *realloc(void *block, size_t size) {
 }
 
 ssize_t write(int file, const void *bytes, size_t size) {
-    if (file == STDOUT_FILENO && size == 4 && memcmp(bytes, "now\n", 4) == 0)
-        is_counting = 1;
-    long written = syscall(SYS_write, file, bytes, size);
-    return written;
+    const char *line = getenv("REFUSE_AFTER");
+    if (file == STDOUT_FILENO && line != NULL && size == strlen(line) + 1 && memcmp(bytes, line, size - 1) == 0)
+        is_after = 1;
+    return syscall(SYS_write, file, bytes, size);
 }
