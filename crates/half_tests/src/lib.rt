@@ -1,0 +1,13 @@
+//! Tests of the whole map: worked examples and long runs, with builders and keys that count their own work.
+#![tactic(auto)]
+
+#[cfg(test)]
+mod basic_calls;
+pub mod builders;
+#[cfg(test)]
+mod expected;
+pub mod keys;
+#[cfg(test)]
+mod long_runs;
+#[cfg(test)]
+mod names;

@@ -1,0 +1,146 @@
+//! A thousand commands by a fixed rule: the replies are those of a plain list, and the work is what the costs say.
+
+use crate::builders::{Counting, Rule};
+use crate::expected::{Expected, Work};
+use crate::keys::Key;
+use crate::names::{Name, with_counting_key, with_names};
+use halfbrown::run::run;
+use halfbrown::{Command, Reply, SizedHashMap};
+use std::alloc::{AllocError, Global};
+use std::cell::Cell;
+use std::process::Abort;
+use std::test::Fail;
+
+const COMMANDS: u64 = 1_000;
+
+// How many keys there are to choose from. Of so many, more than 32 are held in time, while pairs come and go.
+const KEYS: u64 = 60;
+
+// The commands, made by a linear congruence. Each key is marked by the number of its command.
+fn commands(alloc: Global) -> Result<Vec<Command<Name, u64>>, AllocError> {
+    let mut commands = Vec::new(alloc);
+    let mut state = 1u64;
+    for number in 0..COMMANDS {
+        state = state
+            .wrapping_mul(6_364_136_223_846_793_005)
+            .wrapping_add(1_442_695_040_888_963_407);
+        let key = ((state >> 20) % KEYS, number);
+        commands.push(match state >> 60 {
+            0..=6 => Command::Insert(key, number),
+            7..=9 => Command::Get(key),
+            10..=12 => Command::Remove(key),
+            13 => Command::IsVec,
+            _ => Command::Len,
+        })?;
+    }
+    Ok(commands)
+}
+
+// Command by command: the reply, the work, the form and the room.
+fn answers_as_a_list<const N: usize>(
+    rt: &impl Abort,
+    alloc: Global,
+    rule: Rule,
+) -> Result<(), Fail> {
+    let (asked, compared) = (Cell::new(0), Cell::new(0));
+    let mut map: SizedHashMap<Key<'_>, u64, Counting<'_>, N> = SizedHashMap::with_hasher(
+        alloc,
+        Counting::new(rule, &asked),
+    );
+    let mut expected = Expected::new(alloc, N, rule);
+    for command in &commands(alloc)? {
+        let (reply, work) = expected.answer(*command)?;
+        asked.set(0);
+        compared.set(0);
+        let list = vec![in alloc; with_counting_key(*command, &compared)]?;
+        let replies = run(alloc, &mut map, list)
+            .ok()
+            .expect(rt, "the room for one reply");
+        let spent = (asked.get(), compared.get());
+        let replies: Vec<_> = replies.into_iter().map(with_names).collect(alloc)?;
+        assert_eq!(rt;
+            replies.as_slice(),
+            [reply].as_slice(),
+            "limit {N}, {rule:?}, {command:?}"
+        );
+        assert!(rt;
+            work.allows(spent.0, spent.1),
+            "limit {N}, {rule:?}, {command:?}: {spent:?} for {work:?}"
+        );
+        assert_eq!(rt;
+            map.is_vec(),
+            expected.is_vec(),
+            "limit {N}, {rule:?}, {command:?}"
+        );
+        assert!(rt;
+            expected.allows_room(map.capacity()),
+            "limit {N}, {rule:?}, {command:?}"
+        );
+    }
+    assert!(rt;
+        map.is_map(),
+        "limit {N}, {rule:?}: the switch was not reached"
+    );
+    Ok(())
+}
+
+// All commands at once: the replies, and the work as a sum.
+fn runs_as_a_list<const N: usize>(rt: &impl Abort, alloc: Global, rule: Rule) -> Result<(), Fail> {
+    let commands = commands(alloc)?;
+    let mut expected = Expected::new(alloc, N, rule);
+    let mut wanted = Vec::new(alloc);
+    let mut work = Work::NONE;
+    for command in &commands {
+        let (reply, more) = expected.answer(*command)?;
+        wanted.push(reply)?;
+        work = work.plus(more);
+    }
+    let (asked, compared) = (Cell::new(0), Cell::new(0));
+    let builder = Counting::new(rule, &asked);
+    let replies = replies_to::<N>(rt, alloc, builder, commands, &compared)?;
+    assert!(rt; replies == wanted, "limit {N}, {rule:?}");
+    let spent = (asked.get(), compared.get());
+    assert!(rt;
+        work.allows(spent.0, spent.1),
+        "limit {N}, {rule:?}: {spent:?} for {work:?}"
+    );
+    Ok(())
+}
+
+// What one run over a new map answers.
+fn replies_to<const N: usize>(
+    rt: &impl Abort,
+    alloc: Global,
+    builder: Counting<'_>,
+    commands: Vec<Command<Name, u64>>,
+    compared: &Cell<u64>,
+) -> Result<Vec<Reply<Name, u64>>, AllocError> {
+    let mut map: SizedHashMap<Key<'_>, u64, Counting<'_>, N> = SizedHashMap::with_hasher(
+        alloc, builder,
+    );
+    let commands = commands
+        .into_iter()
+        .map(|command| with_counting_key(command, compared))
+        .collect(alloc)?;
+    let replies = run(alloc, &mut map, commands)
+        .ok()
+        .expect(rt, "the room for the replies");
+    replies.into_iter().map(with_names).collect(alloc)
+}
+
+#[test]
+fn a_long_run_answers_as_a_list(rt: HostRuntime) -> Result<(), Fail> {
+    for rule in [Rule::Plain, Rule::Zero, Rule::Top] {
+        answers_as_a_list::<0>(&rt, rt.alloc(), rule)?;
+        answers_as_a_list::<1>(&rt, rt.alloc(), rule)?;
+        answers_as_a_list::<2>(&rt, rt.alloc(), rule)?;
+        answers_as_a_list::<5>(&rt, rt.alloc(), rule)?;
+        answers_as_a_list::<32>(&rt, rt.alloc(), rule)?;
+        runs_as_a_list::<0>(&rt, rt.alloc(), rule)?;
+        runs_as_a_list::<1>(&rt, rt.alloc(), rule)?;
+        runs_as_a_list::<2>(&rt, rt.alloc(), rule)?;
+        runs_as_a_list::<5>(&rt, rt.alloc(), rule)?;
+        runs_as_a_list::<32>(&rt, rt.alloc(), rule)?;
+    }
+    Ok(())
+}

@@ -1,0 +1,38 @@
+-- What a request is answered.
+use Rattle.std.specs.Prelude.{◌≡◌, ℕ, nat_eq, Option, Some, None, IsSome, ◌⊎◌, length, if◌then◌else◌}
+use Rattle.std.specs.Option.{option_map}
+use Rattle.halfbrown.specs.Growth.{insert_wants, stays_vec}
+use Rattle.halfbrown.specs.Pairs.{value_of, pair_of, put, take_out}
+use Rattle.halfbrown.specs.State.{State, with_pairs}
+use Rattle.halfmap.specs.declared.answer.Answer.{Answer}
+use Rattle.halfmap.specs.declared.answer.Answer.TheVariants.{Absent, Was, NoRoom, Value, Vector, Table}
+use Rattle.halfmap.specs.declared.request.Request.{Request}
+use Rattle.halfmap.specs.declared.request.Request.TheVariants.{Insert, Get, Remove, Form}
+
+-- the answer to what was held before
+abbrev pub was : Option ℕ → Answer
+was None = Absent
+was (Some value) = Was value
+
+-- the answer to what is held
+abbrev pub found : Option ℕ → Answer
+found None = Absent
+found (Some value) = Value value
+
+-- the most pairs that the program's map holds in a vector
+abbrev pub limit : ℕ
+limit = 5
+
+-- what a request is answered, and what it makes of the map; an insertion may be refused where it wants more room
+abbrev pub Answers : {S : Type 0} → Request → State ℕ ℕ S → Answer → State ℕ ℕ S → Type 0
+Answers (Insert k v) old answer new =
+    ((answer ≡ NoRoom) × IsSome (insert_wants limit nat_eq old k) × (new ≡ old))
+    ⊎ ((answer ≡ was (value_of nat_eq old.pairs k))
+    × (new.pairs ≡ put nat_eq old.pairs k v)
+    × (new.is_vec ≡ stays_vec limit old))
+Answers (Get k) old answer new = (answer ≡ found (value_of nat_eq old.pairs k)) × (new ≡ old)
+Answers (Remove k) old answer new =
+    (answer ≡ was (option_map (λ p. p.1) (pair_of nat_eq old.pairs k)))
+    × (new ≡ with_pairs old (take_out nat_eq old.pairs k))
+Answers Form old answer new =
+    (answer ≡ (if old.is_vec then Vector (length old.pairs) else Table (length old.pairs))) × (new ≡ old)

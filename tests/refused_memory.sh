@@ -1,0 +1,110 @@
+#!/bin/sh
+# Refuses memory to the proved programs refused_memory and halfmap, request by request, and compares what they then write
+# with what is promised. For each scenario the request to refuse counts up until a run meets no refusal.
+#
+# tests/refused_memory/SCENARIO.granted is what a run without a refusal writes, and SCENARIO.refused what each other writes.
+# The scenario `run` asks for its replies first; run.handed_back is what a run writes where these are refused. halfmap answers
+# `no room` where an insertion is refused, and stops with status 1 where a buffer is.
+#
+# The last line is "N passed, M failed".
+set -u
+cd "$(dirname "$0")/.." || exit 1
+
+programs=$PWD/crates
+wanted=$PWD/tests/refused_memory
+work=$(mktemp -d) || exit 1
+trap 'rm -rf "$work"' EXIT
+passed=0
+failed=0
+
+# Compares the last run with a file.
+compare() {
+    if diff "$wanted/$1" "$work/output" >"$work/difference"; then
+        passed=$((passed + 1))
+    else
+        failed=$((failed + 1))
+        echo "$2: not as in tests/refused_memory/$1:"
+        cat "$work/difference"
+    fi
+}
+
+# Runs a scenario, with this request refused.
+play() {
+    REFUSE=$2 REFUSE_AFTER=now LD_PRELOAD=$work/refuse.so "$programs/refused_memory/out/refused_memory" "$1" \
+        >"$work/output" 2>"$work/refusals" </dev/null
+}
+
+# Refuses each request of a scenario in turn. It makes so many at least.
+refuse_each() {
+    scenario=$1
+    least=$2
+    request=1
+    while play "$scenario" "$request" && [ -s "$work/refusals" ]; do
+        case $scenario.$request in
+            run.1) compare run.handed_back "$scenario, request 1 refused" ;;
+            *) compare "$scenario.refused" "$scenario, request $request refused" ;;
+        esac
+        request=$((request + 1))
+        [ "$request" -le 100 ] || break
+    done
+    compare "$scenario.granted" "$scenario, no request refused"
+    if [ "$((request - 1))" -lt "$least" ]; then
+        failed=$((failed + 1))
+        echo "$scenario: $((request - 1)) requests, and $least are wanted"
+    fi
+}
+
+# A scenario that asks for nothing.
+refuse_all() {
+    play "$1" all
+    compare "$1.granted" "$1, every request refused"
+    if [ -s "$work/refusals" ]; then
+        failed=$((failed + 1))
+        echo "$1: it asked for memory"
+    fi
+}
+
+# Answers the same lines, with this request refused, and says the status.
+serve() {
+    REFUSE=$1 LD_PRELOAD=$work/refuse.so "$programs/halfmap/out/halfmap" \
+        >"$work/output" 2>"$work/refusals" <"$wanted/halfmap.lines"
+    echo "status $?" >>"$work/output"
+}
+
+refuse_each_of_halfmap() {
+    request=1
+    stopped=0
+    no_room=0
+    while serve "$request" && [ -s "$work/refusals" ]; do
+        if grep -q '^status 1$' "$work/output"; then
+            compare halfmap.stopped "halfmap, request $request refused"
+            stopped=$((stopped + 1))
+        else
+            compare halfmap.refused "halfmap, request $request refused"
+            no_room=$((no_room + 1))
+        fi
+        request=$((request + 1))
+        [ "$request" -le 100 ] || break
+    done
+    compare halfmap.granted "halfmap, no request refused"
+    if [ "$stopped" -lt 3 ] || [ "$no_room" -lt 2 ]; then
+        failed=$((failed + 1))
+        echo "halfmap: $stopped buffers and $no_room columns, and 3 and 2 are wanted"
+    fi
+}
+
+cc -O2 -Wall -Wextra -shared -fPIC -o "$work/refuse.so" tests/refuse.c || exit 1
+
+# One column grows for the keys and one for the values; a table has an array more.
+refuse_each first-pair 2
+refuse_each vector-growth 2
+refuse_each switch 3
+refuse_each switch-by-overwrite 3
+refuse_each first-pair-of-a-table 3
+refuse_each table-growth 3
+refuse_each run 4
+refuse_all overwrite-without-room
+refuse_each_of_halfmap
+
+echo "$passed passed, $failed failed"
+[ "$failed" -eq 0 ]
