@@ -5,7 +5,7 @@ use Rattle.std.proofs.lemmas.Nat.{pow_pos, pow-add}
 use Rattle.std.proofs.lemmas.Grind.{pow_more}
 use Rattle.std.proofs.lemmas.Bool.{cases_lt}
 use Rattle.std.proofs.lemmas.Bool.Decides.{nat_tests}
-use Rattle.half_store.specs.Rooms.{room_of, buckets_of, IsBucketCount, more_buckets, buckets_for_more, buckets_for, IsLeastFor}
+use Rattle.half_store.specs.Rooms.{room_of, buckets_of, IsBucketCount, more_buckets, buckets_for_more, buckets_for, IsLeastFor, room_for}
 
 -- a bucket count that is not 0 is at least 4
 pub four-le_count : (m : ℕ) → IsBucketCount m → 0 < m → 4 ≤ m
