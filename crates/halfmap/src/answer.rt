@@ -55,7 +55,7 @@ pub(crate) fn perform(map: &mut Numbers, request: Request) -> Answer
             Some(value) => Answer::Value(*value),
             None => Answer::Absent,
         },
-        Request::Remove(key) => was(map.remove_entry(&key).map(|(_, value)| value)),
+        Request::Remove(key) => was(map.remove(&key)),
         Request::Form if map.is_vec() => Answer::Vector(map.len()),
         Request::Form => Answer::Table(map.len()),
     }
