@@ -236,13 +236,6 @@ fn a_gap_closed_step_by_step(rt: HostRuntime) -> Result<(), Fail> {
             "the pair of hash {hash}"
         );
     }
-    for (hash, reads) in [(8, 3), (22, 5), (23, 4), (3, 1)] {
-        assert_eq!(rt;
-            searched(&table, hash, NO_NUMBER),
-            (None, reads, 0),
-            "no pair of hash {hash}"
-        );
-    }
 
     let mut stays = Table::with_room(rt.alloc(), 6)?;
     for hash in [1, 9, 3] {
@@ -256,6 +249,42 @@ fn a_gap_closed_step_by_step(rt: HostRuntime) -> Result<(), Fail> {
         [None, Some(9), None, Some(3), None, None, None, None].as_slice(),
         "3 is at home in the stretch"
     );
+    Ok(())
+}
+
+#[test]
+fn no_trace_of_the_past(rt: HostRuntime) -> Result<(), Fail> {
+    let mut table = table_of(rt.alloc(), &[0, 8, 1])?;
+    assert_eq!(rt;
+        searched(&table, 1, 2),
+        (Some(2), 2, 1),
+        "1 stands behind 8"
+    );
+    assert!(rt; 1 < table.len());
+    assert_eq!(rt; table.remove(1), 8);
+    assert_eq!(rt;
+        searched(&table, 1, 1),
+        (Some(1), 1, 1),
+        "and is at home again"
+    );
+    assert_eq!(rt; searched(&table, 0, 0), (Some(0), 1, 1));
+
+    let mut lived = Table::from_hashes(rt.alloc(), &[6, 14, 7, 15, 0], 5)?;
+    assert!(rt; 0 < lived.len());
+    assert_eq!(rt; lived.remove(0), 6);
+    let fresh = Table::from_hashes(rt.alloc(), &[0, 15, 14, 7], 5)?;
+    for (hash, reads) in [(8, 3), (22, 5), (23, 4), (3, 1)] {
+        assert_eq!(rt;
+            searched(&lived, hash, NO_NUMBER),
+            (None, reads, 0),
+            "no pair of hash {hash}"
+        );
+        assert_eq!(rt;
+            searched(&fresh, hash, NO_NUMBER),
+            (None, reads, 0),
+            "no pair of hash {hash}"
+        );
+    }
     Ok(())
 }
 
