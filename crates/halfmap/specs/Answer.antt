@@ -1,9 +1,8 @@
 -- What a request is answered.
 use Rattle.std.specs.Prelude.{◌≡◌, ℕ, nat_eq, Option, Some, None, IsSome, ◌⊎◌, length, if◌then◌else◌}
-use Rattle.std.specs.Option.{option_map}
 use Rattle.halfbrown.specs.Growth.{insert_wants, stays_vec}
-use Rattle.halfbrown.specs.Pairs.{value_of, pair_of, put, take_out}
-use Rattle.halfbrown.specs.State.{State, with_pairs}
+use Rattle.halfbrown.specs.Pairs.{value_of, put, take_out}
+use Rattle.halfbrown.specs.State.{State, WithPairs}
 use Rattle.halfmap.specs.declared.answer.Answer.{Answer}
 use Rattle.halfmap.specs.declared.answer.Answer.TheVariants.{Absent, Was, NoRoom, Value, Vector, Table}
 use Rattle.halfmap.specs.declared.request.Request.{Request}
@@ -32,7 +31,6 @@ Answers (Insert k v) old answer new =
     × (new.is_vec ≡ stays_vec limit old))
 Answers (Get k) old answer new = (answer ≡ found (value_of nat_eq old.pairs k)) × (new ≡ old)
 Answers (Remove k) old answer new =
-    (answer ≡ was (option_map (λ p. p.1) (pair_of nat_eq old.pairs k)))
-    × (new ≡ with_pairs old (take_out nat_eq old.pairs k))
+    (answer ≡ was (value_of nat_eq old.pairs k)) × WithPairs old (take_out nat_eq old.pairs k) new
 Answers Form old answer new =
     (answer ≡ (if old.is_vec then Vector (length old.pairs) else Table (length old.pairs))) × (new ≡ old)
