@@ -17,6 +17,7 @@ pub record WritesAfter (letters text : List ℕ) (n : ℕ) : Type 0 where
   pub text_is : text ≡ letters ++ word
   pub word_writes : Writes word n
 
+-- the byte is a space
 abbrev pub is_space : ℕ → Bool
 is_space b = b == 32
 

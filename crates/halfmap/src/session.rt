@@ -24,7 +24,7 @@ const KEPT_BYTES: u64 = 46;
 /// Answers each line of the reader by a line to the writer, until the input ends.
 ///
 /// An answer is written out before the reader is asked for more than it has given, so whoever sends a line and then waits
-/// sees its answer. The map begins empty. A line may have any length, and takes no memory for it.
+/// sees its answer. The map begins empty. A line may have any length: of a long one only the first bytes are kept.
 pub fn serve<R: Read + Drop, W: Write + Drop>(
     alloc: Global,
     reader: R,
