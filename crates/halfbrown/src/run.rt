@@ -1,5 +1,5 @@
 //! Whole runs: a list of commands, answered one after another.
-ghost use Rattle.std.specs.Prelude.{◌≡◌, [], IsOk, IfOk, IfErr, OnErr};
+ghost use Rattle.std.specs.Prelude.{◌≡◌, true, false, [], IsOk, IfOk, IfErr, OnErr};
 ghost use Rattle.halfbrown.specs.Costs.{key_hash};
 ghost use Rattle.halfbrown.specs.Run.{Runs};
 ghost use Rattle.halfbrown.specs.State.{IsState};
@@ -67,6 +67,7 @@ pub fn run<K: Eq + Hash + Drop, V: Copy, S: BuildHasher, L: Limit>(
     commands: Vec<Command<K, V>>,
 ) -> Result<Vec<Reply<K, V>>, Vec<Command<K, V>>>
     ensures run { IfOk result (λ replies. (cost : Cost) × Runs L.LIMIT K.eq (key_hash S.BuildHasher S.Hasher.Hasher K.hash_input) map.old commands.items replies.items map.new cost) }
+    ensures stays_a_table { map.old.is_vec ≡ false → map.new.is_vec ≡ false }
     ensures empty { commands.items ≡ [] → IsOk result }
     ensures returned { IfErr result (λ back. back.items ≡ commands.items) }
     ensures err { OnErr result (map.new ≡ map.old) }
@@ -84,6 +85,10 @@ pub fn run_counted<K: Eq + Hash + Drop, V: Copy, S: BuildHasher, L: Limit>(
     // The replies and the map afterwards are a run of one list of pairs, and the tally grew by what the run costs.
     ensures run { IfOk result (λ replies. (cost : Cost) × Runs L.LIMIT K.eq (key_hash S.BuildHasher S.Hasher.Hasher K.hash_input) map.old commands.items replies.items map.new cost × GrewBy cost tally.old tally.new) }
     ensures empty { commands.items ≡ [] → IsOk result }
+
+    // Once a table, always a table; and a run that leaves a vector has hashed nothing.
+    ensures stays_a_table { map.old.is_vec ≡ false → map.new.is_vec ≡ false }
+    ensures nothing_hashed { map.new.is_vec ≡ true → tally.new.asked ≡ tally.old.asked }
 
     // Where the room for the replies is refused, nothing was done.
     ensures returned { IfErr result (λ back. back.items ≡ commands.items) }
@@ -110,6 +115,8 @@ fn step<K: Eq + Hash + Drop, V: Copy, S: BuildHasher, L: Limit>(
     ensures step { Steps L.LIMIT K.eq map.old command result map.new }
     ensures state { IsState K.eq L.LIMIT map.new }
     ensures cost { GrewBy (command_cost L.LIMIT K.eq (key_hash S.BuildHasher S.Hasher.Hasher K.hash_input) map.old command (is_refused result)) tally.old tally.new }
+    ensures stays_a_table { map.old.is_vec ≡ false → map.new.is_vec ≡ false }
+    ensures nothing_hashed { map.new.is_vec ≡ true → tally.new.asked ≡ tally.old.asked }
 {
     match command {
         Command::Insert(key, value) => match map.insert_counted(key, value, tally) {
@@ -146,6 +153,8 @@ fn insert_new<K: Eq + Hash + Drop, V: Copy, S: BuildHasher, L: Limit>(
     ensures step { Steps L.LIMIT K.eq map.old (Command.InsertNew key value) result map.new }
     ensures state { IsState K.eq L.LIMIT map.new }
     ensures cost { GrewBy (command_cost L.LIMIT K.eq (key_hash S.BuildHasher S.Hasher.Hasher K.hash_input) map.old (Command.InsertNew key value) (is_refused result)) tally.old tally.new }
+    ensures stays_a_table { map.old.is_vec ≡ false → map.new.is_vec ≡ false }
+    ensures nothing_hashed { map.new.is_vec ≡ true → tally.new.asked ≡ tally.old.asked }
 {
     if map.contains_key_counted(&key, tally) {
         return Reply::Present(key, value);
