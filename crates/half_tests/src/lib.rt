@@ -4,6 +4,7 @@
 #[cfg(test)]
 mod basic_calls;
 pub mod builders;
+pub mod callers;
 #[cfg(test)]
 mod expected;
 pub mod keys;
