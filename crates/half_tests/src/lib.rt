@@ -6,9 +6,15 @@ mod basic_calls;
 pub mod builders;
 pub mod callers;
 #[cfg(test)]
+mod counts;
+#[cfg(test)]
 mod expected;
 pub mod keys;
 #[cfg(test)]
 mod long_runs;
 #[cfg(test)]
 mod names;
+#[cfg(test)]
+mod room_calls;
+#[cfg(test)]
+mod table_work;
