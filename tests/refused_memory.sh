@@ -3,6 +3,7 @@
 # with what is promised. For each scenario the request to refuse counts up until a run meets no refusal.
 #
 # tests/refused_memory/SCENARIO.granted is what a run without a refusal writes, and SCENARIO.refused what each other writes.
+# A constructor is called twice; SCENARIO.refused_again is what a run writes where the second map is refused.
 # The scenario `run` asks for its replies first; run.handed_back is what a run writes where these are refused. halfmap answers
 # `no room` where an insertion is refused, and stops with status 1 where a buffer is.
 #
@@ -42,6 +43,12 @@ refuse_each() {
     while play "$scenario" "$request" && [ -s "$work/refusals" ]; do
         case $scenario.$request in
             run.1) compare run.handed_back "$scenario, request 1 refused" ;;
+            # The second map is refused.
+            vector-made*.[34] | table-made.[6-9] | table-made.10 | made-with-default-builder.[6-9] | made-with-default-builder.10)
+                compare "$scenario.refused_again" "$scenario, request $request refused"
+                ;;
+            # A column that keeps its memory leaves the room to the other one, and to the table.
+            vector-shrink.* | table-shrink.[45]) compare "$scenario.granted" "$scenario, request $request refused" ;;
             *) compare "$scenario.refused" "$scenario, request $request refused" ;;
         esac
         request=$((request + 1))
@@ -95,14 +102,24 @@ refuse_each_of_halfmap() {
 
 cc -O2 -Wall -Wextra -shared -fPIC -o "$work/refuse.so" tests/refuse.c || exit 1
 
-# One column grows for the keys and one for the values; a table has an array more.
+# One column grows for the keys and one for the values; a table has three arrays more. A constructor is called twice.
 refuse_each first-pair 2
 refuse_each vector-growth 2
-refuse_each switch 3
-refuse_each switch-by-overwrite 3
-refuse_each first-pair-of-a-table 3
-refuse_each table-growth 3
-refuse_each run 4
+refuse_each switch 5
+refuse_each switch-by-overwrite 5
+refuse_each switch-unsearched 5
+refuse_each first-pair-of-a-table 5
+refuse_each table-growth 5
+refuse_each table-growth-unsearched 5
+refuse_each vector-reserve 2
+refuse_each table-reserve 5
+refuse_each vector-shrink 2
+refuse_each table-shrink 5
+refuse_each vector-made 4
+refuse_each vector-made-at-limit 4
+refuse_each table-made 10
+refuse_each made-with-default-builder 10
+refuse_each run 6
 refuse_all overwrite-without-room
 refuse_each_of_halfmap
 

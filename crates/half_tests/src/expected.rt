@@ -2,8 +2,11 @@
 
 use crate::builders::Rule;
 use crate::names::Name;
-use halfbrown::{Command, Reply};
+use halfbrown::{Command, Refusal, Reply};
 use std::alloc::{AllocError, Global};
+
+// The most pairs that may be wanted at once.
+const MOST_PAIRS: usize = 1 << 60;
 
 /// The work of one command.
 #[derive(Clone, Copy, Debug, PartialEq, Eq)]
@@ -45,7 +48,8 @@ pub(crate) struct Expected {
     rule: Rule,
     pairs: Vec<(Name, u64)>,
     is_vec: bool,
-    table_room: usize,
+    // What a table has room for exactly, and a vector at least.
+    room: usize,
 }
 
 impl Expected {
@@ -56,7 +60,7 @@ impl Expected {
             rule,
             pairs: Vec::new(alloc),
             is_vec: true,
-            table_room: 0,
+            room: 0,
         }
     }
 
@@ -64,14 +68,26 @@ impl Expected {
         self.is_vec
     }
 
-    /// Whether a map of this capacity has the right room: in a table exactly so much, in a vector enough and no more
-    /// than the limit.
-    pub(crate) fn allows_room(&self, capacity: usize) -> bool {
-        if self.is_vec {
-            self.pairs.len() <= capacity && capacity <= self.limit
-        } else {
-            capacity == self.table_room
+    /// Whether a map may have this capacity after the command, by the one before it. A table has exactly the room that is
+    /// expected. A vector has enough and no more than the limit, gains some only where the command wants more, and loses
+    /// some only to `Shrink`.
+    pub(crate) fn allows_room(
+        &self,
+        command: Command<Name, u64>,
+        before: usize,
+        after: usize,
+    ) -> bool {
+        if !self.is_vec {
+            return after == self.room;
         }
+        let is_kept = match command {
+            Command::Insert(_, _) | Command::InsertNew(_, _) | Command::Reserve(_) => {
+                after == before || before < self.room && before < after
+            }
+            Command::Shrink => after <= before,
+            _ => after == before,
+        };
+        is_kept && self.room <= after && after <= self.limit
     }
 
     /// Answers a command, and says what it costs.
@@ -81,21 +97,17 @@ impl Expected {
     ) -> Result<(Reply<Name, u64>, Work), AllocError> {
         Ok(match command {
             Command::Insert(key, value) => self.insert(key, value)?,
-            Command::Get(key) => {
-                let found = self.place_of(key);
-                let work = self.search_work(key, found.is_some());
-                let value = found
-                    .and_then(|place| self.pairs.get(place))
-                    .map(|pair| pair.1);
-                (Reply::Found(value), work)
+            Command::InsertNew(key, value) => self.insert_new(key, value)?,
+            Command::Get(key) => self.get(key),
+            Command::Remove(key) => self.remove(key),
+            Command::Clear => {
+                self.pairs.clear();
+                (Reply::Done, Work::NONE)
             }
-            Command::Remove(key) => {
-                let found = self.place_of(key);
-                let work = self.search_work(key, found.is_some());
-                (
-                    Reply::Removed(found.and_then(|place| self.take(place))),
-                    work,
-                )
+            Command::Reserve(additional) => (self.reserve(additional), Work::NONE),
+            Command::Shrink => {
+                self.room = self.room_for(self.pairs.len());
+                (Reply::Done, Work::NONE)
             }
             Command::IsVec => (Reply::Form(self.is_vec), Work::NONE),
             Command::Len => (Reply::Length(self.pairs.len()), Work::NONE),
@@ -113,12 +125,61 @@ impl Expected {
                 Some(old)
             }
             None => {
-                self.pairs.push((key, value))?;
-                self.grow_table();
+                self.add(key, value)?;
                 None
             }
         };
         Ok((Reply::Was(old), work))
+    }
+
+    // A search in the form before, and where it found none an insertion that searches nothing and hashes in a table.
+    fn insert_new(
+        &mut self,
+        key: Name,
+        value: u64,
+    ) -> Result<(Reply<Name, u64>, Work), AllocError> {
+        let is_held = self.place_of(key).is_some();
+        let search = self.search_work(key, is_held);
+        if is_held {
+            return Ok((Reply::Present(key, value), search));
+        }
+        let switch = self.switch_where_full();
+        let placing = Work {
+            asked: if self.is_vec { 0 } else { 1 },
+            ..Work::NONE
+        };
+        self.add(key, value)?;
+        Ok((Reply::Added, search.plus(switch).plus(placing)))
+    }
+
+    fn get(&self, key: Name) -> (Reply<Name, u64>, Work) {
+        let found = self.place_of(key);
+        let work = self.search_work(key, found.is_some());
+        let value = found
+            .and_then(|place| self.pairs.get(place))
+            .map(|pair| pair.1);
+        (Reply::Found(value), work)
+    }
+
+    fn remove(&mut self, key: Name) -> (Reply<Name, u64>, Work) {
+        let found = self.place_of(key);
+        let work = self.search_work(key, found.is_some());
+        let taken = found.and_then(|place| self.take(place));
+        (Reply::Removed(taken), work)
+    }
+
+    // A vector gets no more room than the limit, so that no number is too large for it.
+    fn reserve(&mut self, additional: usize) -> Reply<Name, u64> {
+        let wanted = self.pairs.len().saturating_add(additional);
+        if self.is_vec {
+            self.room = self.room.max(wanted.min(self.limit));
+            return Reply::Done;
+        }
+        if wanted > MOST_PAIRS {
+            return Reply::Refused(Command::Reserve(additional), Refusal::Size);
+        }
+        self.make_room(wanted);
+        Reply::Done
     }
 
     // A full vector becomes a table, and the builder is asked for each key.
@@ -127,17 +188,32 @@ impl Expected {
             return Work::NONE;
         }
         self.is_vec = false;
-        self.table_room = table_room_for(self.limit.saturating_add(1));
+        self.room = self.room_for(self.limit.saturating_add(1));
         Work {
             asked: self.limit as u64,
             ..Work::NONE
         }
     }
 
-    // A table grows only where its pairs no longer fit.
-    fn grow_table(&mut self) {
-        if !self.is_vec && self.table_room < self.pairs.len() {
-            self.table_room = table_room_for(self.pairs.len());
+    fn add(&mut self, key: Name, value: u64) -> Result<(), AllocError> {
+        self.pairs.push((key, value))?;
+        self.make_room(self.pairs.len());
+        Ok(())
+    }
+
+    // The room grows only where so many pairs do not fit.
+    fn make_room(&mut self, wanted: usize) {
+        if self.room < wanted {
+            self.room = self.room_for(wanted);
+        }
+    }
+
+    // What so many pairs want: a vector just that, a table the least room of its series.
+    fn room_for(&self, wanted: usize) -> usize {
+        if self.is_vec {
+            wanted
+        } else {
+            table_room_for(wanted)
         }
     }
 

@@ -4,6 +4,9 @@
 #[cfg(test)]
 mod basic_calls;
 pub mod builders;
+pub mod callers;
+#[cfg(test)]
+mod counts;
 #[cfg(test)]
 mod expected;
 pub mod keys;
@@ -11,3 +14,7 @@ pub mod keys;
 mod long_runs;
 #[cfg(test)]
 mod names;
+#[cfg(test)]
+mod room_calls;
+#[cfg(test)]
+mod table_work;

@@ -16,7 +16,8 @@ const COMMANDS: u64 = 1_000;
 // How many keys there are to choose from. Of so many, more than 32 are held in time, while pairs come and go.
 const KEYS: u64 = 60;
 
-// The commands, made by a linear congruence. Each key is marked by the number of its command.
+// The commands, made by a linear congruence. Each key is marked by the number of its command. Some want room for more
+// pairs than there can be.
 fn commands(alloc: Global) -> Result<Vec<Command<Name, u64>>, AllocError> {
     let mut commands = Vec::new(alloc);
     let mut state = 1u64;
@@ -24,12 +25,17 @@ fn commands(alloc: Global) -> Result<Vec<Command<Name, u64>>, AllocError> {
         state = state
             .wrapping_mul(6_364_136_223_846_793_005)
             .wrapping_add(1_442_695_040_888_963_407);
-        let key = ((state >> 20) % KEYS, number);
-        commands.push(match state >> 60 {
-            0..=6 => Command::Insert(key, number),
-            7..=9 => Command::Get(key),
-            10..=12 => Command::Remove(key),
-            13 => Command::IsVec,
+        let id = (state >> 20) % KEYS;
+        commands.push(match state >> 56 {
+            0..=89 => Command::Insert((id, number), number),
+            90..=134 => Command::InsertNew((id, number), number),
+            135..=167 => Command::Get((id, number)),
+            168..=199 => Command::Remove((id, number)),
+            200..=202 => Command::Clear,
+            203..=214 => Command::Reserve(id as usize),
+            215..=219 => Command::Reserve(usize::MAX - id as usize),
+            220..=231 => Command::Shrink,
+            232..=243 => Command::IsVec,
             _ => Command::Len,
         })?;
     }
@@ -50,6 +56,7 @@ fn answers_as_a_list<const N: usize>(
     let mut expected = Expected::new(alloc, N, rule);
     for command in &commands(alloc)? {
         let (reply, work) = expected.answer(*command)?;
+        let room = map.capacity();
         asked.set(0);
         compared.set(0);
         let list = vec![in alloc; with_counting_key(*command, &compared)]?;
@@ -73,7 +80,7 @@ fn answers_as_a_list<const N: usize>(
             "limit {N}, {rule:?}, {command:?}"
         );
         assert!(rt;
-            expected.allows_room(map.capacity()),
+            expected.allows_room(*command, room, map.capacity()),
             "limit {N}, {rule:?}, {command:?}"
         );
     }
@@ -142,5 +149,26 @@ fn a_long_run_answers_as_a_list(rt: HostRuntime) -> Result<(), Fail> {
         runs_as_a_list::<5>(&rt, rt.alloc(), rule)?;
         runs_as_a_list::<32>(&rt, rt.alloc(), rule)?;
     }
+    Ok(())
+}
+
+#[test]
+fn a_long_run_meets_the_rare_replies(rt: HostRuntime) -> Result<(), Fail> {
+    let mut expected = Expected::new(rt.alloc(), 5, Rule::Plain);
+    let (mut added, mut present, mut done, mut refused) = (0, 0, 0, 0);
+    for command in &commands(rt.alloc())? {
+        match expected.answer(*command)?.0 {
+            Reply::Added => added += 1,
+            Reply::Present(_, _) => present += 1,
+            Reply::Done => done += 1,
+            Reply::Refused(_, _) => refused += 1,
+            _ => (),
+        }
+    }
+    assert!(rt;
+        added > 50 && present > 50,
+        "{added} were new, {present} were held"
+    );
+    assert!(rt; done > 50 && refused > 10, "{done} done, {refused} refused");
     Ok(())
 }

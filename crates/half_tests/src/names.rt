@@ -15,8 +15,12 @@ pub(crate) fn with_counting_key(
     let counting = |(id, mark): Name| Key::new(id, mark, compared);
     match command {
         Command::Insert(key, value) => Command::Insert(counting(key), value),
+        Command::InsertNew(key, value) => Command::InsertNew(counting(key), value),
         Command::Get(key) => Command::Get(counting(key)),
         Command::Remove(key) => Command::Remove(counting(key)),
+        Command::Clear => Command::Clear,
+        Command::Reserve(additional) => Command::Reserve(additional),
+        Command::Shrink => Command::Shrink,
         Command::IsVec => Command::IsVec,
         Command::Len => Command::Len,
     }
@@ -26,8 +30,11 @@ pub(crate) fn with_counting_key(
 pub(crate) fn with_names(reply: Reply<Key<'_>, u64>) -> Reply<Name, u64> {
     match reply {
         Reply::Was(old) => Reply::Was(old),
+        Reply::Added => Reply::Added,
+        Reply::Present(key, value) => Reply::Present(key.name(), value),
         Reply::Found(value) => Reply::Found(value),
         Reply::Removed(pair) => Reply::Removed(pair.map(|(key, value)| (key.name(), value))),
+        Reply::Done => Reply::Done,
         Reply::Form(is_vec) => Reply::Form(is_vec),
         Reply::Length(len) => Reply::Length(len),
         Reply::Refused(command, why) => Reply::Refused(command_with_names(command), why),
@@ -37,8 +44,12 @@ pub(crate) fn with_names(reply: Reply<Key<'_>, u64>) -> Reply<Name, u64> {
 fn command_with_names(command: Command<Key<'_>, u64>) -> Command<Name, u64> {
     match command {
         Command::Insert(key, value) => Command::Insert(key.name(), value),
+        Command::InsertNew(key, value) => Command::InsertNew(key.name(), value),
         Command::Get(key) => Command::Get(key.name()),
         Command::Remove(key) => Command::Remove(key.name()),
+        Command::Clear => Command::Clear,
+        Command::Reserve(additional) => Command::Reserve(additional),
+        Command::Shrink => Command::Shrink,
         Command::IsVec => Command::IsVec,
         Command::Len => Command::Len,
     }

@@ -1,13 +1,17 @@
 //! The scenarios: each makes a map with ample memory, and then does what needs more.
 
-use crate::report::{Numbers, insert, print_begin, print_state};
+use crate::report::{
+    Numbers, insert, insert_unsearched, print_begin, print_made, print_state, reserve, shrink,
+};
 use half_tests::builders::{Counting, Rule};
 use halfbrown::run::run;
-use halfbrown::{Command, SizedHashMap};
+use halfbrown::{Command, DefaultHashBuilder, HashMap, Refusal, SizedHashMap};
 use std::alloc::AllocError;
 use std::cell::Cell;
 use std::io;
 use std::io::Error;
+
+type Default32 = HashMap<u64, u64, DefaultHashBuilder>;
 
 /// Plays the scenario of this name.
 pub(crate) fn play(rt: &(impl Print + AllocGlobal), name: &str) -> io::Result<()> {
@@ -19,6 +23,16 @@ pub(crate) fn play(rt: &(impl Print + AllocGlobal), name: &str) -> io::Result<()
         "first-pair-of-a-table" => insert_behind::<0>(rt, 0, (1, 10)),
         "table-growth" => insert_behind::<0>(rt, 3, (4, 4)),
         "overwrite-without-room" => insert_behind::<0>(rt, 3, (2, 20)),
+        "switch-unsearched" => insert_unsearched_behind::<5>(rt, 5, (6, 6)),
+        "table-growth-unsearched" => insert_unsearched_behind::<0>(rt, 3, (4, 4)),
+        "vector-reserve" => reserve_behind::<32>(rt, 4, 5),
+        "table-reserve" => reserve_behind::<0>(rt, 3, 4),
+        "vector-shrink" => shrink_behind::<32>(rt, 16, 5),
+        "table-shrink" => shrink_behind::<5>(rt, 24, 6),
+        "vector-made" => make::<5>(rt, 5),
+        "table-made" => make::<5>(rt, 6),
+        "made-with-default-builder" => make_with_default_builder(rt),
+        "vector-made-at-limit" => make_vector_at_limit(rt),
         "run" => run_behind(rt),
         _ => Err(Error::other("no scenario has this name")),
     }
@@ -52,6 +66,97 @@ fn insert_behind<const N: usize>(
     print_state(rt, &map)?;
     insert(rt, &mut map, &asked, pair)?;
     print_state(rt, &map)
+}
+
+// The same without a search.
+fn insert_unsearched_behind<const N: usize>(
+    rt: &(impl Print + AllocGlobal),
+    held: u64,
+    pair: (u64, u64),
+) -> io::Result<()> {
+    let asked = Cell::new(0);
+    let builder = Counting::new(Rule::Plain, &asked);
+    let mut map: Numbers<'_, N> = SizedHashMap::with_hasher(rt.alloc(), builder);
+    fill(&mut map, held)?;
+    print_state(rt, &map)?;
+    print_begin(rt)?;
+    insert_unsearched(rt, &mut map, &asked, pair)?;
+    print_state(rt, &map)?;
+    insert_unsearched(rt, &mut map, &asked, pair)?;
+    print_state(rt, &map)
+}
+
+// Room for so many more behind so many pairs, wanted twice.
+fn reserve_behind<const N: usize>(
+    rt: &(impl Print + AllocGlobal),
+    held: u64,
+    additional: usize,
+) -> io::Result<()> {
+    let asked = Cell::new(0);
+    let builder = Counting::new(Rule::Plain, &asked);
+    let mut map: Numbers<'_, N> = SizedHashMap::with_hasher(rt.alloc(), builder);
+    fill(&mut map, held)?;
+    print_state(rt, &map)?;
+    print_begin(rt)?;
+    reserve(rt, &mut map, &asked, additional)?;
+    print_state(rt, &map)?;
+    reserve(rt, &mut map, &asked, additional)?;
+    print_state(rt, &map)
+}
+
+// A map made for more pairs than it holds, shrunk twice.
+fn shrink_behind<const N: usize>(
+    rt: &(impl Print + AllocGlobal),
+    capacity: usize,
+    held: u64,
+) -> io::Result<()> {
+    let asked = Cell::new(0);
+    let builder = Counting::new(Rule::Plain, &asked);
+    let made = SizedHashMap::with_capacity_and_hasher(rt.alloc(), capacity, builder);
+    let Ok(mut map): Result<Numbers<'_, N>, Refusal> = made else {
+        return Err(Error::from(AllocError));
+    };
+    fill(&mut map, held)?;
+    print_state(rt, &map)?;
+    print_begin(rt)?;
+    shrink(rt, &mut map, &asked)?;
+    print_state(rt, &map)?;
+    shrink(rt, &mut map, &asked)?;
+    print_state(rt, &map)
+}
+
+// A map for so many pairs, made twice.
+fn make<const N: usize>(rt: &(impl Print + AllocGlobal), capacity: usize) -> io::Result<()> {
+    let asked = Cell::new(0);
+    print_begin(rt)?;
+    for _ in 0..2 {
+        let builder = Counting::new(Rule::Plain, &asked);
+        let made: Result<Numbers<'_, N>, Refusal> = SizedHashMap::with_capacity_and_hasher(
+            rt.alloc(),
+            capacity,
+            builder,
+        );
+        print_made(rt, made)?;
+    }
+    Ok(())
+}
+
+// A map for 33 pairs with the default builder, made twice.
+fn make_with_default_builder(rt: &(impl Print + AllocGlobal)) -> io::Result<()> {
+    print_begin(rt)?;
+    for _ in 0..2 {
+        print_made(rt, Default32::with_capacity(rt.alloc(), 33))?;
+    }
+    Ok(())
+}
+
+// A vector for more pairs than the limit allows, made twice.
+fn make_vector_at_limit(rt: &(impl Print + AllocGlobal)) -> io::Result<()> {
+    print_begin(rt)?;
+    for _ in 0..2 {
+        print_made(rt, Default32::vec_with_capacity(rt.alloc(), 128))?;
+    }
+    Ok(())
 }
 
 // A run that switches a full vector of five, in which the switch is tried twice.

@@ -1,0 +1,166 @@
+//! What callers build on the map, proved from its public contracts alone: scopes of names, a set of labels, and a cache
+//! whose look-ups are counted.
+ghost use Rattle.std.specs.Prelude.{◌≡◌, ◌+◌, ◌≤◌, Some, true, false, not, length, OnOk, IfOk, IfErr, OnErr, if◌then◌else◌};
+ghost use Rattle.std.specs.Option.{option_copied};
+ghost use Rattle.halfbrown.specs.Pairs.{value_of, holds, put};
+
+use halfbrown::{Limit, LimitedHashMap, Refused, Tally};
+use std::hash::{BuildHasher, Hash};
+
+/// Gives a name its meaning in a scope, and answers the meaning that it had there. A refusal leaves the scope as it was.
+pub fn declare<N: Eq + Hash + Drop, M, S: BuildHasher, L: Limit>(
+    scope: &mut LimitedHashMap<N, M, S, L>,
+    name: N,
+    meaning: M,
+) -> Result<Option<M>, Refused<N, M>>
+    ensures before { IfOk result (λ old. old ≡ value_of N.eq scope.old.pairs name) }
+    ensures declared { OnOk result (scope.new.pairs ≡ put N.eq scope.old.pairs name meaning) }
+    ensures means { OnOk result (value_of N.eq scope.new.pairs name ≡ Some meaning) }
+    ensures name_returned { IfErr result (λ refused. refused.key ≡ name) }
+    ensures meaning_returned { IfErr result (λ refused. refused.value ≡ meaning) }
+    ensures unchanged { OnErr result (scope.new ≡ scope.old) }
+{
+    scope.insert(name, meaning)
+}
+
+/// What a name means in a scope within another: what the inner scope says, and where it says nothing what the outer does.
+pub fn resolve<'a, N: Eq + Hash, M, S: BuildHasher, L: Limit>(
+    inner: &'a LimitedHashMap<N, M, S, L>,
+    outer: &'a LimitedHashMap<N, M, S, L>,
+    name: &N,
+) -> Option<&'a M>
+    ensures shadowed { holds N.eq inner.now.pairs name.now ≡ true → option_copied result ≡ value_of N.eq inner.now.pairs name.now }
+    ensures from_outside { holds N.eq inner.now.pairs name.now ≡ false → option_copied result ≡ value_of N.eq outer.now.pairs name.now }
+{
+    match inner.get(name) {
+        Some(meaning) => Some(meaning),
+        None => outer.get(name),
+    }
+}
+
+/// Whether a label, or one equal to it, was added.
+pub fn same_label<K: Eq + Hash, S: BuildHasher, L: Limit>(
+    labels: &LimitedHashMap<K, (), S, L>,
+    label: &K,
+) -> bool
+    ensures { result ≡ holds K.eq labels.now.pairs label.now }
+{
+    labels.contains_key(label)
+}
+
+/// Adds a label, and answers whether it is new. One that was added before keeps its place, and nothing changes.
+pub fn add_label<K: Eq + Hash + Drop, S: BuildHasher, L: Limit>(
+    labels: &mut LimitedHashMap<K, (), S, L>,
+    label: K,
+) -> Result<bool, Refused<K, ()>>
+    ensures is_new { IfOk result (λ is_new. is_new ≡ not (holds K.eq labels.old.pairs label)) }
+    ensures added { OnOk result (labels.new.pairs ≡ put K.eq labels.old.pairs label tt) }
+    ensures again { holds K.eq labels.old.pairs label ≡ true → labels.new ≡ labels.old }
+    ensures at_most_one { length labels.new.pairs ≤ length labels.old.pairs + 1 }
+    ensures label_returned { IfErr result (λ refused. refused.key ≡ label) }
+    ensures unchanged { OnErr result (labels.new ≡ labels.old) }
+{
+    if same_label(labels, &label) {
+        return Ok(false);
+    }
+    labels.insert_nocheck(label, ())?;
+    Ok(true)
+}
+
+/// Looks a key up in a cache, and counts the work. The builder is asked once in a table, and never in a vector.
+pub fn lookup_counted<'a, K: Eq + Hash, V, S: BuildHasher, L: Limit>(
+    cache: &'a LimitedHashMap<K, V, S, L>,
+    key: &K,
+    tally: &mut Tally,
+) -> Option<&'a V>
+    ensures value { option_copied result ≡ value_of K.eq cache.now.pairs key.now }
+    ensures in_a_table { cache.now.is_vec ≡ false → tally.new.asked ≡ tally.old.asked + 1 }
+    ensures in_a_vector { cache.now.is_vec ≡ true → tally.new.asked ≡ tally.old.asked }
+{
+    cache.get_counted(key, tally)
+}
+
+#[cfg(test)]
+mod tests {
+    use super::*;
+    use crate::builders::{Counting, Rule};
+    use crate::keys::Key;
+    use halfbrown::{DefaultHashBuilder, HashMap, SizedHashMap};
+    use std::cell::Cell;
+    use std::test::Fail;
+
+    #[test]
+    fn an_inner_scope_hides_the_outer(rt: HostRuntime) -> Result<(), Fail> {
+        let mut outer = HashMap::<u64, u64, DefaultHashBuilder>::new(rt.alloc());
+        let mut inner = HashMap::<u64, u64, DefaultHashBuilder>::new(rt.alloc());
+        for name in 0..40 {
+            assert_eq!(rt;
+                declare(&mut outer, name, name)?,
+                None,
+                "name {name} is new"
+            );
+        }
+        assert_eq!(rt; declare(&mut inner, 7, 70)?, None, "new in the inner scope");
+        assert_eq!(rt; declare(&mut inner, 7, 71)?, Some(70), "declared again");
+        for (name, meaning) in [(7, Some(71)), (8, Some(8)), (39, Some(39)), (40, None)] {
+            assert_eq!(rt;
+                resolve(&inner, &outer, &name).copied(),
+                meaning,
+                "name {name}"
+            );
+        }
+        assert_eq!(rt;
+            resolve(&outer, &inner, &7).copied(),
+            Some(7),
+            "the scopes swapped"
+        );
+        Ok(())
+    }
+
+    #[test]
+    fn a_label_given_twice_keeps_its_first_place(rt: HostRuntime) -> Result<(), Fail> {
+        let (asked, compared) = (Cell::new(0), Cell::new(0));
+        let mut labels = SizedHashMap::<Key<'_>, (), Counting<'_>, 5>::with_hasher(
+            rt.alloc(),
+            Counting::new(Rule::Plain, &asked),
+        );
+        for id in 1..=5 {
+            let label = Key::new(id, 1, &compared);
+            assert!(rt; add_label(&mut labels, label)?, "label {id} is new");
+        }
+        let again = Key::new(3, 2, &compared);
+        assert!(rt; same_label(&labels, &again), "3#2 is the label 3#1");
+        assert!(rt; !add_label(&mut labels, again)?, "it is not added");
+        assert!(rt; labels.is_vec() && labels.len() == 5, "nothing has changed");
+        assert_eq!(rt; asked.get(), 0, "a vector hashes nothing");
+        let stored = labels.remove_entry(&again).map(|pair| pair.0.name());
+        assert_eq!(rt; stored, Some((3, 1)), "the label that was added first");
+        assert!(rt; !same_label(&labels, &again), "it is gone");
+        Ok(())
+    }
+
+    #[test]
+    fn a_cache_hashes_once_in_a_table(rt: HostRuntime) -> Result<(), Fail> {
+        let asked = Cell::new(0);
+        let mut cache = SizedHashMap::<u64, u64, Counting<'_>, 5>::with_hasher(
+            rt.alloc(),
+            Counting::new(Rule::Plain, &asked),
+        );
+        for key in 1..=12 {
+            assert_eq!(rt; cache.insert(key, 10 * key)?, None, "key {key} is new");
+            for wanted in 1..=13 {
+                asked.set(0);
+                let value = lookup_counted(&cache, &wanted, &mut Tally::new()).copied();
+                let expected = if wanted <= key {
+                    Some(10 * wanted)
+                } else {
+                    None
+                };
+                assert_eq!(rt; value, expected, "key {wanted} of {key}");
+                let times = if key <= 5 { 0 } else { 1 };
+                assert_eq!(rt; asked.get(), times, "key {wanted} of {key}");
+            }
+        }
+        Ok(())
+    }
+}
