@@ -197,7 +197,8 @@ impl Expected {
 
     fn add(&mut self, key: Name, value: u64) -> Result<(), AllocError> {
         self.pairs.push((key, value))?;
-        self.make_room(self.pairs.len());
+        let held = self.pairs.len();
+        self.make_room(held);
         Ok(())
     }
 

@@ -14,15 +14,17 @@ fn the_sixth_unsearched_insertion_makes_a_table(rt: HostRuntime) -> Result<(), F
     let counts = Counts::new();
     let mut map = counts.map::<5>(rt.alloc(), Rule::Plain);
     for id in 1..=5 {
-        map.insert_nocheck(counts.key(id), id)?;
+        let key = counts.key(id);
+        assert!(rt; !map.contains_key(&key), "key {id} is not held");
+        counts.take();
+        map.insert_nocheck(key, id)?;
+        assert_eq!(rt; counts.take(), (0, 0), "nothing is hashed or searched");
         assert!(rt; map.is_vec(), "{id} pairs are a vector");
     }
-    assert_eq!(rt;
-        counts.take(),
-        (0, 0),
-        "nothing is hashed, and nothing searched"
-    );
-    map.insert_nocheck(counts.key(6), 6)?;
+    let key = counts.key(6);
+    assert!(rt; !map.contains_key(&key), "key 6 is not held");
+    counts.take();
+    map.insert_nocheck(key, 6)?;
     assert_eq!(rt;
         counts.take(),
         (6, 0),
@@ -30,7 +32,10 @@ fn the_sixth_unsearched_insertion_makes_a_table(rt: HostRuntime) -> Result<(), F
     );
     assert!(rt; map.is_map(), "six pairs are a table");
     assert_eq!(rt; (map.len(), map.capacity()), (6, 6), "length and capacity");
-    map.insert_nocheck(counts.key(7), 7)?;
+    let key = counts.key(7);
+    assert!(rt; !map.contains_key(&key), "key 7 is not held");
+    counts.take();
+    map.insert_nocheck(key, 7)?;
     assert_eq!(rt; counts.take(), (1, 0), "growth asks for no hash again");
     assert_eq!(rt; (map.len(), map.capacity()), (7, 12), "length and capacity");
     for id in 1..=7 {
@@ -86,6 +91,7 @@ fn an_indexed_key_has_the_last_value(rt: HostRuntime) -> Result<(), Fail> {
     for value in ["a", "b", "c"] {
         map.insert(37, value)?;
         assert!(rt; !map.is_empty(), "a pair is held");
+        assert!(rt; map.contains_key(&37), "the key is held");
         assert_eq!(rt; map[&37], value, "the last value");
     }
     Ok(())

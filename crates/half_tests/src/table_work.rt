@@ -265,17 +265,17 @@ fn keys_in_every_other_bucket_are_searched_alone(rt: HostRuntime) -> Result<(), 
 fn passes_through(rt: &(impl Abort + AllocGlobal), step: u64) -> Result<(), Fail> {
     let counts = Counts::new();
     let mut map = counts.map::<0>(rt.alloc(), Rule::Plain);
-    for number in 0..6 {
+    for number in 0..6u64 {
         assert_eq!(rt;
-            map.insert(counts.key(number * step), number)?,
+            map.insert(counts.key(number.wrapping_mul(step)), number)?,
             None,
             "key {number}"
         );
     }
-    for number in 0..10_000 {
-        let taken = map.remove(&counts.key(number * step));
+    for number in 0..10_000u64 {
+        let taken = map.remove(&counts.key(number.wrapping_mul(step)));
         assert!(rt; taken.is_some(), "key {number} by {step} is held");
-        let old = map.insert(counts.key((number + 6) * step), number)?;
+        let old = map.insert(counts.key((number + 6).wrapping_mul(step)), number)?;
         assert!(rt; old.is_none(), "key {number} and six by {step} is new");
     }
     assert_eq!(rt;
@@ -284,8 +284,8 @@ fn passes_through(rt: &(impl Abort + AllocGlobal), step: u64) -> Result<(), Fail
         "a hash for each call, a key for each removal"
     );
     assert_eq!(rt; (map.len(), map.capacity()), (6, 6), "length and capacity");
-    for number in 10_000..10_006 {
-        let value = map.get(&counts.key(number * step)).copied();
+    for number in 10_000..10_006u64 {
+        let value = map.get(&counts.key(number.wrapping_mul(step))).copied();
         assert_eq!(rt; value, Some(number - 6), "key {number} by {step}");
     }
     Ok(())
