@@ -155,13 +155,13 @@ fn a_long_run_answers_as_a_list(rt: HostRuntime) -> Result<(), Fail> {
 #[test]
 fn a_long_run_meets_the_rare_replies(rt: HostRuntime) -> Result<(), Fail> {
     let mut expected = Expected::new(rt.alloc(), 5, Rule::Plain);
-    let (mut added, mut present, mut done, mut refused) = (0, 0, 0, 0);
+    let (mut added, mut present, mut done, mut refused) = (0u64, 0u64, 0u64, 0u64);
     for command in &commands(rt.alloc())? {
         match expected.answer(*command)?.0 {
-            Reply::Added => added += 1,
-            Reply::Present(_, _) => present += 1,
-            Reply::Done => done += 1,
-            Reply::Refused(_, _) => refused += 1,
+            Reply::Added => added = added.saturating_add(1),
+            Reply::Present(_, _) => present = present.saturating_add(1),
+            Reply::Done => done = done.saturating_add(1),
+            Reply::Refused(_, _) => refused = refused.saturating_add(1),
             _ => (),
         }
     }
