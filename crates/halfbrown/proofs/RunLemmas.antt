@@ -1,5 +1,5 @@
 -- A run so far, and one step more.
-use Rattle.std.proofs.Common.{◌≡◌, ◌∙◌, ℕ, ◌+◌, Bool, true, false, true≢false, List, [], ◌∷◌, ◌++◌, sym, refl, subst, arith, append_assoc, append-nil}
+use Rattle.std.proofs.Common.{◌≡◌, ℕ, ◌+◌, Bool, List, [], ◌∷◌, ◌++◌, sym, refl, subst, arith, append_assoc, append-nil}
 use Rattle.half_store.specs.Work.{Work}
 use Rattle.halfbrown.specs.declared.run.Command.{Command}
 use Rattle.halfbrown.specs.declared.run.Reply.{Reply}
@@ -29,11 +29,6 @@ spent_both a b before middle after first second = record {
   compared = omega (arith, first.compared, second.compared);
   looked = omega (arith, first.looked, second.looked);
 }
-
--- where no table becomes a vector, what is a vector now was one before
-pub was_vector : (before after : Bool) → (before ≡ false → after ≡ false) → after ≡ true → before ≡ true
-was_vector true after stays form = refl
-was_vector false after stays form = absurd (true≢false (sym form ∙ stays refl))
 
 module _ {K V S : Type 0} (limit : ℕ) (eq : K → K → Bool) (hash : S → K → ℕ) where
   -- every run of what is left goes on from a run of all, with the replies so far before its own; the tally grew by the cost so far

@@ -5,6 +5,7 @@ pub mod Lending
 pub mod Pairs
 pub mod Run
 pub mod RunCost
+pub mod RunLaws
 pub mod Search
 pub mod State
 pub mod Step

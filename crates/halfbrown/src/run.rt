@@ -6,6 +6,8 @@ ghost use Rattle.halfbrown.specs.State.{IsState};
 ghost use Rattle.halfbrown.specs.RunCost.{Cost, GrewBy, command_cost};
 ghost use Rattle.halfbrown.specs.Step.{Steps, is_refused};
 
+pub mod laws;
+
 use crate::{Limit, LimitedHashMap, Refused};
 use half_store::{Refusal, Tally};
 use std::alloc::Global;
@@ -115,8 +117,6 @@ fn step<K: Eq + Hash + Drop, V: Copy, S: BuildHasher, L: Limit>(
     ensures step { Steps L.LIMIT K.eq map.old command result map.new }
     ensures state { IsState K.eq L.LIMIT map.new }
     ensures cost { GrewBy (command_cost L.LIMIT K.eq (key_hash S.BuildHasher S.Hasher.Hasher K.hash_input) map.old command (is_refused result)) tally.old tally.new }
-    ensures stays_a_table { map.old.is_vec ≡ false → map.new.is_vec ≡ false }
-    ensures nothing_hashed { map.new.is_vec ≡ true → tally.new.asked ≡ tally.old.asked }
 {
     match command {
         Command::Insert(key, value) => match map.insert_counted(key, value, tally) {
@@ -153,8 +153,6 @@ fn insert_new<K: Eq + Hash + Drop, V: Copy, S: BuildHasher, L: Limit>(
     ensures step { Steps L.LIMIT K.eq map.old (Command.InsertNew key value) result map.new }
     ensures state { IsState K.eq L.LIMIT map.new }
     ensures cost { GrewBy (command_cost L.LIMIT K.eq (key_hash S.BuildHasher S.Hasher.Hasher K.hash_input) map.old (Command.InsertNew key value) (is_refused result)) tally.old tally.new }
-    ensures stays_a_table { map.old.is_vec ≡ false → map.new.is_vec ≡ false }
-    ensures nothing_hashed { map.new.is_vec ≡ true → tally.new.asked ≡ tally.old.asked }
 {
     if map.contains_key_counted(&key, tally) {
         return Reply::Present(key, value);

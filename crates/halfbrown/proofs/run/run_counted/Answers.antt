@@ -1,8 +1,9 @@
-use Rattle.std.proofs.Common.{◌≡◌, [], sym, refl, subst, ◌∙◌, arith}
+use Rattle.std.proofs.Common.{◌≡◌, [], sym, subst, arith}
 use Rattle.std.proofs.lemmas.List.{nil_from_length}
 use Rattle.std.specs.Vec.Iter.{into_iter_items}
 use Rattle.halfbrown.specs.Costs.{key_hash}
-use Rattle.halfbrown.proofs.RunLemmas.{RunSoFar, no_step, step_more, run_ended, was_vector}
+use Rattle.halfbrown.proofs.RunLemmas.{RunSoFar, no_step, step_more, run_ended}
+use Rattle.halfbrown.proofs.RunLaws.{table_stays, vector_asked}
 use Rattle.halfbrown.proofs.run.run_counted.Goals as goal
 
 pub loop-command-init : goal.loop-command-init
@@ -15,8 +16,6 @@ loop-command-init g c =
       so_far = subst (λ rs. So map commands map (into_iter_items c.into_iter-left.result) rs tally tally) (sym c.in-Ok.ensures.items)
           (subst (λ cs. So map commands map cs [] tally tally) (sym c.into_iter-left.ensures.rest)
           (no_step g.L.Limit.LIMIT g.K.PartialEq.eq (key_hash g.S.BuildHasher g.S.Hasher.Hasher g.K.Hash.hash_input) map commands tally));
-      stays_a_table = λ form. form;
-      nothing_hashed = λ form. refl;
       room = omega (arith, c.in-Ok.ensures.len, c.in-Ok.ensures.capacity, c.len.ensures, c.into_iter-left.ensures.len);
     }
 
@@ -31,8 +30,6 @@ loop-command-preserved g c =
     record {
       so_far = subst (λ rs. So old commands c.step.new.map left rs before c.step.new.tally) (sym c.push_reserved.ensures.items)
           (step_more g.L.Limit.LIMIT g.K.PartialEq.eq (key_hash g.S.BuildHasher g.S.Hasher.Hasher g.K.Hash.hash_input) old commands c.loop-command.map c.step.new.map c.in-Some.command left c.loop-command.replies.items c.step.result before c.loop-command.tally c.step.new.tally so_far c.step.ensures.step c.step.ensures.state c.step.ensures.cost);
-      stays_a_table = λ form. c.step.ensures.stays_a_table (c.loop-command.invariant.stays_a_table form);
-      nothing_hashed = λ form. c.step.ensures.nothing_hashed form ∙ c.loop-command.invariant.nothing_hashed (was_vector c.loop-command.map.is_vec c.step.new.map.is_vec c.step.ensures.stays_a_table form);
       room = omega (arith, c.loop-command.invariant.room, c.push_reserved.ensures.len, c.push_reserved.ensures.capacity, c.in-Some.ensures.len);
     }
 
@@ -40,3 +37,11 @@ pub returns-clause-run : goal.returns-clause-run
 returns-clause-run g c =
     let none : into_iter_items c.loop-command.left ≡ [] = nil_from_length _ (omega (arith, c.in_default-next.ensures.cases.0, c.loop-command.left.rest.ok.0)) in
     run_ended g.L.Limit.LIMIT g.K.PartialEq.eq (key_hash g.S.BuildHasher g.S.Hasher.Hasher g.K.Hash.hash_input) c.args.map.now c.args.commands.items c.loop-command.map (into_iter_items c.loop-command.left) c.loop-command.replies.items c.args.tally.now c.loop-command.tally none c.loop-command.invariant.so_far
+
+pub returns-clause-stays_a_table : goal.returns-clause-stays_a_table
+returns-clause-stays_a_table g c =
+    table_stays g.L.Limit.LIMIT g.K.PartialEq.eq (key_hash g.S.BuildHasher g.S.Hasher.Hasher g.K.Hash.hash_input) c.args.map.now c.args.commands.items c.loop-command.replies.items c.loop-command.map c.args.tally.now c.loop-command.tally (returns-clause-run g c)
+
+pub returns-clause-nothing_hashed : goal.returns-clause-nothing_hashed
+returns-clause-nothing_hashed g c =
+    vector_asked g.L.Limit.LIMIT g.K.PartialEq.eq (key_hash g.S.BuildHasher g.S.Hasher.Hasher g.K.Hash.hash_input) c.args.map.now c.args.commands.items c.loop-command.replies.items c.loop-command.map c.args.tally.now c.loop-command.tally (returns-clause-run g c)
