@@ -1,7 +1,8 @@
 //! What callers build on the map, proved from its public contracts alone: scopes of names, a set of labels, and a cache
 //! whose look-ups are counted.
-ghost use Rattle.std.specs.Prelude.{◌≡◌, ◌+◌, ◌≤◌, Some, true, false, not, length, OnOk, IfOk, IfErr, OnErr, if◌then◌else◌};
+ghost use Rattle.std.specs.Prelude.{◌≡◌, ◌+◌, ◌≤◌, Some, None, true, false, not, length, OnOk, IfOk, IfErr, OnErr, if◌then◌else◌};
 ghost use Rattle.std.specs.Option.{option_copied};
+ghost use Rattle.halfbrown.specs.Growth.{insert_wants, unchecked_wants, IsRefusal};
 ghost use Rattle.halfbrown.specs.Pairs.{value_of, holds, put};
 
 use halfbrown::{Limit, LimitedHashMap, Refused, Tally};
@@ -16,6 +17,7 @@ pub fn declare<N: Eq + Hash + Drop, M, S: BuildHasher, L: Limit>(
     ensures before { IfOk result (λ old. old ≡ value_of N.eq scope.old.pairs name) }
     ensures declared { OnOk result (scope.new.pairs ≡ put N.eq scope.old.pairs name meaning) }
     ensures means { OnOk result (value_of N.eq scope.new.pairs name ≡ Some meaning) }
+    ensures refused { IfErr result (λ refused. IsRefusal (insert_wants L.LIMIT N.eq scope.old name) refused.why) }
     ensures name_returned { IfErr result (λ refused. refused.key ≡ name) }
     ensures meaning_returned { IfErr result (λ refused. refused.value ≡ meaning) }
     ensures unchanged { OnErr result (scope.new ≡ scope.old) }
@@ -57,6 +59,7 @@ pub fn add_label<K: Eq + Hash + Drop, S: BuildHasher, L: Limit>(
     ensures added { OnOk result (labels.new.pairs ≡ put K.eq labels.old.pairs label tt) }
     ensures again { holds K.eq labels.old.pairs label ≡ true → labels.new ≡ labels.old }
     ensures at_most_one { length labels.new.pairs ≤ length labels.old.pairs + 1 }
+    ensures refused { IfErr result (λ refused. IsRefusal (if holds K.eq labels.old.pairs label then None else unchecked_wants L.LIMIT labels.old) refused.why) }
     ensures label_returned { IfErr result (λ refused. refused.key ≡ label) }
     ensures unchanged { OnErr result (labels.new ≡ labels.old) }
 {
