@@ -100,6 +100,13 @@ refuse_each_of_halfmap() {
     fi
 }
 
+for program in refused_memory halfmap; do
+    if [ ! -x "$programs/$program/out/$program" ]; then
+        echo "$program is not built: rt run in crates/$program builds it, and so does rt ci"
+        echo "0 passed, 1 failed"
+        exit 1
+    fi
+done
 cc -O2 -Wall -Wextra -shared -fPIC -o "$work/refuse.so" tests/refuse.c || exit 1
 
 # One column grows for the keys and one for the values; a table has three arrays more. A constructor is called twice.

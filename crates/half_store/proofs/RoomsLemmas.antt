@@ -20,9 +20,6 @@ pow-double i j h =
       | inr ge ↦ let p : 2 ^ j ≤ 2 ^ i = pow-le-pow_right {n = 2} (omega arith) ge in absurd (omega arith)
     ]
 
-more_buckets-zero : more_buckets 0 ≡ 4
-more_buckets-zero = refl
-
 pub more_buckets-some : (m : ℕ) → 0 < m → more_buckets m ≡ 2 * m
 more_buckets-some m h = grind (arith, nat_tests)
 

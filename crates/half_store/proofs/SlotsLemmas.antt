@@ -5,7 +5,7 @@ use Rattle.std.proofs.lemmas.Nat.{mod_below}
 use Rattle.std.proofs.lemmas.List.{get_or_past}
 use borrow.Author.Tests.{ltb-true}
 use Rattle.half_store.specs.Reach.{home, steps, up}
-use Rattle.half_store.specs.Slots.{slot_at, stored, FullBefore, IsVacancyFor, IsFoundAt, SomeVacant, ComeBeforeVacancies, steps_from_home}
+use Rattle.half_store.specs.Slots.{slot_at, stored, FullBefore, IsVacancyFor, SomeVacant, ComeBeforeVacancies, steps_from_home}
 use Rattle.half_store.proofs.Circle.{steps-lt, steps_self, up-lt, up-zero, up-up, steps-up, up-steps, steps_same, down-lt, steps-down, down-steps, home_in_stretch, nearer_than_home, up_is}
 use Rattle.half_store.proofs.Counts.{count_to, count_to-le, count_to-lt, count_by-count_to, stretch_size}
 
@@ -153,9 +153,6 @@ module _ (slots : List (Option ℕ)) (hash : ℕ) where
 
     pub Walks-vacancy : slot_at slots place ≡ None → IsVacancyFor slots hash place
     Walks-vacancy none = record { within = w.inside; vacant = none; passed = before_place }
-
-    pub Walks-found : slot_at slots place ≡ Some hash → IsFoundAt slots hash place
-    Walks-found is = record { found = is; passed = before_place }
 
     pub Walks-next : (next : ℕ) → slot_at slots place ≢ None → next < length slots → next ≡ up (length slots) place 1 → Walks slots hash next (count + 1)
     Walks-next next full in_next e = record {

@@ -124,6 +124,3 @@ module _ (slots : List (Option ℕ)) (numbers places : List ℕ) (capacity : ℕ
       let within = t.within in
       let long = length-hashes_at slots places in
       same_work w (after_missing (hashes_at slots places) (length slots) hash w) refl (omega arith) (omega arith))
-
-  pub no_buckets_seen : length slots ≡ 0 → x.buckets ≡ 0
-  no_buckets_seen none = subst (λ (y : HashIndex). y.buckets ≡ 0) view_is none

@@ -1,4 +1,5 @@
-//! What a test's builder and keys count.
+//! What builders and keys count of their own work.
+ghost use Rattle.std.specs.Prelude.{◌≡◌, true, []};
 
 use crate::builders::{Counting, Rule};
 use crate::keys::Key;
@@ -7,17 +8,18 @@ use std::alloc::Global;
 use std::cell::Cell;
 
 /// A map whose builder and keys count.
-pub(crate) type Counted<'a, const N: usize> = SizedHashMap<Key<'a>, u64, Counting<'a>, N>;
+pub type Counted<'a, const N: usize> = SizedHashMap<Key<'a>, u64, Counting<'a>, N>;
 
 /// How often the builder was asked, and keys were compared.
 #[derive(Drop)]
-pub(crate) struct Counts {
+pub struct Counts {
     asked: Cell<u64>,
     compared: Cell<u64>,
 }
 
 impl Counts {
-    pub(crate) fn new() -> Counts {
+    /// Nothing counted yet.
+    pub fn new() -> Counts {
         Counts {
             asked: Cell::new(0),
             compared: Cell::new(0),
@@ -25,27 +27,38 @@ impl Counts {
     }
 
     /// A builder that counts here.
-    pub(crate) fn builder(&self, rule: Rule) -> Counting<'_> {
+    pub fn builder(&self, rule: Rule) -> Counting<'_>
+        ensures { result.rule ≡ rule }
+    {
         Counting::new(rule, &self.asked)
     }
 
     /// A key that counts here.
-    pub(crate) fn key(&self, id: u64) -> Key<'_> {
+    pub fn key(&self, id: u64) -> Key<'_>
+        ensures { result.id ≡ id }
+    {
         self.marked(id, 1)
     }
 
     /// A key that counts here, with a mark.
-    pub(crate) fn marked(&self, id: u64, mark: u64) -> Key<'_> {
+    pub fn marked(&self, id: u64, mark: u64) -> Key<'_>
+        ensures id { result.id ≡ id }
+        ensures mark { result.mark ≡ mark }
+    {
         Key::new(id, mark, &self.compared)
     }
 
     /// An empty map that counts here.
-    pub(crate) fn map<const N: usize>(&self, alloc: Global, rule: Rule) -> Counted<'_, N> {
+    pub fn map<const N: usize>(&self, alloc: Global, rule: Rule) -> Counted<'_, N>
+        ensures pairs { result.pairs ≡ [] }
+        ensures form { result.is_vec ≡ true }
+        ensures builder { result.builder.rule ≡ rule }
+    {
         SizedHashMap::with_hasher(alloc, self.builder(rule))
     }
 
     /// How often the builder was asked and keys were compared since the last call.
-    pub(crate) fn take(&self) -> (u64, u64) {
+    pub fn take(&self) -> (u64, u64) {
         (self.asked.replace(0), self.compared.replace(0))
     }
 }

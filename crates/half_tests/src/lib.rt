@@ -5,8 +5,7 @@
 mod basic_calls;
 pub mod builders;
 pub mod callers;
-#[cfg(test)]
-mod counts;
+pub mod counts;
 #[cfg(test)]
 mod expected;
 pub mod keys;

@@ -30,11 +30,6 @@ pub stored_is : (slots : List (Option ℕ)) (hash : ℕ) (is_vec : Bool) (vacanc
 stored_is slots hash is_vec InVector vacant form = absurd (true≢false (sym vacant ∙ form))
 stored_is slots hash is_vec (InTable stored place) vacant form = vacant.1
 
--- and it is one for that hash
-pub vacant_for_stored : (slots : List (Option ℕ)) (hash : ℕ) (is_vec : Bool) (vacancy : Vacancy) → IsVacancy is_vec slots hash vacancy → IsVacancy is_vec slots (stored_hash vacancy) vacancy
-vacant_for_stored slots hash is_vec InVector vacant = vacant
-vacant_for_stored slots hash is_vec (InTable stored place) vacant = (vacant.0, refl, vacant.2)
-
 module _ {K V : Type 0} where
   keys_of-push : (ps : List (K × V)) (k : K) (v : V) → keys_of (ps ++ (k, v) ∷ []) ≡ keys_of ps ++ k ∷ []
   keys_of-push [] k v = refl

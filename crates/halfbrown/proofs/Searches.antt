@@ -5,7 +5,7 @@ use Rattle.std.proofs.lemmas.Map.Entries.{length-keys_of}
 use Rattle.std.specs.Map.{keys_of}
 use Rattle.half_store.specs.Reach.{reach, HomesApart}
 use Rattle.half_store.specs.Rooms.{buckets_of}
-use Rattle.half_store.specs.Search.{AddsFinding, after_missing}
+use Rattle.half_store.specs.Search.{AddsFinding}
 use Rattle.half_store.specs.Work.{Work, compared_more, one_asked}
 use Rattle.halfbrown.specs.Costs.{Looks, candidates, walk_length, search_asks, SearchCosts}
 use Rattle.halfbrown.specs.State.{State}
@@ -43,16 +43,6 @@ module _ {K V S : Type 0} (hash : S → K → ℕ) (m : State K V S) (k : K) (be
       short = omega (arith, no_walk);
     }
 
-    -- and all of them where it finds none
-    pub missing_in_vector : after ≡ compared_more (length m.pairs) before → SearchCosts hash m k false before after
-    missing_in_vector spent = record {
-      asked = omega (arith, no_asking, ap (λ w. w.asked) spent);
-      compared = omega (arith, all, ap (λ w. w.compared) spent);
-      looked = subst (λ b. Looks b false (walk_length keys_hash b m.room m.pairs k) before.looked after.looked) (sym form) (ap (λ w. w.looked) spent);
-      looked_once = λ in_table. absurd (true≢false (sym form ∙ in_table));
-      short = omega (arith, no_walk);
-    }
-
   module _ (middle : Work) (hashes : List ℕ) (buckets h : ℕ) (form : m.is_vec ≡ false) (is_map : hashes ≡ map keys_hash (keys_of m.pairs)) (is_count : buckets ≡ buckets_of m.room) (is_hash : h ≡ keys_hash k)
       (asking : middle ≡ one_asked before) (near : reach hashes buckets h ≤ length hashes + 1) where
     one_asking : search_asks m.is_vec ≡ 1
@@ -75,15 +65,5 @@ module _ {K V S : Type 0} (hash : S → K → ℕ) (m : State K V S) (k : K) (be
       looked = subst (λ b. Looks b true (walk_length keys_hash m.is_vec m.room m.pairs k) before.looked after.looked) (sym form)
           (omega (arith, adds.looked_some, ap (λ w. w.looked) asking), omega (arith, adds.looked_most, walked, ap (λ w. w.looked) asking));
       looked_once = λ in_table found apart. adds.looked_once (subst (λ hs. HomesApart hs buckets) (sym is_map) (subst (λ n. HomesApart (map keys_hash (keys_of m.pairs)) n) (sym is_count) apart)) ∙ ap (λ w. w.looked + 1) asking;
-      short = short;
-    }
-
-    pub missing_in_table : after ≡ after_missing hashes buckets h middle → SearchCosts hash m k false before after
-    missing_in_table spent = record {
-      asked = omega (arith, one_asking, ap (λ w. w.asked) spent, ap (λ w. w.asked) asking);
-      compared = omega (arith, counted, ap (λ w. w.compared) spent, ap (λ w. w.compared) asking);
-      looked = subst (λ b. Looks b false (walk_length keys_hash m.is_vec m.room m.pairs k) before.looked after.looked) (sym form)
-          (omega (arith, walked, ap (λ w. w.looked) spent, ap (λ w. w.looked) asking));
-      looked_once = λ in_table found. absurd (true≢false (sym found));
       short = short;
     }

@@ -1,13 +1,9 @@
 //! What is printed of a map, and of the calls that may want memory.
 
-use half_tests::builders::Counting;
-use halfbrown::{Limit, LimitedHashMap, Refusal, Refused, SizedHashMap};
-use std::cell::Cell;
-use std::hash::BuildHasher;
+use half_tests::counts::{Counted, Counts};
+use halfbrown::{Limit, LimitedHashMap, Refusal, Refused};
+use std::hash::{BuildHasher, Hash};
 use std::io;
-
-/// A map whose builder counts.
-pub(crate) type Numbers<'a, const N: usize> = SizedHashMap<u64, u64, Counting<'a>, N>;
 
 /// No scenario has a key past this one.
 const LAST_KEY: u64 = 8;
@@ -17,22 +13,34 @@ pub(crate) fn print_begin(rt: &impl Print) -> io::Result<()> {
     println!(rt; "now")
 }
 
-/// Prints the form, the room, the builder's rule and the pairs by key. In which order they stand no call tells yet.
-pub(crate) fn print_state<const N: usize>(rt: &impl Print, map: &Numbers<'_, N>) -> io::Result<()> {
+/// Prints the form, the room, the builder's rule and the pairs: in a vector in the order in which they stand, which the
+/// comparisons of a look-up tell, and in a table by key, since no call shows an order there.
+pub(crate) fn print_state<'a, const N: usize>(
+    rt: &impl Print,
+    map: &Counted<'a, N>,
+    counts: &'a Counts,
+) -> io::Result<()> {
     print_room(rt, map)?;
     print!(rt; ", {:?}:", map.hasher().rule)?;
-    for key in 1..=LAST_KEY {
-        if let Some(value) = map.get(&key) {
-            print!(rt; " {key}={value}")?;
+    for place in 1..=LAST_KEY {
+        for key in 1..=LAST_KEY {
+            counts.take();
+            if let Some(value) = map.get(&counts.key(key)) {
+                let (_, compared) = counts.take();
+                let stands_at = if map.is_vec() { compared } else { key };
+                if stands_at == place {
+                    print!(rt; " {key}={value}")?;
+                }
+            }
         }
     }
     println!(rt; "")
 }
 
 /// Prints the form, the length and the room.
-pub(crate) fn print_room<S: BuildHasher, L: Limit>(
+pub(crate) fn print_room<K: Eq + Hash, S: BuildHasher, L: Limit>(
     rt: &impl Print,
-    map: &LimitedHashMap<u64, u64, S, L>,
+    map: &LimitedHashMap<K, u64, S, L>,
 ) -> io::Result<()> {
     let form = if map.is_vec() { "vec" } else { "map" };
     let (len, capacity) = (map.len(), map.capacity());
@@ -40,9 +48,9 @@ pub(crate) fn print_room<S: BuildHasher, L: Limit>(
 }
 
 /// Prints what a constructor made, or why it made nothing.
-pub(crate) fn print_made<S: BuildHasher + Drop, L: Limit>(
+pub(crate) fn print_made<K: Eq + Hash + Drop, S: BuildHasher + Drop, L: Limit>(
     rt: &impl Print,
-    made: Result<LimitedHashMap<u64, u64, S, L>, Refusal>,
+    made: Result<LimitedHashMap<K, u64, S, L>, Refusal>,
 ) -> io::Result<()> {
     match made {
         Ok(map) => {
@@ -54,55 +62,56 @@ pub(crate) fn print_made<S: BuildHasher + Drop, L: Limit>(
 }
 
 /// Inserts a pair, and prints what came back and how often the builder was asked.
-pub(crate) fn insert<const N: usize>(
+pub(crate) fn insert<'a, const N: usize>(
     rt: &impl Print,
-    map: &mut Numbers<'_, N>,
-    asked: &Cell<u64>,
+    map: &mut Counted<'a, N>,
+    counts: &'a Counts,
     (key, value): (u64, u64),
 ) -> io::Result<()> {
-    asked.set(0);
-    let answer = map.insert(key, value);
-    let asked = asked.get();
+    counts.take();
+    let answer = map.insert(counts.key(key), value);
+    let (asked, _) = counts.take();
     match answer {
         Ok(None) => println!(rt; "none, asked {asked}"),
         Ok(Some(old)) => println!(rt; "was {old}, asked {asked}"),
         Err(Refused { key, value, why }) => {
-            println!(rt; "refused {key}={value} for {why:?}, asked {asked}")
+            println!(rt; "refused {}={value} for {why:?}, asked {asked}", key.id)
         }
     }
 }
 
 /// Inserts a pair without a search where its key is not held, and prints the same.
-pub(crate) fn insert_unsearched<const N: usize>(
+pub(crate) fn insert_unsearched<'a, const N: usize>(
     rt: &impl Print,
-    map: &mut Numbers<'_, N>,
-    asked: &Cell<u64>,
+    map: &mut Counted<'a, N>,
+    counts: &'a Counts,
     (key, value): (u64, u64),
 ) -> io::Result<()> {
+    let key = counts.key(key);
     if map.contains_key(&key) {
         return println!(rt; "held");
     }
-    asked.set(0);
+    counts.take();
     let answer = map.insert_nocheck(key, value);
-    let asked = asked.get();
+    let (asked, _) = counts.take();
     match answer {
         Ok(()) => println!(rt; "added, asked {asked}"),
         Err(Refused { key, value, why }) => {
-            println!(rt; "refused {key}={value} for {why:?}, asked {asked}")
+            println!(rt; "refused {}={value} for {why:?}, asked {asked}", key.id)
         }
     }
 }
 
 /// Makes room, and prints whether it was had and how often the builder was asked.
-pub(crate) fn reserve<const N: usize>(
+pub(crate) fn reserve<'a, const N: usize>(
     rt: &impl Print,
-    map: &mut Numbers<'_, N>,
-    asked: &Cell<u64>,
+    map: &mut Counted<'a, N>,
+    counts: &'a Counts,
     additional: usize,
 ) -> io::Result<()> {
-    asked.set(0);
+    counts.take();
     let answer = map.reserve(additional);
-    let asked = asked.get();
+    let (asked, _) = counts.take();
     match answer {
         Ok(()) => println!(rt; "made, asked {asked}"),
         Err(why) => println!(rt; "refused for {why:?}, asked {asked}"),
@@ -110,13 +119,13 @@ pub(crate) fn reserve<const N: usize>(
 }
 
 /// Gives room back, and prints how often the builder was asked.
-pub(crate) fn shrink<const N: usize>(
+pub(crate) fn shrink<'a, const N: usize>(
     rt: &impl Print,
-    map: &mut Numbers<'_, N>,
-    asked: &Cell<u64>,
+    map: &mut Counted<'a, N>,
+    counts: &'a Counts,
 ) -> io::Result<()> {
-    asked.set(0);
+    counts.take();
     map.shrink_to_fit();
-    let asked = asked.get();
+    let (asked, _) = counts.take();
     println!(rt; "shrunk, asked {asked}")
 }

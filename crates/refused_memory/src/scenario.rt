@@ -1,13 +1,13 @@
 //! The scenarios: each makes a map with ample memory, and then does what needs more.
 
 use crate::report::{
-    Numbers, insert, insert_unsearched, print_begin, print_made, print_state, reserve, shrink,
+    insert, insert_unsearched, print_begin, print_made, print_state, reserve, shrink,
 };
-use half_tests::builders::{Counting, Rule};
+use half_tests::builders::Rule;
+use half_tests::counts::{Counted, Counts};
 use halfbrown::run::run;
 use halfbrown::{Command, DefaultHashBuilder, HashMap, Refusal, SizedHashMap};
 use std::alloc::AllocError;
-use std::cell::Cell;
 use std::io;
 use std::io::Error;
 
@@ -39,9 +39,13 @@ pub(crate) fn play(rt: &(impl Print + AllocGlobal), name: &str) -> io::Result<()
 }
 
 // The pairs (1, 1) to (last, last).
-fn fill<const N: usize>(map: &mut Numbers<'_, N>, last: u64) -> io::Result<()> {
-    for key in 1..=last {
-        if map.insert(key, key).is_err() {
+fn fill<'a, const N: usize>(
+    map: &mut Counted<'a, N>,
+    counts: &'a Counts,
+    last: u64,
+) -> io::Result<()> {
+    for id in 1..=last {
+        if map.insert(counts.key(id), id).is_err() {
             return Err(Error::from(AllocError));
         }
     }
@@ -54,18 +58,15 @@ fn insert_behind<const N: usize>(
     held: u64,
     pair: (u64, u64),
 ) -> io::Result<()> {
-    let asked = Cell::new(0);
-    let mut map: Numbers<'_, N> = SizedHashMap::with_hasher(
-        rt.alloc(),
-        Counting::new(Rule::Plain, &asked),
-    );
-    fill(&mut map, held)?;
-    print_state(rt, &map)?;
+    let counts = Counts::new();
+    let mut map = counts.map::<N>(rt.alloc(), Rule::Plain);
+    fill(&mut map, &counts, held)?;
+    print_state(rt, &map, &counts)?;
     print_begin(rt)?;
-    insert(rt, &mut map, &asked, pair)?;
-    print_state(rt, &map)?;
-    insert(rt, &mut map, &asked, pair)?;
-    print_state(rt, &map)
+    insert(rt, &mut map, &counts, pair)?;
+    print_state(rt, &map, &counts)?;
+    insert(rt, &mut map, &counts, pair)?;
+    print_state(rt, &map, &counts)
 }
 
 // The same without a search.
@@ -74,16 +75,15 @@ fn insert_unsearched_behind<const N: usize>(
     held: u64,
     pair: (u64, u64),
 ) -> io::Result<()> {
-    let asked = Cell::new(0);
-    let builder = Counting::new(Rule::Plain, &asked);
-    let mut map: Numbers<'_, N> = SizedHashMap::with_hasher(rt.alloc(), builder);
-    fill(&mut map, held)?;
-    print_state(rt, &map)?;
+    let counts = Counts::new();
+    let mut map = counts.map::<N>(rt.alloc(), Rule::Plain);
+    fill(&mut map, &counts, held)?;
+    print_state(rt, &map, &counts)?;
     print_begin(rt)?;
-    insert_unsearched(rt, &mut map, &asked, pair)?;
-    print_state(rt, &map)?;
-    insert_unsearched(rt, &mut map, &asked, pair)?;
-    print_state(rt, &map)
+    insert_unsearched(rt, &mut map, &counts, pair)?;
+    print_state(rt, &map, &counts)?;
+    insert_unsearched(rt, &mut map, &counts, pair)?;
+    print_state(rt, &map, &counts)
 }
 
 // Room for so many more behind so many pairs, wanted twice.
@@ -92,16 +92,15 @@ fn reserve_behind<const N: usize>(
     held: u64,
     additional: usize,
 ) -> io::Result<()> {
-    let asked = Cell::new(0);
-    let builder = Counting::new(Rule::Plain, &asked);
-    let mut map: Numbers<'_, N> = SizedHashMap::with_hasher(rt.alloc(), builder);
-    fill(&mut map, held)?;
-    print_state(rt, &map)?;
+    let counts = Counts::new();
+    let mut map = counts.map::<N>(rt.alloc(), Rule::Plain);
+    fill(&mut map, &counts, held)?;
+    print_state(rt, &map, &counts)?;
     print_begin(rt)?;
-    reserve(rt, &mut map, &asked, additional)?;
-    print_state(rt, &map)?;
-    reserve(rt, &mut map, &asked, additional)?;
-    print_state(rt, &map)
+    reserve(rt, &mut map, &counts, additional)?;
+    print_state(rt, &map, &counts)?;
+    reserve(rt, &mut map, &counts, additional)?;
+    print_state(rt, &map, &counts)
 }
 
 // A map made for more pairs than it holds, shrunk twice.
@@ -110,28 +109,28 @@ fn shrink_behind<const N: usize>(
     capacity: usize,
     held: u64,
 ) -> io::Result<()> {
-    let asked = Cell::new(0);
-    let builder = Counting::new(Rule::Plain, &asked);
+    let counts = Counts::new();
+    let builder = counts.builder(Rule::Plain);
     let made = SizedHashMap::with_capacity_and_hasher(rt.alloc(), capacity, builder);
-    let Ok(mut map): Result<Numbers<'_, N>, Refusal> = made else {
+    let Ok(mut map): Result<Counted<'_, N>, Refusal> = made else {
         return Err(Error::from(AllocError));
     };
-    fill(&mut map, held)?;
-    print_state(rt, &map)?;
+    fill(&mut map, &counts, held)?;
+    print_state(rt, &map, &counts)?;
     print_begin(rt)?;
-    shrink(rt, &mut map, &asked)?;
-    print_state(rt, &map)?;
-    shrink(rt, &mut map, &asked)?;
-    print_state(rt, &map)
+    shrink(rt, &mut map, &counts)?;
+    print_state(rt, &map, &counts)?;
+    shrink(rt, &mut map, &counts)?;
+    print_state(rt, &map, &counts)
 }
 
 // A map for so many pairs, made twice.
 fn make<const N: usize>(rt: &(impl Print + AllocGlobal), capacity: usize) -> io::Result<()> {
-    let asked = Cell::new(0);
+    let counts = Counts::new();
     print_begin(rt)?;
     for _ in 0..2 {
-        let builder = Counting::new(Rule::Plain, &asked);
-        let made: Result<Numbers<'_, N>, Refusal> = SizedHashMap::with_capacity_and_hasher(
+        let builder = counts.builder(Rule::Plain);
+        let made: Result<Counted<'_, N>, Refusal> = SizedHashMap::with_capacity_and_hasher(
             rt.alloc(),
             capacity,
             builder,
@@ -161,22 +160,19 @@ fn make_vector_at_limit(rt: &(impl Print + AllocGlobal)) -> io::Result<()> {
 
 // A run that switches a full vector of five, in which the switch is tried twice.
 fn run_behind(rt: &(impl Print + AllocGlobal)) -> io::Result<()> {
-    let asked = Cell::new(0);
-    let mut map: Numbers<'_, 5> = SizedHashMap::with_hasher(
-        rt.alloc(),
-        Counting::new(Rule::Plain, &asked),
-    );
-    fill(&mut map, 5)?;
-    let insertion = Command::Insert(6, 6);
+    let counts = Counts::new();
+    let mut map = counts.map::<5>(rt.alloc(), Rule::Plain);
+    fill(&mut map, &counts, 5)?;
+    let insertion = Command::Insert(counts.key(6), 6);
     let commands = vec![in rt.alloc(); insertion, Command::IsVec, insertion, Command::IsVec]?;
-    print_state(rt, &map)?;
+    print_state(rt, &map, &counts)?;
     print_begin(rt)?;
-    asked.set(0);
+    counts.take();
     let answer = run(rt.alloc(), &mut map, commands);
-    let asked = asked.get();
+    let (asked, _) = counts.take();
     match answer {
         Ok(replies) => println!(rt; "{replies:?}, asked {asked}")?,
         Err(commands) => println!(rt; "handed back {commands:?}, asked {asked}")?,
     }
-    print_state(rt, &map)
+    print_state(rt, &map, &counts)
 }

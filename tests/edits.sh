@@ -1,0 +1,17 @@
+#!/bin/sh
+# Tries the edits of tests/edits, which the prover must refuse, on a copy of the repository. `make test` does not run this:
+# it tries the edits of crates/NAME/must-fail.
+#
+# The last line is "N passed, M failed".
+set -u
+cd "$(dirname "$0")/.." || exit 1
+
+copy=$(mktemp -d) || exit 1
+trap 'rm -rf "$copy"' EXIT
+cp -R HANDLES crates.txt crates "$copy" || exit 1
+rm -f "$copy"/crates/*/must-fail/*.edit
+for folder in tests/edits/*/; do
+    cp "$folder"*.edit "$copy/crates/$(basename "$folder")/must-fail/" || exit 1
+done
+cd "$copy" || exit 1
+rt must-fail
