@@ -35,6 +35,7 @@ part "proofs, edits and tests" rt ci
 part "refused memory" tests/refused_memory.sh
 part "answers at once" tests/answers_at_once.py
 part "must not compile" tests/must_not_compile.sh
+part "README" tests/readme.sh
 
 echo "$passed passed, $failed failed"
 [ "$failed" -eq 0 ]

@@ -8,6 +8,7 @@ pub mod callers;
 pub mod counts;
 #[cfg(test)]
 mod expected;
+pub mod first_example;
 pub mod keys;
 #[cfg(test)]
 mod long_runs;

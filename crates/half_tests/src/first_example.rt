@@ -1,0 +1,29 @@
+//! The first example of the README, word for word.
+
+ghost use Rattle.std.specs.Prelude.{◌≡◌, IfOk};
+
+use halfbrown::{DefaultHashBuilder, Refused, SizedHashMap};
+use std::alloc::Global;
+
+/// Ada's age after her birthday. Up to four pairs stand in a vector; the fifth insertion would make a table.
+pub fn birthday(alloc: Global) -> Result<u32, Refused<u64, u32>>
+    ensures { IfOk result (λ age. age ≡ 37) }
+{
+    let mut ages = SizedHashMap::<u64, u32, DefaultHashBuilder, 4>::new(alloc);
+    ages.insert(1, 36)?;
+    ages.insert(2, 41)?;
+    ages.insert(1, 37)?;
+    Ok(ages.get(&1).copied().unwrap_or(0))
+}
+
+#[cfg(test)]
+mod tests {
+    use super::*;
+    use std::test::Fail;
+
+    #[test]
+    fn ada_is_37(rt: HostRuntime) -> Result<(), Fail> {
+        assert_eq!(rt; birthday(rt.alloc())?, 37, "the last value");
+        Ok(())
+    }
+}
