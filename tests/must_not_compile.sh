@@ -6,13 +6,8 @@
 # a copy of the workspace, so that nothing here is touched.
 #
 # The last line is "N passed, M failed".
-set -u
 cd "$(dirname "$0")/.." || exit 1
-
-work=$(mktemp -d) || exit 1
-trap 'rm -rf "$work"' EXIT
-passed=0
-failed=0
+. tests/part.sh
 
 mkdir -p "$work/crates/misuse/src" || exit 1
 cp HANDLES "$work" || exit 1
@@ -31,12 +26,10 @@ for case in tests/must_not_compile/*.case; do
     case $wanted.$said in
         compiles.compiles | error*.*src/main.rt*) passed=$((passed + 1)) ;;
         *)
-            failed=$((failed + 1))
-            echo "$case: not \"$wanted\":"
+            fail "$case: not \"$wanted\":"
             tail -n 20 "$work/said"
             ;;
     esac
 done
 
-echo "$passed passed, $failed failed"
-[ "$failed" -eq 0 ]
+sum

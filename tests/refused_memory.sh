@@ -8,25 +8,14 @@
 # `no room` where an insertion is refused, and stops with status 1 where a buffer is.
 #
 # The last line is "N passed, M failed".
-set -u
 cd "$(dirname "$0")/.." || exit 1
+. tests/part.sh
 
 programs=$PWD/crates
-wanted=$PWD/tests/refused_memory
-work=$(mktemp -d) || exit 1
-trap 'rm -rf "$work"' EXIT
-passed=0
-failed=0
 
-# Compares the last run with a file.
-compare() {
-    if diff "$wanted/$1" "$work/output" >"$work/difference"; then
-        passed=$((passed + 1))
-    else
-        failed=$((failed + 1))
-        echo "$2: not as in tests/refused_memory/$1:"
-        cat "$work/difference"
-    fi
+# as_in FILE MESSAGE: the last run wrote what stands in tests/refused_memory/FILE.
+as_in() {
+    compare "tests/refused_memory/$1" "$work/output" "$2: not as in tests/refused_memory/$1"
 }
 
 # Runs a scenario, with this request refused.
@@ -42,39 +31,37 @@ refuse_each() {
     request=1
     while play "$scenario" "$request" && [ -s "$work/refusals" ]; do
         case $scenario.$request in
-            run.1) compare run.handed_back "$scenario, request 1 refused" ;;
+            run.1) as_in run.handed_back "$scenario, request 1 refused" ;;
             # The second map is refused.
             vector-made*.[34] | table-made.[6-9] | table-made.10 | made-with-default-builder.[6-9] | made-with-default-builder.10)
-                compare "$scenario.refused_again" "$scenario, request $request refused"
+                as_in "$scenario.refused_again" "$scenario, request $request refused"
                 ;;
             # A column that keeps its memory leaves the room to the other one, and to the table.
-            vector-shrink.* | table-shrink.[45]) compare "$scenario.granted" "$scenario, request $request refused" ;;
-            *) compare "$scenario.refused" "$scenario, request $request refused" ;;
+            vector-shrink.* | table-shrink.[45]) as_in "$scenario.granted" "$scenario, request $request refused" ;;
+            *) as_in "$scenario.refused" "$scenario, request $request refused" ;;
         esac
         request=$((request + 1))
         [ "$request" -le 100 ] || break
     done
-    compare "$scenario.granted" "$scenario, no request refused"
+    as_in "$scenario.granted" "$scenario, no request refused"
     if [ "$((request - 1))" -lt "$least" ]; then
-        failed=$((failed + 1))
-        echo "$scenario: $((request - 1)) requests, and $least are wanted"
+        fail "$scenario: $((request - 1)) requests, and $least are wanted"
     fi
 }
 
 # A scenario that asks for nothing.
 refuse_all() {
     play "$1" all
-    compare "$1.granted" "$1, every request refused"
+    as_in "$1.granted" "$1, every request refused"
     if [ -s "$work/refusals" ]; then
-        failed=$((failed + 1))
-        echo "$1: it asked for memory"
+        fail "$1: it asked for memory"
     fi
 }
 
 # Answers the same lines, with this request refused, and says the status.
 serve() {
     REFUSE=$1 LD_PRELOAD=$work/refuse.so "$programs/halfmap/out/halfmap" \
-        >"$work/output" 2>"$work/refusals" <"$wanted/halfmap.lines"
+        >"$work/output" 2>"$work/refusals" <tests/refused_memory/halfmap.lines
     echo "status $?" >>"$work/output"
 }
 
@@ -84,27 +71,26 @@ refuse_each_of_halfmap() {
     no_room=0
     while serve "$request" && [ -s "$work/refusals" ]; do
         if grep -q '^status 1$' "$work/output"; then
-            compare halfmap.stopped "halfmap, request $request refused"
+            as_in halfmap.stopped "halfmap, request $request refused"
             stopped=$((stopped + 1))
         else
-            compare halfmap.refused "halfmap, request $request refused"
+            as_in halfmap.refused "halfmap, request $request refused"
             no_room=$((no_room + 1))
         fi
         request=$((request + 1))
         [ "$request" -le 100 ] || break
     done
-    compare halfmap.granted "halfmap, no request refused"
+    as_in halfmap.granted "halfmap, no request refused"
     if [ "$stopped" -lt 3 ] || [ "$no_room" -lt 2 ]; then
-        failed=$((failed + 1))
-        echo "halfmap: $stopped buffers and $no_room columns, and 3 and 2 are wanted"
+        fail "halfmap: $stopped buffers and $no_room columns, and 3 and 2 are wanted"
     fi
 }
 
 for program in refused_memory halfmap; do
     if [ ! -x "$programs/$program/out/$program" ]; then
-        echo "$program is not built: rt run in crates/$program builds it, and so does rt ci"
-        echo "0 passed, 1 failed"
-        exit 1
+        fail "$program is not built: rt run in crates/$program builds it, and so does rt ci"
+        sum
+        exit
     fi
 done
 cc -O2 -Wall -Wextra -shared -fPIC -o "$work/refuse.so" tests/refuse.c || exit 1
@@ -130,5 +116,4 @@ refuse_each run 6
 refuse_all overwrite-without-room
 refuse_each_of_halfmap
 
-echo "$passed passed, $failed failed"
-[ "$failed" -eq 0 ]
+sum
