@@ -36,6 +36,7 @@ part "refused memory" tests/refused_memory.sh
 part "answers at once" tests/answers_at_once.py
 part "must not compile" tests/must_not_compile.sh
 part "README" tests/readme.sh
+part "examples" tests/examples.py
 
 echo "$passed passed, $failed failed"
 [ "$failed" -eq 0 ]

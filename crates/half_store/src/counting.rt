@@ -11,6 +11,10 @@ use crate::table::walks::Places;
 use std::hash::{BuildHasher, Hash};
 
 /// Asks the builder for the hash of a key.
+///
+/// ```
+/// let hash = counting::ask(&builder, &1u64, &mut tally); // the builder's hash of 1, counted
+/// ```
 pub fn ask<K: Hash, S: BuildHasher>(builder: &S, key: &K, tally: &mut Tally) -> u64
     ensures hash { result ≡ hash_by S.BuildHasher S.Hasher.Hasher builder.now (K.hash_input key.now) }
     ensures counted { tally.new ≡ one_asked tally.old }
@@ -20,6 +24,14 @@ pub fn ask<K: Hash, S: BuildHasher>(builder: &S, key: &K, tally: &mut Tally) -> 
 }
 
 /// Asks whether the key of a pair, given by the pair's number, is the one that is looked for.
+///
+/// ```
+/// let is_equal = counting::compare(
+///     &|number: usize| number < 2 && keys[number] == 2,
+///     1,
+///     &mut tally,
+/// ); // true, counted
+/// ```
 pub fn compare<F: Fn(usize) -> bool>(matches: &F, number: usize, tally: &mut Tally) -> bool
     requires { F.pre matches.now number }
     ensures answer { F.post matches.now number result }

@@ -1,8 +1,10 @@
-//! What a map in two forms stands on: pairs in two columns, and the account of the work done on them.
+//! What a map in two forms stands on: pairs in two columns, a table over their numbers, and the account of the work done.
 #![tactic(auto)]
 
 mod count;
 pub mod counting;
+#[cfg(test)]
+mod examples;
 pub mod refusal;
 pub mod rooms;
 pub mod table;

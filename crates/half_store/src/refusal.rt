@@ -23,6 +23,10 @@ impl From<AllocError> for Refusal {
 }
 
 /// Refuses a number of pairs that no map may hold. It is asked before any memory is.
+///
+/// ```
+/// let refused = check_size((1 << 60) + 1); // refused for `Size`
+/// ```
 pub fn check_size(wanted: usize) -> Result<(), Refusal>
     ensures ok { OnOk result (wanted ≤ 2 ^ 60) }
     ensures err { IfErr result (λ why. (why ≡ Size) × (2 ^ 60 < wanted)) }

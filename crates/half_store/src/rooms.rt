@@ -9,6 +9,10 @@ ghost use Rattle.half_store.specs.Rooms.{room_of, buckets_for, room_for, IsLeast
 pub const MOST_PAIRS: usize = 1 << 60;
 
 /// How many pairs so many buckets have room for: 0, 3, 6, 12, 24 for 0, 4, 8, 16, 32.
+///
+/// ```
+/// let room = room_of(8); // 6
+/// ```
 pub fn room_of(buckets: usize) -> usize
     ensures { result ≡ room_of buckets }
 {
@@ -16,6 +20,10 @@ pub fn room_of(buckets: usize) -> usize
 }
 
 /// The least bucket count with room for so many pairs.
+///
+/// ```
+/// let buckets = buckets_for(7); // 16
+/// ```
 pub fn buckets_for(wanted: usize) -> usize
     requires { wanted ≤ 2 ^ 62 }
     ensures value { result ≡ buckets_for wanted }
@@ -32,6 +40,10 @@ pub fn buckets_for(wanted: usize) -> usize
 }
 
 /// The least of the rooms 0, 3, 6, 12, 24, .. that so many pairs fit in.
+///
+/// ```
+/// let room = room_for(7); // 12
+/// ```
 pub fn room_for(wanted: usize) -> usize
     requires { wanted ≤ 2 ^ 62 }
     ensures value { result ≡ room_for wanted }

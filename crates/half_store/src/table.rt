@@ -52,6 +52,10 @@ impl Model for Table {
 
 impl Table {
     /// A table with no buckets. It takes no memory.
+    ///
+    /// ```
+    /// let none = Table::new(alloc); // no buckets
+    /// ```
     pub fn new(alloc: Global) -> Table
         ensures { result ≡ no_buckets }
     {
@@ -63,6 +67,10 @@ impl Table {
     }
 
     /// How many pairs it holds.
+    ///
+    /// ```
+    /// let count = table.len(); // 2
+    /// ```
     pub fn len(&self) -> usize
         ensures value { result ≡ length self.now.hashes }
         ensures small { result ≤ 2 ^ 62 }
@@ -71,6 +79,10 @@ impl Table {
     }
 
     /// Whether it holds no pair.
+    ///
+    /// ```
+    /// let is_empty = table.is_empty(); // false
+    /// ```
     pub fn is_empty(&self) -> bool
         ensures { IsTrue result ↔ (length self.now.hashes ≡ 0) }
     {
@@ -78,6 +90,10 @@ impl Table {
     }
 
     /// How many pairs it has room for, those that it holds among them.
+    ///
+    /// ```
+    /// let room = table.room(); // 3
+    /// ```
     pub fn room(&self) -> usize
         ensures value { result ≡ room_of self.now.buckets }
         ensures within { length self.now.hashes ≤ result }
@@ -91,6 +107,10 @@ impl Table {
     /// Searches a pair of this hash that `matches` accepts. It is asked at numbers of pairs of that hash alone.
     ///
     /// Where none is found it has read exactly `reach` buckets and asked once for each pair of that hash.
+    ///
+    /// ```
+    /// let found = table.find(11, &|_| true, &mut tally); // the pair with number 1
+    /// ```
     pub fn find<F: Fn(usize) -> bool>(&self, hash: u64, matches: &F, tally: &mut Tally) -> Search
         requires { (number : ℕ) → slice_get self.now.hashes number ≡ Some hash → F.pre matches.now number }
         ensures found { IfFound result (λ number. slice_get self.now.hashes number ≡ Some hash) }
@@ -114,6 +134,10 @@ impl Table {
     }
 
     /// Walks to the empty bucket where a pair of this hash belongs. It reads exactly `reach` buckets.
+    ///
+    /// ```
+    /// let place = table.vacancy(11, &mut tally); // bucket 0: bucket 3 is full, and the first follows the last
+    /// ```
     pub fn vacancy(&self, hash: u64, tally: &mut Tally) -> usize
         requires { 0 < self.now.buckets }
         ensures vacancy { IsVacancyFor (slots_of self.now) hash result }
@@ -124,6 +148,10 @@ impl Table {
     }
 
     /// Adds a pair of this hash at the empty bucket that a walk for it came to. It reads no bucket.
+    ///
+    /// ```
+    /// table.add_at(11, place); // the pair with number 1 has hash 11
+    /// ```
     pub fn add_at(&mut self, hash: u64, place: usize)
         requires room { length self.old.hashes < room_of self.old.buckets }
         requires vacancy { IsVacancyFor (slots_of self.old) hash place }
@@ -137,6 +165,10 @@ impl Table {
     }
 
     /// Adds a pair of this hash. It reads exactly `reach` buckets.
+    ///
+    /// ```
+    /// table.add(7, &mut tally); // the pair with number 0 has hash 7
+    /// ```
     pub fn add(&mut self, hash: u64, tally: &mut Tally)
         requires { length self.old.hashes < room_of self.old.buckets }
         ensures hashes { self.new.hashes ≡ self.old.hashes ++ hash ∷ [] }
@@ -150,6 +182,10 @@ impl Table {
     }
 
     /// Takes the pair of this number out and answers its stored hash. The last pair gets its number.
+    ///
+    /// ```
+    /// let hash = table.remove(0); // 7; the pair of hash 11 has number 0 now
+    /// ```
     pub fn remove(&mut self, number: usize) -> u64
         requires { number < length self.old.hashes }
         ensures hash { slice_get self.old.hashes number ≡ Some result }
@@ -174,6 +210,10 @@ impl Table {
     }
 
     /// Lets all pairs go. The room stays.
+    ///
+    /// ```
+    /// table.clear();
+    /// ```
     pub fn clear(&mut self)
         ensures hashes { self.new.hashes ≡ [] }
         ensures buckets { self.new.buckets ≡ self.old.buckets }

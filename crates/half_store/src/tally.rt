@@ -28,6 +28,10 @@ const _: () = prove!(size_of::<Tally>() == 0);
 
 impl Tally {
     /// A tally that has seen no work.
+    ///
+    /// ```
+    /// let mut tally = Tally::new();
+    /// ```
     pub fn new() -> Tally
         ensures { result ≡ no_work }
     {

@@ -39,6 +39,10 @@ impl<K, V> VecMap<K, V> {
     ghost use Rattle.half_store.specs.Lending.{LendsValue};
 
     /// No pairs, and no memory taken.
+    ///
+    /// ```
+    /// let none: VecMap<u64, u32> = VecMap::new(alloc);
+    /// ```
     pub fn new(alloc: Global) -> VecMap<K, V>
         ensures pairs { result.pairs ≡ [] }
         ensures room { result.room ≡ 0 }
@@ -50,6 +54,10 @@ impl<K, V> VecMap<K, V> {
     }
 
     /// No pairs, with room for so many.
+    ///
+    /// ```
+    /// let mut ages: VecMap<u64, u32> = VecMap::with_room(alloc, 2)?;
+    /// ```
     pub fn with_room(alloc: Global, room: usize) -> Result<VecMap<K, V>, AllocError>
         ensures pairs { IfOk result (λ m. m.pairs ≡ []) }
         ensures room { IfOk result (λ m. m.room ≡ room) }
@@ -66,6 +74,10 @@ impl<K, V> VecMap<K, V> {
     }
 
     /// How many pairs are held.
+    ///
+    /// ```
+    /// let count = ages.len(); // 2
+    /// ```
     pub fn len(&self) -> usize
         ensures len { result ≡ length self.now.pairs }
         ensures fits { length self.now.pairs ≤ self.now.room }
@@ -75,6 +87,10 @@ impl<K, V> VecMap<K, V> {
     }
 
     /// How many pairs fit before memory is asked for: the smaller room of the two columns.
+    ///
+    /// ```
+    /// let room = ages.room(); // 2
+    /// ```
     pub fn room(&self) -> usize
         ensures { result ≡ self.now.room }
     {
@@ -82,6 +98,10 @@ impl<K, V> VecMap<K, V> {
     }
 
     /// The keys, in order.
+    ///
+    /// ```
+    /// let numbers = ages.keys(); // 1 and 2
+    /// ```
     pub fn keys(&self) -> &[K]
         ensures keys { result.now ≡ keys_of self.now.pairs }
         ensures small { length self.now.pairs < 2 ^ 63 }
@@ -90,6 +110,10 @@ impl<K, V> VecMap<K, V> {
     }
 
     /// The value of the pair with this number.
+    ///
+    /// ```
+    /// let age = *ages.value_at(1); // 41
+    /// ```
     pub fn value_at(&self, number: usize) -> &V
         requires { number < length self.now.pairs }
         ensures { slice_get (values_of self.now.pairs) number ≡ Some result.now }
@@ -98,6 +122,10 @@ impl<K, V> VecMap<K, V> {
     }
 
     /// The value of the pair with this number, to be written.
+    ///
+    /// ```
+    /// *ages.value_at_mut(1) = 42;
+    /// ```
     pub fn value_at_mut(&mut self, number: usize) -> &mut V
         requires { number < length self.old.pairs }
         ensures* writes_back { sem 𝓛 (LendsValue K.row V.row self.entry number result) }
@@ -107,6 +135,10 @@ impl<K, V> VecMap<K, V> {
     }
 
     /// Puts a value in the place of that of the pair with this number, and answers the old one.
+    ///
+    /// ```
+    /// let before = ages.replace_value(1, 43); // 42
+    /// ```
     pub fn replace_value(&mut self, number: usize, value: V) -> V
         requires { number < length self.old.pairs }
         ensures old { slice_get (values_of self.old.pairs) number ≡ Some result }
@@ -116,6 +148,11 @@ impl<K, V> VecMap<K, V> {
     }
 
     /// Appends a pair. There is room for it.
+    ///
+    /// ```
+    /// ages.push(1, 36);
+    /// ages.push(2, 41);
+    /// ```
     pub fn push(&mut self, key: K, value: V)
         requires { length self.old.pairs < self.old.room }
         ensures { self.new ≡ with_pairs self.old (self.old.pairs ++ (key, value) ∷ []) }
@@ -125,6 +162,10 @@ impl<K, V> VecMap<K, V> {
     }
 
     /// Takes out the pair with this number. The last pair takes its place.
+    ///
+    /// ```
+    /// let pair = ages.swap_remove(0); // 1 and 36; the pair of 2 has number 0 now
+    /// ```
     pub fn swap_remove(&mut self, number: usize) -> (K, V)
         requires { number < length self.old.pairs }
         ensures taken { slice_get self.old.pairs number ≡ Some result }
@@ -137,6 +178,10 @@ impl<K, V> VecMap<K, V> {
     }
 
     /// Lets all pairs go. The room stays.
+    ///
+    /// ```
+    /// ages.clear();
+    /// ```
     pub fn clear(&mut self)
     where
         K: Drop,
@@ -148,6 +193,10 @@ impl<K, V> VecMap<K, V> {
     }
 
     /// Gives memory back, down to room for `wanted` pairs or those that are held. Without memory the room stays.
+    ///
+    /// ```
+    /// ages.shrink_to(3); // room for 3
+    /// ```
     pub fn shrink_to(&mut self, wanted: usize)
         ensures pairs { self.new.pairs ≡ self.old.pairs }
         ensures room { self.new.room ≤ self.old.room }
@@ -162,6 +211,10 @@ impl<K, V> VecMap<K, V> {
     ///
     /// Both columns get their memory before anything else happens. The column with the smaller room grows last, so that
     /// a refusal leaves the room as it was.
+    ///
+    /// ```
+    /// ages.reserve(10)?; // room for 10
+    /// ```
     pub fn reserve(&mut self, wanted: usize) -> Result<(), AllocError>
         ensures pairs { self.new.pairs ≡ self.old.pairs }
         ensures ok { OnOk result (self.new.room ≡ max self.old.room wanted) }
@@ -179,6 +232,10 @@ impl<K, V> VecMap<K, V> {
 
     /// Makes room for `wanted` pairs in all. Where that needs memory it asks for twice the room there was, so that many
     /// insertions cost few growths, but never for more than `limit` pairs.
+    ///
+    /// ```
+    /// ages.grow(3, 5)?; // room for 4: twice the room that there was
+    /// ```
     pub fn grow(&mut self, wanted: usize, limit: usize) -> Result<(), Refusal>
         requires { wanted ≤ limit }
         ensures pairs { self.new.pairs ≡ self.old.pairs }
@@ -212,6 +269,10 @@ impl<K: Eq, V> VecMap<K, V> {
     /// The number of the pair whose key equals this one.
     ///
     /// The keys are compared in order. Where none is equal each held key is compared once.
+    ///
+    /// ```
+    /// let number = ages.find(&2, &mut tally); // the pair with number 1, found by two comparisons
+    /// ```
     pub fn find(&self, key: &K, tally: &mut Tally) -> Option<usize>
         ensures number { result ≡ number_of (K.eq key.now) (keys_of self.now.pairs) }
         ensures work { tally.new ≡ compared_more (first_match_cost result (length self.now.pairs)) tally.old }

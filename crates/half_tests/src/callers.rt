@@ -63,7 +63,7 @@ pub fn add_label<K: Eq + Hash + Drop, S: BuildHasher, L: Limit>(
     ensures label_returned { IfErr result (λ refused. refused.key ≡ label) }
     ensures unchanged { OnErr result (labels.new ≡ labels.old) }
 {
-    if same_label(labels, &label) {
+    if labels.contains_key(&label) {
         return Ok(false);
     }
     labels.insert_nocheck(label, ())?;

@@ -7,6 +7,8 @@ pub mod builders;
 pub mod callers;
 pub mod counts;
 #[cfg(test)]
+mod examples;
+#[cfg(test)]
 mod expected;
 pub mod first_example;
 pub mod keys;

@@ -22,15 +22,37 @@ use std::marker::{Model, PhantomData};
 pub type DefaultHashBuilder = BuildHasherDefault<FoldHasher>;
 
 /// A map that holds at most `N` pairs in a vector.
+///
+/// ```
+/// let mut scope = SizedHashMap::<u64, u32, DefaultHashBuilder, 8>::new(alloc);
+/// ```
 pub type SizedHashMap<K, V, S, const N: usize> = LimitedHashMap<K, V, S, UpTo<N>>;
 
 /// A map that holds at most 32 pairs in a vector.
+///
+/// ```
+/// type Ages = HashMap<u64, u32, DefaultHashBuilder>;
+/// ```
 pub type HashMap<K, V, S> = LimitedHashMap<K, V, S, UpTo<32>>;
 
 /// A map in two forms. Up to the limit its pairs stand in a vector, are searched by `==`, and nothing is hashed. A
 /// switching call on as many pairs as the limit makes it a hashed table, and no call goes back.
 ///
 /// The pairs stand in the order of their insertion in both forms, until a removal moves the last one into the gap.
+///
+/// A search costs this: in a vector keys are compared, in order, up to the one that is found, and nothing is hashed. In
+/// a table the builder is asked for one hash, buckets are read from its home on, and no key of another hash is compared;
+/// a search that finds nothing reads as many buckets as the homes of the held pairs decide, whatever came before.
+///
+/// ```
+/// type Ages = HashMap<u64, u32, DefaultHashBuilder>;
+/// ```
+///
+/// ```
+/// let mut ages = Ages::new(alloc);
+/// ages.insert(1, 36)?;
+/// let age = ages.get(&1).copied(); // 36
+/// ```
 pub struct LimitedHashMap<K: Eq + Hash, V, S: BuildHasher, L: Limit> {
     columns: VecMap<K, V>,
     table: Option<Table>,
@@ -73,6 +95,10 @@ impl<K: Eq + Hash + Drop, V: Drop, S: BuildHasher + Drop, L: Limit> Drop
 
 impl<K: Eq + Hash, V, S: BuildHasher, L: Limit> LimitedHashMap<K, V, S, L> {
     /// How many pairs are held.
+    ///
+    /// ```
+    /// let count = ages.len(); // 2
+    /// ```
     pub fn len(&self) -> usize
         ensures len { result ≡ length self.now.pairs }
         ensures small { result < 2 ^ 63 }
@@ -82,6 +108,10 @@ impl<K: Eq + Hash, V, S: BuildHasher, L: Limit> LimitedHashMap<K, V, S, L> {
     }
 
     /// Whether no pair is held.
+    ///
+    /// ```
+    /// let none = ages.is_empty(); // false
+    /// ```
     pub fn is_empty(&self) -> bool
         ensures { IsTrue result ↔ (length self.now.pairs ≡ 0) }
     {
@@ -89,6 +119,10 @@ impl<K: Eq + Hash, V, S: BuildHasher, L: Limit> LimitedHashMap<K, V, S, L> {
     }
 
     /// The builder that the map was made with, in both forms.
+    ///
+    /// ```
+    /// let hash = ages.hasher().hash_one(&1u64); // the hash that a table of these ages stores for 1
+    /// ```
     pub fn hasher(&self) -> &S
         ensures { result.now ≡ self.now.builder }
     {
@@ -96,6 +130,10 @@ impl<K: Eq + Hash, V, S: BuildHasher, L: Limit> LimitedHashMap<K, V, S, L> {
     }
 
     /// Whether the pairs stand in a vector.
+    ///
+    /// ```
+    /// let is_vector = ages.is_vec(); // true: two pairs, and the limit is 32
+    /// ```
     pub fn is_vec(&self) -> bool
         ensures form { result ≡ self.now.is_vec }
         ensures state { IsState K.eq L.LIMIT self.now }
@@ -104,6 +142,10 @@ impl<K: Eq + Hash, V, S: BuildHasher, L: Limit> LimitedHashMap<K, V, S, L> {
     }
 
     /// Whether the pairs stand in a table.
+    ///
+    /// ```
+    /// let is_table = ages.is_map(); // false
+    /// ```
     pub fn is_map(&self) -> bool
         ensures { IsTrue result ↔ (self.now.is_vec ≡ false) }
     {
@@ -111,6 +153,10 @@ impl<K: Eq + Hash, V, S: BuildHasher, L: Limit> LimitedHashMap<K, V, S, L> {
     }
 
     /// How many pairs fit before more room is wanted. A vector's room ends at the limit.
+    ///
+    /// ```
+    /// let room = ages.capacity(); // 4, since it was made for so many
+    /// ```
     pub fn capacity(&self) -> usize
         ensures { result ≡ self.now.room }
     {
@@ -120,7 +166,12 @@ impl<K: Eq + Hash, V, S: BuildHasher, L: Limit> LimitedHashMap<K, V, S, L> {
         }
     }
 
-    /// Lets all pairs go. The form, the room and the builder stay.
+    /// Lets all pairs go. The form, the room and the builder stay. Nothing is hashed.
+    ///
+    /// ```
+    /// ages.clear();
+    /// let count = ages.len(); // 0
+    /// ```
     pub fn clear(&mut self)
     where
         K: Drop,

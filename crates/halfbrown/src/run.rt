@@ -62,7 +62,12 @@ pub enum Reply<K, V> {
 /// Runs the commands in order, and answers a reply for each.
 ///
 /// The room for all replies is made first. Where it is refused the commands come back, and nothing was done. A command
-/// that is refused is answered so, and the run goes on.
+/// that is refused is answered so, and the run goes on. It costs what its commands cost.
+///
+/// ```
+/// let commands = vec![in alloc; Command::Insert(1, 36), Command::Get(1), Command::Len]?;
+/// let replies = run(alloc, &mut ages, commands); // Was(None), Found(Some(36)), Length(1)
+/// ```
 pub fn run<K: Eq + Hash + Drop, V: Copy, S: BuildHasher, L: Limit>(
     alloc: Global,
     map: &mut LimitedHashMap<K, V, S, L>,
@@ -78,6 +83,11 @@ pub fn run<K: Eq + Hash + Drop, V: Copy, S: BuildHasher, L: Limit>(
 }
 
 /// `run`, with the work of all commands counted.
+///
+/// ```
+/// let commands = vec![in alloc; Command::Remove(1), Command::IsVec]?;
+/// let replies = run_counted(alloc, &mut ages, commands, &mut tally); // the pair of 1, and true
+/// ```
 pub fn run_counted<K: Eq + Hash + Drop, V: Copy, S: BuildHasher, L: Limit>(
     alloc: Global,
     map: &mut LimitedHashMap<K, V, S, L>,

@@ -12,6 +12,10 @@ impl Table {
     /// An empty table with the least number of buckets that have room for so many pairs.
     ///
     /// It is refused for `Size` exactly where more than 2^60 pairs are wanted.
+    ///
+    /// ```
+    /// let mut table = Table::with_room(alloc, 3)?; // four buckets
+    /// ```
     pub fn with_room(alloc: Global, wanted: usize) -> Result<Table, Refusal>
         ensures hashes { IfOk result (λ t. t.hashes ≡ []) }
         ensures buckets { IfOk result (λ t. t.buckets ≡ buckets_for wanted) }
@@ -26,6 +30,10 @@ impl Table {
     }
 
     /// A table that holds pairs of these hashes, with the least number of buckets that have room for `wanted`.
+    ///
+    /// ```
+    /// let table = Table::from_hashes(alloc, &[7, 11], 4)?; // two pairs, and room for 6
+    /// ```
     pub fn from_hashes(alloc: Global, hashes: &[u64], wanted: usize) -> Result<Table, Refusal>
         requires { length hashes.now ≤ wanted }
         ensures hashes { IfOk result (λ t. t.hashes ≡ hashes.now) }
@@ -42,6 +50,10 @@ impl Table {
     }
 
     /// Makes room for so many pairs in all. It never loses room, and after a refusal nothing has changed.
+    ///
+    /// ```
+    /// table.reserve(7)?; // room for 12: sixteen buckets are the fewest that serve
+    /// ```
     pub fn reserve(&mut self, wanted: usize) -> Result<(), Refusal>
         ensures hashes { self.new.hashes ≡ self.old.hashes }
         ensures buckets { OnOk result (self.new.buckets ≡ max self.old.buckets (buckets_for wanted)) }
@@ -62,6 +74,10 @@ impl Table {
     }
 
     /// Makes room for one pair more where there is none, by the next number of buckets.
+    ///
+    /// ```
+    /// table.grow()?; // there is room for one more, so nothing changes
+    /// ```
     pub fn grow(&mut self) -> Result<(), Refusal>
         ensures hashes { self.new.hashes ≡ self.old.hashes }
         ensures buckets { OnOk result (self.new.buckets ≡ buckets_for_more (length self.old.hashes) self.old.buckets) }
@@ -78,6 +94,10 @@ impl Table {
 
     /// Keeps the least number of buckets that have room for the pairs. Without memory the room stays; with no pairs
     /// there are no buckets afterwards, and no memory is taken.
+    ///
+    /// ```
+    /// table.shrink_to_fit(); // room for 3
+    /// ```
     pub fn shrink_to_fit(&mut self)
         ensures hashes { self.new.hashes ≡ self.old.hashes }
         ensures fewer { self.new.buckets ≤ self.old.buckets }
@@ -91,6 +111,10 @@ impl Table {
     }
 
     /// A table with as many buckets and the same stored hashes.
+    ///
+    /// ```
+    /// let copy = table.copy()?; // the same pairs, in as many buckets
+    /// ```
     pub fn copy(&self) -> Result<Table, Refusal>
         ensures ok { IfOk result (λ t. t ≡ self.now) }
         ensures err { IfErr result (λ why. why ≡ Refusal.Memory) }

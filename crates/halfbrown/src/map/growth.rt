@@ -15,6 +15,10 @@ impl<K: Eq + Hash, V, S: BuildHasher, L: Limit> LimitedHashMap<K, V, S, L> {
     ///
     /// A table asks for the least room of its series that serves, and a vector for no more than the limit, whatever is
     /// wanted. It is refused only where there is less room, and then nothing has changed. Nothing is hashed.
+    ///
+    /// ```
+    /// ages.reserve(20)?; // twenty more ages want no more room
+    /// ```
     pub fn reserve(&mut self, additional: usize) -> Result<(), Refusal>
         ensures room { OnOk result (HasRoomAfter self.old (room_wants L.LIMIT self.old (length self.old.pairs + additional)) self.new) }
         ensures serves { OnOk result (room_wants L.LIMIT self.new (length self.old.pairs + additional) ≡ None) }
@@ -44,7 +48,12 @@ impl<K: Eq + Hash, V, S: BuildHasher, L: Limit> LimitedHashMap<K, V, S, L> {
     }
 
     /// Gives memory back as far as the pairs allow. A table has the least room of its series that serves afterwards, or
-    /// without memory for that the room that it had; an empty one has no room, and needs no memory for that.
+    /// without memory for that the room that it had; an empty one has no room, and needs no memory for that. Nothing is
+    /// hashed.
+    ///
+    /// ```
+    /// ages.shrink_to_fit();
+    /// ```
     pub fn shrink_to_fit(&mut self)
         ensures room { HasRoomShrunk self.old self.new }
         ensures pairs { self.new.pairs ≡ self.old.pairs }

@@ -27,7 +27,18 @@ impl<K: Eq + Hash, V, S: BuildHasher, L: Limit> LimitedHashMap<K, V, S, L> {
     /// Where an equal key is held the pair keeps that key and its place, and the given key is dropped; else the pair is
     /// added behind the others. A full vector becomes a table first, whichever of both it is.
     ///
-    /// It is refused only where more room is needed: by the switch, and by a new key where no room is left.
+    /// It is refused only where more room is needed: by the switch, and by a new key where no room is left. The map is then
+    /// as it was, and the pair comes back.
+    ///
+    /// It costs one search, and the switch one hash for each pair. Growth hashes nothing.
+    ///
+    /// ```
+    /// let before = ages.insert(1, 36)?; // none
+    /// ```
+    ///
+    /// ```
+    /// let before = ages.insert(1, 37)?; // 36
+    /// ```
     pub fn insert(&mut self, key: K, value: V) -> Result<Option<V>, Refused<K, V>>
     where
         K: Drop,
@@ -51,6 +62,11 @@ impl<K: Eq + Hash, V, S: BuildHasher, L: Limit> LimitedHashMap<K, V, S, L> {
     }
 
     /// `insert`, with its work counted.
+    ///
+    /// ```
+    /// let mut tally = Tally::new();
+    /// let before = ages.insert_counted(1, 38, &mut tally)?; // 37
+    /// ```
     pub fn insert_counted(
         &mut self,
         key: K,
@@ -90,7 +106,13 @@ impl<K: Eq + Hash, V, S: BuildHasher, L: Limit> LimitedHashMap<K, V, S, L> {
 
     /// Adds a pair whose key is not held, without a search for it.
     ///
-    /// It is refused as `insert` of a new key is.
+    /// It is refused as `insert` of a new key is. It compares no key, and in a table it asks for one hash.
+    ///
+    /// ```
+    /// if !ages.contains_key(&2) {
+    ///     ages.insert_nocheck(2, 41)?;
+    /// }
+    /// ```
     pub fn insert_nocheck(&mut self, key: K, value: V) -> Result<(), Refused<K, V>>
         requires { holds K.eq self.old.pairs key ≡ false }
         ensures pairs { OnOk result (self.new.pairs ≡ put K.eq self.old.pairs key value) }
@@ -108,6 +130,12 @@ impl<K: Eq + Hash, V, S: BuildHasher, L: Limit> LimitedHashMap<K, V, S, L> {
     }
 
     /// `insert_nocheck`, with its work counted: the switch's hashes, and one hash in a table; no key is compared.
+    ///
+    /// ```
+    /// if !ages.contains_key_counted(&3, &mut tally) {
+    ///     ages.insert_nocheck_counted(3, 5, &mut tally)?;
+    /// }
+    /// ```
     pub fn insert_nocheck_counted(
         &mut self,
         key: K,

@@ -17,7 +17,11 @@ use std::ops::Index;
 impl<K: Eq + Hash, V, S: BuildHasher, L: Limit> LimitedHashMap<K, V, S, L> {
     ghost use Rattle.halfbrown.specs.Lending.{LendsValueOf, LendsValueAt};
 
-    /// The value of the held key that equals this one.
+    /// The value of the held key that equals this one. It costs one search.
+    ///
+    /// ```
+    /// let age = ages.get(&1).copied(); // 36
+    /// ```
     pub fn get(&self, key: &K) -> Option<&V>
         ensures { option_copied result ≡ value_of K.eq self.now.pairs key.now }
     {
@@ -25,6 +29,10 @@ impl<K: Eq + Hash, V, S: BuildHasher, L: Limit> LimitedHashMap<K, V, S, L> {
     }
 
     /// `get`, with its work counted: one hash in a table and none in a vector, and no key of another hash is compared.
+    ///
+    /// ```
+    /// let age = ages.get_counted(&1, &mut tally).copied(); // 36
+    /// ```
     pub fn get_counted(&self, key: &K, tally: &mut Tally) -> Option<&V>
         ensures value { option_copied result ≡ value_of K.eq self.now.pairs key.now }
         ensures cost { SearchCosts (key_hash S.BuildHasher S.Hasher.Hasher K.hash_input) self.now key.now (is_some result) tally.old tally.new }
@@ -36,7 +44,13 @@ impl<K: Eq + Hash, V, S: BuildHasher, L: Limit> LimitedHashMap<K, V, S, L> {
         }
     }
 
-    /// The value of the held key that equals this one, to be written.
+    /// The value of the held key that equals this one, to be written. It costs one search.
+    ///
+    /// ```
+    /// if let Some(age) = ages.get_mut(&1) {
+    ///     *age = 37;
+    /// }
+    /// ```
     pub fn get_mut(&mut self, key: &K) -> Option<&mut V>
         ensures* writes_back { sem 𝓛 (LendsValueOf K.row V.row S.row L.row S.Hasher.row K.Hash S.BuildHasher S.Hasher.Hasher L.Limit self.entry key.now result) }
         ensures value { option_copied_mut result ≡ value_of K.eq self.old.pairs key.now }
@@ -45,6 +59,12 @@ impl<K: Eq + Hash, V, S: BuildHasher, L: Limit> LimitedHashMap<K, V, S, L> {
     }
 
     /// `get_mut`, with its work counted: that of one search.
+    ///
+    /// ```
+    /// if let Some(age) = ages.get_mut_counted(&1, &mut tally) {
+    ///     *age = 38;
+    /// }
+    /// ```
     pub fn get_mut_counted(&mut self, key: &K, tally: &mut Tally) -> Option<&mut V>
         ensures* writes_back { sem 𝓛 (LendsValueOf K.row V.row S.row L.row S.Hasher.row K.Hash S.BuildHasher S.Hasher.Hasher L.Limit self.entry key.now result) }
         ensures value { option_copied_mut result ≡ value_of K.eq self.old.pairs key.now }
@@ -57,7 +77,11 @@ impl<K: Eq + Hash, V, S: BuildHasher, L: Limit> LimitedHashMap<K, V, S, L> {
         }
     }
 
-    /// Whether a key equal to this one is held.
+    /// Whether a key equal to this one is held. It costs one search.
+    ///
+    /// ```
+    /// let known = ages.contains_key(&1); // true
+    /// ```
     pub fn contains_key(&self, key: &K) -> bool
         ensures { result ≡ holds K.eq self.now.pairs key.now }
     {
@@ -65,6 +89,10 @@ impl<K: Eq + Hash, V, S: BuildHasher, L: Limit> LimitedHashMap<K, V, S, L> {
     }
 
     /// `contains_key`, with its work counted: that of one search.
+    ///
+    /// ```
+    /// let known = ages.contains_key_counted(&2, &mut tally); // false
+    /// ```
     pub fn contains_key_counted(&self, key: &K, tally: &mut Tally) -> bool
         ensures held { result ≡ holds K.eq self.now.pairs key.now }
         ensures cost { SearchCosts (key_hash S.BuildHasher S.Hasher.Hasher K.hash_input) self.now key.now result tally.old tally.new }
@@ -77,6 +105,14 @@ impl<K: Eq + Hash, V, S: BuildHasher, L: Limit> LimitedHashMap<K, V, S, L> {
     }
 
     /// `map[key]`, with its work counted: that of one search. A key equal to this one has to be held.
+    ///
+    /// ```
+    /// let age = if ages.contains_key(&1) {
+    ///     *ages.index_counted(&1, &mut tally)
+    /// } else {
+    ///     0
+    /// }; // 38
+    /// ```
     pub fn index_counted(&self, key: &K, tally: &mut Tally) -> &V
         requires { IsTrue (holds K.eq self.now.pairs key.now) }
         ensures value { value_of K.eq self.now.pairs key.now ≡ Some result.now }
@@ -105,7 +141,11 @@ impl<'a, K: Eq + Hash, V, S: BuildHasher, L: Limit> Index<&'a K> for LimitedHash
 
     ghost index_gives = { λ m k v. value_of K.eq m.pairs k.now ≡ Some v };
 
-    /// The value of the held key that equals this one. There has to be one.
+    /// The value of the held key that equals this one. There has to be one. It costs one search.
+    ///
+    /// ```
+    /// let age = if ages.contains_key(&1) { ages[&1] } else { 0 }; // 38
+    /// ```
     fn index(&self, key: &'a K) -> &V {
         self.index_counted(key, &mut Tally::new())
     }

@@ -13,7 +13,11 @@ use std::hash::{BuildHasher, BuildHasherDefault, Hash};
 use std::marker::PhantomData;
 
 impl<K: Eq + Hash, V, L: Limit> LimitedHashMap<K, V, DefaultHashBuilder, L> {
-    /// An empty vector with the default builder. It takes no memory.
+    /// An empty vector with the default builder. It takes no memory, and hashes nothing.
+    ///
+    /// ```
+    /// let ages = Ages::new(alloc); // an empty vector
+    /// ```
     pub fn new(alloc: Global) -> Self
         ensures form { result.is_vec ≡ true }
         ensures pairs { result.pairs ≡ [] }
@@ -25,7 +29,12 @@ impl<K: Eq + Hash, V, L: Limit> LimitedHashMap<K, V, DefaultHashBuilder, L> {
     }
 
     /// An empty map with the default builder and room for so many pairs: a vector where the limit allows them, else a
-    /// table. It is refused only where room is wanted.
+    /// table. It is refused only where room is wanted: for `Size` where that is for more than 2^60 pairs, else for `Memory`.
+    ///
+    /// ```
+    /// let small = Ages::with_capacity(alloc, 32)?; // a vector
+    /// let large = Ages::with_capacity(alloc, 33)?; // a table
+    /// ```
     pub fn with_capacity(alloc: Global, capacity: usize) -> Result<Self, Refusal>
         ensures form { IfOk result (λ m. m.is_vec ≡ nat_le capacity L.LIMIT) }
         ensures pairs { IfOk result (λ m. m.pairs ≡ []) }
@@ -39,7 +48,11 @@ impl<K: Eq + Hash, V, L: Limit> LimitedHashMap<K, V, DefaultHashBuilder, L> {
     }
 
     /// An empty vector with the default builder and room for so many pairs, or for as many as the limit allows. It
-    /// still becomes a table at the limit.
+    /// still becomes a table at the limit. It is refused as `with_capacity` is.
+    ///
+    /// ```
+    /// let ages = Ages::vec_with_capacity(alloc, 100)?; // a vector with room for 32
+    /// ```
     pub fn vec_with_capacity(alloc: Global, capacity: usize) -> Result<Self, Refusal>
         ensures form { IfOk result (λ m. m.is_vec ≡ true) }
         ensures pairs { IfOk result (λ m. m.pairs ≡ []) }
@@ -54,7 +67,11 @@ impl<K: Eq + Hash, V, L: Limit> LimitedHashMap<K, V, DefaultHashBuilder, L> {
 }
 
 impl<K: Eq + Hash, V, S: BuildHasher, L: Limit> LimitedHashMap<K, V, S, L> {
-    /// An empty vector with this builder. It takes no memory.
+    /// An empty vector with this builder. It takes no memory, and hashes nothing.
+    ///
+    /// ```
+    /// let ages = Ages::with_hasher(alloc, DefaultHashBuilder::new()); // an empty vector
+    /// ```
     pub fn with_hasher(alloc: Global, builder: S) -> Self
         ensures form { result.is_vec ≡ true }
         ensures pairs { result.pairs ≡ [] }
@@ -71,7 +88,11 @@ impl<K: Eq + Hash, V, S: BuildHasher, L: Limit> LimitedHashMap<K, V, S, L> {
         }
     }
 
-    /// An empty vector with the builder type's own default. It takes no memory.
+    /// An empty vector with the builder type's own default. It takes no memory, and hashes nothing.
+    ///
+    /// ```
+    /// let ages = Ages::default(alloc); // an empty vector
+    /// ```
     pub fn default(alloc: Global) -> Self
     where
         S: Default,
@@ -85,7 +106,12 @@ impl<K: Eq + Hash, V, S: BuildHasher, L: Limit> LimitedHashMap<K, V, S, L> {
     }
 
     /// An empty map with this builder and room for so many pairs: a vector where the limit allows them, else a table.
-    /// It is refused only where room is wanted.
+    /// It is refused as `with_capacity` is.
+    ///
+    /// ```
+    /// let builder = DefaultHashBuilder::new();
+    /// let ages = Ages::with_capacity_and_hasher(alloc, 100, builder)?; // a table with room for 192
+    /// ```
     pub fn with_capacity_and_hasher(
         alloc: Global,
         capacity: usize,

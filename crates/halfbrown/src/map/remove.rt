@@ -16,7 +16,12 @@ use half_store::table::Table;
 use std::hash::{BuildHasher, Hash};
 
 impl<K: Eq + Hash, V, S: BuildHasher, L: Limit> LimitedHashMap<K, V, S, L> {
-    /// Takes out the pair of the held key that equals this one, and answers its value. The last pair takes its place.
+    /// Takes out the pair of the held key that equals this one, and answers its value. The last pair takes its place. It
+    /// costs one search, and hashes nothing else.
+    ///
+    /// ```
+    /// let age = ages.remove(&1); // 36
+    /// ```
     pub fn remove(&mut self, key: &K) -> Option<V>
     where
         K: Drop,
@@ -28,6 +33,10 @@ impl<K: Eq + Hash, V, S: BuildHasher, L: Limit> LimitedHashMap<K, V, S, L> {
     }
 
     /// `remove`, with its work counted: that of one search.
+    ///
+    /// ```
+    /// let age = ages.remove_counted(&2, &mut tally); // 41
+    /// ```
     pub fn remove_counted(&mut self, key: &K, tally: &mut Tally) -> Option<V>
     where
         K: Drop,
@@ -42,7 +51,12 @@ impl<K: Eq + Hash, V, S: BuildHasher, L: Limit> LimitedHashMap<K, V, S, L> {
         }
     }
 
-    /// Takes out the stored pair of the held key that equals this one. The last pair takes its place.
+    /// Takes out the stored pair of the held key that equals this one. The last pair takes its place. It costs one search,
+    /// and hashes nothing else.
+    ///
+    /// ```
+    /// let pair = ages.remove_entry(&3); // 3 and 5
+    /// ```
     pub fn remove_entry(&mut self, key: &K) -> Option<(K, V)>
         ensures pair { result ≡ pair_of K.eq self.old.pairs key.now }
         ensures after { WithPairs self.old (take_out K.eq self.old.pairs key.now) self.new }
@@ -52,6 +66,10 @@ impl<K: Eq + Hash, V, S: BuildHasher, L: Limit> LimitedHashMap<K, V, S, L> {
     }
 
     /// `remove_entry`, with its work counted: that of one search.
+    ///
+    /// ```
+    /// let pair = ages.remove_entry_counted(&4, &mut tally); // 4 and 8
+    /// ```
     pub fn remove_entry_counted(&mut self, key: &K, tally: &mut Tally) -> Option<(K, V)>
         ensures pair { result ≡ pair_of K.eq self.old.pairs key.now }
         ensures after { WithPairs self.old (take_out K.eq self.old.pairs key.now) self.new }

@@ -1,0 +1,161 @@
+//! The examples of the map's documentation, word for word, each with what it comes to.
+
+use halfbrown::run::{run, run_counted};
+use halfbrown::{Command, DefaultHashBuilder, HashMap, Reply, SizedHashMap, Tally};
+use std::hash::BuildHasher;
+use std::test::Fail;
+
+type Ages = HashMap<u64, u32, DefaultHashBuilder>;
+
+#[test]
+fn a_map_and_its_limit(rt: HostRuntime) -> Result<(), Fail> {
+    let alloc = rt.alloc();
+    let mut ages = Ages::new(alloc);
+    ages.insert(1, 36)?;
+    let age = ages.get(&1).copied(); // 36
+    assert_eq!(rt; age, Some(36), "the age of 1");
+    let mut scope = SizedHashMap::<u64, u32, DefaultHashBuilder, 8>::new(alloc);
+    scope.insert(7, 70)?;
+    assert!(rt; scope.is_vec(), "one of eight");
+    Ok(())
+}
+
+#[test]
+fn making(rt: HostRuntime) -> Result<(), Fail> {
+    let alloc = rt.alloc();
+    let ages = Ages::new(alloc); // an empty vector
+    assert!(rt; ages.is_vec() && ages.is_empty(), "new");
+    let small = Ages::with_capacity(alloc, 32)?; // a vector
+    let large = Ages::with_capacity(alloc, 33)?; // a table
+    assert!(rt; small.is_vec() && large.is_map(), "by the limit");
+    let ages = Ages::vec_with_capacity(alloc, 100)?; // a vector with room for 32
+    assert!(rt; ages.is_vec() && ages.capacity() == 32, "a vector");
+    let ages = Ages::with_hasher(alloc, DefaultHashBuilder::new()); // an empty vector
+    assert!(rt; ages.is_vec() && ages.is_empty(), "with a builder");
+    let ages = Ages::default(alloc); // an empty vector
+    assert!(rt; ages.is_vec() && ages.is_empty(), "by default");
+    let builder = DefaultHashBuilder::new();
+    let ages = Ages::with_capacity_and_hasher(alloc, 100, builder)?; // a table with room for 192
+    assert!(rt; ages.is_map() && ages.capacity() == 192, "a table");
+    Ok(())
+}
+
+#[test]
+fn what_a_map_says_of_itself(rt: HostRuntime) -> Result<(), Fail> {
+    let mut ages = Ages::with_capacity(rt.alloc(), 4)?;
+    ages.insert(1, 36)?;
+    ages.insert(2, 41)?;
+    let count = ages.len(); // 2
+    assert_eq!(rt; count, 2, "the pairs");
+    let none = ages.is_empty(); // false
+    assert!(rt; !none, "two pairs");
+    let hash = ages.hasher().hash_one(&1u64); // the hash that a table of these ages stores for 1
+    assert_eq!(rt;
+        hash,
+        DefaultHashBuilder::new().hash_one(&1u64),
+        "the same builder"
+    );
+    let is_vector = ages.is_vec(); // true: two pairs, and the limit is 32
+    assert!(rt; is_vector, "a vector");
+    let is_table = ages.is_map(); // false
+    assert!(rt; !is_table, "no table");
+    let room = ages.capacity(); // 4, since it was made for so many
+    assert_eq!(rt; room, 4, "the room");
+    ages.clear();
+    let count = ages.len(); // 0
+    assert_eq!(rt; count, 0, "no pairs");
+    Ok(())
+}
+
+#[test]
+fn inserting(rt: HostRuntime) -> Result<(), Fail> {
+    let mut ages = Ages::new(rt.alloc());
+    let before = ages.insert(1, 36)?; // none
+    assert_eq!(rt; before, None, "1 is new");
+    let before = ages.insert(1, 37)?; // 36
+    assert_eq!(rt; before, Some(36), "the age before");
+    let mut tally = Tally::new();
+    let before = ages.insert_counted(1, 38, &mut tally)?; // 37
+    assert_eq!(rt; before, Some(37), "the age before");
+    if !ages.contains_key(&2) {
+        ages.insert_nocheck(2, 41)?;
+    }
+    assert_eq!(rt; ages.get(&2).copied(), Some(41), "the age of 2");
+    if !ages.contains_key_counted(&3, &mut tally) {
+        ages.insert_nocheck_counted(3, 5, &mut tally)?;
+    }
+    assert_eq!(rt; ages.get(&3).copied(), Some(5), "the age of 3");
+    ages.reserve(20)?; // twenty more ages want no more room
+    assert!(rt; ages.capacity() >= 23, "room for 23");
+    ages.shrink_to_fit();
+    assert_eq!(rt; ages.capacity(), 3, "room for 3");
+    Ok(())
+}
+
+#[test]
+fn reading(rt: HostRuntime) -> Result<(), Fail> {
+    let mut ages = Ages::new(rt.alloc());
+    let mut tally = Tally::new();
+    ages.insert(1, 36)?;
+    let age = ages.get(&1).copied(); // 36
+    assert_eq!(rt; age, Some(36), "the age of 1");
+    let age = ages.get_counted(&1, &mut tally).copied(); // 36
+    assert_eq!(rt; age, Some(36), "the age of 1");
+    if let Some(age) = ages.get_mut(&1) {
+        *age = 37;
+    }
+    assert_eq!(rt; ages.get(&1).copied(), Some(37), "a year later");
+    if let Some(age) = ages.get_mut_counted(&1, &mut tally) {
+        *age = 38;
+    }
+    assert_eq!(rt; ages.get(&1).copied(), Some(38), "two years later");
+    let known = ages.contains_key(&1); // true
+    assert!(rt; known, "1 is held");
+    let known = ages.contains_key_counted(&2, &mut tally); // false
+    assert!(rt; !known, "2 is not held");
+    let age = if ages.contains_key(&1) { ages[&1] } else { 0 }; // 38
+    assert_eq!(rt; age, 38, "the age of 1");
+    let age = if ages.contains_key(&1) {
+        *ages.index_counted(&1, &mut tally)
+    } else {
+        0
+    }; // 38
+    assert_eq!(rt; age, 38, "the age of 1");
+    Ok(())
+}
+
+#[test]
+fn removing(rt: HostRuntime) -> Result<(), Fail> {
+    let mut ages = Ages::new(rt.alloc());
+    let mut tally = Tally::new();
+    for (number, age) in [(1, 36), (2, 41), (3, 5), (4, 8)] {
+        ages.insert(number, age)?;
+    }
+    let age = ages.remove(&1); // 36
+    assert_eq!(rt; age, Some(36), "the age of 1");
+    let age = ages.remove_counted(&2, &mut tally); // 41
+    assert_eq!(rt; age, Some(41), "the age of 2");
+    let pair = ages.remove_entry(&3); // 3 and 5
+    assert_eq!(rt; pair, Some((3, 5)), "the pair of 3");
+    let pair = ages.remove_entry_counted(&4, &mut tally); // 4 and 8
+    assert_eq!(rt; pair, Some((4, 8)), "the pair of 4");
+    Ok(())
+}
+
+#[test]
+fn running(rt: HostRuntime) -> Result<(), Fail> {
+    let alloc = rt.alloc();
+    let mut ages = Ages::new(alloc);
+    let commands = vec![in alloc; Command::Insert(1, 36), Command::Get(1), Command::Len]?;
+    let replies = run(alloc, &mut ages, commands); // Was(None), Found(Some(36)), Length(1)
+    let replies = replies.ok().expect(&rt, "the room for the replies");
+    let wanted = [Reply::Was(None), Reply::Found(Some(36)), Reply::Length(1)];
+    assert_eq!(rt; replies.as_slice(), wanted.as_slice(), "the replies");
+    let mut tally = Tally::new();
+    let commands = vec![in alloc; Command::Remove(1), Command::IsVec]?;
+    let replies = run_counted(alloc, &mut ages, commands, &mut tally); // the pair of 1, and true
+    let replies = replies.ok().expect(&rt, "the room for the replies");
+    let wanted = [Reply::Removed(Some((1, 36))), Reply::Form(true)];
+    assert_eq!(rt; replies.as_slice(), wanted.as_slice(), "the replies");
+    Ok(())
+}
