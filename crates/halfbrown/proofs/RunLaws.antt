@@ -1,7 +1,6 @@
 -- The laws of runs, by induction over the commands.
 use Rattle.std.proofs.Common.{◌≡◌, ◌∙◌, ℕ, ◌+◌, ◌⊎◌, inl, inr, Bool, true, false, true≢false, not, ◌&&◌, ◌||◌, ◌==◌, List, get_or, drop, unwrap_or, [], ◌∷◌, map, length, Option, None, Some, ap, sym, refl, arith, if◌then◌else◌}
 use Rattle.std.specs.Prelude.{MatchBool, is_some}
-use Rattle.half_store.specs.Work.{Work}
 use Rattle.half_store.specs.declared.refusal.Refusal.{Refusal}
 use Rattle.halfbrown.specs.declared.run.Command.{Command}
 use Rattle.halfbrown.specs.declared.run.Command.TheVariants.{Insert, InsertNew, Get, Remove, Clear, Reserve, Shrink, IsVec, Len}
@@ -12,7 +11,7 @@ use Rattle.halfbrown.specs.Growth.{is_full, insert_wants, unchecked_wants}
 use Rattle.halfbrown.specs.Pairs.{holds, put, take_out}
 use Rattle.halfbrown.specs.State.{State}
 use Rattle.halfbrown.specs.Step.{Steps, Leaves, Puts, answer, refusal_in, is_refused}
-use Rattle.halfbrown.specs.RunCost.{Cost, GrewBy, no_cost, command_cost, search_cost, unchecked_cost, add_costs}
+use Rattle.halfbrown.specs.RunCost.{Cost, no_cost, command_cost, search_cost, unchecked_cost, add_costs}
 use Rattle.halfbrown.specs.Run.{Runs}
 use Rattle.halfbrown.specs.RunLaws.{is_put, IsAlike, has_switched}
 
@@ -217,15 +216,17 @@ module _ {K V S : Type 0} (limit : ℕ) (eq : K → K → Bool) (hash : S → K 
       let next_form = first_true run.0.is_vec (not (has_switched limit eq hash run.0 commands replies new run.1 run.4)) (sym (form_law run.0 commands replies new run.1 run.4) ∙ form) in
       omega (arith, ap (λ c. c.asked) run.5, step_asks old run.0 command reply run.2 next_form, nothing_hashed_law run.0 commands replies new run.1 run.4 form)
 
-  -- what a reader sees of a whole run by the form and the tally alone
-  pub table_stays : (old : State K V S) (commands : List (Command K V)) (replies : List (Reply K V)) (new : State K V S) (before after : Work)
-      → (cost : Cost) × Runs limit eq hash old commands replies new cost × GrewBy cost before after → old.is_vec ≡ false → new.is_vec ≡ false
-  table_stays old commands replies new before after run form =
-      form_law old commands replies new run.0 run.1 ∙ ap (λ v. v && not (has_switched limit eq hash old commands replies new run.0 run.1)) form
+  pub table_law : (old : State K V S) (commands : List (Command K V)) (replies : List (Reply K V)) (new : State K V S) (cost : Cost)
+      → Runs limit eq hash old commands replies new cost → old.is_vec ≡ false → new.is_vec ≡ false
+  table_law old commands replies new cost run form =
+      form_law old commands replies new cost run ∙ ap (λ v. v && not (has_switched limit eq hash old commands replies new cost run)) form
 
-  pub vector_asked : (old : State K V S) (commands : List (Command K V)) (replies : List (Reply K V)) (new : State K V S) (before after : Work)
-      → (cost : Cost) × Runs limit eq hash old commands replies new cost × GrewBy cost before after → new.is_vec ≡ true → after.asked ≡ before.asked
-  vector_asked old commands replies new before after run form = omega (arith, run.2.asked, nothing_hashed_law old commands replies new run.0 run.1 form)
+  pub unswitched_law : (old : State K V S) (commands : List (Command K V)) (replies : List (Reply K V)) (new : State K V S) (cost : Cost)
+      (run : Runs limit eq hash old commands replies new cost) → old.is_vec ≡ true → has_switched limit eq hash old commands replies new cost run ≡ false
+      → (new.is_vec ≡ true) × (cost.asked ≡ 0)
+  unswitched_law old commands replies new cost run form none =
+      let ends : new.is_vec ≡ true = form_law old commands replies new cost run ∙ (λ i. form i && not (none i)) in
+      (ends, nothing_hashed_law old commands replies new cost run ends)
 
   pub replies_law : (a b : State K V S) (commands : List (Command K V)) (a_replies b_replies : List (Reply K V)) (a_new b_new : State K V S) (a_cost b_cost : Cost)
       → IsAlike a b → map refusal_in a_replies ≡ map refusal_in b_replies

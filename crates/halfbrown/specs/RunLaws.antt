@@ -35,6 +35,17 @@ module _ {K : Type 0} (V : Type 0) {S : Type 0} (limit : ℕ) (eq : K → K → 
   FormLaw = (old : State K V S) (commands : List (Command K V)) (replies : List (Reply K V)) (new : State K V S) (cost : Cost)
       (run : Runs limit eq hash old commands replies new cost) → new.is_vec ≡ old.is_vec && not (has_switched limit eq hash old commands replies new cost run)
 
+  -- once a table, always a table
+  abbrev pub TableLaw : Type 0
+  TableLaw = (old : State K V S) (commands : List (Command K V)) (replies : List (Reply K V)) (new : State K V S) (cost : Cost)
+      → Runs limit eq hash old commands replies new cost → old.is_vec ≡ false → new.is_vec ≡ false
+
+  -- a run that begins with a vector and puts no pair into a full one ends with a vector, and has asked the builder for no hash
+  abbrev pub UnswitchedLaw : Type 0
+  UnswitchedLaw = (old : State K V S) (commands : List (Command K V)) (replies : List (Reply K V)) (new : State K V S) (cost : Cost)
+      (run : Runs limit eq hash old commands replies new cost) → old.is_vec ≡ true → has_switched limit eq hash old commands replies new cost run ≡ false
+      → (new.is_vec ≡ true) × (cost.asked ≡ 0)
+
   -- a run that ends with a vector has asked the builder for no hash
   abbrev pub NothingHashedLaw : Type 0
   NothingHashedLaw = (old : State K V S) (commands : List (Command K V)) (replies : List (Reply K V)) (new : State K V S) (cost : Cost)

@@ -1,14 +1,16 @@
 //! What holds of every run, in the words of `run`'s contract. These functions do nothing: the laws are their contracts.
 ghost use Rattle.halfbrown.specs.Costs.{key_hash};
-ghost use Rattle.halfbrown.specs.RunLaws.{FormLaw, NothingHashedLaw, RepliesLaw};
+ghost use Rattle.halfbrown.specs.RunLaws.{FormLaw, TableLaw, UnswitchedLaw, NothingHashedLaw, RepliesLaw};
 
 use crate::Limit;
 use std::hash::{BuildHasher, Hash};
 
 /// A run ends with a vector exactly where it began with one and no command of it put a pair into a full one; and then
-/// it has hashed nothing.
+/// it has hashed nothing. Once a table, always a table.
 pub fn form_of_a_run<K: Eq + Hash, V, S: BuildHasher, L: Limit>()
     ensures form { FormLaw V L.LIMIT K.eq (key_hash S.BuildHasher S.Hasher.Hasher K.hash_input) }
+    ensures stays_a_table { TableLaw V L.LIMIT K.eq (key_hash S.BuildHasher S.Hasher.Hasher K.hash_input) }
+    ensures unswitched { UnswitchedLaw V L.LIMIT K.eq (key_hash S.BuildHasher S.Hasher.Hasher K.hash_input) }
     ensures nothing_hashed { NothingHashedLaw V L.LIMIT K.eq (key_hash S.BuildHasher S.Hasher.Hasher K.hash_input) }
 {}
 

@@ -3,7 +3,7 @@ use Rattle.std.proofs.lemmas.List.{nil_from_length}
 use Rattle.std.specs.Vec.Iter.{into_iter_items}
 use Rattle.halfbrown.specs.Costs.{key_hash}
 use Rattle.halfbrown.proofs.RunLemmas.{RunSoFar, no_step, step_more, run_ended}
-use Rattle.halfbrown.proofs.RunLaws.{table_stays, vector_asked}
+use Rattle.halfbrown.proofs.RunLaws.{table_law, nothing_hashed_law}
 use Rattle.halfbrown.proofs.run.run_counted.Goals as goal
 
 pub loop-command-init : goal.loop-command-init
@@ -40,8 +40,10 @@ returns-clause-run g c =
 
 pub returns-clause-stays_a_table : goal.returns-clause-stays_a_table
 returns-clause-stays_a_table g c =
-    table_stays g.L.Limit.LIMIT g.K.PartialEq.eq (key_hash g.S.BuildHasher g.S.Hasher.Hasher g.K.Hash.hash_input) c.args.map.now c.args.commands.items c.loop-command.replies.items c.loop-command.map c.args.tally.now c.loop-command.tally (returns-clause-run g c)
+    let run = returns-clause-run g c in
+    table_law g.L.Limit.LIMIT g.K.PartialEq.eq (key_hash g.S.BuildHasher g.S.Hasher.Hasher g.K.Hash.hash_input) c.args.map.now c.args.commands.items c.loop-command.replies.items c.loop-command.map run.0 run.1
 
 pub returns-clause-nothing_hashed : goal.returns-clause-nothing_hashed
-returns-clause-nothing_hashed g c =
-    vector_asked g.L.Limit.LIMIT g.K.PartialEq.eq (key_hash g.S.BuildHasher g.S.Hasher.Hasher g.K.Hash.hash_input) c.args.map.now c.args.commands.items c.loop-command.replies.items c.loop-command.map c.args.tally.now c.loop-command.tally (returns-clause-run g c)
+returns-clause-nothing_hashed g c form =
+    let run = returns-clause-run g c in
+    omega (arith, run.2.asked, nothing_hashed_law g.L.Limit.LIMIT g.K.PartialEq.eq (key_hash g.S.BuildHasher g.S.Hasher.Hasher g.K.Hash.hash_input) c.args.map.now c.args.commands.items c.loop-command.replies.items c.loop-command.map run.0 run.1 form)
