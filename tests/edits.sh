@@ -8,7 +8,7 @@ cd "$(dirname "$0")/.." || exit 1
 
 copy=$(mktemp -d) || exit 1
 trap 'rm -rf "$copy"' EXIT
-cp -R HANDLES crates.txt crates "$copy" || exit 1
+tar -cf - --exclude=out HANDLES crates.txt crates | tar -xf - -C "$copy" || exit 1
 rm -f "$copy"/crates/*/must-fail/*.edit
 for folder in tests/edits/*/; do
     cp "$folder"*.edit "$copy/crates/$(basename "$folder")/must-fail/" || exit 1
