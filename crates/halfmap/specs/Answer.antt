@@ -1,10 +1,12 @@
 -- What a request is answered.
-use Rattle.std.specs.Prelude.{◌≡◌, ℕ, nat_eq, Option, Some, None, IsSome, ◌⊎◌, length, if◌then◌else◌}
+use Rattle.std.specs.Prelude.{◌≡◌, ℕ, List, nat_eq, Option, Some, None, IsSome, ◌⊎◌, length, if◌then◌else◌}
 use Rattle.halfbrown.specs.Growth.{insert_wants, stays_vec}
 use Rattle.halfbrown.specs.Pairs.{value_of, put, take_out}
 use Rattle.halfbrown.specs.State.{State, WithPairs}
+use Rattle.halfmap.specs.Line.{IsTextOfLine}
+use Rattle.halfmap.specs.Request.{IsTextOf}
 use Rattle.halfmap.specs.declared.answer.Answer.{Answer}
-use Rattle.halfmap.specs.declared.answer.Answer.TheVariants.{Absent, Was, NoRoom, Value, Vector, Table}
+use Rattle.halfmap.specs.declared.answer.Answer.TheVariants.{Absent, Was, NoRoom, Value, Vector, Table, BadLine}
 use Rattle.halfmap.specs.declared.request.Request.{Request}
 use Rattle.halfmap.specs.declared.request.Request.TheVariants.{Insert, Get, Remove, Form}
 
@@ -34,3 +36,11 @@ Answers (Remove k) old answer new =
     (answer ≡ was (value_of nat_eq old.pairs k)) × WithPairs old (take_out nat_eq old.pairs k) new
 Answers Form old answer new =
     (answer ≡ (if old.is_vec then Vector (length old.pairs) else Table (length old.pairs))) × (new ≡ old)
+
+-- what a line is answered, and what it makes of the map: what the request does that its text writes; and where it writes none, `bad
+-- line`, and nothing is changed
+abbrev pub AnswersLine : {S : Type 0} → List ℕ → State ℕ ℕ S → Answer → State ℕ ℕ S → Type 0
+AnswersLine line old answer new =
+    (text : List ℕ) × IsTextOfLine line text
+    × (((request : Request) × IsTextOf request text × Answers request old answer new)
+    ⊎ (((request : Request) → ¬ (IsTextOf request text)) × (answer ≡ BadLine) × (new ≡ old)))

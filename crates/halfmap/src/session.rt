@@ -1,4 +1,5 @@
 //! Lines in, answers out.
+ghost use Rattle.halfmap.specs.Answer.{AnswersLine};
 ghost use Rattle.halfmap.specs.Line.{IsTextOfLine, IsWithout};
 
 use crate::answer::{Answer, Numbers, perform};
@@ -65,8 +66,10 @@ fn read_line<R: Read>(reader: &mut BufReader<R>, line: &mut Vec<u8>) -> io::Resu
     Ok(!line.is_empty())
 }
 
-// Answers a line.
-fn reply(map: &mut Numbers, line: &[u8]) -> Answer {
+// Answers a line, given with its end.
+fn reply(map: &mut Numbers, line: &[u8]) -> Answer
+    ensures { AnswersLine line.now map.old result map.new }
+{
     match parse(without_end(line)) {
         Some(request) => perform(map, request),
         None => Answer::BadLine,
