@@ -192,7 +192,8 @@ impl<K, V> VecMap<K, V> {
         self.values.clear();
     }
 
-    /// Gives memory back, down to room for `wanted` pairs or those that are held. Without memory the room stays.
+    /// Gives memory back, down to room for `wanted` pairs or those that are held. Without memory the room stays; where
+    /// none is wanted and none is held there is no room afterwards, and no memory is needed for that.
     ///
     /// ```
     /// ages.shrink_to(3); // room for 3
@@ -201,6 +202,7 @@ impl<K, V> VecMap<K, V> {
         ensures pairs { self.new.pairs ≡ self.old.pairs }
         ensures room { self.new.room ≤ self.old.room }
         ensures serves { min (max wanted (length self.old.pairs)) self.old.room ≤ self.new.room }
+        ensures frees { length self.old.pairs ≡ 0 → wanted ≡ 0 → self.new.room ≡ 0 }
     {
         let kept = wanted.max(self.len());
         self.keys.shrink_to(kept);

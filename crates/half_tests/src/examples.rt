@@ -1,11 +1,15 @@
 //! The examples of the map's documentation, word for word, each with what it comes to.
 
 use halfbrown::run::{run, run_counted};
-use halfbrown::{Command, DefaultHashBuilder, HashMap, Reply, SizedHashMap, Tally};
+use halfbrown::{
+    Command, DefaultHashBuilder, HashMap, LimitedHashMap, Reply, SizedHashMap, Tally, UpTo,
+};
 use std::hash::BuildHasher;
 use std::test::Fail;
 
 type Ages = HashMap<u64, u32, DefaultHashBuilder>;
+
+type Few = LimitedHashMap<u64, u32, DefaultHashBuilder, UpTo<8>>; // up to eight pairs in a vector
 
 #[test]
 fn a_map_and_its_limit(rt: HostRuntime) -> Result<(), Fail> {
@@ -17,6 +21,8 @@ fn a_map_and_its_limit(rt: HostRuntime) -> Result<(), Fail> {
     let mut scope = SizedHashMap::<u64, u32, DefaultHashBuilder, 8>::new(alloc);
     scope.insert(7, 70)?;
     assert!(rt; scope.is_vec(), "one of eight");
+    let few = Few::new(alloc);
+    assert!(rt; few.is_vec() && few.is_empty(), "none of eight");
     Ok(())
 }
 
@@ -85,10 +91,15 @@ fn inserting(rt: HostRuntime) -> Result<(), Fail> {
         ages.insert_nocheck_counted(3, 5, &mut tally)?;
     }
     assert_eq!(rt; ages.get(&3).copied(), Some(5), "the age of 3");
+    let pair = ages
+        .insert(4, 8)
+        .err()
+        .map(|refused| (refused.key, refused.value)); // none, or 4 and 8
+    assert_eq!(rt; pair, None, "granted");
     ages.reserve(20)?; // twenty more ages want no more room
-    assert!(rt; ages.capacity() >= 23, "room for 23");
+    assert!(rt; ages.capacity() >= 24, "room for 24");
     ages.shrink_to_fit();
-    assert_eq!(rt; ages.capacity(), 3, "room for 3");
+    assert_eq!(rt; ages.capacity(), 4, "room for 4");
     Ok(())
 }
 

@@ -172,6 +172,22 @@ fn an_emptied_table_shrinks_to_no_room_and_is_used_again(rt: HostRuntime) -> Res
 }
 
 #[test]
+fn an_emptied_vector_shrinks_to_no_room(rt: HostRuntime) -> Result<(), Fail> {
+    let counts = Counts::new();
+    let mut map = counts.map::<5>(rt.alloc(), Rule::Plain);
+    map.insert(counts.key(1), 1)?;
+    assert_eq!(rt; map.remove(&counts.key(1)), Some(1), "the value of key 1");
+    assert!(rt; map.capacity() > 0, "a removal keeps the room");
+    map.shrink_to_fit();
+    assert!(rt;
+        map.is_vec() && map.capacity() == 0,
+        "a vector without room"
+    );
+    assert_eq!(rt; map.insert(counts.key(1), 1)?, None, "key 1 is new");
+    Ok(())
+}
+
+#[test]
 fn an_overwrite_at_limit_one_makes_a_table(rt: HostRuntime) -> Result<(), Fail> {
     let counts = Counts::new();
     let mut map = counts.map::<1>(rt.alloc(), Rule::Plain);

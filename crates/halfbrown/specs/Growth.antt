@@ -20,11 +20,11 @@ HasRoomAfter old wants new =
 abbrev pub room_wants : {K V S : Type 0} → ℕ → State K V S → ℕ → Option ℕ
 room_wants limit m wanted = let most = if m.is_vec then min wanted limit else wanted in if nat_lt m.room most then Some most else None
 
--- the room after `shrink_to_fit`: a vector keeps room for its pairs; a table has the least that serves, or where pairs are held and
--- memory was refused the room that it had
+-- the room after `shrink_to_fit`: a vector has no more than before, and none where it holds nothing; a table has the least that
+-- serves, or where pairs are held and memory was refused the room that it had
 abbrev pub HasRoomShrunk : {K V S : Type 0} → State K V S → State K V S → Type 0
 HasRoomShrunk old new =
-    MatchBool new.is_vec (new.room ≤ old.room) ((new.room ≡ room_for (length old.pairs)) ⊎ ((0 < length old.pairs) × (new.room ≡ old.room)))
+    MatchBool new.is_vec ((new.room ≤ old.room) × (length old.pairs ≡ 0 → new.room ≡ 0)) ((new.room ≡ room_for (length old.pairs)) ⊎ ((0 < length old.pairs) × (new.room ≡ old.room)))
 
 -- how many pairs a constructor for this capacity wants room for
 abbrev pub making_wants : ℕ → Option ℕ

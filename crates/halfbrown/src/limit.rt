@@ -4,7 +4,14 @@ ghost use Rattle.std.specs.Prelude.{ℕ};
 /// The most pairs that a map holds in a vector.
 ///
 /// It is a type and no const parameter of the map, so that types that borrow a map can be proved; users write the
-/// number, as in `SizedHashMap<K, V, S, 5>`.
+/// number, as in `SizedHashMap<K, V, S, 5>`. A function of maps of any limit has it as a parameter:
+///
+/// ```
+/// pub fn same_label<K: Eq + Hash, S: BuildHasher, L: Limit>(
+///     labels: &LimitedHashMap<K, (), S, L>,
+///     label: &K,
+/// ) -> bool
+/// ```
 pub trait Limit {
     ghost LIMIT: { ℕ };
 
@@ -12,6 +19,10 @@ pub trait Limit {
 }
 
 /// A limit of `N` pairs.
+///
+/// ```
+/// type Few = LimitedHashMap<u64, u32, DefaultHashBuilder, UpTo<8>>; // up to eight pairs in a vector
+/// ```
 #[derive(Clone, Copy, Debug, PartialEq, Eq)]
 pub struct UpTo<const N: usize>;
 

@@ -48,8 +48,8 @@ impl<K: Eq + Hash, V, S: BuildHasher, L: Limit> LimitedHashMap<K, V, S, L> {
     }
 
     /// Gives memory back as far as the pairs allow. A table has the least room of its series that serves afterwards, or
-    /// without memory for that the room that it had; an empty one has no room, and needs no memory for that. Nothing is
-    /// hashed.
+    /// without memory for that the room that it had. An empty map has no room afterwards, and needs no memory for that.
+    /// Nothing is hashed.
     ///
     /// ```
     /// ages.shrink_to_fit();
