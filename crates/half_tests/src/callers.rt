@@ -1,7 +1,8 @@
 //! What callers build on the map, proved from its public contracts alone: scopes of names, a set of labels, and a cache
 //! whose look-ups are counted.
-ghost use Rattle.std.specs.Prelude.{◌≡◌, ◌+◌, ◌≤◌, Some, None, true, false, not, length, OnOk, IfOk, IfErr, OnErr, if◌then◌else◌};
+ghost use Rattle.std.specs.Prelude.{◌≡◌, ◌+◌, ◌≤◌, Some, None, true, false, not, length, OnOk, IfOk, IfErr, OnErr, is_some, if◌then◌else◌};
 ghost use Rattle.std.specs.Option.{option_copied};
+ghost use Rattle.halfbrown.specs.Costs.{key_hash, SearchCosts};
 ghost use Rattle.halfbrown.specs.Growth.{insert_wants, unchecked_wants, IsRefusal};
 ghost use Rattle.halfbrown.specs.Pairs.{value_of, holds, put};
 
@@ -41,7 +42,7 @@ pub fn resolve<'a, N: Eq + Hash, M, S: BuildHasher, L: Limit>(
 }
 
 /// Whether a label, or one equal to it, was added.
-pub fn same_label<K: Eq + Hash, S: BuildHasher, L: Limit>(
+pub fn has_label<K: Eq + Hash, S: BuildHasher, L: Limit>(
     labels: &LimitedHashMap<K, (), S, L>,
     label: &K,
 ) -> bool
@@ -77,6 +78,7 @@ pub fn lookup_counted<'a, K: Eq + Hash, V, S: BuildHasher, L: Limit>(
     tally: &mut Tally,
 ) -> Option<&'a V>
     ensures value { option_copied result ≡ value_of K.eq cache.now.pairs key.now }
+    ensures cost { SearchCosts (key_hash S.BuildHasher S.Hasher.Hasher K.hash_input) cache.now key.now (is_some result) tally.old tally.new }
     ensures in_a_table { cache.now.is_vec ≡ false → tally.new.asked ≡ tally.old.asked + 1 }
     ensures in_a_vector { cache.now.is_vec ≡ true → tally.new.asked ≡ tally.old.asked }
 {
@@ -132,13 +134,13 @@ mod tests {
             assert!(rt; add_label(&mut labels, label)?, "label {id} is new");
         }
         let again = Key::new(3, 2, &compared);
-        assert!(rt; same_label(&labels, &again), "3#2 is the label 3#1");
+        assert!(rt; has_label(&labels, &again), "3#2 is the label 3#1");
         assert!(rt; !add_label(&mut labels, again)?, "it is not added");
         assert!(rt; labels.is_vec() && labels.len() == 5, "nothing has changed");
         assert_eq!(rt; asked.get(), 0, "a vector hashes nothing");
         let stored = labels.remove_entry(&again).map(|pair| pair.0.name());
         assert_eq!(rt; stored, Some((3, 1)), "the label that was added first");
-        assert!(rt; !same_label(&labels, &again), "it is gone");
+        assert!(rt; !has_label(&labels, &again), "it is gone");
         Ok(())
     }
 

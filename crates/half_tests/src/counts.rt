@@ -33,9 +33,10 @@ impl Counts {
         Counting::new(rule, &self.asked)
     }
 
-    /// A key that counts here.
+    /// A key that counts here, of mark 1.
     pub fn key(&self, id: u64) -> Key<'_>
-        ensures { result.id ≡ id }
+        ensures id { result.id ≡ id }
+        ensures mark { result.mark ≡ 1 }
     {
         self.marked(id, 1)
     }
@@ -52,6 +53,7 @@ impl Counts {
     pub fn map<const N: usize>(&self, alloc: Global, rule: Rule) -> Counted<'_, N>
         ensures pairs { result.pairs ≡ [] }
         ensures form { result.is_vec ≡ true }
+        ensures room { result.room ≡ 0 }
         ensures builder { result.builder.rule ≡ rule }
     {
         SizedHashMap::with_hasher(alloc, self.builder(rule))

@@ -7,7 +7,7 @@ ghost use Rattle.std.specs.Prelude.{ℕ};
 /// number, as in `SizedHashMap<K, V, S, 5>`. A function of maps of any limit has it as a parameter:
 ///
 /// ```
-/// pub fn same_label<K: Eq + Hash, S: BuildHasher, L: Limit>(
+/// pub fn has_label<K: Eq + Hash, S: BuildHasher, L: Limit>(
 ///     labels: &LimitedHashMap<K, (), S, L>,
 ///     label: &K,
 /// ) -> bool
