@@ -89,9 +89,9 @@ pub fn lookup_counted<'a, K: Eq + Hash, V, S: BuildHasher, L: Limit>(
 mod tests {
     use super::*;
     use crate::builders::{Counting, Rule};
+    use crate::counts::Counts;
     use crate::keys::Key;
     use halfbrown::{DefaultHashBuilder, HashMap, SizedHashMap};
-    use std::cell::Cell;
     use std::test::Fail;
 
     #[test]
@@ -124,20 +124,20 @@ mod tests {
 
     #[test]
     fn a_label_given_twice_keeps_its_first_place(rt: HostRuntime) -> Result<(), Fail> {
-        let (asked, compared) = (Cell::new(0), Cell::new(0));
+        let counts = Counts::new();
         let mut labels = SizedHashMap::<Key<'_>, (), Counting<'_>, 5>::with_hasher(
             rt.alloc(),
-            Counting::new(Rule::Plain, &asked),
+            counts.builder(Rule::Plain),
         );
         for id in 1..=5 {
-            let label = Key::new(id, 1, &compared);
+            let label = counts.key(id);
             assert!(rt; add_label(&mut labels, label)?, "label {id} is new");
         }
-        let again = Key::new(3, 2, &compared);
+        let again = counts.marked(3, 2);
         assert!(rt; has_label(&labels, &again), "3#2 is the label 3#1");
         assert!(rt; !add_label(&mut labels, again)?, "it is not added");
         assert!(rt; labels.is_vec() && labels.len() == 5, "nothing has changed");
-        assert_eq!(rt; asked.get(), 0, "a vector hashes nothing");
+        assert_eq!(rt; counts.take().0, 0, "a vector hashes nothing");
         let stored = labels.remove_entry(&again).map(|pair| pair.0.name());
         assert_eq!(rt; stored, Some((3, 1)), "the label that was added first");
         assert!(rt; !has_label(&labels, &again), "it is gone");
@@ -146,15 +146,15 @@ mod tests {
 
     #[test]
     fn a_cache_hashes_once_in_a_table(rt: HostRuntime) -> Result<(), Fail> {
-        let asked = Cell::new(0);
+        let counts = Counts::new();
         let mut cache = SizedHashMap::<u64, u64, Counting<'_>, 5>::with_hasher(
             rt.alloc(),
-            Counting::new(Rule::Plain, &asked),
+            counts.builder(Rule::Plain),
         );
         for key in 1..=12 {
             assert_eq!(rt; cache.insert(key, 10 * key)?, None, "key {key} is new");
             for wanted in 1..=13 {
-                asked.set(0);
+                counts.take();
                 let value = lookup_counted(&cache, &wanted, &mut Tally::new()).copied();
                 let expected = if wanted <= key {
                     Some(10 * wanted)
@@ -163,7 +163,7 @@ mod tests {
                 };
                 assert_eq!(rt; value, expected, "key {wanted} of {key}");
                 let times = if key <= 5 { 0 } else { 1 };
-                assert_eq!(rt; asked.get(), times, "key {wanted} of {key}");
+                assert_eq!(rt; counts.take().0, times, "key {wanted} of {key}");
             }
         }
         Ok(())
