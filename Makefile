@@ -1,18 +1,26 @@
-# make run     builds the proved program and runs it on standard input
-# make test    the whole gate
-# make edits   tries the edits that must be refused and that the gate leaves out
-# make fmt     lays out the files of every crate
+# make run < FILE   proves and builds halfmap, where something has changed, and runs it on the lines of FILE
+# make try < FILE   runs halfmap on the lines of FILE at once, with nothing proved
+# make test         proves everything from nothing, tries the core edits, and runs every test and program
+# make edits        tries the other edits that the prover must refuse, several at a time
+# make fmt          lays out the files of every crate
 
-.PHONY: run test edits fmt
+.PHONY: help run try test edits fmt
+
+help:
+	@sed -n 's/^# //p' Makefile
 
 run:
 	@tests/run.sh
+
+try:
+	@echo "nothing is proved in this run of halfmap: make run proves it first" >&2
+	@cd crates/halfmap && rt try
 
 test:
 	@tests/gate.sh
 
 edits:
-	@tests/edits.sh
+	@tests/edits.py
 
 fmt:
 	@for crate in crates/*/; do (cd "$$crate" && rt fmt) || exit 1; done

@@ -1,6 +1,6 @@
 #!/usr/bin/env python3
-"""Talks to the proved program halfmap over pipes: each answer is there before the next line is sent, and a million lines
-are answered in seconds.
+"""Talks to the proved program halfmap over pipes: each answer is there before the next line is sent, or the rest of it, and
+a million lines are answered in seconds.
 
 The last line is "N passed, M failed".
 """
@@ -23,6 +23,13 @@ DIALOGUE = [
     ("", "bad line"),
     ("r 1", "was 11"),
     ("g 1", "none"),
+]
+
+# Each part ends within a line, and the lines before that one are answered.
+PARTS = [
+    (b"f\ni 1", b"vec 0\n"),
+    (b" 10\n\ng", b"none\nbad line\n"),
+    (b" 1\r\nf", b"10\n"),
 ]
 
 
@@ -51,6 +58,20 @@ def each_answer_comes_before_the_next_line():
     output, errors = program.communicate()
     timer.cancel()
     return ended_well(program, output, b"", errors)
+
+
+def no_answer_waits_for_the_rest_of_a_line():
+    program = start()
+    timer = stop_late(program)
+    for part, wanted in PARTS:
+        program.stdin.write(part)
+        program.stdin.flush()
+        answers = b"".join(program.stdout.readline() for _ in wanted.splitlines())
+        if answers != wanted:
+            return f"{part!r} was answered by {answers!r}, not {wanted!r}"
+    output, errors = program.communicate()
+    timer.cancel()
+    return ended_well(program, output, b"vec 1\n", errors)
 
 
 def a_million_lines_take_seconds():
@@ -95,6 +116,7 @@ def a_closed_output_ends_it_with_status_1():
 def main():
     tests = [
         each_answer_comes_before_the_next_line,
+        no_answer_waits_for_the_rest_of_a_line,
         a_million_lines_take_seconds,
         a_closed_output_ends_it_with_status_1,
     ]

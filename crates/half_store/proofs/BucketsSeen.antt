@@ -1,18 +1,18 @@
--- What the buckets of a table say of its room.
+-- What the buckets of a table say of its capacity.
 use Rattle.std.proofs.Common.{◌≡◌, ℕ, List, length, Option, sym, ap, subst}
-use Rattle.half_store.specs.Rooms.{room_of, room_for, buckets_of}
-use Rattle.half_store.specs.Table.{HashIndex, hash_index, hashes_at}
+use Rattle.half_store.specs.Capacity.{capacity_of, capacity_for, buckets_of}
+use Rattle.half_store.specs.Table.{TableState, table_state, hashes_at}
 use Rattle.half_store.specs.TableLayout.{IsTable}
-use Rattle.half_store.proofs.RoomsLemmas.{buckets_of-room_of, room_for-room_of}
+use Rattle.half_store.proofs.CapacityLemmas.{buckets_of-capacity_of, capacity_for-capacity_of}
 
--- a table's buckets are those of its room
-pub buckets_seen : (slots : List (Option ℕ)) (numbers places : List ℕ) (capacity : ℕ) → IsTable slots numbers places capacity → (t : HashIndex) → hash_index (hashes_at slots places) slots ≡ t → t.buckets ≡ buckets_of (room_of t.buckets)
-buckets_seen slots numbers places capacity table t view =
+-- a table's buckets are those of its capacity
+pub buckets_seen : (slots : List (Option ℕ)) (entry_of bucket_of : List ℕ) (capacity : ℕ) → IsTable slots entry_of bucket_of capacity → (t : TableState) → table_state (hashes_at slots bucket_of) slots ≡ t → t.buckets ≡ buckets_of (capacity_of t.buckets)
+buckets_seen slots entry_of bucket_of capacity table t view =
     let same : length slots ≡ t.buckets = ap (λ v. v.buckets) view in
-    subst (λ m. m ≡ buckets_of (room_of m)) same (sym (buckets_of-room_of (length slots) table.buckets))
+    subst (λ m. m ≡ buckets_of (capacity_of m)) same (sym (buckets_of-capacity_of (length slots) table.buckets))
 
--- and that room is one of the series
-pub series_seen : (slots : List (Option ℕ)) (numbers places : List ℕ) (capacity : ℕ) → IsTable slots numbers places capacity → (t : HashIndex) → hash_index (hashes_at slots places) slots ≡ t → room_of t.buckets ≡ room_for (room_of t.buckets)
-series_seen slots numbers places capacity table t view =
+-- and that capacity is one of the series
+pub series_seen : (slots : List (Option ℕ)) (entry_of bucket_of : List ℕ) (capacity : ℕ) → IsTable slots entry_of bucket_of capacity → (t : TableState) → table_state (hashes_at slots bucket_of) slots ≡ t → capacity_of t.buckets ≡ capacity_for (capacity_of t.buckets)
+series_seen slots entry_of bucket_of capacity table t view =
     let same : length slots ≡ t.buckets = ap (λ v. v.buckets) view in
-    subst (λ m. room_of m ≡ room_for (room_of m)) same (room_for-room_of (length slots) table.buckets)
+    subst (λ m. capacity_of m ≡ capacity_for (capacity_of m)) same (capacity_for-capacity_of (length slots) table.buckets)

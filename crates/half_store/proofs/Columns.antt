@@ -7,10 +7,10 @@ use Rattle.half_store.proofs.Zip.{length-zip, keys_of-zip, values_of-zip}
 use Rattle.half_store.specs.Pairs.{Pairs, with_pairs}
 
 module _ {K V Z : Type 0} where
-  -- what is known of the columns of a map whose pairs and room are these
+  -- what is known of the columns of a map whose pairs and capacity are these
   pub record Opened (keys : Vec K Z) (values : Vec V Z) (map : Pairs K V) : Type 0 where
     pub pairs : zip keys.items values.items ≡ map.pairs
-    pub room : min keys.cap values.cap ≡ map.room
+    pub capacity : min keys.cap values.cap ≡ map.capacity
     pub keys_are : keys.items ≡ keys_of map.pairs
     pub values_are : values.items ≡ values_of map.pairs
     pub keys_length : length keys.items ≡ length map.pairs
@@ -19,14 +19,14 @@ module _ {K V Z : Type 0} where
     pub values_len : values.len ≡ length map.pairs
 
   pub opened : (keys : Vec K Z) (values : Vec V Z) (map : Pairs K V)
-      → ◌≡◌ {A = Pairs K V} (record { pairs = zip keys.items values.items; room = min keys.cap values.cap }) map
+      → ◌≡◌ {A = Pairs K V} (record { pairs = zip keys.items values.items; capacity = min keys.cap values.cap }) map
       → length values.items ≡ length keys.items → Opened keys values map
   opened keys values map view even =
       let same : zip keys.items values.items ≡ map.pairs = ap (λ m. m.pairs) view in
       let n : length keys.items ≡ length map.pairs = sym (length-zip keys.items values.items even) ∙ ap length same in
       record {
         pairs = same;
-        room = ap (λ m. m.room) view;
+        capacity = ap (λ m. m.capacity) view;
         keys_are = sym (keys_of-zip keys.items values.items even) ∙ ap keys_of same;
         values_are = sym (values_of-zip keys.items values.items even) ∙ ap values_of same;
         keys_length = n;
@@ -36,7 +36,7 @@ module _ {K V Z : Type 0} where
       }
 
 module _ {K V : Type 0} where
-  -- a map of these pairs with the room of another
-  pub pairs_are : (map : Pairs K V) {ps qs : List (K × V)} {room : ℕ} → ps ≡ qs → room ≡ map.room
-      → ◌≡◌ {A = Pairs K V} (record { pairs = ps; room = room }) (with_pairs map qs)
-  pairs_are map p q = λ i. record { pairs = p i; room = q i }
+  -- a map of these pairs with the capacity of another
+  pub pairs_are : (map : Pairs K V) {ps qs : List (K × V)} {capacity : ℕ} → ps ≡ qs → capacity ≡ map.capacity
+      → ◌≡◌ {A = Pairs K V} (record { pairs = ps; capacity = capacity }) (with_pairs map qs)
+  pairs_are map p q = λ i. record { pairs = p i; capacity = q i }

@@ -1,10 +1,10 @@
--- Counting the places that pass a test.
+-- Counting the buckets that pass a test.
 use Rattle.std.proofs.Common.{◌≡◌, ◌≢◌, ℕ, zero, suc, ◌+◌, ◌-◌, ◌<◌, ◌≤◌, Bool, true, false, cond, ltb, ◌⊎◌, inl, inr, refl, sym, ap, ◌∙◌, arith, List, length, get_or, take, min, count_by}
 use Rattle.std.proofs.lemmas.Bool.{cases_lt, cases_eq, lt-ltb, le-ltb}
 use Rattle.std.proofs.lemmas.List.{take_all}
 use Rattle.std.proofs.lemmas.List.Sums.{sum_by_more}
-use Rattle.half_store.specs.Reach.{steps}
-use Rattle.half_store.proofs.Circle.{steps_are}
+use Rattle.half_store.specs.Reach.{probe_distance}
+use Rattle.half_store.proofs.Circle.{distance_is}
 
 -- 1 where a test passes
 abbrev pub tick : Bool → ℕ
@@ -16,7 +16,7 @@ tick_yes b e = rw e refl
 pub tick_no : (b : Bool) → b ≡ false → tick b ≡ 0
 tick_no b e = rw e refl
 
--- how many places below n pass
+-- how many buckets below n pass
 abbrev pub count_to : (ℕ → Bool) → ℕ → ℕ
 count_to Q zero = 0
 count_to Q (suc n) = tick (Q n) + count_to Q n
@@ -39,7 +39,7 @@ count_to-le Q R (suc n) h =
     let here = one_le (Q n) (R n) (h n (omega arith)) in
     omega arith
 
--- one place more passes
+-- one bucket more passes
 pub count_to-lt : (Q R : ℕ → Bool) (n x : ℕ) → x < n → Q x ≡ false → R x ≡ true → ((p : ℕ) → p < n → Q p ≡ true → R p ≡ true) → count_to Q n < count_to R n
 count_to-lt Q R zero x l q r h = absurd (omega arith)
 count_to-lt Q R (suc n) x l q r h =
@@ -55,7 +55,7 @@ count_to-lt Q R (suc n) x l q r h =
           omega arith
     ]
 
--- exactly one place more passes
+-- exactly one bucket more passes
 pub count_to_more : (Q R : ℕ → Bool) (n x : ℕ) → x < n → Q x ≡ false → R x ≡ true → ((p : ℕ) → p < n → p ≢ x → Q p ≡ R p) → count_to R n ≡ count_to Q n + 1
 count_to_more Q R zero x l q r h = absurd (omega arith)
 count_to_more Q R (suc n) x l q r h =
@@ -86,33 +86,33 @@ count_by-take f xs d (suc n) h =
     let one : suc n ≡ n + 1 = omega arith in
     ap (λ k. count_by f (take k xs)) one ∙ more ∙ omega arith
 
--- a count over a list, by places
+-- a count over a list, by buckets
 pub count_by-count_to : {X : Type 0} (f : X → Bool) (xs : List X) (d : X) → count_by f xs ≡ count_to (λ p. f (get_or xs p d)) (length xs)
 count_by-count_to f xs d = ap (count_by f) (sym (take_all (length xs) xs (omega arith))) ∙ count_by-take f xs d (length xs) (omega arith)
 
 one_if : (s t : ℕ) → ((s < t) × (tick (ltb s t) ≡ 1)) ⊎ ((t ≤ s) × (tick (ltb s t) ≡ 0))
 one_if s t = elim (cases_lt s t) [ inl h ↦ inl (h, tick_yes _ (lt-ltb s t h)) | inr h ↦ inr (h, tick_no _ (le-ltb s t h)) ]
 
--- the places below n that lie in the stretch of t buckets which ends with b
-stretch_part : (m b t n : ℕ) → b < m → t ≤ m → n ≤ m → count_to (λ p. ltb (steps m p b) t) n ≡ (min n (b + 1) - (b + 1 - t)) + (n - (b + m + 1 - t))
+-- the buckets below n that lie in the stretch of t buckets which ends with b
+stretch_part : (m b t n : ℕ) → b < m → t ≤ m → n ≤ m → count_to (λ p. ltb (probe_distance m p b) t) n ≡ (min n (b + 1) - (b + 1 - t)) + (n - (b + m + 1 - t))
 stretch_part m b t zero in_b in_t in_n = omega arith
 stretch_part m b t (suc n) in_b in_t in_n =
     let rest = stretch_part m b t n in_b in_t (omega arith) in
-    omega (arith, one_if (steps m n b) t, steps_are m n b (omega arith))
+    omega (arith, one_if (probe_distance m n b) t, distance_is m n b (omega arith))
 
--- a stretch of t buckets has t places
-pub stretch_size : (m b t : ℕ) → b < m → t ≤ m → count_to (λ p. ltb (steps m p b) t) m ≡ t
+-- a stretch of t buckets has t buckets
+pub stretch_size : (m b t : ℕ) → b < m → t ≤ m → count_to (λ p. ltb (probe_distance m p b) t) m ≡ t
 stretch_size m b t in_b in_t = stretch_part m b t m in_b in_t (omega arith) ∙ omega arith
 
--- the places below n that lie among the first t buckets from b
-ahead_part : (m b t n : ℕ) → b < m → t ≤ m → n ≤ m → count_to (λ p. ltb (steps m b p) t) n ≡ (min n (b + t) - b) + min n (b + t - m)
+-- the buckets below n that lie among the first t buckets from b
+ahead_part : (m b t n : ℕ) → b < m → t ≤ m → n ≤ m → count_to (λ p. ltb (probe_distance m b p) t) n ≡ (min n (b + t) - b) + min n (b + t - m)
 ahead_part m b t zero in_b in_t in_n = omega arith
 ahead_part m b t (suc n) in_b in_t in_n =
     let rest = ahead_part m b t n in_b in_t (omega arith) in
-    omega (arith, one_if (steps m b n) t, steps_are m b n in_b)
+    omega (arith, one_if (probe_distance m b n) t, distance_is m b n in_b)
 
 -- there are t of them
-pub ahead_size : (m b t : ℕ) → b < m → t ≤ m → count_to (λ p. ltb (steps m b p) t) m ≡ t
+pub ahead_size : (m b t : ℕ) → b < m → t ≤ m → count_to (λ p. ltb (probe_distance m b p) t) m ≡ t
 ahead_size m b t in_b in_t = ahead_part m b t m in_b in_t (omega arith) ∙ omega arith
 
 pub count_to-all : (n : ℕ) → count_to (λ p. true) n ≡ n

@@ -9,11 +9,11 @@ use Rattle.half_store.specs.Table.{hashes_at}
 use Rattle.half_store.specs.TableLayout.{InStep}
 use Rattle.half_store.proofs.Counts.{tick}
 use Rattle.half_store.proofs.SlotsLemmas.{full_from, full-lt, some≢none}
-use Rattle.half_store.proofs.StepLemmas.{length-hashes_at, hashes_at-get, hashes_at-same, hash_at_place, same_place, same_number}
-use Rattle.half_store.proofs.AddLemmas.{slot_set, slot_other, number_set, number_other, stored-set}
+use Rattle.half_store.proofs.StepLemmas.{length-hashes_at, hashes_at-get, hashes_at-same, hash_at_bucket, same_bucket, same_index}
+use Rattle.half_store.proofs.AddLemmas.{slot_set, slot_other, index_set, index_other, stored-set}
 
--- the pair at place `from` is moved to the empty bucket at place `to`
-module _ (slots : List (Option ℕ)) (numbers places : List ℕ) (s : InStep slots numbers places) (from to h : ℕ) (in_to : to < length slots) (is : slot_at slots from ≡ Some h) (none : slot_at slots to ≡ None) where
+-- the pair at bucket `from` is moved to the empty bucket at bucket `to`
+module _ (slots : List (Option ℕ)) (entry_of bucket_of : List ℕ) (s : InStep slots entry_of bucket_of) (from to h : ℕ) (in_to : to < length slots) (is : slot_at slots from ≡ Some h) (none : slot_at slots to ≡ None) where
   full_one : slot_at slots from ≢ None
   full_one = full_from _ h is
 
@@ -24,19 +24,19 @@ module _ (slots : List (Option ℕ)) (numbers places : List ℕ) (s : InStep slo
   apart e = full_one (ap (slot_at slots) e ∙ none)
 
   moved : ℕ
-  moved = slice_index numbers from
+  moved = slice_index entry_of from
 
   abbrev slots' : List (Option ℕ)
   slots' = set (set slots to (Some h)) from None
 
-  abbrev numbers' : List ℕ
-  numbers' = set numbers to (slice_index numbers from)
+  abbrev entry_of' : List ℕ
+  entry_of' = set entry_of to (slice_index entry_of from)
 
-  abbrev places' : List ℕ
-  places' = set places (slice_index numbers from) to
+  abbrev bucket_of' : List ℕ
+  bucket_of' = set bucket_of (slice_index entry_of from) to
 
-  in_moved : slice_index numbers from < length places
-  in_moved = s.numbered from full_one
+  in_moved : slice_index entry_of from < length bucket_of
+  in_moved = s.indexed from full_one
 
   pub move-from : slot_at slots' from ≡ None
   move-from = slot_set (set slots to (Some h)) from None (omega (arith, in_from, length-set slots to (Some h)))
@@ -50,42 +50,42 @@ module _ (slots : List (Option ℕ)) (numbers places : List ℕ) (s : InStep slo
   pub move-length : length slots' ≡ length slots
   move-length = length-set (set slots to (Some h)) from None ∙ length-set slots to (Some h)
 
-  moved_place : slice_index places' (slice_index numbers from) ≡ to
-  moved_place = number_set places (slice_index numbers from) to in_moved
+  moved_bucket : slice_index bucket_of' (slice_index entry_of from) ≡ to
+  moved_bucket = index_set bucket_of (slice_index entry_of from) to in_moved
 
-  kept_place : (i : ℕ) → i ≢ slice_index numbers from → slice_index places' i ≡ slice_index places i
-  kept_place i ne = number_other places (slice_index numbers from) i to ne
+  kept_bucket : (i : ℕ) → i ≢ slice_index entry_of from → slice_index bucket_of' i ≡ slice_index bucket_of i
+  kept_bucket i ne = index_other bucket_of (slice_index entry_of from) i to ne
 
-  not_from : (i : ℕ) → i < length places → i ≢ slice_index numbers from → slice_index places i ≢ from
-  not_from i l ne e = ne (sym (s.number_back i l) ∙ ap (slice_index numbers) e)
+  not_from : (i : ℕ) → i < length bucket_of → i ≢ slice_index entry_of from → slice_index bucket_of i ≢ from
+  not_from i l ne e = ne (sym (s.index_back i l) ∙ ap (slice_index entry_of) e)
 
   not_to : (q : ℕ) → slot_at slots q ≢ None → q ≢ to
   not_to q full e = full (ap (slot_at slots) e ∙ none)
 
-  kept_slot : (i : ℕ) → i < length places → i ≢ slice_index numbers from → slot_at slots' (slice_index places i) ≡ slot_at slots (slice_index places i)
-  kept_slot i l ne = move-other (slice_index places i) (not_from i l ne) (not_to (slice_index places i) (s.stands i l))
+  kept_slot : (i : ℕ) → i < length bucket_of → i ≢ slice_index entry_of from → slot_at slots' (slice_index bucket_of i) ≡ slot_at slots (slice_index bucket_of i)
+  kept_slot i l ne = move-other (slice_index bucket_of i) (not_from i l ne) (not_to (slice_index bucket_of i) (s.stands i l))
 
-  same_slot : (i : ℕ) → i < length places → slot_at slots' (slice_index places' i) ≡ slot_at slots (slice_index places i)
+  same_slot : (i : ℕ) → i < length bucket_of → slot_at slots' (slice_index bucket_of' i) ≡ slot_at slots (slice_index bucket_of i)
   same_slot i l =
-      elim (cases_eq i (slice_index numbers from)) [
+      elim (cases_eq i (slice_index entry_of from)) [
         | inl e ↦
-            ap (slot_at slots') (ap (slice_index places') e ∙ moved_place) ∙ move-to ∙ sym is ∙ ap (slot_at slots) (sym (ap (slice_index places) e ∙ s.place_back from full_one))
-        | inr ne ↦ ap (slot_at slots') (kept_place i ne) ∙ kept_slot i l ne
+            ap (slot_at slots') (ap (slice_index bucket_of') e ∙ moved_bucket) ∙ move-to ∙ sym is ∙ ap (slot_at slots) (sym (ap (slice_index bucket_of) e ∙ s.bucket_back from full_one))
+        | inr ne ↦ ap (slot_at slots') (kept_bucket i ne) ∙ kept_slot i l ne
       ]
 
-  short : (i : ℕ) → i < length places' → i < length places
-  short i l = omega (arith, length-set places (slice_index numbers from) to)
+  short : (i : ℕ) → i < length bucket_of' → i < length bucket_of
+  short i l = omega (arith, length-set bucket_of (slice_index entry_of from) to)
 
-  pub hashes_at-move : hashes_at slots' places' ≡ hashes_at slots places
-  hashes_at-move = hashes_at-same slots' slots places' places (length-set places (slice_index numbers from) to) (λ i l. same_slot i (short i l))
+  pub hashes_at-move : hashes_at slots' bucket_of' ≡ hashes_at slots bucket_of
+  hashes_at-move = hashes_at-same slots' slots bucket_of' bucket_of (length-set bucket_of (slice_index entry_of from) to) (λ i l. same_slot i (short i l))
 
-  number_back_move : (i : ℕ) → i < length places' → slice_index numbers' (slice_index places' i) ≡ i
-  number_back_move i l =
-      elim (cases_eq i (slice_index numbers from)) [
-        | inl e ↦ ap (slice_index numbers') (ap (slice_index places') e ∙ moved_place) ∙ number_set numbers to (slice_index numbers from) (omega (arith, s.columns)) ∙ sym e
+  index_back_move : (i : ℕ) → i < length bucket_of' → slice_index entry_of' (slice_index bucket_of' i) ≡ i
+  index_back_move i l =
+      elim (cases_eq i (slice_index entry_of from)) [
+        | inl e ↦ ap (slice_index entry_of') (ap (slice_index bucket_of') e ∙ moved_bucket) ∙ index_set entry_of to (slice_index entry_of from) (omega (arith, s.columns)) ∙ sym e
         | inr ne ↦
             let old = short i l in
-            ap (slice_index numbers') (kept_place i ne) ∙ number_other numbers to (slice_index places i) (slice_index numbers from) (not_to (slice_index places i) (s.stands i old)) ∙ s.number_back i old
+            ap (slice_index entry_of') (kept_bucket i ne) ∙ index_other entry_of to (slice_index bucket_of i) (slice_index entry_of from) (not_to (slice_index bucket_of i) (s.stands i old)) ∙ s.index_back i old
       ]
 
   -- a full bucket is the new one, or an old one that was left alone
@@ -99,30 +99,30 @@ module _ (slots : List (Option ℕ)) (numbers places : List ℕ) (s : InStep slo
         ]
       ]
 
-  numbered_move : (q : ℕ) → slot_at slots' q ≢ None → slice_index numbers' q < length places'
-  numbered_move q full =
-      let long = length-set places (slice_index numbers from) to in
+  indexed_move : (q : ℕ) → slot_at slots' q ≢ None → slice_index entry_of' q < length bucket_of'
+  indexed_move q full =
+      let long = length-set bucket_of (slice_index entry_of from) to in
       elim (full_cases q full) [
         | inl e ↦
-            let n : slice_index numbers' q ≡ slice_index numbers from = ap (slice_index numbers') e ∙ number_set numbers to (slice_index numbers from) (omega (arith, s.columns)) in
+            let n : slice_index entry_of' q ≡ slice_index entry_of from = ap (slice_index entry_of') e ∙ index_set entry_of to (slice_index entry_of from) (omega (arith, s.columns)) in
             let l = in_moved in
             omega arith
         | inr (nf, nt, old) ↦
-            let n = number_other numbers to q (slice_index numbers from) nt in
-            let l = s.numbered q old in
+            let n = index_other entry_of to q (slice_index entry_of from) nt in
+            let l = s.indexed q old in
             omega arith
       ]
 
-  place_back_move : (q : ℕ) → slot_at slots' q ≢ None → slice_index places' (slice_index numbers' q) ≡ q
-  place_back_move q full =
+  bucket_back_move : (q : ℕ) → slot_at slots' q ≢ None → slice_index bucket_of' (slice_index entry_of' q) ≡ q
+  bucket_back_move q full =
       elim (full_cases q full) [
-        | inl e ↦ ap (slice_index places') (ap (slice_index numbers') e ∙ number_set numbers to (slice_index numbers from) (omega (arith, s.columns))) ∙ moved_place ∙ sym e
+        | inl e ↦ ap (slice_index bucket_of') (ap (slice_index entry_of') e ∙ index_set entry_of to (slice_index entry_of from) (omega (arith, s.columns))) ∙ moved_bucket ∙ sym e
         | inr (nf, nt, old) ↦
-            let other : slice_index numbers q ≢ slice_index numbers from = λ e. nf (same_place slots numbers places s q from old full_one e) in
-            ap (slice_index places') (number_other numbers to q (slice_index numbers from) nt) ∙ kept_place (slice_index numbers q) other ∙ s.place_back q old
+            let other : slice_index entry_of q ≢ slice_index entry_of from = λ e. nf (same_bucket slots entry_of bucket_of s q from old full_one e) in
+            ap (slice_index bucket_of') (index_other entry_of to q (slice_index entry_of from) nt) ∙ kept_bucket (slice_index entry_of q) other ∙ s.bucket_back q old
       ]
 
-  counted_move : (test : ℕ → Bool) → count_by test (hashes_at slots' places') ≡ count_by (stored test) slots'
+  counted_move : (test : ℕ → Bool) → count_by test (hashes_at slots' bucket_of') ≡ count_by (stored test) slots'
   counted_move test =
       let write = stored-set test slots to (Some h) in_to in
       let clear = stored-set test (set slots to (Some h)) from None (omega (arith, in_from, length-set slots to (Some h))) in
@@ -131,17 +131,17 @@ module _ (slots : List (Option ℕ)) (numbers places : List ℕ) (s : InStep slo
       let old = s.counted test in
       ap (count_by test) hashes_at-move ∙ omega arith
 
-  pub InStep-move : InStep slots' numbers' places'
+  pub InStep-move : InStep slots' entry_of' bucket_of'
   InStep-move = record {
-    columns = length-set numbers to (slice_index numbers from) ∙ s.columns ∙ sym move-length;
+    columns = length-set entry_of to (slice_index entry_of from) ∙ s.columns ∙ sym move-length;
     stands = λ i l z. s.stands i (short i l) (sym (same_slot i (short i l)) ∙ z);
-    number_back = number_back_move;
-    numbered = numbered_move;
-    place_back = place_back_move;
+    index_back = index_back_move;
+    indexed = indexed_move;
+    bucket_back = bucket_back_move;
     counted = counted_move;
   }
 
--- what `swap_remove` leaves, place by place
+-- what `swap_remove` leaves, bucket by bucket
 length-swap_remove : (xs : List ℕ) (i last : ℕ) → suc last ≡ length xs → length (swap_remove xs i 0) ≡ last
 length-swap_remove xs i last e =
     let x : ℕ = get_or xs (length xs - 1) 0 in
@@ -151,156 +151,156 @@ swap_remove-at : (xs : List ℕ) (i last : ℕ) → suc last ≡ length xs → i
 swap_remove-at xs i last e l =
     let x : ℕ = get_or xs (length xs - 1) 0 in
     let end : length xs - 1 ≡ last = omega arith in
-    get_or-take (length xs - 1) (set xs i x) i 0 (omega arith) ∙ number_set xs i x (omega arith) ∙ ap (slice_index xs) end
+    get_or-take (length xs - 1) (set xs i x) i 0 (omega arith) ∙ index_set xs i x (omega arith) ∙ ap (slice_index xs) end
 
 swap_remove-other : (xs : List ℕ) (i k last : ℕ) → suc last ≡ length xs → k < last → k ≢ i → slice_index (swap_remove xs i 0) k ≡ slice_index xs k
 swap_remove-other xs i k last e l ne =
     let x : ℕ = get_or xs (length xs - 1) 0 in
-    get_or-take (length xs - 1) (set xs i x) k 0 (omega arith) ∙ number_other xs i k x ne
+    get_or-take (length xs - 1) (set xs i x) k 0 (omega arith) ∙ index_other xs i k x ne
 
 -- the pair of this number is taken out, and the last pair gets its number
-module _ (slots : List (Option ℕ)) (numbers places : List ℕ) (s : InStep slots numbers places) (number last : ℕ) (in_number : number < length places) (is_last : suc last ≡ length places) where
-  abbrev place : ℕ
-  place = slice_index places number
+module _ (slots : List (Option ℕ)) (entry_of bucket_of : List ℕ) (s : InStep slots entry_of bucket_of) (index last : ℕ) (in_index : index < length bucket_of) (is_last : suc last ≡ length bucket_of) where
+  abbrev bucket : ℕ
+  bucket = slice_index bucket_of index
 
-  abbrev last_place : ℕ
-  last_place = slice_index places last
+  abbrev last_bucket : ℕ
+  last_bucket = slice_index bucket_of last
 
   abbrev slots° : List (Option ℕ)
-  slots° = set slots place None
+  slots° = set slots bucket None
 
-  abbrev numbers° : List ℕ
-  numbers° = set numbers last_place number
+  abbrev entry_of° : List ℕ
+  entry_of° = set entry_of last_bucket index
 
-  abbrev places° : List ℕ
-  places° = swap_remove places number 0
+  abbrev bucket_of° : List ℕ
+  bucket_of° = swap_remove bucket_of index 0
 
-  in_last : last < length places
+  in_last : last < length bucket_of
   in_last = omega arith
 
-  full_place : slot_at slots place ≢ None
-  full_place = s.stands number in_number
+  full_bucket : slot_at slots bucket ≢ None
+  full_bucket = s.stands index in_index
 
-  full_last : slot_at slots last_place ≢ None
+  full_last : slot_at slots last_bucket ≢ None
   full_last = s.stands last in_last
 
-  in_place : place < length slots
-  in_place = full-lt slots place full_place
+  in_bucket : bucket < length slots
+  in_bucket = full-lt slots bucket full_bucket
 
-  in_column : last_place < length numbers
-  in_column = let l = full-lt slots last_place full_last in omega (arith, s.columns)
+  in_column : last_bucket < length entry_of
+  in_column = let l = full-lt slots last_bucket full_last in omega (arith, s.columns)
 
-  pub remove-slot : slot_at slots° place ≡ None
-  remove-slot = slot_set slots place None in_place
+  pub remove-slot : slot_at slots° bucket ≡ None
+  remove-slot = slot_set slots bucket None in_bucket
 
-  pub remove-other : (q : ℕ) → q ≢ place → slot_at slots° q ≡ slot_at slots q
-  remove-other q ne = slot_other slots place q None ne
+  pub remove-other : (q : ℕ) → q ≢ bucket → slot_at slots° q ≡ slot_at slots q
+  remove-other q ne = slot_other slots bucket q None ne
 
-  pub length-places° : length places° ≡ last
-  length-places° = length-swap_remove places number last is_last
+  pub length-bucket_of° : length bucket_of° ≡ last
+  length-bucket_of° = length-swap_remove bucket_of index last is_last
 
-  -- the last pair's place stands at the number that became free, and each other one where it stood
-  from_last : number < last → slice_index places° number ≡ last_place
-  from_last l = swap_remove-at places number last is_last l
+  -- the last pair's bucket stands at the index that became free, and each other one where it stood
+  from_last : index < last → slice_index bucket_of° index ≡ last_bucket
+  from_last l = swap_remove-at bucket_of index last is_last l
 
-  kept : (k : ℕ) → k < last → k ≢ number → slice_index places° k ≡ slice_index places k
-  kept k l ne = swap_remove-other places number k last is_last l ne
+  kept : (k : ℕ) → k < last → k ≢ index → slice_index bucket_of° k ≡ slice_index bucket_of k
+  kept k l ne = swap_remove-other bucket_of index k last is_last l ne
 
-  last_apart : number < last → last_place ≢ place
-  last_apart l e = let same = same_number slots numbers places s last number in_last in_number e in absurd (omega arith)
+  last_apart : index < last → last_bucket ≢ bucket
+  last_apart l e = let same = same_index slots entry_of bucket_of s last index in_last in_index e in absurd (omega arith)
 
-  kept_apart : (k : ℕ) → k < last → k ≢ number → slice_index places k ≢ place
-  kept_apart k l ne e = ne (same_number slots numbers places s k number (omega arith) in_number e)
+  kept_apart : (k : ℕ) → k < last → k ≢ index → slice_index bucket_of k ≢ bucket
+  kept_apart k l ne e = ne (same_index slots entry_of bucket_of s k index (omega arith) in_index e)
 
-  kept_last : (k : ℕ) → k < last → slice_index places k ≢ last_place
-  kept_last k l e = let same = same_number slots numbers places s k last (omega arith) in_last e in absurd (omega arith)
+  kept_last : (k : ℕ) → k < last → slice_index bucket_of k ≢ last_bucket
+  kept_last k l e = let same = same_index slots entry_of bucket_of s k last (omega arith) in_last e in absurd (omega arith)
 
-  -- what stands at the place of a number that is left
-  left_slot : (k : ℕ) → k < last → slot_at slots° (slice_index places° k) ≡ Some (slice_index (swap_remove (hashes_at slots places) number 0) k)
+  -- what stands at the bucket of an entry index that is left
+  left_slot : (k : ℕ) → k < last → slot_at slots° (slice_index bucket_of° k) ≡ Some (slice_index (swap_remove (hashes_at slots bucket_of) index 0) k)
   left_slot k l =
-      let long : suc last ≡ length (hashes_at slots places) = is_last ∙ sym (length-hashes_at slots places) in
-      elim (cases_eq k number) [
+      let long : suc last ≡ length (hashes_at slots bucket_of) = is_last ∙ sym (length-hashes_at slots bucket_of) in
+      elim (cases_eq k index) [
         | inl e ↦
-            let n : number < last = omega arith in
-            ap (λ i. slot_at slots° (slice_index places° i)) e ∙ ap (slot_at slots°) (from_last n) ∙ remove-other last_place (last_apart n) ∙ hash_at_place slots numbers places s last in_last
-            ∙ ap Some (sym (swap_remove-at (hashes_at slots places) number last long n)) ∙ ap (λ i. Some (slice_index (swap_remove (hashes_at slots places) number 0) i)) (sym e)
+            let n : index < last = omega arith in
+            ap (λ i. slot_at slots° (slice_index bucket_of° i)) e ∙ ap (slot_at slots°) (from_last n) ∙ remove-other last_bucket (last_apart n) ∙ hash_at_bucket slots entry_of bucket_of s last in_last
+            ∙ ap Some (sym (swap_remove-at (hashes_at slots bucket_of) index last long n)) ∙ ap (λ i. Some (slice_index (swap_remove (hashes_at slots bucket_of) index 0) i)) (sym e)
         | inr ne ↦
-            ap (slot_at slots°) (kept k l ne) ∙ remove-other (slice_index places k) (kept_apart k l ne) ∙ hash_at_place slots numbers places s k (omega arith)
-            ∙ ap Some (sym (swap_remove-other (hashes_at slots places) number k last long l ne))
+            ap (slot_at slots°) (kept k l ne) ∙ remove-other (slice_index bucket_of k) (kept_apart k l ne) ∙ hash_at_bucket slots entry_of bucket_of s k (omega arith)
+            ∙ ap Some (sym (swap_remove-other (hashes_at slots bucket_of) index k last long l ne))
       ]
 
-  pub hashes_at-remove : hashes_at slots° places° ≡ swap_remove (hashes_at slots places) number 0
+  pub hashes_at-remove : hashes_at slots° bucket_of° ≡ swap_remove (hashes_at slots bucket_of) index 0
   hashes_at-remove =
-      let long : suc last ≡ length (hashes_at slots places) = is_last ∙ sym (length-hashes_at slots places) in
-      ext_get_or 0 (hashes_at slots° places°) (swap_remove (hashes_at slots places) number 0)
-      (length-hashes_at slots° places° ∙ length-places° ∙ sym (length-swap_remove (hashes_at slots places) number last long))
+      let long : suc last ≡ length (hashes_at slots bucket_of) = is_last ∙ sym (length-hashes_at slots bucket_of) in
+      ext_get_or 0 (hashes_at slots° bucket_of°) (swap_remove (hashes_at slots bucket_of) index 0)
+      (length-hashes_at slots° bucket_of° ∙ length-bucket_of° ∙ sym (length-swap_remove (hashes_at slots bucket_of) index last long))
       (λ k l.
-      let few : k < last = omega (arith, length-hashes_at slots° places°, length-places°) in
-      hashes_at-get slots° places° k (omega (arith, length-places°)) ∙ ap (λ o. unwrap_or o 0) (left_slot k few))
+      let few : k < last = omega (arith, length-hashes_at slots° bucket_of°, length-bucket_of°) in
+      hashes_at-get slots° bucket_of° k (omega (arith, length-bucket_of°)) ∙ ap (λ o. unwrap_or o 0) (left_slot k few))
 
-  below_last : (k : ℕ) → k < length places° → k < last
-  below_last k l = omega (arith, length-places°)
+  below_last : (k : ℕ) → k < length bucket_of° → k < last
+  below_last k l = omega (arith, length-bucket_of°)
 
-  number_back_remove : (k : ℕ) → k < length places° → slice_index numbers° (slice_index places° k) ≡ k
-  number_back_remove k l =
+  index_back_remove : (k : ℕ) → k < length bucket_of° → slice_index entry_of° (slice_index bucket_of° k) ≡ k
+  index_back_remove k l =
       let few = below_last k l in
-      elim (cases_eq k number) [
-        | inl e ↦ ap (λ i. slice_index numbers° (slice_index places° i)) e ∙ ap (slice_index numbers°) (from_last (omega arith)) ∙ number_set numbers last_place number in_column ∙ sym e
-        | inr ne ↦ ap (slice_index numbers°) (kept k few ne) ∙ number_other numbers last_place (slice_index places k) number (kept_last k few) ∙ s.number_back k (omega arith)
+      elim (cases_eq k index) [
+        | inl e ↦ ap (λ i. slice_index entry_of° (slice_index bucket_of° i)) e ∙ ap (slice_index entry_of°) (from_last (omega arith)) ∙ index_set entry_of last_bucket index in_column ∙ sym e
+        | inr ne ↦ ap (slice_index entry_of°) (kept k few ne) ∙ index_other entry_of last_bucket (slice_index bucket_of k) index (kept_last k few) ∙ s.index_back k (omega arith)
       ]
 
   -- a bucket that is still full is an old one, and not the emptied one
-  still_full : (q : ℕ) → slot_at slots° q ≢ None → (q ≢ place) × (slot_at slots q ≢ None)
+  still_full : (q : ℕ) → slot_at slots° q ≢ None → (q ≢ bucket) × (slot_at slots q ≢ None)
   still_full q full =
-      elim (cases_eq q place) [
+      elim (cases_eq q bucket) [
         | inl e ↦ absurd (full (ap (slot_at slots°) e ∙ remove-slot))
         | inr ne ↦ (ne, λ z. full (remove-other q ne ∙ z))
       ]
 
-  numbered_remove : (q : ℕ) → slot_at slots° q ≢ None → slice_index numbers° q < length places°
-  numbered_remove q full =
+  indexed_remove : (q : ℕ) → slot_at slots° q ≢ None → slice_index entry_of° q < length bucket_of°
+  indexed_remove q full =
       let f = still_full q full in
-      let len = length-places° in
-      elim (cases_eq q last_place) [
+      let len = length-bucket_of° in
+      elim (cases_eq q last_bucket) [
         | inl e ↦
-            let n : slice_index numbers° q ≡ number = ap (slice_index numbers°) e ∙ number_set numbers last_place number in_column in
-            let apart : number ≢ last = λ same. f.0 (e ∙ ap (slice_index places) (sym same)) in
+            let n : slice_index entry_of° q ≡ index = ap (slice_index entry_of°) e ∙ index_set entry_of last_bucket index in_column in
+            let apart : index ≢ last = λ same. f.0 (e ∙ ap (slice_index bucket_of) (sym same)) in
             omega arith
         | inr ne ↦
-            let n = number_other numbers last_place q number ne in
-            let l = s.numbered q f.1 in
-            let apart : slice_index numbers q ≢ last = λ same. ne (sym (s.place_back q f.1) ∙ ap (slice_index places) same) in
+            let n = index_other entry_of last_bucket q index ne in
+            let l = s.indexed q f.1 in
+            let apart : slice_index entry_of q ≢ last = λ same. ne (sym (s.bucket_back q f.1) ∙ ap (slice_index bucket_of) same) in
             omega arith
       ]
 
-  place_back_remove : (q : ℕ) → slot_at slots° q ≢ None → slice_index places° (slice_index numbers° q) ≡ q
-  place_back_remove q full =
+  bucket_back_remove : (q : ℕ) → slot_at slots° q ≢ None → slice_index bucket_of° (slice_index entry_of° q) ≡ q
+  bucket_back_remove q full =
       let f = still_full q full in
-      elim (cases_eq q last_place) [
+      elim (cases_eq q last_bucket) [
         | inl e ↦
-            let apart : number ≢ last = λ same. f.0 (e ∙ ap (slice_index places) (sym same)) in
-            ap (slice_index places°) (ap (slice_index numbers°) e ∙ number_set numbers last_place number in_column) ∙ from_last (omega arith) ∙ sym e
+            let apart : index ≢ last = λ same. f.0 (e ∙ ap (slice_index bucket_of) (sym same)) in
+            ap (slice_index bucket_of°) (ap (slice_index entry_of°) e ∙ index_set entry_of last_bucket index in_column) ∙ from_last (omega arith) ∙ sym e
         | inr ne ↦
-            let l = s.numbered q f.1 in
-            let not_last : slice_index numbers q ≢ last = λ same. ne (sym (s.place_back q f.1) ∙ ap (slice_index places) same) in
-            let not_number : slice_index numbers q ≢ number = λ same. f.0 (sym (s.place_back q f.1) ∙ ap (slice_index places) same) in
-            ap (slice_index places°) (number_other numbers last_place q number ne) ∙ kept (slice_index numbers q) (omega arith) not_number ∙ s.place_back q f.1
+            let l = s.indexed q f.1 in
+            let not_last : slice_index entry_of q ≢ last = λ same. ne (sym (s.bucket_back q f.1) ∙ ap (slice_index bucket_of) same) in
+            let not_index : slice_index entry_of q ≢ index = λ same. f.0 (sym (s.bucket_back q f.1) ∙ ap (slice_index bucket_of) same) in
+            ap (slice_index bucket_of°) (index_other entry_of last_bucket q index ne) ∙ kept (slice_index entry_of q) (omega arith) not_index ∙ s.bucket_back q f.1
       ]
 
-  counted_remove : (test : ℕ → Bool) → count_by test (hashes_at slots° places°) ≡ count_by (stored test) slots°
+  counted_remove : (test : ℕ → Bool) → count_by test (hashes_at slots° bucket_of°) ≡ count_by (stored test) slots°
   counted_remove test =
-      let clear = stored-set test slots place None in_place in
-      let there : tick (stored test (slot_at slots place)) ≡ tick (test (slice_index (hashes_at slots places) number)) = ap (λ o. tick (stored test o)) (hash_at_place slots numbers places s number in_number) in
-      let out = sum_by-swap_remove (λ x. tick (test x)) (hashes_at slots places) number 0 (omega (arith, length-hashes_at slots places)) in
+      let clear = stored-set test slots bucket None in_bucket in
+      let there : tick (stored test (slot_at slots bucket)) ≡ tick (test (slice_index (hashes_at slots bucket_of) index)) = ap (λ o. tick (stored test o)) (hash_at_bucket slots entry_of bucket_of s index in_index) in
+      let out = sum_by-swap_remove (λ x. tick (test x)) (hashes_at slots bucket_of) index 0 (omega (arith, length-hashes_at slots bucket_of)) in
       let old = s.counted test in
       ap (count_by test) hashes_at-remove ∙ omega arith
 
-  pub InStep-remove : InStep slots° numbers° places°
+  pub InStep-remove : InStep slots° entry_of° bucket_of°
   InStep-remove = record {
-    columns = length-set numbers last_place number ∙ s.columns ∙ sym (length-set slots place None);
+    columns = length-set entry_of last_bucket index ∙ s.columns ∙ sym (length-set slots bucket None);
     stands = λ k l z. some≢none _ (sym (left_slot k (below_last k l)) ∙ z);
-    number_back = number_back_remove;
-    numbered = numbered_remove;
-    place_back = place_back_remove;
+    index_back = index_back_remove;
+    indexed = indexed_remove;
+    bucket_back = bucket_back_remove;
     counted = counted_remove;
   }

@@ -1,12 +1,12 @@
--- Full buckets are loaded, empty ones are not; so a walk ends where `reach` says.
+-- Full buckets are loaded, empty ones are not; so a probe ends where `reach` says.
 use Rattle.std.proofs.Common.{◌≡◌, ◌≢◌, ℕ, zero, suc, ◌+◌, ◌-◌, ◌<◌, ◌≤◌, Bool, true, false, ltb, nat_lt, ◌⊎◌, inl, inr, refl, sym, ap, ◌∙◌, subst, arith, List, length, Option, Some, None, is_some, count_by}
 use Rattle.std.proofs.lemmas.Bool.{cases_lt, cases_eq, lt-ltb, false≢true, true≢false}
 use Rattle.std.proofs.lemmas.Nat.{mod_below}
 use Rattle.std.proofs.lemmas.List.{get_or_past}
 use borrow.Author.Tests.{ltb-true}
-use Rattle.half_store.specs.Reach.{home, steps, up}
-use Rattle.half_store.specs.Slots.{slot_at, stored, FullBefore, IsVacancyFor, SomeVacant, ComeBeforeVacancies, steps_from_home}
-use Rattle.half_store.proofs.Circle.{steps-lt, steps_self, up-lt, up-zero, up-up, steps-up, up-steps, steps_same, down-lt, steps-down, down-steps, home_in_stretch, nearer_than_home, up_is}
+use Rattle.half_store.specs.Reach.{home, probe_distance, bucket_after}
+use Rattle.half_store.specs.Slots.{slot_at, stored, FullBefore, IsVacancyFor, SomeVacant, ProbeInvariant, distance_from_home}
+use Rattle.half_store.proofs.Circle.{probe_distance-lt, distance_self, bucket_after-lt, bucket_after-zero, bucket_after-bucket_after, probe_distance-bucket_after, bucket_after-probe_distance, distance_same, down-lt, probe_distance-down, down-probe_distance, home_in_stretch, nearer_than_home, after_is}
 use Rattle.half_store.proofs.Counts.{count_to, count_to-le, count_to-lt, count_by-count_to, stretch_size}
 
 pub slot_cases : (o : Option ℕ) → (o ≡ None) ⊎ ((hash : ℕ) × (o ≡ Some hash))
@@ -35,7 +35,7 @@ module _ (slots : List (Option ℕ)) where
   abbrev m : ℕ
   m = length slots
 
-  -- full places lie within
+  -- full buckets lie within
   pub full-lt : (p : ℕ) → slot_at slots p ≢ None → p < m
   full-lt p full = elim (cases_lt p m) [ inl l ↦ l | inr g ↦ absurd (full (get_or_past slots p None g)) ]
 
@@ -51,33 +51,33 @@ module _ (slots : List (Option ℕ)) where
         ]
       ]
 
-  -- a walk from b that ends at an empty bucket
-  pub walk_ends : (b : ℕ) → b < m → SomeVacant slots → (p : ℕ) × (p < m) × (slot_at slots p ≡ None) × FullBefore slots b p
-  walk_ends b in_b (v, in_v, none_v) =
-      elim (first_none (λ k. up m b k) m) [
-        | inl all ↦ absurd (all (steps m b v) (steps-lt m b in_b v in_v) (ap (slot_at slots) (up-steps m b in_b v in_v) ∙ none_v))
+  -- a probe from b that ends at an empty bucket
+  pub probe_ends : (b : ℕ) → b < m → SomeVacant slots → (p : ℕ) × (p < m) × (slot_at slots p ≡ None) × FullBefore slots b p
+  probe_ends b in_b (v, in_v, none_v) =
+      elim (first_none (λ k. bucket_after m b k) m) [
+        | inl all ↦ absurd (all (probe_distance m b v) (probe_distance-lt m b in_b v in_v) (ap (slot_at slots) (bucket_after-probe_distance m b in_b v in_v) ∙ none_v))
         | inr (k, l, none, before) ↦ (
-          up m b k,
-          up-lt m b in_b k (omega arith),
+          bucket_after m b k,
+          bucket_after-lt m b in_b k (omega arith),
           none,
-          λ o in_o nearer. subst (λ q. slot_at slots q ≢ None) (up-steps m b in_b o in_o) (before (steps m b o) (subst (λ n. steps m b o < n) (steps-up m b in_b k l) nearer)),
+          λ o in_o nearer. subst (λ q. slot_at slots q ≢ None) (bucket_after-probe_distance m b in_b o in_o) (before (probe_distance m b o) (subst (λ n. probe_distance m b o < n) (probe_distance-bucket_after m b in_b k l) nearer)),
         )
       ]
 
   pub vacancy_for : (hash : ℕ) → SomeVacant slots → (p : ℕ) × IsVacancyFor slots hash p
   vacancy_for hash v =
-      let w = walk_ends (home m hash) (home-lt m hash (let l = v.1 in omega arith)) v in
+      let w = probe_ends (home m hash) (home-lt m hash (let l = v.1 in omega arith)) v in
       (w.0, record { within = w.1; vacant = w.2; passed = w.3 })
 
   -- how many stored hashes have their home in the stretch
   abbrev pub slots_load : ℕ → ℕ → ℕ
-  slots_load b size = count_by (stored (λ hash. nat_lt (steps m (home m hash) b) size)) slots
+  slots_load b size = count_by (stored (λ hash. nat_lt (probe_distance m (home m hash) b) size)) slots
 
   abbrev in_stretch : ℕ → ℕ → ℕ → Bool
-  in_stretch b size p = stored (λ hash. nat_lt (steps m (home m hash) b) size) (slot_at slots p)
+  in_stretch b size p = stored (λ hash. nat_lt (probe_distance m (home m hash) b) size) (slot_at slots p)
 
   slots_load-count_to : (b size : ℕ) → slots_load b size ≡ count_to (in_stretch b size) m
-  slots_load-count_to b size = count_by-count_to (stored (λ hash. nat_lt (steps m (home m hash) b) size)) slots None
+  slots_load-count_to b size = count_by-count_to (stored (λ hash. nat_lt (probe_distance m (home m hash) b) size)) slots None
 
   -- a stored hash that passes a test
   pub stored_passes : (test : ℕ → Bool) (o : Option ℕ) → stored test o ≡ true → (hash : ℕ) × (o ≡ Some hash) × (test hash ≡ true)
@@ -87,86 +87,86 @@ module _ (slots : List (Option ℕ)) where
   pub passes_stored : (test : ℕ → Bool) (o : Option ℕ) (hash : ℕ) → o ≡ Some hash → test hash ≡ true → stored test o ≡ true
   passes_stored test o hash e t = rw e t
 
-  module _ (ordered : ComeBeforeVacancies slots) where
+  module _ (ordered : ProbeInvariant slots) where
     -- the full buckets back to the nearest empty one are a stretch that holds the homes of all its pairs
     pub full_loaded : (b : ℕ) → b < m → slot_at slots b ≢ None → SomeVacant slots → (size : ℕ) × (1 ≤ size) × (size < m) × (size ≤ slots_load b size)
     full_loaded b in_b full (v, in_v, none_v) =
-        elim (first_none (λ k. up m b (m - k)) m) [
-          | inl all ↦ absurd (all (steps m v b) (steps-lt m v in_v b in_b) (ap (slot_at slots) (down-steps m b in_b v in_v) ∙ none_v))
+        elim (first_none (λ k. bucket_after m b (m - k)) m) [
+          | inl all ↦ absurd (all (probe_distance m v b) (probe_distance-lt m v in_v b in_b) (ap (slot_at slots) (down-probe_distance m b in_b v in_v) ∙ none_v))
           | inr (k, l, none, before) ↦
-              let e : ℕ = up m b (m - k) in
+              let e : ℕ = bucket_after m b (m - k) in
               let in_e : e < m = down-lt m b in_b k (omega arith) in
-              let far : steps m e b ≡ k = steps-down m b in_b k l in
-              let some : 1 ≤ k = elim (cases_eq k 0) [ inl z ↦ absurd (full (ap (slot_at slots) (omega (arith, up_is m b (m - k))) ∙ none)) | inr ne ↦ omega arith ] in
-              let homes : (p : ℕ) → p < m → ltb (steps m p b) k ≡ true → in_stretch b k p ≡ true = λ p in_p near.
-              let n : steps m p b < k = ltb-true _ _ near in
+              let far : probe_distance m e b ≡ k = probe_distance-down m b in_b k l in
+              let some : 1 ≤ k = elim (cases_eq k 0) [ inl z ↦ absurd (full (ap (slot_at slots) (omega (arith, after_is m b (m - k))) ∙ none)) | inr ne ↦ omega arith ] in
+              let homes : (p : ℕ) → p < m → ltb (probe_distance m p b) k ≡ true → in_stretch b k p ≡ true = λ p in_p near.
+              let n : probe_distance m p b < k = ltb-true _ _ near in
               elim (slot_cases (slot_at slots p)) [
-                | inl z ↦ absurd (before (steps m p b) n (ap (slot_at slots) (down-steps m b in_b p in_p) ∙ z))
+                | inl z ↦ absurd (before (probe_distance m p b) n (ap (slot_at slots) (down-probe_distance m b in_b p in_p) ∙ z))
                 | inr (h, is) ↦
                     let in_h = home-lt m h (omega arith) in
                     let x = ordered.before p e h is in_e none in
                     let y = home_in_stretch m (home m h) p e b in_h in_p in_e in_b x (omega arith) in
-                    passes_stored (λ hash. nat_lt (steps m (home m hash) b) k) (slot_at slots p) h is (lt-ltb _ _ (omega arith))
+                    passes_stored (λ hash. nat_lt (probe_distance m (home m hash) b) k) (slot_at slots p) h is (lt-ltb _ _ (omega arith))
               ] in
-              let count = count_to-le (λ p. ltb (steps m p b) k) (in_stretch b k) m homes in
+              let count = count_to-le (λ p. ltb (probe_distance m p b) k) (in_stretch b k) m homes in
               (k, some, l, omega (arith, stretch_size m b k in_b (omega arith), slots_load-count_to b k))
         ]
 
-    -- no pair passes an empty bucket, so those at home in a stretch that ends there lie in the rest of it
+    -- no pair passes an empty bucket, so those in its home bucket in a stretch that ends there lie in the rest of it
     pub vacant_unloaded : (b : ℕ) → b < m → slot_at slots b ≡ None → (size : ℕ) → 1 ≤ size → size < m → slots_load b size < size
     vacant_unloaded b in_b none size one small =
-        let inside : (p : ℕ) → p < m → in_stretch b size p ≡ true → ltb (steps m p b) size ≡ true = λ p in_p near.
+        let inside : (p : ℕ) → p < m → in_stretch b size p ≡ true → ltb (probe_distance m p b) size ≡ true = λ p in_p near.
         let s = stored_passes _ (slot_at slots p) near in
         let h : ℕ = s.0 in
-        let n : steps m (home m h) b < size = ltb-true _ _ s.2 in
+        let n : probe_distance m (home m h) b < size = ltb-true _ _ s.2 in
         let x = ordered.before p b h s.1 in_b none in
         let y = nearer_than_home m (home m h) p b (home-lt m h (omega arith)) in_p in_b x in
         lt-ltb _ _ (omega arith) in
-        let out : in_stretch b size b ≡ false = ap (stored (λ hash. nat_lt (steps m (home m hash) b) size)) none in
-        let own : ltb (steps m b b) size ≡ true = lt-ltb _ _ (omega (arith, steps_self m b in_b)) in
-        let fewer = count_to-lt (in_stretch b size) (λ p. ltb (steps m p b) size) m b in_b out own inside in
+        let out : in_stretch b size b ≡ false = ap (stored (λ hash. nat_lt (probe_distance m (home m hash) b) size)) none in
+        let own : ltb (probe_distance m b b) size ≡ true = lt-ltb _ _ (omega (arith, distance_self m b in_b)) in
+        let fewer = count_to-lt (in_stretch b size) (λ p. ltb (probe_distance m p b) size) m b in_b out own inside in
         omega (arith, stretch_size m b size in_b (omega arith), slots_load-count_to b size)
 
--- a walk for the hash has passed so many full buckets and is at this place
-pub record Walks (slots : List (Option ℕ)) (hash place count : ℕ) : Type 0 where
-  pub inside : place < length slots
-  pub on_the_way : place ≡ up (length slots) (home (length slots) hash) count
-  pub full : (other : ℕ) → other < length slots → steps_from_home slots hash other < count → slot_at slots other ≢ None
+-- a probe for the hash has passed so many full buckets and is at this bucket
+pub record Probes (slots : List (Option ℕ)) (hash bucket count : ℕ) : Type 0 where
+  pub inside : bucket < length slots
+  pub on_the_way : bucket ≡ bucket_after (length slots) (home (length slots) hash) count
+  pub full : (other : ℕ) → other < length slots → distance_from_home slots hash other < count → slot_at slots other ≢ None
 
 module _ (slots : List (Option ℕ)) (hash : ℕ) where
-  pub Walks-start : (place : ℕ) → place < length slots → place ≡ home (length slots) hash → Walks slots hash place 0
-  Walks-start place in_place e = record {
-    inside = in_place;
-    on_the_way = e ∙ sym (up-zero (length slots) (home (length slots) hash) (home-lt (length slots) hash (omega arith)));
+  pub Probes-start : (bucket : ℕ) → bucket < length slots → bucket ≡ home (length slots) hash → Probes slots hash bucket 0
+  Probes-start bucket in_bucket e = record {
+    inside = in_bucket;
+    on_the_way = e ∙ sym (bucket_after-zero (length slots) (home (length slots) hash) (home-lt (length slots) hash (omega arith)));
     full = λ o in_o near. absurd (omega arith);
   }
 
-  module _ (place count : ℕ) (w : Walks slots hash place count) (few : count < length slots) where
+  module _ (bucket count : ℕ) (w : Probes slots hash bucket count) (few : count < length slots) where
     in_home : home (length slots) hash < length slots
     in_home = home-lt (length slots) hash (omega arith)
 
-    pub Walks-steps : steps_from_home slots hash place ≡ count
-    Walks-steps = ap (steps (length slots) (home (length slots) hash)) w.on_the_way ∙ steps-up (length slots) (home (length slots) hash) in_home count few
+    pub Probes-probe_distance : distance_from_home slots hash bucket ≡ count
+    Probes-probe_distance = ap (probe_distance (length slots) (home (length slots) hash)) w.on_the_way ∙ probe_distance-bucket_after (length slots) (home (length slots) hash) in_home count few
 
-    before_place : FullBefore slots (home (length slots) hash) place
-    before_place o in_o near = w.full o in_o (subst (λ n. steps_from_home slots hash o < n) Walks-steps near)
+    before_bucket : FullBefore slots (home (length slots) hash) bucket
+    before_bucket o in_o near = w.full o in_o (subst (λ n. distance_from_home slots hash o < n) Probes-probe_distance near)
 
-    pub Walks-vacancy : slot_at slots place ≡ None → IsVacancyFor slots hash place
-    Walks-vacancy none = record { within = w.inside; vacant = none; passed = before_place }
+    pub Probes-vacancy : slot_at slots bucket ≡ None → IsVacancyFor slots hash bucket
+    Probes-vacancy none = record { within = w.inside; vacant = none; passed = before_bucket }
 
-    pub Walks-next : (next : ℕ) → slot_at slots place ≢ None → next < length slots → next ≡ up (length slots) place 1 → Walks slots hash next (count + 1)
-    Walks-next next full in_next e = record {
+    pub Probes-next : (next : ℕ) → slot_at slots bucket ≢ None → next < length slots → next ≡ bucket_after (length slots) bucket 1 → Probes slots hash next (count + 1)
+    Probes-next next full in_next e = record {
       inside = in_next;
-      on_the_way = e ∙ ap (λ p. up (length slots) p 1) w.on_the_way ∙ up-up (length slots) (home (length slots) hash) in_home count few;
-      full = λ o in_o near. elim (cases_eq (steps_from_home slots hash o) count) [
+      on_the_way = e ∙ ap (λ p. bucket_after (length slots) p 1) w.on_the_way ∙ bucket_after-bucket_after (length slots) (home (length slots) hash) in_home count few;
+      full = λ o in_o near. elim (cases_eq (distance_from_home slots hash o) count) [
         | inl at ↦
-            let same : o ≡ place = steps_same (length slots) (home (length slots) hash) in_home o place in_o w.inside (at ∙ sym Walks-steps) in
+            let same : o ≡ bucket = distance_same (length slots) (home (length slots) hash) in_home o bucket in_o w.inside (at ∙ sym Probes-probe_distance) in
             subst (λ p. slot_at slots p ≢ None) (sym same) full
         | inr ne ↦ w.full o in_o (omega arith)
       ];
     }
 
-  -- a walk does not pass all buckets, where one is empty
-  pub Walks-ends : (place count : ℕ) → Walks slots hash place count → length slots ≤ count → SomeVacant slots → ⊥
-  Walks-ends place count w all (v, in_v, none) =
-      w.full v in_v (let l = steps-lt (length slots) (home (length slots) hash) (home-lt (length slots) hash (omega arith)) v in_v in omega arith) none
+  -- a probe does not pass all buckets, where one is empty
+  pub Probes-ends : (bucket count : ℕ) → Probes slots hash bucket count → length slots ≤ count → SomeVacant slots → ⊥
+  Probes-ends bucket count w all (v, in_v, none) =
+      w.full v in_v (let l = probe_distance-lt (length slots) (home (length slots) hash) (home-lt (length slots) hash (omega arith)) v in_v in omega arith) none

@@ -3,43 +3,43 @@ use Rattle.std.proofs.Common.{◌≡◌, ℕ, ◌+◌, ◌<◌, ◌≤◌, inl, 
 use Rattle.std.specs.List.{slice_get}
 use Rattle.std.proofs.lemmas.Bool.{cases_eq}
 use Rattle.std.proofs.lemmas.List.Sums.{count_by-le-length}
-use Rattle.half_store.specs.Reach.{home, steps, reach}
-use Rattle.half_store.specs.Search.{after_missing, AddsFinding, looked_more}
-use Rattle.half_store.specs.Slots.{slot_at, stored, IsVacancyFor, IsFoundAt, SomeVacant, steps_from_home}
-use Rattle.half_store.specs.Table.{HashIndex, hash_index, hashes_at, slots_of}
+use Rattle.half_store.specs.Reach.{home, probe_distance, reach}
+use Rattle.half_store.specs.Probe.{after_missing, AddsFinding, looked_more}
+use Rattle.half_store.specs.Slots.{slot_at, stored, IsVacancyFor, IsFoundAt, SomeVacant, distance_from_home}
+use Rattle.half_store.specs.Table.{TableState, table_state, hashes_at, slots_of}
 use Rattle.half_store.specs.TableLayout.{IsTable}
 use Rattle.half_store.specs.Work.{Work}
-use Rattle.half_store.proofs.Circle.{steps_self}
+use Rattle.half_store.proofs.Circle.{distance_self}
 use Rattle.half_store.proofs.SlotsLemmas.{full_from, full-lt}
-use Rattle.half_store.proofs.StepLemmas.{length-hashes_at, number-lt, place_of_number, number_at_place, at_home, table_vacant}
-use Rattle.half_store.proofs.WalkLemmas.{reach_at_vacancy, reach_past_found, reach_short}
+use Rattle.half_store.proofs.StepLemmas.{length-hashes_at, index-lt, bucket_of_index, index_at_bucket, at_home, table_vacant}
+use Rattle.half_store.proofs.ProbeLemmas.{reach_at_vacancy, reach_past_found, reach_short}
 use Rattle.half_store.proofs.ReachLemmas.{reach-none}
 use Rattle.half_store.proofs.WorkLemmas.{same_work}
 
 -- what a caller's value says of the columns
-pub record Seen (slots : List (Option ℕ)) (places : List ℕ) (t : HashIndex) : Type 0 where
-  pub hashes : hashes_at slots places ≡ t.hashes
+pub record Seen (slots : List (Option ℕ)) (bucket_of : List ℕ) (t : TableState) : Type 0 where
+  pub hashes : hashes_at slots bucket_of ≡ t.hashes
   pub buckets : length slots ≡ t.buckets
   pub slots_are : slots ≡ slots_of t
-  pub count : length places ≡ length t.hashes
+  pub count : length bucket_of ≡ length t.hashes
 
-pub seen : (slots : List (Option ℕ)) (places : List ℕ) (t : HashIndex) → hash_index (hashes_at slots places) slots ≡ t → Seen slots places t
-seen slots places t e = record {
-  hashes = ap (λ (x : HashIndex). x.hashes) e;
-  buckets = ap (λ (x : HashIndex). x.buckets) e;
+pub seen : (slots : List (Option ℕ)) (bucket_of : List ℕ) (t : TableState) → table_state (hashes_at slots bucket_of) slots ≡ t → Seen slots bucket_of t
+seen slots bucket_of t e = record {
+  hashes = ap (λ (x : TableState). x.hashes) e;
+  buckets = ap (λ (x : TableState). x.buckets) e;
   slots_are = ap slots_of e;
-  count = sym (length-hashes_at slots places) ∙ ap (λ (x : HashIndex). length x.hashes) e;
+  count = sym (length-hashes_at slots bucket_of) ∙ ap (λ (x : TableState). length x.hashes) e;
 }
 
-module _ (slots : List (Option ℕ)) (numbers places : List ℕ) (capacity : ℕ) (t : IsTable slots numbers places capacity) (hash : ℕ) where
+module _ (slots : List (Option ℕ)) (entry_of bucket_of : List ℕ) (capacity : ℕ) (t : IsTable slots entry_of bucket_of capacity) (hash : ℕ) where
   abbrev hs : List ℕ
-  hs = hashes_at slots places
+  hs = hashes_at slots bucket_of
 
   vacant_since : (p : ℕ) → p < length slots → SomeVacant slots
-  vacant_since p in_p = table_vacant slots numbers places capacity t (omega arith)
+  vacant_since p in_p = table_vacant slots entry_of bucket_of capacity t (omega arith)
 
   -- what a search that found none added
-  pub missing_cost : (p : ℕ) (old new : Work) → IsVacancyFor slots hash p → new.asked ≡ old.asked → new.looked ≡ old.looked + (steps_from_home slots hash p + 1) →
+  pub missing_cost : (p : ℕ) (old new : Work) → IsVacancyFor slots hash p → new.asked ≡ old.asked → new.looked ≡ old.looked + (distance_from_home slots hash p + 1) →
       new.compared ≡ old.compared + count_by (stored (λ held. held == hash)) slots → new ≡ after_missing hs (length slots) hash old
   missing_cost p old new w asked looked compared =
       let r = reach_at_vacancy slots t.ordered hs t.in_step.counted hash p w in
@@ -47,7 +47,7 @@ module _ (slots : List (Option ℕ)) (numbers places : List ℕ) (capacity : ℕ
       same_work new (after_missing hs (length slots) hash old) asked (omega arith) (omega arith)
 
   -- what a search that found one added
-  pub found_cost : (p : ℕ) (old new : Work) → IsFoundAt slots hash p → new.asked ≡ old.asked → new.looked ≡ old.looked + (steps_from_home slots hash p + 1) →
+  pub found_cost : (p : ℕ) (old new : Work) → IsFoundAt slots hash p → new.asked ≡ old.asked → new.looked ≡ old.looked + (distance_from_home slots hash p + 1) →
       old.compared + 1 ≤ new.compared → new.compared ≤ old.compared + count_by (stored (λ held. held == hash)) slots → AddsFinding hs (length slots) hash old new
   found_cost p old new f asked looked some most =
       let full = full_from _ hash f.found in
@@ -62,65 +62,65 @@ module _ (slots : List (Option ℕ)) (numbers places : List ℕ) (capacity : ℕ
         looked_some = omega arith;
         looked_most = omega arith;
         looked_once = λ apart.
-            let here : home (length slots) hash ≡ p = at_home slots numbers places t.in_step t.ordered apart v p hash f.found in
-            let none : steps_from_home slots hash p ≡ 0 = ap (λ b. steps (length slots) b p) here ∙ steps_self (length slots) p in_p in
+            let here : home (length slots) hash ≡ p = at_home slots entry_of bucket_of t.in_step t.ordered apart v p hash f.found in
+            let none : distance_from_home slots hash p ≡ 0 = ap (λ b. probe_distance (length slots) b p) here ∙ distance_self (length slots) p in_p in
             omega arith;
       }
 
-  -- a placing
-  pub placing_cost : (p : ℕ) (old new : Work) → IsVacancyFor slots hash p → new ≡ looked_more old (steps_from_home slots hash p + 1) → new ≡ looked_more old (reach hs (length slots) hash)
-  placing_cost p old new w e = e ∙ ap (looked_more old) (sym (reach_at_vacancy slots t.ordered hs t.in_step.counted hash p w))
+  -- a insertion probe
+  pub probing_cost : (p : ℕ) (old new : Work) → IsVacancyFor slots hash p → new ≡ looked_more old (distance_from_home slots hash p + 1) → new ≡ looked_more old (reach hs (length slots) hash)
+  probing_cost p old new w e = e ∙ ap (looked_more old) (sym (reach_at_vacancy slots t.ordered hs t.in_step.counted hash p w))
 
-  -- no walk reads more buckets than one past the held pairs
+  -- no probe reads more buckets than one past the held pairs
   pub short : reach hs (length slots) hash ≤ length hs + 1
   short =
       elim (cases_eq (length slots) 0) [
         | inl e ↦ omega (arith, reach-none hs (length slots) hash e)
-        | inr ne ↦ reach_short slots t.ordered hs t.in_step.counted hash (table_vacant slots numbers places capacity t (omega arith))
+        | inr ne ↦ reach_short slots t.ordered hs t.in_step.counted hash (table_vacant slots entry_of bucket_of capacity t (omega arith))
       ]
 
 -- the same columns by other names
-pub columns_at : (slots rows : List (Option ℕ)) (numbers nums places : List ℕ) (capacity : ℕ) → rows ≡ slots → nums ≡ numbers → IsTable slots numbers places capacity → IsTable rows nums places capacity
-columns_at slots rows numbers nums places capacity e f t =
-    subst (λ x. IsTable x nums places capacity) (sym e) (subst (λ y. IsTable slots y places capacity) (sym f) t)
+pub columns_at : (slots rows : List (Option ℕ)) (entry_of nums bucket_of : List ℕ) (capacity : ℕ) → rows ≡ slots → nums ≡ entry_of → IsTable slots entry_of bucket_of capacity → IsTable rows nums bucket_of capacity
+columns_at slots rows entry_of nums bucket_of capacity e f t =
+    subst (λ x. IsTable x nums bucket_of capacity) (sym e) (subst (λ y. IsTable slots y bucket_of capacity) (sym f) t)
 
-pub view_at : (slots rows : List (Option ℕ)) (places : List ℕ) (t : HashIndex) → rows ≡ slots → hash_index (hashes_at slots places) slots ≡ t → hash_index (hashes_at rows places) rows ≡ t
-view_at slots rows places t e v = ap (λ x. hash_index (hashes_at x places) x) e ∙ v
+pub view_at : (slots rows : List (Option ℕ)) (bucket_of : List ℕ) (t : TableState) → rows ≡ slots → table_state (hashes_at slots bucket_of) slots ≡ t → table_state (hashes_at rows bucket_of) rows ≡ t
+view_at slots rows bucket_of t e v = ap (λ x. table_state (hashes_at x bucket_of) x) e ∙ v
 
 -- what callers see of the costs
-module _ (slots : List (Option ℕ)) (numbers places : List ℕ) (capacity : ℕ) (t : IsTable slots numbers places capacity) (x : HashIndex) (view_is : hash_index (hashes_at slots places) slots ≡ x) (hash : ℕ) where
-  pub missing_cost_seen : (p : ℕ) (old new : Work) → IsVacancyFor slots hash p → new.asked ≡ old.asked → new.looked ≡ old.looked + (steps_from_home slots hash p + 1) →
+module _ (slots : List (Option ℕ)) (entry_of bucket_of : List ℕ) (capacity : ℕ) (t : IsTable slots entry_of bucket_of capacity) (x : TableState) (view_is : table_state (hashes_at slots bucket_of) slots ≡ x) (hash : ℕ) where
+  pub missing_cost_seen : (p : ℕ) (old new : Work) → IsVacancyFor slots hash p → new.asked ≡ old.asked → new.looked ≡ old.looked + (distance_from_home slots hash p + 1) →
       new.compared ≡ old.compared + count_by (stored (λ held. held == hash)) slots → new ≡ after_missing x.hashes x.buckets hash old
-  missing_cost_seen p old new w a b c = subst (λ (y : HashIndex). new ≡ after_missing y.hashes y.buckets hash old) view_is (missing_cost slots numbers places capacity t hash p old new w a b c)
+  missing_cost_seen p old new w a b c = subst (λ (y : TableState). new ≡ after_missing y.hashes y.buckets hash old) view_is (missing_cost slots entry_of bucket_of capacity t hash p old new w a b c)
 
-  pub found_cost_seen : (p : ℕ) (old new : Work) → IsFoundAt slots hash p → new.asked ≡ old.asked → new.looked ≡ old.looked + (steps_from_home slots hash p + 1) →
+  pub found_cost_seen : (p : ℕ) (old new : Work) → IsFoundAt slots hash p → new.asked ≡ old.asked → new.looked ≡ old.looked + (distance_from_home slots hash p + 1) →
       old.compared + 1 ≤ new.compared → new.compared ≤ old.compared + count_by (stored (λ held. held == hash)) slots → AddsFinding x.hashes x.buckets hash old new
-  found_cost_seen p old new f a b c d = subst (λ (y : HashIndex). AddsFinding y.hashes y.buckets hash old new) view_is (found_cost slots numbers places capacity t hash p old new f a b c d)
+  found_cost_seen p old new f a b c d = subst (λ (y : TableState). AddsFinding y.hashes y.buckets hash old new) view_is (found_cost slots entry_of bucket_of capacity t hash p old new f a b c d)
 
-  pub placing_cost_seen : (p : ℕ) (old new : Work) → IsVacancyFor slots hash p → new ≡ looked_more old (steps_from_home slots hash p + 1) → new ≡ looked_more old (reach x.hashes x.buckets hash)
-  placing_cost_seen p old new w e = subst (λ (y : HashIndex). new ≡ looked_more old (reach y.hashes y.buckets hash)) view_is (placing_cost slots numbers places capacity t hash p old new w e)
+  pub probing_cost_seen : (p : ℕ) (old new : Work) → IsVacancyFor slots hash p → new ≡ looked_more old (distance_from_home slots hash p + 1) → new ≡ looked_more old (reach x.hashes x.buckets hash)
+  probing_cost_seen p old new w e = subst (λ (y : TableState). new ≡ looked_more old (reach y.hashes y.buckets hash)) view_is (probing_cost slots entry_of bucket_of capacity t hash p old new w e)
 
   pub short_seen : reach x.hashes x.buckets hash ≤ length x.hashes + 1
-  short_seen = subst (λ (y : HashIndex). reach y.hashes y.buckets hash ≤ length y.hashes + 1) view_is (short slots numbers places capacity t hash)
+  short_seen = subst (λ (y : TableState). reach y.hashes y.buckets hash ≤ length y.hashes + 1) view_is (short slots entry_of bucket_of capacity t hash)
 
-  pub number_seen : (p : ℕ) → slot_at slots p ≡ Some hash → slice_get x.hashes (slice_index numbers p) ≡ Some hash
-  number_seen p is = subst (λ (y : HashIndex). slice_get y.hashes (slice_index numbers p) ≡ Some hash) view_is (number_at_place slots numbers places t.in_step p hash is)
+  pub index_seen : (p : ℕ) → slot_at slots p ≡ Some hash → slice_get x.hashes (slice_index entry_of p) ≡ Some hash
+  index_seen p is = subst (λ (y : TableState). slice_get y.hashes (slice_index entry_of p) ≡ Some hash) view_is (index_at_bucket slots entry_of bucket_of t.in_step p hash is)
 
-  -- what holds at each place of this hash, and of the number that stands there, holds of each number of this hash
-  pub each_number : (P : ℕ → Type 0) → ((p : ℕ) → slot_at slots p ≡ Some hash → P (slice_index numbers p)) → (number : ℕ) → slice_get x.hashes number ≡ Some hash → P number
-  each_number P h number is =
-      let here : slice_get (hashes_at slots places) number ≡ Some hash = subst (λ (y : HashIndex). slice_get y.hashes number ≡ Some hash) (sym view_is) is in
-      subst P (t.in_step.number_back number (number-lt slots numbers places t.in_step number hash here)) (h (slice_index places number) (place_of_number slots numbers places t.in_step number hash here))
+  -- what holds at each bucket of this hash, and of the number that stands there, holds of each number of this hash
+  pub each_index : (P : ℕ → Type 0) → ((p : ℕ) → slot_at slots p ≡ Some hash → P (slice_index entry_of p)) → (index : ℕ) → slice_get x.hashes index ≡ Some hash → P index
+  each_index P h index is =
+      let here : slice_get (hashes_at slots bucket_of) index ≡ Some hash = subst (λ (y : TableState). slice_get y.hashes index ≡ Some hash) (sym view_is) is in
+      subst P (t.in_step.index_back index (index-lt slots entry_of bucket_of t.in_step index hash here)) (h (slice_index bucket_of index) (bucket_of_index slots entry_of bucket_of t.in_step index hash here))
 
   pub vacant_seen : 0 < x.buckets → SomeVacant slots
-  vacant_seen some = table_vacant slots numbers places capacity t (subst (λ (y : HashIndex). 0 < y.buckets) (sym view_is) some)
+  vacant_seen some = table_vacant slots entry_of bucket_of capacity t (subst (λ (y : TableState). 0 < y.buckets) (sym view_is) some)
 
   -- with no buckets a search costs nothing
   pub empty_cost_seen : (w : Work) → length slots ≡ 0 → w ≡ after_missing x.hashes x.buckets hash w
   empty_cost_seen w none =
-      subst (λ (y : HashIndex). w ≡ after_missing y.hashes y.buckets hash w) view_is
-      (let r = reach-none (hashes_at slots places) (length slots) hash none in
-      let few = count_by-le-length (λ held. held == hash) (hashes_at slots places) in
+      subst (λ (y : TableState). w ≡ after_missing y.hashes y.buckets hash w) view_is
+      (let r = reach-none (hashes_at slots bucket_of) (length slots) hash none in
+      let few = count_by-le-length (λ held. held == hash) (hashes_at slots bucket_of) in
       let within = t.within in
-      let long = length-hashes_at slots places in
-      same_work w (after_missing (hashes_at slots places) (length slots) hash w) refl (omega arith) (omega arith))
+      let long = length-hashes_at slots bucket_of in
+      same_work w (after_missing (hashes_at slots bucket_of) (length slots) hash w) refl (omega arith) (omega arith))

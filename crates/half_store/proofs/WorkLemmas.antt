@@ -1,6 +1,6 @@
 -- Work that is added up.
 use Rattle.std.proofs.Common.{◌≡◌, ℕ, ◌+◌, ap, ◌∙◌, arith}
-use Rattle.half_store.specs.Search.{looked_more}
+use Rattle.half_store.specs.Probe.{looked_more}
 use Rattle.half_store.specs.Work.{Work, one_looked}
 
 none_more : (n : ℕ) → n ≡ n + 0

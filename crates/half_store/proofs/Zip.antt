@@ -38,7 +38,7 @@ module _ {K V : Type 0} where
   zip_push (l ∷ ks) [] k v even = absurd (omega arith)
   zip_push (l ∷ ks) (w ∷ vs) k v even = ap (λ r. (l, w) ∷ r) (zip_push ks vs k v (omega arith))
 
-  -- the pair at a place, from what stands there in each column
+  -- the pair at a bucket, from what stands there in each column
   pub slice_get-zip : (ks : List K) (vs : List V) (i : ℕ) (k : K) (v : V) → i < length ks → i < length vs → k ≡ get_or ks i k → v ≡ get_or vs i v → slice_get (zip ks vs) i ≡ Some (k, v)
   slice_get-zip [] vs i k v in_keys in_values at_k at_v = absurd (omega arith)
   slice_get-zip (x ∷ ks) [] i k v in_keys in_values at_k at_v = absurd (omega arith)
@@ -85,7 +85,7 @@ module _ {K V : Type 0} where
   pub zip-swap_out : (ks : List K) (vs : List V) (i : ℕ) (k : K) (v : V) → length vs ≡ length ks → zip (swap_remove ks i k) (swap_remove vs i v) ≡ swap_out (zip ks vs) i
   zip-swap_out ks vs i k v even = zip-swap_remove ks vs i k v even ∙ swap_out_is (zip ks vs) i (k, v)
 
--- the element at a place, read with itself as the default
+-- the element at a bucket, read with itself as the default
 pub slice_get_at : {X : Type 0} (xs : List X) (i : ℕ) (x : X) → i < length xs → x ≡ get_or xs i x → slice_get xs i ≡ Some x
 slice_get_at [] i x within at_x = absurd (omega arith)
 slice_get_at (y ∷ ys) zero x within at_x = ap Some (sym at_x)

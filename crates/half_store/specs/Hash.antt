@@ -4,6 +4,6 @@ use Rattle.std.specs.Hash.{HashWrites}
 use Rattle.std.specs.declared.hash.Hasher as hasher
 use Rattle.std.specs.declared.hash.BuildHasher as builder
 
--- what the builder's hasher answers after the key's writes, in their order
+-- what the builder's hasher returns after the key's writes, in their order
 abbrev pub hash_by : {S H : Type 0} → builder.Ghosts S H → hasher.Ghosts H → S → HashWrites → ℕ
 hash_by b h s writes = h.finish (fold h.write (b.build_hasher s) writes)

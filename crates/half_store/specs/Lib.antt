@@ -1,11 +1,12 @@
+pub mod Capacity
 pub mod Hash
 pub mod Lending
 pub mod Pairs
+pub mod Probe
 pub mod Reach
 pub mod Refusal
-pub mod Rooms
-pub mod Search
 pub mod Slots
 pub mod Table
+pub mod TableLaws
 pub mod TableLayout
 pub mod Work

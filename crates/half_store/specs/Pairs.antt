@@ -3,31 +3,31 @@ use Rattle.std.specs.Prelude.{ℕ, zero, suc, Bool, if◌then◌else◌, List, [
 use Rattle.std.specs.Option.{option_map}
 use base.Stored.{Coded, coded×, coded_list, coded_ℕ, coded_via}
 
--- the pairs in order, and how many fit before memory is asked for
+-- the pairs in order, and how many fit before more memory is needed
 pub record Pairs (K V : Type 0) : Type 0 where
   pub pairs : List (K × V)
-  pub room : ℕ
+  pub capacity : ℕ
 
 module _ {K V : Type 0} where
-  -- these pairs, with the room of another list
+  -- these pairs, with the capacity of another list
   abbrev pub with_pairs : Pairs K V → List (K × V) → Pairs K V
-  with_pairs old ps = record { pairs = ps; room = old.room }
+  with_pairs old ps = record { pairs = ps; capacity = old.capacity }
 
-  -- the pair with this number keeps its key and gets this value
+  -- the pair at this index keeps its key and gets this value
   abbrev pub set_value : List (K × V) → ℕ → V → List (K × V)
-  set_value [] number v = []
+  set_value [] index v = []
   set_value (p ∷ ps) zero v = (p.0, v) ∷ ps
-  set_value (p ∷ ps) (suc number) v = p ∷ set_value ps number v
+  set_value (p ∷ ps) (suc index) v = p ∷ set_value ps index v
 
   abbrev pub pairs_code : Coded K → Coded V → Coded (Pairs K V)
-  pairs_code k v = coded_via (coded× (coded_list (coded× k v)) coded_ℕ) (λ c. (c.pairs, c.room)) (λ a b e i. record { pairs = (e i).0; room = (e i).1 })
+  pairs_code k v = coded_via (coded× (coded_list (coded× k v)) coded_ℕ) (λ c. (c.pairs, c.capacity)) (λ a b e i. record { pairs = (e i).0; capacity = (e i).1 })
 
--- the element with this number is gone, and the last one stands in its place
+-- the element at this index is gone, and the last one is in its place
 abbrev pub swap_out : {X : Type 0} → List X → ℕ → List X
-swap_out [] number = []
-swap_out (x ∷ xs) number = swap_remove (x ∷ xs) number x
+swap_out [] index = []
+swap_out (x ∷ xs) index = swap_remove (x ∷ xs) index x
 
--- the number of the first key that passes, counted from 0
-abbrev pub number_of : {K : Type 0} → (K → Bool) → List K → Option ℕ
-number_of test [] = None
-number_of test (k ∷ ks) = if test k then Some 0 else option_map suc (number_of test ks)
+-- the index of the first key that passes
+abbrev pub index_of : {K : Type 0} → (K → Bool) → List K → Option ℕ
+index_of test [] = None
+index_of test (k ∷ ks) = if test k then Some 0 else option_map suc (index_of test ks)

@@ -1,24 +1,24 @@
--- Where a hash is at home among the buckets, and how far a walk from there goes.
+-- The home bucket of a hash, and how many buckets an unsuccessful probe from there reads.
 --
--- All of it is said over the held hashes and the number of buckets alone: nothing here knows what a bucket holds.
+-- All of it is said over the held hashes and the number of buckets alone: nothing here knows what a bucket contains.
 use Rattle.std.specs.Prelude.{◌≢◌, ℕ, zero, suc, ◌+◌, ◌-◌, ◌%◌, ◌<◌, ◌≤◌, Bool, false, ◌==◌, ◌||◌, nat_lt, nat_le, if◌then◌else◌, List, count_by, AllPairs}
 
--- the bucket where a walk for this hash begins
+-- the home bucket of a hash: where each probe for it begins
 abbrev pub home : ℕ → ℕ → ℕ
 home buckets hash = hash % buckets
 
--- how many steps lead up from bucket `from` to bucket `to`; the first bucket follows the last
-unfoldable pub steps : ℕ → ℕ → ℕ → ℕ
-steps buckets from to = if nat_le from to then to - from else to + buckets - from
+-- the probe distance from bucket `from` up to bucket `to`; the first bucket follows the last
+unfoldable pub probe_distance : ℕ → ℕ → ℕ → ℕ
+probe_distance buckets from to = if nat_le from to then to - from else to + buckets - from
 
--- the bucket so many steps up from bucket `from`
-unfoldable pub up : ℕ → ℕ → ℕ → ℕ
-up buckets from count = if nat_lt (from + count) buckets then from + count else from + count - buckets
+-- the bucket so many further than bucket `from`
+unfoldable pub bucket_after : ℕ → ℕ → ℕ → ℕ
+bucket_after buckets from count = if nat_lt (from + count) buckets then from + count else from + count - buckets
 
 module _ (hashes : List ℕ) (buckets : ℕ) where
-  -- how many of the hashes have their home in the stretch of `size` buckets that ends with bucket `last`
+  -- how many of the hashes have their home bucket in the stretch of `size` buckets, round the end if need be, that ends with bucket `last`
   unfoldable pub load : ℕ → ℕ → ℕ
-  load last size = count_by (λ hash. nat_lt (steps buckets (home buckets hash) last) size) hashes
+  load last size = count_by (λ hash. nat_lt (probe_distance buckets (home buckets hash) last) size) hashes
 
   -- some stretch that ends with this bucket is home to at least as many hashes as it has buckets
   abbrev pub IsLoaded : ℕ → Type 0
@@ -36,12 +36,12 @@ module _ (hashes : List ℕ) (buckets : ℕ) where
   -- how many loaded buckets follow one another from this bucket on, at most `most`
   unfoldable pub loaded_run : ℕ → ℕ → ℕ
   loaded_run zero bucket = 0
-  loaded_run (suc most) bucket = if is_loaded bucket then suc (loaded_run most (up buckets bucket 1)) else 0
+  loaded_run (suc most) bucket = if is_loaded bucket then suc (loaded_run most (bucket_after buckets bucket 1)) else 0
 
-  -- how many buckets a walk for this hash reads that ends at the first empty one: the loaded buckets from its home on, and one more
+  -- the length of an unsuccessful probe for this hash: the loaded buckets from its home bucket on, and one more
   unfoldable pub reach : ℕ → ℕ
   reach hash = if buckets == 0 then 0 else suc (loaded_run (buckets - 1) (home buckets hash))
 
-  -- no two of the hashes have the same home
+  -- no two of the hashes have the same home bucket
   abbrev pub HomesApart : Type 0
   HomesApart = AllPairs (λ one other. home buckets one ≢ home buckets other) hashes

@@ -1,8 +1,13 @@
--- Why a call that wants more room than there is may be refused.
-use Rattle.std.specs.Prelude.{ℕ, ◌^◌, nat_lt, if◌then◌else◌}
+-- Why a call that needs more capacity may be refused.
+use Rattle.std.specs.Prelude.{ℕ, ◌^◌, nat_lt, List, codes, if◌then◌else◌}
 use Rattle.half_store.specs.declared.refusal.Refusal.{Refusal}
 use Rattle.half_store.specs.declared.refusal.Refusal.TheVariants.{Memory, Size}
 
--- why a call that wants room for so many pairs is refused, where it is: more than 2^60 are too many for any memory
+-- why a call that needs capacity for so many pairs is refused, where it is: more than 2^60 are too many for any memory
 abbrev pub refusal_of : ℕ → Refusal
-refusal_of wanted = if nat_lt (2 ^ 60) wanted then Size else Memory
+refusal_of needed = if nat_lt (2 ^ 60) needed then Size else Memory
+
+-- what a reason is written as
+abbrev pub text_of : Refusal → List ℕ
+text_of Memory = codes "memory could not be allocated"
+text_of Size = codes "more than 2^60 pairs"

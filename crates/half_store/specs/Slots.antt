@@ -1,41 +1,41 @@
--- What the buckets hold: a stored hash at each full place.
+-- What the buckets contain: a stored hash in each full bucket.
 use Rattle.std.specs.Prelude.{◌≡◌, ◌≢◌, ℕ, ◌<◌, Bool, false, List, length, Option, Some, None, slice_index_or}
-use Rattle.half_store.specs.Reach.{home, steps}
+use Rattle.half_store.specs.Reach.{home, probe_distance}
 
--- the hash at a place, or none where the bucket is empty
+-- the hash stored in a bucket, or none where it is empty
 abbrev pub slot_at : List (Option ℕ) → ℕ → Option ℕ
-slot_at slots place = slice_index_or slots place None
+slot_at slots bucket = slice_index_or slots bucket None
 
 -- the test of a stored hash, which no empty bucket passes
 abbrev pub stored : (ℕ → Bool) → Option ℕ → Bool
 stored test None = false
 stored test (Some hash) = test hash
 
--- each bucket that comes before `place` on the way up from `start` is full
+-- each bucket that a probe from `start` reads before this one is full
 abbrev pub FullBefore : List (Option ℕ) → ℕ → ℕ → Type 0
-FullBefore slots start place =
-    (other : ℕ) → other < length slots → steps (length slots) start other < steps (length slots) start place → slot_at slots other ≢ None
+FullBefore slots start bucket =
+    (other : ℕ) → other < length slots → probe_distance (length slots) start other < probe_distance (length slots) start bucket → slot_at slots other ≢ None
 
--- a walk for the hash ends at this place: it is the first empty bucket from the hash's home on
-pub record IsVacancyFor (slots : List (Option ℕ)) (hash place : ℕ) : Type 0 where
-  pub within : place < length slots
-  pub vacant : slot_at slots place ≡ None
-  pub passed : FullBefore slots (home (length slots) hash) place
+-- an insertion probe for the hash ends at this bucket: it is the first empty one from the hash's home bucket on
+pub record IsVacancyFor (slots : List (Option ℕ)) (hash bucket : ℕ) : Type 0 where
+  pub within : bucket < length slots
+  pub vacant : slot_at slots bucket ≡ None
+  pub passed : FullBefore slots (home (length slots) hash) bucket
 
--- the hash is stored at this place, and a walk for it comes by
-pub record IsFoundAt (slots : List (Option ℕ)) (hash place : ℕ) : Type 0 where
-  pub found : slot_at slots place ≡ Some hash
-  pub passed : FullBefore slots (home (length slots) hash) place
+-- the hash is stored in this bucket, and a probe for it reads it
+pub record IsFoundAt (slots : List (Option ℕ)) (hash bucket : ℕ) : Type 0 where
+  pub found : slot_at slots bucket ≡ Some hash
+  pub passed : FullBefore slots (home (length slots) hash) bucket
 
 -- some bucket is empty
 abbrev pub SomeVacant : List (Option ℕ) → Type 0
-SomeVacant slots = (place : ℕ) × (place < length slots) × (slot_at slots place ≡ None)
+SomeVacant slots = (bucket : ℕ) × (bucket < length slots) × (slot_at slots bucket ≡ None)
 
--- counted from its home, a stored hash comes before every empty bucket
-pub record ComeBeforeVacancies (slots : List (Option ℕ)) : Type 0 where
-  pub before : (place vacant hash : ℕ) → slot_at slots place ≡ Some hash → vacant < length slots → slot_at slots vacant ≡ None →
-      steps (length slots) (home (length slots) hash) place < steps (length slots) (home (length slots) hash) vacant
+-- the probe invariant: counted from its home bucket, a stored hash comes before every empty bucket
+pub record ProbeInvariant (slots : List (Option ℕ)) : Type 0 where
+  pub before : (bucket vacant hash : ℕ) → slot_at slots bucket ≡ Some hash → vacant < length slots → slot_at slots vacant ≡ None →
+      probe_distance (length slots) (home (length slots) hash) bucket < probe_distance (length slots) (home (length slots) hash) vacant
 
--- how many steps a walk for the hash has taken when it is at this place
-abbrev pub steps_from_home : List (Option ℕ) → ℕ → ℕ → ℕ
-steps_from_home slots hash place = steps (length slots) (home (length slots) hash) place
+-- the probe distance of a bucket from the hash's home bucket
+abbrev pub distance_from_home : List (Option ℕ) → ℕ → ℕ → ℕ
+distance_from_home slots hash bucket = probe_distance (length slots) (home (length slots) hash) bucket

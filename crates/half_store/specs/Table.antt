@@ -2,30 +2,48 @@
 use Rattle.std.specs.Prelude.{ℕ, List, [], map, length, Option, unwrap_or}
 use Rattle.std.specs.Coded.{Coded, coded×, coded_list, coded_option, coded_ℕ}
 use base.Stored.{coded_via}
-use Rattle.half_store.specs.Slots.{slot_at}
+use Rattle.half_store.specs.Slots.{slot_at, IsVacancyFor}
 
--- what callers see: the stored hashes in the order of the pairs' numbers, and how many buckets there are
-pub record HashIndex : Type 0 where
+-- what callers see: the stored hashes by entry index, and how many buckets there are; which bucket contains what is private
+pub record TableState : Type 0 where
   pub hashes : List ℕ
   pub buckets : ℕ
   slots : List (Option ℕ)
 
--- which hash stands at which place
-abbrev pub slots_of : HashIndex → List (Option ℕ)
+-- what each bucket contains
+abbrev pub slots_of : TableState → List (Option ℕ)
 slots_of t = t.slots
 
-abbrev pub hash_index : List ℕ → List (Option ℕ) → HashIndex
-hash_index hashes slots = record { hashes = hashes; buckets = length slots; slots = slots }
+-- what the buckets contain, for callers that keep such a fact and hand it back: nobody else can read it
+pub record Contents : Type 0 where
+  slots : List (Option ℕ)
+
+abbrev pub contents_of : TableState → Contents
+contents_of t = record { slots = t.slots }
+
+-- no buckets
+abbrev pub no_contents : Contents
+no_contents = record { slots = [] }
+
+-- an insertion probe for the hash ends at this bucket
+abbrev pub IsVacancyIn : Contents → ℕ → ℕ → Type 0
+IsVacancyIn c hash bucket = IsVacancyFor c.slots hash bucket
+
+abbrev pub contents_code : Coded Contents
+contents_code = coded_via (coded_list (coded_option coded_ℕ)) (λ c. c.slots) (λ a b e i. record { slots = e i })
+
+abbrev pub table_state : List ℕ → List (Option ℕ) → TableState
+table_state hashes slots = record { hashes = hashes; buckets = length slots; slots = slots }
 
 -- no pair and no bucket
-abbrev pub no_buckets : HashIndex
-no_buckets = hash_index [] []
+abbrev pub no_buckets : TableState
+no_buckets = table_state [] []
 
-abbrev pub hash_index_code : Coded HashIndex
-hash_index_code =
+abbrev pub table_state_code : Coded TableState
+table_state_code =
     coded_via (coded× (coded_list coded_ℕ) (coded× coded_ℕ (coded_list (coded_option coded_ℕ)))) (λ t. (t.hashes, (t.buckets, t.slots)))
     (λ a b e i. record { hashes = (e i).0; buckets = (e i).1.0; slots = (e i).1.1 })
 
--- the stored hash of each pair, by the pair's place
+-- the stored hash of each entry index, by the bucket that it has
 abbrev pub hashes_at : List (Option ℕ) → List ℕ → List ℕ
-hashes_at slots places = map (λ place. unwrap_or (slot_at slots place) 0) places
+hashes_at slots bucket_of = map (λ bucket. unwrap_or (slot_at slots bucket) 0) bucket_of

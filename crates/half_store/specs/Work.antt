@@ -1,7 +1,7 @@
 -- The work that a tally has seen.
 use Rattle.std.specs.Prelude.{ℕ, ◌+◌, Option, None, Some}
 
--- how often the builder was asked, keys were compared, and buckets were read
+-- how often a hash was computed, keys were compared, and buckets were read
 pub record Work : Type 0 where
   pub asked : ℕ
   pub compared : ℕ
@@ -11,7 +11,7 @@ pub record Work : Type 0 where
 abbrev pub no_work : Work
 no_work = record { asked = 0; compared = 0; looked = 0 }
 
--- the builder was asked once more
+-- one more hash was computed
 abbrev pub one_asked : Work → Work
 one_asked w = record w { asked = w.asked + 1 }
 
@@ -30,8 +30,8 @@ compared_more n w = record w { compared = w.compared + n }
 -- how many comparisons a search from first to last makes among so many keys: up to and with the one that it finds, or all
 abbrev pub first_match_cost : Option ℕ → ℕ → ℕ
 first_match_cost None len = len
-first_match_cost (Some number) len = number + 1
+first_match_cost (Some index) len = index + 1
 
--- the builder was asked so many times more
+-- so many more hashes were computed
 abbrev pub asked_more : ℕ → Work → Work
 asked_more n w = record w { asked = w.asked + n }

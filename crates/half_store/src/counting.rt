@@ -1,21 +1,21 @@
 //! The three functions that do the counted work, each with the call that it counts.
 //!
-//! Every hash that is asked for, every comparison of keys and every bucket that a counted walk reads goes through one of these.
+//! Each hash of a key, each comparison of keys and each bucket read by a counted probe goes through one of these.
 ghost use Rattle.std.specs.Prelude.{◌≡◌, ◌<◌, length};
 ghost use Rattle.half_store.specs.Hash.{hash_by};
 ghost use Rattle.half_store.specs.Work.{one_asked, one_compared, one_looked};
 ghost use Rattle.half_store.specs.Slots.{slot_at};
 
 use crate::Tally;
-use crate::table::walks::Places;
+use crate::table::buckets::Buckets;
 use std::hash::{BuildHasher, Hash};
 
-/// Asks the builder for the hash of a key.
+/// Hashes a key: calls `hash_one` of the builder.
 ///
 /// ```
-/// let hash = counting::ask(&builder, &1u64, &mut tally); // the builder's hash of 1, counted
+/// let hash = counting::hash_one(&builder, &1u64, &mut tally); // the builder's hash of 1, counted
 /// ```
-pub fn ask<K: Hash, S: BuildHasher>(builder: &S, key: &K, tally: &mut Tally) -> u64
+pub fn hash_one<K: Hash, S: BuildHasher>(builder: &S, key: &K, tally: &mut Tally) -> u64
     ensures hash { result ≡ hash_by S.BuildHasher S.Hasher.Hasher builder.now (K.hash_input key.now) }
     ensures counted { tally.new ≡ one_asked tally.old }
 {
@@ -23,30 +23,26 @@ pub fn ask<K: Hash, S: BuildHasher>(builder: &S, key: &K, tally: &mut Tally) -> 
     builder.hash_one(key)
 }
 
-/// Asks whether the key of a pair, given by the pair's number, is the one that is looked for.
+/// Compares keys: calls `matches`, the test of an entry index.
 ///
 /// ```
-/// let is_equal = counting::compare(
-///     &|number: usize| number < 2 && keys[number] == 2,
-///     1,
-///     &mut tally,
-/// ); // true, counted
+/// let is_equal = counting::compare(&|index: usize| index < 2 && keys[index] == 2, 1, &mut tally); // true, counted
 /// ```
-pub fn compare<F: Fn(usize) -> bool>(matches: &F, number: usize, tally: &mut Tally) -> bool
-    requires { F.pre matches.now number }
-    ensures answer { F.post matches.now number result }
+pub fn compare<F: Fn(usize) -> bool>(matches: &F, index: usize, tally: &mut Tally) -> bool
+    requires { F.pre matches.now index }
+    ensures answer { F.post matches.now index result }
     ensures counted { tally.new ≡ one_compared tally.old }
 {
     tally.add_compared();
-    matches(number)
+    matches(index)
 }
 
-/// Reads the bucket at a place.
-pub(crate) fn look<P: Places>(places: &P, place: usize, tally: &mut Tally) -> Option<u64>
-    requires { place < length (P.slots places.now) }
-    ensures stored { result ≡ slot_at (P.slots places.now) place }
+/// Reads a bucket.
+pub(crate) fn look<P: Buckets>(buckets: &P, bucket: usize, tally: &mut Tally) -> Option<u64>
+    requires { bucket < length (P.slots buckets.now) }
+    ensures stored { result ≡ slot_at (P.slots buckets.now) bucket }
     ensures counted { tally.new ≡ one_looked tally.old }
 {
     tally.add_looked();
-    places.hash_at(place)
+    buckets.hash_at(bucket)
 }

@@ -1,53 +1,52 @@
-//! An index over the numbers of pairs: from a hash to the numbers of the pairs that have it.
+//! An index over entry indices: from a hash to the entry indices of the pairs that have it.
 //!
-//! The buckets hold stored hashes and numbers, and no keys: a search is handed the test of a number. Walks go up from
-//! the bucket that is a hash's home, and a removal closes the gap that it leaves, so that nothing of it stays.
+//! The buckets contain stored hashes and entry indices, and no keys: a search takes a test of an entry index. Probes go up
+//! from the home bucket of a hash, one bucket at a time, and a removal shifts back what follows it, so no tombstone is left.
 ghost use Rattle.std.specs.Prelude.{◌≡◌, ℕ, ◌+◌, ◌^◌, ◌<◌, ◌≤◌, ◌↔◌, true, false, List, [], ◌∷◌, ◌++◌, length, replicate, Some, None, IsTrue, slice_get};
 ghost use Rattle.std.specs.List.{swap_remove};
 ghost use Rattle.half_store.specs.Reach.{reach};
-ghost use Rattle.half_store.specs.Rooms.{room_of, IsBucketCount, room_for, buckets_of};
-ghost use Rattle.half_store.specs.Search.{IfFound, OnMissing, IfVacant, looked_more, after_missing, AddsFinding};
-ghost use Rattle.half_store.specs.Slots.{IsVacancyFor};
-ghost use Rattle.half_store.specs.Table.{slots_of, no_buckets};
+ghost use Rattle.half_store.specs.Capacity.{capacity_of, IsBucketCount, capacity_for, buckets_of};
+ghost use Rattle.half_store.specs.Probe.{IfFound, OnMissing, IfVacant, looked_more, after_missing, AddsFinding};
+ghost use Rattle.half_store.specs.Table.{contents_of, IsVacancyIn, no_buckets};
 
-mod gap;
+pub(crate) mod buckets;
+mod deletion;
+pub mod laws;
 mod memory;
-pub mod search;
+pub mod probe;
 #[cfg(test)]
 mod tests;
-pub(crate) mod walks;
 
 use crate::Tally;
-use crate::rooms::room_of;
-use gap::close_gap;
-use search::Search;
+use crate::capacity::capacity_of;
+use deletion::backward_shift;
+use probe::{Probe, first_empty, search};
 use std::alloc::Global;
 use std::marker::Model;
-use walks::{search, vacancy};
 
-/// Buckets that lead from a hash to the numbers of the pairs that have it.
+/// Buckets that lead from a hash to the entry indices of the pairs that have it.
 ///
-/// A pair's number is its place in the order of insertion, until a removal gives the last pair the number that became
-/// free. There are no buckets, or a power of two from 4 on, and room for three quarters of them.
+/// Entry indices count up in the order of insertion; a removal gives the last pair the index that became free. There are
+/// no buckets, or a power of two from 4 on, and the load factor is three quarters.
 #[derive(Drop)]
 pub struct Table {
     hashes: Vec<Option<u64>>,
-    numbers: Vec<usize>,
-    places: Vec<usize>,
+    entry_of: Vec<usize>,
+    bucket_of: Vec<usize>,
 }
 
 impl Model for Table {
     ghost use Rattle.std.specs.Prelude.{vec_capacity};
-    ghost use Rattle.half_store.specs.Table.{HashIndex, hash_index, hash_index_code, hashes_at};
+    ghost use Rattle.half_store.specs.Table.{TableState, table_state, table_state_code, hashes_at};
     ghost use Rattle.half_store.specs.TableLayout.{IsTable};
 
-    ghost Value = { HashIndex };
+    ghost Value = { TableState };
 
-    ghost coded = { hash_index_code };
+    ghost coded = { table_state_code };
 
-    ghost view = { λ t. hash_index (hashes_at t.hashes.items t.places.items) t.hashes.items };
+    ghost view = { λ t. table_state (hashes_at t.hashes.items t.bucket_of.items) t.hashes.items };
 
-    ghost invariant = { λ t. IsTable t.hashes.items t.numbers.items t.places.items (vec_capacity t.places) };
+    ghost invariant = { λ t. IsTable t.hashes.items t.entry_of.items t.bucket_of.items (vec_capacity t.bucket_of) };
 }
 
 impl Table {
@@ -61,8 +60,8 @@ impl Table {
     {
         Table {
             hashes: Vec::new(alloc),
-            numbers: Vec::new(alloc),
-            places: Vec::new(alloc),
+            entry_of: Vec::new(alloc),
+            bucket_of: Vec::new(alloc),
         }
     }
 
@@ -75,7 +74,7 @@ impl Table {
         ensures value { result ≡ length self.now.hashes }
         ensures small { result ≤ 2 ^ 62 }
     {
-        self.places.len()
+        self.bucket_of.len()
     }
 
     /// Whether it holds no pair.
@@ -86,130 +85,130 @@ impl Table {
     pub fn is_empty(&self) -> bool
         ensures { IsTrue result ↔ (length self.now.hashes ≡ 0) }
     {
-        self.places.is_empty()
+        self.bucket_of.is_empty()
     }
 
-    /// How many pairs it has room for, those that it holds among them.
+    /// How many pairs fit, those that it holds among them.
     ///
     /// ```
-    /// let room = table.room(); // 3
+    /// let capacity = table.capacity(); // 3
     /// ```
-    pub fn room(&self) -> usize
-        ensures value { result ≡ room_of self.now.buckets }
+    pub fn capacity(&self) -> usize
+        ensures value { result ≡ capacity_of self.now.buckets }
         ensures within { length self.now.hashes ≤ result }
         ensures count { IsBucketCount self.now.buckets }
-        ensures series { result ≡ room_for result }
+        ensures series { result ≡ capacity_for result }
         ensures buckets { self.now.buckets ≡ buckets_of result }
     {
-        room_of(self.hashes.len())
+        capacity_of(self.hashes.len())
     }
 
-    /// Searches a pair of this hash that `matches` accepts. It is asked at numbers of pairs of that hash alone.
+    /// Searches for a pair of this hash that `matches` accepts. `matches` is called with entry indices of that hash alone.
     ///
-    /// Where none is found it has read exactly `reach` buckets and asked once for each pair of that hash.
+    /// Where none is found it has read exactly `reach` buckets and called `matches` once for each pair of that hash.
     ///
     /// ```
-    /// let found = table.find(11, &|_| true, &mut tally); // the pair with number 1
+    /// let found = table.find(11, &|_| true, &mut tally); // entry index 1
     /// ```
-    pub fn find<F: Fn(usize) -> bool>(&self, hash: u64, matches: &F, tally: &mut Tally) -> Search
-        requires { (number : ℕ) → slice_get self.now.hashes number ≡ Some hash → F.pre matches.now number }
-        ensures found { IfFound result (λ number. slice_get self.now.hashes number ≡ Some hash) }
-        ensures accepted { IfFound result (λ number. F.post matches.now number true) }
-        ensures refused { OnMissing result ((number : ℕ) → slice_get self.now.hashes number ≡ Some hash → F.post matches.now number false) }
-        ensures vacancy { IfVacant result (IsVacancyFor (slots_of self.now) hash) }
-        ensures no_buckets { result ≡ Search.NoBuckets ↔ (self.now.buckets ≡ 0) }
+    pub fn find<F: Fn(usize) -> bool>(&self, hash: u64, matches: &F, tally: &mut Tally) -> Probe
+        requires { (index : ℕ) → slice_get self.now.hashes index ≡ Some hash → F.pre matches.now index }
+        ensures found { IfFound result (λ index. slice_get self.now.hashes index ≡ Some hash) }
+        ensures accepted { IfFound result (λ index. F.post matches.now index true) }
+        ensures refused { OnMissing result ((index : ℕ) → slice_get self.now.hashes index ≡ Some hash → F.post matches.now index false) }
+        ensures vacancy { IfVacant result (IsVacancyIn (contents_of self.now) hash) }
+        ensures no_buckets { result ≡ Probe.NoBuckets ↔ (self.now.buckets ≡ 0) }
         ensures missing_cost { OnMissing result (tally.new ≡ after_missing self.now.hashes self.now.buckets hash tally.old) }
         ensures found_cost { IfFound result (λ _. AddsFinding self.now.hashes self.now.buckets hash tally.old tally.new) }
         ensures short { reach self.now.hashes self.now.buckets hash ≤ length self.now.hashes + 1 }
-        ensures buckets { self.now.buckets ≡ buckets_of (room_of self.now.buckets) }
+        ensures buckets { self.now.buckets ≡ buckets_of (capacity_of self.now.buckets) }
     {
         if self.hashes.is_empty() {
-            return Search::NoBuckets;
+            return Probe::NoBuckets;
         }
         let hashes = self.hashes.as_slice();
-        match search(&hashes, self.numbers.as_slice(), hash, matches, tally) {
-            Ok(place) => Search::Found(self.numbers[place]),
-            Err(place) => Search::Vacant(place),
+        match search(&hashes, self.entry_of.as_slice(), hash, matches, tally) {
+            Ok(bucket) => Probe::Found(self.entry_of[bucket]),
+            Err(bucket) => Probe::Vacant(bucket),
         }
     }
 
-    /// Walks to the empty bucket where a pair of this hash belongs. It reads exactly `reach` buckets.
+    /// Probes for the empty bucket where a pair of this hash belongs. It reads exactly `reach` buckets.
     ///
     /// ```
-    /// let place = table.vacancy(11, &mut tally); // bucket 0: bucket 3 is full, and the first follows the last
+    /// let bucket = table.insertion_probe(11, &mut tally); // bucket 0: bucket 3 is full, and the first follows the last
     /// ```
-    pub fn vacancy(&self, hash: u64, tally: &mut Tally) -> usize
+    pub fn insertion_probe(&self, hash: u64, tally: &mut Tally) -> usize
         requires { 0 < self.now.buckets }
-        ensures vacancy { IsVacancyFor (slots_of self.now) hash result }
+        ensures vacancy { IsVacancyIn (contents_of self.now) hash result }
         ensures cost { tally.new ≡ looked_more tally.old (reach self.now.hashes self.now.buckets hash) }
     {
         let hashes = self.hashes.as_slice();
-        vacancy(&hashes, hashes.len(), hash, tally)
+        first_empty(&hashes, hashes.len(), hash, tally)
     }
 
-    /// Adds a pair of this hash at the empty bucket that a walk for it came to. It reads no bucket.
+    /// Adds a pair of this hash in the empty bucket at which a probe for it ended. It reads no bucket.
     ///
     /// ```
-    /// table.add_at(11, place); // the pair with number 1 has hash 11
+    /// table.add_at(11, bucket); // entry index 1 has hash 11
     /// ```
-    pub fn add_at(&mut self, hash: u64, place: usize)
-        requires room { length self.old.hashes < room_of self.old.buckets }
-        requires vacancy { IsVacancyFor (slots_of self.old) hash place }
+    pub fn add_at(&mut self, hash: u64, bucket: usize)
+        requires capacity { length self.old.hashes < capacity_of self.old.buckets }
+        requires vacancy { IsVacancyIn (contents_of self.old) hash bucket }
         ensures hashes { self.new.hashes ≡ self.old.hashes ++ hash ∷ [] }
         ensures buckets { self.new.buckets ≡ self.old.buckets }
     {
-        let number = self.len();
-        self.hashes[place] = Some(hash);
-        self.numbers[place] = number;
-        self.places.push_reserved(place);
+        let index = self.len();
+        self.hashes[bucket] = Some(hash);
+        self.entry_of[bucket] = index;
+        self.bucket_of.push_reserved(bucket);
     }
 
     /// Adds a pair of this hash. It reads exactly `reach` buckets.
     ///
     /// ```
-    /// table.add(7, &mut tally); // the pair with number 0 has hash 7
+    /// table.add(7, &mut tally); // entry index 0 has hash 7
     /// ```
     pub fn add(&mut self, hash: u64, tally: &mut Tally)
-        requires { length self.old.hashes < room_of self.old.buckets }
+        requires { length self.old.hashes < capacity_of self.old.buckets }
         ensures hashes { self.new.hashes ≡ self.old.hashes ++ hash ∷ [] }
         ensures buckets { self.new.buckets ≡ self.old.buckets }
         ensures cost { tally.new ≡ looked_more tally.old (reach self.old.hashes self.old.buckets hash) }
-        ensures room { self.old.buckets ≡ buckets_of (room_of self.old.buckets) }
+        ensures capacity { self.old.buckets ≡ buckets_of (capacity_of self.old.buckets) }
     {
-        let _ = &self.hashes;
-        let place = self.vacancy(hash, tally);
-        self.add_at(hash, place);
+        let _ = &self.hashes; // opens the invariant for the prover, and does nothing
+        let bucket = self.insertion_probe(hash, tally);
+        self.add_at(hash, bucket);
     }
 
-    /// Takes the pair of this number out and answers its stored hash. The last pair gets its number.
+    /// Removes the pair at this entry index, and returns its stored hash. The last pair takes its index.
     ///
     /// ```
-    /// let hash = table.remove(0); // 7; the pair of hash 11 has number 0 now
+    /// let hash = table.remove(0); // 7; the pair of hash 11 has index 0 now
     /// ```
-    pub fn remove(&mut self, number: usize) -> u64
-        requires { number < length self.old.hashes }
-        ensures hash { slice_get self.old.hashes number ≡ Some result }
-        ensures hashes { self.new.hashes ≡ swap_remove self.old.hashes number 0 }
+    pub fn remove(&mut self, index: usize) -> u64
+        requires { index < length self.old.hashes }
+        ensures hash { slice_get self.old.hashes index ≡ Some result }
+        ensures hashes { self.new.hashes ≡ swap_remove self.old.hashes index 0 }
         ensures buckets { self.new.buckets ≡ self.old.buckets }
     {
         let last = self.len() - 1;
-        let last_place = self.places[last];
-        self.numbers[last_place] = number;
-        let place = self.places.swap_remove(number);
-        let Some(hash) = self.hashes[place] else {
+        let last_bucket = self.bucket_of[last];
+        self.entry_of[last_bucket] = index;
+        let bucket = self.bucket_of.swap_remove(index);
+        let Some(hash) = self.hashes[bucket] else {
             unreachable!();
         };
-        self.hashes[place] = None;
-        close_gap(
+        self.hashes[bucket] = None;
+        backward_shift(
             self.hashes.as_mut_slice(),
-            self.numbers.as_mut_slice(),
-            self.places.as_mut_slice(),
-            place,
+            self.entry_of.as_mut_slice(),
+            self.bucket_of.as_mut_slice(),
+            bucket,
         );
         hash
     }
 
-    /// Lets all pairs go. The room stays.
+    /// Removes all pairs. The capacity stays.
     ///
     /// ```
     /// table.clear();
@@ -219,11 +218,11 @@ impl Table {
         ensures buckets { self.new.buckets ≡ self.old.buckets }
     {
         empty_all(self.hashes.as_mut_slice());
-        self.places.clear();
+        self.bucket_of.clear();
     }
 }
 
-// Marks each bucket empty.
+// Empties each bucket.
 fn empty_all(hashes: &mut [Option<u64>])
     ensures { hashes.new ≡ replicate (length hashes.old) None }
 {

@@ -5,7 +5,7 @@ ghost use Rattle.half_store.specs.Work.{Work, no_work, one_asked, one_compared, 
 use crate::count::Count;
 use std::marker::Model;
 
-/// How often the builder was asked for a hash, two keys were compared, and a bucket was read.
+/// How often a key was hashed, two keys were compared, and a bucket was read.
 ///
 /// Contracts see the three numbers, which have no upper bound. When the program runs a tally takes no bytes, and
 /// counting costs nothing.
@@ -42,7 +42,7 @@ impl Tally {
         }
     }
 
-    // The builder was asked once more.
+    // One more key was hashed.
     pub(crate) fn add_asked(&mut self)
         ensures { self.new ≡ one_asked self.old }
     {
@@ -50,7 +50,7 @@ impl Tally {
         self.asked = next;
     }
 
-    // Two keys were compared once more.
+    // Two more keys were compared.
     pub(crate) fn add_compared(&mut self)
         ensures { self.new ≡ one_compared self.old }
     {

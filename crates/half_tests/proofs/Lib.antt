@@ -1,1 +1,4 @@
-pub mod Puts
+pub mod OneHash
+pub mod Searches
+pub mod Tables
+pub mod Vectors

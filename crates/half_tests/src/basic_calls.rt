@@ -1,4 +1,4 @@
-//! Worked examples of the basic calls: what is answered, the form, the room, and the work.
+//! Worked examples of the basic calls: what they return, the form, the capacity, and the work.
 
 use crate::builders::Rule;
 use crate::counts::Counts;
@@ -25,7 +25,7 @@ fn the_sixth_insertion_of_limit_five_makes_a_table(rt: HostRuntime) -> Result<()
 }
 
 #[test]
-fn an_insertion_answers_the_value_before_it(rt: HostRuntime) -> Result<(), Fail> {
+fn an_insertion_returns_the_value_before_it(rt: HostRuntime) -> Result<(), Fail> {
     let mut map = HashMap::<u64, &str, DefaultHashBuilder>::new(rt.alloc());
     for (value, old) in [("a", None), ("b", Some("a")), ("c", Some("b"))] {
         assert_eq!(rt; map.insert(37, value)?, old, "the value before {value}");

@@ -1,4 +1,4 @@
-//! Builders whose hashes are known beforehand, and which count how often they are asked.
+//! Builders whose hashes are known beforehand, and which count the hashes that they make.
 ghost use Rattle.std.specs.Prelude.{◌≡◌};
 ghost use Rattle.half_tests.specs.Hashes.{hash_by, shifted};
 
@@ -53,7 +53,7 @@ impl Hasher for NumberHasher {
     }
 }
 
-/// A builder that hashes by a rule, and counts how often it is asked for a hash.
+/// A builder that hashes by a rule, and counts the hashes that it makes.
 #[derive(Clone, Copy)]
 pub struct Counting<'a> {
     pub rule: Rule,

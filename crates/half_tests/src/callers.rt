@@ -1,15 +1,16 @@
 //! What callers build on the map, proved from its public contracts alone: scopes of names, a set of labels, and a cache
 //! whose look-ups are counted.
-ghost use Rattle.std.specs.Prelude.{◌≡◌, ◌+◌, ◌≤◌, Some, None, true, false, not, length, OnOk, IfOk, IfErr, OnErr, is_some, if◌then◌else◌};
+ghost use Rattle.std.specs.Prelude.{◌≡◌, ◌+◌, Some, true, false, not, nat_eq, OnOk, IfOk, IfErr};
 ghost use Rattle.std.specs.Option.{option_copied};
 ghost use Rattle.halfbrown.specs.Costs.{key_hash, SearchCosts};
-ghost use Rattle.halfbrown.specs.Growth.{insert_wants, unchecked_wants, IsRefusal};
+ghost use Rattle.halfbrown.specs.Growth.{insert_needs, unchecked_needs};
+ghost use Rattle.halfbrown.specs.Insertion.{HandsBack};
 ghost use Rattle.halfbrown.specs.Pairs.{value_of, holds, put};
 
-use halfbrown::{Limit, LimitedHashMap, Refused, Tally};
+use halfbrown::{Limit, LimitedHashMap, Refusal, Refused, Tally};
 use std::hash::{BuildHasher, Hash};
 
-/// Gives a name its meaning in a scope, and answers the meaning that it had there. A refusal leaves the scope as it was.
+/// Gives a name its meaning in a scope, and returns the meaning that it had there. On error nothing changes.
 pub fn declare<N: Eq + Hash + Drop, M, S: BuildHasher, L: Limit>(
     scope: &mut LimitedHashMap<N, M, S, L>,
     name: N,
@@ -18,10 +19,7 @@ pub fn declare<N: Eq + Hash + Drop, M, S: BuildHasher, L: Limit>(
     ensures before { IfOk result (λ old. old ≡ value_of N.eq scope.old.pairs name) }
     ensures declared { OnOk result (scope.new.pairs ≡ put N.eq scope.old.pairs name meaning) }
     ensures means { OnOk result (value_of N.eq scope.new.pairs name ≡ Some meaning) }
-    ensures refused { IfErr result (λ refused. IsRefusal (insert_wants L.LIMIT N.eq scope.old name) refused.why) }
-    ensures name_returned { IfErr result (λ refused. refused.key ≡ name) }
-    ensures meaning_returned { IfErr result (λ refused. refused.value ≡ meaning) }
-    ensures unchanged { OnErr result (scope.new ≡ scope.old) }
+    ensures err { IfErr result (HandsBack scope.old name meaning (insert_needs L.LIMIT N.eq scope.old name) scope.new) }
 {
     scope.insert(name, meaning)
 }
@@ -51,18 +49,16 @@ pub fn has_label<K: Eq + Hash, S: BuildHasher, L: Limit>(
     labels.contains_key(label)
 }
 
-/// Adds a label, and answers whether it is new. One that was added before keeps its place, and nothing changes.
+/// Adds a label, and returns whether it is new. One that was added before keeps its index, and nothing changes.
 pub fn add_label<K: Eq + Hash + Drop, S: BuildHasher, L: Limit>(
     labels: &mut LimitedHashMap<K, (), S, L>,
     label: K,
 ) -> Result<bool, Refused<K, ()>>
     ensures is_new { IfOk result (λ is_new. is_new ≡ not (holds K.eq labels.old.pairs label)) }
-    ensures added { OnOk result (labels.new.pairs ≡ put K.eq labels.old.pairs label tt) }
+    ensures held { OnOk result (holds K.eq labels.new.pairs label ≡ true) }
+    ensures others { OnOk result ((other : K) → K.eq label other ≡ false → holds K.eq labels.new.pairs other ≡ holds K.eq labels.old.pairs other) }
     ensures again { holds K.eq labels.old.pairs label ≡ true → labels.new ≡ labels.old }
-    ensures at_most_one { length labels.new.pairs ≤ length labels.old.pairs + 1 }
-    ensures refused { IfErr result (λ refused. IsRefusal (if holds K.eq labels.old.pairs label then None else unchecked_wants L.LIMIT labels.old) refused.why) }
-    ensures label_returned { IfErr result (λ refused. refused.key ≡ label) }
-    ensures unchanged { OnErr result (labels.new ≡ labels.old) }
+    ensures err { IfErr result (HandsBack labels.old label tt (unchecked_needs L.LIMIT labels.old) labels.new) }
 {
     if labels.contains_key(&label) {
         return Ok(false);
@@ -71,18 +67,57 @@ pub fn add_label<K: Eq + Hash + Drop, S: BuildHasher, L: Limit>(
     Ok(true)
 }
 
-/// Looks a key up in a cache, and counts the work. The builder is asked once in a table, and never in a vector.
+/// Forgets a name, and returns the meaning that it had.
+pub fn forget<N: Eq + Hash + Drop, M, S: BuildHasher, L: Limit>(
+    scope: &mut LimitedHashMap<N, M, S, L>,
+    name: &N,
+) -> Option<M>
+    ensures before { result ≡ value_of N.eq scope.old.pairs name.now }
+    ensures forgotten { holds N.eq scope.new.pairs name.now ≡ false }
+    ensures others { (other : N) → N.eq name.now other ≡ false → value_of N.eq scope.new.pairs other ≡ value_of N.eq scope.old.pairs other }
+{
+    scope.remove(name)
+}
+
+/// Looks a key up in a cache, and counts the work. The key is hashed once in a table, and never in a vector.
 pub fn lookup_counted<'a, K: Eq + Hash, V, S: BuildHasher, L: Limit>(
     cache: &'a LimitedHashMap<K, V, S, L>,
     key: &K,
     tally: &mut Tally,
 ) -> Option<&'a V>
     ensures value { option_copied result ≡ value_of K.eq cache.now.pairs key.now }
-    ensures cost { SearchCosts (key_hash S.BuildHasher S.Hasher.Hasher K.hash_input) cache.now key.now (is_some result) tally.old tally.new }
+    ensures cost { SearchCosts K.eq (key_hash S.BuildHasher S.Hasher.Hasher K.hash_input) cache.now key.now tally.old tally.new }
     ensures in_a_table { cache.now.is_vec ≡ false → tally.new.asked ≡ tally.old.asked + 1 }
     ensures in_a_vector { cache.now.is_vec ≡ true → tally.new.asked ≡ tally.old.asked }
 {
     cache.get_counted(key, tally)
+}
+
+/// Makes the capacity enough for two ages more, and stores Ada's and Ben's. Two errors, one type: `?` converts both.
+pub fn add_two<S: BuildHasher, L: Limit>(
+    ages: &mut LimitedHashMap<u64, u32, S, L>,
+    ada: u32,
+    ben: u32,
+) -> Result<(), Refusal>
+    ensures ada { OnOk result (value_of nat_eq ages.new.pairs 1 ≡ Some ada) }
+    ensures ben { OnOk result (value_of nat_eq ages.new.pairs 2 ≡ Some ben) }
+{
+    ages.reserve(2)?;
+    ages.insert(1, ada)?;
+    ages.insert(2, ben)?;
+    Ok(())
+}
+
+/// The value that was just stored, by index: the clause of the insertion says that the key is held.
+pub fn stored<K: Eq + Hash + Copy, S: BuildHasher, L: Limit>(
+    counts: &mut LimitedHashMap<K, u64, S, L>,
+    key: K,
+    count: u64,
+) -> Result<u64, Refusal>
+    ensures { IfOk result (λ stored. stored ≡ count) }
+{
+    counts.insert(key, count)?;
+    Ok(counts[&key])
 }
 
 #[cfg(test)]
@@ -123,7 +158,7 @@ mod tests {
     }
 
     #[test]
-    fn a_label_given_twice_keeps_its_first_place(rt: HostRuntime) -> Result<(), Fail> {
+    fn a_label_added_twice_keeps_its_index(rt: HostRuntime) -> Result<(), Fail> {
         let counts = Counts::new();
         let mut labels = SizedHashMap::<Key<'_>, (), Counting<'_>, 5>::with_hasher(
             rt.alloc(),
@@ -153,17 +188,17 @@ mod tests {
         );
         for key in 1..=12 {
             assert_eq!(rt; cache.insert(key, 10 * key)?, None, "key {key} is new");
-            for wanted in 1..=13 {
+            for sought in 1..=13 {
                 counts.take();
-                let value = lookup_counted(&cache, &wanted, &mut Tally::new()).copied();
-                let expected = if wanted <= key {
-                    Some(10 * wanted)
+                let value = lookup_counted(&cache, &sought, &mut Tally::new()).copied();
+                let wanted = if sought <= key {
+                    Some(10 * sought)
                 } else {
                     None
                 };
-                assert_eq!(rt; value, expected, "key {wanted} of {key}");
+                assert_eq!(rt; value, wanted, "key {sought} of {key}");
                 let times = if key <= 5 { 0 } else { 1 };
-                assert_eq!(rt; counts.take().0, times, "key {wanted} of {key}");
+                assert_eq!(rt; counts.take().0, times, "key {sought} of {key}");
             }
         }
         Ok(())

@@ -10,7 +10,7 @@ use std::cell::Cell;
 /// A map whose builder and keys count.
 pub type Counted<'a, const N: usize> = SizedHashMap<Key<'a>, u64, Counting<'a>, N>;
 
-/// How often the builder was asked, and keys were compared.
+/// How often the builder made a hash, and keys were compared.
 #[derive(Drop)]
 pub struct Counts {
     asked: Cell<u64>,
@@ -53,13 +53,13 @@ impl Counts {
     pub fn map<const N: usize>(&self, alloc: Global, rule: Rule) -> Counted<'_, N>
         ensures pairs { result.pairs ≡ [] }
         ensures form { result.is_vec ≡ true }
-        ensures room { result.room ≡ 0 }
+        ensures capacity { result.capacity ≡ 0 }
         ensures builder { result.builder.rule ≡ rule }
     {
         SizedHashMap::with_hasher(alloc, self.builder(rule))
     }
 
-    /// How often the builder was asked and keys were compared since the last call.
+    /// How often the builder made a hash and keys were compared since the last call.
     pub fn take(&self) -> (u64, u64) {
         (self.asked.replace(0), self.compared.replace(0))
     }

@@ -1,8 +1,8 @@
-//! The examples of the map's documentation, word for word, each with what it comes to.
+//! The examples of the map's documentation, word for word, each with its result.
 
 use halfbrown::run::{run, run_counted};
 use halfbrown::{
-    Command, DefaultHashBuilder, HashMap, LimitedHashMap, Reply, SizedHashMap, Tally, UpTo,
+    Command, DefaultHashBuilder, HashMap, LimitedHashMap, Refusal, Reply, SizedHashMap, Tally, UpTo,
 };
 use std::hash::BuildHasher;
 use std::test::Fail;
@@ -34,14 +34,14 @@ fn making(rt: HostRuntime) -> Result<(), Fail> {
     let small = Ages::with_capacity(alloc, 32)?; // a vector
     let large = Ages::with_capacity(alloc, 33)?; // a table
     assert!(rt; small.is_vec() && large.is_map(), "by the limit");
-    let ages = Ages::vec_with_capacity(alloc, 100)?; // a vector with room for 32
+    let ages = Ages::vec_with_capacity(alloc, 100)?; // a vector with capacity 32
     assert!(rt; ages.is_vec() && ages.capacity() == 32, "a vector");
     let ages = Ages::with_hasher(alloc, DefaultHashBuilder::new()); // an empty vector
     assert!(rt; ages.is_vec() && ages.is_empty(), "with a builder");
     let ages = Ages::default(alloc); // an empty vector
     assert!(rt; ages.is_vec() && ages.is_empty(), "by default");
     let builder = DefaultHashBuilder::new();
-    let ages = Ages::with_capacity_and_hasher(alloc, 100, builder)?; // a table with room for 192
+    let ages = Ages::with_capacity_and_hasher(alloc, 100, builder)?; // a table with capacity 192
     assert!(rt; ages.is_map() && ages.capacity() == 192, "a table");
     Ok(())
 }
@@ -65,8 +65,8 @@ fn what_a_map_says_of_itself(rt: HostRuntime) -> Result<(), Fail> {
     assert!(rt; is_vector, "a vector");
     let is_table = ages.is_map(); // false
     assert!(rt; !is_table, "no table");
-    let room = ages.capacity(); // 4, since it was made for so many
-    assert_eq!(rt; room, 4, "the room");
+    let capacity = ages.capacity(); // 4, since it was made for so many
+    assert_eq!(rt; capacity, 4, "the capacity");
     ages.clear();
     let count = ages.len(); // 0
     assert_eq!(rt; count, 0, "no pairs");
@@ -96,10 +96,25 @@ fn inserting(rt: HostRuntime) -> Result<(), Fail> {
         .err()
         .map(|refused| (refused.key, refused.value)); // none, or 4 and 8
     assert_eq!(rt; pair, None, "granted");
-    ages.reserve(20)?; // twenty more ages want no more room
-    assert!(rt; ages.capacity() >= 24, "room for 24");
+    ages.reserve(20)?; // twenty more ages need no more memory
+    assert!(rt; ages.capacity() >= 24, "capacity for 24");
     ages.shrink_to_fit();
-    assert_eq!(rt; ages.capacity(), 4, "room for 4");
+    assert_eq!(rt; ages.capacity(), 4, "capacity for 4");
+    Ok(())
+}
+
+// Two calls whose errors become one type.
+fn insert_and_reserve(ages: &mut Ages) -> Result<(), Refusal> {
+    ages.insert(3, 5)?;
+    ages.reserve(1)?;
+    Ok(())
+}
+
+#[test]
+fn errors_convert(rt: HostRuntime) -> Result<(), Fail> {
+    let mut ages = Ages::new(rt.alloc());
+    assert_eq!(rt; insert_and_reserve(&mut ages), Ok(()), "memory is ample");
+    assert_eq!(rt; ages.get(&3).copied(), Some(5), "the age of 3");
     Ok(())
 }
 
@@ -159,13 +174,13 @@ fn running(rt: HostRuntime) -> Result<(), Fail> {
     let mut ages = Ages::new(alloc);
     let commands = vec![in alloc; Command::Insert(1, 36), Command::Get(1), Command::Len]?;
     let replies = run(alloc, &mut ages, commands); // Was(None), Found(Some(36)), Length(1)
-    let replies = replies.ok().expect(&rt, "the room for the replies");
+    let replies = replies.ok().expect(&rt, "memory for the replies");
     let wanted = [Reply::Was(None), Reply::Found(Some(36)), Reply::Length(1)];
     assert_eq!(rt; replies.as_slice(), wanted.as_slice(), "the replies");
     let mut tally = Tally::new();
     let commands = vec![in alloc; Command::Remove(1), Command::IsVec]?;
     let replies = run_counted(alloc, &mut ages, commands, &mut tally); // the pair of 1, and true
-    let replies = replies.ok().expect(&rt, "the room for the replies");
+    let replies = replies.ok().expect(&rt, "memory for the replies");
     let wanted = [Reply::Removed(Some((1, 36))), Reply::Form(true)];
     assert_eq!(rt; replies.as_slice(), wanted.as_slice(), "the replies");
     Ok(())

@@ -1,17 +1,17 @@
-//! What a map has to answer, and at what cost, from a plain list of its pairs.
+//! What a map must reply, what it must cost, and which capacity it may have, by a plain list of its pairs.
 
 use crate::builders::Rule;
 use crate::names::Name;
 use halfbrown::{Command, Refusal, Reply};
 use std::alloc::{AllocError, Global};
 
-// The most pairs that may be wanted at once.
+// The most pairs that a map may need capacity for.
 const MOST_PAIRS: usize = 1 << 60;
 
 /// The work of one command.
 #[derive(Clone, Copy, Debug, PartialEq, Eq)]
 pub(crate) struct Work {
-    /// How often the builder is asked, exactly.
+    /// How often keys are hashed, exactly.
     pub(crate) asked: u64,
     /// The fewest keys that are compared.
     pub(crate) least_compared: u64,
@@ -26,6 +26,14 @@ impl Work {
         most_compared: 0,
     };
 
+    // So many hashes, and no comparison.
+    fn hashes(asked: u64) -> Work {
+        Work {
+            asked,
+            ..Work::NONE
+        }
+    }
+
     /// The sum, command by command.
     pub(crate) fn plus(self, other: Work) -> Work {
         Work {
@@ -35,21 +43,39 @@ impl Work {
         }
     }
 
-    /// Whether the builder was asked and keys were compared so often.
+    /// Whether so many hashes and comparisons are within this work.
     pub(crate) fn allows(self, asked: u64, compared: u64) -> bool {
         asked == self.asked && self.least_compared <= compared && compared <= self.most_compared
     }
 }
 
-/// A plain list that answers as the map has to, where memory is ample.
+/// The capacities that a map may have after a command.
+#[derive(Clone, Copy, Debug, PartialEq, Eq)]
+pub(crate) struct Capacities {
+    least: usize,
+    most: usize,
+}
+
+impl Capacities {
+    fn exactly(capacity: usize) -> Capacities {
+        Capacities {
+            least: capacity,
+            most: capacity,
+        }
+    }
+
+    pub(crate) fn allow(self, capacity: usize) -> bool {
+        self.least <= capacity && capacity <= self.most
+    }
+}
+
+/// A plain list that replies as the map must, where memory is ample.
 #[derive(Drop)]
 pub(crate) struct Expected {
     limit: usize,
     rule: Rule,
     pairs: Vec<(Name, u64)>,
     is_vec: bool,
-    // What a table has room for exactly, and a vector at least.
-    room: usize,
 }
 
 impl Expected {
@@ -60,7 +86,6 @@ impl Expected {
             rule,
             pairs: Vec::new(alloc),
             is_vec: true,
-            room: 0,
         }
     }
 
@@ -68,30 +93,36 @@ impl Expected {
         self.is_vec
     }
 
-    /// Whether a map may have this capacity after the command, by the one before it. A table has exactly the room that is
-    /// expected. A vector has enough and no more than the limit, gains some only where the command wants more, and loses
-    /// some only to `Shrink`.
-    pub(crate) fn allows_room(
+    /// The capacities that the map may have after this command, by the one that it has before.
+    ///
+    /// Where no more is needed it stays. Else a table has the least of its series, and a vector at least what is needed and
+    /// at most the limit. Shrunk, it is exactly what the pairs need.
+    pub(crate) fn capacities_after(
         &self,
         command: Command<Name, u64>,
         before: usize,
-        after: usize,
-    ) -> bool {
-        if !self.is_vec {
-            return after == self.room;
-        }
-        let is_kept = match command {
-            Command::Insert(_, _) | Command::InsertNew(_, _) | Command::Reserve(_) => {
-                after == before || before < self.room && before < after
-            }
-            Command::Shrink => after <= before,
-            _ => after == before,
+    ) -> Capacities {
+        let needed = match command {
+            Command::Insert(key, _) => self.insert_needs(key),
+            Command::InsertNew(key, _) if self.index_of(key).is_none() => self.addition_needs(),
+            Command::Reserve(additional) => self.reserve_needs(additional),
+            Command::Shrink => return Capacities::exactly(self.least_capacity()),
+            _ => 0,
         };
-        is_kept && self.room <= after && after <= self.limit
+        if needed <= before || needed > MOST_PAIRS {
+            Capacities::exactly(before)
+        } else if self.is_vec && needed <= self.limit {
+            Capacities {
+                least: needed,
+                most: self.limit,
+            }
+        } else {
+            Capacities::exactly(table_capacity_for(needed))
+        }
     }
 
-    /// Answers a command, and says what it costs.
-    pub(crate) fn answer(
+    /// Does a command, and returns the reply and the work.
+    pub(crate) fn reply_to(
         &mut self,
         command: Command<Name, u64>,
     ) -> Result<(Reply<Name, u64>, Work), AllocError> {
@@ -105,159 +136,169 @@ impl Expected {
                 (Reply::Done, Work::NONE)
             }
             Command::Reserve(additional) => (self.reserve(additional), Work::NONE),
-            Command::Shrink => {
-                self.room = self.room_for(self.pairs.len());
-                (Reply::Done, Work::NONE)
-            }
+            Command::Shrink => (Reply::Done, Work::NONE),
             Command::IsVec => (Reply::Form(self.is_vec), Work::NONE),
             Command::Len => (Reply::Length(self.pairs.len()), Work::NONE),
         })
     }
 
     fn insert(&mut self, key: Name, value: u64) -> Result<(Reply<Name, u64>, Work), AllocError> {
-        let switch = self.switch_where_full();
-        let found = self.place_of(key);
-        let work = self.search_work(key, found.is_some()).plus(switch);
-        let old = match found.and_then(|place| self.pairs.get_mut(place)) {
+        let switch = self.switch_if_full();
+        let found = self.index_of(key);
+        let work = self.search_work(key).plus(switch);
+        let old = match found.and_then(|index| self.pairs.get_mut(index)) {
             Some(pair) => {
                 let old = pair.1;
                 pair.1 = value;
                 Some(old)
             }
             None => {
-                self.add(key, value)?;
+                self.pairs.push((key, value))?;
                 None
             }
         };
         Ok((Reply::Was(old), work))
     }
 
-    // A search in the form before, and where it found none an insertion that searches nothing and hashes in a table.
+    // A search in the form before, and where it finds none an insertion that searches nothing and hashes once in a table.
     fn insert_new(
         &mut self,
         key: Name,
         value: u64,
     ) -> Result<(Reply<Name, u64>, Work), AllocError> {
-        let is_held = self.place_of(key).is_some();
-        let search = self.search_work(key, is_held);
-        if is_held {
+        let search = self.search_work(key);
+        if self.index_of(key).is_some() {
             return Ok((Reply::Present(key, value), search));
         }
-        let switch = self.switch_where_full();
-        let placing = Work {
-            asked: if self.is_vec { 0 } else { 1 },
-            ..Work::NONE
-        };
-        self.add(key, value)?;
-        Ok((Reply::Added, search.plus(switch).plus(placing)))
+        let switch = self.switch_if_full();
+        let addition = Work::hashes(self.search_hashes());
+        self.pairs.push((key, value))?;
+        Ok((Reply::Added, search.plus(switch).plus(addition)))
     }
 
     fn get(&self, key: Name) -> (Reply<Name, u64>, Work) {
-        let found = self.place_of(key);
-        let work = self.search_work(key, found.is_some());
-        let value = found
-            .and_then(|place| self.pairs.get(place))
+        let value = self
+            .index_of(key)
+            .and_then(|index| self.pairs.get(index))
             .map(|pair| pair.1);
-        (Reply::Found(value), work)
+        (Reply::Found(value), self.search_work(key))
     }
 
     fn remove(&mut self, key: Name) -> (Reply<Name, u64>, Work) {
-        let found = self.place_of(key);
-        let work = self.search_work(key, found.is_some());
-        let taken = found.and_then(|place| self.take(place));
-        (Reply::Removed(taken), work)
+        let work = self.search_work(key);
+        let removed = self.index_of(key).and_then(|index| self.swap_remove(index));
+        (Reply::Removed(removed), work)
     }
 
-    // A vector gets no more room than the limit, so that no number is too large for it.
-    fn reserve(&mut self, additional: usize) -> Reply<Name, u64> {
-        let wanted = self.pairs.len().saturating_add(additional);
-        if self.is_vec {
-            self.room = self.room.max(wanted.min(self.limit));
-            return Reply::Done;
-        }
-        if wanted > MOST_PAIRS {
+    // Fails in a table for more pairs than there can be. A vector needs no more than the limit.
+    fn reserve(&self, additional: usize) -> Reply<Name, u64> {
+        if !self.is_vec && self.reserve_needs(additional) > MOST_PAIRS {
             return Reply::Refused(Command::Reserve(additional), Refusal::Size);
         }
-        self.make_room(wanted);
         Reply::Done
     }
 
-    // A full vector becomes a table, and the builder is asked for each key.
-    fn switch_where_full(&mut self) -> Work {
-        if !self.is_vec || self.pairs.len() < self.limit {
+    // A full vector becomes a table, and each of its keys is hashed.
+    fn switch_if_full(&mut self) -> Work {
+        if !self.is_full() {
             return Work::NONE;
         }
         self.is_vec = false;
-        self.room = self.room_for(self.limit.saturating_add(1));
-        Work {
-            asked: self.limit as u64,
-            ..Work::NONE
-        }
+        Work::hashes(self.limit as u64)
     }
 
-    fn add(&mut self, key: Name, value: u64) -> Result<(), AllocError> {
-        self.pairs.push((key, value))?;
-        let held = self.pairs.len();
-        self.make_room(held);
-        Ok(())
+    fn is_full(&self) -> bool {
+        self.is_vec && self.pairs.len() == self.limit
     }
 
-    // The room grows only where so many pairs do not fit.
-    fn make_room(&mut self, wanted: usize) {
-        if self.room < wanted {
-            self.room = self.room_for(wanted);
-        }
-    }
-
-    // What so many pairs want: a vector just that, a table the least room of its series.
-    fn room_for(&self, wanted: usize) -> usize {
-        if self.is_vec {
-            wanted
+    // The capacity that an insertion needs: for the switch, or for a new key.
+    fn insert_needs(&self, key: Name) -> usize {
+        if self.is_full() || self.index_of(key).is_none() {
+            self.addition_needs()
         } else {
-            table_room_for(wanted)
+            0
         }
     }
 
-    // A search compares all keys of a vector, or all of the key's hash in a table, and may end at one that is equal.
-    fn search_work(&self, key: Name, is_found: bool) -> Work {
-        let hash = self.rule.hash(key.0);
-        let candidates = self
-            .pairs
-            .iter()
-            .filter(|pair| self.is_vec || self.rule.hash(pair.0.0) == hash)
-            .count() as u64;
+    fn addition_needs(&self) -> usize {
+        self.pairs.len().saturating_add(1)
+    }
+
+    fn reserve_needs(&self, additional: usize) -> usize {
+        let needed = self.pairs.len().saturating_add(additional);
+        if self.is_vec {
+            needed.min(self.limit)
+        } else {
+            needed
+        }
+    }
+
+    // The least capacity for the pairs: in a vector just that, in a table the least of its series.
+    fn least_capacity(&self) -> usize {
+        if self.is_vec {
+            self.pairs.len()
+        } else {
+            table_capacity_for(self.pairs.len())
+        }
+    }
+
+    // A search hashes its key in a table, and in a vector none.
+    fn search_hashes(&self) -> u64 {
+        if self.is_vec { 0 } else { 1 }
+    }
+
+    // A search in a vector compares in order up to the key that it finds, or all. One in a table compares all keys of its
+    // hash where it finds none, and else at least the one that it finds.
+    fn search_work(&self, key: Name) -> Work {
+        let found = self.index_of(key);
+        let (least_compared, most_compared) = if self.is_vec {
+            let compared = found.map_or(self.pairs.len(), |index| index.saturating_add(1)) as u64;
+            (compared, compared)
+        } else {
+            let candidates = self.candidates(key);
+            (if found.is_some() { 1 } else { candidates }, candidates)
+        };
         Work {
-            asked: if self.is_vec { 0 } else { 1 },
-            least_compared: if is_found { 1 } else { candidates },
-            most_compared: candidates,
+            asked: self.search_hashes(),
+            least_compared,
+            most_compared,
         }
     }
 
-    fn place_of(&self, key: Name) -> Option<usize> {
+    // How many held keys have the hash of this one.
+    fn candidates(&self, key: Name) -> u64 {
+        let hash = self.rule.hash(key.0);
+        self.pairs
+            .iter()
+            .filter(|pair| self.rule.hash(pair.0.0) == hash)
+            .count() as u64
+    }
+
+    fn index_of(&self, key: Name) -> Option<usize> {
         self.pairs.iter().position(|pair| pair.0.0 == key.0)
     }
 
-    // The last pair takes the place of the one that goes.
-    fn take(&mut self, place: usize) -> Option<(Name, u64)> {
-        if place < self.pairs.len() {
-            Some(self.pairs.swap_remove(place))
+    // The last pair takes the index of the one that is removed.
+    fn swap_remove(&mut self, index: usize) -> Option<(Name, u64)> {
+        if index < self.pairs.len() {
+            Some(self.pairs.swap_remove(index))
         } else {
             None
         }
     }
 }
 
-// The least of 0, 3, 6, 12, 24, .. that is at least so many.
-fn table_room_for(wanted: usize) -> usize {
-    if wanted == 0 {
+// The least of 0, 3, 6, 12, 24, .. that is enough for so many pairs.
+fn table_capacity_for(needed: usize) -> usize {
+    if needed == 0 {
         return 0;
     }
-    let mut room = 3usize;
+    let mut capacity = 3usize;
     for _ in 0..64 {
-        if wanted <= room {
+        if needed <= capacity {
             break;
         }
-        room = room.saturating_mul(2);
+        capacity = capacity.saturating_mul(2);
     }
-    room
+    capacity
 }

@@ -5,7 +5,11 @@
 mod basic_calls;
 pub mod builders;
 pub mod callers;
+#[cfg(test)]
+mod capacity_calls;
 pub mod counts;
+#[cfg(test)]
+mod drops_of_calls;
 #[cfg(test)]
 mod examples;
 #[cfg(test)]
@@ -17,6 +21,9 @@ mod long_runs;
 #[cfg(test)]
 mod names;
 #[cfg(test)]
-mod room_calls;
+mod small_maps;
 #[cfg(test)]
 mod table_work;
+#[cfg(test)]
+mod work_of_calls;
+pub mod worked;

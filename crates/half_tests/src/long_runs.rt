@@ -16,7 +16,7 @@ const COMMANDS: u64 = 1_000;
 // How many keys there are to choose from. Of so many, more than 32 are held in time, while pairs come and go.
 const KEYS: u64 = 60;
 
-// The commands, made by a linear congruence. Each key is marked by the number of its command. Some want room for more
+// The commands, made by a linear congruence. Each key is marked by the number of its command. Some reserve for more
 // pairs than there can be.
 fn commands(alloc: Global) -> Result<Vec<Command<Name, u64>>, AllocError> {
     let mut commands = Vec::new(alloc);
@@ -42,8 +42,8 @@ fn commands(alloc: Global) -> Result<Vec<Command<Name, u64>>, AllocError> {
     Ok(commands)
 }
 
-// Command by command: the reply, the work, the form and the room.
-fn answers_as_a_list<const N: usize>(
+// Command by command: the reply, the work, the form and the capacity.
+fn replies_one_by_one<const N: usize>(
     rt: &impl Abort,
     alloc: Global,
     rule: Rule,
@@ -55,14 +55,14 @@ fn answers_as_a_list<const N: usize>(
     );
     let mut expected = Expected::new(alloc, N, rule);
     for command in &commands(alloc)? {
-        let (reply, work) = expected.answer(*command)?;
-        let room = map.capacity();
+        let capacities = expected.capacities_after(*command, map.capacity());
+        let (reply, work) = expected.reply_to(*command)?;
         asked.set(0);
         compared.set(0);
         let list = vec![in alloc; with_counting_key(*command, &compared)]?;
         let replies = run(alloc, &mut map, list)
             .ok()
-            .expect(rt, "the room for one reply");
+            .expect(rt, "memory for one reply");
         let spent = (asked.get(), compared.get());
         let replies: Vec<_> = replies.into_iter().map(with_names).collect(alloc)?;
         assert_eq!(rt;
@@ -80,8 +80,9 @@ fn answers_as_a_list<const N: usize>(
             "limit {N}, {rule:?}, {command:?}"
         );
         assert!(rt;
-            expected.allows_room(*command, room, map.capacity()),
-            "limit {N}, {rule:?}, {command:?}"
+            capacities.allow(map.capacity()),
+            "limit {N}, {rule:?}, {command:?}: capacity {} for {capacities:?}",
+            map.capacity()
         );
     }
     assert!(rt;
@@ -92,13 +93,17 @@ fn answers_as_a_list<const N: usize>(
 }
 
 // All commands at once: the replies, and the work as a sum.
-fn runs_as_a_list<const N: usize>(rt: &impl Abort, alloc: Global, rule: Rule) -> Result<(), Fail> {
+fn replies_all_at_once<const N: usize>(
+    rt: &impl Abort,
+    alloc: Global,
+    rule: Rule,
+) -> Result<(), Fail> {
     let commands = commands(alloc)?;
     let mut expected = Expected::new(alloc, N, rule);
     let mut wanted = Vec::new(alloc);
     let mut work = Work::NONE;
     for command in &commands {
-        let (reply, more) = expected.answer(*command)?;
+        let (reply, more) = expected.reply_to(*command)?;
         wanted.push(reply)?;
         work = work.plus(more);
     }
@@ -114,7 +119,7 @@ fn runs_as_a_list<const N: usize>(rt: &impl Abort, alloc: Global, rule: Rule) ->
     Ok(())
 }
 
-// What one run over a new map answers.
+// The replies of one run over a new map.
 fn replies_to<const N: usize>(
     rt: &impl Abort,
     alloc: Global,
@@ -131,23 +136,23 @@ fn replies_to<const N: usize>(
         .collect(alloc)?;
     let replies = run(alloc, &mut map, commands)
         .ok()
-        .expect(rt, "the room for the replies");
+        .expect(rt, "memory for the replies");
     replies.into_iter().map(with_names).collect(alloc)
 }
 
 #[test]
-fn a_long_run_answers_as_a_list(rt: HostRuntime) -> Result<(), Fail> {
+fn a_long_run_replies_as_a_list(rt: HostRuntime) -> Result<(), Fail> {
     for rule in [Rule::Plain, Rule::Zero, Rule::Top] {
-        answers_as_a_list::<0>(&rt, rt.alloc(), rule)?;
-        answers_as_a_list::<1>(&rt, rt.alloc(), rule)?;
-        answers_as_a_list::<2>(&rt, rt.alloc(), rule)?;
-        answers_as_a_list::<5>(&rt, rt.alloc(), rule)?;
-        answers_as_a_list::<32>(&rt, rt.alloc(), rule)?;
-        runs_as_a_list::<0>(&rt, rt.alloc(), rule)?;
-        runs_as_a_list::<1>(&rt, rt.alloc(), rule)?;
-        runs_as_a_list::<2>(&rt, rt.alloc(), rule)?;
-        runs_as_a_list::<5>(&rt, rt.alloc(), rule)?;
-        runs_as_a_list::<32>(&rt, rt.alloc(), rule)?;
+        replies_one_by_one::<0>(&rt, rt.alloc(), rule)?;
+        replies_one_by_one::<1>(&rt, rt.alloc(), rule)?;
+        replies_one_by_one::<2>(&rt, rt.alloc(), rule)?;
+        replies_one_by_one::<5>(&rt, rt.alloc(), rule)?;
+        replies_one_by_one::<32>(&rt, rt.alloc(), rule)?;
+        replies_all_at_once::<0>(&rt, rt.alloc(), rule)?;
+        replies_all_at_once::<1>(&rt, rt.alloc(), rule)?;
+        replies_all_at_once::<2>(&rt, rt.alloc(), rule)?;
+        replies_all_at_once::<5>(&rt, rt.alloc(), rule)?;
+        replies_all_at_once::<32>(&rt, rt.alloc(), rule)?;
     }
     Ok(())
 }
@@ -157,7 +162,7 @@ fn a_long_run_meets_the_rare_replies(rt: HostRuntime) -> Result<(), Fail> {
     let mut expected = Expected::new(rt.alloc(), 5, Rule::Plain);
     let (mut added, mut present, mut done, mut refused) = (0u64, 0u64, 0u64, 0u64);
     for command in &commands(rt.alloc())? {
-        match expected.answer(*command)?.0 {
+        match expected.reply_to(*command)?.0 {
             Reply::Added => added = added.saturating_add(1),
             Reply::Present(_, _) => present = present.saturating_add(1),
             Reply::Done => done = done.saturating_add(1),

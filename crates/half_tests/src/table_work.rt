@@ -1,14 +1,14 @@
-//! Worked examples of tables: what is found, how often the builder is asked, and how many keys are compared.
+//! Worked examples of tables: what is found, how often keys are hashed, and how many are compared.
 //!
-//! Which buckets a walk reads follows from the hashes: a key whose hash is its number is at home in the bucket of its
-//! remainder.
+//! Which buckets a probe reads follows from the hashes: where a key's hash is its number, the remainder by the number of
+//! buckets is its home bucket.
 
 use crate::builders::Rule;
 use crate::counts::{Counted, Counts};
 use std::process::Abort;
 use std::test::Fail;
 
-// Three keys of four buckets that are all at home in the last one, so that the walks go round.
+// Three keys whose home bucket is the last one of four, so that their probes go round the end.
 const CROWDED: [u64; 3] = [3, 7, 11];
 
 // Inserts these keys, each as a new one.
@@ -25,7 +25,7 @@ fn fill<'a, const N: usize>(
 }
 
 #[test]
-fn keys_of_one_home_are_not_compared_with_another_hash(rt: HostRuntime) -> Result<(), Fail> {
+fn keys_of_one_home_bucket_are_not_compared_with_another_hash(rt: HostRuntime) -> Result<(), Fail> {
     let counts = Counts::new();
     let mut map = counts.map::<0>(rt.alloc(), Rule::Plain);
     fill(&mut map, &counts, &CROWDED)?;
@@ -43,7 +43,7 @@ fn keys_of_one_home_are_not_compared_with_another_hash(rt: HostRuntime) -> Resul
 }
 
 #[test]
-fn a_removal_closes_the_gap_round_the_end(rt: HostRuntime) -> Result<(), Fail> {
+fn a_removal_shifts_back_round_the_end(rt: HostRuntime) -> Result<(), Fail> {
     let counts = Counts::new();
     let mut map = counts.map::<0>(rt.alloc(), Rule::Plain);
     fill(&mut map, &counts, &CROWDED)?;
@@ -51,7 +51,7 @@ fn a_removal_closes_the_gap_round_the_end(rt: HostRuntime) -> Result<(), Fail> {
     assert_eq!(rt;
         counts.take(),
         (1, 1),
-        "one search, and no hash for what moves"
+        "one search, and no hash for what shifts back"
     );
     for id in [11, 7] {
         assert_eq!(rt;
@@ -67,7 +67,7 @@ fn a_removal_closes_the_gap_round_the_end(rt: HostRuntime) -> Result<(), Fail> {
 }
 
 #[test]
-fn growth_asks_for_no_hash_again(rt: HostRuntime) -> Result<(), Fail> {
+fn growth_hashes_the_new_key_alone(rt: HostRuntime) -> Result<(), Fail> {
     let counts = Counts::new();
     let mut map = counts.map::<0>(rt.alloc(), Rule::Plain);
     fill(&mut map, &counts, &CROWDED)?;
@@ -81,7 +81,7 @@ fn growth_asks_for_no_hash_again(rt: HostRuntime) -> Result<(), Fail> {
 }
 
 #[test]
-fn a_table_at_its_room_overwrites_and_does_not_grow(rt: HostRuntime) -> Result<(), Fail> {
+fn a_table_at_its_capacity_overwrites_and_does_not_grow(rt: HostRuntime) -> Result<(), Fail> {
     let counts = Counts::new();
     let mut map = counts.map::<0>(rt.alloc(), Rule::Plain);
     fill(&mut map, &counts, &CROWDED)?;
@@ -92,7 +92,7 @@ fn a_table_at_its_room_overwrites_and_does_not_grow(rt: HostRuntime) -> Result<(
 }
 
 #[test]
-fn no_removed_key_is_left_to_search_past(rt: HostRuntime) -> Result<(), Fail> {
+fn a_removal_leaves_no_mark_in_its_bucket(rt: HostRuntime) -> Result<(), Fail> {
     let counts = Counts::new();
     let mut map = counts.map::<0>(rt.alloc(), Rule::Zero);
     fill(&mut map, &counts, &CROWDED)?;
@@ -132,7 +132,7 @@ fn keys_with_a_bucket_each_are_compared_once(rt: HostRuntime) -> Result<(), Fail
 }
 
 #[test]
-fn the_greatest_hash_is_at_home_in_the_last_bucket(rt: HostRuntime) -> Result<(), Fail> {
+fn the_greatest_hash_has_the_last_bucket_as_home(rt: HostRuntime) -> Result<(), Fail> {
     let counts = Counts::new();
     let mut map = counts.map::<0>(rt.alloc(), Rule::Plain);
     fill(&mut map, &counts, &[u64::MAX, 3, 0])?;
@@ -192,7 +192,7 @@ fn many_keys_of_one_hash_fill_a_table(rt: HostRuntime) -> Result<(), Fail> {
 }
 
 #[test]
-fn keys_of_the_greatest_hash_close_the_gap_of_one(rt: HostRuntime) -> Result<(), Fail> {
+fn keys_of_the_greatest_hash_shift_back_after_a_removal(rt: HostRuntime) -> Result<(), Fail> {
     let counts = Counts::new();
     let mut map = counts.map::<0>(rt.alloc(), Rule::Top);
     fill(&mut map, &counts, &[1, 2, 3])?;
@@ -203,19 +203,19 @@ fn keys_of_the_greatest_hash_close_the_gap_of_one(rt: HostRuntime) -> Result<(),
         Some(3),
         "key 3 is still found"
     );
-    assert_eq!(rt; counts.take(), (1, 2), "key 2 stands before it");
+    assert_eq!(rt; counts.take(), (1, 2), "key 2 comes before it");
     Ok(())
 }
 
 #[test]
-fn a_gap_in_a_long_stretch_is_closed_step_by_step(rt: HostRuntime) -> Result<(), Fail> {
+fn a_removal_shifts_a_long_run_back_step_by_step(rt: HostRuntime) -> Result<(), Fail> {
     let counts = Counts::new();
     let mut map = Counted::<'_, 0>::with_capacity_and_hasher(
         rt.alloc(),
         5,
         counts.builder(Rule::Plain),
     )?;
-    assert_eq!(rt; map.capacity(), 6, "the least room for five");
+    assert_eq!(rt; map.capacity(), 6, "the least capacity for five");
     fill(&mut map, &counts, &[6, 14, 7, 15, 0])?;
     assert_eq!(rt; map.remove(&counts.key(6)), Some(6), "the value of key 6");
     counts.take();
@@ -246,7 +246,7 @@ fn keys_in_every_other_bucket_are_searched_alone(rt: HostRuntime) -> Result<(), 
         12,
         counts.builder(Rule::Plain),
     )?;
-    assert_eq!(rt; map.capacity(), 12, "a room of the series");
+    assert_eq!(rt; map.capacity(), 12, "a capacity of the series");
     fill(&mut map, &counts, &[0, 2, 4, 6, 8, 10])?;
     assert_eq!(rt; map.get(&counts.key(0)).copied(), Some(0), "key 0");
     assert_eq!(rt; counts.take(), (1, 1), "one hash, one key of it");
@@ -261,7 +261,7 @@ fn keys_in_every_other_bucket_are_searched_alone(rt: HostRuntime) -> Result<(), 
     Ok(())
 }
 
-// Six keys, of which ten thousand times the least goes and one past the greatest comes.
+// Six keys; ten thousand times the least is removed, and one above the greatest inserted.
 fn passes_through(rt: &(impl Abort + AllocGlobal), step: u64) -> Result<(), Fail> {
     let counts = Counts::new();
     let mut map = counts.map::<0>(rt.alloc(), Rule::Plain);
@@ -294,6 +294,6 @@ fn passes_through(rt: &(impl Abort + AllocGlobal), step: u64) -> Result<(), Fail
 #[test]
 fn ten_thousand_keys_pass_through_a_table_of_six(rt: HostRuntime) -> Result<(), Fail> {
     passes_through(&rt, 1)?;
-    // All homes are the same.
+    // All keys have the same home bucket.
     passes_through(&rt, 8)
 }

@@ -1,5 +1,5 @@
 -- What the fields of a map keep, from call to call.
-use Rattle.std.proofs.Common.{◌≡◌, ℕ, zero, suc, ◌<◌, ◌≤◌, Bool, true, false, List, [], ◌∷◌, ◌++◌, length, map, min, Option, sym, refl, ap, subst, ◌∙◌, arith, true≢false}
+use Rattle.std.proofs.Common.{◌≡◌, ℕ, zero, suc, ◌<◌, ◌≤◌, Bool, true, false, List, [], ◌∷◌, ◌++◌, length, map, min, sym, refl, ap, subst, ◌∙◌, arith, true≢false}
 use Rattle.std.proofs.Math.ListN.{length-append}
 use Rattle.std.proofs.lemmas.List.{map-append}
 use Rattle.std.specs.Cmp.{IsEquivalence}
@@ -7,28 +7,30 @@ use Rattle.std.specs.List.{IsDistinct}
 use Rattle.std.specs.Map.{keys_of}
 use Rattle.std.proofs.lemmas.Map.Entries.{length-keys_of}
 use Rattle.std.proofs.lemmas.Map.Keys.{IsDistinct-push}
-use Rattle.half_store.specs.Pairs.{set_value, swap_out}
-use Rattle.half_store.specs.Rooms.{room_of}
-use Rattle.halfbrown.specs.Layout.{IsKept, room_in}
-use Rattle.halfbrown.specs.Search.{IsAbsent, IsVacancy, stored_hash}
-use Rattle.halfbrown.specs.declared.map.search.Vacancy.{Vacancy}
-use Rattle.halfbrown.specs.declared.map.search.Vacancy.TheVariants.{InVector, InTable}
-use Rattle.halfbrown.specs.State.{state, IsState, IsTableRoom}
+use Rattle.half_store.specs.Pairs.{Pairs, set_value, swap_out}
+use Rattle.half_store.specs.Table.{TableState, Contents}
+use Rattle.half_store.specs.Capacity.{capacity_of}
+use Rattle.halfbrown.specs.Form.{FormState, vector_form, table_form}
+use Rattle.halfbrown.specs.Layout.{IsKept, capacity_in, state_in}
+use Rattle.halfbrown.specs.Lookup.{IsAbsent, IsVacancy, stored_hash}
+use Rattle.halfbrown.specs.declared.map.lookup.Vacancy.{Vacancy}
+use Rattle.halfbrown.specs.declared.map.lookup.Vacancy.TheVariants.{InVector, InTable}
+use Rattle.halfbrown.specs.State.{IsState, IsTableCapacity}
 use Rattle.halfbrown.proofs.SwapOut.{map-swap_out, length-swap_out, IsDistinct-swap_out}
-use Rattle.halfbrown.proofs.Places.{none_of_number, any_of_none}
+use Rattle.halfbrown.proofs.Indices.{none_of_index, any_of_none}
 
-room_within : (limit columns : ℕ) (is_vec : Bool) (buckets : ℕ) → is_vec ≡ true → room_in limit columns is_vec buckets ≤ limit
-room_within limit columns true buckets form = omega arith
-room_within limit columns false buckets form = absurd (true≢false (sym form))
+capacity_within : (limit columns : ℕ) (is_vec : Bool) (buckets : ℕ) → is_vec ≡ true → capacity_in limit columns is_vec buckets ≤ limit
+capacity_within limit columns true buckets form = omega arith
+capacity_within limit columns false buckets form = absurd (true≢false (sym form))
 
-table_room_is : (limit columns : ℕ) (is_vec : Bool) (buckets : ℕ) → is_vec ≡ false → room_of buckets ≡ room_in limit columns is_vec buckets
-table_room_is limit columns true buckets form = absurd (true≢false form)
-table_room_is limit columns false buckets form = refl
+table_capacity_is : (limit columns : ℕ) (is_vec : Bool) (buckets : ℕ) → is_vec ≡ false → capacity_of buckets ≡ capacity_in limit columns is_vec buckets
+table_capacity_is limit columns true buckets form = absurd (true≢false form)
+table_capacity_is limit columns false buckets form = refl
 
 -- the hash of a vacancy for a table is the one that it was made for
-pub stored_is : (slots : List (Option ℕ)) (hash : ℕ) (is_vec : Bool) (vacancy : Vacancy) → IsVacancy is_vec slots hash vacancy → is_vec ≡ false → stored_hash vacancy ≡ hash
-stored_is slots hash is_vec InVector vacant form = absurd (true≢false (sym vacant ∙ form))
-stored_is slots hash is_vec (InTable stored place) vacant form = vacant.1
+pub stored_is : (contents : Contents) (hash : ℕ) (is_vec : Bool) (vacancy : Vacancy) → IsVacancy is_vec contents hash vacancy → is_vec ≡ false → stored_hash vacancy ≡ hash
+stored_is contents hash is_vec InVector vacant form = absurd (true≢false (sym vacant ∙ form))
+stored_is contents hash is_vec (InTable stored bucket) vacant form = vacant.1
 
 module _ {K V : Type 0} where
   keys_of-push : (ps : List (K × V)) (k : K) (v : V) → keys_of (ps ++ (k, v) ∷ []) ≡ keys_of ps ++ k ∷ []
@@ -55,10 +57,10 @@ module _ {K V : Type 0} where
 
     -- one more pair, whose key is not held
     pub kept_added : IsEquivalence eq → (ps : List (K × V)) (columns : ℕ) (is_vec : Bool) (hashes after : List ℕ) (buckets : ℕ) (k : K) (v : V)
-        → IsKept eq hash limit ps columns is_vec hashes buckets → IsAbsent eq ps k → length ps < room_in limit columns is_vec buckets → (is_vec ≡ false → after ≡ hashes ++ hash k ∷ [])
+        → IsKept eq hash limit ps columns is_vec hashes buckets → IsAbsent eq ps k → length ps < capacity_in limit columns is_vec buckets → (is_vec ≡ false → after ≡ hashes ++ hash k ∷ [])
         → IsKept eq hash limit (ps ++ (k, v) ∷ []) columns is_vec after buckets
     kept_added laws ps columns is_vec hashes after buckets k v kept absent fits stored = record {
-      distinct = subst (IsDistinct eq) (sym (keys_of-push ps k v)) (IsDistinct-push laws (keys_of ps) k kept.distinct (any_of_none (eq k) (keys_of ps) (none_of_number (eq k) (keys_of ps) absent.number)));
+      distinct = subst (IsDistinct eq) (sym (keys_of-push ps k v)) (IsDistinct-push laws (keys_of ps) k kept.distinct (any_of_none (eq k) (keys_of ps) (none_of_index (eq k) (keys_of ps) absent.index)));
       fits = omega (arith, length-append ps ((k, v) ∷ []));
       backed = kept.backed;
       hashed = λ form. stored form ∙ ap (λ hs. hs ++ hash k ∷ []) (kept.hashed form) ∙ sym (map-append hash (keys_of ps) (k ∷ [])) ∙ ap (map hash) (sym (keys_of-push ps k v));
@@ -76,7 +78,7 @@ module _ {K V : Type 0} where
       series = kept.series;
     }
 
-    -- a pair is gone, the last one in its place
+    -- a pair is gone, the last one at its index
     pub kept_taken : IsEquivalence eq → (ps : List (K × V)) (columns : ℕ) (is_vec : Bool) (hashes after : List ℕ) (buckets i : ℕ)
         → IsKept eq hash limit ps columns is_vec hashes buckets → i < length ps → (is_vec ≡ false → after ≡ swap_out hashes i)
         → IsKept eq hash limit (swap_out ps i) columns is_vec after buckets
@@ -92,7 +94,7 @@ module _ {K V : Type 0} where
 
     -- no pairs and no hashes
     pub kept_none : (ps : List (K × V)) (columns : ℕ) (is_vec : Bool) (hashes : List ℕ) (buckets : ℕ) → ps ≡ [] → hashes ≡ []
-        → room_in limit columns is_vec buckets ≤ columns → (is_vec ≡ false → IsTableRoom (room_of buckets)) → IsKept eq hash limit ps columns is_vec hashes buckets
+        → capacity_in limit columns is_vec buckets ≤ columns → (is_vec ≡ false → IsTableCapacity (capacity_of buckets)) → IsKept eq hash limit ps columns is_vec hashes buckets
     unfolding IsDistinct
     kept_none ps columns is_vec hashes buckets none no_hashes backed series = record {
       distinct = subst (λ qs. IsDistinct eq (keys_of qs)) (sym none) tt;
@@ -104,7 +106,7 @@ module _ {K V : Type 0} where
 
     -- the same pairs in a table of these hashes
     pub kept_table : (ps qs : List (K × V)) (columns : ℕ) (hashes : List ℕ) (buckets : ℕ) → IsDistinct eq (keys_of ps) → qs ≡ ps → hashes ≡ map hash (keys_of ps)
-        → length ps ≤ room_of buckets → room_of buckets ≤ columns → IsTableRoom (room_of buckets) → IsKept eq hash limit qs columns false hashes buckets
+        → length ps ≤ capacity_of buckets → capacity_of buckets ≤ columns → IsTableCapacity (capacity_of buckets) → IsKept eq hash limit qs columns false hashes buckets
     kept_table ps qs columns hashes buckets distinct same hashed fits backed series = record {
       distinct = subst (λ rs. IsDistinct eq (keys_of rs)) (sym same) distinct;
       fits = omega (arith, ap length same);
@@ -113,17 +115,17 @@ module _ {K V : Type 0} where
       series = λ form. series;
     }
 
-    -- the same pairs in a vector whose columns have another room
+    -- the same pairs in a vector whose columns have another capacity
     pub kept_vector : (ps qs : List (K × V)) (columns after : ℕ) (is_vec : Bool) (hashes : List ℕ) (buckets : ℕ) → IsKept eq hash limit ps columns is_vec hashes buckets → is_vec ≡ true → qs ≡ ps
         → length ps ≤ after → IsKept eq hash limit qs after is_vec hashes buckets
     kept_vector ps qs columns after is_vec hashes buckets kept form same serves =
-        let before : length ps ≤ min columns limit = subst (λ b. length ps ≤ room_in limit columns b buckets) form kept.fits in
+        let before : length ps ≤ min columns limit = subst (λ b. length ps ≤ capacity_in limit columns b buckets) form kept.fits in
         let more : length qs ≤ min after limit = omega (arith, ap length same) in
         let within : min after limit ≤ after = omega arith in
         record {
           distinct = subst (λ rs. IsDistinct eq (keys_of rs)) (sym same) kept.distinct;
-          fits = subst (λ b. length qs ≤ room_in limit after b buckets) (sym form) more;
-          backed = subst (λ b. room_in limit after b buckets ≤ after) (sym form) within;
+          fits = subst (λ b. length qs ≤ capacity_in limit after b buckets) (sym form) more;
+          backed = subst (λ b. capacity_in limit after b buckets ≤ after) (sym form) within;
           hashed = λ in_table. absurd (true≢false (sym form ∙ in_table));
           series = kept.series;
         }
@@ -132,12 +134,24 @@ module _ {K V : Type 0} where
     pub kept_empty_vector : (ps : List (K × V)) (columns : ℕ) → ps ≡ [] → IsKept eq hash limit ps columns true [] 0
     kept_empty_vector ps columns none = kept_none ps columns true [] 0 none refl (omega arith) (λ form. absurd (true≢false form))
 
+    -- a new vector
+    pub kept_vector_made : (columns : Pairs K V) (form : FormState) → form ≡ vector_form → columns.pairs ≡ [] → IsKept eq hash limit columns.pairs columns.capacity form.is_vec form.hashes form.buckets
+    kept_vector_made columns form made none =
+        subst (λ (f : FormState). IsKept eq hash limit columns.pairs columns.capacity f.is_vec f.hashes f.buckets) (sym made) (kept_empty_vector columns.pairs columns.capacity none)
+
+    -- a new table
+    pub kept_table_made : (columns : Pairs K V) (table : TableState) (form : FormState) → form ≡ table_form table → columns.pairs ≡ [] → table.hashes ≡ [] → capacity_of table.buckets ≤ columns.capacity
+        → IsTableCapacity (capacity_of table.buckets) → IsKept eq hash limit columns.pairs columns.capacity form.is_vec form.hashes form.buckets
+    kept_table_made columns table form made none no_hashes backed series =
+        subst (λ (f : FormState). IsKept eq hash limit columns.pairs columns.capacity f.is_vec f.hashes f.buckets) (sym made)
+        (kept_none columns.pairs columns.capacity false table.hashes table.buckets none no_hashes backed (λ table. series))
+
     -- what the fields keep is what holds of the state
-    pub state_of_kept : {S : Type 0} (ps : List (K × V)) (columns : ℕ) (is_vec : Bool) (hashes : List ℕ) (buckets : ℕ) (builder : S) (slots : List (Option ℕ))
-        → IsKept eq hash limit ps columns is_vec hashes buckets → IsState eq limit (state is_vec ps (room_in limit columns is_vec buckets) builder slots)
-    state_of_kept ps columns is_vec hashes buckets builder slots kept = record {
+    pub state_of : {S : Type 0} (columns : Pairs K V) (form : FormState) (builder : S) → IsKept eq hash limit columns.pairs columns.capacity form.is_vec form.hashes form.buckets
+        → IsState eq limit (state_in limit columns form builder)
+    state_of columns form builder kept = record {
       distinct = kept.distinct;
       fits = kept.fits;
-      vector_room = room_within limit columns is_vec buckets;
-      table_room = λ form. subst IsTableRoom (table_room_is limit columns is_vec buckets form) (kept.series form);
+      vector_capacity = capacity_within limit columns.capacity form.is_vec form.buckets;
+      table_capacity = λ table. subst IsTableCapacity (table_capacity_is limit columns.capacity form.is_vec form.buckets table) (kept.series table);
     }

@@ -1,7 +1,10 @@
+pub mod CallerLemmas
 pub mod Full
+pub mod Indices
+pub mod InsertLemmas
 pub mod Kept
-pub mod Places
+pub mod Lookups
+pub mod MapLaws
 pub mod RunLaws
 pub mod RunLemmas
-pub mod Searches
 pub mod SwapOut

@@ -6,12 +6,13 @@ use Rattle.halfbrown.specs.declared.run.Command.{Command}
 use Rattle.halfbrown.specs.declared.run.Command.TheVariants.{Insert, InsertNew, Get, Remove, Clear, Reserve, Shrink, IsVec, Len}
 use Rattle.halfbrown.specs.declared.run.Reply.{Reply}
 use Rattle.halfbrown.specs.declared.run.Reply.TheVariants.{Was, Added, Present, Found, Removed, Done, Form, Length, Refused}
-use Rattle.halfbrown.specs.Costs.{search_asks}
-use Rattle.halfbrown.specs.Growth.{is_full, insert_wants, unchecked_wants}
+use Rattle.halfbrown.specs.Costs.{Cost, no_cost, add_costs, search_asked, search_cost_of, unchecked_cost}
+use Rattle.halfbrown.specs.Growth.{is_full, insert_needs, unchecked_needs}
+use Rattle.halfbrown.specs.Insertion.{Puts}
 use Rattle.halfbrown.specs.Pairs.{holds, put, take_out}
 use Rattle.halfbrown.specs.State.{State}
-use Rattle.halfbrown.specs.Step.{Steps, Leaves, Puts, answer, refusal_in, is_refused}
-use Rattle.halfbrown.specs.RunCost.{Cost, no_cost, command_cost, search_cost, unchecked_cost, add_costs}
+use Rattle.halfbrown.specs.Step.{Steps, Leaves, granted_reply, refusal_in, is_refused}
+use Rattle.halfbrown.specs.RunCost.{command_cost}
 use Rattle.halfbrown.specs.Run.{Runs}
 use Rattle.halfbrown.specs.RunLaws.{is_put, IsAlike, has_switched}
 
@@ -41,29 +42,29 @@ was_vec : (v full puts : Bool) → vec_after v full puts ≡ true → v ≡ true
 was_vec v full true after = first_true v (not full) after
 was_vec v full false after = after
 
--- an insertion asks nothing where a vector is left
-asks_nothing : (limit : ℕ) (v full granted : Bool) → v ≡ true → (granted ≡ true → (v && not full) ≡ true)
-    → (if full && not granted then 0 else ((if full then limit else 0) + search_asks (v && not full))) ≡ 0
-asks_nothing limit true false granted form stays = refl
-asks_nothing limit true true false form stays = refl
-asks_nothing limit true true true form stays = absurd (true≢false (sym (stays refl)))
-asks_nothing limit false full granted form stays = absurd (true≢false (sym form))
+-- an insertion hashes nothing where a vector is left
+asked_nothing : (limit : ℕ) (v full granted : Bool) → v ≡ true → (granted ≡ true → (v && not full) ≡ true)
+    → (if full && not granted then 0 else ((if full then limit else 0) + search_asked (v && not full))) ≡ 0
+asked_nothing limit true false granted form stays = refl
+asked_nothing limit true true false form stays = refl
+asked_nothing limit true true true form stays = absurd (true≢false (sym (stays refl)))
+asked_nothing limit false full granted form stays = absurd (true≢false (sym form))
 
 -- a granted command is not answered a refusal
 granted_new : {K V : Type 0} (k : K) (v : V) (held : Bool) → refusal_in (if held then Present k v else Added) ≡ None
 granted_new k v true = refl
 granted_new k v false = refl
 
-granted_answer : {K V : Type 0} (eq : K → K → Bool) (is_vec : Bool) (pairs : List (K × V)) (command : Command K V) → refusal_in (answer eq is_vec pairs command) ≡ None
-granted_answer eq is_vec pairs (Insert k v) = refl
-granted_answer eq is_vec pairs (InsertNew k v) = granted_new k v (holds eq pairs k)
-granted_answer eq is_vec pairs (Get k) = refl
-granted_answer eq is_vec pairs (Remove k) = refl
-granted_answer eq is_vec pairs Clear = refl
-granted_answer eq is_vec pairs (Reserve additional) = refl
-granted_answer eq is_vec pairs Shrink = refl
-granted_answer eq is_vec pairs IsVec = refl
-granted_answer eq is_vec pairs Len = refl
+granted_is : {K V : Type 0} (eq : K → K → Bool) (is_vec : Bool) (pairs : List (K × V)) (command : Command K V) → refusal_in (granted_reply eq is_vec pairs command) ≡ None
+granted_is eq is_vec pairs (Insert k v) = refl
+granted_is eq is_vec pairs (InsertNew k v) = granted_new k v (holds eq pairs k)
+granted_is eq is_vec pairs (Get k) = refl
+granted_is eq is_vec pairs (Remove k) = refl
+granted_is eq is_vec pairs Clear = refl
+granted_is eq is_vec pairs (Reserve additional) = refl
+granted_is eq is_vec pairs Shrink = refl
+granted_is eq is_vec pairs IsVec = refl
+granted_is eq is_vec pairs Len = refl
 
 none≢some : (why : Refusal) → None ≡ Some why → ⊥
 none≢some why same = true≢false (ap is_some (sym same))
@@ -71,7 +72,7 @@ none≢some why same = true≢false (ap is_some (sym same))
 module _ {K V S : Type 0} (limit : ℕ) (eq : K → K → Bool) where
   -- a step is granted or refused
   abbrev IsGranted : State K V S → Command K V → Reply K V → State K V S → Type 0
-  IsGranted old command reply new = (reply ≡ answer eq old.is_vec old.pairs command) × Leaves limit eq old command new
+  IsGranted old command reply new = (reply ≡ granted_reply eq old.is_vec old.pairs command) × Leaves limit eq old command new
 
   abbrev IsRefused : State K V S → Command K V → Reply K V → State K V S → Type 0
   IsRefused old command reply new = (why : Refusal) × (reply ≡ Refused command why) × (new ≡ old)
@@ -88,13 +89,13 @@ module _ {K V S : Type 0} (limit : ℕ) (eq : K → K → Bool) where
   one_of_both old new command (Form is_vec) step = inl step
   one_of_both old new command (Length len) step = inl step
 
-  form_left_new : (old new : State K V S) (k : K) (v : V) (held : Bool) → MatchBool held (new ≡ old) (Puts limit eq old k v (unchecked_wants limit old) new)
+  form_left_new : (old new : State K V S) (k : K) (v : V) (held : Bool) → MatchBool held (new ≡ old) (Puts limit eq old k v (unchecked_needs limit old) new)
       → new.is_vec ≡ vec_after old.is_vec (is_full limit old) (is_put (if held then Present k v else Added))
   form_left_new old new k v true leaves = ap (λ m. m.is_vec) leaves
   form_left_new old new k v false leaves = leaves.form
 
   form_left : (old new : State K V S) (command : Command K V) → Leaves limit eq old command new
-      → new.is_vec ≡ vec_after old.is_vec (is_full limit old) (is_put (answer eq old.is_vec old.pairs command))
+      → new.is_vec ≡ vec_after old.is_vec (is_full limit old) (is_put (granted_reply eq old.is_vec old.pairs command))
   form_left old new (Insert k v) leaves = leaves.form
   form_left old new (InsertNew k v) leaves = form_left_new old new k v (holds eq old.pairs k) leaves
   form_left old new (Get k) leaves = ap (λ m. m.is_vec) leaves
@@ -113,11 +114,11 @@ module _ {K V S : Type 0} (limit : ℕ) (eq : K → K → Bool) where
     form_of_both (inr refused) = ap (λ m. m.is_vec) refused.2 ∙ ap (λ r. vec_after old.is_vec (is_full limit old) (is_put r)) (sym refused.1)
 
   -- replies and what is left are the same from states that are alike
-  answer_alike : (a b : State K V S) → IsAlike a b → (command : Command K V) → answer eq a.is_vec a.pairs command ≡ answer eq b.is_vec b.pairs command
-  answer_alike a b alike command = λ i. answer eq (alike.form i) (alike.pairs i) command
+  reply_alike : (a b : State K V S) → IsAlike a b → (command : Command K V) → granted_reply eq a.is_vec a.pairs command ≡ granted_reply eq b.is_vec b.pairs command
+  reply_alike a b alike command = λ i. granted_reply eq (alike.form i) (alike.pairs i) command
 
-  put_alike : (a b a_new b_new : State K V S) → IsAlike a b → (k : K) (v : V) (a_wants b_wants : Option ℕ) → Puts limit eq a k v a_wants a_new → Puts limit eq b k v b_wants b_new → IsAlike a_new b_new
-  put_alike a b a_new b_new alike k v a_wants b_wants a_puts b_puts = record {
+  put_alike : (a b a_new b_new : State K V S) → IsAlike a b → (k : K) (v : V) (a_needs b_needs : Option ℕ) → Puts limit eq a k v a_needs a_new → Puts limit eq b k v b_needs b_new → IsAlike a_new b_new
+  put_alike a b a_new b_new alike k v a_needs b_needs a_puts b_puts = record {
     form = a_puts.form ∙ (λ i. alike.form i && not (alike.form i && (length (alike.pairs i) == limit))) ∙ sym b_puts.form;
     pairs = a_puts.pairs ∙ ap (λ ps. put eq ps k v) alike.pairs ∙ sym b_puts.pairs;
   }
@@ -129,14 +130,14 @@ module _ {K V S : Type 0} (limit : ℕ) (eq : K → K → Bool) where
   }
 
   new_alike : (a b a_new b_new : State K V S) → IsAlike a b → (k : K) (v : V) (a_held b_held : Bool) → a_held ≡ b_held
-      → MatchBool a_held (a_new ≡ a) (Puts limit eq a k v (unchecked_wants limit a) a_new) → MatchBool b_held (b_new ≡ b) (Puts limit eq b k v (unchecked_wants limit b) b_new) → IsAlike a_new b_new
+      → MatchBool a_held (a_new ≡ a) (Puts limit eq a k v (unchecked_needs limit a) a_new) → MatchBool b_held (b_new ≡ b) (Puts limit eq b k v (unchecked_needs limit b) b_new) → IsAlike a_new b_new
   new_alike a b a_new b_new alike k v true true held a_leaves b_leaves = same_alike a b a_new b_new alike a_leaves b_leaves
-  new_alike a b a_new b_new alike k v false false held a_leaves b_leaves = put_alike a b a_new b_new alike k v (unchecked_wants limit a) (unchecked_wants limit b) a_leaves b_leaves
+  new_alike a b a_new b_new alike k v false false held a_leaves b_leaves = put_alike a b a_new b_new alike k v (unchecked_needs limit a) (unchecked_needs limit b) a_leaves b_leaves
   new_alike a b a_new b_new alike k v true false held a_leaves b_leaves = absurd (true≢false held)
   new_alike a b a_new b_new alike k v false true held a_leaves b_leaves = absurd (true≢false (sym held))
 
   leaves_alike : (a b a_new b_new : State K V S) → IsAlike a b → (command : Command K V) → Leaves limit eq a command a_new → Leaves limit eq b command b_new → IsAlike a_new b_new
-  leaves_alike a b a_new b_new alike (Insert k v) a_leaves b_leaves = put_alike a b a_new b_new alike k v (insert_wants limit eq a k) (insert_wants limit eq b k) a_leaves b_leaves
+  leaves_alike a b a_new b_new alike (Insert k v) a_leaves b_leaves = put_alike a b a_new b_new alike k v (insert_needs limit eq a k) (insert_needs limit eq b k) a_leaves b_leaves
   leaves_alike a b a_new b_new alike (InsertNew k v) a_leaves b_leaves = new_alike a b a_new b_new alike k v (holds eq a.pairs k) (holds eq b.pairs k) (ap (λ ps. holds eq ps k) alike.pairs) a_leaves b_leaves
   leaves_alike a b a_new b_new alike (Get k) a_leaves b_leaves = same_alike a b a_new b_new alike a_leaves b_leaves
   leaves_alike a b a_new b_new alike (Remove k) a_leaves b_leaves = record {
@@ -150,15 +151,15 @@ module _ {K V S : Type 0} (limit : ℕ) (eq : K → K → Bool) where
   leaves_alike a b a_new b_new alike Len a_leaves b_leaves = same_alike a b a_new b_new alike a_leaves b_leaves
 
   -- granted in one and refused in the other contradicts that the same is refused
-  not_both : (a : State K V S) (command : Command K V) (a_reply b_reply : Reply K V) (why : Refusal) → a_reply ≡ answer eq a.is_vec a.pairs command → b_reply ≡ Refused command why → refusal_in a_reply ≡ refusal_in b_reply → ⊥
+  not_both : (a : State K V S) (command : Command K V) (a_reply b_reply : Reply K V) (why : Refusal) → a_reply ≡ granted_reply eq a.is_vec a.pairs command → b_reply ≡ Refused command why → refusal_in a_reply ≡ refusal_in b_reply → ⊥
   not_both a command a_reply b_reply why granted refused same =
-      none≢some why (sym (granted_answer eq a.is_vec a.pairs command) ∙ sym (ap refusal_in granted) ∙ same ∙ ap refusal_in refused)
+      none≢some why (sym (granted_is eq a.is_vec a.pairs command) ∙ sym (ap refusal_in granted) ∙ same ∙ ap refusal_in refused)
 
   steps_alike : (a b a_new b_new : State K V S) → IsAlike a b → (command : Command K V) (a_reply b_reply : Reply K V) → refusal_in a_reply ≡ refusal_in b_reply
       → Steps limit eq a command a_reply a_new → Steps limit eq b command b_reply b_new → (a_reply ≡ b_reply) × IsAlike a_new b_new
   steps_alike a b a_new b_new alike command a_reply b_reply same a_step b_step = both (one_of_both a a_new command a_reply a_step) (one_of_both b b_new command b_reply b_step) where
     both : IsGranted a command a_reply a_new ⊎ IsRefused a command a_reply a_new → IsGranted b command b_reply b_new ⊎ IsRefused b command b_reply b_new → (a_reply ≡ b_reply) × IsAlike a_new b_new
-    both (inl x) (inl y) = (x.0 ∙ answer_alike a b alike command ∙ sym y.0, leaves_alike a b a_new b_new alike command x.1 y.1)
+    both (inl x) (inl y) = (x.0 ∙ reply_alike a b alike command ∙ sym y.0, leaves_alike a b a_new b_new alike command x.1 y.1)
     both (inl x) (inr y) = absurd (not_both a command a_reply b_reply y.0 x.0 y.1 same)
     both (inr x) (inl y) = absurd (not_both b command b_reply a_reply x.0 y.0 x.1 (sym same))
     both (inr x) (inr y) = (
@@ -167,35 +168,35 @@ module _ {K V S : Type 0} (limit : ℕ) (eq : K → K → Bool) where
     )
 
 module _ {K V S : Type 0} (limit : ℕ) (eq : K → K → Bool) (hash : S → K → ℕ) where
-  new_asks : (old : State K V S) (k : K) (v : V) (held refused : Bool) → old.is_vec ≡ true
+  new_asked : (old : State K V S) (k : K) (v : V) (held refused : Bool) → old.is_vec ≡ true
       → (not refused ≡ true → vec_after old.is_vec (is_full limit old) (is_put {V = V} (if held then Present k v else Added)) ≡ true)
-      → (add_costs (search_cost limit eq hash old k) (if held then no_cost else unchecked_cost limit eq hash old k (not refused))).asked ≡ 0
-  new_asks old k v true refused form stays = omega (arith, ap search_asks form)
-  new_asks old k v false refused form stays = omega (arith, ap search_asks form, asks_nothing limit old.is_vec (is_full limit old) (not refused) form stays)
+      → (add_costs (search_cost_of eq hash old k) (if held then no_cost else unchecked_cost limit eq hash old k (not refused))).asked ≡ 0
+  new_asked old k v true refused form stays = omega (arith, ap search_asked form)
+  new_asked old k v false refused form stays = omega (arith, ap search_asked form, asked_nothing limit old.is_vec (is_full limit old) (not refused) form stays)
 
-  -- a command that leaves a vector asks nothing
-  command_asks : (old : State K V S) (command : Command K V) (refused : Bool) → old.is_vec ≡ true
-      → (not refused ≡ true → vec_after old.is_vec (is_full limit old) (is_put (answer eq old.is_vec old.pairs command)) ≡ true)
+  -- a command that leaves a vector hashes nothing
+  command_asked : (old : State K V S) (command : Command K V) (refused : Bool) → old.is_vec ≡ true
+      → (not refused ≡ true → vec_after old.is_vec (is_full limit old) (is_put (granted_reply eq old.is_vec old.pairs command)) ≡ true)
       → (command_cost limit eq hash old command refused).asked ≡ 0
-  command_asks old (Insert k v) refused form stays = asks_nothing limit old.is_vec (is_full limit old) (not refused) form stays
-  command_asks old (InsertNew k v) refused form stays = new_asks old k v (holds eq old.pairs k) refused form stays
-  command_asks old (Get k) refused form stays = ap search_asks form
-  command_asks old (Remove k) refused form stays = ap search_asks form
-  command_asks old Clear refused form stays = refl
-  command_asks old (Reserve additional) refused form stays = refl
-  command_asks old Shrink refused form stays = refl
-  command_asks old IsVec refused form stays = refl
-  command_asks old Len refused form stays = refl
+  command_asked old (Insert k v) refused form stays = asked_nothing limit old.is_vec (is_full limit old) (not refused) form stays
+  command_asked old (InsertNew k v) refused form stays = new_asked old k v (holds eq old.pairs k) refused form stays
+  command_asked old (Get k) refused form stays = ap search_asked form
+  command_asked old (Remove k) refused form stays = ap search_asked form
+  command_asked old Clear refused form stays = refl
+  command_asked old (Reserve additional) refused form stays = refl
+  command_asked old Shrink refused form stays = refl
+  command_asked old IsVec refused form stays = refl
+  command_asked old Len refused form stays = refl
 
-  step_asks : (old new : State K V S) (command : Command K V) (reply : Reply K V) → Steps limit eq old command reply new → new.is_vec ≡ true
+  step_asked : (old new : State K V S) (command : Command K V) (reply : Reply K V) → Steps limit eq old command reply new → new.is_vec ≡ true
       → (command_cost limit eq hash old command (is_refused reply)).asked ≡ 0
-  step_asks old new command reply step form = asks (one_of_both limit eq old new command reply step) where
+  step_asked old new command reply step form = asked (one_of_both limit eq old new command reply step) where
     was : old.is_vec ≡ true
     was = was_vec old.is_vec (is_full limit old) (is_put reply) (sym (form_of_step limit eq old new command reply step) ∙ form)
 
-    asks : IsGranted limit eq old command reply new ⊎ IsRefused limit eq old command reply new → (command_cost limit eq hash old command (is_refused reply)).asked ≡ 0
-    asks (inl granted) = command_asks old command (is_refused reply) was (λ e. sym (form_left limit eq old new command granted.1) ∙ form)
-    asks (inr refused) = command_asks old command (is_refused reply) was (λ e. absurd (true≢false (sym e ∙ ap (λ r. not (is_refused r)) refused.1)))
+    asked : IsGranted limit eq old command reply new ⊎ IsRefused limit eq old command reply new → (command_cost limit eq hash old command (is_refused reply)).asked ≡ 0
+    asked (inl granted) = command_asked old command (is_refused reply) was (λ e. sym (form_left limit eq old new command granted.1) ∙ form)
+    asked (inr refused) = command_asked old command (is_refused reply) was (λ e. absurd (true≢false (sym e ∙ ap (λ r. not (is_refused r)) refused.1)))
 
   pub form_law : (old : State K V S) (commands : List (Command K V)) (replies : List (Reply K V)) (new : State K V S) (cost : Cost)
       (run : Runs limit eq hash old commands replies new cost) → new.is_vec ≡ old.is_vec && not (has_switched limit eq hash old commands replies new cost run)
@@ -214,7 +215,7 @@ module _ {K V S : Type 0} (limit : ℕ) (eq : K → K → Bool) (hash : S → K 
   nothing_hashed_law old (command ∷ commands) [] new cost run form = absurd run
   nothing_hashed_law old (command ∷ commands) (reply ∷ replies) new cost run form =
       let next_form = first_true run.0.is_vec (not (has_switched limit eq hash run.0 commands replies new run.1 run.4)) (sym (form_law run.0 commands replies new run.1 run.4) ∙ form) in
-      omega (arith, ap (λ c. c.asked) run.5, step_asks old run.0 command reply run.2 next_form, nothing_hashed_law run.0 commands replies new run.1 run.4 form)
+      omega (arith, ap (λ c. c.asked) run.5, step_asked old run.0 command reply run.2 next_form, nothing_hashed_law run.0 commands replies new run.1 run.4 form)
 
   pub table_law : (old : State K V S) (commands : List (Command K V)) (replies : List (Reply K V)) (new : State K V S) (cost : Cost)
       → Runs limit eq hash old commands replies new cost → old.is_vec ≡ false → new.is_vec ≡ false

@@ -5,29 +5,40 @@ use Rattle.halfbrown.specs.declared.run.Command.{Command}
 use Rattle.halfbrown.specs.declared.run.Reply.{Reply}
 use Rattle.halfbrown.specs.State.{State, IsState}
 use Rattle.halfbrown.specs.Step.{Steps, is_refused}
-use Rattle.halfbrown.specs.RunCost.{Cost, GrewBy, no_cost, add_costs, command_cost}
+use Rattle.halfbrown.specs.Costs.{Cost, GrewBy, between, no_cost, add_costs}
+use Rattle.halfbrown.specs.RunCost.{command_cost}
 use Rattle.halfbrown.specs.Run.{Runs}
 
-costs_are : (a b c x y z : ℕ) → a ≡ x → b ≡ y → c ≡ z → ◌≡◌ {A = Cost} (record { asked = a; compared = b; looked = c }) (record { asked = x; compared = y; looked = z })
-costs_are a b c x y z p q r = λ i. record { asked = p i; compared = q i; looked = r i }
+costs_are : (a b c d e v w x y z : ℕ) → a ≡ v → b ≡ w → c ≡ x → d ≡ y → e ≡ z
+    → ◌≡◌ {A = Cost} (record { asked = a; compared = between b c; looked = between d e }) (record { asked = v; compared = between w x; looked = between y z })
+costs_are a b c d e v w x y z p q r s t = λ i. record { asked = p i; compared = between (q i) (r i); looked = between (s i) (t i) }
 
 none_more : (more : Cost) → more ≡ add_costs no_cost more
-none_more more = costs_are more.asked more.compared more.looked (0 + more.asked) (0 + more.compared) (0 + more.looked) (omega arith) (omega arith) (omega arith)
+none_more more =
+    costs_are more.asked more.compared.least more.compared.most more.looked.least more.looked.most (0 + more.asked) (0 + more.compared.least) (0 + more.compared.most) (0 + more.looked.least) (0 + more.looked.most)
+    (omega arith) (omega arith) (omega arith) (omega arith) (omega arith)
 
 costs_assoc : (a b c : Cost) → add_costs a (add_costs b c) ≡ add_costs (add_costs a b) c
 costs_assoc a b c =
-    costs_are (a.asked + (b.asked + c.asked)) (a.compared + (b.compared + c.compared)) (a.looked + (b.looked + c.looked)) (a.asked + b.asked + c.asked) (a.compared + b.compared + c.compared) (a.looked + b.looked + c.looked)
-    (omega arith) (omega arith) (omega arith)
+    costs_are (a.asked + (b.asked + c.asked)) (a.compared.least + (b.compared.least + c.compared.least)) (a.compared.most + (b.compared.most + c.compared.most))
+    (a.looked.least + (b.looked.least + c.looked.least)) (a.looked.most + (b.looked.most + c.looked.most))
+    (a.asked + b.asked + c.asked) (a.compared.least + b.compared.least + c.compared.least) (a.compared.most + b.compared.most + c.compared.most)
+    (a.looked.least + b.looked.least + c.looked.least) (a.looked.most + b.looked.most + c.looked.most)
+    (omega arith) (omega arith) (omega arith) (omega arith) (omega arith)
 
 spent_none : (w : Work) → GrewBy no_cost w w
-spent_none w = record { asked = omega arith; compared = omega arith; looked = omega arith }
+spent_none w = record {
+  asked = omega arith;
+  compared = record { least = omega arith; most = omega arith };
+  looked = record { least = omega arith; most = omega arith };
+}
 
 -- what was spent before and after a moment is spent in all
-spent_both : (a b : Cost) (before middle after : Work) → GrewBy a before middle → GrewBy b middle after → GrewBy (add_costs a b) before after
+pub spent_both : (a b : Cost) (before middle after : Work) → GrewBy a before middle → GrewBy b middle after → GrewBy (add_costs a b) before after
 spent_both a b before middle after first second = record {
   asked = omega (arith, first.asked, second.asked);
-  compared = omega (arith, first.compared, second.compared);
-  looked = omega (arith, first.looked, second.looked);
+  compared = record { least = omega (arith, first.compared.least, second.compared.least); most = omega (arith, first.compared.most, second.compared.most) };
+  looked = record { least = omega (arith, first.looked.least, second.looked.least); most = omega (arith, first.looked.most, second.looked.most) };
 }
 
 module _ {K V S : Type 0} (limit : ℕ) (eq : K → K → Bool) (hash : S → K → ℕ) where

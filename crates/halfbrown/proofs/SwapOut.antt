@@ -1,4 +1,4 @@
--- A list from which one element is gone, the last one in its place.
+-- A list from which one element is gone, the last one at its index.
 use Rattle.std.proofs.Common.{◌≡◌, ℕ, zero, suc, ◌+◌, ◌-◌, ◌<◌, Bool, List, [], ◌∷◌, length, map, take, get_or, sym, refl, ap, subst, ◌∙◌, arith}
 use Rattle.std.proofs.Math.ListN.{set, length-map, get_or-map}
 use Rattle.std.proofs.lemmas.List.{map-set, get_or_default, length-take-le, length-set}
@@ -6,6 +6,7 @@ use Rattle.std.proofs.lemmas.List.Sorted.{IsPermutation-swap_remove}
 use Rattle.std.proofs.lemmas.Map.Keys.{IsDistinct-IsPermutation, IsDistinct-tail}
 use Rattle.std.specs.Cmp.{IsEquivalence}
 use Rattle.std.specs.List.{IsDistinct, swap_remove}
+use Rattle.std.specs.List.Sorted.{IsPermutation}
 use Rattle.half_store.specs.Pairs.{swap_out}
 
 module _ {A B : Type 0} (f : A → B) where
@@ -34,11 +35,18 @@ module _ {X : Type 0} where
   default_is : (xs : List X) (i : ℕ) (d e : X) → 0 < length xs → swap_remove xs i d ≡ swap_remove xs i e
   default_is xs i d e some = ap (λ y. take (length xs - 1) (set xs i y)) (get_or_default xs (length xs - 1) d e (omega arith))
 
+  -- the element, and then the others as they are left
+  pub IsPermutation-swap_out : (xs : List X) (i : ℕ) (d : X) → i < length xs → IsPermutation xs (get_or xs i d ∷ swap_out xs i)
+  IsPermutation-swap_out [] i d within = absurd (omega arith)
+  IsPermutation-swap_out (x ∷ xs) i d within =
+      let y = get_or (x ∷ xs) i d in
+      subst (λ l. IsPermutation (x ∷ xs) (y ∷ l)) (default_is (x ∷ xs) i y x (omega arith))
+      (IsPermutation-swap_remove (x ∷ xs) i y within (get_or_default (x ∷ xs) i d y within))
+
   -- distinct keys stay distinct
   pub IsDistinct-swap_out : (eq : X → X → Bool) → IsEquivalence eq → (ks : List X) (i : ℕ) → i < length ks → IsDistinct eq ks → IsDistinct eq (swap_out ks i)
   IsDistinct-swap_out eq laws [] i within distinct = distinct
   IsDistinct-swap_out eq laws (k ∷ ks) i within distinct =
       let x = get_or (k ∷ ks) i k in
-      subst (IsDistinct eq) (default_is (k ∷ ks) i x k (omega arith))
-      (IsDistinct-tail eq x (swap_remove (k ∷ ks) i x)
-      (IsDistinct-IsPermutation eq laws.symm (k ∷ ks) (x ∷ swap_remove (k ∷ ks) i x) (IsPermutation-swap_remove (k ∷ ks) i x within (get_or_default (k ∷ ks) i k x within)) distinct))
+      IsDistinct-tail eq x (swap_out (k ∷ ks) i)
+      (IsDistinct-IsPermutation eq laws.symm (k ∷ ks) (x ∷ swap_out (k ∷ ks) i) (IsPermutation-swap_out (k ∷ ks) i k within) distinct)

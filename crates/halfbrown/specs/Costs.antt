@@ -1,13 +1,14 @@
--- What the calls cost: how often the builder is asked for a hash, how many keys are compared, and how many buckets are read.
-use Rattle.std.specs.Prelude.{◌≡◌, ℕ, ◌+◌, ◌≤◌, Bool, true, false, not, ◌&&◌, List, length, map, count_by, ◌==◌, nat_lt, if◌then◌else◌, MatchBool}
+-- What the calls cost: how often a key is hashed, how many keys are compared, and how many buckets are read.
+use Rattle.std.specs.Prelude.{◌≡◌, ℕ, ◌+◌, ◌-◌, ◌≤◌, Bool, true, false, not, ◌&&◌, List, length, map, count_by, ◌==◌, nat_lt, if◌then◌else◌}
 use Rattle.std.specs.Hash.{HashWrites}
 use Rattle.std.specs.declared.hash.Hasher as hasher
 use Rattle.std.specs.declared.hash.BuildHasher as builder
 use Rattle.std.specs.Map.{keys_of}
 use Rattle.half_store.specs.Hash.{hash_by}
+use Rattle.half_store.specs.Pairs.{index_of}
 use Rattle.half_store.specs.Reach.{reach, HomesApart}
-use Rattle.half_store.specs.Rooms.{buckets_of, room_for}
-use Rattle.half_store.specs.Work.{Work}
+use Rattle.half_store.specs.Capacity.{buckets_of, capacity_for}
+use Rattle.half_store.specs.Work.{Work, first_match_cost}
 use Rattle.halfbrown.specs.State.{State}
 use Rattle.halfbrown.specs.Pairs.{holds}
 use Rattle.halfbrown.specs.Growth.{is_full, stays_vec}
@@ -16,97 +17,144 @@ use Rattle.halfbrown.specs.Growth.{is_full, stays_vec}
 abbrev pub key_hash : {S H K : Type 0} → builder.Ghosts S H → hasher.Ghosts H → (K → HashWrites) → S → K → ℕ
 key_hash b h input s k = hash_by b h s (input k)
 
--- how often a search asks the builder: a vector is not hashed
-abbrev pub search_asks : Bool → ℕ
-search_asks is_vec = if is_vec then 0 else 1
+-- at least and at most so many
+pub record Range : Type 0 where
+  pub least : ℕ
+  pub most : ℕ
+
+abbrev pub exactly : ℕ → Range
+exactly n = record { least = n; most = n }
+
+abbrev pub between : ℕ → ℕ → Range
+between least most = record { least = least; most = most }
+
+abbrev pub add_ranges : Range → Range → Range
+add_ranges a b = between (a.least + b.least) (a.most + b.most)
+
+-- how often a key is hashed, exactly; how many keys are compared and how many buckets are read, exactly where nothing is found
+pub record Cost : Type 0 where
+  pub asked : ℕ
+  pub compared : Range
+  pub looked : Range
+
+abbrev pub no_cost : Cost
+no_cost = record { asked = 0; compared = exactly 0; looked = exactly 0 }
+
+abbrev pub add_costs : Cost → Cost → Cost
+add_costs a b = record { asked = a.asked + b.asked; compared = add_ranges a.compared b.compared; looked = add_ranges a.looked b.looked }
+
+-- a number grew by one of this range
+pub record GrewWithin (range : Range) (before after : ℕ) : Type 0 where
+  pub least : before + range.least ≤ after
+  pub most : after ≤ before + range.most
+
+-- a tally grew by this cost
+pub record GrewBy (cost : Cost) (before after : Work) : Type 0 where
+  pub asked : after.asked ≡ before.asked + cost.asked
+  pub compared : GrewWithin cost.compared before.compared after.compared
+  pub looked : GrewWithin cost.looked before.looked after.looked
+
+-- how often a search hashes its key: never in a vector, once in a table
+abbrev pub search_asked : Bool → ℕ
+search_asked is_vec = if is_vec then 0 else 1
 
 module _ {K V : Type 0} (hash : K → ℕ) where
-  -- the held keys that a search for k may compare with it: all in a vector, those of its hash in a table
-  abbrev pub candidates : Bool → List (K × V) → K → ℕ
-  candidates is_vec pairs k = if is_vec then length pairs else count_by (λ q. hash q == hash k) (keys_of pairs)
+  -- the held keys of the hash of k: a search in a table compares no other
+  abbrev pub candidates : List (K × V) → K → ℕ
+  candidates pairs k = count_by (λ q. hash q == hash k) (keys_of pairs)
 
-  -- how many buckets a walk for k reads in a table of this room that ends at the first empty one; a vector has no buckets
-  abbrev pub walk_length : Bool → ℕ → List (K × V) → K → ℕ
-  walk_length is_vec room pairs k = if is_vec then 0 else reach (map hash (keys_of pairs)) (buckets_of room) (hash k)
+  -- the length of an unsuccessful probe for k in a table of this capacity; a vector has no buckets
+  abbrev pub probe_length : Bool → ℕ → List (K × V) → K → ℕ
+  probe_length is_vec capacity pairs k = if is_vec then 0 else reach (map hash (keys_of pairs)) (buckets_of capacity) (hash k)
 
-  -- the buckets that an addition of k reads: the place is walked to where it is not known, and anew where there is no room and more
-  -- is granted
-  abbrev pub adding_looks : {S : Type 0} → State K V S → K → Bool → Bool → ℕ
-  adding_looks m k is_unplaced granted =
-      if nat_lt (length m.pairs) m.room then (if is_unplaced then walk_length m.is_vec m.room m.pairs k else 0)
-      else (if granted then walk_length m.is_vec (room_for (length m.pairs + 1)) m.pairs k else 0)
-
-  -- no two held pairs of a table of this room are at home in the same bucket
+  -- no two held keys of a table of this capacity have the same home bucket
   abbrev pub NoHomeIsShared : ℕ → List (K × V) → Type 0
-  NoHomeIsShared room pairs = HomesApart (map hash (keys_of pairs)) (buckets_of room)
+  NoHomeIsShared capacity pairs = HomesApart (map hash (keys_of pairs)) (buckets_of capacity)
 
--- a search among so many candidates, by the count of comparisons before it and after: at least one and at most all where it found
--- one that matches, exactly all where it found none
-abbrev pub Compares : Bool → ℕ → ℕ → ℕ → Type 0
-Compares found candidates before after = MatchBool found ((before + 1 ≤ after) × (after ≤ before + candidates)) (after ≡ before + candidates)
+-- the comparisons of a search in a vector: in order, up to and with the key that equals k, or all
+abbrev pub comparisons_in_order : {K V : Type 0} → (K → K → Bool) → List (K × V) → K → ℕ
+comparisons_in_order eq pairs k = first_match_cost (index_of (eq k) (keys_of pairs)) (length pairs)
 
--- the buckets that a search reads, by their count before it and after: none in a vector; in a table exactly the whole walk where it
--- found none, and at least one and less than that where it found one
-abbrev pub Looks : Bool → Bool → ℕ → ℕ → ℕ → Type 0
-Looks is_vec found walk before after =
-    MatchBool is_vec (after ≡ before) (MatchBool found ((before + 1 ≤ after) × (after + 1 ≤ before + walk)) (after ≡ before + walk))
+module _ {K V : Type 0} (eq : K → K → Bool) (hash : K → ℕ) where
+  -- the comparisons of a search for k: in a vector exactly those in order; in a table exactly all candidates where k is not held, and
+  -- at least one of them where it is
+  abbrev pub search_compares : Bool → List (K × V) → K → Range
+  search_compares is_vec pairs k =
+      if is_vec then exactly (comparisons_in_order eq pairs k)
+      else (if holds eq pairs k then between 1 (candidates hash pairs k) else exactly (candidates hash pairs k))
 
-module _ {K V S : Type 0} (hash : S → K → ℕ) where
-  -- what one search for k in the map costs, by the tally before it and after
-  pub record SearchCosts (m : State K V S) (k : K) (found : Bool) (before after : Work) : Type 0 where
-    pub asked : after.asked ≡ before.asked + search_asks m.is_vec
-    pub compared : Compares found (candidates (hash m.builder) m.is_vec m.pairs k) before.compared after.compared
-    pub looked : Looks m.is_vec found (walk_length (hash m.builder) m.is_vec m.room m.pairs k) before.looked after.looked
-    pub looked_once : m.is_vec ≡ false → found ≡ true → NoHomeIsShared (hash m.builder) m.room m.pairs → after.looked ≡ before.looked + 1
-    pub short : walk_length (hash m.builder) m.is_vec m.room m.pairs k ≤ length m.pairs + 1
+  -- the buckets that a search for k reads: none in a vector; in a table exactly an unsuccessful probe where k is not held, and at least
+  -- one and fewer than that where it is
+  abbrev pub search_looks : Bool → ℕ → List (K × V) → K → Range
+  search_looks is_vec capacity pairs k =
+      let probe = probe_length hash is_vec capacity pairs k in
+      if is_vec then exactly 0 else (if holds eq pairs k then between 1 (probe - 1) else exactly probe)
+
+  -- what one search for k costs
+  abbrev pub search_cost : Bool → ℕ → List (K × V) → K → Cost
+  search_cost is_vec capacity pairs k =
+      record { asked = search_asked is_vec; compared = search_compares is_vec pairs k; looked = search_looks is_vec capacity pairs k }
+
+module _ {K V S : Type 0} (eq : K → K → Bool) (hash : S → K → ℕ) where
+  -- what a search for k in the map costs
+  abbrev pub search_cost_of : State K V S → K → Cost
+  search_cost_of m k = search_cost eq (hash m.builder) m.is_vec m.capacity m.pairs k
+
+  -- what one search for k in the map cost, by the tally before it and after
+  pub record SearchCosts (m : State K V S) (k : K) (before after : Work) : Type 0 where
+    pub grew : GrewBy (search_cost_of m k) before after
+    pub looked_once : m.is_vec ≡ false → holds eq m.pairs k ≡ true → NoHomeIsShared (hash m.builder) m.capacity m.pairs → after.looked ≡ before.looked + 1
+    pub short : probe_length (hash m.builder) m.is_vec m.capacity m.pairs k ≤ length m.pairs + 1
 
 module _ {K V S : Type 0} (limit : ℕ) where
-  -- how often a granted switching call asks the builder for the switch: once for each pair of a full vector
-  abbrev pub switch_asks : State K V S → ℕ
-  switch_asks m = if is_full limit m then limit else 0
+  -- how often a granted switching call hashes for its switch: once for each pair of a full vector
+  abbrev pub switch_asked : State K V S → ℕ
+  switch_asked m = if is_full limit m then limit else 0
 
   -- whether the call was refused its switch, and so did nothing
   abbrev pub is_switch_refused : State K V S → Bool → Bool
   is_switch_refused m granted = is_full limit m && not granted
 
-  -- how often an insertion asks the builder: for the switch, and once in a table; a refused switch asks nothing
-  abbrev pub insert_asks : State K V S → Bool → ℕ
-  insert_asks m granted = if is_switch_refused m granted then 0 else switch_asks m + search_asks (stays_vec limit m)
+  -- how often an insertion hashes: for the switch, and once in a table; a refused switch hashes nothing
+  abbrev pub insert_asked : State K V S → Bool → ℕ
+  insert_asked m granted = if is_switch_refused m granted then 0 else switch_asked m + search_asked (stays_vec limit m)
 
-  -- the room once a granted switch is made
-  abbrev pub room_switched : State K V S → ℕ
-  room_switched m = if is_full limit m then room_for (limit + 1) else m.room
+  -- the capacity once a granted switch is made
+  abbrev pub capacity_switched : State K V S → ℕ
+  capacity_switched m = if is_full limit m then capacity_for (limit + 1) else m.capacity
 
-  -- the room once there is room for one pair more
-  abbrev pub room_made : State K V S → ℕ
-  room_made m = if nat_lt (length m.pairs) (room_switched m) then room_switched m else room_for (length m.pairs + 1)
+  -- whether one pair more needs growth once the switch is made
+  abbrev pub addition_grows : State K V S → Bool
+  addition_grows m = not (nat_lt (length m.pairs) (capacity_switched m))
 
-  module _ (hash : S → K → ℕ) where
-    -- how many buckets an insertion of a new key k reads: those of its search, and after growth those of one placing
-    abbrev pub addition_looks : State K V S → K → Bool → ℕ
-    addition_looks m k granted =
-        walk_length (hash m.builder) (stays_vec limit m) (room_switched m) m.pairs k
-        + (if granted && not (nat_lt (length m.pairs) (room_switched m)) then walk_length (hash m.builder) (stays_vec limit m) (room_made m) m.pairs k else 0)
+  -- the capacity once it is enough for one pair more
+  abbrev pub capacity_grown : State K V S → ℕ
+  capacity_grown m = if addition_grows m then capacity_for (length m.pairs + 1) else capacity_switched m
 
-    -- how many buckets an insertion of a new key k without a search reads: those of one placing, once there is room
-    abbrev pub placing_looks : State K V S → K → Bool → ℕ
-    placing_looks m k granted = if granted then walk_length (hash m.builder) (stays_vec limit m) (room_made m) m.pairs k else 0
+  module _ (eq : K → K → Bool) (hash : S → K → ℕ) where
+    -- the buckets that the insertion probe of a new key k reads, once the capacity is enough
+    abbrev pub insertion_probe_looks : State K V S → K → ℕ
+    insertion_probe_looks m k = probe_length (hash m.builder) (stays_vec limit m) (capacity_grown m) m.pairs k
 
-    -- what an insertion of k costs: a refused switch costs nothing; else the switch asks for its hashes, and one search is made once
-    -- the form has changed, and one placing after growth
-    pub record InsertCosts (eq : K → K → Bool) (m : State K V S) (k : K) (granted : Bool) (before after : Work) : Type 0 where
-      pub asked : after.asked ≡ before.asked + insert_asks m granted
-      pub compared : MatchBool (is_switch_refused m granted) (after.compared ≡ before.compared)
-          (Compares (holds eq m.pairs k) (candidates (hash m.builder) (stays_vec limit m) m.pairs k) before.compared after.compared)
-      pub looked : MatchBool (is_switch_refused m granted) (after.looked ≡ before.looked)
-          (MatchBool (holds eq m.pairs k)
-          (Looks (stays_vec limit m) true (walk_length (hash m.builder) (stays_vec limit m) (room_switched m) m.pairs k) before.looked after.looked)
-          (after.looked ≡ before.looked + addition_looks m k granted))
-      pub looked_once : m.is_vec ≡ false → holds eq m.pairs k ≡ true → NoHomeIsShared (hash m.builder) m.room m.pairs → after.looked ≡ before.looked + 1
+    -- what an insertion of k costs: the switch hashes each key, one search follows in the form that it left, and, where a new key made
+    -- the table grow, one insertion probe; a refused switch costs nothing
+    abbrev pub insert_cost : State K V S → K → Bool → Cost
+    insert_cost m k granted = record {
+      asked = insert_asked m granted;
+      compared = if is_switch_refused m granted then exactly 0 else search_compares eq (hash m.builder) (stays_vec limit m) m.pairs k;
+      looked = if is_switch_refused m granted then exactly 0 else add_ranges
+          (search_looks eq (hash m.builder) (stays_vec limit m) (capacity_switched m) m.pairs k)
+          (exactly (if granted && not (holds eq m.pairs k) && addition_grows m then insertion_probe_looks m k else 0));
+    }
 
-    -- what an insertion of a new key k without a search costs: a refused switch costs nothing; else the switch asks for its hashes,
-    -- and a granted insertion makes one placing in a table
-    pub record UncheckedCosts (m : State K V S) (k : K) (granted : Bool) (before after : Work) : Type 0 where
-      pub asked : after.asked ≡ before.asked + insert_asks m granted
-      pub compared : after.compared ≡ before.compared
-      pub looked : after.looked ≡ before.looked + placing_looks m k granted
+    -- what an insertion of a new key k without a search costs: the switch and the key's own hash, and one insertion probe where it is
+    -- granted
+    abbrev pub unchecked_cost : State K V S → K → Bool → Cost
+    unchecked_cost m k granted =
+        record { asked = insert_asked m granted; compared = exactly 0; looked = exactly (if granted then insertion_probe_looks m k else 0) }
+
+    -- what an insertion of k cost, by the tally before it and after
+    pub record InsertCosts (m : State K V S) (k : K) (granted : Bool) (before after : Work) : Type 0 where
+      pub grew : GrewBy (insert_cost m k granted) before after
+      pub looked_once : stays_vec limit m ≡ false → granted ≡ true → holds eq m.pairs k ≡ true
+          → NoHomeIsShared (hash m.builder) (capacity_switched m) m.pairs → after.looked ≡ before.looked + 1

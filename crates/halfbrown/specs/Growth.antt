@@ -1,38 +1,41 @@
--- Where a call needs more room, how much it wants, and what room there is afterwards.
+-- Where a call needs more capacity, how much, and what the capacity is afterwards.
 use Rattle.std.specs.Prelude.{◌≡◌, ℕ, ◌+◌, ◌^◌, ◌<◌, ◌≤◌, ◌⊎◌, min, Bool, not, ◌&&◌, ◌==◌, nat_lt, length, Option, None, Some, IfNone, IfSome, MatchBool, MatchOption, if◌then◌else◌}
 use Rattle.half_store.specs.declared.refusal.Refusal.{Refusal}
 use Rattle.half_store.specs.Refusal.{refusal_of}
-use Rattle.half_store.specs.Rooms.{room_for}
+use Rattle.half_store.specs.Capacity.{capacity_for}
 use Rattle.halfbrown.specs.State.{State}
 use Rattle.halfbrown.specs.Pairs.{holds}
 
--- how many pairs one pair more wants room for, where no room is left
-abbrev pub addition_wants : {K V S : Type 0} → State K V S → Option ℕ
-addition_wants m = if nat_lt (length m.pairs) m.room then None else Some (length m.pairs + 1)
+-- the capacity that one pair more needs, where there is none left
+abbrev pub addition_needs : {K V S : Type 0} → State K V S → Option ℕ
+addition_needs m = if nat_lt (length m.pairs) m.capacity then None else Some (length m.pairs + 1)
 
--- the room after a granted call that wants this much: a table has the least room of the series that serves, and the room that it
--- had where it wants no more; a vector keeps its room or gets more
-abbrev pub HasRoomAfter : {K V S : Type 0} → State K V S → Option ℕ → State K V S → Type 0
-HasRoomAfter old wants new =
-    MatchBool new.is_vec (old.room ≤ new.room) (MatchOption wants (new.room ≡ old.room) (λ n. new.room ≡ room_for n))
+-- the capacity after a granted call: where it needs no more, the same; else a table has the least of the series that is enough, and a
+-- vector at least what is needed
+abbrev pub HasCapacityAfter : {K V S : Type 0} → State K V S → Option ℕ → State K V S → Type 0
+HasCapacityAfter old needs new =
+    MatchOption needs (new.capacity ≡ old.capacity) (λ n. MatchBool new.is_vec (n ≤ new.capacity) (new.capacity ≡ capacity_for n))
 
--- how many pairs a call that wants `wanted` pairs in all wants room for, where there is less; a vector wants no more than the limit
-abbrev pub room_wants : {K V S : Type 0} → ℕ → State K V S → ℕ → Option ℕ
-room_wants limit m wanted = let most = if m.is_vec then min wanted limit else wanted in if nat_lt m.room most then Some most else None
+-- the capacity that a form has for so many pairs in all: a vector has no more than the limit
+abbrev pub total_allowed : ℕ → Bool → ℕ → ℕ
+total_allowed limit is_vec total = if is_vec then min total limit else total
 
--- the room after `shrink_to_fit`: a vector has no more than before, and none where it holds nothing; a table has the least that
--- serves, or where pairs are held and memory was refused the room that it had
-abbrev pub HasRoomShrunk : {K V S : Type 0} → State K V S → State K V S → Type 0
-HasRoomShrunk old new =
-    MatchBool new.is_vec ((new.room ≤ old.room) × (length old.pairs ≡ 0 → new.room ≡ 0)) ((new.room ≡ room_for (length old.pairs)) ⊎ ((0 < length old.pairs) × (new.room ≡ old.room)))
+-- the capacity that a reservation for so many pairs in all needs, where there is less
+abbrev pub reserve_needs : {K V S : Type 0} → ℕ → State K V S → ℕ → Option ℕ
+reserve_needs limit m total = let most = total_allowed limit m.is_vec total in if nat_lt m.capacity most then Some most else None
 
--- how many pairs a constructor for this capacity wants room for
-abbrev pub making_wants : ℕ → Option ℕ
-making_wants wanted = if wanted == 0 then None else Some wanted
+-- the capacity after `shrink_to_fit`: the least that the pairs fit, or, where pairs are held and memory was refused, what it was
+abbrev pub HasCapacityShrunk : {K V S : Type 0} → State K V S → State K V S → Type 0
+HasCapacityShrunk old new =
+    (new.capacity ≡ (if new.is_vec then length old.pairs else capacity_for (length old.pairs))) ⊎ ((0 < length old.pairs) × (new.capacity ≡ old.capacity))
 
--- the room of a new map that was made for so many pairs
-abbrev pub HasRoomMade : {K V S : Type 0} → ℕ → State K V S → Type 0
-HasRoomMade wanted m = MatchBool m.is_vec (wanted ≤ m.room) (m.room ≡ room_for wanted)
+-- the capacity that a constructor for so many pairs needs
+abbrev pub making_needs : ℕ → Option ℕ
+making_needs needed = if needed == 0 then None else Some needed
+
+-- the capacity of a new map that was made for so many pairs
+abbrev pub HasCapacityMade : {K V S : Type 0} → ℕ → State K V S → Type 0
+HasCapacityMade needed m = m.capacity ≡ (if m.is_vec then needed else capacity_for needed)
 
 module _ {K V S : Type 0} (limit : ℕ) where
   -- a vector that holds as many pairs as the limit allows
@@ -43,22 +46,39 @@ module _ {K V S : Type 0} (limit : ℕ) where
   abbrev pub stays_vec : State K V S → Bool
   stays_vec m = m.is_vec && not (is_full m)
 
-  -- how many pairs a switching call wants room for by its switch: one more than the limit
-  abbrev pub switch_wants : State K V S → Option ℕ
-  switch_wants m = if is_full m then Some (limit + 1) else None
+  -- the capacity that a switching call needs for its switch: one more than the limit
+  abbrev pub switch_needs : State K V S → Option ℕ
+  switch_needs m = if is_full m then Some (limit + 1) else None
 
-  -- how many pairs an insertion of a new key, which is not searched, wants room for
-  abbrev pub unchecked_wants : State K V S → Option ℕ
-  unchecked_wants m = if is_full m then Some (limit + 1) else addition_wants m
+  -- the capacity that an insertion of a new key needs, where it needs more
+  abbrev pub unchecked_needs : State K V S → Option ℕ
+  unchecked_needs m = if is_full m then Some (limit + 1) else addition_needs m
 
-  -- how many pairs an insertion of k wants room for, where it needs more room: by the switch, or for a new key
-  abbrev pub insert_wants : (K → K → Bool) → State K V S → K → Option ℕ
-  insert_wants eq m k = if is_full m then Some (limit + 1) else (if holds eq m.pairs k then None else addition_wants m)
+  -- the capacity that an insertion of k needs, where it needs more: for the switch, or for a new key
+  abbrev pub insert_needs : (K → K → Bool) → State K V S → K → Option ℕ
+  insert_needs eq m k = if is_full m then Some (limit + 1) else (if holds eq m.pairs k then None else addition_needs m)
 
--- a call that wants this much may be refused, for this reason
+-- a call that needs this much may be refused, for this reason
 abbrev pub IsRefusal : Option ℕ → Refusal → Type 0
-IsRefusal wants why = IfNone wants ⊥ × IfSome wants (λ n. why ≡ refusal_of n)
+IsRefusal needs why = IfNone needs ⊥ × IfSome needs (λ n. why ≡ refusal_of n)
 
--- a call that wants this much may be granted: no more than 2^60 pairs are wanted
+-- a call that needs this much may be granted: no more than 2^60 pairs
 abbrev pub IsGrantable : Option ℕ → Type 0
-IsGrantable wants = IfSome wants (λ n. n ≤ 2 ^ 60)
+IsGrantable needs = IfSome needs (λ n. n ≤ 2 ^ 60)
+
+module _ {K V S : Type 0} (limit : ℕ) where
+  -- a granted reservation for so many pairs more: the capacity is enough for them, in a vector for no more in all than the limit
+  pub record Reserves (old : State K V S) (additional : ℕ) (new : State K V S) : Type 0 where
+    pub pairs : new.pairs ≡ old.pairs
+    pub form : new.is_vec ≡ old.is_vec
+    pub capacity : HasCapacityAfter old (reserve_needs limit old (length old.pairs + additional)) new
+    pub enough : total_allowed limit old.is_vec (length old.pairs + additional) ≤ new.capacity
+    pub grantable : IsGrantable (reserve_needs limit old (length old.pairs + additional))
+    pub builder : new.builder ≡ old.builder
+
+-- capacity is given back
+pub record Shrinks {K V S : Type 0} (old new : State K V S) : Type 0 where
+  pub pairs : new.pairs ≡ old.pairs
+  pub form : new.is_vec ≡ old.is_vec
+  pub capacity : HasCapacityShrunk old new
+  pub builder : new.builder ≡ old.builder

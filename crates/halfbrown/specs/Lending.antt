@@ -16,9 +16,9 @@ module _ (K V S L H : RattleType) (key : HashMembers K.Denot) (build : builder.G
   map_row = the_row K V S L H (record { eq = key.eq }) (record { hash_input = key.hash_input }) build hash most
 
   module _ (m : MutBor (State K.Denot V.Denot S.Denot)) where
-    -- the pair with this number has the last value written through the reference
+    -- the pair at this index has the last value written through the reference
     abbrev pub LendsValueAt : ℕ → MutBor V.Denot → Fml
-    LendsValueAt number r = Lends map_row V m r (λ w. with_pairs m.now (set_value m.now.pairs number w))
+    LendsValueAt index r = Lends map_row V m r (λ w. with_pairs m.now (set_value m.now.pairs index w))
 
     -- the key that equals k has the last value written through the reference, and where none is held the map stays as it is
     abbrev pub LendsValueOf : K.Denot → Option (MutBor V.Denot) → Fml

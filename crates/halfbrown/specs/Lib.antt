@@ -1,11 +1,15 @@
 pub mod Costs
+pub mod Form
 pub mod Growth
+pub mod Insertion
 pub mod Layout
 pub mod Lending
+pub mod Lookup
+pub mod MapLaws
 pub mod Pairs
 pub mod Run
 pub mod RunCost
 pub mod RunLaws
-pub mod Search
 pub mod State
 pub mod Step
+pub mod Updates

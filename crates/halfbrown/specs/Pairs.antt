@@ -2,7 +2,7 @@
 use Rattle.std.specs.Prelude.{Bool, List, [], ◌∷◌, Option, is_some, if◌then◌else◌}
 use Rattle.std.specs.Option.{option_map_or}
 use Rattle.std.specs.Map.{keys_of, lookup, lookup_entry}
-use Rattle.half_store.specs.Pairs.{number_of, swap_out}
+use Rattle.half_store.specs.Pairs.{index_of, swap_out}
 
 module _ {K V : Type 0} (eq : K → K → Bool) where
   -- the value of the held key that equals k
@@ -17,11 +17,11 @@ module _ {K V : Type 0} (eq : K → K → Bool) where
   abbrev pub holds : List (K × V) → K → Bool
   holds pairs k = is_some (value_of pairs k)
 
-  -- where a key equal to k is held, its pair keeps key and place and gets value v; else the pair (k, v) is appended
+  -- where a key equal to k is held, its pair keeps its key and its index and gets value v; else the pair (k, v) is appended
   abbrev pub put : List (K × V) → K → V → List (K × V)
   put [] k v = (k, v) ∷ []
   put (p ∷ pairs) k v = if eq k p.0 then (p.0, v) ∷ pairs else p ∷ put pairs k v
 
-  -- where a key equal to k is held, its pair is gone and the last pair stands in its place; else the same pairs
+  -- where a key equal to k is held, its pair is gone and the last pair takes its index; else the same pairs
   abbrev pub take_out : List (K × V) → K → List (K × V)
-  take_out pairs k = option_map_or (swap_out pairs) (number_of (eq k) (keys_of pairs)) pairs
+  take_out pairs k = option_map_or (swap_out pairs) (index_of (eq k) (keys_of pairs)) pairs

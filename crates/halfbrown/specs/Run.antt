@@ -4,10 +4,11 @@ use Rattle.halfbrown.specs.declared.run.Command.{Command}
 use Rattle.halfbrown.specs.declared.run.Reply.{Reply}
 use Rattle.halfbrown.specs.State.{State, IsState}
 use Rattle.halfbrown.specs.Step.{Steps, is_refused}
-use Rattle.halfbrown.specs.RunCost.{Cost, no_cost, add_costs, command_cost}
+use Rattle.halfbrown.specs.Costs.{Cost, no_cost, add_costs}
+use Rattle.halfbrown.specs.RunCost.{command_cost}
 
 module _ {K V S : Type 0} (limit : ℕ) (eq : K → K → Bool) (hash : S → K → ℕ) where
-  -- from old to new the commands may be answered these replies, one step after another, and the cost is the sum of the steps' costs
+  -- from old to new the commands may have these replies, one step after another, and the cost is the sum of the steps' costs
   abbrev pub Runs : State K V S → List (Command K V) → List (Reply K V) → State K V S → Cost → Type 0
   Runs old [] [] new cost = (new ≡ old) × (cost ≡ no_cost)
   Runs old (command ∷ commands) (reply ∷ replies) new cost =

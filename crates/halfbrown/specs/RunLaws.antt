@@ -5,7 +5,7 @@ use Rattle.halfbrown.specs.declared.run.Reply.{Reply}
 use Rattle.halfbrown.specs.declared.run.Reply.TheVariants.{Was, Added}
 use Rattle.halfbrown.specs.Growth.{is_full}
 use Rattle.halfbrown.specs.Run.{Runs}
-use Rattle.halfbrown.specs.RunCost.{Cost}
+use Rattle.halfbrown.specs.Costs.{Cost}
 use Rattle.halfbrown.specs.State.{State}
 use Rattle.halfbrown.specs.Step.{refusal_in}
 
@@ -40,19 +40,19 @@ module _ {K : Type 0} (V : Type 0) {S : Type 0} (limit : ℕ) (eq : K → K → 
   TableLaw = (old : State K V S) (commands : List (Command K V)) (replies : List (Reply K V)) (new : State K V S) (cost : Cost)
       → Runs limit eq hash old commands replies new cost → old.is_vec ≡ false → new.is_vec ≡ false
 
-  -- a run that begins with a vector and puts no pair into a full one ends with a vector, and has asked the builder for no hash
+  -- a run that begins with a vector and puts no pair into a full one ends with a vector, and has hashed nothing
   abbrev pub UnswitchedLaw : Type 0
   UnswitchedLaw = (old : State K V S) (commands : List (Command K V)) (replies : List (Reply K V)) (new : State K V S) (cost : Cost)
       (run : Runs limit eq hash old commands replies new cost) → old.is_vec ≡ true → has_switched limit eq hash old commands replies new cost run ≡ false
       → (new.is_vec ≡ true) × (cost.asked ≡ 0)
 
-  -- a run that ends with a vector has asked the builder for no hash
+  -- a run that ends with a vector has hashed nothing
   abbrev pub NothingHashedLaw : Type 0
   NothingHashedLaw = (old : State K V S) (commands : List (Command K V)) (replies : List (Reply K V)) (new : State K V S) (cost : Cost)
       → Runs limit eq hash old commands replies new cost → new.is_vec ≡ true → cost.asked ≡ 0
 
   -- two runs of the same commands from states that are alike, in which the same commands are refused for the same reasons, have the
-  -- same replies and end in states that are alike: room, builder, hashes and the past decide nothing
+  -- same replies and end in states that are alike: capacity, builder, hashes and history decide nothing
   abbrev pub RepliesLaw : Type 0
   RepliesLaw = (a b : State K V S) (commands : List (Command K V)) (a_replies b_replies : List (Reply K V)) (a_new b_new : State K V S) (a_cost b_cost : Cost)
       → IsAlike a b → map refusal_in a_replies ≡ map refusal_in b_replies

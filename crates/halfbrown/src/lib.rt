@@ -1,7 +1,6 @@
-//! A map from keys to values in two forms: few pairs stand in a vector and are searched by `==`, many in a hashed table.
+//! A map from keys to values in two forms: few pairs are stored in a vector and searched by `==`, many in a hash table.
 //!
-//! What callers build on it. Each of these is proved from the clauses of the public calls alone; the crate
-//! `half_tests` has them, with contracts of their own.
+//! What callers build on it, each proved from the clauses of the public calls alone:
 //!
 //! A name in a scope within another means what the inner scope says, and where it says nothing what the outer does:
 //!
@@ -12,7 +11,7 @@
 //! }
 //! ```
 //!
-//! A set of labels, in which a label that is given again changes nothing, and needs no room:
+//! A set of labels. A label that is added again changes nothing, and needs no memory:
 //!
 //! ```
 //! if labels.contains_key(&label) {
@@ -22,7 +21,7 @@
 //! Ok(true)
 //! ```
 //!
-//! A cache whose look-ups are counted. The builder is asked once in a table, and never in a vector:
+//! A cache whose look-ups are counted. A key is hashed once in a table, and never in a vector:
 //!
 //! ```
 //! cache.get_counted(key, tally)
@@ -36,6 +35,6 @@ pub mod run;
 
 pub use half_store::{Refusal, Tally};
 pub use limit::{Limit, UpTo};
-pub use map::{DefaultHashBuilder, HashMap, LimitedHashMap, SizedHashMap};
+pub use map::{DefaultHashBuilder, HashMap, LimitedHashMap, SizedHashMap, laws};
 pub use refused::Refused;
 pub use run::{Command, Reply};

@@ -1,48 +1,51 @@
 //! The map, and what it says of itself.
-ghost use Rattle.std.specs.Prelude.{◌≡◌, ◌^◌, ◌<◌, ◌↔◌, false, [], length, IsTrue, is_none};
-ghost use Rattle.halfbrown.specs.Layout.{hashes_in, buckets_in};
+ghost use Rattle.std.specs.Prelude.{◌≡◌, ◌^◌, ◌<◌, ◌↔◌, false, [], length, IsTrue};
 ghost use Rattle.halfbrown.specs.State.{IsState, WithPairs};
 
+mod add;
+mod form;
+mod get;
 mod growth;
 mod insert;
-mod look_up;
+pub mod laws;
+pub(crate) mod lookup;
 mod make;
 mod remove;
-pub(crate) mod search;
 mod switch;
 
 use crate::{Limit, UpTo};
+use form::Form;
 use half_store::VecMap;
-use half_store::table::Table;
 use std::alloc::Global;
 use std::hash::{BuildHasher, BuildHasherDefault, FoldHasher, Hash};
 use std::marker::{Model, PhantomData};
 
-/// The builder that `new` takes. Its seed is fixed.
+/// The builder that `new` uses. Its seed is fixed.
 pub type DefaultHashBuilder = BuildHasherDefault<FoldHasher>;
 
-/// A map that holds at most `N` pairs in a vector.
+/// A map that stores up to `N` pairs in a vector.
 ///
 /// ```
 /// let mut scope = SizedHashMap::<u64, u32, DefaultHashBuilder, 8>::new(alloc);
 /// ```
 pub type SizedHashMap<K, V, S, const N: usize> = LimitedHashMap<K, V, S, UpTo<N>>;
 
-/// A map that holds at most 32 pairs in a vector.
+/// A map that stores up to 32 pairs in a vector.
 ///
 /// ```
 /// type Ages = HashMap<u64, u32, DefaultHashBuilder>;
 /// ```
 pub type HashMap<K, V, S> = LimitedHashMap<K, V, S, UpTo<32>>;
 
-/// A map in two forms. Up to the limit its pairs stand in a vector, are searched by `==`, and nothing is hashed. A
-/// switching call on as many pairs as the limit makes it a hashed table, and no call goes back.
+/// A map in two forms. Up to the limit its pairs are stored in a vector and searched by `==`, and nothing is hashed. A
+/// switching call on as many pairs as the limit makes it a hash table, and no call goes back.
 ///
-/// The pairs stand in the order of their insertion in both forms, until a removal moves the last one into the gap.
+/// In both forms the pairs keep the order of their insertion, until a removal moves the last one to the index that
+/// became free.
 ///
-/// A search costs this: in a vector keys are compared, in order, up to the one that is found, and nothing is hashed. In
-/// a table the builder is asked for one hash, buckets are read from its home on, and no key of another hash is compared;
-/// a search that finds nothing reads as many buckets as the homes of the held pairs decide, whatever came before.
+/// A search costs this. In a vector it compares keys, in order, up to the one that it finds, and hashes nothing. In a
+/// table it hashes the key once, probes from its home bucket on, and compares no key of another hash; a search that finds
+/// nothing reads exactly as many buckets as the home buckets of the held keys decide, whatever the history.
 ///
 /// ```
 /// type Ages = HashMap<u64, u32, DefaultHashBuilder>;
@@ -55,25 +58,24 @@ pub type HashMap<K, V, S> = LimitedHashMap<K, V, S, UpTo<32>>;
 /// ```
 pub struct LimitedHashMap<K: Eq + Hash, V, S: BuildHasher, L: Limit> {
     columns: VecMap<K, V>,
-    table: Option<Table>,
+    form: Form,
     builder: S,
     alloc: Global,
     limit: PhantomData<L>,
 }
 
 impl<K: Eq + Hash, V, S: BuildHasher, L: Limit> Model for LimitedHashMap<K, V, S, L> {
-    ghost use Rattle.std.specs.Prelude.{is_none};
-    ghost use Rattle.halfbrown.specs.State.{State, state, state_code};
+    ghost use Rattle.halfbrown.specs.State.{State, state_code};
     ghost use Rattle.halfbrown.specs.Costs.{key_hash};
-    ghost use Rattle.halfbrown.specs.Layout.{hashes_in, buckets_in, slots_in, room_in, IsKept};
+    ghost use Rattle.halfbrown.specs.Layout.{state_in, IsKept};
 
     ghost Value = { State K V S };
 
     ghost coded = { state_code K.code V.code S.code };
 
-    ghost view = { λ m. state (is_none m.table) m.columns.pairs (room_in L.LIMIT m.columns.room (is_none m.table) (buckets_in m.table)) m.builder (slots_in m.table) };
+    ghost view = { λ m. state_in L.LIMIT m.columns m.form m.builder };
 
-    ghost invariant = { λ m. IsKept K.eq (key_hash S.BuildHasher S.Hasher.Hasher K.hash_input m.builder) L.LIMIT m.columns.pairs m.columns.room (is_none m.table) (hashes_in m.table) (buckets_in m.table) };
+    ghost invariant = { λ m. IsKept K.eq (key_hash S.BuildHasher S.Hasher.Hasher K.hash_input m.builder) L.LIMIT m.columns.pairs m.columns.capacity m.form.is_vec m.form.hashes m.form.buckets };
 }
 
 // Written out, since the limit is a type that no value of the map holds.
@@ -82,13 +84,13 @@ impl<K: Eq + Hash + Drop, V: Drop, S: BuildHasher + Drop, L: Limit> Drop
     fn drop(self) {
         let LimitedHashMap {
             columns,
-            table,
+            form,
             builder,
             alloc: _,
             limit: _,
         } = self;
         drop(columns);
-        drop(table);
+        drop(form);
         drop(builder);
     }
 }
@@ -129,7 +131,7 @@ impl<K: Eq + Hash, V, S: BuildHasher, L: Limit> LimitedHashMap<K, V, S, L> {
         &self.builder
     }
 
-    /// Whether the pairs stand in a vector.
+    /// Whether the form is the vector.
     ///
     /// ```
     /// let is_vector = ages.is_vec(); // true: two pairs, and the limit is 32
@@ -138,10 +140,10 @@ impl<K: Eq + Hash, V, S: BuildHasher, L: Limit> LimitedHashMap<K, V, S, L> {
         ensures form { result ≡ self.now.is_vec }
         ensures state { IsState K.eq L.LIMIT self.now }
     {
-        self.table.is_none()
+        self.form.is_vec()
     }
 
-    /// Whether the pairs stand in a table.
+    /// Whether the form is the table.
     ///
     /// ```
     /// let is_table = ages.is_map(); // false
@@ -149,24 +151,25 @@ impl<K: Eq + Hash, V, S: BuildHasher, L: Limit> LimitedHashMap<K, V, S, L> {
     pub fn is_map(&self) -> bool
         ensures { IsTrue result ↔ (self.now.is_vec ≡ false) }
     {
-        self.table.is_some()
+        !self.form.is_vec()
     }
 
-    /// How many pairs fit before more room is wanted. A vector's room ends at the limit.
+    /// How many pairs fit before more memory is needed. In a vector it is at most the limit.
     ///
     /// ```
-    /// let room = ages.capacity(); // 4, since it was made for so many
+    /// let capacity = ages.capacity(); // 4, since it was made for so many
     /// ```
     pub fn capacity(&self) -> usize
-        ensures { result ≡ self.now.room }
+        ensures { result ≡ self.now.capacity }
     {
-        match &self.table {
-            None => self.columns.room().min(L::LIMIT),
-            Some(table) => table.room(),
+        if self.form.is_vec() {
+            self.columns.capacity().min(L::LIMIT)
+        } else {
+            self.form.capacity()
         }
     }
 
-    /// Lets all pairs go. The form, the room and the builder stay. Nothing is hashed.
+    /// Removes all pairs. The form, the capacity and the builder stay. Nothing is hashed.
     ///
     /// ```
     /// ages.clear();
@@ -179,18 +182,7 @@ impl<K: Eq + Hash, V, S: BuildHasher, L: Limit> LimitedHashMap<K, V, S, L> {
         ensures after { WithPairs self.old [] self.new }
         ensures state { IsState K.eq L.LIMIT self.new }
     {
-        clear_hashes(&mut self.table);
+        self.form.clear();
         self.columns.clear();
-    }
-}
-
-// Lets all stored hashes go. A vector stores none.
-fn clear_hashes(table: &mut Option<Table>)
-    ensures form { is_none table.new ≡ is_none table.old }
-    ensures buckets { buckets_in table.new ≡ buckets_in table.old }
-    ensures hashes { hashes_in table.new ≡ [] }
-{
-    if let Some(table) = table {
-        table.clear();
     }
 }

@@ -1,7 +1,19 @@
-//! What a refused insertion gives back.
-use half_store::Refusal;
+//! The error of an insertion.
+ghost use Rattle.std.specs.Prelude.{◌≡◌, ◌++◌, Some, codes};
+ghost use Rattle.half_store.specs.Refusal.{text_of};
 
-/// A pair that was not inserted, and why. The map is as it was.
+use half_store::Refusal;
+use std::error::Error;
+use std::fmt;
+
+/// A pair that was not inserted, and why. The map is unchanged.
+///
+/// `?` converts it into a `Refusal`, and drops the pair:
+///
+/// ```
+/// ages.insert(3, 5)?;
+/// ages.reserve(1)?;
+/// ```
 ///
 /// ```
 /// let pair = ages
@@ -14,4 +26,22 @@ pub struct Refused<K, V> {
     pub key: K,
     pub value: V,
     pub why: Refusal,
+}
+
+impl<K, V> fmt::Display for Refused<K, V> {
+    ghost output = { λ refused. Some (codes "the pair was not inserted: " ++ text_of refused.why) };
+
+    fn fmt<W: fmt::Write>(&self, f: &mut fmt::Formatter<W>) -> fmt::Result {
+        write!(f, "the pair was not inserted: {}", self.why)
+    }
+}
+
+impl<K: fmt::Debug + Drop, V: fmt::Debug + Drop> Error for Refused<K, V> {}
+
+impl<K: Drop, V: Drop> From<Refused<K, V>> for Refusal {
+    ghost from_gives = { λ refused why. why ≡ refused.why };
+
+    fn from(refused: Refused<K, V>) -> Refusal {
+        refused.why
+    }
 }

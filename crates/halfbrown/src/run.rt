@@ -1,9 +1,9 @@
-//! Whole runs: a list of commands, answered one after another.
+//! Whole runs: a list of commands, done one after another, with a reply to each.
 ghost use Rattle.std.specs.Prelude.{◌≡◌, true, false, [], IsOk, IfOk, IfErr, OnErr};
-ghost use Rattle.halfbrown.specs.Costs.{key_hash};
+ghost use Rattle.halfbrown.specs.Costs.{Cost, GrewBy, key_hash};
 ghost use Rattle.halfbrown.specs.Run.{Runs};
 ghost use Rattle.halfbrown.specs.State.{IsState};
-ghost use Rattle.halfbrown.specs.RunCost.{Cost, GrewBy, command_cost};
+ghost use Rattle.halfbrown.specs.RunCost.{command_cost};
 ghost use Rattle.halfbrown.specs.Step.{Steps, is_refused};
 
 pub mod laws;
@@ -36,7 +36,7 @@ pub enum Command<K, V> {
     Len,
 }
 
-/// What a command is answered.
+/// What a command replies.
 #[derive(Clone, Copy, Debug, PartialEq, Eq, Drop)]
 pub enum Reply<K, V> {
     /// The old value of an inserted key, or none where it was new.
@@ -47,11 +47,11 @@ pub enum Reply<K, V> {
     Present(K, V),
     /// The value of the key, or none where it is not held.
     Found(Option<V>),
-    /// The pair that was taken out, or none where the key was not held.
+    /// The pair that was removed, or none where the key was not held.
     Removed(Option<(K, V)>),
     /// It is done.
     Done,
-    /// Whether the pairs stand in a vector.
+    /// Whether the form is the vector.
     Form(bool),
     /// How many pairs are held.
     Length(usize),
@@ -59,10 +59,10 @@ pub enum Reply<K, V> {
     Refused(Command<K, V>, Refusal),
 }
 
-/// Runs the commands in order, and answers a reply for each.
+/// Runs the commands in order, and returns a reply to each.
 ///
-/// The room for all replies is made first. Where it is refused the commands come back, and nothing was done. A command
-/// that is refused is answered so, and the run goes on. It costs what its commands cost.
+/// Memory for all replies is allocated first; where that fails the error has the commands, and nothing was done. The reply
+/// to a command that fails says so, and the run goes on. It costs what its commands cost.
 ///
 /// ```
 /// let commands = vec![in alloc; Command::Insert(1, 36), Command::Get(1), Command::Len]?;
@@ -98,11 +98,11 @@ pub fn run_counted<K: Eq + Hash + Drop, V: Copy, S: BuildHasher, L: Limit>(
     ensures run { IfOk result (λ replies. (cost : Cost) × Runs L.LIMIT K.eq (key_hash S.BuildHasher S.Hasher.Hasher K.hash_input) map.old commands.items replies.items map.new cost × GrewBy cost tally.old tally.new) }
     ensures empty { commands.items ≡ [] → IsOk result }
 
-    // Once a table, always a table; and a run that leaves a vector has hashed nothing.
+    // Once a table, always a table; and a run that ends with a vector has hashed nothing.
     ensures stays_a_table { map.old.is_vec ≡ false → map.new.is_vec ≡ false }
     ensures nothing_hashed { map.new.is_vec ≡ true → tally.new.asked ≡ tally.old.asked }
 
-    // Where the room for the replies is refused, nothing was done.
+    // Where memory for the replies is refused, nothing was done.
     ensures returned { IfErr result (λ back. back.items ≡ commands.items) }
     ensures err { OnErr result (map.new ≡ map.old) }
     ensures no_work { OnErr result (tally.new ≡ tally.old) }

@@ -1,2 +1,6 @@
+pub mod Buffers
+pub mod LongLines
 pub mod Numerals
+pub mod Reading
+pub mod Serving
 pub mod Words

@@ -1,6 +1,6 @@
 -- What a request is answered.
 use Rattle.std.specs.Prelude.{◌≡◌, ℕ, List, nat_eq, Option, Some, None, IsSome, ◌⊎◌, length, if◌then◌else◌}
-use Rattle.halfbrown.specs.Growth.{insert_wants, stays_vec}
+use Rattle.halfbrown.specs.Growth.{insert_needs, stays_vec}
 use Rattle.halfbrown.specs.Pairs.{value_of, put, take_out}
 use Rattle.halfbrown.specs.State.{State, WithPairs}
 use Rattle.halfmap.specs.Line.{IsTextOfLine}
@@ -24,10 +24,10 @@ found (Some value) = Value value
 abbrev pub limit : ℕ
 limit = 5
 
--- what a request is answered, and what it makes of the map; an insertion may be refused where it wants more room
+-- what a request is answered, and what it makes of the map; an insertion may be refused where it needs more capacity
 abbrev pub Answers : {S : Type 0} → Request → State ℕ ℕ S → Answer → State ℕ ℕ S → Type 0
 Answers (Insert k v) old answer new =
-    ((answer ≡ NoRoom) × IsSome (insert_wants limit nat_eq old k) × (new ≡ old))
+    ((answer ≡ NoRoom) × IsSome (insert_needs limit nat_eq old k) × (new ≡ old))
     ⊎ ((answer ≡ was (value_of nat_eq old.pairs k))
     × (new.pairs ≡ put nat_eq old.pairs k v)
     × (new.is_vec ≡ stays_vec limit old))

@@ -1,5 +1,9 @@
 -- Where a line ends.
-use Rattle.std.specs.Prelude.{◌≡◌, ◌≢◌, ℕ, List, ◌++◌, codes, ◌⊎◌}
+use Rattle.std.specs.Prelude.{◌≡◌, ◌≢◌, ℕ, List, ◌++◌, codes, ◌⊎◌, Bool, ◌==◌}
+
+-- the byte is a LF
+abbrev pub is_lf : ℕ → Bool
+is_lf b = b == 10
 
 -- the text is the line without this end, where it has it
 abbrev pub IsWithout : List ℕ → List ℕ → List ℕ → Type 0

@@ -1,6 +1,7 @@
 //! What a request is answered.
-ghost use Rattle.std.specs.Prelude.{◌≡◌};
+ghost use Rattle.std.specs.Prelude.{◌≡◌, Some};
 ghost use Rattle.halfmap.specs.Answer.{Answers, was as was_answer};
+ghost use Rattle.halfmap.specs.Text.{text_of};
 
 use crate::request::Request;
 use halfbrown::{DefaultHashBuilder, SizedHashMap};
@@ -20,15 +21,17 @@ pub(crate) enum Answer {
     NoRoom,
     /// The value of the key.
     Value(u64),
-    /// The pairs stand in a vector, and are so many.
+    /// The form is the vector, with so many pairs.
     Vector(usize),
-    /// The pairs stand in a table, and are so many.
+    /// The form is the table, with so many pairs.
     Table(usize),
     /// The line asks for nothing that is known.
     BadLine,
 }
 
 impl fmt::Display for Answer {
+    ghost output = { λ answer. Some (text_of answer) };
+
     fn fmt<W: fmt::Write>(&self, f: &mut fmt::Formatter<W>) -> fmt::Result {
         match *self {
             Answer::Absent => write!(f, "none"),

@@ -3,6 +3,7 @@
 #![tactic(auto)]
 
 mod answer;
+mod lines;
 mod request;
 mod session;
 
@@ -11,7 +12,7 @@ use std::process::ExitCode;
 
 fn main(rt: HostRuntime) -> ExitCode {
     match serve(rt.alloc(), rt.stdin(), rt.stdout()) {
-        Ok(()) => ExitCode::SUCCESS,
+        Ok(_) => ExitCode::SUCCESS,
         Err(Stopped) => ExitCode::FAILURE,
     }
 }

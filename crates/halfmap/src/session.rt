@@ -1,12 +1,18 @@
 //! Lines in, answers out.
+ghost use Rattle.std.specs.Prelude.{OnOk, IfOk};
+ghost use Rattle.std.specs.Io.Buffered.{reader_remaining as unread, reader_buffer, writer_contents as written, writer_buffer};
+ghost use Rattle.std.specs.Io.KnownBytes.{Keeps};
 ghost use Rattle.halfmap.specs.Answer.{AnswersLine};
 ghost use Rattle.halfmap.specs.Line.{IsTextOfLine, IsWithout};
+ghost use Rattle.halfmap.specs.Reading.{IsOut};
+ghost use Rattle.halfmap.specs.Session.{Serves, ServesFromEmpty, WritesAnswer, HashBuilder};
 
 use crate::answer::{Answer, Numbers, perform};
+use crate::lines::read_line;
 use crate::request::parse;
 use std::alloc::Global;
 use std::io;
-use std::io::{BufRead, BufReader, BufWriter, Read, Write};
+use std::io::{BufReader, BufWriter, Read, Write};
 
 /// The work ended before the input did: a read, a write or the memory for a buffer failed.
 #[derive(Clone, Copy, Debug, PartialEq, Eq)]
@@ -18,29 +24,45 @@ impl From<io::Error> for Stopped {
     }
 }
 
-// No request is longer than `i`, two numbers of 20 digits, two spaces and a line end of two bytes. Of a longer line no more
-// is kept than shows that it is longer.
-const KEPT_BYTES: u64 = 46;
-
-/// Answers each line of the reader by a line to the writer, until the input ends.
+/// Answers each line of the reader by a line to the writer, until the input ends, and returns the writer.
 ///
-/// An answer is written out before the reader is asked for more than it has given, so whoever sends a line and then waits
-/// sees its answer. The map begins empty. A line may have any length: of a long one only the first bytes are kept.
+/// An answer is written out before more is read than the reader has given, so a sender that waits after a line sees its
+/// answer. The map begins empty. A line may have any length: of a long one only the first bytes are kept.
 pub fn serve<R: Read + Drop, W: Write + Drop>(
     alloc: Global,
     reader: R,
     writer: W,
-) -> Result<(), Stopped> {
+) -> Result<W, Stopped>
+    ensures { IfOk result (λ returned.
+        ServesFromEmpty HashBuilder (R.remaining reader) (W.contents writer) (W.contents returned)) }
+{
     let mut reader = BufReader::new(alloc, reader)?;
     let mut writer = BufWriter::new(alloc, writer)?;
     let mut map = Numbers::new(alloc);
+    answer_lines(alloc, &mut map, &mut reader, &mut writer)?;
+    match writer.into_inner() {
+        Ok(writer) => Ok(writer),
+        Err(_) => Err(Stopped),
+    }
+}
+
+// Answers each line of the reader by the map, until the input ends.
+fn answer_lines<R: Read, W: Write + Drop>(
+    alloc: Global,
+    map: &mut Numbers,
+    reader: &mut BufReader<R>,
+    writer: &mut BufWriter<W>,
+) -> Result<(), Stopped>
+    ensures { OnOk result (Serves (unread R.remaining reader.old) map.old map.new
+        (written W.contents writer.old) (written W.contents writer.new)) }
+{
     let mut line = Vec::new(alloc);
     for _ in 0..u64::MAX {
-        write_before_waiting(&reader, &mut writer)?;
-        if !read_line(&mut reader, &mut line)? {
+        write_before_waiting(reader, writer)?;
+        if !read_line(reader, &mut line, writer)? {
             return Ok(());
         }
-        writeln!(writer, "{}", reply(&mut map, line.as_slice()))?;
+        answer_line(map, line.as_slice(), writer)?;
     }
     Err(Stopped)
 }
@@ -49,21 +71,26 @@ pub fn serve<R: Read + Drop, W: Write + Drop>(
 fn write_before_waiting<R: Read, W: Write + Drop>(
     reader: &BufReader<R>,
     writer: &mut BufWriter<W>,
-) -> io::Result<()> {
+) -> io::Result<()>
+    ensures kept { Keeps (written W.contents writer.old) (written W.contents writer.new) }
+    ensures out { OnOk result (IsOut (reader_buffer reader.now) (writer_buffer writer.new)) }
+{
     if reader.buffer().contains(&b'\n') {
         return Ok(());
     }
     writer.flush()
 }
 
-// Puts the next line, with its end, in place of the last one. False where the input has ended.
-fn read_line<R: Read>(reader: &mut BufReader<R>, line: &mut Vec<u8>) -> io::Result<bool> {
-    line.clear();
-    reader.by_ref().take(KEPT_BYTES).read_until(b'\n', line)?;
-    if line.len() as u64 == KEPT_BYTES && !line.ends_with(b"\n") {
-        reader.skip_until(b'\n')?;
-    }
-    Ok(!line.is_empty())
+// Answers a line, given with its end, by a line to the writer.
+fn answer_line<W: Write + Drop>(
+    map: &mut Numbers,
+    line: &[u8],
+    writer: &mut BufWriter<W>,
+) -> io::Result<()>
+    ensures { OnOk result (WritesAnswer line.now map.old map.new
+        (written W.contents writer.old) (written W.contents writer.new)) }
+{
+    writeln!(writer, "{}", reply(map, line))
 }
 
 // Answers a line, given with its end.

@@ -1,7 +1,8 @@
 //! Plays a scenario in which memory may be refused, and prints what came back and the state before and after. The script
-//! `tests/refused_memory.sh` refuses the memory.
+//! `tests/refused_memory.py` refuses the memory.
 #![tactic(auto)]
 
+mod act;
 mod report;
 mod scenario;
 

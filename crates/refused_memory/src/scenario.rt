@@ -1,8 +1,7 @@
-//! The scenarios: each makes a map with ample memory, and then does what needs more.
+//! The scenarios: each makes a map with ample memory, and then does what takes more.
 
-use crate::report::{
-    insert, insert_unsearched, print_begin, print_made, print_state, reserve, shrink,
-};
+use crate::act::Act;
+use crate::report::{print_begin, print_hashes, print_made, print_state};
 use half_tests::builders::Rule;
 use half_tests::counts::{Counted, Counts};
 use halfbrown::run::run;
@@ -16,112 +15,68 @@ type Default32 = HashMap<u64, u64, DefaultHashBuilder>;
 /// Plays the scenario of this name.
 pub(crate) fn play(rt: &(impl Print + AllocGlobal), name: &str) -> io::Result<()> {
     match name {
-        "first-pair" => insert_behind::<5>(rt, 0, (1, 10)),
-        "vector-growth" => insert_behind::<32>(rt, 4, (5, 50)),
-        "switch" => insert_behind::<5>(rt, 5, (6, 6)),
-        "switch-by-overwrite" => insert_behind::<5>(rt, 5, (3, 9)),
-        "first-pair-of-a-table" => insert_behind::<0>(rt, 0, (1, 10)),
-        "table-growth" => insert_behind::<0>(rt, 3, (4, 4)),
-        "overwrite-without-room" => insert_behind::<0>(rt, 3, (2, 20)),
-        "switch-unsearched" => insert_unsearched_behind::<5>(rt, 5, (6, 6)),
-        "table-growth-unsearched" => insert_unsearched_behind::<0>(rt, 3, (4, 4)),
-        "vector-reserve" => reserve_behind::<32>(rt, 4, 5),
-        "table-reserve" => reserve_behind::<0>(rt, 3, 4),
-        "vector-shrink" => shrink_behind::<32>(rt, 16, 5),
-        "table-shrink" => shrink_behind::<5>(rt, 24, 6),
+        "first-pair" => twice::<5>(rt, 0, 0, Act::Insert(1, 10)),
+        "vector-growth" => twice::<32>(rt, 0, 4, Act::Insert(5, 50)),
+        "switch" => twice::<5>(rt, 0, 5, Act::Insert(6, 6)),
+        "switch-by-overwrite" => twice::<5>(rt, 0, 5, Act::Insert(3, 9)),
+        "first-pair-of-a-table" => twice::<0>(rt, 0, 0, Act::Insert(1, 10)),
+        "table-growth" => twice::<0>(rt, 0, 3, Act::Insert(4, 4)),
+        "overwrite-in-a-full-table" => twice::<0>(rt, 0, 3, Act::Insert(2, 20)),
+        "unchecked-switch" => twice::<5>(rt, 0, 5, Act::InsertNocheck(6, 6)),
+        "unchecked-table-growth" => twice::<0>(rt, 0, 3, Act::InsertNocheck(4, 4)),
+        "vector-reserve" => twice::<32>(rt, 0, 4, Act::Reserve(5)),
+        "table-reserve" => twice::<0>(rt, 0, 3, Act::Reserve(4)),
+        "vector-shrink" => twice::<32>(rt, 16, 5, Act::ShrinkToFit),
+        "table-shrink" => twice::<5>(rt, 24, 6, Act::ShrinkToFit),
         "vector-made" => make::<5>(rt, 5),
         "table-made" => make::<5>(rt, 6),
         "made-with-default-builder" => make_with_default_builder(rt),
         "vector-made-at-limit" => make_vector_at_limit(rt),
-        "run" => run_behind(rt),
+        "run" => play_run(rt),
         _ => Err(Error::other("no scenario has this name")),
     }
 }
 
-// The pairs (1, 1) to (last, last).
-fn fill<'a, const N: usize>(
-    map: &mut Counted<'a, N>,
-    counts: &'a Counts,
-    last: u64,
+// Makes a map for so many pairs, inserts the pairs (1, 1) to (held, held), and then does the same twice.
+fn twice<const N: usize>(
+    rt: &(impl Print + AllocGlobal),
+    capacity: usize,
+    held: u64,
+    act: Act,
 ) -> io::Result<()> {
-    for id in 1..=last {
+    let counts = Counts::new();
+    let mut map = filled::<N>(rt, &counts, capacity, held)?;
+    print_state(rt, &map, &counts)?;
+    print_begin(rt)?;
+    act.perform(rt, &mut map, &counts)?;
+    print_state(rt, &map, &counts)?;
+    act.perform(rt, &mut map, &counts)?;
+    print_state(rt, &map, &counts)
+}
+
+fn filled<'a, const N: usize>(
+    rt: &impl AllocGlobal,
+    counts: &'a Counts,
+    capacity: usize,
+    held: u64,
+) -> io::Result<Counted<'a, N>> {
+    let Ok(mut map) = made::<N>(rt, counts, capacity) else {
+        return Err(Error::from(AllocError));
+    };
+    for id in 1..=held {
         if map.insert(counts.key(id), id).is_err() {
             return Err(Error::from(AllocError));
         }
     }
-    Ok(())
+    Ok(map)
 }
 
-// An insertion behind so many pairs, and the same once more.
-fn insert_behind<const N: usize>(
-    rt: &(impl Print + AllocGlobal),
-    held: u64,
-    pair: (u64, u64),
-) -> io::Result<()> {
-    let counts = Counts::new();
-    let mut map = counts.map::<N>(rt.alloc(), Rule::Plain);
-    fill(&mut map, &counts, held)?;
-    print_state(rt, &map, &counts)?;
-    print_begin(rt)?;
-    insert(rt, &mut map, &counts, pair)?;
-    print_state(rt, &map, &counts)?;
-    insert(rt, &mut map, &counts, pair)?;
-    print_state(rt, &map, &counts)
-}
-
-// The same without a search.
-fn insert_unsearched_behind<const N: usize>(
-    rt: &(impl Print + AllocGlobal),
-    held: u64,
-    pair: (u64, u64),
-) -> io::Result<()> {
-    let counts = Counts::new();
-    let mut map = counts.map::<N>(rt.alloc(), Rule::Plain);
-    fill(&mut map, &counts, held)?;
-    print_state(rt, &map, &counts)?;
-    print_begin(rt)?;
-    insert_unsearched(rt, &mut map, &counts, pair)?;
-    print_state(rt, &map, &counts)?;
-    insert_unsearched(rt, &mut map, &counts, pair)?;
-    print_state(rt, &map, &counts)
-}
-
-// Room for so many more behind so many pairs, wanted twice.
-fn reserve_behind<const N: usize>(
-    rt: &(impl Print + AllocGlobal),
-    held: u64,
-    additional: usize,
-) -> io::Result<()> {
-    let counts = Counts::new();
-    let mut map = counts.map::<N>(rt.alloc(), Rule::Plain);
-    fill(&mut map, &counts, held)?;
-    print_state(rt, &map, &counts)?;
-    print_begin(rt)?;
-    reserve(rt, &mut map, &counts, additional)?;
-    print_state(rt, &map, &counts)?;
-    reserve(rt, &mut map, &counts, additional)?;
-    print_state(rt, &map, &counts)
-}
-
-// A map made for more pairs than it holds, shrunk twice.
-fn shrink_behind<const N: usize>(
-    rt: &(impl Print + AllocGlobal),
+fn made<'a, const N: usize>(
+    rt: &impl AllocGlobal,
+    counts: &'a Counts,
     capacity: usize,
-    held: u64,
-) -> io::Result<()> {
-    let counts = Counts::new();
-    let builder = counts.builder(Rule::Plain);
-    let made = SizedHashMap::with_capacity_and_hasher(rt.alloc(), capacity, builder);
-    let Ok(mut map): Result<Counted<'_, N>, Refusal> = made else {
-        return Err(Error::from(AllocError));
-    };
-    fill(&mut map, &counts, held)?;
-    print_state(rt, &map, &counts)?;
-    print_begin(rt)?;
-    shrink(rt, &mut map, &counts)?;
-    print_state(rt, &map, &counts)?;
-    shrink(rt, &mut map, &counts)?;
-    print_state(rt, &map, &counts)
+) -> Result<Counted<'a, N>, Refusal> {
+    SizedHashMap::with_capacity_and_hasher(rt.alloc(), capacity, counts.builder(Rule::Plain))
 }
 
 // A map for so many pairs, made twice.
@@ -129,13 +84,7 @@ fn make<const N: usize>(rt: &(impl Print + AllocGlobal), capacity: usize) -> io:
     let counts = Counts::new();
     print_begin(rt)?;
     for _ in 0..2 {
-        let builder = counts.builder(Rule::Plain);
-        let made: Result<Counted<'_, N>, Refusal> = SizedHashMap::with_capacity_and_hasher(
-            rt.alloc(),
-            capacity,
-            builder,
-        );
-        print_made(rt, made)?;
+        print_made(rt, made::<N>(rt, &counts, capacity))?;
     }
     Ok(())
 }
@@ -158,21 +107,19 @@ fn make_vector_at_limit(rt: &(impl Print + AllocGlobal)) -> io::Result<()> {
     Ok(())
 }
 
-// A run that switches a full vector of five, in which the switch is tried twice.
-fn run_behind(rt: &(impl Print + AllocGlobal)) -> io::Result<()> {
+// A run in which the insertion that switches a full vector of five is tried twice.
+fn play_run(rt: &(impl Print + AllocGlobal)) -> io::Result<()> {
     let counts = Counts::new();
-    let mut map = counts.map::<5>(rt.alloc(), Rule::Plain);
-    fill(&mut map, &counts, 5)?;
+    let mut map = filled::<5>(rt, &counts, 0, 5)?;
     let insertion = Command::Insert(counts.key(6), 6);
     let commands = vec![in rt.alloc(); insertion, Command::IsVec, insertion, Command::IsVec]?;
     print_state(rt, &map, &counts)?;
     print_begin(rt)?;
     counts.take();
-    let answer = run(rt.alloc(), &mut map, commands);
-    let (asked, _) = counts.take();
-    match answer {
-        Ok(replies) => println!(rt; "{replies:?}, asked {asked}")?,
-        Err(commands) => println!(rt; "handed back {commands:?}, asked {asked}")?,
+    match run(rt.alloc(), &mut map, commands) {
+        Ok(replies) => print!(rt; "run: replies {replies:?}")?,
+        Err(commands) => print!(rt; "run: commands {commands:?} returned")?,
     }
+    print_hashes(rt, &counts)?;
     print_state(rt, &map, &counts)
 }

@@ -1,102 +1,99 @@
 //! Making a table, growing and shrinking it. All memory is had before anything changes.
 ghost use Rattle.std.specs.Prelude.{◌≡◌, ◌+◌, ◌^◌, ◌<◌, ◌≤◌, ◌↔◌, ◌⊎◌, [], max, length, Err, IfOk, IsOk, OnOk, OnErr, IfErr, Some, slice_get};
-ghost use Rattle.half_store.specs.Rooms.{room_of, buckets_for, buckets_for_more, IsBucketCount};
+ghost use Rattle.half_store.specs.Capacity.{capacity_of, buckets_for, buckets_for_more, IsBucketCount};
 ghost use Rattle.half_store.specs.Table.{slots_of};
 
 use super::Table;
-use crate::rooms::{MOST_PAIRS, buckets_for, room_of};
+use crate::capacity::{buckets_for, capacity_of};
+use crate::refusal::check_size;
 use crate::{Refusal, Tally};
 use std::alloc::{AllocError, Global};
 
 impl Table {
-    /// An empty table with the least number of buckets that have room for so many pairs.
+    /// An empty table with the least number of buckets whose capacity is enough for so many pairs.
     ///
-    /// It is refused for `Size` exactly where more than 2^60 pairs are wanted.
+    /// Fails with `Size` exactly for more than 2^60 pairs.
     ///
     /// ```
-    /// let mut table = Table::with_room(alloc, 3)?; // four buckets
+    /// let mut table = Table::with_capacity(alloc, 3)?; // four buckets
     /// ```
-    pub fn with_room(alloc: Global, wanted: usize) -> Result<Table, Refusal>
+    pub fn with_capacity(alloc: Global, needed: usize) -> Result<Table, Refusal>
         ensures hashes { IfOk result (λ t. t.hashes ≡ []) }
-        ensures buckets { IfOk result (λ t. t.buckets ≡ buckets_for wanted) }
-        ensures room { IfOk result (λ t. wanted ≤ room_of t.buckets) }
-        ensures size { (result ≡ Err Refusal.Size) ↔ (2 ^ 60 < wanted) }
-        ensures granted { wanted ≡ 0 → IsOk result }
+        ensures buckets { IfOk result (λ t. t.buckets ≡ buckets_for needed) }
+        ensures capacity { IfOk result (λ t. needed ≤ capacity_of t.buckets) }
+        ensures size { (result ≡ Err Refusal.Size) ↔ (2 ^ 60 < needed) }
+        ensures granted { needed ≡ 0 → IsOk result }
     {
-        if wanted > MOST_PAIRS {
-            return Err(Refusal::Size);
-        }
-        Table::empty(alloc, buckets_for(wanted)).map_err(|_| Refusal::Memory)
+        check_size(needed)?;
+        Table::empty(alloc, buckets_for(needed)).map_err(|_| Refusal::Memory)
     }
 
-    /// A table that holds pairs of these hashes, with the least number of buckets that have room for `wanted`.
+    /// A table of pairs with these hashes, with the least number of buckets whose capacity is enough for `needed` pairs.
     ///
     /// ```
-    /// let table = Table::from_hashes(alloc, &[7, 11], 4)?; // two pairs, and room for 6
+    /// let table = Table::from_hashes(alloc, &[7, 11], 4)?; // two pairs, capacity 6
     /// ```
-    pub fn from_hashes(alloc: Global, hashes: &[u64], wanted: usize) -> Result<Table, Refusal>
-        requires { length hashes.now ≤ wanted }
+    pub fn from_hashes(alloc: Global, hashes: &[u64], needed: usize) -> Result<Table, Refusal>
+        requires { length hashes.now ≤ needed }
         ensures hashes { IfOk result (λ t. t.hashes ≡ hashes.now) }
-        ensures buckets { IfOk result (λ t. t.buckets ≡ buckets_for wanted) }
-        ensures room { IfOk result (λ t. wanted ≤ room_of t.buckets) }
-        ensures size { (result ≡ Err Refusal.Size) ↔ (2 ^ 60 < wanted) }
-        ensures granted { wanted ≡ 0 → IsOk result }
+        ensures buckets { IfOk result (λ t. t.buckets ≡ buckets_for needed) }
+        ensures capacity { IfOk result (λ t. needed ≤ capacity_of t.buckets) }
+        ensures size { (result ≡ Err Refusal.Size) ↔ (2 ^ 60 < needed) }
+        ensures granted { needed ≡ 0 → IsOk result }
     {
-        let mut table = Table::with_room(alloc, wanted)?;
+        let mut table = Table::with_capacity(alloc, needed)?;
         for hash in hashes {
             table.add(*hash, &mut Tally::new());
         }
         Ok(table)
     }
 
-    /// Makes room for so many pairs in all. It never loses room, and after a refusal nothing has changed.
+    /// Makes the capacity enough for so many pairs in all. It never falls, and on error nothing changes.
     ///
     /// ```
-    /// table.reserve(7)?; // room for 12: sixteen buckets are the fewest that serve
+    /// table.reserve(7)?; // capacity 12: sixteen buckets are the fewest that are enough
     /// ```
-    pub fn reserve(&mut self, wanted: usize) -> Result<(), Refusal>
+    pub fn reserve(&mut self, needed: usize) -> Result<(), Refusal>
         ensures hashes { self.new.hashes ≡ self.old.hashes }
-        ensures buckets { OnOk result (self.new.buckets ≡ max self.old.buckets (buckets_for wanted)) }
-        ensures more { OnOk result (room_of self.old.buckets < wanted → self.new.buckets ≡ buckets_for wanted) }
-        ensures room { OnOk result (wanted ≤ room_of self.new.buckets) }
-        ensures size { (result ≡ Err Refusal.Size) ↔ ((room_of self.old.buckets < wanted) × (2 ^ 60 < wanted)) }
-        ensures granted { wanted ≤ room_of self.old.buckets → IsOk result × (self.new ≡ self.old) }
+        ensures buckets { OnOk result (self.new.buckets ≡ max self.old.buckets (buckets_for needed)) }
+        ensures more { OnOk result (capacity_of self.old.buckets < needed → self.new.buckets ≡ buckets_for needed) }
+        ensures capacity { OnOk result (needed ≤ capacity_of self.new.buckets) }
+        ensures size { (result ≡ Err Refusal.Size) ↔ ((capacity_of self.old.buckets < needed) × (2 ^ 60 < needed)) }
+        ensures granted { needed ≤ capacity_of self.old.buckets → IsOk result × (self.new ≡ self.old) }
         ensures err { OnErr result (self.new ≡ self.old) }
     {
-        if wanted <= self.room() {
+        if needed <= self.capacity() {
             return Ok(());
         }
-        if wanted > MOST_PAIRS {
-            return Err(Refusal::Size);
-        }
-        self.rebuild(buckets_for(wanted))
+        check_size(needed)?;
+        self.rebuild(buckets_for(needed))
             .map_err(|_| Refusal::Memory)
     }
 
-    /// Makes room for one pair more where there is none, by the next number of buckets.
+    /// Makes the capacity enough for one pair more, by the next number of buckets where it is not.
     ///
     /// ```
-    /// table.grow()?; // there is room for one more, so nothing changes
+    /// table.grow()?; // one more fits, so nothing changes
     /// ```
     pub fn grow(&mut self) -> Result<(), Refusal>
         ensures hashes { self.new.hashes ≡ self.old.hashes }
         ensures buckets { OnOk result (self.new.buckets ≡ buckets_for_more (length self.old.hashes) self.old.buckets) }
-        ensures room { OnOk result (length self.new.hashes < room_of self.new.buckets) }
-        ensures size { (result ≡ Err Refusal.Size) ↔ ((room_of self.old.buckets ≤ length self.old.hashes) × (2 ^ 60 ≤ length self.old.hashes)) }
-        ensures granted { length self.old.hashes < room_of self.old.buckets → IsOk result × (self.new ≡ self.old) }
+        ensures capacity { OnOk result (length self.new.hashes < capacity_of self.new.buckets) }
+        ensures size { (result ≡ Err Refusal.Size) ↔ ((capacity_of self.old.buckets ≤ length self.old.hashes) × (2 ^ 60 ≤ length self.old.hashes)) }
+        ensures granted { length self.old.hashes < capacity_of self.old.buckets → IsOk result × (self.new ≡ self.old) }
         ensures err { OnErr result (self.new ≡ self.old) }
     {
-        if self.len() < self.room() {
+        if self.len() < self.capacity() {
             return Ok(());
         }
         self.reserve(self.len() + 1)
     }
 
-    /// Keeps the least number of buckets that have room for the pairs. Without memory the room stays; with no pairs
-    /// there are no buckets afterwards, and no memory is taken.
+    /// Shrinks to the least number of buckets that the pairs fit. Where memory is refused the capacity stays; with no pairs
+    /// there are no buckets afterwards, and no memory is needed.
     ///
     /// ```
-    /// table.shrink_to_fit(); // room for 3
+    /// table.shrink_to_fit(); // capacity 3
     /// ```
     pub fn shrink_to_fit(&mut self)
         ensures hashes { self.new.hashes ≡ self.old.hashes }
@@ -127,13 +124,13 @@ impl Table {
     {
         let alloc = self.allocator();
         let hashes = Vec::from_slice(alloc, self.hashes.as_slice())?;
-        let numbers = Vec::from_slice(alloc, self.numbers.as_slice())?;
-        let mut places = Vec::with_capacity(alloc, self.room())?;
-        places.extend_from_slice(self.places.as_slice())?;
+        let entry_of = Vec::from_slice(alloc, self.entry_of.as_slice())?;
+        let mut bucket_of = Vec::with_capacity(alloc, self.capacity())?;
+        bucket_of.extend_from_slice(self.bucket_of.as_slice())?;
         Ok(Table {
             hashes,
-            numbers,
-            places,
+            entry_of,
+            bucket_of,
         })
     }
 
@@ -148,27 +145,27 @@ impl Table {
             return Ok(Table::new(alloc));
         }
         let hashes = vec![in alloc; None; buckets]?;
-        let numbers = vec![in alloc; 0; buckets]?;
-        let places = Vec::with_capacity(alloc, room_of(buckets))?;
+        let entry_of = vec![in alloc; 0; buckets]?;
+        let bucket_of = Vec::with_capacity(alloc, capacity_of(buckets))?;
         Ok(Table {
             hashes,
-            numbers,
-            places,
+            entry_of,
+            bucket_of,
         })
     }
 
-    // Places all pairs anew in so many buckets, by their stored hashes.
+    // Probes all pairs anew in so many buckets, by their stored hashes.
     fn rebuild(&mut self, buckets: usize) -> Result<(), AllocError>
         requires count { IsBucketCount buckets }
-        requires room { length self.old.hashes ≤ room_of buckets }
+        requires capacity { length self.old.hashes ≤ capacity_of buckets }
         ensures hashes { self.new.hashes ≡ self.old.hashes }
         ensures buckets { OnOk result (self.new.buckets ≡ buckets) }
         ensures granted { buckets ≡ 0 → IsOk result }
         ensures err { OnErr result (self.new ≡ self.old) }
     {
         let mut rebuilt = Table::empty(self.allocator(), buckets)?;
-        for number in 0..self.len() {
-            rebuilt.add(self.hash_of(number), &mut Tally::new());
+        for index in 0..self.len() {
+            rebuilt.add(self.hash_of(index), &mut Tally::new());
         }
         *self = rebuilt;
         Ok(())
@@ -179,11 +176,11 @@ impl Table {
     }
 
     // The stored hash of a pair.
-    fn hash_of(&self, number: usize) -> u64
-        requires { number < length self.now.hashes }
-        ensures { slice_get self.now.hashes number ≡ Some result }
+    fn hash_of(&self, index: usize) -> u64
+        requires { index < length self.now.hashes }
+        ensures { slice_get self.now.hashes index ≡ Some result }
     {
-        match self.hashes[self.places[number]] {
+        match self.hashes[self.bucket_of[index]] {
             Some(hash) => hash,
             None => unreachable!(),
         }

@@ -1,8 +1,8 @@
 ghost use Rattle.std.specs.Prelude.{◌≡◌, ◌≤◌, ◌<◌, length};
 
 use super::Table;
-use super::search::Search;
-use super::walks::{Places, search, vacancy};
+use super::buckets::Buckets;
+use super::probe::{Probe, first_empty, search};
 use crate::{Refusal, Tally};
 use std::alloc::Global;
 use std::cell::Cell;
@@ -11,60 +11,60 @@ use std::test::Fail;
 
 // Buckets that count how often they are read.
 #[derive(Drop)]
-struct CountedPlaces<'a> {
+struct CountedBuckets<'a> {
     hashes: &'a [Option<u64>],
     reads: &'a Cell<usize>,
 }
 
-impl Places for CountedPlaces<'_> {
+impl Buckets for CountedBuckets<'_> {
     ghost slots = { λ s. s.hashes.now };
 
-    fn hash_at(&self, place: usize) -> Option<u64> {
+    fn hash_at(&self, bucket: usize) -> Option<u64> {
         self.reads.set(self.reads.get().wrapping_add(1));
-        self.hashes[place]
+        self.hashes[bucket]
     }
 }
 
-// Where a search for this hash that accepts one number ended, how many buckets it read, and how often it asked.
+// Where a probe for this hash that accepts one entry index ended, how many buckets it read, and how many keys it compared.
 fn searched(table: &Table, hash: u64, accepted: usize) -> (Option<usize>, usize, usize) {
     if table.hashes.is_empty() {
         return (None, 0, 0);
     }
     let reads = Cell::new(0);
     let asked = Cell::new(0usize);
-    let places = CountedPlaces {
+    let buckets = CountedBuckets {
         hashes: table.hashes.as_slice(),
         reads: &reads,
     };
-    let matches = |number: usize| {
+    let matches = |index: usize| {
         asked.set(asked.get().wrapping_add(1));
-        number == accepted
+        index == accepted
     };
-    let place = search(
-        &places,
-        table.numbers.as_slice(),
+    let bucket = search(
+        &buckets,
+        table.entry_of.as_slice(),
         hash,
         &matches,
         &mut Tally::new(),
     );
-    (place.ok(), reads.get(), asked.get())
+    (bucket.ok(), reads.get(), asked.get())
 }
 
-// The place where a placing of this hash ended, and how many buckets it read.
-fn placed(table: &Table, hash: u64) -> (usize, usize) {
+// The bucket where an insertion probe of this hash ended, and how many buckets it read.
+fn probed(table: &Table, hash: u64) -> (usize, usize) {
     if table.hashes.is_empty() {
         return (0, 0);
     }
     let reads = Cell::new(0);
-    let places = CountedPlaces {
+    let buckets = CountedBuckets {
         hashes: table.hashes.as_slice(),
         reads: &reads,
     };
-    let place = vacancy(&places, table.hashes.len(), hash, &mut Tally::new());
-    (place, reads.get())
+    let bucket = first_empty(&buckets, table.hashes.len(), hash, &mut Tally::new());
+    (bucket, reads.get())
 }
 
-const NO_NUMBER: usize = usize::MAX;
+const NO_INDEX: usize = usize::MAX;
 
 // A table of pairs with these hashes, added one after another, which grows where it has no room.
 fn table_of(alloc: Global, hashes: &[u64]) -> Result<Table, Refusal> {
@@ -84,7 +84,7 @@ fn four_buckets(rt: HostRuntime) -> Result<(), Fail> {
         [Some(7), Some(11), None, Some(3)].as_slice()
     );
     assert_eq!(rt;
-        searched(&table, 15, NO_NUMBER),
+        searched(&table, 15, NO_INDEX),
         (None, 4, 0),
         "absent: buckets 3, 0, 1, 2"
     );
@@ -94,17 +94,17 @@ fn four_buckets(rt: HostRuntime) -> Result<(), Fail> {
         "held: buckets 3, 0, 1"
     );
     assert_eq!(rt;
-        placed(&table, 15),
+        probed(&table, 15),
         (2, 4),
-        "a placing ends where the search does"
+        "an insertion probe ends where the search does"
     );
     assert_eq!(rt;
         table.find(15, &|_: usize| true, &mut Tally::new()),
-        Search::Vacant(2)
+        Probe::Vacant(2)
     );
     assert_eq!(rt;
         table.find(11, &|_: usize| true, &mut Tally::new()),
-        Search::Found(2)
+        Probe::Found(2)
     );
 
     let mut grown = table.copy()?;
@@ -114,7 +114,7 @@ fn four_buckets(rt: HostRuntime) -> Result<(), Fail> {
         [None, None, None, Some(3), Some(11), None, None, Some(7)].as_slice()
     );
     assert_eq!(rt;
-        placed(&grown, 15),
+        probed(&grown, 15),
         (0, 2),
         "after growth: buckets 7 and 0 of eight"
     );
@@ -129,7 +129,7 @@ fn four_buckets(rt: HostRuntime) -> Result<(), Fail> {
     assert_eq!(rt;
         searched(&table, 11, 0),
         (Some(0), 2, 1),
-        "the last pair has the number that became free"
+        "the last pair has the index that became free"
     );
     if table.len() == 2 {
         assert_eq!(rt; table.remove(1), 7);
@@ -138,7 +138,7 @@ fn four_buckets(rt: HostRuntime) -> Result<(), Fail> {
         assert_eq!(rt; table.remove(0), 11);
     }
     assert_eq!(rt;
-        searched(&table, 15, NO_NUMBER),
+        searched(&table, 15, NO_INDEX),
         (None, 1, 0),
         "nothing is left of them"
     );
@@ -149,7 +149,7 @@ fn four_buckets(rt: HostRuntime) -> Result<(), Fail> {
 fn equal_hashes(rt: HostRuntime) -> Result<(), Fail> {
     let zeros = table_of(rt.alloc(), &[0, 0, 0])?;
     assert_eq!(rt;
-        searched(&zeros, 0, NO_NUMBER),
+        searched(&zeros, 0, NO_INDEX),
         (None, 4, 3),
         "each pair of that hash is asked, then none accepted"
     );
@@ -165,7 +165,7 @@ fn equal_hashes(rt: HostRuntime) -> Result<(), Fail> {
         tops.hashes.as_slice(),
         [Some(top), Some(top), None, Some(top)].as_slice()
     );
-    assert_eq!(rt; tops.numbers.as_slice(), [1, 2, 0, 0].as_slice());
+    assert_eq!(rt; tops.entry_of.as_slice(), [1, 2, 0, 0].as_slice());
     if tops.len() == 3 {
         assert_eq!(rt; tops.remove(0), top);
     }
@@ -194,10 +194,10 @@ fn equal_hashes(rt: HostRuntime) -> Result<(), Fail> {
 
 #[test]
 fn a_gap_closed_step_by_step(rt: HostRuntime) -> Result<(), Fail> {
-    let mut table = Table::with_room(rt.alloc(), 5)?;
-    assert_eq!(rt; table.room(), 6);
-    for (hash, place) in [(6, 6), (14, 7), (7, 0), (15, 1), (0, 2)] {
-        assert_eq!(rt; placed(&table, hash).0, place, "the place of {hash}");
+    let mut table = Table::with_capacity(rt.alloc(), 5)?;
+    assert_eq!(rt; table.capacity(), 6);
+    for (hash, bucket) in [(6, 6), (14, 7), (7, 0), (15, 1), (0, 2)] {
+        assert_eq!(rt; probed(&table, hash).0, bucket, "the place of {hash}");
         table.grow()?;
         table.add(hash, &mut Tally::new());
     }
@@ -215,7 +215,7 @@ fn a_gap_closed_step_by_step(rt: HostRuntime) -> Result<(), Fail> {
 
     let mut without_14 = table.copy()?;
     assert_eq!(rt; without_14.hashes.as_slice(), full.as_slice());
-    assert_eq!(rt; without_14.numbers.as_slice(), table.numbers.as_slice());
+    assert_eq!(rt; without_14.entry_of.as_slice(), table.entry_of.as_slice());
     assert!(rt; 1 < without_14.len());
     assert_eq!(rt; without_14.remove(1), 14);
     assert_eq!(rt;
@@ -229,15 +229,15 @@ fn a_gap_closed_step_by_step(rt: HostRuntime) -> Result<(), Fail> {
         table.hashes.as_slice(),
         [Some(15), Some(0), None, None, None, None, Some(14), Some(7)].as_slice()
     );
-    for (hash, number, place, reads) in [(0, 0, 1, 2), (14, 1, 6, 1), (7, 2, 7, 1), (15, 3, 0, 2)] {
+    for (hash, index, bucket, reads) in [(0, 0, 1, 2), (14, 1, 6, 1), (7, 2, 7, 1), (15, 3, 0, 2)] {
         assert_eq!(rt;
-            searched(&table, hash, number),
-            (Some(place), reads, 1),
+            searched(&table, hash, index),
+            (Some(bucket), reads, 1),
             "the pair of hash {hash}"
         );
     }
 
-    let mut stays = Table::with_room(rt.alloc(), 6)?;
+    let mut stays = Table::with_capacity(rt.alloc(), 6)?;
     for hash in [1, 9, 3] {
         stays.grow()?;
         stays.add(hash, &mut Tally::new());
@@ -247,25 +247,21 @@ fn a_gap_closed_step_by_step(rt: HostRuntime) -> Result<(), Fail> {
     assert_eq!(rt;
         stays.hashes.as_slice(),
         [None, Some(9), None, Some(3), None, None, None, None].as_slice(),
-        "3 is at home in the stretch"
+        "the home bucket of 3 is in the stretch"
     );
     Ok(())
 }
 
 #[test]
-fn no_trace_of_the_past(rt: HostRuntime) -> Result<(), Fail> {
+fn no_trace_of_the_history(rt: HostRuntime) -> Result<(), Fail> {
     let mut table = table_of(rt.alloc(), &[0, 8, 1])?;
-    assert_eq!(rt;
-        searched(&table, 1, 2),
-        (Some(2), 2, 1),
-        "1 stands behind 8"
-    );
+    assert_eq!(rt; searched(&table, 1, 2), (Some(2), 2, 1), "1 is after 8");
     assert!(rt; 1 < table.len());
     assert_eq!(rt; table.remove(1), 8);
     assert_eq!(rt;
         searched(&table, 1, 1),
         (Some(1), 1, 1),
-        "and is at home again"
+        "and in its home bucket again"
     );
     assert_eq!(rt; searched(&table, 0, 0), (Some(0), 1, 1));
 
@@ -275,12 +271,12 @@ fn no_trace_of_the_past(rt: HostRuntime) -> Result<(), Fail> {
     let fresh = Table::from_hashes(rt.alloc(), &[0, 15, 14, 7], 5)?;
     for (hash, reads) in [(8, 3), (22, 5), (23, 4), (3, 1)] {
         assert_eq!(rt;
-            searched(&lived, hash, NO_NUMBER),
+            searched(&lived, hash, NO_INDEX),
             (None, reads, 0),
             "no pair of hash {hash}"
         );
         assert_eq!(rt;
-            searched(&fresh, hash, NO_NUMBER),
+            searched(&fresh, hash, NO_INDEX),
             (None, reads, 0),
             "no pair of hash {hash}"
         );
@@ -289,51 +285,51 @@ fn no_trace_of_the_past(rt: HostRuntime) -> Result<(), Fail> {
 }
 
 #[test]
-fn rooms_of_a_table(rt: HostRuntime) -> Result<(), Fail> {
+fn capacities_of_a_table(rt: HostRuntime) -> Result<(), Fail> {
     let mut table = table_of(rt.alloc(), &[0, 1, 2, 3, 4, 5])?;
-    assert_eq!(rt; table.room(), 6);
+    assert_eq!(rt; table.capacity(), 6);
     table.reserve(13)?;
-    assert_eq!(rt; table.room(), 24);
+    assert_eq!(rt; table.capacity(), 24);
     assert_eq!(rt; table.hashes.len(), 32);
     table.reserve(7)?;
-    assert_eq!(rt; table.room(), 24, "it never loses room");
+    assert_eq!(rt; table.capacity(), 24, "it never falls");
     assert_eq!(rt; table.reserve(usize::MAX), Err(Refusal::Size));
-    assert_eq!(rt; table.room(), 24);
+    assert_eq!(rt; table.capacity(), 24);
     table.shrink_to_fit();
-    assert_eq!(rt; table.room(), 6);
+    assert_eq!(rt; table.capacity(), 6);
     for hash in 0..6 {
         assert_eq!(rt;
             searched(&table, hash, hash as usize),
             (Some(hash as usize), 1, 1),
-            "each stands at home"
+            "each is in its home bucket"
         );
     }
     table.clear();
-    assert_eq!(rt; (table.len(), table.room()), (0, 6));
-    assert_eq!(rt; searched(&table, 3, NO_NUMBER), (None, 1, 0));
+    assert_eq!(rt; (table.len(), table.capacity()), (0, 6));
+    assert_eq!(rt; searched(&table, 3, NO_INDEX), (None, 1, 0));
     table.shrink_to_fit();
-    assert_eq!(rt; table.room(), 0);
+    assert_eq!(rt; table.capacity(), 0);
     assert_eq!(rt;
         table.find(3, &|_: usize| true, &mut Tally::new()),
-        Search::NoBuckets
+        Probe::NoBuckets
     );
 
     let spread = Table::from_hashes(rt.alloc(), &[0, 2, 4, 6, 8, 10], 12)?;
-    assert_eq!(rt; (spread.len(), spread.room()), (6, 12));
+    assert_eq!(rt; (spread.len(), spread.capacity()), (6, 12));
     assert_eq!(rt; searched(&spread, 0, 0), (Some(0), 1, 1));
-    assert_eq!(rt; searched(&spread, 16, NO_NUMBER), (None, 2, 0));
-    assert_eq!(rt; searched(&spread, 12, NO_NUMBER), (None, 1, 0));
+    assert_eq!(rt; searched(&spread, 16, NO_INDEX), (None, 2, 0));
+    assert_eq!(rt; searched(&spread, 12, NO_INDEX), (None, 1, 0));
 
-    for (wanted, room) in [(0, 0), (1, 3), (3, 3), (4, 6), (33, 48), (100, 192)] {
+    for (needed, capacity) in [(0, 0), (1, 3), (3, 3), (4, 6), (33, 48), (100, 192)] {
         assert_eq!(rt;
-            Table::with_room(rt.alloc(), wanted)?.room(),
-            room,
-            "for {wanted} pairs"
+            Table::with_capacity(rt.alloc(), needed)?.capacity(),
+            capacity,
+            "for {needed} pairs"
         );
     }
     assert!(rt;
         matches!(
-            Table::with_room(rt.alloc(), (1 << 60) + 1),
+            Table::with_capacity(rt.alloc(), (1 << 60) + 1),
             Err(Refusal::Size)
         )
     );
@@ -360,8 +356,8 @@ fn is_loaded(hashes: &[u64], buckets: usize, last: usize) -> bool {
         let mut load = 0usize;
         for hash in hashes {
             let home = (*hash as usize).checked_rem(buckets).unwrap_or(0);
-            let steps = last.wrapping_add(buckets).wrapping_sub(home);
-            if steps.checked_rem(buckets).unwrap_or(0) < size {
+            let probe_distance = last.wrapping_add(buckets).wrapping_sub(home);
+            if probe_distance.checked_rem(buckets).unwrap_or(0) < size {
                 load = load.wrapping_add(1);
             }
         }
@@ -399,21 +395,21 @@ fn lives_long(rt: &impl Abort, alloc: Global, builder: Builder) -> Result<(), Fa
             .wrapping_add(1442695040888963407);
         let key = (state >> 33) % 20;
         let held = keys.as_slice();
-        let matches = |number: usize| held.get(number).copied() == Some(key);
+        let matches = |index: usize| held.get(index).copied() == Some(key);
         let found = table.find(hash_of(builder, key), &matches, &mut Tally::new());
-        let number = held.iter().position(|other| *other == key);
-        match number {
-            Some(number) => {
-                assert_eq!(rt; found, Search::Found(number), "the key {key} is held");
-                assert!(rt; number < table.len());
-                assert!(rt; number < hashes.len());
-                assert_eq!(rt; table.remove(number), hashes.swap_remove(number));
-                assert!(rt; number < keys.len());
-                keys.swap_remove(number);
+        let index = held.iter().position(|other| *other == key);
+        match index {
+            Some(index) => {
+                assert_eq!(rt; found, Probe::Found(index), "the key {key} is held");
+                assert!(rt; index < table.len());
+                assert!(rt; index < hashes.len());
+                assert_eq!(rt; table.remove(index), hashes.swap_remove(index));
+                assert!(rt; index < keys.len());
+                keys.swap_remove(index);
             }
             None => {
                 assert!(rt;
-                    !matches!(found, Search::Found(_)),
+                    !matches!(found, Probe::Found(_)),
                     "the key {key} is not held"
                 );
                 table.grow()?;
@@ -424,13 +420,13 @@ fn lives_long(rt: &impl Abort, alloc: Global, builder: Builder) -> Result<(), Fa
         }
         assert_eq!(rt; table.len(), keys.len());
         let absent = hash_of(builder, 20 + key);
-        let reads = searched(&table, absent, NO_NUMBER).1;
+        let reads = searched(&table, absent, NO_INDEX).1;
         assert_eq!(rt;
             reads,
             reach(hashes.as_slice(), table.hashes.len(), absent),
-            "an absent search, by the homes alone"
+            "an unsuccessful probe, by the homes alone"
         );
-        assert_eq!(rt; placed(&table, absent).1, reads, "and a placing");
+        assert_eq!(rt; probed(&table, absent).1, reads, "and an insertion probe");
     }
     Ok(())
 }

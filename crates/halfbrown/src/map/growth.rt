@@ -1,72 +1,63 @@
-//! More room, and less.
-ghost use Rattle.std.specs.Prelude.{◌≡◌, ◌+◌, ◌<◌, ◌≤◌, true, false, None, length, IsOk, OnOk, OnErr, IfErr};
-ghost use Rattle.halfbrown.specs.Growth.{is_full, addition_wants, room_wants, IsRefusal, IsGrantable, HasRoomAfter, HasRoomShrunk};
+//! Growing and shrinking the capacity.
+ghost use Rattle.std.specs.Prelude.{◌≡◌, ◌+◌, length, OnOk, OnErr, IfErr};
+ghost use Rattle.halfbrown.specs.Growth.{reserve_needs, IsRefusal, Reserves, Shrinks};
 ghost use Rattle.halfbrown.specs.State.{IsState};
 
 use super::LimitedHashMap;
 use crate::Limit;
 use half_store::Refusal;
+use half_store::capacity::capacity_for;
 use half_store::refusal::check_size;
-use half_store::rooms::room_for;
 use std::hash::{BuildHasher, Hash};
 
 impl<K: Eq + Hash, V, S: BuildHasher, L: Limit> LimitedHashMap<K, V, S, L> {
-    /// Makes room for so many pairs more, so that as many insertions need none. The room never falls.
+    /// Makes the capacity enough for so many pairs more: in a table for all of them, in a vector for no more in all than the
+    /// limit, since the insertion after that switches, and allocates. The capacity never falls. Nothing is hashed.
     ///
-    /// A table asks for the least room of its series that serves, and a vector for no more than the limit, whatever is
-    /// wanted. It is refused only where there is less room, and then nothing has changed. Nothing is hashed.
+    /// Where the capacity is not enough yet, a table gets the least of its series that is. Fails with `Size` for more than
+    /// 2^60 pairs in all, and with `Memory` where that is refused; on error nothing changes.
     ///
     /// ```
-    /// ages.reserve(20)?; // twenty more ages want no more room
+    /// ages.reserve(20)?; // twenty more ages need no more memory
     /// ```
     pub fn reserve(&mut self, additional: usize) -> Result<(), Refusal>
-        ensures room { OnOk result (HasRoomAfter self.old (room_wants L.LIMIT self.old (length self.old.pairs + additional)) self.new) }
-        ensures serves { OnOk result (room_wants L.LIMIT self.new (length self.old.pairs + additional) ≡ None) }
-        ensures granted { OnOk result (IsGrantable (room_wants L.LIMIT self.old (length self.old.pairs + additional))) }
-        ensures refused { IfErr result (IsRefusal (room_wants L.LIMIT self.old (length self.old.pairs + additional))) }
+        ensures ok { OnOk result (Reserves L.LIMIT self.old additional self.new) }
+        ensures refused { IfErr result (IsRefusal (reserve_needs L.LIMIT self.old (length self.old.pairs + additional))) }
         ensures err { OnErr result (self.new ≡ self.old) }
-        ensures pairs { self.new.pairs ≡ self.old.pairs }
-        ensures form { self.new.is_vec ≡ self.old.is_vec }
-        ensures hasher { self.new.builder ≡ self.old.builder }
         ensures state { IsState K.eq L.LIMIT self.new }
     {
         let len = self.columns.len();
-        let Some(table) = &mut self.table else {
-            let wanted = len.saturating_add(additional).min(L::LIMIT);
-            return self.columns.grow(wanted, L::LIMIT);
-        };
-        if additional <= table.room() - len {
+        if self.form.is_vec() {
+            let needed = len.saturating_add(additional).min(L::LIMIT);
+            return self.columns.grow(needed, L::LIMIT);
+        }
+        if additional <= self.form.capacity() - len {
             return Ok(());
         }
-        let Some(wanted) = len.checked_add(additional) else {
+        let Some(needed) = len.checked_add(additional) else {
             return Err(Refusal::Size);
         };
-        // The columns may have more room than the table, which decides: so they grow first.
-        check_size(wanted)?;
-        self.columns.reserve(room_for(wanted))?;
-        table.reserve(wanted)
+        // The columns may have more capacity than the table, which decides: so they grow first.
+        check_size(needed)?;
+        self.columns.reserve(capacity_for(needed))?;
+        self.form.reserve(needed)
     }
 
-    /// Gives memory back as far as the pairs allow. A table has the least room of its series that serves afterwards, or
-    /// without memory for that the room that it had. An empty map has no room afterwards, and needs no memory for that.
-    /// Nothing is hashed.
+    /// Shrinks the capacity to the least that the pairs fit: in a table the least of its series. Where memory for that is
+    /// refused it stays; an empty map needs none, and has capacity 0 afterwards. The form stays. Nothing is hashed.
     ///
     /// ```
     /// ages.shrink_to_fit();
     /// ```
     pub fn shrink_to_fit(&mut self)
-        ensures room { HasRoomShrunk self.old self.new }
-        ensures pairs { self.new.pairs ≡ self.old.pairs }
-        ensures form { self.new.is_vec ≡ self.old.is_vec }
-        ensures hasher { self.new.builder ≡ self.old.builder }
+        ensures after { Shrinks self.old self.new }
         ensures state { IsState K.eq L.LIMIT self.new }
     {
-        match &mut self.table {
-            None => self.columns.shrink_to(0),
-            Some(table) => {
-                table.shrink_to_fit();
-                self.columns.shrink_to(table.room());
-            }
+        if self.form.is_vec() {
+            self.columns.shrink_to(0);
+        } else {
+            self.form.shrink_to_fit();
+            self.columns.shrink_to(self.form.capacity());
         }
     }
 }

@@ -14,8 +14,8 @@ pub fn form_of_a_run<K: Eq + Hash, V, S: BuildHasher, L: Limit>()
     ensures nothing_hashed { NothingHashedLaw V L.LIMIT K.eq (key_hash S.BuildHasher S.Hasher.Hasher K.hash_input) }
 {}
 
-/// What a run is answered is decided by the form, the pairs in order and the refusals: the room, the builder, the hashes
-/// and whatever came before decide nothing.
+/// The replies of a run are decided by the form, the pairs in order and the refusals: capacity, builder, hashes and
+/// history decide nothing.
 pub fn replies_of_a_run<K: Eq + Hash, V, S: BuildHasher, L: Limit>()
     ensures { RepliesLaw V L.LIMIT K.eq (key_hash S.BuildHasher S.Hasher.Hasher K.hash_input) }
 {}

@@ -1,10 +1,12 @@
 //! What is served over readers and writers of every kind.
+ghost use Rattle.std.specs.Prelude.{[], Some, IfOk};
+ghost use Rattle.halfmap.specs.Session.{ServesFromEmpty, HashBuilder};
 
 use super::{Stopped, serve};
 use std::alloc::Global;
 use std::cell::Cell;
 use std::io;
-use std::io::{Error, Read, Write};
+use std::io::{Error, ErrorKind, Read, Write};
 use std::test::Fail;
 
 // Gives these bytes, at most so many at once, and then ends or fails.
@@ -52,19 +54,36 @@ impl Write for Output<'_> {
 
 // What is answered to a text that comes so many bytes at once.
 fn answers(alloc: Global, text: &[u8], most: usize) -> (Result<(), Stopped>, Vec<u8>) {
-    let mut written = Vec::new(alloc);
     let reader = Input {
         bytes: text,
         most,
         fails: false,
     };
-    let outcome = serve(alloc, reader, &mut written);
-    (outcome, written)
+    match serve(alloc, reader, Vec::new(alloc)) {
+        Ok(written) => (Ok(()), written),
+        Err(stopped) => (Err(stopped), Vec::new(alloc)),
+    }
+}
+
+// A text in memory is answered into memory: what is read and written is known, so the contract says all of it.
+fn answers_in_memory(alloc: Global, text: &[u8]) -> Result<Vec<u8>, Stopped>
+    ensures { IfOk result (λ written.
+        ServesFromEmpty HashBuilder (Some text.now) (Some []) (Some written.items)) }
+{
+    serve(alloc, text, Vec::new(alloc))
+}
+
+#[test]
+fn answers_a_text_in_memory(rt: HostRuntime) {
+    match answers_in_memory(rt.alloc(), b"i 1 2\ng 1\nf") {
+        Ok(written) => assert_eq!(rt; written.as_slice(), b"none\n2\nvec 1\n".as_slice()),
+        Err(_) => panic!(rt; "there is memory"),
+    }
 }
 
 #[test]
 fn answers_each_line_however_the_bytes_come(rt: HostRuntime) {
-    let cases: [(&str, &[u8], &[u8]); 12] = [
+    let cases: [(&str, &[u8], &[u8]); 15] = [
         (
             "a vector of five, and its table",
             b"i 1 10\ni 2 20\ni 3 30\ni 4 40\ni 5 50\nf\ni 3 33\nf\ng 3\nr 1\nr 1\ng 9\nx\ni 6 60\nf\n",
@@ -91,6 +110,29 @@ fn answers_each_line_however_the_bytes_come(rt: HostRuntime) {
             "a number of 20 digits",
             b"i 00000000000000000001 00000000000000000002\r\ng 1\n",
             b"none\n2\n",
+        ),
+        (
+            "the longest request, and one and two bytes more",
+            b"i 00000000000000000001 00000000000000000002\n\
+              i 00000000000000000001 00000000000000000003\r\n\
+              i 00000000000000000001 00000000000000000004x\n\
+              i 00000000000000000001 00000000000000000005\r\r\n\
+              i 00000000000000000001 00000000000000000006\rx\n\
+              i 00000000000000000001 00000000000000000007xx\n\
+              i 00000000000000000001 00000000000000000008x\r\n\
+              i 00000000000000000001 000000000000000000009\n\
+              g 1\n",
+            b"none\nwas 2\nbad line\nbad line\nbad line\nbad line\nbad line\nbad line\n3\n",
+        ),
+        (
+            "the longest request with a CR at the end of the input",
+            b"i 00000000000000000001 00000000000000000002\r",
+            b"none\n",
+        ),
+        (
+            "the longest request with two CRs at the end of the input",
+            b"i 00000000000000000001 00000000000000000002\r\r",
+            b"bad line\n",
         ),
         (
             "empty lines",
@@ -143,6 +185,35 @@ fn takes_a_line_of_any_length(rt: HostRuntime) -> Result<(), Fail> {
     Ok(())
 }
 
+// Gives a byte at each second read, and is interrupted at the others.
+#[derive(Drop)]
+struct Interrupted<'a> {
+    bytes: &'a [u8],
+    again: bool,
+}
+
+impl Read for Interrupted<'_> {
+    fn read(&mut self, buf: &mut [u8]) -> io::Result<usize> {
+        self.again = !self.again;
+        if self.again {
+            return Err(Error::from(ErrorKind::Interrupted));
+        }
+        let count = buf.len().min(1);
+        self.bytes.read(&mut buf[..count])
+    }
+}
+
+#[test]
+fn an_interrupted_read_is_tried_again(rt: HostRuntime) {
+    let reader = Interrupted {
+        bytes: b"i 1 2\ng 1\nf",
+        again: false,
+    };
+    let mut written = Vec::new(rt.alloc());
+    assert!(rt; serve(rt.alloc(), reader, &mut written).is_ok());
+    assert_eq!(rt; written.as_slice(), b"none\n2\nvec 1\n".as_slice());
+}
+
 #[test]
 fn stops_where_a_read_fails(rt: HostRuntime) {
     // Whole lines before the failure are answered. A line that is cut off is not.
@@ -160,8 +231,8 @@ fn stops_where_a_read_fails(rt: HostRuntime) {
                 most,
                 fails: true,
             };
-            let outcome = serve(rt.alloc(), reader, &mut written);
-            assert_eq!(rt; outcome, Err(Stopped), "{text:?}, {most} at once");
+            let ended = serve(rt.alloc(), reader, &mut written).is_ok();
+            assert!(rt; !ended, "{text:?}, {most} at once");
             assert_eq!(rt; written.as_slice(), wanted, "{text:?}, {most} at once");
         }
     }
@@ -183,13 +254,12 @@ fn stops_where_a_write_fails(rt: HostRuntime) {
                 written: &mut written,
                 room,
             };
-            let outcome = serve(rt.alloc(), reader, writer);
-            let all = if room < wanted.len() {
-                Err(Stopped)
-            } else {
-                Ok(())
-            };
-            assert_eq!(rt; outcome, all, "room for {room} bytes, {most} at once");
+            let ended = serve(rt.alloc(), reader, writer).is_ok();
+            assert_eq!(rt;
+                ended,
+                room == wanted.len(),
+                "room for {room} bytes, {most} at once"
+            );
             assert_eq!(rt;
                 written.as_slice(),
                 &wanted[..room],
@@ -211,33 +281,40 @@ fn nothing_is_written_where_nothing_is_read(rt: HostRuntime) {
         written: &mut written,
         room: 0,
     };
-    assert_eq!(rt; serve(rt.alloc(), reader, writer), Ok(()));
+    assert!(rt; serve(rt.alloc(), reader, writer).is_ok());
 }
 
-// Gives its lines one at a time, and notes where a line was not answered by the time that it is asked for more.
+// Gives its parts one at a time, and counts the reads before which a line that it gave was not answered.
 #[derive(Drop)]
 struct Patient<'a> {
-    lines: &'a [&'a [u8]],
+    parts: &'a [&'a [u8]],
     given: usize,
+    ended: usize,
     answered: &'a Cell<usize>,
     late: &'a Cell<usize>,
 }
 
 impl Read for Patient<'_> {
     fn read(&mut self, buf: &mut [u8]) -> io::Result<usize> {
-        if self.answered.get() != self.given {
+        if self.answered.get() < self.ended {
             self.late.set(self.late.get().saturating_add(1));
         }
-        let Some(line) = self.lines.get(self.given) else {
+        let Some(part) = self.parts.get(self.given) else {
             return Ok(0);
         };
-        if line.len() > buf.len() {
-            return Err(Error::other("no room for the line"));
+        if part.len() > buf.len() {
+            return Err(Error::other("the part does not fit"));
         }
-        buf[..line.len()].copy_from_slice(line);
+        buf[..part.len()].copy_from_slice(part);
         self.given = self.given.saturating_add(1);
-        Ok(line.len())
+        self.ended = self.ended.saturating_add(line_feeds(part));
+        Ok(part.len())
     }
+}
+
+// How many lines end in these bytes.
+fn line_feeds(bytes: &[u8]) -> usize {
+    bytes.iter().filter(|byte| **byte == b'\n').count()
 }
 
 // Counts the lines that reach it.
@@ -248,8 +325,8 @@ struct Counting<'a> {
 
 impl Write for Counting<'_> {
     fn write(&mut self, buf: &[u8]) -> io::Result<usize> {
-        let ends = buf.iter().filter(|byte| **byte == b'\n').count();
-        self.answered.set(self.answered.get().saturating_add(ends));
+        self.answered
+            .set(self.answered.get().saturating_add(line_feeds(buf)));
         Ok(buf.len())
     }
 
@@ -258,21 +335,39 @@ impl Write for Counting<'_> {
     }
 }
 
-#[test]
-fn each_answer_is_written_before_more_is_read(rt: HostRuntime) {
-    let lines: [&[u8]; 6] = [b"f\n", b"i 1 2\r\n", b"\n", b"g 1\n", b"x\n", b"r 1"];
+// How many lines are answered, and how often an answer came late.
+fn answered_and_late(alloc: Global, parts: &[&[u8]]) -> (usize, usize) {
     let (answered, late) = (Cell::new(0), Cell::new(0));
     let reader = Patient {
-        lines: &lines,
+        parts,
         given: 0,
+        ended: 0,
         answered: &answered,
         late: &late,
     };
     let writer = Counting {
         answered: &answered,
     };
-    assert_eq!(rt; serve(rt.alloc(), reader, writer), Ok(()));
-    // The last line has no end, so it is answered once the reader has said that no more comes.
-    assert_eq!(rt; late.get(), 1);
-    assert_eq!(rt; answered.get(), lines.len());
+    let _ = serve(alloc, reader, writer);
+    (answered.get(), late.get())
+}
+
+#[test]
+fn each_answer_is_written_before_more_is_read(rt: HostRuntime) {
+    let lines: [&[u8]; 6] = [b"f\n", b"i 1 2\r\n", b"\n", b"g 1\n", b"x\n", b"r 1"];
+    assert_eq!(rt; answered_and_late(rt.alloc(), &lines), (6, 0));
+}
+
+#[test]
+fn no_answer_waits_for_the_rest_of_a_line(rt: HostRuntime) {
+    let parts: [&[u8]; 7] = [
+        b"f",
+        b"\ng",
+        b" 1",
+        b"\ni 1 2\r",
+        b"\n\n",
+        b"x\nf\nr ",
+        b"1",
+    ];
+    assert_eq!(rt; answered_and_late(rt.alloc(), &parts), (7, 0));
 }

@@ -16,7 +16,7 @@ loop-command-init g c =
       so_far = subst (λ rs. So map commands map (into_iter_items c.into_iter-left.result) rs tally tally) (sym c.in-Ok.ensures.items)
           (subst (λ cs. So map commands map cs [] tally tally) (sym c.into_iter-left.ensures.rest)
           (no_step g.L.Limit.LIMIT g.K.PartialEq.eq (key_hash g.S.BuildHasher g.S.Hasher.Hasher g.K.Hash.hash_input) map commands tally));
-      room = omega (arith, c.in-Ok.ensures.len, c.in-Ok.ensures.capacity, c.len.ensures, c.into_iter-left.ensures.len);
+      capacity = omega (arith, c.in-Ok.ensures.len, c.in-Ok.ensures.capacity, c.len.ensures, c.into_iter-left.ensures.len);
     }
 
 pub loop-command-preserved : goal.loop-command-preserved
@@ -30,7 +30,7 @@ loop-command-preserved g c =
     record {
       so_far = subst (λ rs. So old commands c.step.new.map left rs before c.step.new.tally) (sym c.push_reserved.ensures.items)
           (step_more g.L.Limit.LIMIT g.K.PartialEq.eq (key_hash g.S.BuildHasher g.S.Hasher.Hasher g.K.Hash.hash_input) old commands c.loop-command.map c.step.new.map c.in-Some.command left c.loop-command.replies.items c.step.result before c.loop-command.tally c.step.new.tally so_far c.step.ensures.step c.step.ensures.state c.step.ensures.cost);
-      room = omega (arith, c.loop-command.invariant.room, c.push_reserved.ensures.len, c.push_reserved.ensures.capacity, c.in-Some.ensures.len);
+      capacity = omega (arith, c.loop-command.invariant.capacity, c.push_reserved.ensures.len, c.push_reserved.ensures.capacity, c.in-Some.ensures.len);
     }
 
 pub returns-clause-run : goal.returns-clause-run

@@ -1,4 +1,4 @@
--- The run so far, and room for a reply to each command that is left.
+-- The run so far, and capacity for a reply to each command that is left.
 use Rattle.std.proofs.Common.{◌+◌, ◌≤◌, vec_len, vec_capacity}
 use Rattle.std.specs.Vec.Iter.{into_iter_items, into_iter_len}
 use Rattle.halfbrown.specs.Costs.{key_hash}
@@ -8,7 +8,7 @@ use Rattle.halfbrown.proofs.run.run_counted.Given as goal
 abbrev pub invariant-loop-command : goal.invariant-loop-command
 invariant-loop-command g l = record {
   so_far : RunSoFar g.L.Limit.LIMIT g.K.PartialEq.eq (key_hash g.S.BuildHasher g.S.Hasher.Hasher g.K.Hash.hash_input) l.fn.map l.fn.commands.items l.map (into_iter_items l.left) l.replies.items l.fn.tally l.tally;
-  room : vec_len l.replies + into_iter_len l.left ≤ vec_capacity l.replies;
+  capacity : vec_len l.replies + into_iter_len l.left ≤ vec_capacity l.replies;
 }
 
 abbrev pub decreases-loop-command : goal.decreases-loop-command

@@ -5,8 +5,8 @@ use Rattle.half_store.specs.Slots.{SomeVacant}
 use Rattle.half_store.proofs.StepLemmas.{table_vacant}
 use Rattle.half_store.proofs.table.tests.searched.Goals as goal
 
-pub search-place-requires-clause-vacant : goal.search-place-requires-clause-vacant
-search-place-requires-clause-vacant c =
+pub search-bucket-requires-clause-vacant : goal.search-bucket-requires-clause-vacant
+search-bucket-requires-clause-vacant c =
     let t = c.table.inside in
     let some : vec_len t.hashes ≢ 0 = eqb-false _ _ (sym c.is_empty.ensures ∙ c.if-is_empty.false) in
-    subst SomeVacant (sym c.as_slice.ensures.value) (table_vacant t.hashes.items t.numbers.items t.places.items (vec_capacity t.places) c.table.invariant (omega (arith, t.hashes.ok)))
+    subst SomeVacant (sym c.as_slice.ensures.value) (table_vacant t.hashes.items t.entry_of.items t.bucket_of.items (vec_capacity t.bucket_of) c.table.invariant (omega (arith, t.hashes.ok)))

@@ -8,6 +8,6 @@ returns g c =
     let o = opened keys values c.args.self.now c.self.view_is c.self.invariant in
     record {
       len = c.len.ensures ∙ o.keys_len;
-      fits = omega (arith, o.room, o.keys_len, o.values_len, keys.ok.1, values.ok.1);
+      fits = omega (arith, o.capacity, o.keys_len, o.values_len, keys.ok.1, values.ok.1);
       small = omega (arith, o.keys_len, keys.ok.1, keys.small);
     }

@@ -12,6 +12,6 @@ pub returns : goal.returns
 returns g c =
     let o = opened c.self.inside.keys c.self.inside.values c.args.self.now c.self.view_is c.self.invariant in
     record {
-      old = ap (λ l. slice_get l c.args.number) (sym o.values_are) ∙ slice_get_at c.self.inside.values.items c.args.number _ (omega (arith, o.values_length, c.requires)) (c.replace.ensures.value ∙ c.index_mut.ensures.value ∙ ap (get_or c.self.inside.values.items c.args.number) (sym c.replace.ensures.value));
-      after = pairs_are c.args.self.now (zip-set_value c.self.inside.keys.items c.self.inside.values.items c.args.number c.replace.new.dest ∙ (λ j. set_value (o.pairs j) c.args.number (c.replace.ensures.after j))) o.room;
+      old = ap (λ l. slice_get l c.args.index) (sym o.values_are) ∙ slice_get_at c.self.inside.values.items c.args.index _ (omega (arith, o.values_length, c.requires)) (c.replace.ensures.value ∙ c.index_mut.ensures.value ∙ ap (get_or c.self.inside.values.items c.args.index) (sym c.replace.ensures.value));
+      after = pairs_are c.args.self.now (zip-set_value c.self.inside.keys.items c.self.inside.values.items c.args.index c.replace.new.dest ∙ (λ j. set_value (o.pairs j) c.args.index (c.replace.ensures.after j))) o.capacity;
     }

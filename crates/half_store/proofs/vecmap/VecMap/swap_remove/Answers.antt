@@ -16,8 +16,8 @@ returns g c =
     let keys = c.self.inside.keys.items in let values = c.self.inside.values.items in
     let o = opened c.self.inside.keys c.self.inside.values c.args.self.now c.self.view_is c.self.invariant in
     record {
-      taken = ap (λ ps. slice_get ps c.args.number) (sym o.pairs) ∙ slice_get-zip keys values c.args.number _ _ (omega (arith, o.keys_length, c.requires)) (omega (arith, o.values_length, c.requires)) c.swap_remove.ensures.value c.swap_remove-2.ensures.value;
+      taken = ap (λ ps. slice_get ps c.args.index) (sym o.pairs) ∙ slice_get-zip keys values c.args.index _ _ (omega (arith, o.keys_length, c.requires)) (omega (arith, o.values_length, c.requires)) c.swap_remove.ensures.value c.swap_remove-2.ensures.value;
       after = pairs_are c.args.self.now
-          ((λ j. zip (c.swap_remove.ensures.items j) (c.swap_remove-2.ensures.items j)) ∙ zip-swap_out keys values c.args.number _ _ c.self.invariant ∙ ap (λ ps. swap_out ps c.args.number) o.pairs)
-          ((λ j. min (c.swap_remove.ensures.capacity j) (c.swap_remove-2.ensures.capacity j)) ∙ o.room);
+          ((λ j. zip (c.swap_remove.ensures.items j) (c.swap_remove-2.ensures.items j)) ∙ zip-swap_out keys values c.args.index _ _ c.self.invariant ∙ ap (λ ps. swap_out ps c.args.index) o.pairs)
+          ((λ j. min (c.swap_remove.ensures.capacity j) (c.swap_remove-2.ensures.capacity j)) ∙ o.capacity);
     }

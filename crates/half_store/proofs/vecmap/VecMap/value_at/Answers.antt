@@ -10,4 +10,4 @@ index-requires g c = omega (arith, (opened c.self.inside.keys c.self.inside.valu
 pub returns : goal.returns
 returns g c =
     let o = opened c.self.inside.keys c.self.inside.values c.args.self.now c.self.view_is c.self.invariant in
-    ap (λ l. slice_get l c.args.number) (sym o.values_are) ∙ slice_get_at c.self.inside.values.items c.args.number _ (omega (arith, o.values_length, c.requires)) c.index.ensures
+    ap (λ l. slice_get l c.args.index) (sym o.values_are) ∙ slice_get_at c.self.inside.values.items c.args.index _ (omega (arith, o.values_length, c.requires)) c.index.ensures

@@ -3,8 +3,8 @@ use Rattle.std.proofs.Common.{◌≡◌, ℕ, ◌<◌, false}
 use Rattle.half_store.specs.Work.{compared_more}
 use Rattle.half_store.proofs.vecmap.search.first_match.Given as goal
 
-abbrev pub invariant-loop-number : goal.invariant-loop-number
-invariant-loop-number g l = record {
-  none_so_far : (earlier : ℕ) → earlier < l.number → goal.F-post g l.matches earlier false;
-  work : l.tally ≡ compared_more l.number l.initial.tally;
+abbrev pub invariant-loop-index : goal.invariant-loop-index
+invariant-loop-index g l = record {
+  none_so_far : (earlier : ℕ) → earlier < l.index → goal.F-post g l.matches earlier false;
+  work : l.tally ≡ compared_more l.index l.initial.tally;
 }

@@ -1,4 +1,4 @@
--- The hashes of the keys so far are stored, and the builder was asked for each once.
+-- The hashes of the keys so far are stored, and the builder was called once for each.
 use Rattle.std.proofs.Common.{◌≡◌, map, take}
 use Rattle.half_store.specs.Work.{asked_more}
 use Rattle.halfbrown.specs.Costs.{key_hash}

@@ -1,0 +1,33 @@
+use Rattle.std.proofs.Common.{◌≡◌, ◌*◌, inr, refl, ◌∙◌, arith}
+use Rattle.half_store.specs.Capacity.{more_buckets, buckets_for}
+use Rattle.half_store.proofs.CapacityLemmas.{buckets_for-is, four-le_count, more_buckets-count, more_buckets-some, more_buckets-least, capacity_of-below}
+use Rattle.half_store.proofs.capacity.buckets_for.Goals as goal
+
+pub returns-then-needed-eq0-clause-value : goal.returns-then-needed-eq0-clause-value
+unfolding buckets_for
+returns-then-needed-eq0-clause-value c = rw c.if-needed-eq0.true refl
+
+pub loop-buckets-init : goal.loop-buckets-init
+loop-buckets-init c = record {
+  count = inr (2, omega arith, refl);
+  some = omega arith;
+  small = omega arith;
+  least = λ o is s. four-le_count o is (omega arith);
+}
+
+pub loop-buckets-preserved : goal.loop-buckets-preserved
+loop-buckets-preserved c =
+    let i = c.loop-buckets.invariant in
+    let b = c.loop-buckets.buckets in
+    let d : more_buckets b ≡ b * 2 = more_buckets-some b (omega arith) ∙ omega arith in
+    record {
+      count = rw (← d) (more_buckets-count b i.count);
+      some = omega arith;
+      small = omega arith;
+      least = λ o is s. let m = more_buckets-least b o i.count is (capacity_of-below b o (omega arith)) in omega arith;
+    }
+
+pub returns-clause-value : goal.returns-clause-value
+returns-clause-value c =
+    let i = c.loop-buckets.invariant in
+    buckets_for-is c.args.needed c.loop-buckets.buckets record { count = i.count; serves = omega arith; least = i.least }

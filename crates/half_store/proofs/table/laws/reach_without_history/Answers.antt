@@ -1,0 +1,5 @@
+use Rattle.half_store.proofs.TableLaws.{history_law}
+use Rattle.half_store.proofs.table.laws.reach_without_history.Goals as goal
+
+pub returns : goal.returns
+returns c = history_law

@@ -1,0 +1,41 @@
+-- The rule for growth: how many buckets a table has, and how many pairs it may hold.
+use Rattle.std.specs.Prelude.{◌≡◌, ℕ, zero, suc, ◌+◌, ◌-◌, ◌*◌, ◌/◌, ◌^◌, ◌≤◌, ◌⊎◌, ◌==◌, nat_lt, if◌then◌else◌}
+
+-- the fewest buckets of a table that has any
+abbrev pub least_buckets : ℕ
+least_buckets = 4
+
+-- the load factor is three quarters: the capacity is 0, 3, 6, 12, 24, .. for 0, 4, 8, 16, 32, .. buckets
+abbrev pub capacity_of : ℕ → ℕ
+capacity_of buckets = buckets - buckets / 4
+
+-- the buckets of a capacity: 0, 4, 8, 16, 32, .. for 0, 3, 6, 12, 24, ..
+abbrev pub buckets_of : ℕ → ℕ
+buckets_of capacity = capacity + capacity / 3
+
+-- none, or a power of two from 4 on
+abbrev pub IsBucketCount : ℕ → Type 0
+IsBucketCount buckets = (buckets ≡ 0) ⊎ ((k : ℕ) × (2 ≤ k) × (buckets ≡ 2 ^ k))
+
+-- the bucket count that comes after this one
+abbrev pub more_buckets : ℕ → ℕ
+more_buckets buckets = if buckets == 0 then least_buckets else 2 * buckets
+
+-- as many buckets where their capacity is more than `pairs`, else the next count
+abbrev pub buckets_for_more : ℕ → ℕ → ℕ
+buckets_for_more pairs buckets = if nat_lt pairs (capacity_of buckets) then buckets else more_buckets buckets
+
+-- the least bucket count whose capacity is enough for so many pairs
+unfoldable pub buckets_for : ℕ → ℕ
+buckets_for zero = 0
+buckets_for (suc pairs) = buckets_for_more pairs (buckets_for pairs)
+
+-- the least of the capacities 0, 3, 6, 12, 24, .. that is enough for so many pairs
+abbrev pub capacity_for : ℕ → ℕ
+capacity_for pairs = capacity_of (buckets_for pairs)
+
+-- the capacity of a bucket count is enough for so many pairs, and each other count that is enough for them is no smaller
+pub record IsLeastFor (pairs buckets : ℕ) : Type 0 where
+  pub count : IsBucketCount buckets
+  pub serves : pairs ≤ capacity_of buckets
+  pub least : (other : ℕ) → IsBucketCount other → pairs ≤ capacity_of other → buckets ≤ other

@@ -1,0 +1,46 @@
+-- What a probe of a table finds, and what it costs.
+use Rattle.std.specs.Prelude.{◌≡◌, ℕ, ◌+◌, ◌≤◌, ◌==◌, List, count_by}
+use Rattle.half_store.specs.declared.table.probe.Probe.{Probe}
+use Rattle.half_store.specs.declared.table.probe.Probe.TheVariants.{Found, Vacant, NoBuckets}
+use Rattle.half_store.specs.Reach.{reach, HomesApart}
+use Rattle.half_store.specs.Work.{Work}
+
+-- a fact of the entry index that was found
+abbrev pub IfFound : Probe → (ℕ → Type 0) → Type 0
+IfFound (Found index) P = P index
+IfFound (Vacant bucket) P = Unit {0}
+IfFound NoBuckets P = Unit {0}
+
+-- a fact where none was found
+abbrev pub OnMissing : Probe → Type 0 → Type 0
+OnMissing (Found index) P = Unit {0}
+OnMissing (Vacant bucket) P = P
+OnMissing NoBuckets P = P
+
+-- a fact of the empty bucket at which a probe that found none ended
+abbrev pub IfVacant : Probe → (ℕ → Type 0) → Type 0
+IfVacant (Found index) P = Unit {0}
+IfVacant (Vacant bucket) P = P bucket
+IfVacant NoBuckets P = Unit {0}
+
+-- so many more buckets were read
+abbrev pub looked_more : Work → ℕ → Work
+looked_more w n = record w { looked = w.looked + n }
+
+-- how many of the hashes are this one
+abbrev pub count_of : List ℕ → ℕ → ℕ
+count_of hashes hash = count_by (λ held. held == hash) hashes
+
+-- after a probe that found none: each held pair of that hash was compared, and exactly `reach` buckets were read
+abbrev pub after_missing : List ℕ → ℕ → ℕ → Work → Work
+after_missing hashes buckets hash w =
+    record w { compared = w.compared + count_of hashes hash; looked = w.looked + reach hashes buckets hash }
+
+-- what a probe that found a pair added
+pub record AddsFinding (hashes : List ℕ) (buckets hash : ℕ) (old new : Work) : Type 0 where
+  pub asked : new.asked ≡ old.asked
+  pub compared_some : old.compared + 1 ≤ new.compared
+  pub compared_most : new.compared ≤ old.compared + count_of hashes hash
+  pub looked_some : old.looked + 1 ≤ new.looked
+  pub looked_most : new.looked + 1 ≤ old.looked + reach hashes buckets hash
+  pub looked_once : HomesApart hashes buckets → new.looked ≡ old.looked + 1

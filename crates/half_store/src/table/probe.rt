@@ -1,0 +1,106 @@
+//! Linear probing: from the home bucket of a hash upwards. A probe reads stored hashes and nothing else, and counts each
+//! bucket that it reads.
+ghost use Rattle.std.specs.Prelude.{◌≡◌, ℕ, ◌+◌, ◌<◌, ◌≤◌, ◌==◌, true, false, List, Option, Some, length, count_by, slice_index, IfOk, IfErr, OnOk, OnErr};
+ghost use Rattle.half_store.specs.Reach.{home, bucket_after};
+ghost use Rattle.half_store.specs.Capacity.{IsBucketCount};
+ghost use Rattle.half_store.specs.Probe.{looked_more};
+ghost use Rattle.half_store.specs.Slots.{slot_at, stored, distance_from_home, IsVacancyFor, IsFoundAt, SomeVacant, ProbeInvariant};
+
+use super::buckets::Buckets;
+use crate::Tally;
+use crate::counting::{compare, look};
+
+/// Where a probe for a pair ended.
+#[derive(Clone, Copy, Debug, PartialEq, Eq)]
+pub enum Probe {
+    /// At the pair with this entry index, which was accepted.
+    Found(usize),
+    /// None was accepted. The probe ended at this bucket, which is empty.
+    Vacant(usize),
+    /// There are no buckets.
+    NoBuckets,
+}
+
+/// The home bucket of a hash, where each probe for it begins.
+pub(crate) fn home(hash: u64, count: usize) -> usize
+    requires count { IsBucketCount count }
+    requires some { 0 < count }
+    ensures value { result ≡ home count hash }
+    ensures bound { result < count }
+{
+    hash as usize & (count - 1)
+}
+
+/// The bucket after this one; the first follows the last.
+pub(crate) fn next(bucket: usize, count: usize) -> usize
+    requires { bucket < count }
+    ensures value { result ≡ bucket_after count bucket 1 }
+    ensures bound { result < count }
+{
+    if bucket + 1 == count { 0 } else { bucket + 1 }
+}
+
+/// Probes up from the home bucket to a pair that is accepted, or else to the first empty bucket.
+///
+/// `matches` is called with the entry indices of those pairs alone whose whole hash is equal.
+pub(crate) fn search<P: Buckets, F: Fn(usize) -> bool>(
+    buckets: &P,
+    entry_of: &[usize],
+    hash: u64,
+    matches: &F,
+    tally: &mut Tally,
+) -> Result<usize, usize>
+    requires columns { length entry_of.now ≡ length (P.slots buckets.now) }
+    requires count { IsBucketCount (length entry_of.now) }
+    requires vacant { SomeVacant (P.slots buckets.now) }
+    requires ordered { ProbeInvariant (P.slots buckets.now) }
+    requires callable { (bucket : ℕ) → slot_at (P.slots buckets.now) bucket ≡ Some hash → F.pre matches.now (slice_index entry_of.now bucket) }
+    ensures found { IfOk result (IsFoundAt (P.slots buckets.now) hash) }
+    ensures accepted { IfOk result (λ bucket. F.post matches.now (slice_index entry_of.now bucket) true) }
+    ensures vacancy { IfErr result (IsVacancyFor (P.slots buckets.now) hash) }
+    ensures refused { OnErr result ((bucket : ℕ) → slot_at (P.slots buckets.now) bucket ≡ Some hash → F.post matches.now (slice_index entry_of.now bucket) false) }
+    ensures asked { tally.new.asked ≡ tally.old.asked }
+    ensures looked_found { IfOk result (λ bucket. tally.new.looked ≡ tally.old.looked + (distance_from_home (P.slots buckets.now) hash bucket + 1)) }
+    ensures looked_missing { IfErr result (λ bucket. tally.new.looked ≡ tally.old.looked + (distance_from_home (P.slots buckets.now) hash bucket + 1)) }
+    ensures compared_some { OnOk result (tally.old.compared + 1 ≤ tally.new.compared) }
+    ensures compared_most { tally.new.compared ≤ tally.old.compared + count_by (stored (λ held. held == hash)) (P.slots buckets.now) }
+    ensures compared_all { OnErr result (tally.new.compared ≡ tally.old.compared + count_by (stored (λ held. held == hash)) (P.slots buckets.now)) }
+{
+    let count = entry_of.len();
+    let mut bucket = home(hash, count);
+    for _step in 0..count {
+        match look(buckets, bucket, tally) {
+            None => return Err(bucket),
+            Some(held) => {
+                if held == hash && compare(matches, entry_of[bucket], tally) {
+                    return Ok(bucket);
+                }
+            }
+        }
+        bucket = next(bucket, count);
+    }
+    unreachable!()
+}
+
+/// Probes up from the home bucket to the first empty bucket.
+pub(crate) fn first_empty<P: Buckets>(
+    buckets: &P,
+    count: usize,
+    hash: u64,
+    tally: &mut Tally,
+) -> usize
+    requires length { count ≡ length (P.slots buckets.now) }
+    requires count { IsBucketCount count }
+    requires vacant { SomeVacant (P.slots buckets.now) }
+    ensures vacancy { IsVacancyFor (P.slots buckets.now) hash result }
+    ensures cost { tally.new ≡ looked_more tally.old (distance_from_home (P.slots buckets.now) hash result + 1) }
+{
+    let mut bucket = home(hash, count);
+    for _step in 0..count {
+        if look(buckets, bucket, tally).is_none() {
+            return bucket;
+        }
+        bucket = next(bucket, count);
+    }
+    unreachable!()
+}

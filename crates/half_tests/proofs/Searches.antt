@@ -1,0 +1,167 @@
+-- What a search of a worked map costs, in numbers.
+use Rattle.std.proofs.Common.{◌≡◌, ℕ, ◌+◌, ◌-◌, ◌==◌, Bool, true, false, not, ◌&&◌, eqb, List, [], ◌∷◌, length, map, Option, None, is_some, count_by, nat_lt, if◌then◌else◌, Bor, sym, ap, subst, ◌∙◌, arith}
+use Rattle.std.proofs.Math.ListN.{length-map, get_or-map}
+use Rattle.std.proofs.lemmas.Bool.{and_parts, or_parts, not-true, eqb-false}
+use Rattle.std.proofs.lemmas.Map.Keys.{IsDistinct-cons, apart_from_distinct}
+use Rattle.std.specs.Hash.{le_bytes}
+use Rattle.std.specs.List.{IsDistinct, AllByRecursion, list_any}
+use Rattle.std.specs.Map.{keys_of}
+use Rattle.std.specs.Option.{option_copied}
+use Rattle.half_store.specs.Reach.{reach, home, HomesApart}
+use Rattle.half_store.specs.Capacity.{buckets_of, capacity_for}
+use Rattle.half_store.specs.Work.{Work}
+use Rattle.halfbrown.specs.Costs.{SearchCosts, InsertCosts, Cost, GrewBy, GrewWithin, exactly, between, add_ranges, search_cost_of, insert_cost, NoHomeIsShared}
+use Rattle.halfbrown.specs.Pairs.{value_of, holds}
+use Rattle.halfbrown.specs.State.{State, state, contents_of}
+use Rattle.half_tests.specs.declared.builders.Rule.{Rule}
+use Rattle.half_tests.specs.declared.builders.Counting.{Counting}
+use Rattle.half_tests.specs.Hashes.{hash_by, shifted}
+use Rattle.half_tests.specs.Tables.{IsTable, AtMost, more_work, are_distinct}
+
+-- ---- distinct numbers, from the test
+
+none_equal : (n : ℕ) (ns : List ℕ) → list_any (λ other. n == other) ns ≡ false → AllByRecursion (λ other. eqb n other ≡ false) ns
+none_equal n [] e = tt
+none_equal n (m ∷ ns) e = let parts = or_parts (n == m) (list_any (λ other. n == other) ns) e in (parts.0, none_equal n ns parts.1)
+
+pub distinct_of : (ns : List ℕ) → are_distinct ns ≡ true → IsDistinct eqb ns
+unfolding IsDistinct
+distinct_of [] e = tt
+distinct_of (n ∷ ns) e =
+    let parts = and_parts (not (list_any (λ other. n == other) ns)) (are_distinct ns) e in
+    IsDistinct-cons eqb n ns (none_equal n ns (not-true (list_any (λ other. n == other) ns) parts.0)) (distinct_of ns parts.1)
+
+pub homes_apart : (hashes : List ℕ) (buckets : ℕ) → are_distinct (map (home buckets) hashes) ≡ true → HomesApart hashes buckets
+homes_apart hashes buckets e i j d below within same =
+    let homes = map (home buckets) hashes in
+    let apart = apart_from_distinct eqb homes i j (home buckets d) (distinct_of homes e) below (omega (arith, length-map hashes (home buckets))) in
+    eqb-false _ _ apart (get_or-map (home buckets) hashes i d ∙ same ∙ sym (get_or-map (home buckets) hashes j d))
+
+-- ---- the work
+
+pub work_is : (a b : Work) → a.asked ≡ b.asked → a.compared ≡ b.compared → a.looked ≡ b.looked → a ≡ b
+work_is a b asked compared looked i = record { asked = asked i; compared = compared i; looked = looked i }
+
+-- where the least and the most are the same
+pub grew_exactly : (n before after : ℕ) → GrewWithin (exactly n) before after → after ≡ before + n
+grew_exactly n before after grew = omega (arith, grew.least, grew.most)
+
+-- the hash of a number by a rule
+abbrev pub number_hash : Rule → ℕ → ℕ
+number_hash rule k = hash_by rule (shifted 0 (le_bytes 8 k))
+
+-- the hash that the worked tables' builder gives a number
+abbrev pub builder_hash : Counting → ℕ → ℕ
+builder_hash builder k = number_hash builder.rule k
+
+module _ (rule : Rule) (held : List (ℕ × ℕ)) (capacity : ℕ) (k : ℕ) where
+  -- the hashes of the held keys
+  abbrev pub hashes_of : List ℕ
+  hashes_of = map (number_hash rule) (keys_of held)
+
+  -- how many held keys have the hash of k
+  abbrev pub matches : ℕ
+  matches = count_by (λ q. number_hash rule q == number_hash rule k) (keys_of held)
+
+  -- how many buckets a probe for k reads up to the first empty one
+  abbrev pub probe : ℕ
+  probe = reach hashes_of (buckets_of capacity) (number_hash rule k)
+
+  -- what a search of the table costs, by whether k is held
+  abbrev pub table_cost : Bool → Cost
+  table_cost found = record {
+    asked = 1;
+    compared = if found then between 1 matches else exactly matches;
+    looked = if found then between 1 (probe - 1) else exactly probe;
+  }
+
+  -- whether one pair more makes the table grow, and the capacity that is enough for it
+  abbrev grows : Bool
+  grows = not (nat_lt (length held) capacity)
+
+  abbrev grown : ℕ
+  grown = if grows then capacity_for (length held + 1) else capacity
+
+  -- how many buckets the insertion probe of a new k reads: none without growth, where the search for k read them
+  abbrev pub insertion_probe : ℕ
+  insertion_probe = if grows then reach hashes_of (buckets_of grown) (number_hash rule k) else 0
+
+  -- what a granted insertion costs, by whether k is held
+  abbrev table_insert_cost : Bool → Cost
+  table_insert_cost found = record {
+    asked = 1;
+    compared = if found then between 1 matches else exactly matches;
+    looked = add_ranges
+        (if found then between 1 (probe - 1) else exactly probe)
+        (exactly (if not found && grows then reach hashes_of (buckets_of grown) (number_hash rule k) else 0));
+  }
+
+  module _ (m : State ℕ ℕ Counting) (table : IsTable rule held capacity m) where
+    -- the parts of the state that costs depend on, from those that it has to those of the table
+    cost_is : search_cost_of eqb builder_hash m k ≡ table_cost (holds eqb held k)
+    cost_is i = search_cost_of eqb (λ b. number_hash (table.builder i)) (state (table.form i) (table.pairs i) (table.capacity i) m.builder (contents_of m)) k
+
+    held_is : holds eqb held k ≡ true → holds eqb m.pairs k ≡ true
+    held_is present = ap (λ ps. holds eqb ps k) table.pairs ∙ present
+
+    apart_is : are_distinct (map (home (buckets_of capacity)) hashes_of) ≡ true
+        → NoHomeIsShared (builder_hash m.builder) m.capacity m.pairs
+    apart_is e =
+        let hashes : map (builder_hash m.builder) (keys_of m.pairs) ≡ hashes_of =
+        ap (λ r. map (number_hash r) (keys_of m.pairs)) table.builder ∙ ap (λ ps. map (number_hash rule) (keys_of ps)) table.pairs in
+        subst (λ hs. HomesApart hs (buckets_of m.capacity)) (sym hashes)
+        (subst (λ n. HomesApart hashes_of (buckets_of n)) (sym table.capacity) (homes_apart hashes_of (buckets_of capacity) e))
+
+    module _ (before after : Work) (cost : SearchCosts eqb builder_hash m k before after) where
+      grew_by : (found : Bool) → holds eqb held k ≡ found → GrewBy (table_cost found) before after
+      grew_by found is = subst (λ b. GrewBy (table_cost b) before after) is (subst (λ c. GrewBy c before after) cost_is cost.grew)
+
+      -- a key that is not held: each key of its hash is compared, and its probe is read to the end
+      pub missing : holds eqb held k ≡ false → after ≡ more_work 1 matches probe before
+      missing absent =
+          let grew = grew_by false absent in
+          work_is _ _ grew.asked (grew_exactly _ _ _ grew.compared) (grew_exactly _ _ _ grew.looked)
+
+      -- a held key: at most each key of its hash is compared, and its probe is read to no empty bucket
+      pub found_within : (compared looked : ℕ) → holds eqb held k ≡ true → matches ≡ compared → probe ≡ looked + 1
+          → AtMost compared looked before after
+      found_within compared looked present as_many as_far =
+          let grew = grew_by true present in
+          record {
+            asked = grew.asked;
+            compared_some = grew.compared.least;
+            compared_most = omega (arith, grew.compared.most, as_many);
+            looked_some = grew.looked.least;
+            looked_most = omega (arith, grew.looked.most, as_far);
+          }
+
+      -- a held key, where no home is shared and no other key has its hash
+      pub found_at_home : holds eqb held k ≡ true → matches ≡ 1
+          → are_distinct (map (home (buckets_of capacity)) hashes_of) ≡ true → after ≡ more_work 1 1 1 before
+      found_at_home present alone apart =
+          let grew = grew_by true present in
+          work_is _ _ grew.asked (omega (arith, grew.compared.least, grew.compared.most, alone)) (cost.looked_once table.form (held_is present) (apart_is apart))
+
+    insert_cost_is : insert_cost 0 eqb builder_hash m k true ≡ table_insert_cost (holds eqb held k)
+    insert_cost_is i = insert_cost 0 eqb (λ b. number_hash (table.builder i)) (state (table.form i) (table.pairs i) (table.capacity i) m.builder (contents_of m)) k true
+
+    -- a new key that is granted: each key of its hash is compared, its probe is read to the end, and another one after growth
+    pub inserting : (before after : Work) → InsertCosts 0 eqb builder_hash m k true before after → holds eqb held k ≡ false
+        → after ≡ more_work 1 matches (probe + insertion_probe) before
+    inserting before after cost absent =
+        let grew : GrewBy (table_insert_cost false) before after = subst (λ b. GrewBy (table_insert_cost b) before after) absent (subst (λ c. GrewBy c before after) insert_cost_is cost.grew) in
+        work_is _ _ grew.asked (grew_exactly _ _ _ grew.compared) (grew_exactly _ _ _ grew.looked)
+
+-- a key that is not held, by its number
+pub missing_as : (rule : Rule) (held : List (ℕ × ℕ)) (capacity k j : ℕ) → k ≡ j → (m : State ℕ ℕ Counting)
+    → IsTable rule held capacity m
+    → (r : Option (Bor ℕ)) → option_copied r ≡ value_of eqb m.pairs k → (found : Option ℕ) → found ≡ option_copied r
+    → (before after : Work) → SearchCosts eqb builder_hash m k before after
+    → value_of eqb held j ≡ None
+    → (found ≡ None) × (after ≡ more_work 1 (matches rule held capacity j) (probe rule held capacity j) before)
+missing_as rule held capacity k j same m table r value found copy before after cost absent =
+    let none : value_of eqb held k ≡ None = ap (value_of eqb held) same ∙ absent in (
+      copy ∙ value ∙ ap (λ ps. value_of eqb ps k) table.pairs ∙ none,
+      missing rule held capacity k m table before after cost (ap is_some none)
+          ∙ ap (λ key. more_work 1 (matches rule held capacity key) (probe rule held capacity key) before) same,
+    )

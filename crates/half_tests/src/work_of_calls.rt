@@ -1,0 +1,337 @@
+//! The work that each public call really does, in both forms: how often keys are hashed, and how many are compared.
+//!
+//! The costs in the contracts see what the tally counts. Here the builder and the keys count for themselves, and each call,
+//! plain and counted, does as much work as its cost says and no more.
+
+use crate::builders::Rule;
+use crate::counts::{Counted, Counts};
+use crate::keys::Key;
+use crate::small_maps::{ABSENT, HELD, On};
+use halfbrown::Tally;
+use std::alloc::Global;
+use std::process::Abort;
+use std::test::Fail;
+
+// A call that searches for a key, and inserts nothing.
+#[derive(Clone, Copy, Debug)]
+enum Search {
+    Get,
+    GetCounted,
+    GetMut,
+    GetMutCounted,
+    ContainsKey,
+    ContainsKeyCounted,
+    Index,
+    IndexCounted,
+    Remove,
+    RemoveCounted,
+    RemoveEntry,
+    RemoveEntryCounted,
+}
+
+// The call, the map, the hashes, and the comparisons for each held key and the absent one, which cannot be indexed by.
+const SEARCHES: [(Search, On, u64, &[u64]); 30] = [
+    (Search::Get, On::Vector, 0, &[1, 2, 3, 3]),
+    (Search::Get, On::FullVector, 0, &[1, 2, 3, 3]),
+    (Search::Get, On::Table, 1, &[1, 1, 1, 0]),
+    (Search::GetCounted, On::Vector, 0, &[1, 2, 3, 3]),
+    (Search::GetCounted, On::FullVector, 0, &[1, 2, 3, 3]),
+    (Search::GetCounted, On::Table, 1, &[1, 1, 1, 0]),
+    (Search::GetMut, On::Vector, 0, &[1, 2, 3, 3]),
+    (Search::GetMut, On::FullVector, 0, &[1, 2, 3, 3]),
+    (Search::GetMut, On::Table, 1, &[1, 1, 1, 0]),
+    (Search::GetMutCounted, On::Vector, 0, &[1, 2, 3, 3]),
+    (Search::GetMutCounted, On::FullVector, 0, &[1, 2, 3, 3]),
+    (Search::GetMutCounted, On::Table, 1, &[1, 1, 1, 0]),
+    (Search::ContainsKey, On::Vector, 0, &[1, 2, 3, 3]),
+    (Search::ContainsKey, On::Table, 1, &[1, 1, 1, 0]),
+    (Search::ContainsKeyCounted, On::Vector, 0, &[1, 2, 3, 3]),
+    (Search::ContainsKeyCounted, On::Table, 1, &[1, 1, 1, 0]),
+    (Search::Index, On::Vector, 0, &[1, 2, 3]),
+    (Search::Index, On::Table, 1, &[1, 1, 1]),
+    (Search::IndexCounted, On::Vector, 0, &[1, 2, 3]),
+    (Search::IndexCounted, On::Table, 1, &[1, 1, 1]),
+    (Search::Remove, On::Vector, 0, &[1, 2, 3, 3]),
+    (Search::Remove, On::FullVector, 0, &[1, 2, 3, 3]),
+    (Search::Remove, On::Table, 1, &[1, 1, 1, 0]),
+    (Search::RemoveCounted, On::Vector, 0, &[1, 2, 3, 3]),
+    (Search::RemoveCounted, On::Table, 1, &[1, 1, 1, 0]),
+    (Search::RemoveEntry, On::Vector, 0, &[1, 2, 3, 3]),
+    (Search::RemoveEntry, On::FullVector, 0, &[1, 2, 3, 3]),
+    (Search::RemoveEntry, On::Table, 1, &[1, 1, 1, 0]),
+    (Search::RemoveEntryCounted, On::Vector, 0, &[1, 2, 3, 3]),
+    (Search::RemoveEntryCounted, On::Table, 1, &[1, 1, 1, 0]),
+];
+
+// A call that inserts a key.
+#[derive(Clone, Copy, Debug)]
+enum Insertion {
+    Insert,
+    InsertCounted,
+    InsertNocheck,
+    InsertNocheckCounted,
+}
+
+// The call, the map, the key, the hashes and the comparisons. A switch hashes the three held keys. Calls without a search
+// need a key that is not held.
+const INSERTIONS: [(Insertion, On, u64, u64, u64); 30] = [
+    (Insertion::Insert, On::Vector, 8, 0, 2),
+    (Insertion::Insert, On::Vector, 32, 0, 3),
+    (Insertion::Insert, On::TightVector, 8, 0, 2),
+    (Insertion::Insert, On::TightVector, 32, 0, 3),
+    (Insertion::Insert, On::FullVector, 8, 4, 1),
+    (Insertion::Insert, On::FullVector, 32, 4, 0),
+    (Insertion::Insert, On::Table, 8, 1, 1),
+    (Insertion::Insert, On::Table, 32, 1, 0),
+    (Insertion::Insert, On::TightTable, 8, 1, 1),
+    (Insertion::Insert, On::TightTable, 32, 1, 0),
+    (Insertion::InsertCounted, On::Vector, 8, 0, 2),
+    (Insertion::InsertCounted, On::Vector, 32, 0, 3),
+    (Insertion::InsertCounted, On::TightVector, 8, 0, 2),
+    (Insertion::InsertCounted, On::TightVector, 32, 0, 3),
+    (Insertion::InsertCounted, On::FullVector, 8, 4, 1),
+    (Insertion::InsertCounted, On::FullVector, 32, 4, 0),
+    (Insertion::InsertCounted, On::Table, 8, 1, 1),
+    (Insertion::InsertCounted, On::Table, 32, 1, 0),
+    (Insertion::InsertCounted, On::TightTable, 8, 1, 1),
+    (Insertion::InsertCounted, On::TightTable, 32, 1, 0),
+    (Insertion::InsertNocheck, On::Vector, 32, 0, 0),
+    (Insertion::InsertNocheck, On::TightVector, 32, 0, 0),
+    (Insertion::InsertNocheck, On::FullVector, 32, 4, 0),
+    (Insertion::InsertNocheck, On::Table, 32, 1, 0),
+    (Insertion::InsertNocheck, On::TightTable, 32, 1, 0),
+    (Insertion::InsertNocheckCounted, On::Vector, 32, 0, 0),
+    (Insertion::InsertNocheckCounted, On::TightVector, 32, 0, 0),
+    (Insertion::InsertNocheckCounted, On::FullVector, 32, 4, 0),
+    (Insertion::InsertNocheckCounted, On::Table, 32, 1, 0),
+    (Insertion::InsertNocheckCounted, On::TightTable, 32, 1, 0),
+];
+
+// A call that needs no key.
+#[derive(Clone, Copy, Debug)]
+enum Other {
+    Len,
+    IsEmpty,
+    IsVec,
+    IsMap,
+    Hasher,
+    Capacity,
+    Reserve(usize),
+    ShrinkToFit,
+    Clear,
+}
+
+// The call, the map, the hashes and the comparisons.
+const OTHERS: [(Other, On, u64, u64); 26] = [
+    (Other::Len, On::Vector, 0, 0),
+    (Other::Len, On::Table, 0, 0),
+    (Other::IsEmpty, On::Vector, 0, 0),
+    (Other::IsEmpty, On::Table, 0, 0),
+    (Other::IsVec, On::Vector, 0, 0),
+    (Other::IsVec, On::Table, 0, 0),
+    (Other::IsMap, On::Vector, 0, 0),
+    (Other::IsMap, On::Table, 0, 0),
+    (Other::Hasher, On::Vector, 0, 0),
+    (Other::Hasher, On::Table, 0, 0),
+    (Other::Capacity, On::Vector, 0, 0),
+    (Other::Capacity, On::Table, 0, 0),
+    (Other::Reserve(0), On::TightVector, 0, 0),
+    (Other::Reserve(2), On::TightVector, 0, 0),
+    (Other::Reserve(9), On::FullVector, 0, 0),
+    (Other::Reserve(0), On::TightTable, 0, 0),
+    (Other::Reserve(3), On::Table, 0, 0),
+    (Other::Reserve(9), On::TightTable, 0, 0),
+    (Other::ShrinkToFit, On::Vector, 0, 0),
+    (Other::ShrinkToFit, On::FullVector, 0, 0),
+    (Other::ShrinkToFit, On::Table, 0, 0),
+    (Other::ShrinkToFit, On::TightTable, 0, 0),
+    (Other::Clear, On::Vector, 0, 0),
+    (Other::Clear, On::FullVector, 0, 0),
+    (Other::Clear, On::Table, 0, 0),
+    (Other::Clear, On::TightTable, 0, 0),
+];
+
+// A call, with its key where it needs one.
+#[derive(Clone, Copy, Debug)]
+enum Call {
+    Searches(Search, u64),
+    Inserts(Insertion, u64),
+    Does(Other),
+}
+
+// What came of a call: whether it returned what it should, and the hashes and comparisons.
+type Outcome = (bool, u64, u64);
+
+// Makes the call on a new map of the held keys.
+fn outcome_of(rt: &impl Abort, alloc: Global, call: Call, on: On) -> Result<Outcome, Fail> {
+    match on {
+        On::Vector => outcome_at::<5>(rt, alloc, call, 5),
+        On::TightVector => outcome_at::<5>(rt, alloc, call, 3),
+        On::FullVector => outcome_at::<3>(rt, alloc, call, 3),
+        On::Table => outcome_at::<0>(rt, alloc, call, 6),
+        On::TightTable => outcome_at::<0>(rt, alloc, call, 3),
+    }
+}
+
+// The same, on a map of this limit and this capacity.
+fn outcome_at<const N: usize>(
+    rt: &impl Abort,
+    alloc: Global,
+    call: Call,
+    capacity: usize,
+) -> Result<Outcome, Fail> {
+    let counts = Counts::new();
+    let builder = counts.builder(Rule::Plain);
+    let mut map = Counted::<'_, N>::with_capacity_and_hasher(alloc, capacity, builder)?;
+    for id in HELD {
+        map.insert(counts.key(id), id)?;
+    }
+    assert_eq!(rt; (map.len(), map.capacity()), (3, capacity), "limit {N}");
+    counts.take();
+    let is_right = match call {
+        Call::Searches(search, id) => {
+            found(&mut map, &counts, search, counts.key(id)) == (id != ABSENT)
+        }
+        Call::Inserts(insertion, id) => {
+            replaced(&mut map, &counts, insertion, counts.key(id))? == (id != ABSENT)
+        }
+        Call::Does(other) => did(&mut map, other),
+    };
+    let (asked, compared) = counts.take();
+    Ok((is_right, asked, compared))
+}
+
+// Whether the search found the key. Only a held key is indexed by.
+fn found<'a, const N: usize>(
+    map: &mut Counted<'a, N>,
+    counts: &Counts,
+    search: Search,
+    key: Key<'a>,
+) -> bool {
+    let tally = &mut Tally::new();
+    match search {
+        Search::Get => map.get(&key).is_some(),
+        Search::GetCounted => map.get_counted(&key, tally).is_some(),
+        Search::GetMut => map.get_mut(&key).is_some(),
+        Search::GetMutCounted => map.get_mut_counted(&key, tally).is_some(),
+        Search::ContainsKey => map.contains_key(&key),
+        Search::ContainsKeyCounted => map.contains_key_counted(&key, tally),
+        Search::Remove => map.remove(&key).is_some(),
+        Search::RemoveCounted => map.remove_counted(&key, tally).is_some(),
+        Search::RemoveEntry => map.remove_entry(&key).is_some(),
+        Search::RemoveEntryCounted => map.remove_entry_counted(&key, tally).is_some(),
+        Search::Index | Search::IndexCounted if !map.contains_key(&key) => false,
+        Search::Index => {
+            counts.take();
+            map[&key] == key.id
+        }
+        Search::IndexCounted => {
+            counts.take();
+            *map.index_counted(&key, tally) == key.id
+        }
+    }
+}
+
+// Whether the insertion replaced a value. Only a key that is not held is inserted without a search.
+fn replaced<'a, const N: usize>(
+    map: &mut Counted<'a, N>,
+    counts: &Counts,
+    insertion: Insertion,
+    key: Key<'a>,
+) -> Result<bool, Fail> {
+    let tally = &mut Tally::new();
+    Ok(match insertion {
+        Insertion::Insert => map.insert(key, 0)?.is_some(),
+        Insertion::InsertCounted => map.insert_counted(key, 0, tally)?.is_some(),
+        Insertion::InsertNocheck | Insertion::InsertNocheckCounted if map.contains_key(&key) => {
+            true
+        }
+        Insertion::InsertNocheck => {
+            counts.take();
+            map.insert_nocheck(key, 0)?;
+            false
+        }
+        Insertion::InsertNocheckCounted => {
+            counts.take();
+            map.insert_nocheck_counted(key, 0, tally)?;
+            false
+        }
+    })
+}
+
+// Whether the call did or returned what it should. The least capacity of the three pairs is 3 in both forms.
+fn did<const N: usize>(map: &mut Counted<'_, N>, other: Other) -> bool {
+    match other {
+        Other::Len => map.len() == 3,
+        Other::IsEmpty => !map.is_empty(),
+        Other::IsVec => map.is_vec() == (N > 0),
+        Other::IsMap => map.is_map() == (N == 0),
+        Other::Hasher => map.hasher().rule == Rule::Plain,
+        Other::Capacity => map.capacity() >= 3,
+        Other::Reserve(additional) => map.reserve(additional).is_ok(),
+        Other::ShrinkToFit => {
+            map.shrink_to_fit();
+            map.capacity() == 3
+        }
+        Other::Clear => {
+            map.clear();
+            map.is_empty()
+        }
+    }
+}
+
+#[test]
+fn each_search_does_the_work_of_one_search(rt: HostRuntime) -> Result<(), Fail> {
+    for (search, on, asked, compared) in SEARCHES {
+        for (id, compared) in HELD.iter().chain([ABSENT].iter()).zip(compared) {
+            let call = Call::Searches(search, *id);
+            assert_eq!(rt;
+                outcome_of(&rt, rt.alloc(), call, on)?,
+                (true, asked, *compared),
+                "{call:?} on {on:?}"
+            );
+        }
+    }
+    Ok(())
+}
+
+#[test]
+fn each_insertion_does_the_work_of_its_cost(rt: HostRuntime) -> Result<(), Fail> {
+    for (insertion, on, id, asked, compared) in INSERTIONS {
+        let call = Call::Inserts(insertion, id);
+        assert_eq!(rt;
+            outcome_of(&rt, rt.alloc(), call, on)?,
+            (true, asked, compared),
+            "{call:?} on {on:?}"
+        );
+    }
+    Ok(())
+}
+
+#[test]
+fn no_other_call_hashes_or_compares(rt: HostRuntime) -> Result<(), Fail> {
+    for (other, on, asked, compared) in OTHERS {
+        let call = Call::Does(other);
+        assert_eq!(rt;
+            outcome_of(&rt, rt.alloc(), call, on)?,
+            (true, asked, compared),
+            "{call:?} on {on:?}"
+        );
+    }
+    Ok(())
+}
+
+#[test]
+fn making_a_map_hashes_nothing(rt: HostRuntime) -> Result<(), Fail> {
+    let counts = Counts::new();
+    let plain = || counts.builder(Rule::Plain);
+    let map = Counted::<'_, 5>::with_hasher(rt.alloc(), plain());
+    assert!(rt; map.is_vec(), "with_hasher makes a vector");
+    assert_eq!(rt; counts.take(), (0, 0), "with_hasher");
+    for capacity in [0, 5, 6, 100] {
+        let map = Counted::<'_, 5>::with_capacity_and_hasher(rt.alloc(), capacity, plain())?;
+        assert_eq!(rt; map.is_vec(), capacity <= 5, "capacity {capacity}");
+        assert_eq!(rt; counts.take(), (0, 0), "capacity {capacity}");
+    }
+    Ok(())
+}

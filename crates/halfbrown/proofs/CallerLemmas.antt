@@ -1,0 +1,200 @@
+-- What callers read off a list of pairs after a put or a removal: which key has which value, and how many pairs there are.
+use Rattle.std.proofs.Common.{◌≡◌, ℕ, suc, ◌+◌, Bool, true, false, cond, List, [], ◌∷◌, length, get_or, Option, None, Some, is_some, Result, Ok, Err, OnOk, refl, sym, ap, ◌∙◌, arith}
+use Rattle.std.specs.Cmp.{IsEquivalence}
+use Rattle.std.specs.List.{IsDistinct}
+use Rattle.std.specs.List.Sorted.{IsPermutation}
+use Rattle.std.specs.Map.{keys_of, values_of, lookup}
+use Rattle.std.proofs.Math.ListN.{get_or-map}
+use Rattle.std.proofs.lemmas.List.Sorted.{IsPermutation-map, IsPermutation-sym, Contains-permutation}
+use Rattle.std.proofs.lemmas.Map.{lookup-none}
+use Rattle.std.proofs.lemmas.Map.Entries.{place_from_lookup, none_past_head, length-keys_of, length-values_of}
+use Rattle.std.proofs.lemmas.Map.Keys.{IsDistinct-IsPermutation}
+use Rattle.std.proofs.lemmas.Map.Views.{lookup-from_Contains}
+use Rattle.std.proofs.lemmas.Option.{slice_get_within, get_or_from_slice_get, slice_get-get_or}
+use Rattle.half_store.specs.Pairs.{index_of, swap_out}
+use Rattle.halfbrown.specs.Pairs.{value_of, holds, put, take_out}
+use Rattle.halfbrown.specs.Lookup.{IsIndexOf}
+use Rattle.halfbrown.specs.Updates.{HasPut, HasRemoved}
+use Rattle.halfbrown.proofs.Indices.{IsFirst, first_of_index, first_passes, first_within, index_found, absent_of_index}
+use Rattle.halfbrown.proofs.SwapOut.{IsPermutation-swap_out, length-swap_out}
+
+put_over : {V : Type 0} (b : Bool) (v w : V) (other : Option V) → cond b (Some v) other ≡ cond b (Some v) (cond b (Some w) other)
+put_over true v w other = refl
+put_over false v w other = refl
+
+grown_by : (held : Bool) (new old : ℕ) → new ≡ cond held old (old + 1) → suc new ≡ cond held (suc old) (suc old + 1)
+grown_by true new old grown = omega arith
+grown_by false new old grown = omega arith
+
+taken_from : (held : Bool) (new old : ℕ) → new + cond held 1 0 ≡ old → old ≡ cond held (new + 1) new
+taken_from true new old sum = sym sum
+taken_from false new old sum = omega arith
+
+-- what follows of a granted call
+pub if_put : {A E P Q : Type 0} (r : Result A E) → OnOk r P → (P → Q) → OnOk r Q
+if_put (Ok a) p follows = follows p
+if_put (Err e) p follows = tt
+
+module _ {K V : Type 0} (eq : K → K → Bool) where
+  len_by : (p : K × V) (ps : List (K × V)) (k : K) (v : V) → length (put eq ps k v) ≡ cond (holds eq ps k) (length ps) (length ps + 1)
+      → (b : Bool) → length (cond b ((p.0, v) ∷ ps) (p ∷ put eq ps k v))
+      ≡ cond (is_some (cond b (Some p.1) (value_of eq ps k))) (length (p ∷ ps)) (length (p ∷ ps) + 1)
+  len_by p ps k v more true = refl
+  len_by p ps k v more false = grown_by (holds eq ps k) (length (put eq ps k v)) (length ps) more
+
+  -- there is one pair more where the key was not held
+  pub len_put : (ps : List (K × V)) (k : K) (v : V) → length (put eq ps k v) ≡ cond (holds eq ps k) (length ps) (length ps + 1)
+  len_put [] k v = refl
+  len_put (p ∷ ps) k v = len_by p ps k v (len_put ps k v) (eq k p.0)
+
+  held_found : (ps : List (K × V)) (k : K) (i : ℕ) → IsIndexOf eq ps k i → holds eq ps k ≡ true
+  held_found [] k i at = absurd (omega arith)
+  held_found (p ∷ ps) k i at = ap is_some (at.value ∙ slice_get-get_or (values_of (p ∷ ps)) i p.1 (omega (arith, length-values_of (p ∷ ps))))
+
+  len_taken_by : (ps : List (K × V)) (k : K) (index : Option ℕ) → index ≡ index_of (eq k) (keys_of ps)
+      → length (take_out eq ps k) + cond (holds eq ps k) 1 0 ≡ length ps
+  len_taken_by ps k (Some i) is =
+      let at = index_found eq k ps i is in
+      rw (held_found ps k i at) (ap (λ l. length l + 1) at.take_is ∙ length-swap_out ps i (omega arith))
+  len_taken_by ps k None is =
+      let absent = absent_of_index eq k ps is in
+      let unheld : holds eq ps k ≡ false = ap is_some absent.value in
+      rw unheld (omega (arith, ap length absent.take_is))
+
+  -- there is one pair fewer where the key was held
+  pub len_taken : (ps : List (K × V)) (k : K) → length (take_out eq ps k) + cond (holds eq ps k) 1 0 ≡ length ps
+  len_taken ps k = len_taken_by ps k (index_of (eq k) (keys_of ps)) refl
+
+module _ {K V : Type 0} (eq : K → K → Bool) (laws : IsEquivalence eq) where
+  -- equal keys have the same value
+  pub value_of_equal : (ps : List (K × V)) (k q : K) → eq k q ≡ true → value_of eq ps q ≡ value_of eq ps k
+  value_of_equal ps k q same = ap (λ test. lookup test ps) (λ i x. sym (laws.congr k q x same) i)
+
+  -- ---- another order
+
+  distinct_permuted : (xs ys : List (K × V)) → IsDistinct eq (keys_of xs) → IsPermutation xs ys → IsDistinct eq (keys_of ys)
+  distinct_permuted xs ys distinct permuted =
+      IsDistinct-IsPermutation eq laws.symm (keys_of xs) (keys_of ys) (IsPermutation-map (λ p. p.0) xs ys permuted) distinct
+
+  found_permuted : (xs ys : List (K × V)) → IsDistinct eq (keys_of xs) → IsPermutation xs ys → (q : K) (v : V)
+      → lookup (eq q) xs ≡ Some v → lookup (eq q) ys ≡ Some v
+  found_permuted xs ys distinct permuted q v found =
+      let at = place_from_lookup (eq q) xs v found in
+      let p : K × V = (at.1, v) in
+      let held = Contains-permutation xs ys p permuted (at.0, slice_get_within xs at.0 p at.2, get_or_from_slice_get xs at.0 p p at.2) in
+      sym (value_of_equal ys q at.1 at.3) ∙ lookup-from_Contains laws at.1 v ys (distinct_permuted xs ys distinct permuted) held
+
+  permuted_by : (xs ys : List (K × V)) → IsDistinct eq (keys_of xs) → IsPermutation xs ys → (q : K) (old new : Option V)
+      → lookup (eq q) xs ≡ old → lookup (eq q) ys ≡ new → new ≡ old
+  permuted_by xs ys distinct permuted q (Some v) new was is = sym is ∙ found_permuted xs ys distinct permuted q v was
+  permuted_by xs ys distinct permuted q None None was is = refl
+  permuted_by xs ys distinct permuted q None (Some v) was is =
+      sym (found_permuted ys xs (distinct_permuted xs ys distinct permuted) (IsPermutation-sym xs ys permuted) q v is) ∙ was
+
+  -- a look-up does not depend on the order of distinct pairs
+  pub lookup_permuted : (xs ys : List (K × V)) → IsDistinct eq (keys_of xs) → IsPermutation xs ys → (q : K) → lookup (eq q) ys ≡ lookup (eq q) xs
+  lookup_permuted xs ys distinct permuted q = permuted_by xs ys distinct permuted q (lookup (eq q) xs) (lookup (eq q) ys) refl refl
+
+  -- ---- a put
+
+  put_behind : (p : K × V) (k q : K) (v : V) (rest : Option V) → eq k p.0 ≡ false → (b : Bool) → eq k q ≡ b
+      → cond (eq q p.0) (Some p.1) (cond b (Some v) rest) ≡ cond b (Some v) (cond (eq q p.0) (Some p.1) rest)
+  put_behind p k q v rest other true same = ap (λ b. cond b (Some p.1) (Some v)) (sym (laws.congr k q p.0 same) ∙ other)
+  put_behind p k q v rest other false apart = refl
+
+  put_by : (p : K × V) (ps : List (K × V)) (k : K) (v : V) (q : K) → value_of eq (put eq ps k v) q ≡ cond (eq k q) (Some v) (value_of eq ps q)
+      → (b : Bool) → eq k p.0 ≡ b
+      → value_of eq (cond b ((p.0, v) ∷ ps) (p ∷ put eq ps k v)) q ≡ cond (eq k q) (Some v) (value_of eq (p ∷ ps) q)
+  put_by p ps k v q more true at =
+      let same : eq q p.0 ≡ eq k q = laws.symm q p.0 ∙ sym (laws.congr k p.0 q at) in
+      put_over (eq q p.0) v p.1 (lookup (eq q) ps) ∙ ap (λ b. cond b (Some v) (value_of eq (p ∷ ps) q)) same
+  put_by p ps k v q more false at = ap (cond (eq q p.0) (Some p.1)) more ∙ put_behind p k q v (lookup (eq q) ps) at (eq k q) refl
+
+  -- the equals of the key have the value that was put, and each other key has what it had
+  pub lookup_put : (ps : List (K × V)) (k : K) (v : V) (q : K) → value_of eq (put eq ps k v) q ≡ cond (eq k q) (Some v) (value_of eq ps q)
+  lookup_put [] k v q = ap (λ b. cond b (Some v) None) (laws.symm q k)
+  lookup_put (p ∷ ps) k v q = put_by p ps k v q (lookup_put ps k v q) (eq k p.0) refl
+
+  pub value_of_put : (ps : List (K × V)) (k : K) (v : V) → value_of eq (put eq ps k v) k ≡ Some v
+  value_of_put ps k v = lookup_put ps k v k ∙ ap (λ b. cond b (Some v) (value_of eq ps k)) (laws.refl k)
+
+  pub held_put : (ps : List (K × V)) (k : K) (v : V) → holds eq (put eq ps k v) k ≡ true
+  held_put ps k v = ap is_some (value_of_put ps k v)
+
+  pub equal_of_put : (ps : List (K × V)) (k : K) (v : V) (q : K) → eq k q ≡ true → value_of eq (put eq ps k v) q ≡ Some v
+  equal_of_put ps k v q same = lookup_put ps k v q ∙ ap (λ b. cond b (Some v) (value_of eq ps q)) same
+
+  pub other_of_put : (ps : List (K × V)) (k : K) (v : V) (q : K) → eq k q ≡ false → value_of eq (put eq ps k v) q ≡ value_of eq ps q
+  other_of_put ps k v q other = lookup_put ps k v q ∙ ap (λ b. cond b (Some v) (value_of eq ps q)) other
+
+  pub has_put : (ps : List (K × V)) (k : K) (v : V) → HasPut eq ps k v (put eq ps k v)
+  has_put ps k v = record {
+    held = held_put ps k v;
+    value = value_of_put ps k v;
+    equals = equal_of_put ps k v;
+    others = other_of_put ps k v;
+    len = len_put eq ps k v;
+  }
+
+  -- ---- a removal
+
+  -- the pairs are the removed one, that of k, and those that are left, in another order
+  record IsSplit (ps : List (K × V)) (k : K) (left : List (K × V)) : Type 0 where
+    removed : K × V
+    same : eq k removed.0 ≡ true
+    order : IsPermutation ps (removed ∷ left)
+
+  split_first : (ps : List (K × V)) (k : K) (i : ℕ) → IsFirst (eq k) (keys_of ps) i → IsSplit ps k (swap_out ps i)
+  split_first [] k i first = absurd first
+  split_first (p ∷ ps) k i first = record {
+    removed = get_or (p ∷ ps) i p;
+    same = ap (eq k) (sym (get_or-map (λ p. p.0) (p ∷ ps) i p)) ∙ first_passes (eq k) (keys_of (p ∷ ps)) i p.0 first;
+    order = IsPermutation-swap_out (p ∷ ps) i p (omega (arith, first_within (eq k) (keys_of (p ∷ ps)) i first, length-keys_of (p ∷ ps)));
+  }
+
+  module _ (ps : List (K × V)) (distinct : IsDistinct eq (keys_of ps)) (k : K) where
+    absent_by : value_of eq ps k ≡ None → (q : K) (b : Bool) → eq k q ≡ b → value_of eq ps q ≡ cond b None (value_of eq ps q)
+    absent_by absent q true same = value_of_equal ps k q same ∙ absent
+    absent_by absent q false other = refl
+
+    split_by : (left : List (K × V)) → IsSplit ps k left → (q : K) (b : Bool) → eq k q ≡ b → value_of eq left q ≡ cond b None (value_of eq ps q)
+    split_by left split q true same =
+        let p = split.removed in
+        lookup-none (eq q) left (none_past_head laws q p left (distinct_permuted ps (p ∷ left) distinct split.order) (sym (laws.congr k q p.0 same) ∙ split.same))
+    split_by left split q false other =
+        let p = split.removed in
+        let apart : eq q p.0 ≡ false = laws.symm q p.0 ∙ sym (laws.congr k p.0 q split.same) ∙ other in
+        ap (λ b. cond b (Some p.1) (value_of eq left q)) (sym apart) ∙ lookup_permuted ps (p ∷ left) distinct split.order q
+
+    taken_by : (index : Option ℕ) → index ≡ index_of (eq k) (keys_of ps) → (q : K) → value_of eq (take_out eq ps k) q ≡ cond (eq k q) None (value_of eq ps q)
+    taken_by (Some i) is q =
+        let left = split_first ps k i (first_of_index (eq k) (keys_of ps) i (sym is)) in
+        ap (λ l. value_of eq l q) (index_found eq k ps i is).take_is ∙ split_by (swap_out ps i) left q (eq k q) refl
+    taken_by None is q =
+        let absent = absent_of_index eq k ps is in
+        ap (λ l. value_of eq l q) absent.take_is ∙ absent_by absent.value q (eq k q) refl
+
+    -- no equal of the key has a value, and each other key has what it had
+    pub lookup_taken : (q : K) → value_of eq (take_out eq ps k) q ≡ cond (eq k q) None (value_of eq ps q)
+    lookup_taken = taken_by (index_of (eq k) (keys_of ps)) refl
+
+    pub value_of_taken : value_of eq (take_out eq ps k) k ≡ None
+    value_of_taken = lookup_taken k ∙ ap (λ b. cond b None (value_of eq ps k)) (laws.refl k)
+
+    pub held_taken : holds eq (take_out eq ps k) k ≡ false
+    held_taken = ap is_some value_of_taken
+
+    pub equal_of_taken : (q : K) → eq k q ≡ true → value_of eq (take_out eq ps k) q ≡ None
+    equal_of_taken q same = lookup_taken q ∙ ap (λ b. cond b None (value_of eq ps q)) same
+
+    pub other_of_taken : (q : K) → eq k q ≡ false → value_of eq (take_out eq ps k) q ≡ value_of eq ps q
+    other_of_taken q other = lookup_taken q ∙ ap (λ b. cond b None (value_of eq ps q)) other
+
+    pub has_removed : HasRemoved eq ps k (take_out eq ps k)
+    has_removed = record {
+      not_held = held_taken;
+      no_value = value_of_taken;
+      equals = equal_of_taken;
+      others = other_of_taken;
+      len = taken_from (holds eq ps k) (length (take_out eq ps k)) (length ps) (len_taken eq ps k);
+    }

@@ -1,0 +1,371 @@
+-- What holds of every search.
+use Rattle.std.proofs.Common.{◌≡◌, ℕ, ◌+◌, ◌-◌, ◌<◌, ◌≤◌, ◌==◌, Bool, true, false, not, ◌&&◌, true≢false, inl, inr, refl, sym, ap, ◌∙◌, subst, arith, List, length, map, cond, IsPermutation, if◌then◌else◌}
+use Rattle.std.proofs.lemmas.Bool.{cases_lt, cases_Bool}
+use Rattle.std.proofs.lemmas.List.Sorted.{IsPermutation-map, length_permutation, sum_by-IsPermutation, list_any-IsPermutation}
+use Rattle.std.proofs.lemmas.Map.Entries.{length-keys_of}
+use Rattle.std.proofs.Math.ListN.{length-map}
+use Rattle.std.proofs.lemmas.Map.Made.{is_some-lookup}
+use Rattle.std.specs.Map.{keys_of}
+use Rattle.half_store.specs.Reach.{reach}
+use Rattle.half_store.specs.Capacity.{buckets_of, buckets_for}
+use Rattle.half_store.specs.Table.{Contents}
+use Rattle.half_store.specs.Work.{Work, first_match_cost}
+use Rattle.half_store.proofs.ReachLemmas.{reach-none}
+use Rattle.half_store.proofs.CapacityLemmas.{four-le_count, buckets_for-least, buckets_of-capacity_of, capacity_for-capacity_of}
+use Rattle.half_store.proofs.TableLaws.{history_law as reach_history, crowding_law}
+use Rattle.halfbrown.specs.declared.run.Command.{Command}
+use Rattle.halfbrown.specs.declared.run.Command.TheVariants.{Insert, InsertNew, Get, Remove, Clear, Reserve, Shrink, IsVec, Len}
+use Rattle.halfbrown.specs.Costs.{Range, Cost, GrewBy, GrewWithin, exactly, between, add_ranges, no_cost, search_asked, candidates, probe_length, comparisons_in_order, search_compares, search_looks, search_cost_of, insert_cost, unchecked_cost, insertion_probe_looks, is_switch_refused, capacity_switched, capacity_grown, addition_grows, SearchCosts, InsertCosts}
+use Rattle.halfbrown.specs.MapLaws.{HoldSamePairs, GrewExactlyBy, HistoryLaw, InsertionHistoryLaw, CrowdedSearchLaw, CrowdedInsertionLaw, CrowdedProbeLaw, CrowdedGrowthLaw, CrowdedUncheckedLaw, CommandCostLaw, CommandHashesLaw, CommandBucketsLaw, finds_in_vector}
+use Rattle.halfbrown.specs.Growth.{is_full, stays_vec}
+use Rattle.halfbrown.specs.Pairs.{holds}
+use Rattle.halfbrown.specs.RunCost.{command_cost}
+use Rattle.halfbrown.specs.State.{State, state, contents_of, IsState, IsTableCapacity}
+use Rattle.halfbrown.proofs.Full.{full_len}
+use Rattle.halfbrown.proofs.Indices.{absent_of_unheld}
+
+-- a table with a capacity has more buckets than that
+buckets-more : (capacity : ℕ) → IsTableCapacity capacity → 0 < buckets_of capacity → capacity < buckets_of capacity
+buckets-more capacity is some =
+    let m : ℕ = buckets_for capacity in
+    let l = buckets_for-least capacity in
+    let same : buckets_of capacity ≡ m = ap buckets_of is ∙ buckets_of-capacity_of m l.count in
+    let four : 4 ≤ m = four-le_count m l.count (omega arith) in
+    omega arith
+
+-- a search in a table reads at most an unsuccessful probe
+looks_most : (held : Bool) (probe : ℕ) → (if held then between 1 (probe - 1) else exactly probe).most ≤ probe
+looks_most true probe = omega arith
+looks_most false probe = omega arith
+
+-- a range of one number
+abbrev IsExact : Range → Type 0
+IsExact range = range.least ≡ range.most
+
+exact_unless_refused : (refused : Bool) (range : Range) → IsExact range → IsExact (if refused then exactly 0 else range)
+exact_unless_refused true range exact = refl
+exact_unless_refused false range exact = exact
+
+-- the work of a cost, where that is exact
+abbrev least_work : Cost → Work
+least_work cost = record { asked = cost.asked; compared = cost.compared.least; looked = cost.looked.least }
+
+grew_exactly : (cost : Cost) (before after : Work) → IsExact cost.compared → IsExact cost.looked → GrewBy cost before after → GrewExactlyBy (least_work cost) before after
+grew_exactly cost before after compared looked grew = record {
+  asked = grew.asked;
+  compared = omega (arith, compared, grew.compared.least, grew.compared.most);
+  looked = omega (arith, looked, grew.looked.least, grew.looked.most);
+}
+
+-- an insertion that makes no capacity grow reads no more than its search
+insertion_most : (refused grows : Bool) (searched : Range) (probe before after : ℕ) → grows ≡ false
+    → GrewWithin (if refused then exactly 0 else add_ranges searched (exactly (if grows then probe else 0))) before after → after ≤ before + searched.most
+insertion_most true grows searched probe before after none grew = omega (arith, grew.most)
+insertion_most false true searched probe before after none grew = absurd (true≢false none)
+insertion_most false false searched probe before after none grew = omega (arith, grew.most)
+
+-- one that makes the capacity grow for its key has searched in vain, and reads one more probe
+growing_reads : (refused granted held grows : Bool) (probe second before after : ℕ) → (granted && not held && grows) ≡ true → (refused && granted) ≡ false
+    → GrewWithin (if refused then exactly 0 else add_ranges (if held then between 1 (probe - 1) else exactly probe) (exactly (if granted && not held && grows then second else 0))) before after
+    → after ≡ before + (probe + second)
+growing_reads refused false held grows probe second before after some none grew = absurd (true≢false (sym some))
+growing_reads refused true true grows probe second before after some none grew = absurd (true≢false (sym some))
+growing_reads refused true false false probe second before after some none grew = absurd (true≢false (sym some))
+growing_reads true true false true probe second before after some none grew = absurd (true≢false none)
+growing_reads false true false true probe second before after some none grew = omega (arith, grew.least, grew.most)
+
+-- a granted call is not refused its switch
+granted_or_refused : (full granted : Bool) → (full && not granted && granted) ≡ false
+granted_or_refused false granted = refl
+granted_or_refused true false = refl
+granted_or_refused true true = refl
+
+-- an insertion without a search reads one probe at most
+unchecked_most : (granted : Bool) (probe before after : ℕ) → GrewWithin (exactly (if granted then probe else 0)) before after → after ≤ before + probe
+unchecked_most true probe before after grew = omega (arith, grew.most)
+unchecked_most false probe before after grew = omega (arith, grew.most)
+
+-- what holds of two numbers holds of the one that is chosen
+of_both : (P : ℕ → Type 0) (b : Bool) (x y : ℕ) → P x → P y → P (if b then x else y)
+of_both P true x y of_x of_y = of_x
+of_both P false x y of_x of_y = of_y
+
+-- a map that does not stay a vector, and is no full one, is a table
+table_of : (is_vec full : Bool) → full ≡ false → (is_vec && not full) ≡ false → is_vec ≡ false
+table_of false full part stays = refl
+table_of true full part stays = absurd (true≢false (sym (ap not part) ∙ stays))
+
+module _ {K V S : Type 0} (hash : S → K → ℕ) where
+  pub crowded_probe_law : CrowdedProbeLaw V hash
+  crowded_probe_law builder capacity pairs k passed is fits l =
+      let hashes : List ℕ = map (hash builder) (keys_of pairs) in
+      let m : ℕ = buckets_of capacity in
+      let h : ℕ = hash builder k in
+      let some : 0 < m = elim (cases_lt 0 m) [
+        | inl s ↦ s
+        | inr none ↦ absurd (omega (arith, reach-none hashes m h (omega arith)))
+      ] in
+      let few : length hashes < m = omega (arith, buckets-more capacity is some, length-map (keys_of pairs) (hash builder), length-keys_of pairs) in
+      crowding_law hashes m h passed few l
+
+  module _ (limit : ℕ) (eq : K → K → Bool) where
+    pub crowded_search_law : CrowdedSearchLaw V limit eq hash
+    crowded_search_law m k before after passed state form costs l =
+        let probe : ℕ = probe_length (hash m.builder) false m.capacity m.pairs k in
+        let grew : GrewWithin (search_looks eq (hash m.builder) false m.capacity m.pairs k) before.looked after.looked =
+        subst (λ b. GrewWithin (search_looks eq (hash m.builder) b m.capacity m.pairs k) before.looked after.looked) form costs.grew.looked in
+        let most = looks_most (holds eq m.pairs k) probe in
+        crowded_probe_law m.builder m.capacity m.pairs k passed (state.table_capacity form) state.fits (omega (arith, grew.most, most))
+
+    module _ (m : State K V S) (s : IsState eq limit m) (stays : stays_vec limit m ≡ false) where
+      -- once the form has changed, the capacity is that of a table that the pairs fit
+      switched : IsTableCapacity (capacity_switched limit m) × (length m.pairs ≤ capacity_switched limit m)
+      switched =
+          elim (cases_Bool (is_full limit m)) [
+            | inl full ↦
+                let l = buckets_for-least (limit + 1) in
+                let held = full_len limit m full in
+                rw full (capacity_for-capacity_of (buckets_for (limit + 1)) l.count, omega (arith, l.serves))
+            | inr part ↦
+                let fits = s.fits in
+                rw part (s.table_capacity (table_of m.is_vec (is_full limit m) part stays), fits)
+          ]
+
+      -- and so is the one that is enough for one pair more
+      grown : IsTableCapacity (capacity_grown limit m) × (length m.pairs ≤ capacity_grown limit m)
+      grown =
+          let l = buckets_for-least (length m.pairs + 1) in
+          of_both (λ capacity. IsTableCapacity capacity × (length m.pairs ≤ capacity)) (addition_grows limit m) _ _
+          (capacity_for-capacity_of (buckets_for (length m.pairs + 1)) l.count, omega (arith, l.serves)) switched
+
+    pub crowded_growth_law : CrowdedGrowthLaw V limit eq hash
+    crowded_growth_law m k granted before after s stays grows costs =
+        let is = switched m s stays in
+        let more = grown m s stays in
+        let h : K → ℕ = hash m.builder in
+        let first : ℕ = probe_length h false (capacity_switched limit m) m.pairs k in
+        let second : ℕ = probe_length h false (capacity_grown limit m) m.pairs k in
+        record {
+          first = first;
+          second = second;
+          read = growing_reads (is_switch_refused limit m granted) granted (holds eq m.pairs k) (addition_grows limit m) first second before.looked after.looked grows
+              (granted_or_refused (is_full limit m) granted)
+              (subst (λ b. GrewWithin (if is_switch_refused limit m granted then exactly 0 else add_ranges (search_looks eq h b (capacity_switched limit m) m.pairs k) (exactly (if granted && not (holds eq m.pairs k) && addition_grows limit m then probe_length h b (capacity_grown limit m) m.pairs k else 0))) before.looked after.looked) stays costs.grew.looked);
+          first_crowded = λ passed l. crowded_probe_law m.builder (capacity_switched limit m) m.pairs k passed is.0 is.1 l;
+          second_crowded = λ passed l. crowded_probe_law m.builder (capacity_grown limit m) m.pairs k passed more.0 more.1 l;
+        }
+
+    pub crowded_unchecked_law : CrowdedUncheckedLaw V limit eq hash
+    crowded_unchecked_law m k granted before after passed s grew l =
+        let probe : Bool → ℕ = λ b. probe_length (hash m.builder) b (capacity_grown limit m) m.pairs k in
+        let most : after.looked ≤ before.looked + probe (stays_vec limit m) = unchecked_most granted (probe (stays_vec limit m)) before.looked after.looked grew.looked in
+        elim (cases_Bool (stays_vec limit m)) [
+          | inl vector ↦ absurd (omega (arith, most, ap probe vector))
+          | inr stays ↦
+              let more = grown m s stays in
+              crowded_probe_law m.builder (capacity_grown limit m) m.pairs k passed more.0 more.1 (omega (arith, most, ap probe stays))
+        ]
+
+    pub crowded_insertion_law : CrowdedInsertionLaw V limit eq hash
+    crowded_insertion_law m k granted before after passed s none costs l =
+        let looks : Bool → Range = λ b. search_looks eq (hash m.builder) b (capacity_switched limit m) m.pairs k in
+        let read : after.looked ≤ before.looked + (looks (stays_vec limit m)).most =
+        insertion_most (is_switch_refused limit m granted) _ (looks (stays_vec limit m)) (insertion_probe_looks limit eq hash m k) before.looked after.looked none costs.grew.looked in
+        elim (cases_Bool (stays_vec limit m)) [
+          | inl vector ↦ absurd (omega (arith, read, ap (λ b. (looks b).most) vector))
+          | inr stays ↦
+              let is = switched m s stays in
+              let most = looks_most (holds eq m.pairs k) (probe_length (hash m.builder) false (capacity_switched limit m) m.pairs k) in
+              crowded_probe_law m.builder (capacity_switched limit m) m.pairs k passed is.0 is.1 (omega (arith, read, most, ap (λ b. (looks b).most) stays))
+        ]
+
+  keys-permutation : (xs ys : List (K × V)) → IsPermutation xs ys → IsPermutation (keys_of xs) (keys_of ys)
+  keys-permutation xs ys p = IsPermutation-map (λ (e : K × V). e.0) xs ys p
+
+  module _ (eq : K → K → Bool) where
+    -- where no key equal to k is held, a search in a vector compares each key
+    comparisons-unheld : (pairs : List (K × V)) (k : K) → holds eq pairs k ≡ false → comparisons_in_order eq pairs k ≡ length pairs
+    comparisons-unheld pairs k unheld = let absent = absent_of_unheld eq k pairs unheld in ap (λ i. first_match_cost i (length pairs)) absent.index
+
+    -- a search for a key that is not held compares exactly so many keys, and reads exactly so many buckets
+    module _ (h : K → ℕ) (pairs : List (K × V)) (k : K) (unheld : holds eq pairs k ≡ false) where
+      compares-exact : (is_vec : Bool) → IsExact (search_compares eq h is_vec pairs k)
+      compares-exact true = refl
+      compares-exact false = subst (λ b. IsExact (if b then between 1 (candidates h pairs k) else exactly (candidates h pairs k))) (sym unheld) refl
+
+      looks-exact : (is_vec : Bool) (capacity : ℕ) → IsExact (search_looks eq h is_vec capacity pairs k)
+      looks-exact true capacity = refl
+      looks-exact false capacity =
+          let probe : ℕ = probe_length h false capacity pairs k in
+          subst (λ b. IsExact (if b then between 1 (probe - 1) else exactly probe)) (sym unheld) refl
+
+    search_exactly : (m : State K V S) (k : K) (before after : Work) → holds eq m.pairs k ≡ false → SearchCosts eq hash m k before after
+        → GrewExactlyBy (least_work (search_cost_of eq hash m k)) before after
+    search_exactly m k before after unheld costs =
+        grew_exactly (search_cost_of eq hash m k) before after
+        (compares-exact (hash m.builder) m.pairs k unheld m.is_vec) (looks-exact (hash m.builder) m.pairs k unheld m.is_vec m.capacity) costs.grew
+
+    insertion_exactly : (limit : ℕ) (m : State K V S) (k : K) (granted : Bool) (before after : Work) → holds eq m.pairs k ≡ false → InsertCosts limit eq hash m k granted before after
+        → GrewExactlyBy (least_work (insert_cost limit eq hash m k granted)) before after
+    insertion_exactly limit m k granted before after unheld costs =
+        let stays : Bool = stays_vec limit m in
+        let probe : ℕ = if granted && not (holds eq m.pairs k) && addition_grows limit m then insertion_probe_looks limit eq hash m k else 0 in
+        grew_exactly (insert_cost limit eq hash m k granted) before after
+        (exact_unless_refused (is_switch_refused limit m granted) (search_compares eq (hash m.builder) stays m.pairs k) (compares-exact (hash m.builder) m.pairs k unheld stays))
+        (exact_unless_refused (is_switch_refused limit m granted) (add_ranges (search_looks eq (hash m.builder) stays (capacity_switched limit m) m.pairs k) (exactly probe))
+        (ap (λ n. n + probe) (looks-exact (hash m.builder) m.pairs k unheld stays (capacity_switched limit m)))) costs.grew
+
+    -- the same pairs in another order
+    module _ (builder : S) (xs ys : List (K × V)) (p : IsPermutation xs ys) (k : K) where
+      held-same : holds eq xs k ≡ holds eq ys k
+      held-same = is_some-lookup (eq k) xs ∙ list_any-IsPermutation (eq k) (keys_of xs) (keys_of ys) (keys-permutation xs ys p) ∙ sym (is_some-lookup (eq k) ys)
+
+      candidates-same : candidates (hash builder) xs k ≡ candidates (hash builder) ys k
+      candidates-same = sym (sum_by-IsPermutation (λ q. cond (hash builder q == hash builder k) 1 0) (keys_of xs) (keys_of ys) (keys-permutation xs ys p))
+
+      reach-same : (m : ℕ) → reach (map (hash builder) (keys_of xs)) m (hash builder k) ≡ reach (map (hash builder) (keys_of ys)) m (hash builder k)
+      reach-same m = reach_history (map (hash builder) (keys_of xs)) (map (hash builder) (keys_of ys)) m (hash builder k) (IsPermutation-map (hash builder) (keys_of xs) (keys_of ys) (keys-permutation xs ys p))
+
+      compares-same : (is_vec : Bool) → (is_vec && holds eq xs k) ≡ false → search_compares eq (hash builder) is_vec xs k ≡ search_compares eq (hash builder) is_vec ys k
+      compares-same true unheld =
+          ap exactly (comparisons-unheld xs k unheld ∙ sym (length_permutation xs ys p) ∙ sym (comparisons-unheld ys k (sym held-same ∙ unheld)))
+      compares-same false none = λ i. if held-same i then between 1 (candidates-same i) else exactly (candidates-same i)
+
+  module _ (limit : ℕ) (eq : K → K → Bool) where
+    module _ (is_vec : Bool) (xs ys : List (K × V)) (capacity : ℕ) (builder : S) (some others : Contents) (p : IsPermutation xs ys) where
+      abbrev first : State K V S
+      first = state is_vec xs capacity builder some
+
+      abbrev second : State K V S
+      second = state is_vec ys capacity builder others
+
+      long : length xs ≡ length ys
+      long = sym (length_permutation xs ys p)
+
+      held : (k : K) → holds eq xs k ≡ holds eq ys k
+      held k = held-same eq builder xs ys p k
+
+      looked : (k : K) (m : ℕ) → reach (map (hash builder) (keys_of xs)) m (hash builder k) ≡ reach (map (hash builder) (keys_of ys)) m (hash builder k)
+      looked k m = reach-same eq builder xs ys p k m
+
+      -- the form after a granted switching call on so many pairs
+      abbrev stays : ℕ → Bool
+      stays n = is_vec && not (is_vec && (n == limit))
+
+      module _ (k : K) where
+        search-compared : (is_vec && holds eq xs k) ≡ false → (search_cost_of eq hash first k).compared ≡ (search_cost_of eq hash second k).compared
+        search-compared none = compares-same eq builder xs ys p k is_vec none
+
+        search-looked : (search_cost_of eq hash first k).looked ≡ (search_cost_of eq hash second k).looked
+        search-looked = simp (held k, looked k)
+
+        search-same : (is_vec && holds eq xs k) ≡ false → search_cost_of eq hash first k ≡ search_cost_of eq hash second k
+        search-same none = λ i. record { asked = search_asked is_vec; compared = search-compared none i; looked = search-looked i }
+
+        module _ (granted : Bool) where
+          insert-asked : (insert_cost limit eq hash first k granted).asked ≡ (insert_cost limit eq hash second k granted).asked
+          insert-asked = simp long
+
+          insert-looked : (insert_cost limit eq hash first k granted).looked ≡ (insert_cost limit eq hash second k granted).looked
+          insert-looked = simp (long, held k, looked k)
+
+          insert-compared : (stays (length xs) && holds eq xs k) ≡ false → (insert_cost limit eq hash first k granted).compared ≡ (insert_cost limit eq hash second k granted).compared
+          insert-compared none =
+              let searched : search_compares eq (hash builder) (stays (length xs)) xs k ≡ search_compares eq (hash builder) (stays (length ys)) ys k =
+              compares-same eq builder xs ys p k (stays (length xs)) none ∙ (λ i. search_compares eq (hash builder) (stays (long i)) ys k) in
+              λ i. if is_vec && (long i == limit) && not granted then exactly 0 else searched i
+
+          insert-same : (stays (length xs) && holds eq xs k) ≡ false → insert_cost limit eq hash first k granted ≡ insert_cost limit eq hash second k granted
+          insert-same none = λ i. record { asked = insert-asked i; compared = insert-compared none i; looked = insert-looked i }
+
+          -- an insertion without a search, where the key is not held
+          added-same : (if holds eq xs k then no_cost else unchecked_cost limit eq hash first k granted) ≡ (if holds eq ys k then no_cost else unchecked_cost limit eq hash second k granted)
+          added-same = simp (long, held k, looked k)
+
+      hashes-same : (command : Command K V) (refused : Bool) → (command_cost limit eq hash first command refused).asked ≡ (command_cost limit eq hash second command refused).asked
+      hashes-same (Insert k v) refused = insert-asked k (not refused)
+      hashes-same (InsertNew k v) refused = ap (λ cost. search_asked is_vec + cost.asked) (added-same k (not refused))
+      hashes-same (Get k) refused = refl
+      hashes-same (Remove k) refused = refl
+      hashes-same Clear refused = refl
+      hashes-same (Reserve additional) refused = refl
+      hashes-same Shrink refused = refl
+      hashes-same IsVec refused = refl
+      hashes-same Len refused = refl
+
+      buckets-same : (command : Command K V) (refused : Bool) → (command_cost limit eq hash first command refused).looked ≡ (command_cost limit eq hash second command refused).looked
+      buckets-same (Insert k v) refused = insert-looked k (not refused)
+      buckets-same (InsertNew k v) refused = λ i. add_ranges (search-looked k i) (added-same k (not refused) i).looked
+      buckets-same (Get k) refused = search-looked k
+      buckets-same (Remove k) refused = search-looked k
+      buckets-same Clear refused = refl
+      buckets-same (Reserve additional) refused = refl
+      buckets-same Shrink refused = refl
+      buckets-same IsVec refused = refl
+      buckets-same Len refused = refl
+
+      compared-same : (command : Command K V) (refused : Bool) → finds_in_vector limit eq first command ≡ false
+          → (command_cost limit eq hash first command refused).compared ≡ (command_cost limit eq hash second command refused).compared
+      compared-same (Insert k v) refused none = insert-compared k (not refused) none
+      compared-same (InsertNew k v) refused none = λ i. add_ranges (search-compared k none i) (added-same k (not refused) i).compared
+      compared-same (Get k) refused none = search-compared k none
+      compared-same (Remove k) refused none = search-compared k none
+      compared-same Clear refused none = refl
+      compared-same (Reserve additional) refused none = refl
+      compared-same Shrink refused none = refl
+      compared-same IsVec refused none = refl
+      compared-same Len refused none = refl
+
+      cost-same : (command : Command K V) (refused : Bool) → finds_in_vector limit eq first command ≡ false
+          → command_cost limit eq hash first command refused ≡ command_cost limit eq hash second command refused
+      cost-same command refused none = λ i. record { asked = hashes-same command refused i; compared = compared-same command refused none i; looked = buckets-same command refused i }
+
+    -- two maps of the same form, capacity and builder
+    module _ (a b : State K V S) (same : HoldSamePairs a b) where
+      abbrev moved : State K V S
+      moved = state b.is_vec a.pairs b.capacity b.builder (contents_of a)
+
+      alike : a ≡ moved
+      alike = λ i. state (same.form i) a.pairs (same.capacity i) (same.builder i) (contents_of a)
+
+      unheld-too : (k : K) → holds eq a.pairs k ≡ false → holds eq b.pairs k ≡ false
+      unheld-too k unheld = sym (held-same eq b.builder a.pairs b.pairs same.pairs k) ∙ unheld
+
+      never_found : (in_vector : Bool) (k : K) → holds eq a.pairs k ≡ false → (in_vector && holds eq a.pairs k) ≡ false
+      never_found true k unheld = unheld
+      never_found false k unheld = refl
+
+      searches-alike : (k : K) → holds eq a.pairs k ≡ false → search_cost_of eq hash a k ≡ search_cost_of eq hash b k
+      searches-alike k unheld = ap (λ m. search_cost_of eq hash m k) alike
+          ∙ search-same b.is_vec a.pairs b.pairs b.capacity b.builder (contents_of a) (contents_of b) same.pairs k (never_found b.is_vec k unheld)
+
+      insertions-alike : (k : K) (granted : Bool) → holds eq a.pairs k ≡ false → insert_cost limit eq hash a k granted ≡ insert_cost limit eq hash b k granted
+      insertions-alike k granted unheld = ap (λ m. insert_cost limit eq hash m k granted) alike
+          ∙ insert-same b.is_vec a.pairs b.pairs b.capacity b.builder (contents_of a) (contents_of b) same.pairs k granted (never_found (stays_vec limit moved) k unheld)
+
+    pub history_law : HistoryLaw V eq hash
+    history_law a b k a_before a_after b_before b_after same unheld a_costs b_costs = (
+      least_work (search_cost_of eq hash b k),
+      subst (λ cost. GrewExactlyBy (least_work cost) a_before a_after) (searches-alike a b same k unheld) (search_exactly eq a k a_before a_after unheld a_costs),
+      search_exactly eq b k b_before b_after (unheld-too a b same k unheld) b_costs,
+    )
+
+    pub insertion_history_law : InsertionHistoryLaw V limit eq hash
+    insertion_history_law a b k granted a_before a_after b_before b_after same unheld a_costs b_costs = (
+      least_work (insert_cost limit eq hash b k granted),
+      subst (λ cost. GrewExactlyBy (least_work cost) a_before a_after) (insertions-alike a b same k granted unheld) (insertion_exactly eq limit a k granted a_before a_after unheld a_costs),
+      insertion_exactly eq limit b k granted b_before b_after (unheld-too a b same k unheld) b_costs,
+    )
+
+    pub command_cost_law : CommandCostLaw V limit eq hash
+    command_cost_law a b command refused same none = ap (λ m. command_cost limit eq hash m command refused) (alike a b same)
+        ∙ cost-same b.is_vec a.pairs b.pairs b.capacity b.builder (contents_of a) (contents_of b) same.pairs command refused
+        (subst (λ m. finds_in_vector limit eq m command ≡ false) (alike a b same) none)
+
+    pub command_hashes_law : CommandHashesLaw V limit eq hash
+    command_hashes_law a b command refused same = ap (λ m. (command_cost limit eq hash m command refused).asked) (alike a b same)
+        ∙ hashes-same b.is_vec a.pairs b.pairs b.capacity b.builder (contents_of a) (contents_of b) same.pairs command refused
+
+    pub command_buckets_law : CommandBucketsLaw V limit eq hash
+    command_buckets_law a b command refused same = ap (λ m. (command_cost limit eq hash m command refused).looked) (alike a b same)
+        ∙ buckets-same b.is_vec a.pairs b.pairs b.capacity b.builder (contents_of a) (contents_of b) same.pairs command refused

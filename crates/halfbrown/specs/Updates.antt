@@ -1,0 +1,22 @@
+-- What callers read off a changed list of pairs: which key has which value.
+use Rattle.std.specs.Prelude.{◌≡◌, ℕ, ◌+◌, Bool, true, false, List, length, Some, None, if◌then◌else◌}
+use Rattle.halfbrown.specs.Pairs.{value_of, holds}
+
+module _ {K V : Type 0} (eq : K → K → Bool) where
+  -- after the pair (k, v) is put: k is held with the value v, as are its equals; each other key has what it had; there is one pair more
+  -- exactly where k was not held
+  pub record HasPut (old : List (K × V)) (k : K) (v : V) (new : List (K × V)) : Type 0 where
+    pub held : holds eq new k ≡ true
+    pub value : value_of eq new k ≡ Some v
+    pub equals : (q : K) → eq k q ≡ true → value_of eq new q ≡ Some v
+    pub others : (q : K) → eq k q ≡ false → value_of eq new q ≡ value_of eq old q
+    pub len : length new ≡ (if holds eq old k then length old else length old + 1)
+
+  -- after the pair of k is removed: no equal key is held; each other key has what it had; there is one pair fewer exactly where k was
+  -- held
+  pub record HasRemoved (old : List (K × V)) (k : K) (new : List (K × V)) : Type 0 where
+    pub not_held : holds eq new k ≡ false
+    pub no_value : value_of eq new k ≡ None
+    pub equals : (q : K) → eq k q ≡ true → value_of eq new q ≡ None
+    pub others : (q : K) → eq k q ≡ false → value_of eq new q ≡ value_of eq old q
+    pub len : length old ≡ (if holds eq old k then length new + 1 else length new)

@@ -1,0 +1,142 @@
+//! The form of a map: a vector, or a table over the same columns.
+ghost use Rattle.std.specs.Prelude.{◌≡◌, ◌<◌, ◌≤◌, ◌↔◌, ◌⊎◌, ◌^◌, ◌∷◌, ◌++◌, true, false, max, [], length, Err, IsOk, OnOk, OnErr, if◌then◌else◌};
+ghost use Rattle.std.specs.Option.{option_copied};
+ghost use Rattle.half_store.specs.Capacity.{capacity_of, capacity_for, buckets_of, buckets_for};
+ghost use Rattle.half_store.specs.Pairs.{swap_out};
+ghost use Rattle.half_store.specs.Probe.{looked_more};
+ghost use Rattle.half_store.specs.Reach.{reach};
+ghost use Rattle.halfbrown.specs.Form.{form_of, vector_form, table_form};
+ghost use Rattle.halfbrown.specs.Lookup.{IsVacancy, stored_hash, is_unprobed};
+
+use super::lookup::Vacancy;
+use half_store::table::Table;
+use half_store::{Refusal, Tally};
+use std::marker::Model;
+
+/// A vector, which has no index, or a table, which has one.
+#[derive(Drop)]
+pub(crate) struct Form {
+    table: Option<Table>,
+}
+
+impl Model for Form {
+    ghost use Rattle.halfbrown.specs.Form.{FormState, form_of, form_code};
+
+    ghost Value = { FormState };
+
+    ghost coded = { form_code };
+
+    ghost view = { λ f. form_of f.table };
+}
+
+impl Form {
+    /// A vector.
+    pub(crate) fn vector() -> Form
+        ensures { result ≡ vector_form }
+    {
+        Form { table: None }
+    }
+
+    /// A table.
+    pub(crate) fn from_table(table: Table) -> Form
+        ensures { result ≡ table_form table }
+    {
+        Form { table: Some(table) }
+    }
+
+    pub(crate) fn is_vec(&self) -> bool
+        ensures { result ≡ self.now.is_vec }
+    {
+        self.table.is_none()
+    }
+
+    /// The table, where it is one.
+    pub(crate) fn table(&self) -> Option<&Table>
+        ensures { form_of (option_copied result) ≡ self.now }
+    {
+        self.table.as_ref()
+    }
+
+    /// The capacity of a table; 0 for a vector.
+    pub(crate) fn capacity(&self) -> usize
+        ensures value { result ≡ capacity_of self.now.buckets }
+        ensures within { length self.now.hashes ≤ result }
+        ensures series { result ≡ capacity_for result }
+    {
+        match &self.table {
+            Some(table) => table.capacity(),
+            None => 0,
+        }
+    }
+
+    /// Makes the capacity of a table enough for so many pairs in all.
+    pub(crate) fn reserve(&mut self, needed: usize) -> Result<(), Refusal>
+        requires { self.old.is_vec ≡ false }
+        ensures form { self.new.is_vec ≡ self.old.is_vec }
+        ensures hashes { self.new.hashes ≡ self.old.hashes }
+        ensures more { OnOk result (capacity_of self.old.buckets < needed → self.new.buckets ≡ buckets_for needed) }
+        ensures capacity { OnOk result (needed ≤ capacity_of self.new.buckets) }
+        ensures size { (result ≡ Err Refusal.Size) ↔ ((capacity_of self.old.buckets < needed) × (2 ^ 60 < needed)) }
+        ensures err { OnErr result (self.new ≡ self.old) }
+    {
+        match &mut self.table {
+            Some(table) => table.reserve(needed),
+            None => unreachable!(),
+        }
+    }
+
+    /// Shrinks the capacity of a table to the least that its pairs fit. Where memory is refused it stays.
+    pub(crate) fn shrink_to_fit(&mut self)
+        ensures form { self.new.is_vec ≡ self.old.is_vec }
+        ensures hashes { self.new.hashes ≡ self.old.hashes }
+        ensures fewer { self.new.buckets ≤ self.old.buckets }
+        ensures buckets { (self.new.buckets ≡ buckets_for (length self.old.hashes)) ⊎ (self.new.buckets ≡ self.old.buckets) }
+        ensures empty { length self.old.hashes ≡ 0 → self.new.buckets ≡ 0 }
+    {
+        if let Some(table) = &mut self.table {
+            table.shrink_to_fit();
+        }
+    }
+
+    /// Removes all stored hashes. A vector stores none.
+    pub(crate) fn clear(&mut self)
+        ensures form { self.new.is_vec ≡ self.old.is_vec }
+        ensures buckets { self.new.buckets ≡ self.old.buckets }
+        ensures hashes { self.new.hashes ≡ [] }
+    {
+        if let Some(table) = &mut self.table {
+            table.clear();
+        }
+    }
+
+    /// Stores the hash of a pair that is added. A vector stores none.
+    pub(crate) fn add(&mut self, vacancy: Vacancy, tally: &mut Tally)
+        requires capacity { self.old.is_vec ≡ false → length self.old.hashes < capacity_of self.old.buckets }
+        requires vacant { IsVacancy self.old.is_vec self.old.contents (stored_hash vacancy) vacancy }
+        ensures form { self.new.is_vec ≡ self.old.is_vec }
+        ensures buckets { self.new.buckets ≡ self.old.buckets }
+        ensures hashes { self.old.is_vec ≡ false → self.new.hashes ≡ self.old.hashes ++ stored_hash vacancy ∷ [] }
+        ensures work { tally.new ≡ looked_more tally.old (if is_unprobed vacancy then reach self.old.hashes (buckets_of (capacity_of self.old.buckets)) (stored_hash vacancy) else 0) }
+    {
+        if let Some(table) = &mut self.table {
+            if let Vacancy::InTable(hash, bucket) = vacancy {
+                match bucket {
+                    Some(bucket) => table.add_at(hash, bucket),
+                    None => table.add(hash, tally),
+                }
+            }
+        }
+    }
+
+    /// Removes the stored hash of the pair at this index. A vector stores none.
+    pub(crate) fn remove(&mut self, index: usize)
+        requires { self.old.is_vec ≡ false → index < length self.old.hashes }
+        ensures form { self.new.is_vec ≡ self.old.is_vec }
+        ensures buckets { self.new.buckets ≡ self.old.buckets }
+        ensures hashes { self.old.is_vec ≡ false → self.new.hashes ≡ swap_out self.old.hashes index }
+    {
+        if let Some(table) = &mut self.table {
+            table.remove(index);
+        }
+    }
+}

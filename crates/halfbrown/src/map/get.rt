@@ -1,0 +1,153 @@
+//! Look-ups by key.
+ghost use Rattle.std.specs.Prelude.{◌≡◌, IsTrue, Some, ◌<◌, length, slice_get};
+ghost use Rattle.std.specs.Borrow.{sem};
+ghost use Rattle.std.specs.Map.{values_of};
+ghost use Rattle.std.specs.Option.{option_copied, option_copied_mut};
+ghost use Rattle.halfbrown.specs.Costs.{key_hash, SearchCosts};
+ghost use Rattle.halfbrown.specs.Pairs.{value_of, holds};
+ghost use Rattle.halfbrown.specs.State.{IsState};
+
+use super::LimitedHashMap;
+use super::lookup::Lookup;
+use crate::Limit;
+use half_store::Tally;
+use std::hash::{BuildHasher, Hash};
+use std::ops::Index;
+
+impl<K: Eq + Hash, V, S: BuildHasher, L: Limit> LimitedHashMap<K, V, S, L> {
+    ghost use Rattle.halfbrown.specs.Lending.{LendsValueOf, LendsValueAt};
+
+    /// Returns the value of the held key that equals this one. It costs one search.
+    ///
+    /// ```
+    /// let age = ages.get(&1).copied(); // 36
+    /// ```
+    pub fn get(&self, key: &K) -> Option<&V>
+        ensures { option_copied result ≡ value_of K.eq self.now.pairs key.now }
+    {
+        self.get_counted(key, &mut Tally::new())
+    }
+
+    /// `get`, with its work counted: one hash in a table and none in a vector, and in a table no key of another hash is
+    /// compared.
+    ///
+    /// ```
+    /// let age = ages.get_counted(&1, &mut tally).copied(); // 36
+    /// ```
+    pub fn get_counted(&self, key: &K, tally: &mut Tally) -> Option<&V>
+        ensures value { option_copied result ≡ value_of K.eq self.now.pairs key.now }
+        ensures cost { SearchCosts K.eq (key_hash S.BuildHasher S.Hasher.Hasher K.hash_input) self.now key.now tally.old tally.new }
+        ensures state { IsState K.eq L.LIMIT self.now }
+    {
+        match self.find(key, tally) {
+            Lookup::Found(index) => Some(self.columns.value_at(index)),
+            Lookup::Missing(_) => None,
+        }
+    }
+
+    /// Returns the value of the held key that equals this one, to be written. It costs one search.
+    ///
+    /// ```
+    /// if let Some(age) = ages.get_mut(&1) {
+    ///     *age = 37;
+    /// }
+    /// ```
+    pub fn get_mut(&mut self, key: &K) -> Option<&mut V>
+        ensures* writes_back { sem 𝓛 (LendsValueOf K.row V.row S.row L.row S.Hasher.row K.Hash S.BuildHasher S.Hasher.Hasher L.Limit self.entry key.now result) }
+        ensures value { option_copied_mut result ≡ value_of K.eq self.old.pairs key.now }
+    {
+        self.get_mut_counted(key, &mut Tally::new())
+    }
+
+    /// `get_mut`, with its work counted: that of one search.
+    ///
+    /// ```
+    /// if let Some(age) = ages.get_mut_counted(&1, &mut tally) {
+    ///     *age = 38;
+    /// }
+    /// ```
+    pub fn get_mut_counted(&mut self, key: &K, tally: &mut Tally) -> Option<&mut V>
+        ensures* writes_back { sem 𝓛 (LendsValueOf K.row V.row S.row L.row S.Hasher.row K.Hash S.BuildHasher S.Hasher.Hasher L.Limit self.entry key.now result) }
+        ensures value { option_copied_mut result ≡ value_of K.eq self.old.pairs key.now }
+        ensures cost { SearchCosts K.eq (key_hash S.BuildHasher S.Hasher.Hasher K.hash_input) self.old key.now tally.old tally.new }
+        ensures state { IsState K.eq L.LIMIT self.old }
+    {
+        match self.find(key, tally) {
+            Lookup::Found(index) => Some(self.value_at_mut(index)),
+            Lookup::Missing(_) => None,
+        }
+    }
+
+    /// Returns whether a key equal to this one is held. It costs one search.
+    ///
+    /// ```
+    /// let known = ages.contains_key(&1); // true
+    /// ```
+    pub fn contains_key(&self, key: &K) -> bool
+        ensures { result ≡ holds K.eq self.now.pairs key.now }
+    {
+        self.contains_key_counted(key, &mut Tally::new())
+    }
+
+    /// `contains_key`, with its work counted: that of one search.
+    ///
+    /// ```
+    /// let known = ages.contains_key_counted(&2, &mut tally); // false
+    /// ```
+    pub fn contains_key_counted(&self, key: &K, tally: &mut Tally) -> bool
+        ensures held { result ≡ holds K.eq self.now.pairs key.now }
+        ensures cost { SearchCosts K.eq (key_hash S.BuildHasher S.Hasher.Hasher K.hash_input) self.now key.now tally.old tally.new }
+        ensures state { IsState K.eq L.LIMIT self.now }
+    {
+        match self.find(key, tally) {
+            Lookup::Found(_) => true,
+            Lookup::Missing(_) => false,
+        }
+    }
+
+    /// `map[key]`, with its work counted: that of one search. A key equal to this one must be held.
+    ///
+    /// ```
+    /// let age = if ages.contains_key(&1) {
+    ///     *ages.index_counted(&1, &mut tally)
+    /// } else {
+    ///     0
+    /// }; // 38
+    /// ```
+    pub fn index_counted(&self, key: &K, tally: &mut Tally) -> &V
+        requires { IsTrue (holds K.eq self.now.pairs key.now) }
+        ensures value { value_of K.eq self.now.pairs key.now ≡ Some result.now }
+        ensures cost { SearchCosts K.eq (key_hash S.BuildHasher S.Hasher.Hasher K.hash_input) self.now key.now tally.old tally.new }
+    {
+        match self.find(key, tally) {
+            Lookup::Found(index) => self.columns.value_at(index),
+            Lookup::Missing(_) => unreachable!(),
+        }
+    }
+
+    // The value of the pair at this index, to be written.
+    fn value_at_mut(&mut self, index: usize) -> &mut V
+        requires { index < length self.old.pairs }
+        ensures* writes_back { sem 𝓛 (LendsValueAt K.row V.row S.row L.row S.Hasher.row K.Hash S.BuildHasher S.Hasher.Hasher L.Limit self.entry index result) }
+        ensures value { slice_get (values_of self.old.pairs) index ≡ Some result.now }
+    {
+        self.columns.value_at_mut(index)
+    }
+}
+
+impl<'a, K: Eq + Hash, V, S: BuildHasher, L: Limit> Index<&'a K> for LimitedHashMap<K, V, S, L> {
+    type Output = V;
+
+    ghost can_index = { λ m k. IsTrue (holds K.eq m.pairs k.now) };
+
+    ghost index_gives = { λ m k v. value_of K.eq m.pairs k.now ≡ Some v };
+
+    /// Returns the value of the held key that equals this one, which must be held. It costs one search.
+    ///
+    /// ```
+    /// let age = if ages.contains_key(&1) { ages[&1] } else { 0 }; // 38
+    /// ```
+    fn index(&self, key: &'a K) -> &V {
+        self.index_counted(key, &mut Tally::new())
+    }
+}

@@ -1,0 +1,115 @@
+-- Reading a line part by part.
+use Rattle.std.proofs.Common.{◌≡◌, ◌≢◌, ℕ, zero, suc, ◌-◌, ◌≤◌, Bool, true, false, List, [], ◌∷◌, ◌++◌, All, Result, Ok, Err, IfSome, length, take, refl, sym, ap, ◌∙◌, arith, append-nil, length-take-le}
+use Rattle.std.specs.Prelude.{Option, IsErr, OnErr}
+use Rattle.std.specs.Io.{StartsWith}
+use Rattle.std.specs.Io.BufRead.{DropsConsumable}
+use Rattle.std.specs.Io.KnownBytes.{Keeps, Consumes}
+use Rattle.std.proofs.KnownBytes.{Consumes-nil, Consumes-kept, Consumes-trans}
+use Rattle.std.proofs.BufReadLemmas.{Consumes_shown, Consumes_through, zero_unless_positive}
+use Rattle.std.proofs.Transfers.{StopsAt-append}
+use Rattle.std.proofs.lemmas.List.Elements.{All-nil, All-append}
+use Rattle.halfmap.specs.declared.lines.TheConstants.{KEPT_BYTES}
+use Rattle.halfmap.specs.Reading.{kept, with_more, IsPartOfLine, ReadsPart, ReadsLine}
+
+-- nothing was taken, and the line goes on
+pub reads_nothing : {E : Type 0} (old new : Option (List ℕ)) (r : Result Bool E) → Keeps old new → r ≢ Ok true → ReadsPart old new [] r
+reads_nothing old new r keeps more = record {
+  consumed = Consumes-kept old old new [] (Consumes-nil old) keeps;
+  stops = All-nil (λ b. b ≢ 10);
+  goes_on = λ _. All-nil (λ b. b ≢ 10);
+  ends = λ done. absurd (more done);
+  at_end = λ done. absurd (more done);
+}
+
+adds_nothing : (n : ℕ) (xs : List ℕ) → xs ≡ xs ++ take (n - length xs) []
+adds_nothing n xs = at (n - length xs)
+  where
+    at : (m : ℕ) → xs ≡ xs ++ take m []
+    at zero = sym (append-nil xs)
+    at (suc m) = sym (append-nil xs)
+
+-- nothing was kept either
+pub keeps_nothing : (n : ℕ) (old new : List ℕ) → new ≡ old → new ≡ old ++ take (n - length old) []
+keeps_nothing n old new e = e ∙ adds_nothing n old
+
+same_flag : {E : Type 0} (b : Bool) (r : Result Bool E) → r ≡ Ok b → r ≡ Ok true → b ≡ true
+same_flag b r e f = cc
+
+other_flag : {E : Type 0} (b : Bool) (r : Result Bool E) → r ≡ Ok b → r ≢ Ok true → b ≡ false
+other_flag true r e h = absurd (h e)
+other_flag false r e h = refl
+
+pub no_flag : {E : Type 0} (r : Result Bool E) → IsErr r → r ≢ Ok true
+no_flag (Ok b) h e = cc
+no_flag (Err x) h e = cc
+
+-- the first n bytes that were shown were taken
+pub reads_shown : {E : Type 0} (old rested new : Option (List ℕ)) (buffered : Option ℕ) (shown : List ℕ) (n : ℕ) (ended : Bool) (r : Result Bool E) → r ≡ Ok ended
+    → IsPartOfLine shown n ended → IfSome old (λ xs. StartsWith xs shown) → IfSome old (λ xs. length shown ≡ 0 → xs ≡ []) → Keeps old rested
+    → IfSome old (λ _. IfSome buffered (λ k. length shown ≤ k)) → DropsConsumable rested new buffered n
+    → ReadsPart old new (take n shown) r
+reads_shown old rested new buffered shown n ended r e is front end keeps fits drops =
+    let moved = Consumes_shown old rested new buffered shown n is.within front end keeps fits drops in
+    record {
+      consumed = moved.0;
+      stops = is.stops;
+      goes_on = λ more. is.goes_on (other_flag ended r e more);
+      ends = λ done. is.ends (same_flag ended r e done);
+      at_end = λ _ none. moved.1 (zero_unless_positive (length shown) n is.some (sym (length-take-le n shown is.within) ∙ none));
+    }
+
+-- what is kept of two parts, one after the other
+take_more : (n : ℕ) (xs ys : List ℕ) → take n xs ++ take (n - length (take n xs)) ys ≡ take n (xs ++ ys)
+take_more zero xs ys = refl
+take_more (suc n) [] ys =
+    let whole : suc n - 0 ≡ suc n = omega arith in
+    ap (λ k. take k ys) whole
+take_more (suc n) (x ∷ xs) ys =
+    let left : suc n - length (x ∷ take n xs) ≡ n - length (take n xs) = omega arith in
+    ap (λ k. x ∷ (take n xs ++ take k ys)) left ∙ ap (λ l. x ∷ l) (take_more n xs ys)
+
+pub kept_more : (taken part old new : List ℕ) → old ≡ kept taken → new ≡ with_more old part → new ≡ kept (taken ++ part)
+kept_more taken part old new e f = f ∙ ap (λ l. l ++ take (KEPT_BYTES - length l) part) e ∙ take_more KEPT_BYTES taken part
+
+-- what is known of a line while it is read: what was taken has no LF yet
+pub record IsOpenLine (old new : Option (List ℕ)) (line : List ℕ) : Type 0 where
+  pub taken : List ℕ
+  pub consumed : Consumes old new taken
+  pub goes_on : All (λ b. b ≢ 10) taken
+  pub line_is : line ≡ kept taken
+
+pub opens : (known : Option (List ℕ)) (line : List ℕ) → line ≡ [] → IsOpenLine known known line
+opens known line e = record { taken = []; consumed = Consumes-nil known; goes_on = All-nil (λ b. b ≢ 10); line_is = e }
+
+-- a part more was taken of it
+pub part_taken : {E : Type 0} (old mid new : Option (List ℕ)) (line more part : List ℕ) (r : Result Bool E)
+    → IsOpenLine old mid line → more ≡ with_more line part → ReadsPart mid new part r
+    → (taken : List ℕ) × (more ≡ kept taken) × Consumes old new taken
+part_taken old mid new line more part r o e p =
+    (o.taken ++ part, kept_more o.taken part line more o.line_is e, Consumes-trans old mid new o.taken part o.consumed p.consumed)
+
+pub stays_open : {E : Type 0} (old mid new : Option (List ℕ)) (line more part : List ℕ) (r : Result Bool E) → r ≢ Ok true
+    → IsOpenLine old mid line → more ≡ with_more line part → ReadsPart mid new part r
+    → IsOpenLine old new more
+stays_open old mid new line more part r not_done o e p = record {
+  taken = o.taken ++ part;
+  consumed = Consumes-trans old mid new o.taken part o.consumed p.consumed;
+  goes_on = All-append (λ b. b ≢ 10) o.taken part o.goes_on (p.goes_on not_done);
+  line_is = kept_more o.taken part line more o.line_is e;
+}
+
+-- the part was the last
+pub line_read : {E : Type 0} (old mid new : Option (List ℕ)) (line more part : List ℕ) (r : Result Bool E) → r ≡ Ok true
+    → IsOpenLine old mid line → more ≡ with_more line part → ReadsPart mid new part r
+    → (whole : List ℕ) × (more ≡ kept whole) × ReadsLine old new whole
+line_read old mid new line more part r done o e p =
+    let through = Consumes_through 10 old mid new o.taken part o.consumed o.goes_on p.consumed p.stops (p.ends done) (p.at_end done) in (
+      o.taken ++ part,
+      kept_more o.taken part line more o.line_is e,
+      record { stops = StopsAt-append o.taken part 10 o.goes_on p.stops; taken = through.0; rest = through.1 },
+    )
+
+-- what holds anyway holds on an error
+pub on_err : {T E X : Type 0} (r : Result T E) → X → OnErr r X
+on_err (Ok x) h = tt
+on_err (Err e) h = h

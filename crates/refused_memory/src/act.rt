@@ -1,0 +1,102 @@
+//! What a scenario does once memory may be refused: one call of the map, which is printed with what came back.
+
+use crate::report::print_hashes;
+use half_tests::counts::{Counted, Counts};
+use half_tests::keys::Key;
+use halfbrown::Refused;
+use std::io;
+
+/// A call that may take memory.
+#[derive(Clone, Copy)]
+pub(crate) enum Act {
+    Insert(u64, u64),
+    InsertNocheck(u64, u64),
+    Reserve(usize),
+    ShrinkToFit,
+}
+
+impl Act {
+    /// Makes the call, and prints what came back and how many hashes it took.
+    pub(crate) fn perform<'a, const N: usize>(
+        self,
+        rt: &impl Print,
+        map: &mut Counted<'a, N>,
+        counts: &'a Counts,
+    ) -> io::Result<()> {
+        match self {
+            Act::Insert(key, value) => insert(rt, map, counts, key, value),
+            Act::InsertNocheck(key, value) => insert_nocheck(rt, map, counts, key, value),
+            Act::Reserve(additional) => reserve(rt, map, counts, additional),
+            Act::ShrinkToFit => shrink_to_fit(rt, map, counts),
+        }
+    }
+}
+
+fn insert<'a, const N: usize>(
+    rt: &impl Print,
+    map: &mut Counted<'a, N>,
+    counts: &'a Counts,
+    key: u64,
+    value: u64,
+) -> io::Result<()> {
+    print!(rt; "insert {key}={value}: ")?;
+    counts.take();
+    match map.insert(counts.key(key), value) {
+        Ok(None) => print!(rt; "a new key")?,
+        Ok(Some(old)) => print!(rt; "old value {old}")?,
+        Err(refused) => print_refused(rt, &refused)?,
+    }
+    print_hashes(rt, counts)
+}
+
+// Only where the key is not held.
+fn insert_nocheck<'a, const N: usize>(
+    rt: &impl Print,
+    map: &mut Counted<'a, N>,
+    counts: &'a Counts,
+    key: u64,
+    value: u64,
+) -> io::Result<()> {
+    print!(rt; "insert_nocheck {key}={value}: ")?;
+    let key = counts.key(key);
+    if map.contains_key(&key) {
+        return println!(rt; "not called, since the key is held");
+    }
+    counts.take();
+    match map.insert_nocheck(key, value) {
+        Ok(()) => print!(rt; "a new key")?,
+        Err(refused) => print_refused(rt, &refused)?,
+    }
+    print_hashes(rt, counts)
+}
+
+fn print_refused<'a>(rt: &impl Print, refused: &Refused<Key<'a>, u64>) -> io::Result<()> {
+    let Refused { key, value, why } = refused;
+    print!(rt; "refused for {why:?}, {}={value} returned", key.id)
+}
+
+fn reserve<'a, const N: usize>(
+    rt: &impl Print,
+    map: &mut Counted<'a, N>,
+    counts: &'a Counts,
+    additional: usize,
+) -> io::Result<()> {
+    print!(rt; "reserve {additional}: ")?;
+    counts.take();
+    match map.reserve(additional) {
+        Ok(()) => print!(rt; "granted")?,
+        Err(why) => print!(rt; "refused for {why:?}")?,
+    }
+    print_hashes(rt, counts)
+}
+
+fn shrink_to_fit<'a, const N: usize>(
+    rt: &impl Print,
+    map: &mut Counted<'a, N>,
+    counts: &'a Counts,
+) -> io::Result<()> {
+    print!(rt; "shrink_to_fit: returned")?;
+    counts.take();
+    map.shrink_to_fit();
+    print_hashes(rt, counts)
+}
