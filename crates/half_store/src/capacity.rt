@@ -62,6 +62,7 @@ pub fn capacity_for(needed: usize) -> usize
 #[cfg(test)]
 mod tests {
     use super::*;
+    use crate::asserts::assert_same;
 
     #[test]
     fn capacities_and_buckets(rt: HostRuntime) {
@@ -78,15 +79,17 @@ mod tests {
             (1024, 768),
         ] {
             let (buckets, capacity) = (usize::from(buckets), usize::from(capacity));
-            assert_eq!(rt;
-                capacity_of(buckets),
-                capacity,
-                "the capacity of {buckets} buckets"
+            assert_same(
+                &rt,
+                (buckets, capacity_of(buckets)),
+                (buckets, capacity),
+                "buckets and their capacity",
             );
-            assert_eq!(rt;
-                buckets_for(capacity),
-                buckets,
-                "the buckets for {capacity} pairs"
+            assert_same(
+                &rt,
+                (capacity, buckets_for(capacity)),
+                (capacity, buckets),
+                "pairs and their buckets",
             );
         }
     }
@@ -106,12 +109,14 @@ mod tests {
             (32, 64),
             (47, 64),
         ] {
-            assert_eq!(rt;
-                buckets_for(usize::from(limit) + 1),
-                buckets,
-                "one more than {limit}"
+            let needed = usize::from(limit) + 1;
+            assert_same(
+                &rt,
+                (needed, buckets_for(needed)),
+                (needed, buckets),
+                "pairs and their buckets",
             );
         }
-        assert_eq!(rt; capacity_for(33), 48);
+        assert_same(&rt, capacity_for(33), 48, "the capacity for 33 pairs");
     }
 }

@@ -1,4 +1,5 @@
 //! The examples of the documentation, word for word, each with what it comes to.
+use crate::asserts::{assert_same, assert_true};
 use crate::capacity::{buckets_for, capacity_for, capacity_of};
 use crate::refusal::check_size;
 use crate::{Probe, Refusal, Table, Tally, VecMap, counting};
@@ -10,33 +11,33 @@ fn columns(rt: HostRuntime) -> Result<(), Fail> {
     let alloc = rt.alloc();
     let mut tally = Tally::new();
     let none: VecMap<u64, u32> = VecMap::new(alloc);
-    assert!(rt; none.len() == 0 && none.capacity() == 0, "nothing");
+    assert_true(&rt, none.len() == 0 && none.capacity() == 0, "nothing");
     let mut ages: VecMap<u64, u32> = VecMap::with_capacity(alloc, 2)?;
     ages.push(1, 36);
     ages.push(2, 41);
     let count = ages.len(); // 2
-    assert_eq!(rt; count, 2, "the pairs");
+    assert_same(&rt, count, 2, "the pairs");
     let capacity = ages.capacity(); // 2
-    assert_eq!(rt; capacity, 2, "the capacity");
+    assert_same(&rt, capacity, 2, "the capacity");
     let keys = ages.keys(); // 1 and 2
-    assert_eq!(rt; keys, [1, 2].as_slice(), "the keys");
+    assert_same(&rt, keys, [1, 2].as_slice(), "the keys");
     let age = *ages.value_at(1); // 41
-    assert_eq!(rt; age, 41, "the second value");
+    assert_same(&rt, age, 41, "the second value");
     *ages.value_at_mut(1) = 42;
     let before = ages.replace_value(1, 43); // 42
-    assert_eq!(rt; before, 42, "the value before");
+    assert_same(&rt, before, 42, "the value before");
     let index = ages.find(&2, &mut tally); // index 1, found by two comparisons
-    assert_eq!(rt; index, Some(1), "the index of 2");
+    assert_same(&rt, index, Some(1), "the index of 2");
     let pair = ages.swap_remove(0); // 1 and 36; the pair of 2 has index 0 now
-    assert_eq!(rt; pair, (1, 36), "the first pair");
+    assert_same(&rt, pair, (1, 36), "the first pair");
     ages.grow(3, 5)?; // capacity 4: twice what it was
-    assert_eq!(rt; ages.capacity(), 4, "grown");
+    assert_same(&rt, ages.capacity(), 4, "grown");
     ages.reserve(10)?; // capacity 10
-    assert_eq!(rt; ages.capacity(), 10, "reserved");
+    assert_same(&rt, ages.capacity(), 10, "reserved");
     ages.shrink_to(3); // capacity 3
-    assert_eq!(rt; ages.capacity(), 3, "shrunk");
+    assert_same(&rt, ages.capacity(), 3, "shrunk");
     ages.clear();
-    assert_eq!(rt; ages.len(), 0, "no pairs");
+    assert_same(&rt, ages.len(), 0, "no pairs");
     Ok(())
 }
 
@@ -45,54 +46,54 @@ fn a_table(rt: HostRuntime) -> Result<(), Fail> {
     let alloc = rt.alloc();
     let mut tally = Tally::new();
     let none = Table::new(alloc); // no buckets
-    assert!(rt; none.is_empty() && none.capacity() == 0, "no buckets");
+    assert_true(&rt, none.is_empty() && none.capacity() == 0, "no buckets");
     let mut table = Table::with_capacity(alloc, 3)?; // four buckets
     table.add(7, &mut tally); // entry index 0 has hash 7
     let bucket = table.insertion_probe(11, &mut tally); // bucket 0: bucket 3 is full, and the first follows the last
-    assert_eq!(rt; bucket, 0, "round the end");
+    assert_same(&rt, bucket, 0, "round the end");
     table.add_at(11, bucket); // entry index 1 has hash 11
     let count = table.len(); // 2
-    assert_eq!(rt; count, 2, "the pairs");
+    assert_same(&rt, count, 2, "the pairs");
     let is_empty = table.is_empty(); // false
-    assert!(rt; !is_empty, "two pairs");
+    assert_true(&rt, !is_empty, "two pairs");
     let capacity = table.capacity(); // 3
-    assert_eq!(rt; capacity, 3, "the capacity");
+    assert_same(&rt, capacity, 3, "the capacity");
     let found = table.find(11, &|_| true, &mut tally); // entry index 1
-    assert_eq!(rt; found, Probe::Found(1), "hash 11");
+    assert_same(&rt, found, Probe::Found(1), "hash 11");
     let copy = table.copy()?; // the same pairs, in as many buckets
-    assert_eq!(rt; (copy.len(), copy.capacity()), (2, 3), "the copy");
+    assert_same(&rt, (copy.len(), copy.capacity()), (2, 3), "the copy");
     let hash = table.remove(0); // 7; the pair of hash 11 has index 0 now
-    assert_eq!(rt; hash, 7, "the hash taken out");
+    assert_same(&rt, hash, 7, "the hash taken out");
     table.reserve(7)?; // capacity 12: sixteen buckets are the fewest that are enough
-    assert_eq!(rt; table.capacity(), 12, "reserved");
+    assert_same(&rt, table.capacity(), 12, "reserved");
     table.shrink_to_fit(); // capacity 3
-    assert_eq!(rt; table.capacity(), 3, "shrunk");
+    assert_same(&rt, table.capacity(), 3, "shrunk");
     table.grow()?; // one more fits, so nothing changes
-    assert_eq!(rt; table.capacity(), 3, "not grown");
+    assert_same(&rt, table.capacity(), 3, "not grown");
     table.clear();
-    assert_eq!(rt; table.len(), 0, "no pairs");
+    assert_same(&rt, table.len(), 0, "no pairs");
     let table = Table::from_hashes(alloc, &[7, 11], 4)?; // two pairs, capacity 6
-    assert_eq!(rt; (table.len(), table.capacity()), (2, 6), "from hashes");
+    assert_same(&rt, (table.len(), table.capacity()), (2, 6), "from hashes");
     Ok(())
 }
 
 #[test]
 fn capacities_refusals_and_counts(rt: HostRuntime) {
     let capacity = capacity_of(8); // 6
-    assert_eq!(rt; capacity, 6, "the capacity of eight");
+    assert_same(&rt, capacity, 6, "the capacity of eight");
     let buckets = buckets_for(7); // 16
-    assert_eq!(rt; buckets, 16, "the buckets for seven");
+    assert_same(&rt, buckets, 16, "the buckets for seven");
     let capacity = capacity_for(7); // 12
-    assert_eq!(rt; capacity, 12, "the capacity for seven");
+    assert_same(&rt, capacity, 12, "the capacity for seven");
     let granted = check_size(1 << 60); // granted: whether there is memory is another question
-    assert!(rt; granted.is_ok(), "2^60");
+    assert_true(&rt, granted.is_ok(), "2^60");
     let refused = check_size((1 << 60) + 1); // refused for `Size`
-    assert_eq!(rt; refused.err(), Some(Refusal::Size), "more");
+    assert_same(&rt, refused.err(), Some(Refusal::Size), "more");
     let mut tally = Tally::new();
     let builder = BuildHasherDefault::<FoldHasher>::new();
     let hash = counting::hash_one(&builder, &1u64, &mut tally); // the builder's hash of 1, counted
-    assert_eq!(rt; hash, builder.hash_one(&1u64), "the hash");
+    assert_same(&rt, hash, builder.hash_one(&1u64), "the hash");
     let keys = [1, 2];
     let is_equal = counting::compare(&|index: usize| index < 2 && keys[index] == 2, 1, &mut tally); // true, counted
-    assert!(rt; is_equal, "keys[1] is 2");
+    assert_true(&rt, is_equal, "keys[1] is 2");
 }

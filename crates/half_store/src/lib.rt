@@ -1,6 +1,8 @@
 //! The storage of a map in two forms: pairs in two columns, a hash table over their entry indices, and a tally of the work.
 #![tactic(auto)]
 
+#[cfg(test)]
+mod asserts;
 pub mod capacity;
 mod count;
 pub mod counting;

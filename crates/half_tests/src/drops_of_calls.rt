@@ -5,6 +5,7 @@ ghost use Rattle.std.specs.Hash as fed;
 ghost use Rattle.std.specs.Cmp.Rules.{comparing, hashing};
 ghost use Rattle.std.proofs.Common.{rules};
 
+use crate::asserts::{assert_same, assert_same_at};
 use crate::small_maps::{ABSENT, HELD, On};
 use halfbrown::run::run;
 use halfbrown::{Command, DefaultHashBuilder, Refusal, Refused, Reply, SizedHashMap, Tally};
@@ -250,8 +251,14 @@ fn dropped_at<const N: usize>(
     for id in HELD {
         map.insert(drops.key(id), drops.value())?;
     }
-    assert_eq!(rt; drops.take(), (0, 0), "the held pairs");
-    assert_eq!(rt; (map.len(), map.capacity()), (3, capacity), "limit {N}");
+    assert_same(rt, drops.take(), (0, 0), "the held pairs");
+    assert_same_at(
+        rt,
+        N,
+        (map.len(), map.capacity()),
+        (3, capacity),
+        "length and capacity",
+    );
     let returned = returned_by(&mut map, &drops, call)?;
     let by_call = drops.take();
     drop(returned);
@@ -324,10 +331,12 @@ fn insert_unsearched<'a, const N: usize>(
 #[test]
 fn each_call_drops_what_it_takes_and_does_not_keep(rt: HostRuntime) -> Result<(), Fail> {
     for (call, on, by_call, with_result, with_map) in CASES {
-        assert_eq!(rt;
+        assert_same_at(
+            &rt,
+            (call, on),
             dropped_by(&rt, rt.alloc(), call, on)?,
             (by_call, with_result, with_map),
-            "{call:?} on {on:?}"
+            "the outcome",
         );
     }
     Ok(())
@@ -342,9 +351,9 @@ fn a_refused_pair_is_dropped_once(rt: HostRuntime) {
         why: Refusal::Memory,
     };
     drop(refused());
-    assert_eq!(rt; drops.take(), (1, 1), "dropped");
-    assert_eq!(rt; Refusal::from(refused()), Refusal::Memory, "the reason");
-    assert_eq!(rt; drops.take(), (1, 1), "converted");
+    assert_same(&rt, drops.take(), (1, 1), "dropped");
+    assert_same(&rt, Refusal::from(refused()), Refusal::Memory, "the reason");
+    assert_same(&rt, drops.take(), (1, 1), "converted");
 }
 
 // A map whose keys count their drops.
@@ -398,8 +407,8 @@ fn a_run_drops_each_key_once(rt: HostRuntime) -> Result<(), Fail> {
     let alloc = rt.alloc();
     // The overwriting key and the four that are sought; the one that comes back and the one that is removed; two held ones.
     let wanted = (5, 2, 2);
-    assert_eq!(rt; dropped_by_a_run::<32>(&rt, alloc)?, wanted, "a vector");
-    assert_eq!(rt; dropped_by_a_run::<2>(&rt, alloc)?, wanted, "a switch");
-    assert_eq!(rt; dropped_by_a_run::<0>(&rt, alloc)?, wanted, "a table");
+    assert_same(&rt, dropped_by_a_run::<32>(&rt, alloc)?, wanted, "a vector");
+    assert_same(&rt, dropped_by_a_run::<2>(&rt, alloc)?, wanted, "a switch");
+    assert_same(&rt, dropped_by_a_run::<0>(&rt, alloc)?, wanted, "a table");
     Ok(())
 }

@@ -1,13 +1,13 @@
 //! A thousand commands by a fixed rule: the replies are those of a plain list, and the work is what the costs say.
 
-use crate::builders::{Counting, Rule};
+use crate::asserts::{assert_same_at, assert_true_at};
+use crate::builders::Rule;
+use crate::counts::{Counted, Counts};
 use crate::expected::{Expected, Work};
-use crate::keys::Key;
 use crate::names::{Name, with_counting_key, with_names};
 use halfbrown::run::run;
-use halfbrown::{Command, Reply, SizedHashMap};
+use halfbrown::{Command, Reply};
 use std::alloc::{AllocError, Global};
-use std::cell::Cell;
 use std::process::Abort;
 use std::test::Fail;
 
@@ -42,53 +42,57 @@ fn commands(alloc: Global) -> Result<Vec<Command<Name, u64>>, AllocError> {
     Ok(commands)
 }
 
+// The replies of a run, with keys that count their comparisons.
+fn replies_to<'a, const N: usize>(
+    rt: &impl Abort,
+    alloc: Global,
+    map: &mut Counted<'a, N>,
+    commands: Vec<Command<Name, u64>>,
+    counts: &'a Counts,
+) -> Result<Vec<Reply<Name, u64>>, AllocError> {
+    let commands = commands
+        .into_iter()
+        .map(|command| with_counting_key(command, counts))
+        .collect(alloc)?;
+    let replies = run(alloc, map, commands)
+        .ok()
+        .expect(rt, "memory for the replies");
+    replies.into_iter().map(with_names).collect(alloc)
+}
+
 // Command by command: the reply, the work, the form and the capacity.
 fn replies_one_by_one<const N: usize>(
     rt: &impl Abort,
     alloc: Global,
     rule: Rule,
 ) -> Result<(), Fail> {
-    let (asked, compared) = (Cell::new(0), Cell::new(0));
-    let mut map: SizedHashMap<Key<'_>, u64, Counting<'_>, N> = SizedHashMap::with_hasher(
-        alloc,
-        Counting::new(rule, &asked),
-    );
+    let counts = Counts::new();
+    let mut map = counts.map::<N>(alloc, rule);
     let mut expected = Expected::new(alloc, N, rule);
     for command in &commands(alloc)? {
+        let at = (N, rule, *command);
         let capacities = expected.capacities_after(*command, map.capacity());
         let (reply, work) = expected.reply_to(*command)?;
-        asked.set(0);
-        compared.set(0);
-        let list = vec![in alloc; with_counting_key(*command, &compared)]?;
-        let replies = run(alloc, &mut map, list)
-            .ok()
-            .expect(rt, "memory for one reply");
-        let spent = (asked.get(), compared.get());
-        let replies: Vec<_> = replies.into_iter().map(with_names).collect(alloc)?;
-        assert_eq!(rt;
-            replies.as_slice(),
-            [reply].as_slice(),
-            "limit {N}, {rule:?}, {command:?}"
-        );
-        assert!(rt;
+        let one = vec![in alloc; *command]?;
+        let replies = replies_to(rt, alloc, &mut map, one, &counts)?;
+        let spent = counts.take();
+        assert_same_at(rt, at, replies.as_slice(), [reply].as_slice(), "the reply");
+        assert_true_at(
+            rt,
+            (at, spent, work),
             work.allows(spent.0, spent.1),
-            "limit {N}, {rule:?}, {command:?}: {spent:?} for {work:?}"
+            "the work",
         );
-        assert_eq!(rt;
-            map.is_vec(),
-            expected.is_vec(),
-            "limit {N}, {rule:?}, {command:?}"
-        );
-        assert!(rt;
-            capacities.allow(map.capacity()),
-            "limit {N}, {rule:?}, {command:?}: capacity {} for {capacities:?}",
-            map.capacity()
+        assert_same_at(rt, at, map.is_vec(), expected.is_vec(), "the form");
+        let capacity = map.capacity();
+        assert_true_at(
+            rt,
+            (at, capacity, capacities),
+            capacities.allow(capacity),
+            "the capacity",
         );
     }
-    assert!(rt;
-        map.is_map(),
-        "limit {N}, {rule:?}: the switch was not reached"
-    );
+    assert_true_at(rt, (N, rule), map.is_map(), "the switch is reached");
     Ok(())
 }
 
@@ -107,37 +111,24 @@ fn replies_all_at_once<const N: usize>(
         wanted.push(reply)?;
         work = work.plus(more);
     }
-    let (asked, compared) = (Cell::new(0), Cell::new(0));
-    let builder = Counting::new(rule, &asked);
-    let replies = replies_to::<N>(rt, alloc, builder, commands, &compared)?;
-    assert!(rt; replies == wanted, "limit {N}, {rule:?}");
-    let spent = (asked.get(), compared.get());
-    assert!(rt;
+    let counts = Counts::new();
+    let mut map = counts.map::<N>(alloc, rule);
+    let replies = replies_to(rt, alloc, &mut map, commands, &counts)?;
+    let spent = counts.take();
+    assert_same_at(
+        rt,
+        (N, rule),
+        replies.as_slice(),
+        wanted.as_slice(),
+        "the replies",
+    );
+    assert_true_at(
+        rt,
+        (N, rule, spent, work),
         work.allows(spent.0, spent.1),
-        "limit {N}, {rule:?}: {spent:?} for {work:?}"
+        "the work",
     );
     Ok(())
-}
-
-// The replies of one run over a new map.
-fn replies_to<const N: usize>(
-    rt: &impl Abort,
-    alloc: Global,
-    builder: Counting<'_>,
-    commands: Vec<Command<Name, u64>>,
-    compared: &Cell<u64>,
-) -> Result<Vec<Reply<Name, u64>>, AllocError> {
-    let mut map: SizedHashMap<Key<'_>, u64, Counting<'_>, N> = SizedHashMap::with_hasher(
-        alloc, builder,
-    );
-    let commands = commands
-        .into_iter()
-        .map(|command| with_counting_key(command, compared))
-        .collect(alloc)?;
-    let replies = run(alloc, &mut map, commands)
-        .ok()
-        .expect(rt, "memory for the replies");
-    replies.into_iter().map(with_names).collect(alloc)
 }
 
 #[test]
@@ -170,10 +161,17 @@ fn a_long_run_meets_the_rare_replies(rt: HostRuntime) -> Result<(), Fail> {
             _ => (),
         }
     }
-    assert!(rt;
+    assert_true_at(
+        &rt,
+        (added, present),
         added > 50 && present > 50,
-        "{added} were new, {present} were held"
+        "so many were new, and were held",
     );
-    assert!(rt; done > 50 && refused > 10, "{done} done, {refused} refused");
+    assert_true_at(
+        &rt,
+        (done, refused),
+        done > 50 && refused > 10,
+        "so many were done, and were refused",
+    );
     Ok(())
 }

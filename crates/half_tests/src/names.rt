@@ -1,8 +1,8 @@
 //! Commands and replies with keys by name, beside those with keys that count.
 
+use crate::counts::Counts;
 use crate::keys::Key;
 use halfbrown::{Command, Reply};
-use std::cell::Cell;
 
 /// A key by its id and its mark. Keys of one id are equal to a map.
 pub(crate) type Name = (u64, u64);
@@ -10,9 +10,9 @@ pub(crate) type Name = (u64, u64);
 /// The command with a key that counts its comparisons.
 pub(crate) fn with_counting_key(
     command: Command<Name, u64>,
-    compared: &Cell<u64>,
+    counts: &Counts,
 ) -> Command<Key<'_>, u64> {
-    let counting = |(id, mark): Name| Key::new(id, mark, compared);
+    let counting = |(id, mark): Name| counts.marked(id, mark);
     match command {
         Command::Insert(key, value) => Command::Insert(counting(key), value),
         Command::InsertNew(key, value) => Command::InsertNew(counting(key), value),

@@ -3,6 +3,7 @@
 //! The costs in the contracts see what the tally counts. Here the builder and the keys count for themselves, and each call,
 //! plain and counted, does as much work as its cost says and no more.
 
+use crate::asserts::{assert_same, assert_same_at, assert_true};
 use crate::builders::Rule;
 use crate::counts::{Counted, Counts};
 use crate::keys::Key;
@@ -186,7 +187,13 @@ fn outcome_at<const N: usize>(
     for id in HELD {
         map.insert(counts.key(id), id)?;
     }
-    assert_eq!(rt; (map.len(), map.capacity()), (3, capacity), "limit {N}");
+    assert_same_at(
+        rt,
+        N,
+        (map.len(), map.capacity()),
+        (3, capacity),
+        "length and capacity",
+    );
     counts.take();
     let is_right = match call {
         Call::Searches(search, id) => {
@@ -285,10 +292,12 @@ fn each_search_does_the_work_of_one_search(rt: HostRuntime) -> Result<(), Fail> 
     for (search, on, asked, compared) in SEARCHES {
         for (id, compared) in HELD.iter().chain([ABSENT].iter()).zip(compared) {
             let call = Call::Searches(search, *id);
-            assert_eq!(rt;
+            assert_same_at(
+                &rt,
+                (call, on),
                 outcome_of(&rt, rt.alloc(), call, on)?,
                 (true, asked, *compared),
-                "{call:?} on {on:?}"
+                "the outcome",
             );
         }
     }
@@ -299,10 +308,12 @@ fn each_search_does_the_work_of_one_search(rt: HostRuntime) -> Result<(), Fail> 
 fn each_insertion_does_the_work_of_its_cost(rt: HostRuntime) -> Result<(), Fail> {
     for (insertion, on, id, asked, compared) in INSERTIONS {
         let call = Call::Inserts(insertion, id);
-        assert_eq!(rt;
+        assert_same_at(
+            &rt,
+            (call, on),
             outcome_of(&rt, rt.alloc(), call, on)?,
             (true, asked, compared),
-            "{call:?} on {on:?}"
+            "the outcome",
         );
     }
     Ok(())
@@ -312,10 +323,12 @@ fn each_insertion_does_the_work_of_its_cost(rt: HostRuntime) -> Result<(), Fail>
 fn no_other_call_hashes_or_compares(rt: HostRuntime) -> Result<(), Fail> {
     for (other, on, asked, compared) in OTHERS {
         let call = Call::Does(other);
-        assert_eq!(rt;
+        assert_same_at(
+            &rt,
+            (call, on),
             outcome_of(&rt, rt.alloc(), call, on)?,
             (true, asked, compared),
-            "{call:?} on {on:?}"
+            "the outcome",
         );
     }
     Ok(())
@@ -326,12 +339,12 @@ fn making_a_map_hashes_nothing(rt: HostRuntime) -> Result<(), Fail> {
     let counts = Counts::new();
     let plain = || counts.builder(Rule::Plain);
     let map = Counted::<'_, 5>::with_hasher(rt.alloc(), plain());
-    assert!(rt; map.is_vec(), "with_hasher makes a vector");
-    assert_eq!(rt; counts.take(), (0, 0), "with_hasher");
+    assert_true(&rt, map.is_vec(), "with_hasher makes a vector");
+    assert_same(&rt, counts.take(), (0, 0), "with_hasher");
     for capacity in [0, 5, 6, 100] {
         let map = Counted::<'_, 5>::with_capacity_and_hasher(rt.alloc(), capacity, plain())?;
-        assert_eq!(rt; map.is_vec(), capacity <= 5, "capacity {capacity}");
-        assert_eq!(rt; counts.take(), (0, 0), "capacity {capacity}");
+        assert_same_at(&rt, capacity, map.is_vec(), capacity <= 5, "the capacity");
+        assert_same_at(&rt, capacity, counts.take(), (0, 0), "the capacity");
     }
     Ok(())
 }

@@ -3,6 +3,7 @@ ghost use Rattle.std.specs.Prelude.{◌≡◌, ◌≤◌, ◌<◌, length};
 use super::Table;
 use super::buckets::Buckets;
 use super::probe::{Probe, first_empty, search};
+use crate::asserts::{assert_same, assert_true};
 use crate::{Refusal, Tally};
 use std::alloc::Global;
 use std::cell::Cell;
@@ -76,210 +77,244 @@ fn table_of(alloc: Global, hashes: &[u64]) -> Result<Table, Refusal> {
     Ok(table)
 }
 
+// A search for this hash that accepts one entry index: the bucket where it ends, the buckets read, and the comparisons.
+fn assert_search(
+    rt: &impl Abort,
+    table: &Table,
+    hash: u64,
+    accepted: usize,
+    expected: (Option<usize>, usize, usize),
+) {
+    let found = searched(table, hash, accepted);
+    assert_same(
+        rt,
+        (hash, found),
+        (hash, expected),
+        "a hash, and the search for it",
+    );
+}
+
+// So many buckets are read where no pair of this hash is held.
+fn assert_miss(rt: &impl Abort, table: &Table, hash: u64, reads: usize) {
+    assert_search(rt, table, hash, NO_INDEX, (None, reads, 0));
+}
+
+// An insertion probe of this hash: the bucket where it ends, and the buckets read.
+fn assert_insertion_probe(rt: &impl Abort, table: &Table, hash: u64, expected: (usize, usize)) {
+    let ended = probed(table, hash);
+    assert_same(
+        rt,
+        (hash, ended),
+        (hash, expected),
+        "a hash, and its insertion probe",
+    );
+}
+
+fn assert_find(rt: &impl Abort, table: &Table, hash: u64, expected: Probe) {
+    let found = table.find(hash, &|_: usize| true, &mut Tally::new());
+    assert_same(
+        rt,
+        (hash, found),
+        (hash, expected),
+        "a hash, and what is found",
+    );
+}
+
+fn assert_buckets(rt: &impl Abort, table: &Table, expected: &[Option<u64>]) {
+    assert_same(rt, table.hashes.as_slice(), expected, "the buckets");
+}
+
+fn assert_entries(rt: &impl Abort, table: &Table, expected: &[usize]) {
+    assert_same(rt, table.entry_of.as_slice(), expected, "the entry indices");
+}
+
+fn assert_capacity(rt: &impl Abort, table: &Table, expected: usize) {
+    assert_same(rt, table.capacity(), expected, "the capacity");
+}
+
+// Removes the pair of this index, which has this hash.
+fn remove(rt: &impl Abort, table: &mut Table, index: usize, hash: u64) {
+    assert!(rt; index < table.len(), "{index} is an entry index");
+    let removed = table.remove(index);
+    assert_same(
+        rt,
+        (index, removed),
+        (index, hash),
+        "an entry index, and its hash",
+    );
+}
+
 #[test]
 fn four_buckets(rt: HostRuntime) -> Result<(), Fail> {
+    let table = table_of(rt.alloc(), &[3, 7, 11])?;
+    assert_buckets(&rt, &table, &[Some(7), Some(11), None, Some(3)]);
+    // absent: buckets 3, 0, 1, 2
+    assert_miss(&rt, &table, 15, 4);
+    // held: buckets 3, 0, 1
+    assert_search(&rt, &table, 11, 2, (Some(1), 3, 1));
+    // an insertion probe ends where the search does
+    assert_insertion_probe(&rt, &table, 15, (2, 4));
+    assert_find(&rt, &table, 15, Probe::Vacant(2));
+    assert_find(&rt, &table, 11, Probe::Found(2));
+    Ok(())
+}
+
+#[test]
+fn four_buckets_grown(rt: HostRuntime) -> Result<(), Fail> {
     let mut table = table_of(rt.alloc(), &[3, 7, 11])?;
-    assert_eq!(rt;
-        table.hashes.as_slice(),
-        [Some(7), Some(11), None, Some(3)].as_slice()
+    table.grow()?;
+    assert_buckets(
+        &rt,
+        &table,
+        &[None, None, None, Some(3), Some(11), None, None, Some(7)],
     );
-    assert_eq!(rt;
-        searched(&table, 15, NO_INDEX),
-        (None, 4, 0),
-        "absent: buckets 3, 0, 1, 2"
-    );
-    assert_eq!(rt;
-        searched(&table, 11, 2),
-        (Some(1), 3, 1),
-        "held: buckets 3, 0, 1"
-    );
-    assert_eq!(rt;
-        probed(&table, 15),
-        (2, 4),
-        "an insertion probe ends where the search does"
-    );
-    assert_eq!(rt;
-        table.find(15, &|_: usize| true, &mut Tally::new()),
-        Probe::Vacant(2)
-    );
-    assert_eq!(rt;
-        table.find(11, &|_: usize| true, &mut Tally::new()),
-        Probe::Found(2)
-    );
+    // buckets 7 and 0 of eight
+    assert_insertion_probe(&rt, &table, 15, (0, 2));
+    Ok(())
+}
 
-    let mut grown = table.copy()?;
-    grown.grow()?;
-    assert_eq!(rt;
-        grown.hashes.as_slice(),
-        [None, None, None, Some(3), Some(11), None, None, Some(7)].as_slice()
-    );
-    assert_eq!(rt;
-        probed(&grown, 15),
-        (0, 2),
-        "after growth: buckets 7 and 0 of eight"
-    );
-
-    if table.len() == 3 {
-        assert_eq!(rt; table.remove(0), 3);
-    }
-    assert_eq!(rt;
-        table.hashes.as_slice(),
-        [Some(11), None, None, Some(7)].as_slice()
-    );
-    assert_eq!(rt;
-        searched(&table, 11, 0),
-        (Some(0), 2, 1),
-        "the last pair has the index that became free"
-    );
-    if table.len() == 2 {
-        assert_eq!(rt; table.remove(1), 7);
-    }
-    if table.len() == 1 {
-        assert_eq!(rt; table.remove(0), 11);
-    }
-    assert_eq!(rt;
-        searched(&table, 15, NO_INDEX),
-        (None, 1, 0),
-        "nothing is left of them"
-    );
+#[test]
+fn four_buckets_emptied(rt: HostRuntime) -> Result<(), Fail> {
+    let mut table = table_of(rt.alloc(), &[3, 7, 11])?;
+    remove(&rt, &mut table, 0, 3);
+    assert_buckets(&rt, &table, &[Some(11), None, None, Some(7)]);
+    // the last pair has the index that became free
+    assert_search(&rt, &table, 11, 0, (Some(0), 2, 1));
+    remove(&rt, &mut table, 1, 7);
+    remove(&rt, &mut table, 0, 11);
+    assert_miss(&rt, &table, 15, 1);
     Ok(())
 }
 
 #[test]
 fn equal_hashes(rt: HostRuntime) -> Result<(), Fail> {
     let zeros = table_of(rt.alloc(), &[0, 0, 0])?;
-    assert_eq!(rt;
-        searched(&zeros, 0, NO_INDEX),
-        (None, 4, 3),
-        "each pair of that hash is asked, then none accepted"
-    );
-    assert_eq!(rt;
-        searched(&zeros, 0, 1),
-        (Some(1), 2, 2),
-        "a pair that is refused is passed"
-    );
-
-    let top = u64::MAX;
-    let mut tops = table_of(rt.alloc(), &[top, top, top])?;
-    assert_eq!(rt;
-        tops.hashes.as_slice(),
-        [Some(top), Some(top), None, Some(top)].as_slice()
-    );
-    assert_eq!(rt; tops.entry_of.as_slice(), [1, 2, 0, 0].as_slice());
-    if tops.len() == 3 {
-        assert_eq!(rt; tops.remove(0), top);
-    }
-    assert_eq!(rt;
-        searched(&tops, top, 0),
-        (Some(0), 2, 2),
-        "the third, whose number is now the first"
-    );
-
-    let mut mixed = table_of(rt.alloc(), &[top, 3, 0])?;
-    assert_eq!(rt;
-        mixed.hashes.as_slice(),
-        [Some(3), Some(0), None, Some(top)].as_slice()
-    );
-    assert_eq!(rt; searched(&mixed, 0, 2), (Some(1), 2, 1));
-    if mixed.len() == 3 {
-        assert_eq!(rt; mixed.remove(0), top);
-    }
-    assert_eq!(rt;
-        mixed.hashes.as_slice(),
-        [Some(0), None, None, Some(3)].as_slice()
-    );
-    assert_eq!(rt; searched(&mixed, 0, 0), (Some(0), 1, 1));
+    // each pair of that hash is asked, and none accepted
+    assert_search(&rt, &zeros, 0, NO_INDEX, (None, 4, 3));
+    // a pair that is refused is passed
+    assert_search(&rt, &zeros, 0, 1, (Some(1), 2, 2));
     Ok(())
 }
 
 #[test]
-fn a_gap_closed_step_by_step(rt: HostRuntime) -> Result<(), Fail> {
-    let mut table = Table::with_capacity(rt.alloc(), 5)?;
-    assert_eq!(rt; table.capacity(), 6);
-    for (hash, bucket) in [(6, 6), (14, 7), (7, 0), (15, 1), (0, 2)] {
-        assert_eq!(rt; probed(&table, hash).0, bucket, "the place of {hash}");
+fn equal_greatest_hashes(rt: HostRuntime) -> Result<(), Fail> {
+    let top = u64::MAX;
+    let mut tops = table_of(rt.alloc(), &[top, top, top])?;
+    assert_buckets(&rt, &tops, &[Some(top), Some(top), None, Some(top)]);
+    assert_entries(&rt, &tops, &[1, 2, 0, 0]);
+    remove(&rt, &mut tops, 0, top);
+    // the third, which has entry index 0 now
+    assert_search(&rt, &tops, top, 0, (Some(0), 2, 2));
+    Ok(())
+}
+
+#[test]
+fn a_cluster_around_the_end(rt: HostRuntime) -> Result<(), Fail> {
+    let top = u64::MAX;
+    let mut table = table_of(rt.alloc(), &[top, 3, 0])?;
+    assert_buckets(&rt, &table, &[Some(3), Some(0), None, Some(top)]);
+    assert_search(&rt, &table, 0, 2, (Some(1), 2, 1));
+    remove(&rt, &mut table, 0, top);
+    assert_buckets(&rt, &table, &[Some(0), None, None, Some(3)]);
+    assert_search(&rt, &table, 0, 0, (Some(0), 1, 1));
+    Ok(())
+}
+
+// A table of eight buckets with these hashes, each of which went into the bucket beside it.
+fn eight_buckets(rt: &impl Abort, alloc: Global, added: &[(u64, usize)]) -> Result<Table, Refusal> {
+    let mut table = Table::with_capacity(alloc, 5)?;
+    assert_capacity(rt, &table, 6);
+    for (hash, bucket) in added {
+        assert_same(
+            rt,
+            (*hash, probed(&table, *hash).0),
+            (*hash, *bucket),
+            "a hash, and its bucket",
+        );
         table.grow()?;
-        table.add(hash, &mut Tally::new());
+        table.add(*hash, &mut Tally::new());
     }
-    let full = [
-        Some(7),
-        Some(15),
-        Some(0),
-        None,
-        None,
-        None,
-        Some(6),
-        Some(14),
-    ];
-    assert_eq!(rt; table.hashes.as_slice(), full.as_slice());
+    Ok(table)
+}
 
-    let mut without_14 = table.copy()?;
-    assert_eq!(rt; without_14.hashes.as_slice(), full.as_slice());
-    assert_eq!(rt; without_14.entry_of.as_slice(), table.entry_of.as_slice());
-    assert!(rt; 1 < without_14.len());
-    assert_eq!(rt; without_14.remove(1), 14);
-    assert_eq!(rt;
-        without_14.hashes.as_slice(),
-        [Some(15), Some(0), None, None, None, None, Some(6), Some(7)].as_slice()
+#[test]
+fn a_backward_shift(rt: HostRuntime) -> Result<(), Fail> {
+    let added = [(6, 6), (14, 7), (7, 0), (15, 1), (0, 2)];
+    let mut table = eight_buckets(&rt, rt.alloc(), &added)?;
+    assert_buckets(
+        &rt,
+        &table,
+        &[
+            Some(7),
+            Some(15),
+            Some(0),
+            None,
+            None,
+            None,
+            Some(6),
+            Some(14),
+        ],
     );
-
-    assert!(rt; 0 < table.len());
-    assert_eq!(rt; table.remove(0), 6);
-    assert_eq!(rt;
-        table.hashes.as_slice(),
-        [Some(15), Some(0), None, None, None, None, Some(14), Some(7)].as_slice()
+    remove(&rt, &mut table, 0, 6);
+    assert_buckets(
+        &rt,
+        &table,
+        &[Some(15), Some(0), None, None, None, None, Some(14), Some(7)],
     );
     for (hash, index, bucket, reads) in [(0, 0, 1, 2), (14, 1, 6, 1), (7, 2, 7, 1), (15, 3, 0, 2)] {
-        assert_eq!(rt;
-            searched(&table, hash, index),
-            (Some(bucket), reads, 1),
-            "the pair of hash {hash}"
-        );
+        assert_search(&rt, &table, hash, index, (Some(bucket), reads, 1));
     }
+    Ok(())
+}
 
-    let mut stays = Table::with_capacity(rt.alloc(), 6)?;
-    for hash in [1, 9, 3] {
-        stays.grow()?;
-        stays.add(hash, &mut Tally::new());
-    }
-    assert!(rt; 0 < stays.len());
-    assert_eq!(rt; stays.remove(0), 1);
-    assert_eq!(rt;
-        stays.hashes.as_slice(),
-        [None, Some(9), None, Some(3), None, None, None, None].as_slice(),
-        "the home bucket of 3 is in the stretch"
+#[test]
+fn a_backward_shift_in_a_copy(rt: HostRuntime) -> Result<(), Fail> {
+    let added = [(6, 6), (14, 7), (7, 0), (15, 1), (0, 2)];
+    let table = eight_buckets(&rt, rt.alloc(), &added)?;
+    let mut copy = table.copy()?;
+    assert_buckets(&rt, &copy, table.hashes.as_slice());
+    assert_entries(&rt, &copy, table.entry_of.as_slice());
+    remove(&rt, &mut copy, 1, 14);
+    assert_buckets(
+        &rt,
+        &copy,
+        &[Some(15), Some(0), None, None, None, None, Some(6), Some(7)],
     );
+    Ok(())
+}
+
+#[test]
+fn a_pair_in_its_home_bucket_stays(rt: HostRuntime) -> Result<(), Fail> {
+    let mut table = eight_buckets(&rt, rt.alloc(), &[(1, 1), (9, 2), (3, 3)])?;
+    remove(&rt, &mut table, 0, 1);
+    assert_buckets(
+        &rt,
+        &table,
+        &[None, Some(9), None, Some(3), None, None, None, None],
+    );
+    Ok(())
+}
+
+#[test]
+fn a_removal_leaves_no_trace(rt: HostRuntime) -> Result<(), Fail> {
+    let mut table = table_of(rt.alloc(), &[0, 8, 1])?;
+    // 1 is after 8
+    assert_search(&rt, &table, 1, 2, (Some(2), 2, 1));
+    remove(&rt, &mut table, 1, 8);
+    // and in its home bucket again
+    assert_search(&rt, &table, 1, 1, (Some(1), 1, 1));
+    assert_search(&rt, &table, 0, 0, (Some(0), 1, 1));
     Ok(())
 }
 
 #[test]
 fn no_trace_of_the_history(rt: HostRuntime) -> Result<(), Fail> {
-    let mut table = table_of(rt.alloc(), &[0, 8, 1])?;
-    assert_eq!(rt; searched(&table, 1, 2), (Some(2), 2, 1), "1 is after 8");
-    assert!(rt; 1 < table.len());
-    assert_eq!(rt; table.remove(1), 8);
-    assert_eq!(rt;
-        searched(&table, 1, 1),
-        (Some(1), 1, 1),
-        "and in its home bucket again"
-    );
-    assert_eq!(rt; searched(&table, 0, 0), (Some(0), 1, 1));
-
     let mut lived = Table::from_hashes(rt.alloc(), &[6, 14, 7, 15, 0], 5)?;
-    assert!(rt; 0 < lived.len());
-    assert_eq!(rt; lived.remove(0), 6);
+    remove(&rt, &mut lived, 0, 6);
     let fresh = Table::from_hashes(rt.alloc(), &[0, 15, 14, 7], 5)?;
     for (hash, reads) in [(8, 3), (22, 5), (23, 4), (3, 1)] {
-        assert_eq!(rt;
-            searched(&lived, hash, NO_INDEX),
-            (None, reads, 0),
-            "no pair of hash {hash}"
-        );
-        assert_eq!(rt;
-            searched(&fresh, hash, NO_INDEX),
-            (None, reads, 0),
-            "no pair of hash {hash}"
-        );
+        assert_miss(&rt, &lived, hash, reads);
+        assert_miss(&rt, &fresh, hash, reads);
     }
     Ok(())
 }
@@ -287,51 +322,70 @@ fn no_trace_of_the_history(rt: HostRuntime) -> Result<(), Fail> {
 #[test]
 fn capacities_of_a_table(rt: HostRuntime) -> Result<(), Fail> {
     let mut table = table_of(rt.alloc(), &[0, 1, 2, 3, 4, 5])?;
-    assert_eq!(rt; table.capacity(), 6);
+    assert_capacity(&rt, &table, 6);
     table.reserve(13)?;
-    assert_eq!(rt; table.capacity(), 24);
-    assert_eq!(rt; table.hashes.len(), 32);
+    assert_capacity(&rt, &table, 24);
     table.reserve(7)?;
-    assert_eq!(rt; table.capacity(), 24, "it never falls");
-    assert_eq!(rt; table.reserve(usize::MAX), Err(Refusal::Size));
-    assert_eq!(rt; table.capacity(), 24);
+    // it never falls
+    assert_capacity(&rt, &table, 24);
+    let refused = table.reserve(usize::MAX);
+    assert_same(&rt, refused, Err(Refusal::Size), "more than there can be");
+    assert_capacity(&rt, &table, 24);
+    assert_same(&rt, table.hashes.len(), 32, "the buckets");
+    Ok(())
+}
+
+#[test]
+fn capacities_of_a_shrunk_table(rt: HostRuntime) -> Result<(), Fail> {
+    let mut table = table_of(rt.alloc(), &[0, 1, 2, 3, 4, 5])?;
+    table.reserve(13)?;
     table.shrink_to_fit();
-    assert_eq!(rt; table.capacity(), 6);
+    assert_capacity(&rt, &table, 6);
     for hash in 0..6 {
-        assert_eq!(rt;
-            searched(&table, hash, hash as usize),
-            (Some(hash as usize), 1, 1),
-            "each is in its home bucket"
-        );
+        // each is in its home bucket
+        let index = hash as usize;
+        assert_search(&rt, &table, hash, index, (Some(index), 1, 1));
     }
     table.clear();
-    assert_eq!(rt; (table.len(), table.capacity()), (0, 6));
-    assert_eq!(rt; searched(&table, 3, NO_INDEX), (None, 1, 0));
-    table.shrink_to_fit();
-    assert_eq!(rt; table.capacity(), 0);
-    assert_eq!(rt;
-        table.find(3, &|_: usize| true, &mut Tally::new()),
-        Probe::NoBuckets
+    assert_same(
+        &rt,
+        (table.len(), table.capacity()),
+        (0, 6),
+        "length and capacity",
     );
+    assert_miss(&rt, &table, 3, 1);
+    table.shrink_to_fit();
+    assert_capacity(&rt, &table, 0);
+    assert_find(&rt, &table, 3, Probe::NoBuckets);
+    Ok(())
+}
 
-    let spread = Table::from_hashes(rt.alloc(), &[0, 2, 4, 6, 8, 10], 12)?;
-    assert_eq!(rt; (spread.len(), spread.capacity()), (6, 12));
-    assert_eq!(rt; searched(&spread, 0, 0), (Some(0), 1, 1));
-    assert_eq!(rt; searched(&spread, 16, NO_INDEX), (None, 2, 0));
-    assert_eq!(rt; searched(&spread, 12, NO_INDEX), (None, 1, 0));
+#[test]
+fn capacities_from_hashes(rt: HostRuntime) -> Result<(), Fail> {
+    let table = Table::from_hashes(rt.alloc(), &[0, 2, 4, 6, 8, 10], 12)?;
+    assert_same(
+        &rt,
+        (table.len(), table.capacity()),
+        (6, 12),
+        "length and capacity",
+    );
+    assert_search(&rt, &table, 0, 0, (Some(0), 1, 1));
+    assert_miss(&rt, &table, 16, 2);
+    assert_miss(&rt, &table, 12, 1);
+    Ok(())
+}
 
+#[test]
+fn capacities_by_need(rt: HostRuntime) -> Result<(), Fail> {
     for (needed, capacity) in [(0, 0), (1, 3), (3, 3), (4, 6), (33, 48), (100, 192)] {
-        assert_eq!(rt;
-            Table::with_capacity(rt.alloc(), needed)?.capacity(),
-            capacity,
-            "for {needed} pairs"
-        );
+        let table = Table::with_capacity(rt.alloc(), needed)?;
+        assert_capacity(&rt, &table, capacity);
     }
-    assert!(rt;
-        matches!(
-            Table::with_capacity(rt.alloc(), (1 << 60) + 1),
-            Err(Refusal::Size)
-        )
+    let refused = Table::with_capacity(rt.alloc(), (1 << 60) + 1);
+    assert_true(
+        &rt,
+        matches!(refused, Err(Refusal::Size)),
+        "more than there can be",
     );
     Ok(())
 }
@@ -383,50 +437,71 @@ fn hash_of(builder: Builder, key: u64) -> u64 {
     }
 }
 
-// Ten thousand additions and removals, beside a plain list of keys and one of hashes.
+// A table, and beside it plain lists of its keys and their hashes.
+#[derive(Drop)]
+struct Lists {
+    table: Table,
+    keys: Vec<u64>,
+    hashes: Vec<u64>,
+}
+
+// Adds the key, or removes it where it is held.
+fn add_or_remove(rt: &impl Abort, lists: &mut Lists, key: u64, hash: u64) -> Result<(), Fail> {
+    let held = lists.keys.as_slice();
+    let matches = |index: usize| held.get(index).copied() == Some(key);
+    let found = lists.table.find(hash, &matches, &mut Tally::new());
+    match held.iter().position(|other| *other == key) {
+        Some(index) => {
+            assert_same(rt, (key, found), (key, Probe::Found(index)), "a held key");
+            remove(rt, &mut lists.table, index, hash);
+            assert!(rt;
+                index < lists.hashes.len() && index < lists.keys.len(),
+                "three lists of one length"
+            );
+            lists.hashes.swap_remove(index);
+            lists.keys.swap_remove(index);
+        }
+        None => {
+            assert_true(
+                rt,
+                !matches!(found, Probe::Found(_)),
+                "a key that is not held",
+            );
+            lists.table.grow()?;
+            lists.table.add(hash, &mut Tally::new());
+            lists.keys.push(key)?;
+            lists.hashes.push(hash)?;
+        }
+    }
+    Ok(())
+}
+
+// Ten thousand additions and removals.
 fn lives_long(rt: &impl Abort, alloc: Global, builder: Builder) -> Result<(), Fail> {
-    let mut table = Table::new(alloc);
-    let mut keys: Vec<u64> = Vec::new(alloc);
-    let mut hashes: Vec<u64> = Vec::new(alloc);
+    let mut lists = Lists {
+        table: Table::new(alloc),
+        keys: Vec::new(alloc),
+        hashes: Vec::new(alloc),
+    };
     let mut state = 1u64;
     for _ in 0..10_000 {
         state = state
             .wrapping_mul(6364136223846793005)
             .wrapping_add(1442695040888963407);
         let key = (state >> 33) % 20;
-        let held = keys.as_slice();
-        let matches = |index: usize| held.get(index).copied() == Some(key);
-        let found = table.find(hash_of(builder, key), &matches, &mut Tally::new());
-        let index = held.iter().position(|other| *other == key);
-        match index {
-            Some(index) => {
-                assert_eq!(rt; found, Probe::Found(index), "the key {key} is held");
-                assert!(rt; index < table.len());
-                assert!(rt; index < hashes.len());
-                assert_eq!(rt; table.remove(index), hashes.swap_remove(index));
-                assert!(rt; index < keys.len());
-                keys.swap_remove(index);
-            }
-            None => {
-                assert!(rt;
-                    !matches!(found, Probe::Found(_)),
-                    "the key {key} is not held"
-                );
-                table.grow()?;
-                table.add(hash_of(builder, key), &mut Tally::new());
-                keys.push(key)?;
-                hashes.push(hash_of(builder, key))?;
-            }
-        }
-        assert_eq!(rt; table.len(), keys.len());
+        add_or_remove(rt, &mut lists, key, hash_of(builder, key))?;
+        assert_same(rt, lists.table.len(), lists.keys.len(), "the pairs");
         let absent = hash_of(builder, 20 + key);
-        let reads = searched(&table, absent, NO_INDEX).1;
-        assert_eq!(rt;
+        let reads = searched(&lists.table, absent, NO_INDEX).1;
+        let by_homes = reach(lists.hashes.as_slice(), lists.table.hashes.len(), absent);
+        assert_same(
+            rt,
             reads,
-            reach(hashes.as_slice(), table.hashes.len(), absent),
-            "an unsuccessful probe, by the homes alone"
+            by_homes,
+            "an unsuccessful probe, by the homes alone",
         );
-        assert_eq!(rt; probed(&table, absent).1, reads, "and an insertion probe");
+        let inserted = probed(&lists.table, absent).1;
+        assert_same(rt, inserted, reads, "and an insertion probe");
     }
     Ok(())
 }

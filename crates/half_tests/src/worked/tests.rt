@@ -1,6 +1,7 @@
 //! What the worked maps return when they run, and how many hashes that takes with those of their making.
 
 use super::{alike, apart, crowded, emptied, one_hash, shorter, vectors};
+use crate::asserts::{assert_same, assert_same_at, assert_true};
 use crate::counts::Counts;
 use halfbrown::Tally;
 use std::fmt::Debug;
@@ -16,8 +17,8 @@ fn expect<T: PartialEq + Debug + Drop>(
     hashes: u64,
     what: &str,
 ) {
-    assert_eq!(rt; returned, expected, "{what}");
-    assert_eq!(rt; counts.take().0, hashes, "{what}: hashes");
+    assert_same(rt, returned, expected, what);
+    assert_same_at(rt, what, counts.take().0, hashes, "hashes");
 }
 
 #[test]
@@ -143,8 +144,8 @@ fn capacities_of_worked_tables(rt: HostRuntime) -> Result<(), Fail> {
         (emptied::empty(alloc, &counts)?, 3),
         (emptied::shrunk(alloc, &counts)?, 0),
     ] {
-        assert!(rt; map.is_map(), "a table");
-        assert_eq!(rt; map.capacity(), capacity, "its capacity");
+        assert_true(&rt, map.is_map(), "a table");
+        assert_same(&rt, map.capacity(), capacity, "its capacity");
     }
     Ok(())
 }
