@@ -72,7 +72,8 @@ def changed_function(file, at):
 
 def judge(said):
     """Returns whether the prover refused the crate, and why, by what a check printed; or None where it is proved."""
-    lines = said.splitlines()
+    # A message may go on in indented lines.
+    lines = re.sub(r"\n {2,}", " ", said).splitlines()
     placed = [(line, *PLACED.fullmatch(line).groups()) for line in lines if PLACED.fullmatch(line)]
     for line, part, name, text in placed:
         if ": error" in line and part != "proofs" and (not name or NO_NAME.search(text)):

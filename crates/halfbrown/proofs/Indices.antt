@@ -99,6 +99,16 @@ module _ {K : Type 0} (test : K → Bool) where
     lookup_none [] n = refl
     lookup_none (p ∷ ps) n = ap (λ b. cond b (Some p.1) (lookup test ps)) n.0 ∙ lookup_none ps n.1
 
+    value_by : (p : K × V) (ps : List (K × V)) (b : Bool) → option_map (λ q. q.1) (lookup_entry test ps) ≡ lookup test ps
+        → option_map (λ q. q.1) (cond b (Some p) (lookup_entry test ps)) ≡ cond b (Some p.1) (lookup test ps)
+    value_by p ps true more = refl
+    value_by p ps false more = more
+
+    -- the value of the first pair that passes
+    pub value_of_entry : (ps : List (K × V)) → option_map (λ q. q.1) (lookup_entry test ps) ≡ lookup test ps
+    value_of_entry [] = refl
+    value_of_entry (p ∷ ps) = value_by p ps (test p.0) (value_of_entry ps)
+
     entry_none : (ps : List (K × V)) → NonePasses (keys_of ps) → lookup_entry test ps ≡ None
     entry_none [] n = refl
     entry_none (p ∷ ps) n = ap (λ b. cond b (Some p) (lookup_entry test ps)) n.0 ∙ entry_none ps n.1

@@ -1,5 +1,5 @@
 -- What callers read off a changed list of pairs: which key has which value.
-use Rattle.std.specs.Prelude.{◌≡◌, ℕ, ◌+◌, Bool, true, false, List, length, Some, None, if◌then◌else◌}
+use Rattle.std.specs.Prelude.{◌≡◌, ◌+◌, Bool, true, false, List, length, Some, None, if◌then◌else◌}
 use Rattle.halfbrown.specs.Pairs.{value_of, holds}
 
 module _ {K V : Type 0} (eq : K → K → Bool) where

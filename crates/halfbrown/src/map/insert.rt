@@ -69,10 +69,10 @@ impl<K: Eq + Hash, V, S: BuildHasher, L: Limit> LimitedHashMap<K, V, S, L> {
         }
         match self.find(&key, tally) {
             Lookup::Found(index) => Ok(Some(self.set_at(index, value))),
-            Lookup::Missing(vacancy) => match self.add(key, value, vacancy, tally) {
-                Ok(()) => Ok(None),
-                Err(refused) => Err(refused),
-            },
+            Lookup::Missing(vacancy) => {
+                self.add(key, value, vacancy, tally)?;
+                Ok(None)
+            }
         }
     }
 

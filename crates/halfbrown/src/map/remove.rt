@@ -45,10 +45,8 @@ impl<K: Eq + Hash, V, S: BuildHasher, L: Limit> LimitedHashMap<K, V, S, L> {
         ensures cost { SearchCosts K.eq (key_hash S.BuildHasher S.Hasher.Hasher K.hash_input) self.old key.now tally.old tally.new }
         ensures state { IsState K.eq L.LIMIT self.new }
     {
-        match self.find(key, tally) {
-            Lookup::Found(index) => Some(self.take_at(index).1),
-            Lookup::Missing(_) => None,
-        }
+        let (_, value) = self.remove_entry_counted(key, tally)?;
+        Some(value)
     }
 
     /// Removes the pair of the held key that equals this one, and returns the stored key and its value. The last pair takes

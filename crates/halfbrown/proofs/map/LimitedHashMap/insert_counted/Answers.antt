@@ -20,9 +20,9 @@ returns-in-Found-clause-cost g c =
     c.in_default.ensures.form c.in_default.ensures.switched c.switch_if_full.ensures.pairs c.switch_if_full.ensures.hasher c.in_default.ensures.work c.in-Found.ensures.cost
     (ap (λ ps. holds eq ps c.args.key) (sym c.switch_if_full.ensures.pairs) ∙ c.in-Found.ensures.found.held)
 
-pub returns-in-Ok-clause-put : goal.returns-in-Ok-clause-put
-returns-in-Ok-clause-put g c =
+pub returns-in_ok-add-in-Missing-clause-put : goal.returns-in_ok-add-in-Missing-clause-put
+returns-in_ok-add-in-Missing-clause-put g c =
     let eq = g.K.PartialEq.eq in
     subst (HasPut eq c.args.self.now.pairs c.args.key c.args.value)
-    (ap (λ ps. put eq ps c.args.key c.args.value) (sym c.switch_if_full.ensures.pairs) ∙ sym c.in-Ok.ensures.pairs)
+    (ap (λ ps. put eq ps c.args.key c.args.value) (sym c.switch_if_full.ensures.pairs) ∙ sym c.in_ok-add-in-Missing.ensures.pairs)
     (has_put eq g.met.K.Eq.laws c.args.self.now.pairs c.args.key c.args.value)

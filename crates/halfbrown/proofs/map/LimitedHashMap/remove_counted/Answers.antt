@@ -1,18 +1,12 @@
-use Rattle.std.proofs.Common.{◌∙◌, sym, subst}
-use Rattle.halfbrown.specs.Updates.{HasRemoved}
-use Rattle.halfbrown.proofs.CallerLemmas.{has_removed}
+use Rattle.std.proofs.Common.{◌∙◌, ap}
+use Rattle.std.specs.Option.{option_map}
+use Rattle.halfbrown.proofs.Indices.{value_of_entry}
 use Rattle.halfbrown.proofs.map.LimitedHashMap.remove_counted.Goals as goal
 
-pub returns-in-Found-clause-removed : goal.returns-in-Found-clause-removed
-returns-in-Found-clause-removed g c =
-    let eq = g.K.PartialEq.eq in
-    subst (HasRemoved eq c.args.self.now.pairs c.args.key.now)
-    (c.in-Found.ensures.found.take_is ∙ sym c.take_at.ensures.after.pairs)
-    (has_removed eq g.met.K.Eq.laws c.args.self.now.pairs c.in-Found.ensures.state.distinct c.args.key.now)
+pub returns-in_err-value-clause-value : goal.returns-in_err-value-clause-value
+returns-in_err-value-clause-value g c =
+    c.from_residual.ensures ∙ ap (option_map (λ pair. pair.1)) c.in_err-value.ensures.pair ∙ value_of_entry (g.K.PartialEq.eq c.args.key.now) c.args.self.now.pairs
 
-pub returns-in-Missing-clause-removed : goal.returns-in-Missing-clause-removed
-returns-in-Missing-clause-removed g c =
-    let eq = g.K.PartialEq.eq in
-    subst (HasRemoved eq c.args.self.now.pairs c.args.key.now)
-    c.in-Missing.ensures.found.0.take_is
-    (has_removed eq g.met.K.Eq.laws c.args.self.now.pairs c.in-Missing.ensures.state.distinct c.args.key.now)
+pub returns-clause-value : goal.returns-clause-value
+returns-clause-value g c =
+    ap (option_map (λ pair. pair.1)) c.in_ok-value.ensures.pair ∙ value_of_entry (g.K.PartialEq.eq c.args.key.now) c.args.self.now.pairs

@@ -1,12 +1,7 @@
-use Rattle.std.proofs.Common.{◌≡◌, ◌≤◌, length, map, min, true, false, sym, ap, subst, ◌∙◌, arith}
-use Rattle.std.proofs.Math.ListN.{length-map}
-use Rattle.std.proofs.lemmas.Map.Entries.{length-keys_of}
-use Rattle.std.specs.Map.{keys_of}
-use Rattle.half_store.specs.Capacity.{capacity_of}
+use Rattle.std.proofs.Common.{◌≡◌, ◌≤◌, length, min, true, sym, subst, ◌∙◌, arith}
 use Rattle.halfbrown.specs.Costs.{key_hash}
-use Rattle.halfbrown.specs.Layout.{IsKept, capacity_in}
-use Rattle.halfbrown.specs.State.{IsTableCapacity}
-use Rattle.halfbrown.proofs.Kept.{kept_table, kept_vector, kept_same, state_of}
+use Rattle.halfbrown.specs.Layout.{capacity_in}
+use Rattle.halfbrown.proofs.Kept.{kept_vector}
 use Rattle.halfbrown.proofs.map.LimitedHashMap.shrink_to_fit.Goals as goal
 
 pub invariant_of-self : goal.invariant_of-self

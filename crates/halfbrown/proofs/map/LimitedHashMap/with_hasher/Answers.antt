@@ -1,5 +1,4 @@
 use Rattle.halfbrown.specs.Costs.{key_hash}
-use Rattle.halfbrown.specs.Form.{vector_form}
 use Rattle.halfbrown.proofs.Kept.{kept_vector_made, state_of}
 use Rattle.halfbrown.proofs.map.LimitedHashMap.with_hasher.Goals as goal
 
