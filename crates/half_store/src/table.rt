@@ -114,11 +114,14 @@ impl Table {
         requires { (index : ℕ) → slice_get self.now.hashes index ≡ Some hash → F.pre matches.now index }
         ensures found { IfFound result (λ index. slice_get self.now.hashes index ≡ Some hash) }
         ensures accepted { IfFound result (λ index. F.post matches.now index true) }
-        ensures refused { OnMissing result ((index : ℕ) → slice_get self.now.hashes index ≡ Some hash → F.post matches.now index false) }
+        ensures refused { OnMissing result ((index : ℕ) → slice_get self.now.hashes index ≡ Some hash
+            → F.post matches.now index false) }
         ensures vacancy { IfVacant result (IsVacancyIn (contents_of self.now) hash) }
         ensures no_buckets { result ≡ Probe.NoBuckets ↔ (self.now.buckets ≡ 0) }
-        ensures missing_cost { OnMissing result (tally.new ≡ after_missing self.now.hashes self.now.buckets hash tally.old) }
-        ensures found_cost { IfFound result (λ _. AddsFinding self.now.hashes self.now.buckets hash tally.old tally.new) }
+        ensures missing_cost { OnMissing result (tally.new ≡ after_missing self.now.hashes self.now.buckets hash
+            tally.old) }
+        ensures found_cost { IfFound result (λ _. AddsFinding self.now.hashes self.now.buckets hash tally.old
+            tally.new) }
         ensures short { reach self.now.hashes self.now.buckets hash ≤ length self.now.hashes + 1 }
         ensures buckets { self.now.buckets ≡ buckets_of (capacity_of self.now.buckets) }
     {

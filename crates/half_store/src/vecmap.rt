@@ -29,7 +29,10 @@ impl<K, V> Model for VecMap<K, V> {
 
     ghost coded = { pairs_code K.code V.code };
 
-    ghost view = { λ m. record { pairs = zip m.keys.items m.values.items; capacity = min (vec_capacity m.keys) (vec_capacity m.values) } };
+    ghost view = { λ m. record {
+      pairs = zip m.keys.items m.values.items;
+      capacity = min (vec_capacity m.keys) (vec_capacity m.values);
+    } };
 
     ghost invariant = { λ m. length m.values.items ≡ length m.keys.items };
 }

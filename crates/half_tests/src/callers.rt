@@ -19,7 +19,8 @@ pub fn declare<N: Eq + Hash + Drop, M, S: BuildHasher, L: Limit>(
     ensures before { IfOk result (λ old. old ≡ value_of N.eq scope.old.pairs name) }
     ensures declared { OnOk result (scope.new.pairs ≡ put N.eq scope.old.pairs name meaning) }
     ensures means { OnOk result (value_of N.eq scope.new.pairs name ≡ Some meaning) }
-    ensures err { IfErr result (HandsBack scope.old name meaning (insert_needs L.LIMIT N.eq scope.old name) scope.new) }
+    ensures err { IfErr result (HandsBack scope.old name meaning (insert_needs L.LIMIT N.eq scope.old name)
+        scope.new) }
 {
     scope.insert(name, meaning)
 }
@@ -30,8 +31,10 @@ pub fn resolve<'a, N: Eq + Hash, M, S: BuildHasher, L: Limit>(
     outer: &'a LimitedHashMap<N, M, S, L>,
     name: &N,
 ) -> Option<&'a M>
-    ensures shadowed { holds N.eq inner.now.pairs name.now ≡ true → option_copied result ≡ value_of N.eq inner.now.pairs name.now }
-    ensures from_outside { holds N.eq inner.now.pairs name.now ≡ false → option_copied result ≡ value_of N.eq outer.now.pairs name.now }
+    ensures shadowed { holds N.eq inner.now.pairs name.now ≡ true
+        → option_copied result ≡ value_of N.eq inner.now.pairs name.now }
+    ensures from_outside { holds N.eq inner.now.pairs name.now ≡ false
+        → option_copied result ≡ value_of N.eq outer.now.pairs name.now }
 {
     match inner.get(name) {
         Some(meaning) => Some(meaning),
@@ -56,7 +59,8 @@ pub fn add_label<K: Eq + Hash + Drop, S: BuildHasher, L: Limit>(
 ) -> Result<bool, Refused<K, ()>>
     ensures is_new { IfOk result (λ is_new. is_new ≡ not (holds K.eq labels.old.pairs label)) }
     ensures held { OnOk result (holds K.eq labels.new.pairs label ≡ true) }
-    ensures others { OnOk result ((other : K) → K.eq label other ≡ false → holds K.eq labels.new.pairs other ≡ holds K.eq labels.old.pairs other) }
+    ensures others { OnOk result ((other : K) → K.eq label other ≡ false
+        → holds K.eq labels.new.pairs other ≡ holds K.eq labels.old.pairs other) }
     ensures again { holds K.eq labels.old.pairs label ≡ true → labels.new ≡ labels.old }
     ensures err { IfErr result (HandsBack labels.old label tt (unchecked_needs L.LIMIT labels.old) labels.new) }
 {
@@ -74,7 +78,8 @@ pub fn forget<N: Eq + Hash + Drop, M, S: BuildHasher, L: Limit>(
 ) -> Option<M>
     ensures before { result ≡ value_of N.eq scope.old.pairs name.now }
     ensures forgotten { holds N.eq scope.new.pairs name.now ≡ false }
-    ensures others { (other : N) → N.eq name.now other ≡ false → value_of N.eq scope.new.pairs other ≡ value_of N.eq scope.old.pairs other }
+    ensures others { (other : N) → N.eq name.now other ≡ false
+        → value_of N.eq scope.new.pairs other ≡ value_of N.eq scope.old.pairs other }
 {
     scope.remove(name)
 }
@@ -86,7 +91,8 @@ pub fn lookup_counted<'a, K: Eq + Hash, V, S: BuildHasher, L: Limit>(
     tally: &mut Tally,
 ) -> Option<&'a V>
     ensures value { option_copied result ≡ value_of K.eq cache.now.pairs key.now }
-    ensures cost { SearchCosts K.eq (key_hash S.BuildHasher S.Hasher.Hasher K.hash_input) cache.now key.now tally.old tally.new }
+    ensures cost { SearchCosts K.eq (key_hash S.BuildHasher S.Hasher.Hasher K.hash_input) cache.now key.now
+        tally.old tally.new }
     ensures in_a_table { cache.now.is_vec ≡ false → tally.new.asked ≡ tally.old.asked + 1 }
     ensures in_a_vector { cache.now.is_vec ≡ true → tally.new.asked ≡ tally.old.asked }
 {

@@ -75,7 +75,8 @@ impl<K: Eq + Hash, V, S: BuildHasher, L: Limit> Model for LimitedHashMap<K, V, S
 
     ghost view = { λ m. state_in L.LIMIT m.columns m.form m.builder };
 
-    ghost invariant = { λ m. IsKept K.eq (key_hash S.BuildHasher S.Hasher.Hasher K.hash_input m.builder) L.LIMIT m.columns.pairs m.columns.capacity m.form.is_vec m.form.hashes m.form.buckets };
+    ghost invariant = { λ m. IsKept K.eq (key_hash S.BuildHasher S.Hasher.Hasher K.hash_input m.builder) L.LIMIT
+        m.columns.pairs m.columns.capacity m.form.is_vec m.form.hashes m.form.buckets };
 }
 
 // Written out, since the limit is a type that no value of the map holds.

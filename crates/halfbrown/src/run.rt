@@ -73,7 +73,9 @@ pub fn run<K: Eq + Hash + Drop, V: Copy, S: BuildHasher, L: Limit>(
     map: &mut LimitedHashMap<K, V, S, L>,
     commands: Vec<Command<K, V>>,
 ) -> Result<Vec<Reply<K, V>>, Vec<Command<K, V>>>
-    ensures run { IfOk result (λ replies. (cost : Cost) × Runs L.LIMIT K.eq (key_hash S.BuildHasher S.Hasher.Hasher K.hash_input) map.old commands.items replies.items map.new cost) }
+    ensures run { IfOk result (λ replies. (cost : Cost)
+        × Runs L.LIMIT K.eq (key_hash S.BuildHasher S.Hasher.Hasher K.hash_input) map.old
+        commands.items replies.items map.new cost) }
     ensures stays_a_table { map.old.is_vec ≡ false → map.new.is_vec ≡ false }
     ensures empty { commands.items ≡ [] → IsOk result }
     ensures returned { IfErr result (λ back. back.items ≡ commands.items) }
@@ -95,7 +97,9 @@ pub fn run_counted<K: Eq + Hash + Drop, V: Copy, S: BuildHasher, L: Limit>(
     tally: &mut Tally,
 ) -> Result<Vec<Reply<K, V>>, Vec<Command<K, V>>>
     // The replies and the map afterwards are a run of one list of pairs, and the tally grew by what the run costs.
-    ensures run { IfOk result (λ replies. (cost : Cost) × Runs L.LIMIT K.eq (key_hash S.BuildHasher S.Hasher.Hasher K.hash_input) map.old commands.items replies.items map.new cost × GrewBy cost tally.old tally.new) }
+    ensures run { IfOk result (λ replies. (cost : Cost)
+        × Runs L.LIMIT K.eq (key_hash S.BuildHasher S.Hasher.Hasher K.hash_input) map.old
+        commands.items replies.items map.new cost × GrewBy cost tally.old tally.new) }
     ensures empty { commands.items ≡ [] → IsOk result }
 
     // Once a table, always a table; and a run that ends with a vector has hashed nothing.
@@ -126,7 +130,8 @@ fn step<K: Eq + Hash + Drop, V: Copy, S: BuildHasher, L: Limit>(
 ) -> Reply<K, V>
     ensures step { Steps L.LIMIT K.eq map.old command result map.new }
     ensures state { IsState K.eq L.LIMIT map.new }
-    ensures cost { GrewBy (command_cost L.LIMIT K.eq (key_hash S.BuildHasher S.Hasher.Hasher K.hash_input) map.old command (is_refused result)) tally.old tally.new }
+    ensures cost { GrewBy (command_cost L.LIMIT K.eq (key_hash S.BuildHasher S.Hasher.Hasher K.hash_input)
+        map.old command (is_refused result)) tally.old tally.new }
 {
     match command {
         Command::Insert(key, value) => match map.insert_counted(key, value, tally) {
@@ -162,7 +167,8 @@ fn insert_new<K: Eq + Hash + Drop, V: Copy, S: BuildHasher, L: Limit>(
 ) -> Reply<K, V>
     ensures step { Steps L.LIMIT K.eq map.old (Command.InsertNew key value) result map.new }
     ensures state { IsState K.eq L.LIMIT map.new }
-    ensures cost { GrewBy (command_cost L.LIMIT K.eq (key_hash S.BuildHasher S.Hasher.Hasher K.hash_input) map.old (Command.InsertNew key value) (is_refused result)) tally.old tally.new }
+    ensures cost { GrewBy (command_cost L.LIMIT K.eq (key_hash S.BuildHasher S.Hasher.Hasher K.hash_input)
+        map.old (Command.InsertNew key value) (is_refused result)) tally.old tally.new }
 {
     if map.contains_key_counted(&key, tally) {
         return Reply::Present(key, value);

@@ -77,10 +77,13 @@ impl Table {
     /// ```
     pub fn grow(&mut self) -> Result<(), Refusal>
         ensures hashes { self.new.hashes ≡ self.old.hashes }
-        ensures buckets { OnOk result (self.new.buckets ≡ buckets_for_more (length self.old.hashes) self.old.buckets) }
+        ensures buckets { OnOk result (self.new.buckets ≡ buckets_for_more (length self.old.hashes)
+            self.old.buckets) }
         ensures capacity { OnOk result (length self.new.hashes < capacity_of self.new.buckets) }
-        ensures size { (result ≡ Err Refusal.Size) ↔ ((capacity_of self.old.buckets ≤ length self.old.hashes) × (2 ^ 60 ≤ length self.old.hashes)) }
-        ensures granted { length self.old.hashes < capacity_of self.old.buckets → IsOk result × (self.new ≡ self.old) }
+        ensures size { (result ≡ Err Refusal.Size)
+            ↔ ((capacity_of self.old.buckets ≤ length self.old.hashes) × (2 ^ 60 ≤ length self.old.hashes)) }
+        ensures granted { length self.old.hashes < capacity_of self.old.buckets
+            → IsOk result × (self.new ≡ self.old) }
         ensures err { OnErr result (self.new ≡ self.old) }
     {
         if self.len() < self.capacity() {

@@ -54,17 +54,23 @@ pub(crate) fn search<P: Buckets, F: Fn(usize) -> bool>(
     requires count { IsBucketCount (length entry_of.now) }
     requires vacant { SomeVacant (P.slots buckets.now) }
     requires ordered { ProbeInvariant (P.slots buckets.now) }
-    requires callable { (bucket : ℕ) → slot_at (P.slots buckets.now) bucket ≡ Some hash → F.pre matches.now (slice_index entry_of.now bucket) }
+    requires callable { (bucket : ℕ) → slot_at (P.slots buckets.now) bucket ≡ Some hash
+        → F.pre matches.now (slice_index entry_of.now bucket) }
     ensures found { IfOk result (IsFoundAt (P.slots buckets.now) hash) }
     ensures accepted { IfOk result (λ bucket. F.post matches.now (slice_index entry_of.now bucket) true) }
     ensures vacancy { IfErr result (IsVacancyFor (P.slots buckets.now) hash) }
-    ensures refused { OnErr result ((bucket : ℕ) → slot_at (P.slots buckets.now) bucket ≡ Some hash → F.post matches.now (slice_index entry_of.now bucket) false) }
+    ensures refused { OnErr result ((bucket : ℕ) → slot_at (P.slots buckets.now) bucket ≡ Some hash
+        → F.post matches.now (slice_index entry_of.now bucket) false) }
     ensures asked { tally.new.asked ≡ tally.old.asked }
-    ensures looked_found { IfOk result (λ bucket. tally.new.looked ≡ tally.old.looked + (distance_from_home (P.slots buckets.now) hash bucket + 1)) }
-    ensures looked_missing { IfErr result (λ bucket. tally.new.looked ≡ tally.old.looked + (distance_from_home (P.slots buckets.now) hash bucket + 1)) }
+    ensures looked_found { IfOk result (λ bucket. tally.new.looked ≡ tally.old.looked
+        + (distance_from_home (P.slots buckets.now) hash bucket + 1)) }
+    ensures looked_missing { IfErr result (λ bucket. tally.new.looked ≡ tally.old.looked
+        + (distance_from_home (P.slots buckets.now) hash bucket + 1)) }
     ensures compared_some { OnOk result (tally.old.compared + 1 ≤ tally.new.compared) }
-    ensures compared_most { tally.new.compared ≤ tally.old.compared + count_by (stored (λ held. held == hash)) (P.slots buckets.now) }
-    ensures compared_all { OnErr result (tally.new.compared ≡ tally.old.compared + count_by (stored (λ held. held == hash)) (P.slots buckets.now)) }
+    ensures compared_most { tally.new.compared ≤ tally.old.compared
+        + count_by (stored (λ held. held == hash)) (P.slots buckets.now) }
+    ensures compared_all { OnErr result (tally.new.compared ≡ tally.old.compared
+        + count_by (stored (λ held. held == hash)) (P.slots buckets.now)) }
 {
     let count = entry_of.len();
     let mut bucket = home(hash, count);

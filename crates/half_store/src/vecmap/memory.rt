@@ -51,7 +51,8 @@ impl<K, V> VecMap<K, V> {
     /// ```
     pub fn shrink_to(&mut self, needed: usize)
         ensures pairs { self.new.pairs ≡ self.old.pairs }
-        ensures capacity { (self.new.capacity ≡ min (max needed (length self.old.pairs)) self.old.capacity) ⊎ (self.new.capacity ≡ self.old.capacity) }
+        ensures capacity { (self.new.capacity ≡ min (max needed (length self.old.pairs)) self.old.capacity)
+            ⊎ (self.new.capacity ≡ self.old.capacity) }
         ensures frees { length self.old.pairs ≡ 0 → needed ≡ 0 → self.new.capacity ≡ 0 }
     {
         let kept = needed.max(self.len());
@@ -131,7 +132,8 @@ fn shrink_column<T>(column: &mut Vec<T>, kept: usize)
     requires { vec_len column.old ≤ kept }
     ensures items { column.new.items ≡ column.old.items }
     ensures len { vec_len column.new ≡ vec_len column.old }
-    ensures capacity { (vec_capacity column.new ≡ min kept (vec_capacity column.old)) ⊎ (vec_capacity column.new ≡ vec_capacity column.old) }
+    ensures capacity { (vec_capacity column.new ≡ min kept (vec_capacity column.old))
+        ⊎ (vec_capacity column.new ≡ vec_capacity column.old) }
     ensures frees { kept ≡ 0 → vec_capacity column.new ≡ 0 }
 {
     if column.capacity() <= kept {

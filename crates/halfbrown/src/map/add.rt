@@ -20,7 +20,9 @@ use std::hash::{BuildHasher, Hash};
 impl<K: Eq + Hash, V, S: BuildHasher, L: Limit> LimitedHashMap<K, V, S, L> {
     /// Where a pair may be added whose key is not held. In a table the key is hashed; nothing is searched.
     pub(crate) fn unsearched(&self, key: &K, tally: &mut Tally) -> Vacancy
-        ensures vacant { IsVacancy self.now.is_vec (contents_of self.now) (key_hash S.BuildHasher S.Hasher.Hasher K.hash_input self.now.builder key.now) result }
+        ensures vacant { IsVacancy self.now.is_vec (contents_of self.now)
+            (key_hash S.BuildHasher S.Hasher.Hasher K.hash_input self.now.builder key.now)
+            result }
         ensures unprobed { self.now.is_vec ≡ false → is_unprobed result ≡ true }
         ensures work { tally.new ≡ asked_more (search_asked self.now.is_vec) tally.old }
     {
@@ -50,14 +52,17 @@ impl<K: Eq + Hash, V, S: BuildHasher, L: Limit> LimitedHashMap<K, V, S, L> {
     ) -> Result<(), Refused<K, V>>
         requires not_full { is_full L.LIMIT self.old ≡ false }
         requires absent { holds K.eq self.old.pairs key ≡ false }
-        requires vacant { IsVacancy self.old.is_vec (contents_of self.old) (key_hash S.BuildHasher S.Hasher.Hasher K.hash_input self.old.builder key) vacancy }
+        requires vacant { IsVacancy self.old.is_vec (contents_of self.old)
+            (key_hash S.BuildHasher S.Hasher.Hasher K.hash_input self.old.builder key) vacancy }
         ensures pairs { OnOk result (self.new.pairs ≡ put K.eq self.old.pairs key value) }
         ensures form { self.new.is_vec ≡ self.old.is_vec }
         ensures capacity { OnOk result (HasCapacityAfter self.old (addition_needs self.old) self.new) }
         ensures grantable { OnOk result (IsGrantable (addition_needs self.old)) }
         ensures hasher { self.new.builder ≡ self.old.builder }
         ensures err { IfErr result (HandsBack self.old key value (addition_needs self.old) self.new) }
-        ensures work { tally.new ≡ looked_more tally.old (adding_looks (key_hash S.BuildHasher S.Hasher.Hasher K.hash_input self.old.builder) self.old key (is_unprobed vacancy) (is_ok result)) }
+        ensures work { tally.new ≡ looked_more tally.old
+            (adding_looks (key_hash S.BuildHasher S.Hasher.Hasher K.hash_input self.old.builder)
+            self.old key (is_unprobed vacancy) (is_ok result)) }
         ensures state { IsState K.eq L.LIMIT self.new }
     {
         if self.len() < self.capacity() {
@@ -77,9 +82,13 @@ impl<K: Eq + Hash, V, S: BuildHasher, L: Limit> LimitedHashMap<K, V, S, L> {
     fn push(&mut self, key: K, value: V, vacancy: Vacancy, tally: &mut Tally)
         requires capacity { length self.old.pairs < self.old.capacity }
         requires absent { holds K.eq self.old.pairs key ≡ false }
-        requires vacant { IsVacancy self.old.is_vec (contents_of self.old) (key_hash S.BuildHasher S.Hasher.Hasher K.hash_input self.old.builder key) vacancy }
+        requires vacant { IsVacancy self.old.is_vec (contents_of self.old)
+            (key_hash S.BuildHasher S.Hasher.Hasher K.hash_input self.old.builder key) vacancy }
         ensures after { WithPairs self.old (self.old.pairs ++ (key, value) ∷ []) self.new }
-        ensures work { tally.new ≡ looked_more tally.old (if is_unprobed vacancy then probe_length (key_hash S.BuildHasher S.Hasher.Hasher K.hash_input self.old.builder) self.old.is_vec self.old.capacity self.old.pairs key else 0) }
+        ensures work { tally.new ≡ looked_more tally.old
+            (if is_unprobed vacancy then probe_length
+            (key_hash S.BuildHasher S.Hasher.Hasher K.hash_input self.old.builder)
+            self.old.is_vec self.old.capacity self.old.pairs key else 0) }
         ensures state { IsState K.eq L.LIMIT self.new }
     {
         self.form.add(vacancy, tally);

@@ -90,7 +90,8 @@ impl Form {
         ensures form { self.new.is_vec ≡ self.old.is_vec }
         ensures hashes { self.new.hashes ≡ self.old.hashes }
         ensures fewer { self.new.buckets ≤ self.old.buckets }
-        ensures buckets { (self.new.buckets ≡ buckets_for (length self.old.hashes)) ⊎ (self.new.buckets ≡ self.old.buckets) }
+        ensures buckets { (self.new.buckets ≡ buckets_for (length self.old.hashes))
+            ⊎ (self.new.buckets ≡ self.old.buckets) }
         ensures empty { length self.old.hashes ≡ 0 → self.new.buckets ≡ 0 }
     {
         if let Some(table) = &mut self.table {
@@ -116,7 +117,9 @@ impl Form {
         ensures form { self.new.is_vec ≡ self.old.is_vec }
         ensures buckets { self.new.buckets ≡ self.old.buckets }
         ensures hashes { self.old.is_vec ≡ false → self.new.hashes ≡ self.old.hashes ++ stored_hash vacancy ∷ [] }
-        ensures work { tally.new ≡ looked_more tally.old (if is_unprobed vacancy then reach self.old.hashes (buckets_of (capacity_of self.old.buckets)) (stored_hash vacancy) else 0) }
+        ensures work { tally.new ≡ looked_more tally.old
+            (if is_unprobed vacancy then reach self.old.hashes
+            (buckets_of (capacity_of self.old.buckets)) (stored_hash vacancy) else 0) }
     {
         if let Some(table) = &mut self.table {
             if let Vacancy::InTable(hash, bucket) = vacancy {

@@ -36,7 +36,8 @@ impl<K: Eq + Hash, V, S: BuildHasher, L: Limit> LimitedHashMap<K, V, S, L> {
     /// ```
     pub fn get_counted(&self, key: &K, tally: &mut Tally) -> Option<&V>
         ensures value { option_copied result ≡ value_of K.eq self.now.pairs key.now }
-        ensures cost { SearchCosts K.eq (key_hash S.BuildHasher S.Hasher.Hasher K.hash_input) self.now key.now tally.old tally.new }
+        ensures cost { SearchCosts K.eq (key_hash S.BuildHasher S.Hasher.Hasher K.hash_input) self.now key.now
+            tally.old tally.new }
         ensures state { IsState K.eq L.LIMIT self.now }
     {
         match self.find(key, tally) {
@@ -53,7 +54,8 @@ impl<K: Eq + Hash, V, S: BuildHasher, L: Limit> LimitedHashMap<K, V, S, L> {
     /// }
     /// ```
     pub fn get_mut(&mut self, key: &K) -> Option<&mut V>
-        ensures* writes_back { sem 𝓛 (LendsValueOf K.row V.row S.row L.row S.Hasher.row K.Hash S.BuildHasher S.Hasher.Hasher L.Limit self.entry key.now result) }
+        ensures* writes_back { sem 𝓛 (LendsValueOf K.row V.row S.row L.row S.Hasher.row K.Hash S.BuildHasher
+            S.Hasher.Hasher L.Limit self.entry key.now result) }
         ensures value { option_copied_mut result ≡ value_of K.eq self.old.pairs key.now }
     {
         self.get_mut_counted(key, &mut Tally::new())
@@ -67,9 +69,11 @@ impl<K: Eq + Hash, V, S: BuildHasher, L: Limit> LimitedHashMap<K, V, S, L> {
     /// }
     /// ```
     pub fn get_mut_counted(&mut self, key: &K, tally: &mut Tally) -> Option<&mut V>
-        ensures* writes_back { sem 𝓛 (LendsValueOf K.row V.row S.row L.row S.Hasher.row K.Hash S.BuildHasher S.Hasher.Hasher L.Limit self.entry key.now result) }
+        ensures* writes_back { sem 𝓛 (LendsValueOf K.row V.row S.row L.row S.Hasher.row K.Hash S.BuildHasher
+            S.Hasher.Hasher L.Limit self.entry key.now result) }
         ensures value { option_copied_mut result ≡ value_of K.eq self.old.pairs key.now }
-        ensures cost { SearchCosts K.eq (key_hash S.BuildHasher S.Hasher.Hasher K.hash_input) self.old key.now tally.old tally.new }
+        ensures cost { SearchCosts K.eq (key_hash S.BuildHasher S.Hasher.Hasher K.hash_input) self.old key.now
+            tally.old tally.new }
         ensures state { IsState K.eq L.LIMIT self.old }
     {
         match self.find(key, tally) {
@@ -96,7 +100,8 @@ impl<K: Eq + Hash, V, S: BuildHasher, L: Limit> LimitedHashMap<K, V, S, L> {
     /// ```
     pub fn contains_key_counted(&self, key: &K, tally: &mut Tally) -> bool
         ensures held { result ≡ holds K.eq self.now.pairs key.now }
-        ensures cost { SearchCosts K.eq (key_hash S.BuildHasher S.Hasher.Hasher K.hash_input) self.now key.now tally.old tally.new }
+        ensures cost { SearchCosts K.eq (key_hash S.BuildHasher S.Hasher.Hasher K.hash_input) self.now key.now
+            tally.old tally.new }
         ensures state { IsState K.eq L.LIMIT self.now }
     {
         match self.find(key, tally) {
@@ -117,7 +122,8 @@ impl<K: Eq + Hash, V, S: BuildHasher, L: Limit> LimitedHashMap<K, V, S, L> {
     pub fn index_counted(&self, key: &K, tally: &mut Tally) -> &V
         requires { IsTrue (holds K.eq self.now.pairs key.now) }
         ensures value { value_of K.eq self.now.pairs key.now ≡ Some result.now }
-        ensures cost { SearchCosts K.eq (key_hash S.BuildHasher S.Hasher.Hasher K.hash_input) self.now key.now tally.old tally.new }
+        ensures cost { SearchCosts K.eq (key_hash S.BuildHasher S.Hasher.Hasher K.hash_input) self.now key.now
+            tally.old tally.new }
     {
         match self.find(key, tally) {
             Lookup::Found(index) => self.columns.value_at(index),
@@ -128,7 +134,8 @@ impl<K: Eq + Hash, V, S: BuildHasher, L: Limit> LimitedHashMap<K, V, S, L> {
     // The value of the pair at this index, to be written.
     fn value_at_mut(&mut self, index: usize) -> &mut V
         requires { index < length self.old.pairs }
-        ensures* writes_back { sem 𝓛 (LendsValueAt K.row V.row S.row L.row S.Hasher.row K.Hash S.BuildHasher S.Hasher.Hasher L.Limit self.entry index result) }
+        ensures* writes_back { sem 𝓛 (LendsValueAt K.row V.row S.row L.row S.Hasher.row K.Hash S.BuildHasher
+            S.Hasher.Hasher L.Limit self.entry index result) }
         ensures value { slice_get (values_of self.old.pairs) index ≡ Some result.now }
     {
         self.columns.value_at_mut(index)

@@ -22,7 +22,8 @@ impl<K: Eq + Hash, V, S: BuildHasher, L: Limit> LimitedHashMap<K, V, S, L> {
     /// ```
     pub fn reserve(&mut self, additional: usize) -> Result<(), Refusal>
         ensures ok { OnOk result (Reserves L.LIMIT self.old additional self.new) }
-        ensures refused { IfErr result (IsRefusal (reserve_needs L.LIMIT self.old (length self.old.pairs + additional))) }
+        ensures refused { IfErr result (IsRefusal (reserve_needs L.LIMIT self.old
+            (length self.old.pairs + additional))) }
         ensures err { OnErr result (self.new ≡ self.old) }
         ensures state { IsState K.eq L.LIMIT self.new }
     {

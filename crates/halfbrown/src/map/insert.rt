@@ -35,7 +35,8 @@ impl<K: Eq + Hash, V, S: BuildHasher, L: Limit> LimitedHashMap<K, V, S, L> {
     where
         K: Drop,
         ensures old_value { IfOk result (λ old. old ≡ value_of K.eq self.old.pairs key) }
-        ensures ok { OnOk result (Puts L.LIMIT K.eq self.old key value (insert_needs L.LIMIT K.eq self.old key) self.new) }
+        ensures ok { OnOk result (Puts L.LIMIT K.eq self.old key value
+            (insert_needs L.LIMIT K.eq self.old key) self.new) }
         ensures put { OnOk result (HasPut K.eq self.old.pairs key value self.new.pairs) }
         ensures err { IfErr result (HandsBack self.old key value (insert_needs L.LIMIT K.eq self.old key) self.new) }
         ensures state { IsState K.eq L.LIMIT self.new }
@@ -58,10 +59,12 @@ impl<K: Eq + Hash, V, S: BuildHasher, L: Limit> LimitedHashMap<K, V, S, L> {
     where
         K: Drop,
         ensures old_value { IfOk result (λ old. old ≡ value_of K.eq self.old.pairs key) }
-        ensures ok { OnOk result (Puts L.LIMIT K.eq self.old key value (insert_needs L.LIMIT K.eq self.old key) self.new) }
+        ensures ok { OnOk result (Puts L.LIMIT K.eq self.old key value
+            (insert_needs L.LIMIT K.eq self.old key) self.new) }
         ensures put { OnOk result (HasPut K.eq self.old.pairs key value self.new.pairs) }
         ensures err { IfErr result (HandsBack self.old key value (insert_needs L.LIMIT K.eq self.old key) self.new) }
-        ensures cost { InsertCosts L.LIMIT K.eq (key_hash S.BuildHasher S.Hasher.Hasher K.hash_input) self.old key (is_ok result) tally.old tally.new }
+        ensures cost { InsertCosts L.LIMIT K.eq (key_hash S.BuildHasher S.Hasher.Hasher K.hash_input) self.old
+            key (is_ok result) tally.old tally.new }
         ensures state { IsState K.eq L.LIMIT self.new }
     {
         if let Err(why) = self.switch_if_full(tally) {
@@ -112,7 +115,9 @@ impl<K: Eq + Hash, V, S: BuildHasher, L: Limit> LimitedHashMap<K, V, S, L> {
         ensures ok { OnOk result (Puts L.LIMIT K.eq self.old key value (unchecked_needs L.LIMIT self.old) self.new) }
         ensures put { OnOk result (HasPut K.eq self.old.pairs key value self.new.pairs) }
         ensures err { IfErr result (HandsBack self.old key value (unchecked_needs L.LIMIT self.old) self.new) }
-        ensures cost { GrewBy (unchecked_cost L.LIMIT K.eq (key_hash S.BuildHasher S.Hasher.Hasher K.hash_input) self.old key (is_ok result)) tally.old tally.new }
+        ensures cost { GrewBy (unchecked_cost L.LIMIT K.eq
+            (key_hash S.BuildHasher S.Hasher.Hasher K.hash_input) self.old key (is_ok result))
+            tally.old tally.new }
         ensures state { IsState K.eq L.LIMIT self.new }
     {
         if let Err(why) = self.switch_if_full(tally) {

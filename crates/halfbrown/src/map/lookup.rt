@@ -43,7 +43,8 @@ impl<K: Eq + Hash, V, S: BuildHasher, L: Limit> LimitedHashMap<K, V, S, L> {
     /// Searches for a key: in a vector by `==` alone, in a table among the keys of its hash.
     pub(crate) fn find(&self, key: &K, tally: &mut Tally) -> Lookup
         ensures found { LooksUp K.eq (key_hash S.BuildHasher S.Hasher.Hasher K.hash_input) self.now key.now result }
-        ensures cost { SearchCosts K.eq (key_hash S.BuildHasher S.Hasher.Hasher K.hash_input) self.now key.now tally.old tally.new }
+        ensures cost { SearchCosts K.eq (key_hash S.BuildHasher S.Hasher.Hasher K.hash_input) self.now key.now
+            tally.old tally.new }
         ensures state { IsState K.eq L.LIMIT self.now }
     {
         let Some(table) = self.form.table() else {

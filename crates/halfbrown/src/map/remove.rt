@@ -42,7 +42,8 @@ impl<K: Eq + Hash, V, S: BuildHasher, L: Limit> LimitedHashMap<K, V, S, L> {
         ensures value { result ≡ value_of K.eq self.old.pairs key.now }
         ensures after { WithPairs self.old (take_out K.eq self.old.pairs key.now) self.new }
         ensures removed { HasRemoved K.eq self.old.pairs key.now self.new.pairs }
-        ensures cost { SearchCosts K.eq (key_hash S.BuildHasher S.Hasher.Hasher K.hash_input) self.old key.now tally.old tally.new }
+        ensures cost { SearchCosts K.eq (key_hash S.BuildHasher S.Hasher.Hasher K.hash_input) self.old key.now
+            tally.old tally.new }
         ensures state { IsState K.eq L.LIMIT self.new }
     {
         let (_, value) = self.remove_entry_counted(key, tally)?;
@@ -73,7 +74,8 @@ impl<K: Eq + Hash, V, S: BuildHasher, L: Limit> LimitedHashMap<K, V, S, L> {
         ensures pair { result ≡ pair_of K.eq self.old.pairs key.now }
         ensures after { WithPairs self.old (take_out K.eq self.old.pairs key.now) self.new }
         ensures removed { HasRemoved K.eq self.old.pairs key.now self.new.pairs }
-        ensures cost { SearchCosts K.eq (key_hash S.BuildHasher S.Hasher.Hasher K.hash_input) self.old key.now tally.old tally.new }
+        ensures cost { SearchCosts K.eq (key_hash S.BuildHasher S.Hasher.Hasher K.hash_input) self.old key.now
+            tally.old tally.new }
         ensures state { IsState K.eq L.LIMIT self.new }
     {
         match self.find(key, tally) {

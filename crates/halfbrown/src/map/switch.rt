@@ -24,11 +24,13 @@ impl<K: Eq + Hash, V, S: BuildHasher, L: Limit> LimitedHashMap<K, V, S, L> {
         ensures switched { OnOk result (self.new.capacity ≡ capacity_switched L.LIMIT self.old) }
         ensures same { is_full L.LIMIT self.old ≡ false → self.new ≡ self.old }
         ensures not_full { OnOk result (is_full L.LIMIT self.new ≡ false) }
-        ensures capacity_left { OnOk result (is_full L.LIMIT self.old ≡ true → length self.new.pairs < self.new.capacity) }
+        ensures capacity_left { OnOk result (is_full L.LIMIT self.old ≡ true
+            → length self.new.pairs < self.new.capacity) }
         ensures err { OnErr result (self.new ≡ self.old) }
         ensures refused { IfErr result (IsRefusal (switch_needs L.LIMIT self.old)) }
         ensures granted { OnOk result (IsGrantable (switch_needs L.LIMIT self.old)) }
-        ensures work { tally.new ≡ (if is_ok result then asked_more (switch_asked L.LIMIT self.old) tally.old else tally.old) }
+        ensures work { tally.new ≡ (if is_ok result then asked_more (switch_asked L.LIMIT self.old) tally.old
+            else tally.old) }
         ensures state { IsState K.eq L.LIMIT self.new }
     {
         if !self.form.is_vec() || self.columns.len() < L::LIMIT {
@@ -69,7 +71,8 @@ fn store_hashes<K: Hash, S: BuildHasher>(
 )
     requires empty { table.old.hashes ≡ [] }
     requires capacity { length keys.now ≤ capacity_of table.old.buckets }
-    ensures hashes { table.new.hashes ≡ map (key_hash S.BuildHasher S.Hasher.Hasher K.hash_input builder.now) keys.now }
+    ensures hashes { table.new.hashes ≡ map (key_hash S.BuildHasher S.Hasher.Hasher K.hash_input builder.now)
+        keys.now }
     ensures buckets { table.new.buckets ≡ table.old.buckets }
     ensures work { tally.new ≡ asked_more (length keys.now) tally.old }
 {

@@ -1,4 +1,4 @@
-use Rattle.std.proofs.Common.{◌≤◌, vec_len, arith}
+use Rattle.std.proofs.Common.{arith}
 use Rattle.half_store.proofs.Columns.{opened}
 use Rattle.half_store.proofs.vecmap.VecMap.shrink_to.Goals as goal
 
