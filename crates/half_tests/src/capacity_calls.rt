@@ -1,8 +1,9 @@
 //! Worked examples of the calls that grow and shrink the capacity, of insertion without a search, and of a run of all nine
 //! commands.
 
-use crate::asserts::{assert_same, assert_same_at, assert_true, assert_true_at};
+use crate::asserts::{assert_same, assert_same_at, assert_true};
 use crate::builders::Rule;
+use crate::calls::{Form, assert_form, assert_get, assert_insert, assert_remove, fill};
 use crate::counts::{Counted, Counts};
 use halfbrown::run::run;
 use halfbrown::{Command, DefaultHashBuilder, HashMap, Refusal, Reply, SizedHashMap};
@@ -31,23 +32,19 @@ fn the_sixth_unsearched_insertion_makes_a_table(rt: HostRuntime) -> Result<(), F
     let mut map = counts.map::<5>(rt.alloc(), Rule::Plain);
     for id in 1..=5 {
         insert_unsearched(&rt, &mut map, &counts, id)?;
-        assert_same(&rt, counts.take(), (0, 0), "nothing is hashed or searched");
-        assert_true_at(&rt, id, map.is_vec(), "so many pairs are a vector");
+        assert_same_at(
+            &rt,
+            id,
+            counts.take(),
+            (0, 0),
+            "nothing is hashed or searched",
+        );
+        assert_same_at(&rt, id, map.is_vec(), true, "so many pairs are a vector");
     }
     insert_unsearched(&rt, &mut map, &counts, 6)?;
-    assert_same(
-        &rt,
-        counts.take(),
-        (6, 0),
-        "five hashes for the switch, one for the pair",
-    );
-    assert_true(&rt, map.is_map(), "six pairs are a table");
-    assert_same(
-        &rt,
-        (map.len(), map.capacity()),
-        (6, 6),
-        "length and capacity",
-    );
+    // Five hashes for the switch, and one for the pair.
+    assert_same(&rt, counts.take(), (6, 0), "the work");
+    assert_form(&rt, &map, (Form::Table, 6, 6));
     Ok(())
 }
 
@@ -58,53 +55,39 @@ fn an_unsearched_insertion_grows_a_table(rt: HostRuntime) -> Result<(), Fail> {
     for id in 1..=6 {
         insert_unsearched(&rt, &mut map, &counts, id)?;
     }
+    counts.take();
     insert_unsearched(&rt, &mut map, &counts, 7)?;
     assert_same(&rt, counts.take(), (1, 0), "growth hashes nothing");
-    assert_same(
-        &rt,
-        (map.len(), map.capacity()),
-        (7, 12),
-        "length and capacity",
-    );
+    assert_form(&rt, &map, (Form::Table, 7, 12));
     for id in 1..=7 {
-        assert_same_at(
-            &rt,
-            id,
-            map.get(&counts.key(id)).copied(),
-            Some(id),
-            "the key",
-        );
+        assert_get(&rt, &map, &counts, id, (Some(id), (1, 1)));
     }
     Ok(())
 }
 
 #[test]
 fn the_capacity_decides_the_form(rt: HostRuntime) -> Result<(), Fail> {
-    let map = HashMap::<u64, u64, DefaultHashBuilder>::with_capacity(rt.alloc(), 32)?;
-    assert_true(
-        &rt,
-        map.is_vec() && map.capacity() == 32,
-        "a vector up to the limit",
-    );
-    let map = HashMap::<u64, u64, DefaultHashBuilder>::with_capacity(rt.alloc(), 33)?;
-    assert_true(
-        &rt,
-        map.is_map() && map.capacity() == 48,
-        "a table above it",
-    );
+    let counts = Counts::new();
+    let plain = || counts.builder(Rule::Plain);
+    let map = Counted::<'_, 32>::with_capacity_and_hasher(rt.alloc(), 32, plain())?;
+    assert_form(&rt, &map, (Form::Vector, 0, 32));
+    let map = Counted::<'_, 32>::with_capacity_and_hasher(rt.alloc(), 33, plain())?;
+    assert_form(&rt, &map, (Form::Table, 0, 48));
+    // A vector has the limit's capacity, however much more is given.
     let map = HashMap::<u64, u64, DefaultHashBuilder>::vec_with_capacity(rt.alloc(), 128)?;
-    assert_true(
-        &rt,
-        map.is_vec() && map.capacity() == 32,
-        "a vector of the limit's capacity, however much more is given",
-    );
-    let mut map = HashMap::<u64, u64, DefaultHashBuilder>::new(rt.alloc());
-    for key in 1..=3 {
-        assert_same_at(&rt, key, map.insert(key, key)?, None, "the key is new");
-    }
-    assert_same(&rt, map.remove(&2), Some(2), "the value of key 2");
-    for (key, value) in [(1, Some(1)), (2, None), (3, Some(3))] {
-        assert_same_at(&rt, key, map.get(&key).copied(), value, "the key");
+    assert_same(&rt, (map.is_vec(), map.capacity()), (true, 32), "a vector");
+    Ok(())
+}
+
+#[test]
+fn a_removed_key_is_gone_and_the_others_stay(rt: HostRuntime) -> Result<(), Fail> {
+    let counts = Counts::new();
+    let mut map = counts.map::<32>(rt.alloc(), Rule::Plain);
+    fill(&mut map, &counts, &[1, 2, 3])?;
+    assert_remove(&rt, &mut map, &counts, 2, (Some(2), (0, 2)));
+    // Key 3 has the index of key 2 now.
+    for (id, value, compared) in [(1, Some(1), 1), (2, None, 2), (3, Some(3), 2)] {
+        assert_get(&rt, &map, &counts, id, (value, (0, compared)));
     }
     Ok(())
 }
@@ -147,72 +130,37 @@ fn a_large_table_of_few_pairs_shrinks(rt: HostRuntime) -> Result<(), Fail> {
     let counts = Counts::new();
     let builder = counts.builder(Rule::Plain);
     let mut map = Counted::<'_, 32>::with_capacity_and_hasher(rt.alloc(), 100, builder)?;
-    assert_true(
-        &rt,
-        map.is_map() && map.capacity() == 192,
-        "a table of capacity 192",
-    );
-    for id in [1, 2] {
-        assert_same_at(
-            &rt,
-            id,
-            map.insert(counts.key(id), id)?,
-            None,
-            "the key is new",
-        );
-    }
-    counts.take();
+    assert_form(&rt, &map, (Form::Table, 0, 192));
+    fill(&mut map, &counts, &[1, 2])?;
     map.shrink_to_fit();
     assert_same(&rt, counts.take(), (0, 0), "nothing is hashed or compared");
-    assert_true(
-        &rt,
-        map.is_map() && map.len() == 2 && map.capacity() == 3,
-        "a table of capacity 3",
-    );
+    assert_form(&rt, &map, (Form::Table, 2, 3));
     for id in [1, 2] {
-        assert_same_at(
-            &rt,
-            id,
-            map.get(&counts.key(id)).copied(),
-            Some(id),
-            "the key",
-        );
+        assert_get(&rt, &map, &counts, id, (Some(id), (1, 1)));
     }
     Ok(())
 }
 
 #[test]
-fn a_reservation_grows_as_far_as_the_form_allows(rt: HostRuntime) -> Result<(), Fail> {
+fn a_vector_reserves_no_more_than_the_limit(rt: HostRuntime) -> Result<(), Fail> {
     let counts = Counts::new();
-    let mut vector = counts.map::<5>(rt.alloc(), Rule::Plain);
-    assert_same(
-        &rt,
-        vector.reserve(usize::MAX),
-        Ok(()),
-        "a vector needs no more than the limit",
-    );
-    assert_true(
-        &rt,
-        vector.is_vec() && vector.capacity() == 5,
-        "a vector of capacity 5",
-    );
-    let mut table = counts.map::<0>(rt.alloc(), Rule::Plain);
-    table.insert(counts.key(3), 3)?;
-    counts.take();
-    assert_same(&rt, table.reserve(10), Ok(()), "ten more");
-    assert_same(
-        &rt,
-        (table.len(), table.capacity()),
-        (1, 12),
-        "the least capacity for 11",
-    );
-    assert_same(
-        &rt,
-        table.reserve(usize::MAX),
-        Err(Refusal::Size),
-        "more than there can be",
-    );
-    assert_same(&rt, (table.len(), table.capacity()), (1, 12), "as before");
+    let mut map = counts.map::<5>(rt.alloc(), Rule::Plain);
+    let reserved = map.reserve(usize::MAX);
+    assert_same(&rt, reserved, Ok(()), "it needs no more than the limit");
+    assert_form(&rt, &map, (Form::Vector, 0, 5));
+    Ok(())
+}
+
+#[test]
+fn a_table_reserves_what_is_needed(rt: HostRuntime) -> Result<(), Fail> {
+    let counts = Counts::new();
+    let mut map = counts.map::<0>(rt.alloc(), Rule::Plain);
+    fill(&mut map, &counts, &[3])?;
+    assert_same(&rt, map.reserve(10), Ok(()), "ten more");
+    assert_form(&rt, &map, (Form::Table, 1, 12));
+    let refused = map.reserve(usize::MAX);
+    assert_same(&rt, refused, Err(Refusal::Size), "more than there can be");
+    assert_form(&rt, &map, (Form::Table, 1, 12));
     assert_same(&rt, counts.take(), (0, 0), "nothing is hashed or compared");
     Ok(())
 }
@@ -221,35 +169,14 @@ fn a_reservation_grows_as_far_as_the_form_allows(rt: HostRuntime) -> Result<(), 
 fn an_emptied_table_shrinks_to_no_capacity_and_is_used_again(rt: HostRuntime) -> Result<(), Fail> {
     let counts = Counts::new();
     let mut map = counts.map::<0>(rt.alloc(), Rule::Plain);
-    map.insert(counts.key(1), 1)?;
-    assert_same(
-        &rt,
-        map.remove(&counts.key(1)),
-        Some(1),
-        "the value of key 1",
-    );
+    fill(&mut map, &counts, &[1])?;
+    assert_remove(&rt, &mut map, &counts, 1, (Some(1), (1, 1)));
     map.shrink_to_fit();
-    assert_true(
-        &rt,
-        map.is_map() && map.capacity() == 0,
-        "a table of capacity 0",
-    );
-    counts.take();
-    assert_same(
-        &rt,
-        map.get(&counts.key(1)).copied(),
-        None,
-        "nothing is held",
-    );
-    assert_same(&rt, counts.take(), (1, 0), "it is hashed all the same");
-    assert_same(&rt, map.insert(counts.key(1), 1)?, None, "key 1 is new");
-    assert_same(&rt, counts.take(), (1, 0), "one hash");
-    assert_same(
-        &rt,
-        (map.len(), map.capacity()),
-        (1, 3),
-        "length and capacity",
-    );
+    assert_form(&rt, &map, (Form::Table, 0, 0));
+    // Nothing is held, and the key is hashed all the same.
+    assert_get(&rt, &map, &counts, 1, (None, (1, 0)));
+    assert_insert(&rt, &mut map, &counts, (1, 1), (None, (1, 0)))?;
+    assert_form(&rt, &map, (Form::Table, 1, 3));
     Ok(())
 }
 
@@ -257,21 +184,12 @@ fn an_emptied_table_shrinks_to_no_capacity_and_is_used_again(rt: HostRuntime) ->
 fn an_emptied_vector_shrinks_to_no_capacity(rt: HostRuntime) -> Result<(), Fail> {
     let counts = Counts::new();
     let mut map = counts.map::<5>(rt.alloc(), Rule::Plain);
-    map.insert(counts.key(1), 1)?;
-    assert_same(
-        &rt,
-        map.remove(&counts.key(1)),
-        Some(1),
-        "the value of key 1",
-    );
+    fill(&mut map, &counts, &[1])?;
+    assert_remove(&rt, &mut map, &counts, 1, (Some(1), (0, 1)));
     assert_true(&rt, map.capacity() > 0, "a removal keeps the capacity");
     map.shrink_to_fit();
-    assert_true(
-        &rt,
-        map.is_vec() && map.capacity() == 0,
-        "a vector of capacity 0",
-    );
-    assert_same(&rt, map.insert(counts.key(1), 1)?, None, "key 1 is new");
+    assert_form(&rt, &map, (Form::Vector, 0, 0));
+    assert_insert(&rt, &mut map, &counts, (1, 1), (None, (0, 0)))?;
     Ok(())
 }
 
@@ -279,21 +197,11 @@ fn an_emptied_vector_shrinks_to_no_capacity(rt: HostRuntime) -> Result<(), Fail>
 fn an_overwrite_at_limit_one_makes_a_table(rt: HostRuntime) -> Result<(), Fail> {
     let counts = Counts::new();
     let mut map = counts.map::<1>(rt.alloc(), Rule::Plain);
-    assert_same(&rt, map.insert(counts.key(1), 1)?, None, "key 1 is new");
-    assert_true(&rt, map.is_vec(), "one pair is a vector");
-    assert_same(&rt, counts.take(), (0, 0), "nothing is hashed");
-    assert_same(&rt, map.insert(counts.key(1), 5)?, Some(1), "the old value");
-    assert_same(
-        &rt,
-        counts.take(),
-        (2, 1),
-        "one hash for the switch, one for the search",
-    );
-    assert_true(
-        &rt,
-        map.is_map() && map.len() == 1 && map.capacity() == 3,
-        "a table of one",
-    );
+    assert_insert(&rt, &mut map, &counts, (1, 1), (None, (0, 0)))?;
+    assert_same(&rt, map.is_vec(), true, "one pair is a vector");
+    // One hash for the switch, one for the search.
+    assert_insert(&rt, &mut map, &counts, (1, 5), (Some(1), (2, 1)))?;
+    assert_form(&rt, &map, (Form::Table, 1, 3));
     Ok(())
 }
 

@@ -8,6 +8,8 @@ mod basic_calls;
 pub mod builders;
 pub mod callers;
 #[cfg(test)]
+mod calls;
+#[cfg(test)]
 mod capacity_calls;
 pub mod counts;
 #[cfg(test)]

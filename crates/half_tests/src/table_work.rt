@@ -3,8 +3,9 @@
 //! Which buckets a probe reads follows from the hashes: where a key's hash is its number, the remainder by the number of
 //! buckets is its home bucket.
 
-use crate::asserts::{assert_same, assert_same_at, assert_true, assert_true_at};
+use crate::asserts::assert_same;
 use crate::builders::Rule;
+use crate::calls::{Form, assert_form, assert_get, assert_insert, assert_remove, fill};
 use crate::counts::{Counted, Counts};
 use std::process::Abort;
 use std::test::Fail;
@@ -12,46 +13,15 @@ use std::test::Fail;
 // Three keys whose home bucket is the last one of four, so that their probes go round the end.
 const CROWDED: [u64; 3] = [3, 7, 11];
 
-// Inserts these keys, each as a new one.
-fn fill<'a, const N: usize>(
-    map: &mut Counted<'a, N>,
-    counts: &'a Counts,
-    ids: &[u64],
-) -> Result<(), Fail> {
-    for id in ids {
-        map.insert(counts.key(*id), *id)?;
-    }
-    counts.take();
-    Ok(())
-}
-
 #[test]
 fn keys_of_one_home_bucket_are_not_compared_with_another_hash(rt: HostRuntime) -> Result<(), Fail> {
     let counts = Counts::new();
     let mut map = counts.map::<0>(rt.alloc(), Rule::Plain);
     fill(&mut map, &counts, &CROWDED)?;
-    assert_same(
-        &rt,
-        map.get(&counts.key(15)).copied(),
-        None,
-        "key 15 is not held",
-    );
-    assert_same(&rt, counts.take(), (1, 0), "one hash, which no key has");
+    // One hash, which no key has.
+    assert_get(&rt, &map, &counts, 15, (None, (1, 0)));
     for id in CROWDED {
-        assert_same_at(
-            &rt,
-            id,
-            map.get(&counts.key(id)).copied(),
-            Some(id),
-            "the key",
-        );
-        assert_same_at(
-            &rt,
-            id,
-            counts.take(),
-            (1, 1),
-            "the key: one hash, one key of it",
-        );
+        assert_get(&rt, &map, &counts, id, (Some(id), (1, 1)));
     }
     Ok(())
 }
@@ -61,41 +31,13 @@ fn a_removal_shifts_back_round_the_end(rt: HostRuntime) -> Result<(), Fail> {
     let counts = Counts::new();
     let mut map = counts.map::<0>(rt.alloc(), Rule::Plain);
     fill(&mut map, &counts, &CROWDED)?;
-    assert_same(
-        &rt,
-        map.remove(&counts.key(3)),
-        Some(3),
-        "the value of key 3",
-    );
-    assert_same(
-        &rt,
-        counts.take(),
-        (1, 1),
-        "one search, and no hash for what shifts back",
-    );
+    // One search, and no hash for what shifts back.
+    assert_remove(&rt, &mut map, &counts, 3, (Some(3), (1, 1)));
     for id in [11, 7] {
-        assert_same_at(
-            &rt,
-            id,
-            map.get(&counts.key(id)).copied(),
-            Some(id),
-            "the key is still found",
-        );
-        assert_same_at(
-            &rt,
-            id,
-            counts.take(),
-            (1, 1),
-            "the key: one hash, one key of it",
-        );
+        assert_get(&rt, &map, &counts, id, (Some(id), (1, 1)));
     }
-    assert_same(&rt, map.get(&counts.key(3)).copied(), None, "key 3 is gone");
-    assert_same(
-        &rt,
-        (map.len(), map.capacity()),
-        (2, 3),
-        "length and capacity",
-    );
+    assert_get(&rt, &map, &counts, 3, (None, (1, 0)));
+    assert_form(&rt, &map, (Form::Table, 2, 3));
     Ok(())
 }
 
@@ -104,22 +46,10 @@ fn growth_hashes_the_new_key_alone(rt: HostRuntime) -> Result<(), Fail> {
     let counts = Counts::new();
     let mut map = counts.map::<0>(rt.alloc(), Rule::Plain);
     fill(&mut map, &counts, &CROWDED)?;
-    assert_same(&rt, map.insert(counts.key(15), 0)?, None, "key 15 is new");
-    assert_same(&rt, counts.take(), (1, 0), "the hash of key 15 alone");
-    assert_same(
-        &rt,
-        (map.len(), map.capacity()),
-        (4, 6),
-        "length and capacity",
-    );
+    assert_insert(&rt, &mut map, &counts, (15, 0), (None, (1, 0)))?;
+    assert_form(&rt, &map, (Form::Table, 4, 6));
     for (id, value) in [(3, 3), (7, 7), (11, 11), (15, 0)] {
-        assert_same_at(
-            &rt,
-            id,
-            map.get(&counts.key(id)).copied(),
-            Some(value),
-            "the key",
-        );
+        assert_get(&rt, &map, &counts, id, (Some(value), (1, 1)));
     }
     Ok(())
 }
@@ -129,14 +59,8 @@ fn a_table_at_its_capacity_overwrites_and_does_not_grow(rt: HostRuntime) -> Resu
     let counts = Counts::new();
     let mut map = counts.map::<0>(rt.alloc(), Rule::Plain);
     fill(&mut map, &counts, &CROWDED)?;
-    assert_same(&rt, map.insert(counts.key(7), 9)?, Some(7), "the old value");
-    assert_same(&rt, counts.take(), (1, 1), "one hash, one key of it");
-    assert_same(
-        &rt,
-        (map.len(), map.capacity()),
-        (3, 3),
-        "length and capacity",
-    );
+    assert_insert(&rt, &mut map, &counts, (7, 9), (Some(7), (1, 1)))?;
+    assert_form(&rt, &map, (Form::Table, 3, 3));
     Ok(())
 }
 
@@ -146,29 +70,11 @@ fn a_removal_leaves_no_mark_in_its_bucket(rt: HostRuntime) -> Result<(), Fail> {
     let mut map = counts.map::<0>(rt.alloc(), Rule::Zero);
     fill(&mut map, &counts, &CROWDED)?;
     for (left, id) in [(2, 3), (1, 7), (0, 11)] {
-        assert_same_at(
-            &rt,
-            id,
-            map.remove(&counts.key(id)),
-            Some(id),
-            "the value of the key",
-        );
-        counts.take();
-        assert_same(
-            &rt,
-            map.get(&counts.key(15)).copied(),
-            None,
-            "key 15 is not held",
-        );
-        assert_same_at(
-            &rt,
-            left,
-            counts.take(),
-            (1, left),
-            "so many held keys, which are of its hash",
-        );
+        assert_same(&rt, map.remove(&counts.key(id)), Some(id), "its value");
+        // All held keys are of its hash.
+        assert_get(&rt, &map, &counts, 15, (None, (1, left)));
     }
-    assert_true(&rt, map.is_map() && map.is_empty(), "an empty table");
+    assert_form(&rt, &map, (Form::Table, 0, 3));
     Ok(())
 }
 
@@ -177,21 +83,9 @@ fn keys_with_a_bucket_each_are_compared_once(rt: HostRuntime) -> Result<(), Fail
     let counts = Counts::new();
     let mut map = counts.map::<0>(rt.alloc(), Rule::Plain);
     fill(&mut map, &counts, &[0, 1, 2, 3, 4, 5])?;
-    assert_same(
-        &rt,
-        (map.len(), map.capacity()),
-        (6, 6),
-        "length and capacity",
-    );
+    assert_form(&rt, &map, (Form::Table, 6, 6));
     for id in 0..6 {
-        assert_same_at(
-            &rt,
-            id,
-            map.get(&counts.key(id)).copied(),
-            Some(id),
-            "the key",
-        );
-        assert_same_at(&rt, id, counts.take(), (1, 1), "the key: one hash, one key");
+        assert_get(&rt, &map, &counts, id, (Some(id), (1, 1)));
     }
     Ok(())
 }
@@ -201,30 +95,10 @@ fn the_greatest_hash_has_the_last_bucket_as_home(rt: HostRuntime) -> Result<(), 
     let counts = Counts::new();
     let mut map = counts.map::<0>(rt.alloc(), Rule::Plain);
     fill(&mut map, &counts, &[u64::MAX, 3, 0])?;
-    assert_same(&rt, map.get(&counts.key(0)).copied(), Some(0), "key 0");
-    assert_same(&rt, counts.take(), (1, 1), "one hash, one key of it");
-    assert_same(
-        &rt,
-        map.remove(&counts.key(u64::MAX)),
-        Some(u64::MAX),
-        "the greatest key",
-    );
-    counts.take();
+    assert_get(&rt, &map, &counts, 0, (Some(0), (1, 1)));
+    assert_remove(&rt, &mut map, &counts, u64::MAX, (Some(u64::MAX), (1, 1)));
     for id in [0, 3] {
-        assert_same_at(
-            &rt,
-            id,
-            map.get(&counts.key(id)).copied(),
-            Some(id),
-            "the key is still found",
-        );
-        assert_same_at(
-            &rt,
-            id,
-            counts.take(),
-            (1, 1),
-            "the key: one hash, one key of it",
-        );
+        assert_get(&rt, &map, &counts, id, (Some(id), (1, 1)));
     }
     Ok(())
 }
@@ -234,13 +108,7 @@ fn keys_of_one_hash_are_all_compared_where_none_is_equal(rt: HostRuntime) -> Res
     let counts = Counts::new();
     let mut map = counts.map::<0>(rt.alloc(), Rule::Zero);
     fill(&mut map, &counts, &[1, 2, 3])?;
-    assert_same(
-        &rt,
-        map.get(&counts.key(4)).copied(),
-        None,
-        "key 4 is not held",
-    );
-    assert_same(&rt, counts.take(), (1, 3), "one hash, three keys of it");
+    assert_get(&rt, &map, &counts, 4, (None, (1, 3)));
     Ok(())
 }
 
@@ -249,34 +117,11 @@ fn many_keys_of_one_hash_fill_a_table(rt: HostRuntime) -> Result<(), Fail> {
     let counts = Counts::new();
     let mut map = counts.map::<0>(rt.alloc(), Rule::Zero);
     for id in 1..=768 {
-        assert_same_at(
-            &rt,
-            id,
-            map.insert(counts.key(id), id)?,
-            None,
-            "the key is new",
-        );
-        assert_same_at(
-            &rt,
-            id,
-            counts.take(),
-            (1, id - 1),
-            "the key: each held key is compared",
-        );
+        // Each held key is compared.
+        assert_insert(&rt, &mut map, &counts, (id, id), (None, (1, id - 1)))?;
     }
-    assert_same(
-        &rt,
-        (map.len(), map.capacity()),
-        (768, 768),
-        "length and capacity",
-    );
-    assert_same(
-        &rt,
-        map.get(&counts.key(769)).copied(),
-        None,
-        "key 769 is not held",
-    );
-    assert_same(&rt, counts.take(), (1, 768), "one hash, all keys of it");
+    assert_form(&rt, &map, (Form::Table, 768, 768));
+    assert_get(&rt, &map, &counts, 769, (None, (1, 768)));
     Ok(())
 }
 
@@ -285,71 +130,26 @@ fn keys_of_the_greatest_hash_shift_back_after_a_removal(rt: HostRuntime) -> Resu
     let counts = Counts::new();
     let mut map = counts.map::<0>(rt.alloc(), Rule::Top);
     fill(&mut map, &counts, &[1, 2, 3])?;
-    assert_same(
-        &rt,
-        map.remove(&counts.key(1)),
-        Some(1),
-        "the value of key 1",
-    );
-    counts.take();
-    assert_same(
-        &rt,
-        map.get(&counts.key(3)).copied(),
-        Some(3),
-        "key 3 is still found",
-    );
-    assert_same(&rt, counts.take(), (1, 2), "key 2 comes before it");
+    assert_remove(&rt, &mut map, &counts, 1, (Some(1), (1, 1)));
+    // Key 2 comes before it.
+    assert_get(&rt, &map, &counts, 3, (Some(3), (1, 2)));
     Ok(())
 }
 
 #[test]
 fn a_removal_shifts_a_long_run_back_step_by_step(rt: HostRuntime) -> Result<(), Fail> {
     let counts = Counts::new();
-    let mut map = Counted::<'_, 0>::with_capacity_and_hasher(
-        rt.alloc(),
-        5,
-        counts.builder(Rule::Plain),
-    )?;
+    let builder = counts.builder(Rule::Plain);
+    let mut map = Counted::<'_, 0>::with_capacity_and_hasher(rt.alloc(), 5, builder)?;
     assert_same(&rt, map.capacity(), 6, "the least capacity for five");
     fill(&mut map, &counts, &[6, 14, 7, 15, 0])?;
-    assert_same(
-        &rt,
-        map.remove(&counts.key(6)),
-        Some(6),
-        "the value of key 6",
-    );
-    counts.take();
+    assert_remove(&rt, &mut map, &counts, 6, (Some(6), (1, 1)));
     for id in [0, 14, 7, 15] {
-        assert_same_at(
-            &rt,
-            id,
-            map.get(&counts.key(id)).copied(),
-            Some(id),
-            "the key is still found",
-        );
-        assert_same_at(
-            &rt,
-            id,
-            counts.take(),
-            (1, 1),
-            "the key: one hash, one key of it",
-        );
+        assert_get(&rt, &map, &counts, id, (Some(id), (1, 1)));
     }
+    // No held key has one of these hashes.
     for id in [6, 8, 22, 23] {
-        assert_same_at(
-            &rt,
-            id,
-            map.get(&counts.key(id)).copied(),
-            None,
-            "the key is not held",
-        );
-        assert_same_at(
-            &rt,
-            id,
-            counts.take(),
-            (1, 0),
-            "the key: no held key has its hash",
-        );
+        assert_get(&rt, &map, &counts, id, (None, (1, 0)));
     }
     Ok(())
 }
@@ -357,30 +157,13 @@ fn a_removal_shifts_a_long_run_back_step_by_step(rt: HostRuntime) -> Result<(), 
 #[test]
 fn keys_in_every_other_bucket_are_searched_alone(rt: HostRuntime) -> Result<(), Fail> {
     let counts = Counts::new();
-    let mut map = Counted::<'_, 0>::with_capacity_and_hasher(
-        rt.alloc(),
-        12,
-        counts.builder(Rule::Plain),
-    )?;
+    let builder = counts.builder(Rule::Plain);
+    let mut map = Counted::<'_, 0>::with_capacity_and_hasher(rt.alloc(), 12, builder)?;
     assert_same(&rt, map.capacity(), 12, "a capacity of the series");
     fill(&mut map, &counts, &[0, 2, 4, 6, 8, 10])?;
-    assert_same(&rt, map.get(&counts.key(0)).copied(), Some(0), "key 0");
-    assert_same(&rt, counts.take(), (1, 1), "one hash, one key of it");
+    assert_get(&rt, &map, &counts, 0, (Some(0), (1, 1)));
     for id in [16, 12] {
-        assert_same_at(
-            &rt,
-            id,
-            map.get(&counts.key(id)).copied(),
-            None,
-            "the key is not held",
-        );
-        assert_same_at(
-            &rt,
-            id,
-            counts.take(),
-            (1, 0),
-            "the key: one hash, no key of it",
-        );
+        assert_get(&rt, &map, &counts, id, (None, (1, 0)));
     }
     Ok(())
 }
@@ -390,51 +173,19 @@ fn passes_through(rt: &(impl Abort + AllocGlobal), step: u64) -> Result<(), Fail
     let counts = Counts::new();
     let mut map = counts.map::<0>(rt.alloc(), Rule::Plain);
     for number in 0..6u64 {
-        assert_same_at(
-            rt,
-            number,
-            map.insert(counts.key(number.wrapping_mul(step)), number)?,
-            None,
-            "the key",
-        );
+        let pair = (number.wrapping_mul(step), number);
+        assert_insert(rt, &mut map, &counts, pair, (None, (1, 0)))?;
     }
     for number in 0..10_000u64 {
-        let taken = map.remove(&counts.key(number.wrapping_mul(step)));
-        assert_true_at(
-            rt,
-            (number, step),
-            taken.is_some(),
-            "the key of this number and step is held",
-        );
-        let old = map.insert(counts.key((number + 6).wrapping_mul(step)), number)?;
-        assert_true_at(
-            rt,
-            (number, step),
-            old.is_none(),
-            "the key of this number and six is new",
-        );
+        let least = number.wrapping_mul(step);
+        assert_remove(rt, &mut map, &counts, least, (Some(number), (1, 1)));
+        let pair = ((number + 6).wrapping_mul(step), number + 6);
+        assert_insert(rt, &mut map, &counts, pair, (None, (1, 0)))?;
     }
-    assert_same(
-        rt,
-        counts.take(),
-        (20_006, 10_000),
-        "a hash for each call, a key for each removal",
-    );
-    assert_same(
-        rt,
-        (map.len(), map.capacity()),
-        (6, 6),
-        "length and capacity",
-    );
+    assert_form(rt, &map, (Form::Table, 6, 6));
     for number in 10_000..10_006u64 {
-        let value = map.get(&counts.key(number.wrapping_mul(step))).copied();
-        assert_same_at(
-            rt,
-            (number, step),
-            value,
-            Some(number - 6),
-            "the key of this number and step",
-        );
+        let id = number.wrapping_mul(step);
+        assert_get(rt, &map, &counts, id, (Some(number), (1, 1)));
     }
     Ok(())
 }
