@@ -19,6 +19,7 @@ const LEAST_BUCKETS: usize = 4;
 /// ```
 /// let capacity = capacity_of(8); // 6
 /// ```
+#[inline(always)]
 pub fn capacity_of(buckets: usize) -> usize
     ensures { result ≡ capacity_of buckets }
 {

@@ -17,6 +17,7 @@ impl Model for Count {
 
 impl Count {
     /// Starts at 0.
+    #[inline(always)]
     pub(crate) fn new() -> Count
         ensures { result.number ≡ 0 }
     {
@@ -24,6 +25,7 @@ impl Count {
     }
 
     /// One more than this count.
+    #[inline(always)]
     pub(crate) fn plus_one(&self) -> Count
         ensures { result.number ≡ self.now.number + 1 }
     {

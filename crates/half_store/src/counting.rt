@@ -15,6 +15,7 @@ use std::hash::{BuildHasher, Hash};
 /// ```
 /// let hash = counting::hash_one(&builder, &1u64, &mut tally); // the builder's hash of 1, counted
 /// ```
+#[inline(always)]
 pub fn hash_one<K: Hash, S: BuildHasher>(builder: &S, key: &K, tally: &mut Tally) -> u64
     ensures hash { result ≡ hash_by S.BuildHasher S.Hasher.Hasher builder.now (K.hash_input key.now) }
     ensures counted { tally.new ≡ one_asked tally.old }
@@ -28,6 +29,7 @@ pub fn hash_one<K: Hash, S: BuildHasher>(builder: &S, key: &K, tally: &mut Tally
 /// ```
 /// let is_equal = counting::compare(&|index: usize| index < 2 && keys[index] == 2, 1, &mut tally); // true, counted
 /// ```
+#[inline(always)]
 pub fn compare<F: Fn(usize) -> bool>(matches: &F, index: usize, tally: &mut Tally) -> bool
     requires { F.pre matches.now index }
     ensures answer { F.post matches.now index result }
@@ -38,6 +40,7 @@ pub fn compare<F: Fn(usize) -> bool>(matches: &F, index: usize, tally: &mut Tall
 }
 
 /// Reads a bucket.
+#[inline(always)]
 pub(crate) fn look<P: Buckets>(buckets: &P, bucket: usize, tally: &mut Tally) -> Option<u64>
     requires { bucket < length (P.slots buckets.now) }
     ensures stored { result ≡ slot_at (P.slots buckets.now) bucket }

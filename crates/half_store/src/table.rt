@@ -70,6 +70,7 @@ impl Table {
     /// ```
     /// let count = table.len(); // 2
     /// ```
+    #[inline(always)]
     pub fn len(&self) -> usize
         ensures value { result ≡ length self.now.hashes }
         ensures small { result ≤ 2 ^ 62 }
@@ -82,6 +83,7 @@ impl Table {
     /// ```
     /// let is_empty = table.is_empty(); // false
     /// ```
+    #[inline(always)]
     pub fn is_empty(&self) -> bool
         ensures { IsTrue result ↔ (length self.now.hashes ≡ 0) }
     {
@@ -93,6 +95,7 @@ impl Table {
     /// ```
     /// let capacity = table.capacity(); // 3
     /// ```
+    #[inline(always)]
     pub fn capacity(&self) -> usize
         ensures value { result ≡ capacity_of self.now.buckets }
         ensures within { length self.now.hashes ≤ result }
@@ -110,6 +113,7 @@ impl Table {
     /// ```
     /// let found = table.find(11, &|_| true, &mut tally); // entry index 1
     /// ```
+    #[inline(always)]
     pub fn find<F: Fn(usize) -> bool>(&self, hash: u64, matches: &F, tally: &mut Tally) -> Probe
         requires { (index : ℕ) → slice_get self.now.hashes index ≡ Some hash → F.pre matches.now index }
         ensures found { IfFound result (λ index. slice_get self.now.hashes index ≡ Some hash) }
@@ -140,6 +144,7 @@ impl Table {
     /// ```
     /// let bucket = table.insertion_probe(11, &mut tally); // bucket 0: bucket 3 is full, and the first follows the last
     /// ```
+    #[inline(always)]
     pub fn insertion_probe(&self, hash: u64, tally: &mut Tally) -> usize
         requires { 0 < self.now.buckets }
         ensures vacancy { IsVacancyIn (contents_of self.now) hash result }
@@ -154,6 +159,7 @@ impl Table {
     /// ```
     /// table.add_at(11, bucket); // entry index 1 has hash 11
     /// ```
+    #[inline(always)]
     pub fn add_at(&mut self, hash: u64, bucket: usize)
         requires capacity { length self.old.hashes < capacity_of self.old.buckets }
         requires vacancy { IsVacancyIn (contents_of self.old) hash bucket }
@@ -171,6 +177,7 @@ impl Table {
     /// ```
     /// table.add(7, &mut tally); // entry index 0 has hash 7
     /// ```
+    #[inline(always)]
     pub fn add(&mut self, hash: u64, tally: &mut Tally)
         requires { length self.old.hashes < capacity_of self.old.buckets }
         ensures hashes { self.new.hashes ≡ self.old.hashes ++ hash ∷ [] }
@@ -188,6 +195,7 @@ impl Table {
     /// ```
     /// let hash = table.remove(0); // 7; the pair of hash 11 has index 0 now
     /// ```
+    #[inline]
     pub fn remove(&mut self, index: usize) -> u64
         requires { index < length self.old.hashes }
         ensures hash { slice_get self.old.hashes index ≡ Some result }

@@ -32,6 +32,7 @@ impl Tally {
     /// ```
     /// let mut tally = Tally::new();
     /// ```
+    #[inline(always)]
     pub fn new() -> Tally
         ensures { result ≡ no_work }
     {
@@ -43,6 +44,7 @@ impl Tally {
     }
 
     // One more key was hashed.
+    #[inline(always)]
     pub(crate) fn add_asked(&mut self)
         ensures { self.new ≡ one_asked self.old }
     {
@@ -51,6 +53,7 @@ impl Tally {
     }
 
     // Two more keys were compared.
+    #[inline(always)]
     pub(crate) fn add_compared(&mut self)
         ensures { self.new ≡ one_compared self.old }
     {
@@ -59,6 +62,7 @@ impl Tally {
     }
 
     // One more bucket was read.
+    #[inline(always)]
     pub(crate) fn add_looked(&mut self)
         ensures { self.new ≡ one_looked self.old }
     {

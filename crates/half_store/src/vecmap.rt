@@ -60,6 +60,7 @@ impl<K, V> VecMap<K, V> {
     /// ```
     /// let count = ages.len(); // 2
     /// ```
+    #[inline(always)]
     pub fn len(&self) -> usize
         ensures len { result ≡ length self.now.pairs }
         ensures fits { length self.now.pairs ≤ self.now.capacity }
@@ -73,6 +74,7 @@ impl<K, V> VecMap<K, V> {
     /// ```
     /// let keys = ages.keys(); // 1 and 2
     /// ```
+    #[inline(always)]
     pub fn keys(&self) -> &[K]
         ensures keys { result.now ≡ keys_of self.now.pairs }
         ensures small { length self.now.pairs < 2 ^ 63 }
@@ -85,6 +87,7 @@ impl<K, V> VecMap<K, V> {
     /// ```
     /// let age = *ages.value_at(1); // 41
     /// ```
+    #[inline(always)]
     pub fn value_at(&self, index: usize) -> &V
         requires { index < length self.now.pairs }
         ensures { slice_get (values_of self.now.pairs) index ≡ Some result.now }
@@ -97,6 +100,7 @@ impl<K, V> VecMap<K, V> {
     /// ```
     /// *ages.value_at_mut(1) = 42;
     /// ```
+    #[inline(always)]
     pub fn value_at_mut(&mut self, index: usize) -> &mut V
         requires { index < length self.old.pairs }
         ensures* writes_back { sem 𝓛 (LendsValue K.row V.row self.entry index result) }
@@ -110,6 +114,7 @@ impl<K, V> VecMap<K, V> {
     /// ```
     /// let before = ages.replace_value(1, 43); // 42
     /// ```
+    #[inline(always)]
     pub fn replace_value(&mut self, index: usize, value: V) -> V
         requires { index < length self.old.pairs }
         ensures old { slice_get (values_of self.old.pairs) index ≡ Some result }
@@ -124,6 +129,7 @@ impl<K, V> VecMap<K, V> {
     /// ages.push(1, 36);
     /// ages.push(2, 41);
     /// ```
+    #[inline(always)]
     pub fn push(&mut self, key: K, value: V)
         requires { length self.old.pairs < self.old.capacity }
         ensures { self.new ≡ with_pairs self.old (self.old.pairs ++ (key, value) ∷ []) }
@@ -137,6 +143,7 @@ impl<K, V> VecMap<K, V> {
     /// ```
     /// let pair = ages.swap_remove(0); // 1 and 36; the pair of 2 has index 0 now
     /// ```
+    #[inline(always)]
     pub fn swap_remove(&mut self, index: usize) -> (K, V)
         requires { index < length self.old.pairs }
         ensures taken { slice_get self.old.pairs index ≡ Some result }
@@ -169,6 +176,7 @@ impl<K: Eq, V> VecMap<K, V> {
     /// ```
     /// let index = ages.find(&2, &mut tally); // index 1, found by two comparisons
     /// ```
+    #[inline]
     pub fn find(&self, key: &K, tally: &mut Tally) -> Option<usize>
         ensures index { result ≡ index_of (K.eq key.now) (keys_of self.now.pairs) }
         ensures work { tally.new ≡ compared_more (first_match_cost result (length self.now.pairs)) tally.old }

@@ -102,6 +102,7 @@ impl<K: Eq + Hash, V, S: BuildHasher, L: Limit> LimitedHashMap<K, V, S, L> {
     /// ```
     /// let count = ages.len(); // 2
     /// ```
+    #[inline(always)]
     pub fn len(&self) -> usize
         ensures len { result ≡ length self.now.pairs }
         ensures small { result < 2 ^ 63 }
@@ -115,6 +116,7 @@ impl<K: Eq + Hash, V, S: BuildHasher, L: Limit> LimitedHashMap<K, V, S, L> {
     /// ```
     /// let none = ages.is_empty(); // false
     /// ```
+    #[inline(always)]
     pub fn is_empty(&self) -> bool
         ensures { IsTrue result ↔ (length self.now.pairs ≡ 0) }
     {
@@ -126,6 +128,7 @@ impl<K: Eq + Hash, V, S: BuildHasher, L: Limit> LimitedHashMap<K, V, S, L> {
     /// ```
     /// let hash = ages.hasher().hash_one(&1u64); // the hash that a table of these ages stores for 1
     /// ```
+    #[inline(always)]
     pub fn hasher(&self) -> &S
         ensures { result.now ≡ self.now.builder }
     {
@@ -137,6 +140,7 @@ impl<K: Eq + Hash, V, S: BuildHasher, L: Limit> LimitedHashMap<K, V, S, L> {
     /// ```
     /// let is_vector = ages.is_vec(); // true: two pairs, and the limit is 32
     /// ```
+    #[inline(always)]
     pub fn is_vec(&self) -> bool
         ensures form { result ≡ self.now.is_vec }
         ensures state { IsState K.eq L.LIMIT self.now }
@@ -149,6 +153,7 @@ impl<K: Eq + Hash, V, S: BuildHasher, L: Limit> LimitedHashMap<K, V, S, L> {
     /// ```
     /// let is_table = ages.is_map(); // false
     /// ```
+    #[inline(always)]
     pub fn is_map(&self) -> bool
         ensures { IsTrue result ↔ (self.now.is_vec ≡ false) }
     {
@@ -160,6 +165,7 @@ impl<K: Eq + Hash, V, S: BuildHasher, L: Limit> LimitedHashMap<K, V, S, L> {
     /// ```
     /// let capacity = ages.capacity(); // 4, since it was made for so many
     /// ```
+    #[inline(always)]
     pub fn capacity(&self) -> usize
         ensures { result ≡ self.now.capacity }
     {

@@ -15,6 +15,7 @@ pub(crate) trait Buckets {
 impl Buckets for &[Option<u64>] {
     ghost slots = { λ s. s.now };
 
+    #[inline(always)]
     fn hash_at(&self, bucket: usize) -> Option<u64> {
         self[bucket]
     }

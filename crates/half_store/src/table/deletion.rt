@@ -9,6 +9,7 @@ ghost use Rattle.half_store.specs.TableLayout.{InStep, HasGap};
 use super::probe::{home, next};
 
 /// The probe distance from one bucket up to another; the first follows the last.
+#[inline(always)]
 fn probe_distance(from: usize, to: usize, count: usize) -> usize
     requires from_within { from < count }
     requires to_within { to < count }
@@ -22,6 +23,7 @@ fn probe_distance(from: usize, to: usize, count: usize) -> usize
 }
 
 /// Moves the pair in one bucket to another, which is empty.
+#[inline(always)]
 fn move_pair(
     hashes: &mut [Option<u64>],
     entry_of: &mut [usize],

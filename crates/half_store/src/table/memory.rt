@@ -33,6 +33,8 @@ impl Table {
     /// ```
     /// let table = Table::from_hashes(alloc, &[7, 11], 4)?; // two pairs, capacity 6
     /// ```
+    #[cold]
+    #[inline(never)]
     pub fn from_hashes(alloc: Global, hashes: &[u64], needed: usize) -> Result<Table, Refusal>
         requires { length hashes.now ≤ needed }
         ensures hashes { IfOk result (λ t. t.hashes ≡ hashes.now) }
@@ -158,6 +160,8 @@ impl Table {
     }
 
     // Probes all pairs anew in so many buckets, by their stored hashes.
+    #[cold]
+    #[inline(never)]
     fn rebuild(&mut self, buckets: usize) -> Result<(), AllocError>
         requires count { IsBucketCount buckets }
         requires capacity { length self.old.hashes ≤ capacity_of buckets }
@@ -179,6 +183,7 @@ impl Table {
     }
 
     // The stored hash of a pair.
+    #[inline(always)]
     fn hash_of(&self, index: usize) -> u64
         requires { index < length self.now.hashes }
         ensures { slice_get self.now.hashes index ≡ Some result }

@@ -22,6 +22,7 @@ pub enum Probe {
 }
 
 /// The home bucket of a hash, where each probe for it begins.
+#[inline(always)]
 pub(crate) fn home(hash: u64, count: usize) -> usize
     requires count { IsBucketCount count }
     requires some { 0 < count }
@@ -32,6 +33,7 @@ pub(crate) fn home(hash: u64, count: usize) -> usize
 }
 
 /// The bucket after this one; the first follows the last.
+#[inline(always)]
 pub(crate) fn next(bucket: usize, count: usize) -> usize
     requires { bucket < count }
     ensures value { result ≡ bucket_after count bucket 1 }
@@ -43,6 +45,7 @@ pub(crate) fn next(bucket: usize, count: usize) -> usize
 /// Probes up from the home bucket to a pair that is accepted, or else to the first empty bucket.
 ///
 /// `matches` is called with the entry indices of those pairs alone whose whole hash is equal.
+#[inline(always)]
 pub(crate) fn search<P: Buckets, F: Fn(usize) -> bool>(
     buckets: &P,
     entry_of: &[usize],
@@ -89,6 +92,7 @@ pub(crate) fn search<P: Buckets, F: Fn(usize) -> bool>(
 }
 
 /// Probes up from the home bucket to the first empty bucket.
+#[inline(always)]
 pub(crate) fn first_empty<P: Buckets>(
     buckets: &P,
     count: usize,

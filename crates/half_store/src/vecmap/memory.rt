@@ -37,6 +37,7 @@ impl<K, V> VecMap<K, V> {
     /// ```
     /// let capacity = ages.capacity(); // 2
     /// ```
+    #[inline(always)]
     pub fn capacity(&self) -> usize
         ensures { result ≡ self.now.capacity }
     {
@@ -68,6 +69,7 @@ impl<K, V> VecMap<K, V> {
     /// ```
     /// ages.reserve(10)?; // capacity 10
     /// ```
+    #[inline(never)]
     pub fn reserve(&mut self, needed: usize) -> Result<(), AllocError>
         ensures pairs { self.new.pairs ≡ self.old.pairs }
         ensures ok { OnOk result (self.new.capacity ≡ max self.old.capacity needed) }
@@ -89,6 +91,7 @@ impl<K, V> VecMap<K, V> {
     /// ```
     /// ages.grow(3, 5)?; // capacity 4: twice what it was
     /// ```
+    #[inline(never)]
     pub fn grow(&mut self, needed: usize, limit: usize) -> Result<(), Refusal>
         requires { needed ≤ limit }
         ensures pairs { self.new.pairs ≡ self.old.pairs }

@@ -5,6 +5,7 @@ ghost use Rattle.half_store.specs.Work.{compared_more, first_match_cost};
 use crate::{Tally, counting};
 
 /// The first index below `len` that matches.
+#[inline(always)]
 pub(crate) fn first_match<F: Fn(usize) -> bool>(
     len: usize,
     matches: &F,

@@ -19,6 +19,7 @@ use std::hash::{BuildHasher, Hash};
 
 impl<K: Eq + Hash, V, S: BuildHasher, L: Limit> LimitedHashMap<K, V, S, L> {
     /// Where a pair may be added whose key is not held. In a table the key is hashed; nothing is searched.
+    #[inline(always)]
     pub(crate) fn unsearched(&self, key: &K, tally: &mut Tally) -> Vacancy
         ensures vacant { IsVacancy self.now.is_vec (contents_of self.now)
             (key_hash S.BuildHasher S.Hasher.Hasher K.hash_input self.now.builder key.now)
@@ -33,6 +34,7 @@ impl<K: Eq + Hash, V, S: BuildHasher, L: Limit> LimitedHashMap<K, V, S, L> {
     }
 
     /// Replaces the value of the pair at this index, and returns the old one.
+    #[inline(always)]
     pub(crate) fn set_at(&mut self, index: usize, value: V) -> V
         requires { index < length self.old.pairs }
         ensures old { slice_get (values_of self.old.pairs) index ≡ Some result }
@@ -43,6 +45,7 @@ impl<K: Eq + Hash, V, S: BuildHasher, L: Limit> LimitedHashMap<K, V, S, L> {
     }
 
     /// Adds a pair whose key is not held, and grows first where no capacity is left.
+    #[inline(always)]
     pub(crate) fn add(
         &mut self,
         key: K,
@@ -79,6 +82,7 @@ impl<K: Eq + Hash, V, S: BuildHasher, L: Limit> LimitedHashMap<K, V, S, L> {
     }
 
     // Adds a pair whose key is not held. The capacity is enough for it.
+    #[inline(always)]
     fn push(&mut self, key: K, value: V, vacancy: Vacancy, tally: &mut Tally)
         requires capacity { length self.old.pairs < self.old.capacity }
         requires absent { holds K.eq self.old.pairs key ≡ false }

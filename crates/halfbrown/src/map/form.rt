@@ -44,6 +44,7 @@ impl Form {
         Form { table: Some(table) }
     }
 
+    #[inline(always)]
     pub(crate) fn is_vec(&self) -> bool
         ensures { result ≡ self.now.is_vec }
     {
@@ -51,6 +52,7 @@ impl Form {
     }
 
     /// The table, where it is one.
+    #[inline(always)]
     pub(crate) fn table(&self) -> Option<&Table>
         ensures { form_of (option_copied result) ≡ self.now }
     {
@@ -58,6 +60,7 @@ impl Form {
     }
 
     /// The capacity of a table; 0 for a vector.
+    #[inline(always)]
     pub(crate) fn capacity(&self) -> usize
         ensures value { result ≡ capacity_of self.now.buckets }
         ensures within { length self.now.hashes ≤ result }
@@ -111,6 +114,7 @@ impl Form {
     }
 
     /// Stores the hash of a pair that is added. A vector stores none.
+    #[inline(always)]
     pub(crate) fn add(&mut self, vacancy: Vacancy, tally: &mut Tally)
         requires capacity { self.old.is_vec ≡ false → length self.old.hashes < capacity_of self.old.buckets }
         requires vacant { IsVacancy self.old.is_vec self.old.contents (stored_hash vacancy) vacancy }
@@ -132,6 +136,7 @@ impl Form {
     }
 
     /// Removes the stored hash of the pair at this index. A vector stores none.
+    #[inline(always)]
     pub(crate) fn remove(&mut self, index: usize)
         requires { self.old.is_vec ≡ false → index < length self.old.hashes }
         ensures form { self.new.is_vec ≡ self.old.is_vec }

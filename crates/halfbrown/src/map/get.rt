@@ -22,6 +22,7 @@ impl<K: Eq + Hash, V, S: BuildHasher, L: Limit> LimitedHashMap<K, V, S, L> {
     /// ```
     /// let age = ages.get(&1).copied(); // 36
     /// ```
+    #[inline(always)]
     pub fn get(&self, key: &K) -> Option<&V>
         ensures { option_copied result ≡ value_of K.eq self.now.pairs key.now }
     {
@@ -34,6 +35,7 @@ impl<K: Eq + Hash, V, S: BuildHasher, L: Limit> LimitedHashMap<K, V, S, L> {
     /// ```
     /// let age = ages.get_counted(&1, &mut tally).copied(); // 36
     /// ```
+    #[inline(always)]
     pub fn get_counted(&self, key: &K, tally: &mut Tally) -> Option<&V>
         ensures value { option_copied result ≡ value_of K.eq self.now.pairs key.now }
         ensures cost { SearchCosts K.eq (key_hash S.BuildHasher S.Hasher.Hasher K.hash_input) self.now key.now
@@ -53,6 +55,7 @@ impl<K: Eq + Hash, V, S: BuildHasher, L: Limit> LimitedHashMap<K, V, S, L> {
     ///     *age = 37;
     /// }
     /// ```
+    #[inline(always)]
     pub fn get_mut(&mut self, key: &K) -> Option<&mut V>
         ensures* writes_back { sem 𝓛 (LendsValueOf K.row V.row S.row L.row S.Hasher.row K.Hash S.BuildHasher
             S.Hasher.Hasher L.Limit self.entry key.now result) }
@@ -68,6 +71,7 @@ impl<K: Eq + Hash, V, S: BuildHasher, L: Limit> LimitedHashMap<K, V, S, L> {
     ///     *age = 38;
     /// }
     /// ```
+    #[inline(always)]
     pub fn get_mut_counted(&mut self, key: &K, tally: &mut Tally) -> Option<&mut V>
         ensures* writes_back { sem 𝓛 (LendsValueOf K.row V.row S.row L.row S.Hasher.row K.Hash S.BuildHasher
             S.Hasher.Hasher L.Limit self.entry key.now result) }
@@ -87,6 +91,7 @@ impl<K: Eq + Hash, V, S: BuildHasher, L: Limit> LimitedHashMap<K, V, S, L> {
     /// ```
     /// let known = ages.contains_key(&1); // true
     /// ```
+    #[inline(always)]
     pub fn contains_key(&self, key: &K) -> bool
         ensures { result ≡ holds K.eq self.now.pairs key.now }
     {
@@ -98,6 +103,7 @@ impl<K: Eq + Hash, V, S: BuildHasher, L: Limit> LimitedHashMap<K, V, S, L> {
     /// ```
     /// let known = ages.contains_key_counted(&2, &mut tally); // false
     /// ```
+    #[inline(always)]
     pub fn contains_key_counted(&self, key: &K, tally: &mut Tally) -> bool
         ensures held { result ≡ holds K.eq self.now.pairs key.now }
         ensures cost { SearchCosts K.eq (key_hash S.BuildHasher S.Hasher.Hasher K.hash_input) self.now key.now
@@ -119,6 +125,7 @@ impl<K: Eq + Hash, V, S: BuildHasher, L: Limit> LimitedHashMap<K, V, S, L> {
     ///     0
     /// }; // 38
     /// ```
+    #[inline(always)]
     pub fn index_counted(&self, key: &K, tally: &mut Tally) -> &V
         requires { IsTrue (holds K.eq self.now.pairs key.now) }
         ensures value { value_of K.eq self.now.pairs key.now ≡ Some result.now }
@@ -132,6 +139,7 @@ impl<K: Eq + Hash, V, S: BuildHasher, L: Limit> LimitedHashMap<K, V, S, L> {
     }
 
     // The value of the pair at this index, to be written.
+    #[inline(always)]
     fn value_at_mut(&mut self, index: usize) -> &mut V
         requires { index < length self.old.pairs }
         ensures* writes_back { sem 𝓛 (LendsValueAt K.row V.row S.row L.row S.Hasher.row K.Hash S.BuildHasher
@@ -154,6 +162,7 @@ impl<'a, K: Eq + Hash, V, S: BuildHasher, L: Limit> Index<&'a K> for LimitedHash
     /// ```
     /// let age = if ages.contains_key(&1) { ages[&1] } else { 0 }; // 38
     /// ```
+    #[inline(always)]
     fn index(&self, key: &'a K) -> &V {
         self.index_counted(key, &mut Tally::new())
     }

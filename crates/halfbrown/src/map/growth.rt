@@ -20,6 +20,7 @@ impl<K: Eq + Hash, V, S: BuildHasher, L: Limit> LimitedHashMap<K, V, S, L> {
     /// ```
     /// ages.reserve(20)?; // twenty more ages need no more memory
     /// ```
+    #[inline(never)]
     pub fn reserve(&mut self, additional: usize) -> Result<(), Refusal>
         ensures ok { OnOk result (Reserves L.LIMIT self.old additional self.new) }
         ensures refused { IfErr result (IsRefusal (reserve_needs L.LIMIT self.old

@@ -31,6 +31,7 @@ impl<K: Eq + Hash, V, S: BuildHasher, L: Limit> LimitedHashMap<K, V, S, L> {
     /// ```
     /// let before = ages.insert(1, 37)?; // 36
     /// ```
+    #[inline]
     pub fn insert(&mut self, key: K, value: V) -> Result<Option<V>, Refused<K, V>>
     where
         K: Drop,
@@ -50,6 +51,7 @@ impl<K: Eq + Hash, V, S: BuildHasher, L: Limit> LimitedHashMap<K, V, S, L> {
     /// let mut tally = Tally::new();
     /// let before = ages.insert_counted(1, 38, &mut tally)?; // 37
     /// ```
+    #[inline]
     pub fn insert_counted(
         &mut self,
         key: K,
@@ -88,6 +90,7 @@ impl<K: Eq + Hash, V, S: BuildHasher, L: Limit> LimitedHashMap<K, V, S, L> {
     ///     ages.insert_nocheck(2, 41)?;
     /// }
     /// ```
+    #[inline]
     pub fn insert_nocheck(&mut self, key: K, value: V) -> Result<(), Refused<K, V>>
         requires { holds K.eq self.old.pairs key ≡ false }
         ensures ok { OnOk result (Puts L.LIMIT K.eq self.old key value (unchecked_needs L.LIMIT self.old) self.new) }
@@ -105,6 +108,7 @@ impl<K: Eq + Hash, V, S: BuildHasher, L: Limit> LimitedHashMap<K, V, S, L> {
     ///     ages.insert_nocheck_counted(3, 5, &mut tally)?;
     /// }
     /// ```
+    #[inline]
     pub fn insert_nocheck_counted(
         &mut self,
         key: K,

@@ -29,6 +29,7 @@ pub(crate) enum Vacancy {
 
 impl Vacancy {
     /// The same with its bucket not known, since growth has moved the empty ones.
+    #[inline(always)]
     pub(crate) fn unprobed(self) -> Vacancy
         ensures { result ≡ unprobed self }
     {
@@ -41,6 +42,7 @@ impl Vacancy {
 
 impl<K: Eq + Hash, V, S: BuildHasher, L: Limit> LimitedHashMap<K, V, S, L> {
     /// Searches for a key: in a vector by `==` alone, in a table among the keys of its hash.
+    #[inline(always)]
     pub(crate) fn find(&self, key: &K, tally: &mut Tally) -> Lookup
         ensures found { LooksUp K.eq (key_hash S.BuildHasher S.Hasher.Hasher K.hash_input) self.now key.now result }
         ensures cost { SearchCosts K.eq (key_hash S.BuildHasher S.Hasher.Hasher K.hash_input) self.now key.now

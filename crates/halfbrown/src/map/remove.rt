@@ -20,6 +20,7 @@ impl<K: Eq + Hash, V, S: BuildHasher, L: Limit> LimitedHashMap<K, V, S, L> {
     /// ```
     /// let age = ages.remove(&1); // 36
     /// ```
+    #[inline]
     pub fn remove(&mut self, key: &K) -> Option<V>
     where
         K: Drop,
@@ -36,6 +37,7 @@ impl<K: Eq + Hash, V, S: BuildHasher, L: Limit> LimitedHashMap<K, V, S, L> {
     /// ```
     /// let age = ages.remove_counted(&2, &mut tally); // 41
     /// ```
+    #[inline]
     pub fn remove_counted(&mut self, key: &K, tally: &mut Tally) -> Option<V>
     where
         K: Drop,
@@ -56,6 +58,7 @@ impl<K: Eq + Hash, V, S: BuildHasher, L: Limit> LimitedHashMap<K, V, S, L> {
     /// ```
     /// let pair = ages.remove_entry(&3); // 3 and 5
     /// ```
+    #[inline]
     pub fn remove_entry(&mut self, key: &K) -> Option<(K, V)>
         ensures pair { result ≡ pair_of K.eq self.old.pairs key.now }
         ensures after { WithPairs self.old (take_out K.eq self.old.pairs key.now) self.new }
@@ -70,6 +73,7 @@ impl<K: Eq + Hash, V, S: BuildHasher, L: Limit> LimitedHashMap<K, V, S, L> {
     /// ```
     /// let pair = ages.remove_entry_counted(&4, &mut tally); // 4 and 8
     /// ```
+    #[inline]
     pub fn remove_entry_counted(&mut self, key: &K, tally: &mut Tally) -> Option<(K, V)>
         ensures pair { result ≡ pair_of K.eq self.old.pairs key.now }
         ensures after { WithPairs self.old (take_out K.eq self.old.pairs key.now) self.new }
@@ -85,6 +89,7 @@ impl<K: Eq + Hash, V, S: BuildHasher, L: Limit> LimitedHashMap<K, V, S, L> {
     }
 
     // Removes the pair at this index.
+    #[inline]
     fn take_at(&mut self, index: usize) -> (K, V)
         requires { index < length self.old.pairs }
         ensures taken { slice_get self.old.pairs index ≡ Some result }

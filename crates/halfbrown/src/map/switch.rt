@@ -16,6 +16,7 @@ use std::hash::{BuildHasher, Hash};
 
 impl<K: Eq + Hash, V, S: BuildHasher, L: Limit> LimitedHashMap<K, V, S, L> {
     /// Makes a full vector a table. It gets capacity for all pairs and one more first, and only then hashes the keys.
+    #[inline(always)]
     pub(crate) fn switch_if_full(&mut self, tally: &mut Tally) -> Result<(), Refusal>
         ensures pairs { self.new.pairs ≡ self.old.pairs }
         ensures hasher { self.new.builder ≡ self.old.builder }
@@ -39,6 +40,8 @@ impl<K: Eq + Hash, V, S: BuildHasher, L: Limit> LimitedHashMap<K, V, S, L> {
         self.switch(tally)
     }
 
+    #[cold]
+    #[inline(never)]
     fn switch(&mut self, tally: &mut Tally) -> Result<(), Refusal>
         requires { is_full L.LIMIT self.old ≡ true }
         ensures pairs { self.new.pairs ≡ self.old.pairs }
