@@ -16,25 +16,20 @@ use std::alloc::Global;
 use std::env;
 
 const USAGE: &str = "half_bench times ROUNDS
-    prints a table of times, as ratios
-half_bench memory limit_0|limit_32|std|indexmap u64|String COUNT
-    fills a map with COUNT pairs, and prints how many it holds";
+    prints the times of the maps beside each other, by the median of so many rounds
+half_bench memory limit_0|limit_32|std|indexmap u64|String SIZE COPIES
+    fills so many maps with so many pairs, prints how many maps there are, and waits for the end of its input";
 
 fn main(rt: HostRuntime) -> Result<(), Failure> {
     let words: Vec<String> = env::args(&rt)?.skip(1).collect(rt.alloc())?;
     match words.as_slice() {
-        [command, rounds] if command.as_str() == "times" => {
-            table::print(&rt, number(rounds.as_str())?)
-        }
-        [command, map, keys, count] if command.as_str() == "memory" => {
-            let held = fill(
-                rt.alloc(),
-                map.as_str(),
-                keys.as_str(),
-                number(count.as_str())?,
-            )?;
-            println!(rt; "{held}")?;
-            Ok(())
+        [command, rounds] if command.as_str() == "times" => { table::print(&rt, number(rounds)?) }
+        [command, map, keys, size, copies] if command.as_str() == "memory" => {
+            let size = number(size)?;
+            let copies = number(copies)?;
+            let count = fill(rt.alloc(), map.as_str(), keys.as_str(), size, copies)?;
+            println!(rt; "{count}")?;
+            wait_for_end(&rt)
         }
         _ => {
             println!(rt; "{USAGE}")?;
@@ -43,25 +38,46 @@ fn main(rt: HostRuntime) -> Result<(), Failure> {
     }
 }
 
-fn number(text: &str) -> Result<u64, Failure> {
-    text.parse().ok().ok_or(Failure::Arguments)
+fn number(word: &String) -> Result<u64, Failure> {
+    word.as_str().parse().ok().ok_or(Failure::Arguments)
 }
 
-// How many pairs a new map holds that so many were inserted into.
-fn fill(alloc: Global, map: &str, keys: &str, count: u64) -> Result<usize, Failure> {
+fn wait_for_end(rt: &(impl Input + AllocGlobal)) -> Result<(), Failure> {
+    for line in rt.lines(rt.alloc()) {
+        line?;
+    }
+    Ok(())
+}
+
+// Fills maps, and returns how many.
+fn fill(alloc: Global, map: &str, keys: &str, size: u64, copies: u64) -> Result<usize, Failure> {
     match keys {
-        "u64" => fill_with::<u64>(alloc, map, count),
-        "String" => fill_with::<String>(alloc, map, count),
+        "u64" => fill_by_keys::<u64>(alloc, map, size, copies),
+        "String" => fill_by_keys::<String>(alloc, map, size, copies),
         _ => Err(Failure::Arguments),
     }
 }
 
-fn fill_with<K: Key>(alloc: Global, map: &str, count: u64) -> Result<usize, Failure> {
+fn fill_by_keys<K: Key>(
+    alloc: Global,
+    map: &str,
+    size: u64,
+    copies: u64,
+) -> Result<usize, Failure> {
     match map {
-        "limit_0" => Ok(filled::<K, AtLimit<K, 0>>(alloc, count)?.len()),
-        "limit_32" => Ok(filled::<K, AtLimit<K, 32>>(alloc, count)?.len()),
-        "std" => Ok(filled::<K, OfStd<K>>(alloc, count)?.len()),
-        "indexmap" => Ok(filled::<K, InOrder<K>>(alloc, count)?.len()),
+        "limit_0" => fill_maps::<K, AtLimit<K, 0>>(alloc, size, copies),
+        "limit_32" => fill_maps::<K, AtLimit<K, 32>>(alloc, size, copies),
+        "std" => fill_maps::<K, OfStd<K>>(alloc, size, copies),
+        "indexmap" => fill_maps::<K, InOrder<K>>(alloc, size, copies),
         _ => Err(Failure::Arguments),
     }
+}
+
+fn fill_maps<K: Key, M: Map<K>>(alloc: Global, size: u64, copies: u64) -> Result<usize, Failure> {
+    let mut maps = Vec::new(alloc);
+    for _ in 0..copies {
+        let map: M = filled(alloc, size)?;
+        maps.push(map)?;
+    }
+    Ok(maps.len())
 }
