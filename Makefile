@@ -2,9 +2,10 @@
 # make try < FILE   runs halfmap on the lines of FILE at once, with nothing proved
 # make test         proves everything from nothing, tries the core edits, and runs every test and program
 # make edits        tries the other edits that the prover must refuse, several at a time
+# make bench        proves and builds half_bench and halfmap, where something has changed, and prints the tables of docs/SPEED.md
 # make fmt          lays out the files of every crate
 
-.PHONY: help run try test edits fmt
+.PHONY: help run try test edits bench fmt
 
 help:
 	@sed -n 's/^# //p' Makefile
@@ -21,6 +22,12 @@ test:
 
 edits:
 	@tests/edits.py
+
+# The tables have the medians of so many rounds.
+ROUNDS = 9
+
+bench:
+	@tests/bench.py $(ROUNDS)
 
 fmt:
 	@for crate in crates/*/; do (cd "$$crate" && rt fmt) || exit 1; done

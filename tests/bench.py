@@ -35,13 +35,13 @@ def build(name):
 
 def print_table(heads, rows):
     print("| " + " | ".join(heads) + " |")
-    print("|---" * len(heads) + "|")
+    print("|---" + "|--:" * (len(heads) - 1) + "|")
     for row in rows:
         print("| " + " | ".join(str(cell) for cell in row) + " |", flush=True)
 
 
 def peak_bytes(program, words):
-    """The most memory that the program had at once. It waits for the end of its input meanwhile."""
+    """The most memory that the program had at once. It waits for the end of its input, so that this can be read."""
     running = subprocess.Popen(
         [program, *map(str, words)], stdin=subprocess.PIPE, stdout=subprocess.PIPE, text=True
     )
@@ -55,15 +55,12 @@ def peak_bytes(program, words):
 
 
 def memory_rows(program):
+    empty = peak_bytes(program, ["memory", "std", "u64", 0, 0])
     for keys in ["u64", "String"]:
         for size in SIZES:
             copies = PAIRS // size
-            cells = []
-            for kind in MAPS:
-                empty = peak_bytes(program, ["memory", kind, keys, 0, copies])
-                full = peak_bytes(program, ["memory", kind, keys, size, copies])
-                cells.append(round((full - empty) / (size * copies)))
-            yield [keys, f"{size:,}", f"{copies:,}", *cells]
+            peaks = [peak_bytes(program, ["memory", kind, keys, size, copies]) for kind in MAPS]
+            yield [keys, size, copies, *(round((peak - empty) / (size * copies)) for peak in peaks)]
 
 
 def write_lines(folder, name, lines):

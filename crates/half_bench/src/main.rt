@@ -16,7 +16,7 @@ use std::alloc::Global;
 use std::env;
 
 const USAGE: &str = "half_bench times ROUNDS
-    prints the times of the maps beside each other, by the median of so many rounds
+    prints the times of the maps as ratios, each the median of so many rounds
 half_bench memory limit_0|limit_32|std|indexmap u64|String SIZE COPIES
     fills so many maps with so many pairs, prints how many maps there are, and waits for the end of its input";
 

@@ -1,4 +1,6 @@
 //! Rounds: the four maps in turn, on the same work.
+ghost use Rattle.std.specs.Prelude.{◌<◌};
+
 use crate::failure::Failure;
 use crate::keys::Key;
 use crate::maps::{AtLimit, InOrder, OfStd};
@@ -51,7 +53,7 @@ impl Round {
             Theirs::Std => self.std.of(operation),
             Theirs::IndexMap => self.indexmap.of(operation),
         };
-        Ratio(ours.saturating_mul(100) / theirs.max(1))
+        Ratio(hundredths(ours, theirs.max(1)))
     }
 
     fn agrees(&self) -> bool {
@@ -60,6 +62,13 @@ impl Round {
             && self.limit_0.answers == answers
             && self.limit_32.answers == answers
     }
+}
+
+// How many hundredths of the second time the first one is, to the nearest.
+fn hundredths(ours: u64, theirs: u64) -> u64
+    requires { 0 < theirs }
+{
+    ours.saturating_mul(100).saturating_add(theirs / 2) / theirs
 }
 
 /// So many rounds at this size. Each begins with the next map.

@@ -7,9 +7,21 @@ use std::alloc::Global;
 use std::fmt;
 use std::time::CpuClock;
 
-const SIZES: [u64; 7] = [4, 16, 33, 100, 1_000, 100_000, 1_000_000];
+// Texts in maps of the last size would take most of the time and the memory.
+const SIZES_OF_NUMBERS: [u64; 7] = [4, 16, 33, 100, 1_000, 100_000, 1_000_000];
 
-const MOST_TEXTS: u64 = 100_000;
+const SIZES_OF_TEXTS: [u64; 6] = [4, 16, 33, 100, 1_000, 100_000];
+
+const HEAD: &str =
+    "| operation | keys | pairs | limit 0 to std | limit 0 to indexmap | limit 32 to std | limit 32 to indexmap |
+|---|---|--:|--:|--:|--:|--:|";
+
+/// The rounds at one size.
+#[derive(Drop)]
+struct Timed {
+    size: u64,
+    rounds: Vec<Round>,
+}
 
 impl fmt::Display for Operation {
     fn fmt<W: fmt::Write>(&self, f: &mut fmt::Formatter<W>) -> fmt::Result {
@@ -22,32 +34,22 @@ impl fmt::Display for Operation {
     }
 }
 
-/// Prints the table, each row the medians of so many rounds.
+/// Prints the table. Each ratio is the median of so many rounds.
 pub(crate) fn print(
     rt: &(impl Print + CpuClock + AllocGlobal),
     rounds: u64,
 ) -> Result<(), Failure> {
-    println!(rt;
-        "| operation | keys | pairs | limit 0 to std | limit 0 to indexmap | limit 32 to std | limit 32 to indexmap |"
-    )?;
-    println!(rt; "|---|---|---|---|---|---|---|")?;
-    for size in SIZES {
-        print_rows::<u64>(rt, size, rounds)?;
-    }
-    for size in SIZES {
-        if size <= MOST_TEXTS {
-            print_rows::<String>(rt, size, rounds)?;
-        }
-    }
-    Ok(())
+    println!(rt; "{HEAD}")?;
+    print_keys::<u64>(rt, &SIZES_OF_NUMBERS, rounds)?;
+    print_keys::<String>(rt, &SIZES_OF_TEXTS, rounds)
 }
 
-fn print_rows<K: Key>(
+fn print_keys<K: Key>(
     rt: &(impl Print + CpuClock + AllocGlobal),
-    size: u64,
-    count: u64,
+    sizes: &[u64],
+    rounds: u64,
 ) -> Result<(), Failure> {
-    let rounds = run::<K>(rt, rt.alloc(), size, count)?;
+    let timed = time_sizes::<K>(rt, rt.alloc(), sizes, rounds)?;
     let operations = [
         Operation::Hit,
         Operation::Miss,
@@ -55,17 +57,49 @@ fn print_rows<K: Key>(
         Operation::Churn,
     ];
     for operation in operations {
-        let row = row(rt.alloc(), rounds.as_slice(), operation)?;
-        println!(rt; "| {operation} | {} | {size} | {row} |", K::NAME)?;
+        print_rows(rt, operation, K::NAME, timed.as_slice())?;
     }
     Ok(())
 }
 
-// The four ratios of an operation.
-fn row(alloc: Global, rounds: &[Round], operation: Operation) -> Result<String, Failure> {
-    let to_std = median(alloc, rounds, operation, Ours::Limit0, Theirs::Std)?;
-    let to_indexmap = median(alloc, rounds, operation, Ours::Limit0, Theirs::IndexMap)?;
-    let vector_to_std = median(alloc, rounds, operation, Ours::Limit32, Theirs::Std)?;
-    let vector_to_indexmap = median(alloc, rounds, operation, Ours::Limit32, Theirs::IndexMap)?;
-    Ok(format!(in alloc; "{to_std} | {to_indexmap} | {vector_to_std} | {vector_to_indexmap}")?)
+fn time_sizes<K: Key>(
+    rt: &impl CpuClock,
+    alloc: Global,
+    sizes: &[u64],
+    count: u64,
+) -> Result<Vec<Timed>, Failure> {
+    let mut timed = Vec::new(alloc);
+    for size in sizes {
+        let rounds = run::<K>(rt, alloc, *size, count)?;
+        timed.push(Timed {
+            size: *size,
+            rounds,
+        })?;
+    }
+    Ok(timed)
+}
+
+fn print_rows(
+    rt: &(impl Print + AllocGlobal),
+    operation: Operation,
+    keys: &str,
+    timed: &[Timed],
+) -> Result<(), Failure> {
+    for at_size in timed {
+        let size = at_size.size;
+        let ratios = ratios(rt.alloc(), at_size.rounds.as_slice(), operation)?;
+        println!(rt; "| {operation} | {keys} | {size} | {ratios} |")?;
+    }
+    Ok(())
+}
+
+// The last four columns.
+fn ratios(alloc: Global, rounds: &[Round], operation: Operation) -> Result<String, Failure> {
+    let table_to_std = median(alloc, rounds, operation, Ours::Limit0, Theirs::Std)?;
+    let table_to_indexmap = median(alloc, rounds, operation, Ours::Limit0, Theirs::IndexMap)?;
+    let usual_to_std = median(alloc, rounds, operation, Ours::Limit32, Theirs::Std)?;
+    let usual_to_indexmap = median(alloc, rounds, operation, Ours::Limit32, Theirs::IndexMap)?;
+    Ok(format!(in alloc;
+        "{table_to_std} | {table_to_indexmap} | {usual_to_std} | {usual_to_indexmap}"
+    )?)
 }
