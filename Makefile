@@ -23,9 +23,6 @@ test:
 edits:
 	@tests/edits.py
 
-# The tables have the medians of so many rounds.
-ROUNDS = 9
-
 bench:
 	@tests/bench.py $(ROUNDS)
 

@@ -2,7 +2,7 @@
 """What `make bench` runs: proves and builds half_bench and halfmap, where something has changed, and prints the tables of
 docs/SPEED.md: times, memory and halfmap.
 
-Its argument is the number of rounds.
+Its argument, as in `make bench ROUNDS=3`, is the number of rounds: 9 where there is none.
 """
 
 import os
@@ -112,7 +112,7 @@ def halfmap_rows(program, rounds):
 
 
 def main():
-    rounds = int(sys.argv[1])
+    rounds = int(sys.argv[1]) if len(sys.argv) > 1 else 9
     half_bench, halfmap = build("half_bench"), build("halfmap")
     print(f"\nTimes, by the median of {rounds} rounds:\n", flush=True)
     if subprocess.run([half_bench, "times", str(rounds)]).returncode:

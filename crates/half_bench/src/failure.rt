@@ -12,8 +12,8 @@ pub(crate) enum Failure {
     Memory,
     /// The clock, the arguments or the output failed.
     System(io::Error),
-    /// Two maps answered differently.
-    Disagreement,
+    /// A map answered otherwise than it has to, or than another.
+    WrongAnswer,
 }
 
 impl From<io::Error> for Failure {

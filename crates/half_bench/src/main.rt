@@ -31,10 +31,11 @@ fn main(rt: HostRuntime) -> Result<(), Failure> {
             println!(rt; "{count}")?;
             wait_for_end(&rt)
         }
-        _ => {
+        [] => {
             println!(rt; "{USAGE}")?;
             Ok(())
         }
+        _ => Err(Failure::Arguments),
     }
 }
 

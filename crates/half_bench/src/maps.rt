@@ -6,10 +6,13 @@ use indexmap::IndexMap;
 use std::alloc::Global;
 use std::collections::HashMap;
 
+/// Our map, at limit N.
 pub(crate) type AtLimit<K, const N: usize> = SizedHashMap<K, u64, DefaultHashBuilder, N>;
 
+/// The hash map of std.
 pub(crate) type OfStd<K> = HashMap<K, u64, DefaultHashBuilder>;
 
+/// A hash map that keeps its pairs in order, as ours does.
 pub(crate) type InOrder<K> = IndexMap<K, u64, DefaultHashBuilder>;
 
 /// A map from keys to numbers.

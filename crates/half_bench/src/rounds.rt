@@ -83,7 +83,7 @@ pub(crate) fn run<K: Key>(
     for first in 0..count {
         let round = run_one(rt, alloc, &work, first)?;
         if !round.agrees() {
-            return Err(Failure::Disagreement);
+            return Err(Failure::WrongAnswer);
         }
         rounds.push(round)?;
     }
@@ -108,7 +108,7 @@ fn run_one<K: Key>(
     Ok(round)
 }
 
-/// The median of the rounds' ratios.
+/// The median of the rounds' ratios. Of no rounds there is none.
 pub(crate) fn median(
     alloc: Global,
     rounds: &[Round],
@@ -121,5 +121,8 @@ pub(crate) fn median(
         .map(|round| round.ratio(operation, ours, theirs))
         .collect(alloc)?;
     ratios.sort_unstable();
-    Ok(ratios.get(ratios.len() / 2).copied().unwrap_or(Ratio(0)))
+    ratios
+        .get(ratios.len() / 2)
+        .copied()
+        .ok_or(Failure::Arguments)
 }

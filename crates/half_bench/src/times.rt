@@ -140,10 +140,9 @@ fn build<K: Key, M: Map<K>>(alloc: Global, keys: Vec<K>, size: u64) -> Result<u6
 fn exchange<K: Key, M: Map<K>>(map: &mut M, old: &[K], others: &mut [K]) -> Result<u64, Failure> {
     let mut sum = 0u64;
     for (key, other) in old.iter().zip(others) {
-        if let Some((key, value)) = map.take(key) {
-            map.insert(mem::replace(other, key), value)?;
-            sum = sum.wrapping_add(value);
-        }
+        let (key, value) = map.take(key).ok_or(Failure::WrongAnswer)?;
+        map.insert(mem::replace(other, key), value)?;
+        sum = sum.wrapping_add(value);
     }
     Ok(sum)
 }
