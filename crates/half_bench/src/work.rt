@@ -7,9 +7,9 @@ use std::alloc::Global;
 const LEAST_KEYS: u64 = 16_384;
 
 // So many look-ups at least are timed together, and so many insertions or exchanges.
-const LEAST_LOOK_UPS: u64 = 1_000_000;
+const LEAST_LOOK_UPS: u64 = 2_000_000;
 
-const LEAST_CHANGES: u64 = 100_000;
+const LEAST_CHANGES: u64 = 200_000;
 
 /// The keys for maps of one size.
 #[derive(Drop)]
