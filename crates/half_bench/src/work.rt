@@ -6,7 +6,7 @@ use std::alloc::Global;
 // A list has at least so many keys, too many for the processor to learn the order of the answers.
 const LEAST_KEYS: u64 = 16_384;
 
-// So many look-ups at least are timed together, and so many insertions or exchanges.
+// About so many look-ups are timed together, or more, and so many insertions or exchanges.
 const LEAST_LOOK_UPS: u64 = 2_000_000;
 
 const LEAST_CHANGES: u64 = 200_000;
