@@ -5,8 +5,8 @@ ghost use Rattle.half_store.specs.Pairs.{set_value};
 ghost use Rattle.half_store.specs.Probe.{looked_more};
 ghost use Rattle.half_store.specs.Work.{asked_more};
 ghost use Rattle.halfbrown.specs.Costs.{key_hash, search_asked, probe_length};
-ghost use Rattle.halfbrown.specs.Growth.{is_full, addition_needs, IsGrantable, HasCapacityAfter};
-ghost use Rattle.halfbrown.specs.Insertion.{HandsBack};
+ghost use Rattle.halfbrown.specs.Growth.{is_full, addition_needs};
+ghost use Rattle.halfbrown.specs.Insertion.{Puts, HandsBack};
 ghost use Rattle.halfbrown.specs.Lookup.{IsVacancy, is_unprobed, adding_looks};
 ghost use Rattle.halfbrown.specs.Pairs.{holds, put};
 ghost use Rattle.halfbrown.specs.State.{IsState, WithPairs, contents_of};
@@ -57,11 +57,7 @@ impl<K: Eq + Hash, V, S: BuildHasher, L: Limit> LimitedHashMap<K, V, S, L> {
         requires absent { holds K.eq self.old.pairs key ≡ false }
         requires vacant { IsVacancy self.old.is_vec (contents_of self.old)
             (key_hash S.BuildHasher S.Hasher.Hasher K.hash_input self.old.builder key) vacancy }
-        ensures pairs { OnOk result (self.new.pairs ≡ put K.eq self.old.pairs key value) }
-        ensures form { self.new.is_vec ≡ self.old.is_vec }
-        ensures capacity { OnOk result (HasCapacityAfter self.old (addition_needs self.old) self.new) }
-        ensures grantable { OnOk result (IsGrantable (addition_needs self.old)) }
-        ensures hasher { self.new.builder ≡ self.old.builder }
+        ensures ok { OnOk result (Puts L.LIMIT K.eq self.old key value (addition_needs self.old) self.new) }
         ensures err { IfErr result (HandsBack self.old key value (addition_needs self.old) self.new) }
         ensures work { tally.new ≡ looked_more tally.old
             (adding_looks (key_hash S.BuildHasher S.Hasher.Hasher K.hash_input self.old.builder)

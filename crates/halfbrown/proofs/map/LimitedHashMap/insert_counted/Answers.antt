@@ -24,5 +24,5 @@ pub returns-in_ok-add-in-Missing-clause-put : goal.returns-in_ok-add-in-Missing-
 returns-in_ok-add-in-Missing-clause-put g c =
     let eq = g.K.PartialEq.eq in
     subst (HasPut eq c.args.self.now.pairs c.args.key c.args.value)
-    (ap (λ ps. put eq ps c.args.key c.args.value) (sym c.switch_if_full.ensures.pairs) ∙ sym c.in_ok-add-in-Missing.ensures.pairs)
+    (ap (λ ps. put eq ps c.args.key c.args.value) (sym c.switch_if_full.ensures.pairs) ∙ sym c.in_ok-add-in-Missing.ensures.ok.pairs)
     (has_put eq g.met.K.Eq.laws c.args.self.now.pairs c.args.key c.args.value)
