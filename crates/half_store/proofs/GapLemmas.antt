@@ -142,18 +142,18 @@ module _ (slots : List (Option ℕ)) (entry_of bucket_of : List ℕ) (s : InStep
   }
 
 -- what `swap_remove` leaves, bucket by bucket
-length-swap_remove : (xs : List ℕ) (i last : ℕ) → suc last ≡ length xs → length (swap_remove xs i 0) ≡ last
+pub length-swap_remove : (xs : List ℕ) (i last : ℕ) → suc last ≡ length xs → length (swap_remove xs i 0) ≡ last
 length-swap_remove xs i last e =
     let x : ℕ = get_or xs (length xs - 1) 0 in
     length-take (length xs - 1) (set xs i x) ∙ omega (arith, length-set xs i x)
 
-swap_remove-at : (xs : List ℕ) (i last : ℕ) → suc last ≡ length xs → i < last → slice_index (swap_remove xs i 0) i ≡ slice_index xs last
+pub swap_remove-at : (xs : List ℕ) (i last : ℕ) → suc last ≡ length xs → i < last → slice_index (swap_remove xs i 0) i ≡ slice_index xs last
 swap_remove-at xs i last e l =
     let x : ℕ = get_or xs (length xs - 1) 0 in
     let end : length xs - 1 ≡ last = omega arith in
     get_or-take (length xs - 1) (set xs i x) i 0 (omega arith) ∙ index_set xs i x (omega arith) ∙ ap (slice_index xs) end
 
-swap_remove-other : (xs : List ℕ) (i k last : ℕ) → suc last ≡ length xs → k < last → k ≢ i → slice_index (swap_remove xs i 0) k ≡ slice_index xs k
+pub swap_remove-other : (xs : List ℕ) (i k last : ℕ) → suc last ≡ length xs → k < last → k ≢ i → slice_index (swap_remove xs i 0) k ≡ slice_index xs k
 swap_remove-other xs i k last e l ne =
     let x : ℕ = get_or xs (length xs - 1) 0 in
     get_or-take (length xs - 1) (set xs i x) k 0 (omega arith) ∙ index_other xs i k x ne

@@ -1,4 +1,5 @@
 pub mod AddLemmas
+pub mod BucketLemmas
 pub mod BucketsSeen
 pub mod CapacityLemmas
 pub mod Circle
@@ -7,6 +8,7 @@ pub mod Counts
 pub mod CrowdingLemmas
 pub mod DeletionLemmas
 pub mod GapLemmas
+pub mod IndexLemmas
 pub mod Indices
 pub mod ProbeLemmas
 pub mod ReachLemmas

@@ -7,7 +7,7 @@ use Rattle.half_store.specs.Reach.{home, probe_distance, reach}
 use Rattle.half_store.specs.Probe.{after_missing, AddsFinding, looked_more}
 use Rattle.half_store.specs.Slots.{slot_at, stored, IsVacancyFor, IsFoundAt, SomeVacant, distance_from_home}
 use Rattle.half_store.specs.Table.{TableState, table_state, hashes_at, slots_of}
-use Rattle.half_store.specs.TableLayout.{IsTable}
+use Rattle.half_store.specs.TableLayout.{IsTable, Shows}
 use Rattle.half_store.specs.Work.{Work}
 use Rattle.half_store.proofs.Circle.{distance_self}
 use Rattle.half_store.proofs.SlotsLemmas.{full_from, full-lt}
@@ -15,21 +15,6 @@ use Rattle.half_store.proofs.StepLemmas.{length-hashes_at, index-lt, bucket_of_i
 use Rattle.half_store.proofs.ProbeLemmas.{reach_at_vacancy, reach_past_found, reach_short}
 use Rattle.half_store.proofs.ReachLemmas.{reach-none}
 use Rattle.half_store.proofs.WorkLemmas.{same_work}
-
--- what a caller's value says of the columns
-pub record Seen (slots : List (Option ℕ)) (bucket_of : List ℕ) (t : TableState) : Type 0 where
-  pub hashes : hashes_at slots bucket_of ≡ t.hashes
-  pub buckets : length slots ≡ t.buckets
-  pub slots_are : slots ≡ slots_of t
-  pub count : length bucket_of ≡ length t.hashes
-
-pub seen : (slots : List (Option ℕ)) (bucket_of : List ℕ) (t : TableState) → table_state (hashes_at slots bucket_of) slots ≡ t → Seen slots bucket_of t
-seen slots bucket_of t e = record {
-  hashes = ap (λ (x : TableState). x.hashes) e;
-  buckets = ap (λ (x : TableState). x.buckets) e;
-  slots_are = ap slots_of e;
-  count = sym (length-hashes_at slots bucket_of) ∙ ap (λ (x : TableState). length x.hashes) e;
-}
 
 module _ (slots : List (Option ℕ)) (entry_of bucket_of : List ℕ) (capacity : ℕ) (t : IsTable slots entry_of bucket_of capacity) (hash : ℕ) where
   abbrev hs : List ℕ
@@ -79,16 +64,27 @@ module _ (slots : List (Option ℕ)) (entry_of bucket_of : List ℕ) (capacity :
         | inr ne ↦ reach_short slots t.ordered hs t.in_step.counted hash (table_vacant slots entry_of bucket_of capacity t (omega arith))
       ]
 
--- the same columns by other names
-pub columns_at : (slots rows : List (Option ℕ)) (entry_of nums bucket_of : List ℕ) (capacity : ℕ) → rows ≡ slots → nums ≡ entry_of → IsTable slots entry_of bucket_of capacity → IsTable rows nums bucket_of capacity
-columns_at slots rows entry_of nums bucket_of capacity e f t =
-    subst (λ x. IsTable x nums bucket_of capacity) (sym e) (subst (λ y. IsTable slots y bucket_of capacity) (sym f) t)
-
-pub view_at : (slots rows : List (Option ℕ)) (bucket_of : List ℕ) (t : TableState) → rows ≡ slots → table_state (hashes_at slots bucket_of) slots ≡ t → table_state (hashes_at rows bucket_of) rows ≡ t
-view_at slots rows bucket_of t e v = ap (λ x. table_state (hashes_at x bucket_of) x) e ∙ v
-
 -- what callers see of the costs
-module _ (slots : List (Option ℕ)) (entry_of bucket_of : List ℕ) (capacity : ℕ) (t : IsTable slots entry_of bucket_of capacity) (x : TableState) (view_is : table_state (hashes_at slots bucket_of) slots ≡ x) (hash : ℕ) where
+module _ (slots : List (Option ℕ)) (entry_of : List ℕ) (x : TableState) (shown : Shows slots entry_of x) (hash : ℕ) where
+  abbrev bucket_of : List ℕ
+  bucket_of = shown.bucket_of
+
+  abbrev capacity : ℕ
+  capacity = shown.capacity
+
+  t : IsTable slots entry_of bucket_of capacity
+  t = shown.table
+
+  view_is : table_state (hashes_at slots bucket_of) slots ≡ x
+  view_is = shown.view
+
+  -- the slots are those of the value, and as many as it says
+  pub slots_seen : slots ≡ slots_of x
+  slots_seen = ap slots_of view_is
+
+  pub count_seen : length slots ≡ x.buckets
+  count_seen = ap (λ (y : TableState). y.buckets) view_is
+
   pub missing_cost_seen : (p : ℕ) (old new : Work) → IsVacancyFor slots hash p → new.asked ≡ old.asked → new.looked ≡ old.looked + (distance_from_home slots hash p + 1) →
       new.compared ≡ old.compared + count_by (stored (λ held. held == hash)) slots → new ≡ after_missing x.hashes x.buckets hash old
   missing_cost_seen p old new w a b c = subst (λ (y : TableState). new ≡ after_missing y.hashes y.buckets hash old) view_is (missing_cost slots entry_of bucket_of capacity t hash p old new w a b c)

@@ -1,3 +1,4 @@
+pub mod Buckets
 pub mod Capacity
 pub mod Hash
 pub mod Lending

@@ -2,7 +2,8 @@
 use Rattle.std.specs.Prelude.{◌≡◌, ◌≢◌, ℕ, ◌<◌, ◌≤◌, Bool, List, length, Option, Some, None, slice_index, count_by}
 use Rattle.half_store.specs.Capacity.{capacity_of, IsBucketCount}
 use Rattle.half_store.specs.Slots.{slot_at, stored, distance_from_home, ProbeInvariant}
-use Rattle.half_store.specs.Table.{hashes_at}
+use Rattle.half_store.specs.Buckets.{slots_by, entries_by, WithinHashes}
+use Rattle.half_store.specs.Table.{TableState, table_state, hashes_at}
 
 -- each entry index below the length has a full bucket of its own, and each full bucket its entry index
 pub record InStep (slots : List (Option ℕ)) (entry_of bucket_of : List ℕ) : Type 0 where
@@ -28,3 +29,17 @@ pub record HasGap (slots : List (Option ℕ)) (gap : ℕ) : Type 0 where
   pub another : (bucket : ℕ) × (bucket < length slots) × (slot_at slots bucket ≡ None) × (bucket ≢ gap)
   pub others : (bucket vacant hash : ℕ) → slot_at slots bucket ≡ Some hash → vacant < length slots → slot_at slots vacant ≡ None → vacant ≢ gap →
       distance_from_home slots hash bucket < distance_from_home slots hash vacant
+
+-- what is always true of the three columns of a table, two of which have these capacities
+pub record IsIndex (hashes buckets bucket_of : List ℕ) (hash_capacity entry_capacity : ℕ) : Type 0 where
+  pub whole : WithinHashes hashes buckets
+  pub column : hashes_at (slots_by hashes buckets) bucket_of ≡ hashes
+  pub reserved : capacity_of (length buckets) ≤ hash_capacity
+  pub table : IsTable (slots_by hashes buckets) (entries_by buckets) bucket_of entry_capacity
+
+-- the buckets of a table, as a probe reads them
+pub record Shows (slots : List (Option ℕ)) (entry_of : List ℕ) (t : TableState) : Type 0 where
+  pub bucket_of : List ℕ
+  pub capacity : ℕ
+  pub table : IsTable slots entry_of bucket_of capacity
+  pub view : table_state (hashes_at slots bucket_of) slots ≡ t

@@ -42,7 +42,8 @@ pub fn compare<F: Fn(usize) -> bool>(matches: &F, index: usize, tally: &mut Tall
 /// Reads a bucket.
 #[inline(always)]
 pub(crate) fn look<P: Buckets>(buckets: &P, bucket: usize, tally: &mut Tally) -> Option<u64>
-    requires { bucket < length (P.slots buckets.now) }
+    requires whole { P.is_whole buckets.now }
+    requires within { bucket < length (P.slots buckets.now) }
     ensures stored { result ≡ slot_at (P.slots buckets.now) bucket }
     ensures counted { tally.new ≡ one_looked tally.old }
 {

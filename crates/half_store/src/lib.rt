@@ -4,6 +4,7 @@
 #[cfg(test)]
 mod asserts;
 pub mod capacity;
+mod column;
 mod count;
 pub mod counting;
 #[cfg(test)]

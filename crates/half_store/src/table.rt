@@ -1,8 +1,9 @@
 //! An index over entry indices: from a hash to the entry indices of the pairs that have it.
 //!
-//! The buckets contain stored hashes and entry indices, and no keys: a search takes a test of an entry index. Probes go up
-//! from the home bucket of a hash, one bucket at a time, and a removal shifts back what follows it, so no tombstone is left.
-ghost use Rattle.std.specs.Prelude.{◌≡◌, ℕ, ◌+◌, ◌^◌, ◌<◌, ◌≤◌, ◌↔◌, true, false, List, [], ◌∷◌, ◌++◌, length, replicate, Some, None, IsTrue, slice_get};
+//! A bucket contains an entry index, and the hashes are stored in a column by entry index; there are no keys, and a search takes
+//! a test of an entry index. Probes go up from the home bucket of a hash, one bucket at a time, and a removal shifts back
+//! what follows it, so no tombstone is left.
+ghost use Rattle.std.specs.Prelude.{◌≡◌, ℕ, ◌+◌, ◌^◌, ◌<◌, ◌≤◌, ◌↔◌, true, false, List, [], ◌∷◌, ◌++◌, length, Some, IsTrue, slice_get};
 ghost use Rattle.std.specs.List.{swap_remove};
 ghost use Rattle.half_store.specs.Reach.{reach};
 ghost use Rattle.half_store.specs.Capacity.{capacity_of, IsBucketCount, capacity_for, buckets_of};
@@ -14,11 +15,13 @@ mod deletion;
 pub mod laws;
 mod memory;
 pub mod probe;
+mod rehash;
 #[cfg(test)]
 mod tests;
 
 use crate::Tally;
 use crate::capacity::capacity_of;
+use buckets::{Buckets, HashedBuckets};
 use deletion::backward_shift;
 use probe::{Probe, first_empty, search};
 use std::alloc::Global;
@@ -30,26 +33,33 @@ use std::marker::Model;
 /// no buckets, or a power of two from 4 on, and the load factor is three quarters.
 #[derive(Drop)]
 pub struct Table {
-    hashes: Vec<Option<u64>>,
-    entry_of: Vec<usize>,
+    // 0 for an empty bucket, else the entry index and one more
+    buckets: Vec<usize>,
+    // by entry index
+    hashes: Vec<u64>,
     bucket_of: Vec<usize>,
 }
 
 impl Model for Table {
     ghost use Rattle.std.specs.Prelude.{vec_capacity};
-    ghost use Rattle.half_store.specs.Table.{TableState, table_state, table_state_code, hashes_at};
-    ghost use Rattle.half_store.specs.TableLayout.{IsTable};
+    ghost use Rattle.half_store.specs.Buckets.{slots_by};
+    ghost use Rattle.half_store.specs.Table.{TableState, table_state, table_state_code};
+    ghost use Rattle.half_store.specs.TableLayout.{IsIndex};
 
     ghost Value = { TableState };
 
     ghost coded = { table_state_code };
 
-    ghost view = { λ t. table_state (hashes_at t.hashes.items t.bucket_of.items) t.hashes.items };
+    ghost view = { λ t. table_state t.hashes.items (slots_by t.hashes.items t.buckets.items) };
 
-    ghost invariant = { λ t. IsTable t.hashes.items t.entry_of.items t.bucket_of.items (vec_capacity t.bucket_of) };
+    ghost invariant = { λ t. IsIndex t.hashes.items t.buckets.items t.bucket_of.items (vec_capacity t.hashes)
+        (vec_capacity t.bucket_of) };
 }
 
 impl Table {
+    ghost use Rattle.half_store.specs.Buckets.{slots_by, entries_by, WithinHashes};
+    ghost use Rattle.half_store.specs.TableLayout.{Shows};
+
     /// A table with no buckets. It takes no memory.
     ///
     /// ```
@@ -59,8 +69,8 @@ impl Table {
         ensures { result ≡ no_buckets }
     {
         Table {
+            buckets: Vec::new(alloc),
             hashes: Vec::new(alloc),
-            entry_of: Vec::new(alloc),
             bucket_of: Vec::new(alloc),
         }
     }
@@ -75,7 +85,7 @@ impl Table {
         ensures value { result ≡ length self.now.hashes }
         ensures small { result ≤ 2 ^ 62 }
     {
-        self.bucket_of.len()
+        self.hashes.len()
     }
 
     /// Whether it holds no pair.
@@ -87,7 +97,7 @@ impl Table {
     pub fn is_empty(&self) -> bool
         ensures { IsTrue result ↔ (length self.now.hashes ≡ 0) }
     {
-        self.bucket_of.is_empty()
+        self.hashes.is_empty()
     }
 
     /// How many pairs fit, those that it holds among them.
@@ -103,7 +113,7 @@ impl Table {
         ensures series { result ≡ capacity_for result }
         ensures buckets { self.now.buckets ≡ buckets_of result }
     {
-        capacity_of(self.hashes.len())
+        capacity_of(self.buckets.len())
     }
 
     /// Searches for a pair of this hash that `matches` accepts. `matches` is called with entry indices of that hash alone.
@@ -129,12 +139,12 @@ impl Table {
         ensures short { reach self.now.hashes self.now.buckets hash ≤ length self.now.hashes + 1 }
         ensures buckets { self.now.buckets ≡ buckets_of (capacity_of self.now.buckets) }
     {
-        if self.hashes.is_empty() {
+        let buckets = self.hashed_buckets();
+        if buckets.count() == 0 {
             return Probe::NoBuckets;
         }
-        let hashes = self.hashes.as_slice();
-        match search(&hashes, self.entry_of.as_slice(), hash, matches, tally) {
-            Ok(bucket) => Probe::Found(self.entry_of[bucket]),
+        match search(&buckets, hash, matches, tally) {
+            Ok(bucket) => Probe::Found(buckets.entry_at(bucket)),
             Err(bucket) => Probe::Vacant(bucket),
         }
     }
@@ -150,8 +160,7 @@ impl Table {
         ensures vacancy { IsVacancyIn (contents_of self.now) hash result }
         ensures cost { tally.new ≡ looked_more tally.old (reach self.now.hashes self.now.buckets hash) }
     {
-        let hashes = self.hashes.as_slice();
-        first_empty(&hashes, hashes.len(), hash, tally)
+        first_empty(&self.hashed_buckets(), hash, tally)
     }
 
     /// Adds a pair of this hash in the empty bucket at which a probe for it ended. It reads no bucket.
@@ -166,9 +175,8 @@ impl Table {
         ensures hashes { self.new.hashes ≡ self.old.hashes ++ hash ∷ [] }
         ensures buckets { self.new.buckets ≡ self.old.buckets }
     {
-        let index = self.len();
-        self.hashes[bucket] = Some(hash);
-        self.entry_of[bucket] = index;
+        self.buckets[bucket] = self.len() + 1;
+        self.hashes.push_reserved(hash);
         self.bucket_of.push_reserved(bucket);
     }
 
@@ -204,15 +212,13 @@ impl Table {
     {
         let last = self.len() - 1;
         let last_bucket = self.bucket_of[last];
-        self.entry_of[last_bucket] = index;
+        self.buckets[last_bucket] = index + 1;
         let bucket = self.bucket_of.swap_remove(index);
-        let Some(hash) = self.hashes[bucket] else {
-            unreachable!();
-        };
-        self.hashes[bucket] = None;
+        self.buckets[bucket] = 0;
+        let hash = self.hashes.swap_remove(index);
         backward_shift(
-            self.hashes.as_mut_slice(),
-            self.entry_of.as_mut_slice(),
+            self.buckets.as_mut_slice(),
+            self.hashes.as_slice(),
             self.bucket_of.as_mut_slice(),
             bucket,
         );
@@ -228,16 +234,20 @@ impl Table {
         ensures hashes { self.new.hashes ≡ [] }
         ensures buckets { self.new.buckets ≡ self.old.buckets }
     {
-        empty_all(self.hashes.as_mut_slice());
+        self.buckets.fill(0);
+        self.hashes.clear();
         self.bucket_of.clear();
     }
-}
 
-// Empties each bucket.
-fn empty_all(hashes: &mut [Option<u64>])
-    ensures { hashes.new ≡ replicate (length hashes.old) None }
-{
-    for hash in hashes.iter_mut() {
-        *hash = None;
+    // The buckets, as a probe reads them.
+    #[inline(always)]
+    fn hashed_buckets(&self) -> HashedBuckets<'_>
+        ensures whole { WithinHashes result.hashes.now result.buckets.now }
+        ensures shown { Shows (slots_by result.hashes.now result.buckets.now) (entries_by result.buckets.now) self.now }
+    {
+        HashedBuckets {
+            buckets: self.buckets.as_slice(),
+            hashes: self.hashes.as_slice(),
+        }
     }
 }

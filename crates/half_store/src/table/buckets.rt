@@ -1,22 +1,73 @@
-//! What a probe reads: buckets, each with a stored hash or empty.
-ghost use Rattle.std.specs.Prelude.{◌≡◌, ℕ, ◌<◌, List, Option, length};
+//! What a probe reads: buckets, each empty or with the entry index of a pair, whose hash is stored.
+ghost use Rattle.std.specs.Prelude.{◌≡◌, ◌≢◌, ℕ, ◌<◌, ◌≤◌, ◌+◌, List, Option, None, length, slice_index};
+ghost use Rattle.std.specs.List.{All};
 ghost use Rattle.half_store.specs.Slots.{slot_at};
+ghost use Rattle.half_store.specs.Buckets.{slots_by, entries_by, WithinHashes};
 
-/// Buckets that tell their stored hashes.
+/// Buckets that tell their stored hashes and their entry indices.
 pub(crate) trait Buckets {
     ghost slots: { Self → List (Option ℕ) };
 
-    /// The hash stored in this bucket, or none where it is empty.
+    ghost entry_of: { Self → List ℕ };
+
+    ghost is_whole: { Self → Type 0 };
+
+    /// How many there are.
+    fn count(&self) -> usize
+        ensures { result ≡ length (slots self.now) };
+
+    /// The hash of the pair in this bucket, or none where it is empty.
     fn hash_at(&self, bucket: usize) -> Option<u64>
-        requires { bucket < length (slots self.now) }
+        requires whole { is_whole self.now }
+        requires within { bucket < length (slots self.now) }
         ensures { result ≡ slot_at (slots self.now) bucket };
+
+    /// The entry index of the pair in this bucket, which is not empty.
+    fn entry_at(&self, bucket: usize) -> usize
+        requires whole { is_whole self.now }
+        requires full { slot_at (slots self.now) bucket ≢ None }
+        ensures { result ≡ slice_index (entry_of self.now) bucket };
 }
 
-impl Buckets for &[Option<u64>] {
-    ghost slots = { λ s. s.now };
+/// The buckets of a table, and the stored hashes that they lead to.
+#[derive(Clone, Copy)]
+pub(crate) struct HashedBuckets<'a> {
+    pub(crate) buckets: &'a [usize],
+    pub(crate) hashes: &'a [u64],
+}
+
+impl Buckets for HashedBuckets<'_> {
+    ghost slots = { λ s. slots_by s.hashes.now s.buckets.now };
+
+    ghost entry_of = { λ s. entries_by s.buckets.now };
+
+    ghost is_whole = { λ s. WithinHashes s.hashes.now s.buckets.now };
+
+    #[inline(always)]
+    fn count(&self) -> usize {
+        self.buckets.len()
+    }
 
     #[inline(always)]
     fn hash_at(&self, bucket: usize) -> Option<u64> {
-        self[bucket]
+        hash_in(self.buckets, self.hashes, bucket)
+    }
+
+    #[inline(always)]
+    fn entry_at(&self, bucket: usize) -> usize {
+        self.buckets[bucket] - 1
+    }
+}
+
+/// The hash of the pair in a bucket, or none where it is empty.
+#[inline(always)]
+pub(super) fn hash_in(buckets: &[usize], hashes: &[u64], bucket: usize) -> Option<u64>
+    requires whole { WithinHashes hashes.now buckets.now }
+    requires within { bucket < length buckets.now }
+    ensures { result ≡ slot_at (slots_by hashes.now buckets.now) bucket }
+{
+    match buckets[bucket] {
+        0 => None,
+        full => Some(hashes[full - 1]),
     }
 }

@@ -1,10 +1,12 @@
 //! Making a table, growing and shrinking it. All memory is had before anything changes.
-ghost use Rattle.std.specs.Prelude.{◌≡◌, ◌+◌, ◌^◌, ◌<◌, ◌≤◌, ◌↔◌, ◌⊎◌, [], max, length, Err, IfOk, IsOk, OnOk, OnErr, IfErr, Some, slice_get};
+ghost use Rattle.std.specs.Prelude.{◌≡◌, ◌+◌, ◌^◌, ◌<◌, ◌≤◌, ◌↔◌, ◌⊎◌, [], max, length, replicate, Err, IfOk, IsOk, OnOk, OnErr, IfErr, Some, slice_get};
 ghost use Rattle.half_store.specs.Capacity.{capacity_of, buckets_for, buckets_for_more, IsBucketCount};
 ghost use Rattle.half_store.specs.Table.{slots_of};
 
 use super::Table;
+use super::rehash::rehash;
 use crate::capacity::{buckets_for, capacity_of};
+use crate::column::reserve_in_all;
 use crate::refusal::check_size;
 use crate::{Refusal, Tally};
 use std::alloc::{AllocError, Global};
@@ -107,7 +109,7 @@ impl Table {
         ensures empty { length self.old.hashes ≡ 0 → self.new.buckets ≡ 0 }
     {
         let buckets = buckets_for(self.len());
-        if buckets < self.hashes.len() {
+        if buckets < self.bucket_count() {
             let _ = self.rebuild(buckets);
         }
     }
@@ -128,13 +130,14 @@ impl Table {
         ensures { IfOk result (λ t. t ≡ self.now) }
     {
         let alloc = self.allocator();
-        let hashes = Vec::from_slice(alloc, self.hashes.as_slice())?;
-        let entry_of = Vec::from_slice(alloc, self.entry_of.as_slice())?;
+        let buckets = Vec::from_slice(alloc, self.buckets.as_slice())?;
+        let mut hashes = Vec::with_capacity(alloc, self.capacity())?;
+        hashes.extend_from_slice(self.hashes.as_slice())?;
         let mut bucket_of = Vec::with_capacity(alloc, self.capacity())?;
         bucket_of.extend_from_slice(self.bucket_of.as_slice())?;
         Ok(Table {
+            buckets,
             hashes,
-            entry_of,
             bucket_of,
         })
     }
@@ -146,15 +149,13 @@ impl Table {
         ensures buckets { IfOk result (λ t. t.buckets ≡ buckets) }
         ensures granted { buckets ≡ 0 → IsOk result }
     {
-        if buckets == 0 {
-            return Ok(Table::new(alloc));
-        }
-        let hashes = vec![in alloc; None; buckets]?;
-        let entry_of = vec![in alloc; 0; buckets]?;
-        let bucket_of = Vec::with_capacity(alloc, capacity_of(buckets))?;
+        let capacity = capacity_of(buckets);
+        let buckets = empty_buckets(alloc, buckets)?;
+        let hashes = Vec::with_capacity(alloc, capacity)?;
+        let bucket_of = Vec::with_capacity(alloc, capacity)?;
         Ok(Table {
+            buckets,
             hashes,
-            entry_of,
             bucket_of,
         })
     }
@@ -170,27 +171,39 @@ impl Table {
         ensures granted { buckets ≡ 0 → IsOk result }
         ensures err { OnErr result (self.new ≡ self.old) }
     {
-        let mut rebuilt = Table::empty(self.allocator(), buckets)?;
-        for index in 0..self.len() {
-            rebuilt.add(self.hash_of(index), &mut Tally::new());
-        }
-        *self = rebuilt;
+        let capacity = capacity_of(buckets);
+        let mut rehashed = empty_buckets(self.allocator(), buckets)?;
+        reserve_in_all(&mut self.hashes, capacity)?;
+        reserve_in_all(&mut self.bucket_of, capacity)?;
+        rehash(
+            rehashed.as_mut_slice(),
+            self.hashes.as_slice(),
+            self.bucket_of.as_mut_slice(),
+        );
+        self.buckets = rehashed;
+        self.hashes.shrink_to(capacity);
+        self.bucket_of.shrink_to(capacity);
         Ok(())
     }
 
-    fn allocator(&self) -> Global {
-        *self.hashes.allocator()
+    fn bucket_count(&self) -> usize
+        ensures { result ≡ self.now.buckets }
+    {
+        self.buckets.len()
     }
 
-    // The stored hash of a pair.
-    #[inline(always)]
-    fn hash_of(&self, index: usize) -> u64
-        requires { index < length self.now.hashes }
-        ensures { slice_get self.now.hashes index ≡ Some result }
-    {
-        match self.hashes[self.bucket_of[index]] {
-            Some(hash) => hash,
-            None => unreachable!(),
-        }
+    fn allocator(&self) -> Global {
+        *self.buckets.allocator()
     }
+}
+
+// So many empty buckets.
+fn empty_buckets(alloc: Global, count: usize) -> Result<Vec<usize>, AllocError>
+    ensures items { IfOk result (λ v. v.items ≡ replicate count 0) }
+    ensures granted { count ≡ 0 → IsOk result }
+{
+    if count == 0 {
+        return Ok(Vec::new(alloc));
+    }
+    vec![in alloc; 0; count]
 }

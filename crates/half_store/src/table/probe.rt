@@ -48,22 +48,21 @@ pub(crate) fn next(bucket: usize, count: usize) -> usize
 #[inline(always)]
 pub(crate) fn search<P: Buckets, F: Fn(usize) -> bool>(
     buckets: &P,
-    entry_of: &[usize],
     hash: u64,
     matches: &F,
     tally: &mut Tally,
 ) -> Result<usize, usize>
-    requires columns { length entry_of.now ≡ length (P.slots buckets.now) }
-    requires count { IsBucketCount (length entry_of.now) }
+    requires whole { P.is_whole buckets.now }
+    requires count { IsBucketCount (length (P.slots buckets.now)) }
     requires vacant { SomeVacant (P.slots buckets.now) }
     requires ordered { ProbeInvariant (P.slots buckets.now) }
     requires callable { (bucket : ℕ) → slot_at (P.slots buckets.now) bucket ≡ Some hash
-        → F.pre matches.now (slice_index entry_of.now bucket) }
+        → F.pre matches.now (slice_index (P.entry_of buckets.now) bucket) }
     ensures found { IfOk result (IsFoundAt (P.slots buckets.now) hash) }
-    ensures accepted { IfOk result (λ bucket. F.post matches.now (slice_index entry_of.now bucket) true) }
+    ensures accepted { IfOk result (λ bucket. F.post matches.now (slice_index (P.entry_of buckets.now) bucket) true) }
     ensures vacancy { IfErr result (IsVacancyFor (P.slots buckets.now) hash) }
     ensures refused { OnErr result ((bucket : ℕ) → slot_at (P.slots buckets.now) bucket ≡ Some hash
-        → F.post matches.now (slice_index entry_of.now bucket) false) }
+        → F.post matches.now (slice_index (P.entry_of buckets.now) bucket) false) }
     ensures asked { tally.new.asked ≡ tally.old.asked }
     ensures looked_found { IfOk result (λ bucket. tally.new.looked ≡ tally.old.looked
         + (distance_from_home (P.slots buckets.now) hash bucket + 1)) }
@@ -75,13 +74,13 @@ pub(crate) fn search<P: Buckets, F: Fn(usize) -> bool>(
     ensures compared_all { OnErr result (tally.new.compared ≡ tally.old.compared
         + count_by (stored (λ held. held == hash)) (P.slots buckets.now)) }
 {
-    let count = entry_of.len();
+    let count = buckets.count();
     let mut bucket = home(hash, count);
     for _step in 0..count {
         match look(buckets, bucket, tally) {
             None => return Err(bucket),
             Some(held) => {
-                if held == hash && compare(matches, entry_of[bucket], tally) {
+                if held == hash && compare(matches, buckets.entry_at(bucket), tally) {
                     return Ok(bucket);
                 }
             }
@@ -93,18 +92,14 @@ pub(crate) fn search<P: Buckets, F: Fn(usize) -> bool>(
 
 /// Probes up from the home bucket to the first empty bucket.
 #[inline(always)]
-pub(crate) fn first_empty<P: Buckets>(
-    buckets: &P,
-    count: usize,
-    hash: u64,
-    tally: &mut Tally,
-) -> usize
-    requires length { count ≡ length (P.slots buckets.now) }
-    requires count { IsBucketCount count }
+pub(crate) fn first_empty<P: Buckets>(buckets: &P, hash: u64, tally: &mut Tally) -> usize
+    requires whole { P.is_whole buckets.now }
+    requires count { IsBucketCount (length (P.slots buckets.now)) }
     requires vacant { SomeVacant (P.slots buckets.now) }
     ensures vacancy { IsVacancyFor (P.slots buckets.now) hash result }
     ensures cost { tally.new ≡ looked_more tally.old (distance_from_home (P.slots buckets.now) hash result + 1) }
 {
+    let count = buckets.count();
     let mut bucket = home(hash, count);
     for _step in 0..count {
         if look(buckets, bucket, tally).is_none() {

@@ -1,7 +1,7 @@
 ghost use Rattle.std.specs.Prelude.{◌≡◌, ◌≤◌, ◌<◌, length};
 
 use super::Table;
-use super::buckets::Buckets;
+use super::buckets::{Buckets, HashedBuckets};
 use super::probe::{Probe, first_empty, search};
 use crate::asserts::{assert_same, assert_true};
 use crate::{Refusal, Tally};
@@ -13,55 +13,63 @@ use std::test::Fail;
 // Buckets that count how often they are read.
 #[derive(Drop)]
 struct CountedBuckets<'a> {
-    hashes: &'a [Option<u64>],
+    buckets: HashedBuckets<'a>,
     reads: &'a Cell<usize>,
 }
 
 impl Buckets for CountedBuckets<'_> {
-    ghost slots = { λ s. s.hashes.now };
+    ghost use Rattle.half_store.specs.Buckets.{slots_by, entries_by, WithinHashes};
+
+    ghost slots = { λ s. slots_by s.buckets.hashes.now s.buckets.buckets.now };
+
+    ghost entry_of = { λ s. entries_by s.buckets.buckets.now };
+
+    ghost is_whole = { λ s. WithinHashes s.buckets.hashes.now s.buckets.buckets.now };
+
+    fn count(&self) -> usize {
+        self.buckets.count()
+    }
 
     fn hash_at(&self, bucket: usize) -> Option<u64> {
         self.reads.set(self.reads.get().wrapping_add(1));
-        self.hashes[bucket]
+        self.buckets.hash_at(bucket)
+    }
+
+    fn entry_at(&self, bucket: usize) -> usize {
+        self.buckets.entry_at(bucket)
     }
 }
 
 // Where a probe for this hash that accepts one entry index ended, how many buckets it read, and how many keys it compared.
 fn searched(table: &Table, hash: u64, accepted: usize) -> (Option<usize>, usize, usize) {
-    if table.hashes.is_empty() {
-        return (None, 0, 0);
-    }
     let reads = Cell::new(0);
     let asked = Cell::new(0usize);
     let buckets = CountedBuckets {
-        hashes: table.hashes.as_slice(),
+        buckets: table.hashed_buckets(),
         reads: &reads,
     };
+    if buckets.count() == 0 {
+        return (None, 0, 0);
+    }
     let matches = |index: usize| {
         asked.set(asked.get().wrapping_add(1));
         index == accepted
     };
-    let bucket = search(
-        &buckets,
-        table.entry_of.as_slice(),
-        hash,
-        &matches,
-        &mut Tally::new(),
-    );
+    let bucket = search(&buckets, hash, &matches, &mut Tally::new());
     (bucket.ok(), reads.get(), asked.get())
 }
 
 // The bucket where an insertion probe of this hash ended, and how many buckets it read.
 fn probed(table: &Table, hash: u64) -> (usize, usize) {
-    if table.hashes.is_empty() {
-        return (0, 0);
-    }
     let reads = Cell::new(0);
     let buckets = CountedBuckets {
-        hashes: table.hashes.as_slice(),
+        buckets: table.hashed_buckets(),
         reads: &reads,
     };
-    let bucket = first_empty(&buckets, table.hashes.len(), hash, &mut Tally::new());
+    if buckets.count() == 0 {
+        return (0, 0);
+    }
+    let bucket = first_empty(&buckets, hash, &mut Tally::new());
     (bucket, reads.get())
 }
 
@@ -120,12 +128,29 @@ fn assert_find(rt: &impl Abort, table: &Table, hash: u64, expected: Probe) {
     );
 }
 
-fn assert_buckets(rt: &impl Abort, table: &Table, expected: &[Option<u64>]) {
-    assert_same(rt, table.hashes.as_slice(), expected, "the buckets");
+// The hash of the pair in a bucket, or none where it is empty.
+fn stored(table: &Table, bucket: usize) -> Option<u64> {
+    let full = *table.buckets.get(bucket)?;
+    let index = full.checked_sub(1)?;
+    table.hashes.get(index).copied()
 }
 
+fn assert_buckets(rt: &impl Abort, table: &Table, expected: &[Option<u64>]) {
+    let count = table.buckets.len();
+    assert_same(rt, count, expected.len(), "how many buckets there are");
+    for (bucket, hash) in expected.iter().enumerate() {
+        assert_same(
+            rt,
+            (bucket, stored(table, bucket)),
+            (bucket, *hash),
+            "a bucket, and the hash of its pair",
+        );
+    }
+}
+
+// What stands in the buckets: 0, or an entry index and one more.
 fn assert_entries(rt: &impl Abort, table: &Table, expected: &[usize]) {
-    assert_same(rt, table.entry_of.as_slice(), expected, "the entry indices");
+    assert_same(rt, table.buckets.as_slice(), expected, "the entry indices");
 }
 
 fn assert_capacity(rt: &impl Abort, table: &Table, expected: usize) {
@@ -201,7 +226,7 @@ fn equal_greatest_hashes(rt: HostRuntime) -> Result<(), Fail> {
     let top = u64::MAX;
     let mut tops = table_of(rt.alloc(), &[top, top, top])?;
     assert_buckets(&rt, &tops, &[Some(top), Some(top), None, Some(top)]);
-    assert_entries(&rt, &tops, &[1, 2, 0, 0]);
+    assert_entries(&rt, &tops, &[2, 3, 0, 1]);
     remove(&rt, &mut tops, 0, top);
     // the third, which has entry index 0 now
     assert_search(&rt, &tops, top, 0, (Some(0), 2, 2));
@@ -272,8 +297,10 @@ fn a_backward_shift_in_a_copy(rt: HostRuntime) -> Result<(), Fail> {
     let added = [(6, 6), (14, 7), (7, 0), (15, 1), (0, 2)];
     let table = eight_buckets(&rt, rt.alloc(), &added)?;
     let mut copy = table.copy()?;
-    assert_buckets(&rt, &copy, table.hashes.as_slice());
-    assert_entries(&rt, &copy, table.entry_of.as_slice());
+    assert_entries(&rt, &table, &[3, 4, 5, 0, 0, 0, 1, 2]);
+    assert_entries(&rt, &copy, table.buckets.as_slice());
+    let hashes = copy.hashes.as_slice();
+    assert_same(&rt, hashes, table.hashes.as_slice(), "the stored hashes");
     remove(&rt, &mut copy, 1, 14);
     assert_buckets(
         &rt,
@@ -331,7 +358,7 @@ fn capacities_of_a_table(rt: HostRuntime) -> Result<(), Fail> {
     let refused = table.reserve(usize::MAX);
     assert_same(&rt, refused, Err(Refusal::Size), "more than there can be");
     assert_capacity(&rt, &table, 24);
-    assert_same(&rt, table.hashes.len(), 32, "the buckets");
+    assert_same(&rt, table.buckets.len(), 32, "the buckets");
     Ok(())
 }
 
@@ -493,7 +520,7 @@ fn lives_long(rt: &impl Abort, alloc: Global, builder: Builder) -> Result<(), Fa
         assert_same(rt, lists.table.len(), lists.keys.len(), "the pairs");
         let absent = hash_of(builder, 20 + key);
         let reads = searched(&lists.table, absent, NO_INDEX).1;
-        let by_homes = reach(lists.hashes.as_slice(), lists.table.hashes.len(), absent);
+        let by_homes = reach(lists.hashes.as_slice(), lists.table.buckets.len(), absent);
         assert_same(
             rt,
             reads,

@@ -1,122 +1,127 @@
-use Rattle.std.proofs.Common.{◌≡◌, ◌≢◌, ℕ, ◌<◌, ◌∙◌, List, Option, true, false, length, get_or, slice_index, Some, refl, sym, ap, subst, arith}
-use Rattle.std.proofs.lemmas.List.{get_or_read}
+use Rattle.std.proofs.Common.{◌≡◌, ◌≢◌, ℕ, ◌∙◌, List, Option, true, false, length, slice_index, sym, ap, subst, arith}
 use Rattle.std.specs.List.{slice_get}
-use borrow.Author.Tests.{eqb-true, eqb-false}
-use Rattle.std.specs.Vec.{vec_len, vec_capacity}
-use Rattle.half_store.specs.Slots.{slot_at}
-use Rattle.half_store.specs.TableLayout.{InStep}
-use Rattle.half_store.proofs.SlotsLemmas.{full_from, full-lt}
-use Rattle.half_store.proofs.TableLemmas.{columns_at, view_at, seen, missing_cost_seen, found_cost_seen, short_seen, index_seen, each_index, vacant_seen, empty_cost_seen}
+use Rattle.half_store.specs.Buckets.{slots_by, entries_by}
+use Rattle.half_store.proofs.TableLemmas.{count_seen, missing_cost_seen, found_cost_seen, short_seen, index_seen, each_index, vacant_seen, empty_cost_seen}
 use Rattle.half_store.proofs.BucketsSeen.{buckets_seen}
 use Rattle.half_store.proofs.table.Table.find.Goals as goal
 
-pub returns-then-is_empty-clause-missing_cost : goal.returns-then-is_empty-clause-missing_cost
-returns-then-is_empty-clause-missing_cost g c =
-    let t = c.self.inside in
-    let none : vec_len t.hashes ≡ 0 = eqb-true _ _ (sym c.is_empty.ensures ∙ c.if-is_empty.true) in
-    empty_cost_seen t.hashes.items t.entry_of.items t.bucket_of.items (vec_capacity t.bucket_of) c.self.invariant c.args.self.now c.self.view_is c.args.hash
-    c.args.tally.now (omega (arith, t.hashes.ok.0))
+pub returns-then-count-eq0-clause-missing_cost : goal.returns-then-count-eq0-clause-missing_cost
+returns-then-count-eq0-clause-missing_cost g c =
+    let b = c.hashed_buckets-buckets.result in
+    let slots : List (Option ℕ) = slots_by b.hashes.now b.buckets.now in
+    let entries : List ℕ = entries_by b.buckets.now in
+    let x = c.args.self.now in
+    let shown = c.hashed_buckets-buckets.ensures.shown in
+    let none : length slots ≡ 0 = sym c.count.ensures ∙ c.if-count-eq0.true in
+    empty_cost_seen slots entries x shown c.args.hash c.args.tally.now none
 
-pub returns-then-is_empty-clause-short : goal.returns-then-is_empty-clause-short
-returns-then-is_empty-clause-short g c =
-    let t = c.self.inside in
-    short_seen t.hashes.items t.entry_of.items t.bucket_of.items (vec_capacity t.bucket_of) c.self.invariant c.args.self.now c.self.view_is c.args.hash
+pub returns-then-count-eq0-clause-short : goal.returns-then-count-eq0-clause-short
+returns-then-count-eq0-clause-short g c =
+    let b = c.hashed_buckets-buckets.result in
+    let slots : List (Option ℕ) = slots_by b.hashes.now b.buckets.now in
+    let entries : List ℕ = entries_by b.buckets.now in
+    let x = c.args.self.now in
+    let shown = c.hashed_buckets-buckets.ensures.shown in
+    short_seen slots entries x shown c.args.hash
 
 pub search-requires-clause-vacant : goal.search-requires-clause-vacant
 search-requires-clause-vacant g c =
-    let t = c.self.inside in
-    let rows = c.as_slice-hashes.ensures.value in
-    vacant_seen c.as_slice-hashes.result.now t.entry_of.items t.bucket_of.items (vec_capacity t.bucket_of)
-    (columns_at t.hashes.items c.as_slice-hashes.result.now t.entry_of.items t.entry_of.items t.bucket_of.items (vec_capacity t.bucket_of) rows refl c.self.invariant)
-    c.args.self.now (view_at t.hashes.items c.as_slice-hashes.result.now t.bucket_of.items c.args.self.now rows c.self.view_is) c.args.hash
-    (let some : vec_len t.hashes ≢ 0 = eqb-false _ _ (sym c.is_empty.ensures ∙ c.if-is_empty.false) in
-    let s = seen t.hashes.items t.bucket_of.items c.args.self.now c.self.view_is in
-    omega (arith, t.hashes.ok.0, s.buckets))
+    let b = c.hashed_buckets-buckets.result in
+    let slots : List (Option ℕ) = slots_by b.hashes.now b.buckets.now in
+    let entries : List ℕ = entries_by b.buckets.now in
+    let x = c.args.self.now in
+    let shown = c.hashed_buckets-buckets.ensures.shown in
+    let some : c.count.result ≢ 0 = c.if-count-eq0.false in
+    vacant_seen slots entries x shown c.args.hash (omega (arith, c.count.ensures, count_seen slots entries x shown c.args.hash))
 
 pub search-requires-clause-callable : goal.search-requires-clause-callable
-search-requires-clause-callable g c = λ p is.
-    let t = c.self.inside in
-    let rows = c.as_slice-hashes.ensures.value in
-    let nums = c.as_slice.ensures.value in
-    c.requires (slice_index c.as_slice.result.now p)
-    (index_seen c.as_slice-hashes.result.now c.as_slice.result.now t.bucket_of.items (vec_capacity t.bucket_of)
-    (columns_at t.hashes.items c.as_slice-hashes.result.now t.entry_of.items c.as_slice.result.now t.bucket_of.items (vec_capacity t.bucket_of) rows nums c.self.invariant)
-    c.args.self.now (view_at t.hashes.items c.as_slice-hashes.result.now t.bucket_of.items c.args.self.now rows c.self.view_is) c.args.hash p is)
-
--- the number that was read
-read_index : (slots : List (Option ℕ)) (rows : List (Option ℕ)) (entry_of bucket_of : List ℕ) (hash bucket index : ℕ) → rows ≡ slots → InStep slots entry_of bucket_of → slot_at rows bucket ≡ Some hash → index ≡ get_or entry_of bucket index → index ≡ slice_index entry_of bucket
-read_index slots rows entry_of bucket_of hash bucket index e s is read =
-    let in_bucket : bucket < length rows = full-lt rows bucket (full_from _ hash is) in
-    let same = ap length e in
-    let long = s.columns in
-    get_or_read entry_of bucket index (omega arith) read 0
+search-requires-clause-callable g c =
+    let b = c.hashed_buckets-buckets.result in
+    let slots : List (Option ℕ) = slots_by b.hashes.now b.buckets.now in
+    let entries : List ℕ = entries_by b.buckets.now in
+    let x = c.args.self.now in
+    let shown = c.hashed_buckets-buckets.ensures.shown in
+    λ p is. c.requires (slice_index entries p) (index_seen slots entries x shown c.args.hash p is)
 
 pub returns-in-Ok-clause-found : goal.returns-in-Ok-clause-found
 returns-in-Ok-clause-found g c =
-    let t = c.self.inside in
-    let rows = c.as_slice-hashes.ensures.value in
-    let is = c.in-Ok.ensures.found.found in
-    let index = read_index t.hashes.items c.as_slice-hashes.result.now t.entry_of.items t.bucket_of.items c.args.hash c.in-Ok.bucket c.index.result.now rows c.self.invariant.in_step is c.index.ensures in
-    ap (slice_get c.args.self.now.hashes) index
-    ∙ index_seen c.as_slice-hashes.result.now t.entry_of.items t.bucket_of.items (vec_capacity t.bucket_of)
-    (columns_at t.hashes.items c.as_slice-hashes.result.now t.entry_of.items t.entry_of.items t.bucket_of.items (vec_capacity t.bucket_of) rows refl c.self.invariant)
-    c.args.self.now (view_at t.hashes.items c.as_slice-hashes.result.now t.bucket_of.items c.args.self.now rows c.self.view_is) c.args.hash c.in-Ok.bucket is
+    let b = c.hashed_buckets-buckets.result in
+    let slots : List (Option ℕ) = slots_by b.hashes.now b.buckets.now in
+    let entries : List ℕ = entries_by b.buckets.now in
+    let x = c.args.self.now in
+    let shown = c.hashed_buckets-buckets.ensures.shown in
+    ap (slice_get x.hashes) c.entry_at.ensures ∙ index_seen slots entries x shown c.args.hash c.in-Ok.bucket c.in-Ok.ensures.found.found
 
 pub returns-in-Ok-clause-accepted : goal.returns-in-Ok-clause-accepted
 returns-in-Ok-clause-accepted g c =
-    let t = c.self.inside in
-    let rows = c.as_slice-hashes.ensures.value in
-    let nums = c.as_slice.ensures.value in
-    let is = c.in-Ok.ensures.found.found in
-    let index = read_index t.hashes.items c.as_slice-hashes.result.now t.entry_of.items t.bucket_of.items c.args.hash c.in-Ok.bucket c.index.result.now rows c.self.invariant.in_step is c.index.ensures in
-    subst (λ n. goal.F-post g c.args.matches.now n true) (ap (λ ns. slice_index ns c.in-Ok.bucket) nums ∙ sym index) c.in-Ok.ensures.accepted
+    let b = c.hashed_buckets-buckets.result in
+    let slots : List (Option ℕ) = slots_by b.hashes.now b.buckets.now in
+    let entries : List ℕ = entries_by b.buckets.now in
+    let x = c.args.self.now in
+    let shown = c.hashed_buckets-buckets.ensures.shown in
+    subst (λ n. goal.F-post g c.args.matches.now n true) (sym c.entry_at.ensures) c.in-Ok.ensures.accepted
 
 pub returns-in-Ok-clause-found_cost : goal.returns-in-Ok-clause-found_cost
 returns-in-Ok-clause-found_cost g c =
-    let t = c.self.inside in
-    let rows = c.as_slice-hashes.ensures.value in
+    let b = c.hashed_buckets-buckets.result in
+    let slots : List (Option ℕ) = slots_by b.hashes.now b.buckets.now in
+    let entries : List ℕ = entries_by b.buckets.now in
+    let x = c.args.self.now in
+    let shown = c.hashed_buckets-buckets.ensures.shown in
     let told = c.in-Ok.ensures in
-    found_cost_seen c.as_slice-hashes.result.now t.entry_of.items t.bucket_of.items (vec_capacity t.bucket_of)
-    (columns_at t.hashes.items c.as_slice-hashes.result.now t.entry_of.items t.entry_of.items t.bucket_of.items (vec_capacity t.bucket_of) rows refl c.self.invariant)
-    c.args.self.now (view_at t.hashes.items c.as_slice-hashes.result.now t.bucket_of.items c.args.self.now rows c.self.view_is) c.args.hash
-    c.in-Ok.bucket c.args.tally.now c.search.new.tally told.found told.asked told.looked_found told.compared_some told.compared_most
+    found_cost_seen slots entries x shown c.args.hash c.in-Ok.bucket c.args.tally.now c.search.new.tally told.found told.asked told.looked_found told.compared_some told.compared_most
 
 pub returns-in-Ok-clause-short : goal.returns-in-Ok-clause-short
 returns-in-Ok-clause-short g c =
-    let t = c.self.inside in
-    short_seen t.hashes.items t.entry_of.items t.bucket_of.items (vec_capacity t.bucket_of) c.self.invariant c.args.self.now c.self.view_is c.args.hash
+    let b = c.hashed_buckets-buckets.result in
+    let slots : List (Option ℕ) = slots_by b.hashes.now b.buckets.now in
+    let entries : List ℕ = entries_by b.buckets.now in
+    let x = c.args.self.now in
+    let shown = c.hashed_buckets-buckets.ensures.shown in
+    short_seen slots entries x shown c.args.hash
 
 pub returns-in-Err-clause-refused : goal.returns-in-Err-clause-refused
 returns-in-Err-clause-refused g c =
-    let t = c.self.inside in
-    let rows = c.as_slice-hashes.ensures.value in
-    let nums = c.as_slice.ensures.value in
-    each_index c.as_slice-hashes.result.now c.as_slice.result.now t.bucket_of.items (vec_capacity t.bucket_of)
-    (columns_at t.hashes.items c.as_slice-hashes.result.now t.entry_of.items c.as_slice.result.now t.bucket_of.items (vec_capacity t.bucket_of) rows nums c.self.invariant)
-    c.args.self.now (view_at t.hashes.items c.as_slice-hashes.result.now t.bucket_of.items c.args.self.now rows c.self.view_is) c.args.hash
-    (λ n. goal.F-post g c.args.matches.now n false) c.in-Err.ensures.refused
+    let b = c.hashed_buckets-buckets.result in
+    let slots : List (Option ℕ) = slots_by b.hashes.now b.buckets.now in
+    let entries : List ℕ = entries_by b.buckets.now in
+    let x = c.args.self.now in
+    let shown = c.hashed_buckets-buckets.ensures.shown in
+    each_index slots entries x shown c.args.hash (λ n. goal.F-post g c.args.matches.now n false) c.in-Err.ensures.refused
 
 pub returns-in-Err-clause-missing_cost : goal.returns-in-Err-clause-missing_cost
 returns-in-Err-clause-missing_cost g c =
-    let t = c.self.inside in
-    let rows = c.as_slice-hashes.ensures.value in
+    let b = c.hashed_buckets-buckets.result in
+    let slots : List (Option ℕ) = slots_by b.hashes.now b.buckets.now in
+    let entries : List ℕ = entries_by b.buckets.now in
+    let x = c.args.self.now in
+    let shown = c.hashed_buckets-buckets.ensures.shown in
     let told = c.in-Err.ensures in
-    missing_cost_seen c.as_slice-hashes.result.now t.entry_of.items t.bucket_of.items (vec_capacity t.bucket_of)
-    (columns_at t.hashes.items c.as_slice-hashes.result.now t.entry_of.items t.entry_of.items t.bucket_of.items (vec_capacity t.bucket_of) rows refl c.self.invariant)
-    c.args.self.now (view_at t.hashes.items c.as_slice-hashes.result.now t.bucket_of.items c.args.self.now rows c.self.view_is) c.args.hash
-    c.in-Err.bucket c.args.tally.now c.search.new.tally told.vacancy told.asked told.looked_missing told.compared_all
+    missing_cost_seen slots entries x shown c.args.hash c.in-Err.bucket c.args.tally.now c.search.new.tally told.vacancy told.asked told.looked_missing told.compared_all
 
 pub returns-in-Err-clause-short : goal.returns-in-Err-clause-short
 returns-in-Err-clause-short g c =
-    let t = c.self.inside in
-    short_seen t.hashes.items t.entry_of.items t.bucket_of.items (vec_capacity t.bucket_of) c.self.invariant c.args.self.now c.self.view_is c.args.hash
+    let b = c.hashed_buckets-buckets.result in
+    let slots : List (Option ℕ) = slots_by b.hashes.now b.buckets.now in
+    let entries : List ℕ = entries_by b.buckets.now in
+    let x = c.args.self.now in
+    let shown = c.hashed_buckets-buckets.ensures.shown in
+    short_seen slots entries x shown c.args.hash
 
 pub returns-in-Ok-clause-buckets : goal.returns-in-Ok-clause-buckets
 returns-in-Ok-clause-buckets g c =
-    let t = c.self.inside in
-    buckets_seen t.hashes.items t.entry_of.items t.bucket_of.items (vec_capacity t.bucket_of) c.self.invariant c.args.self.now c.self.view_is
+    let b = c.hashed_buckets-buckets.result in
+    let slots : List (Option ℕ) = slots_by b.hashes.now b.buckets.now in
+    let entries : List ℕ = entries_by b.buckets.now in
+    let x = c.args.self.now in
+    let shown = c.hashed_buckets-buckets.ensures.shown in
+    buckets_seen slots entries x shown
 
 pub returns-in-Err-clause-buckets : goal.returns-in-Err-clause-buckets
 returns-in-Err-clause-buckets g c =
-    let t = c.self.inside in
-    buckets_seen t.hashes.items t.entry_of.items t.bucket_of.items (vec_capacity t.bucket_of) c.self.invariant c.args.self.now c.self.view_is
+    let b = c.hashed_buckets-buckets.result in
+    let slots : List (Option ℕ) = slots_by b.hashes.now b.buckets.now in
+    let entries : List ℕ = entries_by b.buckets.now in
+    let x = c.args.self.now in
+    let shown = c.hashed_buckets-buckets.ensures.shown in
+    buckets_seen slots entries x shown

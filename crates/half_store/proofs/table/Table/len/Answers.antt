@@ -1,10 +1,18 @@
 use Rattle.std.proofs.Common.{◌<◌, ◌^◌, length, arith}
+use Rattle.std.specs.Vec.{vec_capacity}
 use Rattle.half_store.proofs.CapacityLemmas.{count-le}
+use Rattle.half_store.proofs.IndexLemmas.{index-within, index-buckets}
 use Rattle.half_store.proofs.table.Table.len.Goals as goal
 
 pub returns-clause-small : goal.returns-clause-small
 returns-clause-small c =
     let t = c.self.inside in
     let i = c.self.invariant in
-    let few : length t.hashes.items < 2 ^ 63 = omega (arith, t.hashes.ok, t.hashes.small) in
-    omega (arith, c.len.ensures, t.bucket_of.ok, i.within, count-le (length t.hashes.items) i.buckets few)
+    let few : length t.buckets.items < 2 ^ 63 = omega (arith, t.buckets.ok, t.buckets.small) in
+    omega (
+      arith,
+      c.len.ensures,
+      t.hashes.ok,
+      index-within t.hashes.items t.buckets.items t.bucket_of.items (vec_capacity t.hashes) (vec_capacity t.bucket_of) i,
+      count-le (length t.buckets.items) (index-buckets t.hashes.items t.buckets.items t.bucket_of.items (vec_capacity t.hashes) (vec_capacity t.bucket_of) i) few,
+    )

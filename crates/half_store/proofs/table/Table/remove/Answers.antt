@@ -1,122 +1,158 @@
-use Rattle.std.proofs.Common.{◌≡◌, ◌-◌, ◌<◌, ◌∙◌, ℕ, List, Option, Some, None, length, get_or, set, take, drop, slice_index, sym, ap, subst, arith}
+use Rattle.std.proofs.Common.{◌≡◌, ◌+◌, ◌-◌, ◌<◌, ◌∙◌, ℕ, suc, List, Some, length, get_or, set, take, drop, slice_index, sym, ap, subst, arith}
 use Rattle.std.specs.List.{slice_get, swap_remove}
 use Rattle.std.specs.Vec.{vec_capacity}
 use Rattle.std.proofs.lemmas.List.{get_or_read, get_or_default, take_at}
 use Rattle.std.proofs.lemmas.Option.{slice_get-get_or}
-use Rattle.half_store.specs.Slots.{slot_at}
+use Rattle.half_store.specs.Buckets.{slots_by, entries_by, WithinHashes}
+use Rattle.half_store.specs.Capacity.{capacity_of, IsBucketCount}
 use Rattle.half_store.specs.Table.{hashes_at}
 use Rattle.half_store.specs.TableLayout.{InStep, HasGap}
-use Rattle.half_store.proofs.SlotsLemmas.{full-lt}
-use Rattle.half_store.proofs.StepLemmas.{length-hashes_at, hash_at_bucket, table_vacant}
-use Rattle.half_store.proofs.GapLemmas.{InStep-remove, hashes_at-remove}
-use Rattle.half_store.proofs.DeletionLemmas.{HasGap-remove}
-use Rattle.half_store.proofs.TableLemmas.{seen}
+use Rattle.half_store.proofs.IndexLemmas.{index-count, index-buckets, index-within, index-reserved, remove-bucket, remove-last, length-buckets°, whole-remove, in_step-remove, gap-remove, column-remove, IsIndex-from, IsIndex-as}
+use Rattle.half_store.proofs.GapLemmas.{length-swap_remove}
 use Rattle.half_store.proofs.table.Table.remove.Goals as goal
 
 -- the last pair's bucket, as it was read
 last_read : (bucket_of : List ℕ) (n x : ℕ) → 0 < length bucket_of → n ≡ length bucket_of → x ≡ get_or bucket_of (n - 1) x → x ≡ slice_index bucket_of (length bucket_of - 1)
 last_read bucket_of n x some e read = get_or_read bucket_of (n - 1) x (omega arith) read 0 ∙ ap (λ k. slice_index bucket_of (k - 1)) e
 
--- what is left of the buckets, whatever the default
-left : (bucket_of : List ℕ) (index x : ℕ) → index < length bucket_of → swap_remove bucket_of index x ≡ swap_remove bucket_of index 0
-left bucket_of index x few = ap (λ y. take (length bucket_of - 1) (set bucket_of index y)) (get_or_default bucket_of (length bucket_of - 1) x 0 (omega arith))
+-- what is left of a column, whatever the default
+left : (xs : List ℕ) (index x : ℕ) → index < length xs → swap_remove xs index x ≡ swap_remove xs index 0
+left xs index x few = ap (λ y. take (length xs - 1) (set xs index y)) (get_or_default xs (length xs - 1) x 0 (omega arith))
+
+-- the buckets as they were written
+words_at : (buckets : List ℕ) (index last last' bucket bucket' : ℕ) → last ≡ last' → bucket ≡ bucket' → set (set buckets last (index + 1)) bucket 0 ≡ set (set buckets last' (suc index)) bucket' 0
+words_at buckets index last last' bucket bucket' e f =
+    let one : index + 1 ≡ suc index = omega arith in
+    ap (λ n. set (set buckets n (index + 1)) bucket 0) e ∙ ap (λ n. set (set buckets last' n) bucket 0) one ∙ ap (λ n. set (set buckets last' (suc index)) n 0) f
 
 pub index_mut-requires : goal.index_mut-requires
 index_mut-requires c =
     let t = c.self.inside in
-    let s = seen t.hashes.items t.bucket_of.items c.args.self.now c.self.view_is in
-    let i = c.self.invariant.in_step in
-    let some : 0 < length t.bucket_of.items = omega (arith, s.count, c.requires) in
-    let last = last_read t.bucket_of.items c.len-last.result c.index-last_bucket.result.now some (c.len-last.ensures.value ∙ sym s.count) c.index-last_bucket.ensures in
-    let within = full-lt t.hashes.items (slice_index t.bucket_of.items (length t.bucket_of.items - 1)) (i.stands (length t.bucket_of.items - 1) (omega arith)) in
-    omega (arith, t.entry_of.ok, i.columns)
-
-pub index-requires : goal.index-requires
-index-requires c =
-    let t = c.self.inside in
-    let s = seen t.hashes.items t.bucket_of.items c.args.self.now c.self.view_is in
-    let few : c.args.index < length t.bucket_of.items = omega (arith, s.count, c.requires) in
-    let bucket = get_or_read t.bucket_of.items c.args.index c.swap_remove-bucket.result few c.swap_remove-bucket.ensures.value 0 in
-    let within = full-lt t.hashes.items (slice_index t.bucket_of.items c.args.index) (c.self.invariant.in_step.stands c.args.index few) in
-    omega (arith, t.hashes.ok)
-
--- the bucket that was read
-slot_read : (slots : List (Option ℕ)) (entry_of bucket_of : List ℕ) → InStep slots entry_of bucket_of → (index bucket : ℕ) (o : Option ℕ) → index < length bucket_of → bucket ≡ slice_index bucket_of index → o ≡ get_or slots bucket o →
-    o ≡ Some (slice_index (hashes_at slots bucket_of) index)
-slot_read slots entry_of bucket_of s index bucket o few at read =
-    let within : bucket < length slots = subst (λ q. q < length slots) (sym at) (full-lt slots (slice_index bucket_of index) (s.stands index few)) in
-    get_or_read slots bucket o within read None ∙ ap (slot_at slots) at ∙ hash_at_bucket slots entry_of bucket_of s index few
-
-pub unreachable-requires : goal.unreachable-requires
-unreachable-requires c =
-    let t = c.self.inside in
-    let s = seen t.hashes.items t.bucket_of.items c.args.self.now c.self.view_is in
-    let few : c.args.index < length t.bucket_of.items = omega (arith, s.count, c.requires) in
-    let bucket = get_or_read t.bucket_of.items c.args.index c.swap_remove-bucket.result few c.swap_remove-bucket.ensures.value 0 in
-    c.in_default.not-Some _ (slot_read t.hashes.items t.entry_of.items t.bucket_of.items c.self.invariant.in_step c.args.index c.swap_remove-bucket.result c.index.result.now few bucket c.index.ensures)
+    let x = c.self.invariant in
+    let hs = t.hashes.items in
+    let bs = t.buckets.items in
+    let po = t.bucket_of.items in
+    let count = index-count hs bs po (vec_capacity t.hashes) (vec_capacity t.bucket_of) x in
+    let held = ap (λ v. length v.hashes) c.self.view_is in
+    let few : c.args.index < length po = omega (arith, count, held, c.requires) in
+    let last = last_read po c.len-last.result c.index-last_bucket.result.now (omega (arith, few)) (c.len-last.ensures.value ∙ sym held ∙ sym count) c.index-last_bucket.ensures in
+    omega (arith, last, t.buckets.ok, remove-last hs bs po (vec_capacity t.hashes) (vec_capacity t.bucket_of) x c.args.index (length po - 1) few (omega (arith, few)))
 
 pub index_mut-requires-2 : goal.index_mut-requires-2
 index_mut-requires-2 c =
     let t = c.self.inside in
-    let s = seen t.hashes.items t.bucket_of.items c.args.self.now c.self.view_is in
-    let few : c.args.index < length t.bucket_of.items = omega (arith, s.count, c.requires) in
-    let bucket = get_or_read t.bucket_of.items c.args.index c.swap_remove-bucket.result few c.swap_remove-bucket.ensures.value 0 in
-    let within = full-lt t.hashes.items (slice_index t.bucket_of.items c.args.index) (c.self.invariant.in_step.stands c.args.index few) in
-    omega (arith, t.hashes.ok)
+    let x = c.self.invariant in
+    let hs = t.hashes.items in
+    let bs = t.buckets.items in
+    let po = t.bucket_of.items in
+    let count = index-count hs bs po (vec_capacity t.hashes) (vec_capacity t.bucket_of) x in
+    let held = ap (λ v. length v.hashes) c.self.view_is in
+    let few : c.args.index < length po = omega (arith, count, held, c.requires) in
+    let bucket = get_or_read po c.args.index c.swap_remove-bucket.result few c.swap_remove-bucket.ensures.value 0 in
+    omega (arith, bucket, t.buckets.ok, remove-bucket hs bs po (vec_capacity t.hashes) (vec_capacity t.bucket_of) x c.args.index (length po - 1) few (omega (arith, few)))
 
-in_step_as : (slots slots' : List (Option ℕ)) (entry_of entry_of' bucket_of bucket_of' : List ℕ) → slots' ≡ slots → entry_of' ≡ entry_of → bucket_of' ≡ bucket_of → InStep slots entry_of bucket_of → InStep slots' entry_of' bucket_of'
-in_step_as slots slots' entry_of entry_of' bucket_of bucket_of' f n p s = subst (λ x. InStep x entry_of' bucket_of') (sym f) (subst (λ x. InStep slots x bucket_of') (sym n) (subst (InStep slots entry_of) (sym p) s))
+pub backward_shift-requires-clause-whole : goal.backward_shift-requires-clause-whole
+backward_shift-requires-clause-whole c =
+    let t = c.self.inside in
+    let x = c.self.invariant in
+    let hs = t.hashes.items in
+    let bs = t.buckets.items in
+    let po = t.bucket_of.items in
+    let count = index-count hs bs po (vec_capacity t.hashes) (vec_capacity t.bucket_of) x in
+    let held = ap (λ v. length v.hashes) c.self.view_is in
+    let few : c.args.index < length po = omega (arith, count, held, c.requires) in
+    let bucket = get_or_read po c.args.index c.swap_remove-bucket.result few c.swap_remove-bucket.ensures.value 0 in
+    let is_last : suc (length po - 1) ≡ length po = omega (arith, few) in
+    let last = last_read po c.len-last.result c.index-last_bucket.result.now (omega (arith, few)) (c.len-last.ensures.value ∙ sym held ∙ sym count) c.index-last_bucket.ensures in
+    let words = c.as_mut_slice.ensures.value ∙ words_at bs c.args.index c.index-last_bucket.result.now (slice_index po (length po - 1)) c.swap_remove-bucket.result (slice_index po c.args.index) last bucket in
+    let hashes = c.as_slice.ensures.value ∙ c.swap_remove-hash.ensures.items ∙ left hs c.args.index c.swap_remove-hash.result (omega (arith, few, count)) in
+    let rest = c.as_mut_slice-2.ensures.value ∙ c.swap_remove-bucket.ensures.items ∙ left po c.args.index c.swap_remove-bucket.result few in
+    subst (λ y. WithinHashes y c.as_mut_slice.result.now) (sym hashes) (subst (WithinHashes (swap_remove hs c.args.index 0)) (sym words) (whole-remove hs bs po (vec_capacity t.hashes) (vec_capacity t.bucket_of) x c.args.index (length po - 1) few is_last))
 
 pub backward_shift-requires-clause-in_step : goal.backward_shift-requires-clause-in_step
 backward_shift-requires-clause-in_step c =
     let t = c.self.inside in
-    let ps = t.bucket_of.items in
-    let s = seen t.hashes.items ps c.args.self.now c.self.view_is in
-    let few : c.args.index < length ps = omega (arith, s.count, c.requires) in
-    let bucket = get_or_read ps c.args.index c.swap_remove-bucket.result few c.swap_remove-bucket.ensures.value 0 in
-    let last = last_read ps c.len-last.result c.index-last_bucket.result.now (omega arith) (c.len-last.ensures.value ∙ sym s.count) c.index-last_bucket.ensures in
-    let rows = c.as_mut_slice.ensures.value ∙ ap (λ p. set t.hashes.items p None) bucket in
-    let nums = c.as_mut_slice-2.ensures.value ∙ ap (λ p. set t.entry_of.items p c.args.index) last in
-    let rest = c.as_mut_slice-3.ensures.value ∙ c.swap_remove-bucket.ensures.items ∙ left ps c.args.index c.swap_remove-bucket.result few in
-    in_step_as _ _ _ _ _ _ rows nums rest (InStep-remove t.hashes.items t.entry_of.items ps c.self.invariant.in_step c.args.index (length ps - 1) few (omega arith))
+    let x = c.self.invariant in
+    let hs = t.hashes.items in
+    let bs = t.buckets.items in
+    let po = t.bucket_of.items in
+    let count = index-count hs bs po (vec_capacity t.hashes) (vec_capacity t.bucket_of) x in
+    let held = ap (λ v. length v.hashes) c.self.view_is in
+    let few : c.args.index < length po = omega (arith, count, held, c.requires) in
+    let bucket = get_or_read po c.args.index c.swap_remove-bucket.result few c.swap_remove-bucket.ensures.value 0 in
+    let is_last : suc (length po - 1) ≡ length po = omega (arith, few) in
+    let last = last_read po c.len-last.result c.index-last_bucket.result.now (omega (arith, few)) (c.len-last.ensures.value ∙ sym held ∙ sym count) c.index-last_bucket.ensures in
+    let words = c.as_mut_slice.ensures.value ∙ words_at bs c.args.index c.index-last_bucket.result.now (slice_index po (length po - 1)) c.swap_remove-bucket.result (slice_index po c.args.index) last bucket in
+    let hashes = c.as_slice.ensures.value ∙ c.swap_remove-hash.ensures.items ∙ left hs c.args.index c.swap_remove-hash.result (omega (arith, few, count)) in
+    let rest = c.as_mut_slice-2.ensures.value ∙ c.swap_remove-bucket.ensures.items ∙ left po c.args.index c.swap_remove-bucket.result few in
+    subst (λ y. InStep (slots_by y c.as_mut_slice.result.now) (entries_by c.as_mut_slice.result.now) c.as_mut_slice-2.result.now) (sym hashes)
+    (subst (λ y. InStep (slots_by (swap_remove hs c.args.index 0) y) (entries_by y) c.as_mut_slice-2.result.now) (sym words)
+    (subst (InStep _ _) (sym rest) (in_step-remove hs bs po (vec_capacity t.hashes) (vec_capacity t.bucket_of) x c.args.index (length po - 1) few is_last)))
 
 pub backward_shift-requires-clause-gap : goal.backward_shift-requires-clause-gap
 backward_shift-requires-clause-gap c =
     let t = c.self.inside in
-    let ps = t.bucket_of.items in
-    let s = seen t.hashes.items ps c.args.self.now c.self.view_is in
-    let few : c.args.index < length ps = omega (arith, s.count, c.requires) in
-    let bucket = get_or_read ps c.args.index c.swap_remove-bucket.result few c.swap_remove-bucket.ensures.value 0 in
-    let rows = c.as_mut_slice.ensures.value ∙ ap (λ p. set t.hashes.items p None) bucket in
-    let full = full-lt t.hashes.items (slice_index ps c.args.index) (c.self.invariant.in_step.stands c.args.index few) in
-    let vacant = table_vacant t.hashes.items t.entry_of.items ps (vec_capacity t.bucket_of) c.self.invariant (omega arith) in
-    subst (λ p. HasGap c.as_mut_slice.result.now p) (sym bucket) (subst (λ x. HasGap x (slice_index ps c.args.index)) (sym rows)
-    (HasGap-remove t.hashes.items t.entry_of.items ps c.self.invariant.in_step c.self.invariant.ordered vacant c.args.index (length ps - 1) few (omega arith)))
+    let x = c.self.invariant in
+    let hs = t.hashes.items in
+    let bs = t.buckets.items in
+    let po = t.bucket_of.items in
+    let count = index-count hs bs po (vec_capacity t.hashes) (vec_capacity t.bucket_of) x in
+    let held = ap (λ v. length v.hashes) c.self.view_is in
+    let few : c.args.index < length po = omega (arith, count, held, c.requires) in
+    let bucket = get_or_read po c.args.index c.swap_remove-bucket.result few c.swap_remove-bucket.ensures.value 0 in
+    let is_last : suc (length po - 1) ≡ length po = omega (arith, few) in
+    let last = last_read po c.len-last.result c.index-last_bucket.result.now (omega (arith, few)) (c.len-last.ensures.value ∙ sym held ∙ sym count) c.index-last_bucket.ensures in
+    let words = c.as_mut_slice.ensures.value ∙ words_at bs c.args.index c.index-last_bucket.result.now (slice_index po (length po - 1)) c.swap_remove-bucket.result (slice_index po c.args.index) last bucket in
+    let hashes = c.as_slice.ensures.value ∙ c.swap_remove-hash.ensures.items ∙ left hs c.args.index c.swap_remove-hash.result (omega (arith, few, count)) in
+    let rest = c.as_mut_slice-2.ensures.value ∙ c.swap_remove-bucket.ensures.items ∙ left po c.args.index c.swap_remove-bucket.result few in
+    subst (λ y. HasGap (slots_by y c.as_mut_slice.result.now) c.swap_remove-bucket.result) (sym hashes)
+    (subst (λ y. HasGap (slots_by (swap_remove hs c.args.index 0) y) c.swap_remove-bucket.result) (sym words) (subst (HasGap _) (sym bucket) (gap-remove hs bs po (vec_capacity t.hashes) (vec_capacity t.bucket_of) x c.args.index (length po - 1) few is_last)))
+
+pub invariant_of-self : goal.invariant_of-self
+invariant_of-self c =
+    let t = c.self.inside in
+    let x = c.self.invariant in
+    let hs = t.hashes.items in
+    let bs = t.buckets.items in
+    let po = t.bucket_of.items in
+    let count = index-count hs bs po (vec_capacity t.hashes) (vec_capacity t.bucket_of) x in
+    let held = ap (λ v. length v.hashes) c.self.view_is in
+    let few : c.args.index < length po = omega (arith, count, held, c.requires) in
+    let bucket = get_or_read po c.args.index c.swap_remove-bucket.result few c.swap_remove-bucket.ensures.value 0 in
+    let is_last : suc (length po - 1) ≡ length po = omega (arith, few) in
+    let last = last_read po c.len-last.result c.index-last_bucket.result.now (omega (arith, few)) (c.len-last.ensures.value ∙ sym held ∙ sym count) c.index-last_bucket.ensures in
+    let words = c.as_mut_slice.ensures.value ∙ words_at bs c.args.index c.index-last_bucket.result.now (slice_index po (length po - 1)) c.swap_remove-bucket.result (slice_index po c.args.index) last bucket in
+    let hashes = c.as_slice.ensures.value ∙ c.swap_remove-hash.ensures.items ∙ left hs c.args.index c.swap_remove-hash.result (omega (arith, few, count)) in
+    let rest = c.as_mut_slice-2.ensures.value ∙ c.swap_remove-bucket.ensures.items ∙ left po c.args.index c.swap_remove-bucket.result few in
+    let shifted = c.backward_shift.new in
+    let out = c.backward_shift.ensures in
+    let long : length shifted.buckets ≡ length bs = c.backward_shift.auto.buckets ∙ ap length words ∙ length-buckets° hs bs po (vec_capacity t.hashes) (vec_capacity t.bucket_of) x c.args.index (length po - 1) few is_last in
+    let fewer : length shifted.bucket_of ≡ length po - 1 = c.backward_shift.auto.bucket_of ∙ ap length rest ∙ length-swap_remove po c.args.index (length po - 1) is_last in
+    let within = index-within hs bs po (vec_capacity t.hashes) (vec_capacity t.bucket_of) x in
+    let same = ap capacity_of long in
+    let reserved = index-reserved hs bs po (vec_capacity t.hashes) (vec_capacity t.bucket_of) x in
+    let column : hashes_at (slots_by c.as_slice.result.now c.as_mut_slice.result.now) c.as_mut_slice-2.result.now ≡ c.as_slice.result.now =
+    ap (λ y. hashes_at (slots_by y c.as_mut_slice.result.now) c.as_mut_slice-2.result.now) hashes
+    ∙ ap (λ y. hashes_at (slots_by (swap_remove hs c.args.index 0) y) c.as_mut_slice-2.result.now) words
+    ∙ ap (hashes_at _) rest ∙ column-remove hs bs po (vec_capacity t.hashes) (vec_capacity t.bucket_of) x c.args.index (length po - 1) few is_last ∙ sym hashes in
+    let all_buckets = take_at shifted.buckets (drop (length shifted.buckets) _) t.buckets.len (omega (arith, long, t.buckets.ok)) in
+    let all_indices = take_at shifted.bucket_of (drop (length shifted.bucket_of) c.swap_remove-bucket.new.self.items) c.swap_remove-bucket.new.self.len (c.backward_shift.auto.bucket_of ∙ c.as_mut_slice-2.ensures.len) in
+    IsIndex-as c.as_slice.result.now c.swap_remove-hash.new.self.items shifted.buckets _ shifted.bucket_of _ (vec_capacity t.hashes) (vec_capacity t.bucket_of) (vec_capacity c.swap_remove-hash.new.self) (vec_capacity c.swap_remove-bucket.new.self)
+    (sym c.as_slice.ensures.value) all_buckets all_indices
+    (omega (arith, same, x.reserved, c.swap_remove-hash.ensures.capacity)) (omega (arith, same, reserved, c.swap_remove-bucket.ensures.capacity))
+    (IsIndex-from c.as_slice.result.now shifted.buckets shifted.bucket_of (vec_capacity t.hashes) (vec_capacity t.bucket_of)
+    (subst IsBucketCount (sym long) (index-buckets hs bs po (vec_capacity t.hashes) (vec_capacity t.bucket_of) x))
+    (omega (arith, same, fewer, within, count)) (omega (arith, same, x.reserved)) (omega (arith, same, reserved))
+    out.whole (out.hashes ∙ column) out.in_step out.ordered)
 
 pub returns-clause-hash : goal.returns-clause-hash
 returns-clause-hash c =
     let t = c.self.inside in
-    let s = seen t.hashes.items t.bucket_of.items c.args.self.now c.self.view_is in
-    let few : c.args.index < length t.bucket_of.items = omega (arith, s.count, c.requires) in
-    let bucket = get_or_read t.bucket_of.items c.args.index c.swap_remove-bucket.result few c.swap_remove-bucket.ensures.value 0 in
-    let is = slot_read t.hashes.items t.entry_of.items t.bucket_of.items c.self.invariant.in_step c.args.index c.swap_remove-bucket.result c.index.result.now few bucket c.index.ensures in
-    let long = length-hashes_at t.hashes.items t.bucket_of.items in
-    ap (λ hs. slice_get hs c.args.index) (sym s.hashes) ∙ slice_get-get_or (hashes_at t.hashes.items t.bucket_of.items) c.args.index 0 (omega arith) ∙ sym is ∙ c.in-Some.is
-
-hashes_at_as : (slots slots' : List (Option ℕ)) (bucket_of bucket_of' : List ℕ) → slots' ≡ slots → bucket_of' ≡ bucket_of → hashes_at slots' bucket_of' ≡ hashes_at slots bucket_of
-hashes_at_as slots slots' bucket_of bucket_of' f p = ap (λ x. hashes_at x bucket_of') f ∙ ap (hashes_at slots) p
-
-pub returns-clause-hashes : goal.returns-clause-hashes
-returns-clause-hashes c =
-    let t = c.self.inside in
-    let ps = t.bucket_of.items in
-    let s = seen t.hashes.items ps c.args.self.now c.self.view_is in
-    let few : c.args.index < length ps = omega (arith, s.count, c.requires) in
-    let bucket = get_or_read ps c.args.index c.swap_remove-bucket.result few c.swap_remove-bucket.ensures.value 0 in
-    let rows = c.as_mut_slice.ensures.value ∙ ap (λ p. set t.hashes.items p None) bucket in
-    let rest = c.as_mut_slice-3.ensures.value ∙ c.swap_remove-bucket.ensures.items ∙ left ps c.args.index c.swap_remove-bucket.result few in
-    let closed = c.backward_shift.new in
-    let all_hashes = take_at closed.hashes (drop (length closed.hashes) (set t.hashes.items c.swap_remove-bucket.result None)) t.hashes.len (c.backward_shift.auto.hashes ∙ c.as_mut_slice.ensures.len) in
-    let all_buckets = take_at closed.bucket_of (drop (length closed.bucket_of) c.swap_remove-bucket.new.self.items) c.swap_remove-bucket.new.self.len (c.backward_shift.auto.bucket_of ∙ c.as_mut_slice-3.ensures.len) in
-    hashes_at_as _ _ _ _ all_hashes all_buckets ∙ c.backward_shift.ensures.hashes ∙ hashes_at_as _ _ _ _ rows rest
-    ∙ hashes_at-remove t.hashes.items t.entry_of.items ps c.self.invariant.in_step c.args.index (length ps - 1) few (omega arith) ∙ ap (λ hs. swap_remove hs c.args.index 0) s.hashes
+    let x = c.self.invariant in
+    let hs = t.hashes.items in
+    let bs = t.buckets.items in
+    let po = t.bucket_of.items in
+    let count = index-count hs bs po (vec_capacity t.hashes) (vec_capacity t.bucket_of) x in
+    let held = ap (λ v. length v.hashes) c.self.view_is in
+    let few : c.args.index < length po = omega (arith, count, held, c.requires) in
+    ap (λ v. slice_get v.hashes c.args.index) (sym c.self.view_is) ∙ slice_get-get_or hs c.args.index c.swap_remove-hash.result (omega (arith, few, count)) ∙ ap Some (sym c.swap_remove-hash.ensures.value)

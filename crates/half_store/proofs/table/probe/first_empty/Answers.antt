@@ -6,7 +6,7 @@ use Rattle.half_store.proofs.table.probe.first_empty.Goals as goal
 pub loop-step-init : goal.loop-step-init
 loop-step-init g c =
     let slots = g.P.Buckets.slots c.args.buckets.now in
-    let same = c.requires.length in
+    let same = c.count-count.ensures in
     record {
       probe = Probes-start slots c.args.hash c.home-bucket.result (omega arith) (rw (← same) c.home-bucket.ensures.value);
       counted = looked_more-zero c.args.tally.now;
@@ -15,20 +15,20 @@ loop-step-init g c =
 pub returns-then-is_none-clause-vacancy : goal.returns-then-is_none-clause-vacancy
 returns-then-is_none-clause-vacancy g c =
     let slots = g.P.Buckets.slots c.args.buckets.now in
-    let same = c.requires.length in
+    let same = c.count-count.ensures in
     Probes-vacancy slots c.args.hash c.loop-step.bucket c.loop-step._step c.loop-step.invariant.probe (omega arith) (sym c.look.ensures.stored ∙ none_from c.look.result c.if-is_none.ensures)
 
 pub returns-then-is_none-clause-cost : goal.returns-then-is_none-clause-cost
 returns-then-is_none-clause-cost g c =
     let slots = g.P.Buckets.slots c.args.buckets.now in
-    let same = c.requires.length in
+    let same = c.count-count.ensures in
     let at = Probes-probe_distance slots c.args.hash c.loop-step.bucket c.loop-step._step c.loop-step.invariant.probe (omega arith) in
     rw at (c.look.ensures.counted ∙ looked_more-one c.args.tally.now c.loop-step.tally c.loop-step._step c.loop-step.invariant.counted)
 
 pub loop-step-preserved : goal.loop-step-preserved
 loop-step-preserved g c =
     let slots = g.P.Buckets.slots c.args.buckets.now in
-    let same = c.requires.length in
+    let same = c.count-count.ensures in
     record {
       probe = Probes-next slots c.args.hash c.loop-step.bucket c.loop-step._step c.loop-step.invariant.probe (omega arith) c.next-bucket.result (λ z. full_from_some c.look.result c.if-is_none.ensures (c.look.ensures.stored ∙ z)) (omega arith) (rw (← same) c.next-bucket.ensures.value);
       counted = c.look.ensures.counted ∙ looked_more-one c.args.tally.now c.loop-step.tally c.loop-step._step c.loop-step.invariant.counted;
@@ -37,5 +37,5 @@ loop-step-preserved g c =
 pub unreachable-requires : goal.unreachable-requires
 unreachable-requires g c =
     let slots = g.P.Buckets.slots c.args.buckets.now in
-    let same = c.requires.length in
+    let same = c.count-count.ensures in
     Probes-ends slots c.args.hash c.loop-step.bucket c.loop-step._step c.loop-step.invariant.probe (omega arith) c.requires.vacant

@@ -1,12 +1,10 @@
-use Rattle.std.proofs.Common.{◌≢◌, ◌∙◌, sym, subst, arith}
-use Rattle.std.specs.Vec.{vec_len, vec_capacity}
-use borrow.Author.Tests.{eqb-false}
-use Rattle.half_store.specs.Slots.{SomeVacant}
+use Rattle.std.proofs.Common.{arith}
+use Rattle.half_store.specs.Buckets.{slots_by, entries_by}
 use Rattle.half_store.proofs.StepLemmas.{table_vacant}
 use Rattle.half_store.proofs.table.tests.searched.Goals as goal
 
 pub search-bucket-requires-clause-vacant : goal.search-bucket-requires-clause-vacant
 search-bucket-requires-clause-vacant c =
-    let t = c.table.inside in
-    let some : vec_len t.hashes ≢ 0 = eqb-false _ _ (sym c.is_empty.ensures ∙ c.if-is_empty.false) in
-    subst SomeVacant (sym c.as_slice.ensures.value) (table_vacant t.hashes.items t.entry_of.items t.bucket_of.items (vec_capacity t.bucket_of) c.table.invariant (omega (arith, t.hashes.ok)))
+    let b = c.hashed_buckets.result in
+    let shown = c.hashed_buckets.ensures.shown in
+    table_vacant (slots_by b.hashes.now b.buckets.now) (entries_by b.buckets.now) shown.bucket_of shown.capacity shown.table (omega (arith, c.if-count-eq0.false, c.count.ensures))

@@ -1,7 +1,7 @@
 -- What was moved and what is left are all elements, in order; the capacity stays.
 use Rattle.std.proofs.Common.{◌≡◌, ◌+◌, ◌++◌, vec_len, vec_capacity}
 use Rattle.std.specs.Vec.Iter.{into_iter_items, into_iter_len}
-use Rattle.half_store.proofs.vecmap.memory.move_all.Given as goal
+use Rattle.half_store.proofs.column.move_all.Given as goal
 
 abbrev pub invariant-loop-item : goal.invariant-loop-item
 invariant-loop-item g l = record {

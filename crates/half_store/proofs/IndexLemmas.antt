@@ -1,0 +1,294 @@
+-- The columns of a table: a pair that is added, one that is removed, and no pair at all.
+use Rattle.std.proofs.Common.{◌≡◌, ◌≢◌, ℕ, zero, suc, ◌-◌, ◌<◌, ◌≤◌, inl, inr, refl, sym, ap, ◌∙◌, subst, arith, List, [], ◌∷◌, ◌++◌, length, set, get_or, replicate, slice_index, Option, Some, None}
+use Rattle.std.specs.List.{swap_remove}
+use Rattle.std.proofs.lemmas.Bool.{cases_lt, cases_eq}
+use Rattle.std.proofs.lemmas.List.{length-set, length_push, length-replicate, length-map, get_or_append_left, get_or_push}
+use Rattle.std.proofs.lemmas.Option.{slice_get-get_or}
+use Rattle.half_store.specs.Buckets.{slot_by, slots_by, entries_by, WithinHashes}
+use Rattle.half_store.specs.Capacity.{capacity_of, IsBucketCount}
+use Rattle.half_store.specs.Slots.{slot_at, IsVacancyFor, ProbeInvariant}
+use Rattle.half_store.specs.Table.{TableState, table_state, hashes_at}
+use Rattle.half_store.specs.TableLayout.{InStep, IsTable, IsIndex, HasGap, Shows}
+use Rattle.half_store.proofs.AddLemmas.{IsTable-add, IsTable-empty, hashes_at-add, index_set, index_other, slot_set}
+use Rattle.half_store.proofs.BucketLemmas.{length-slots_by, slot_by-at, entry_by-at, slots_by-set, entries_by-set, slots_by-same, slots_by-empty, whole-at, whole-from, whole-set, whole-empty}
+use Rattle.half_store.proofs.GapLemmas.{InStep-remove, hashes_at-remove, length-swap_remove, swap_remove-at, swap_remove-other}
+use Rattle.half_store.proofs.SlotsLemmas.{full_from, full-lt}
+use Rattle.half_store.proofs.StepLemmas.{length-hashes_at, hash_at_bucket, table_vacant}
+use Rattle.half_store.proofs.DeletionLemmas.{HasGap-remove}
+
+-- an entry index is written into an empty bucket, where it tells nothing
+pub InStep-vacant : (slots : List (Option ℕ)) (entry_of bucket_of : List ℕ) → InStep slots entry_of bucket_of → (p n : ℕ) → slot_at slots p ≡ None → InStep slots (set entry_of p n) bucket_of
+InStep-vacant slots entry_of bucket_of s p n none =
+    let apart : (q : ℕ) → slot_at slots q ≢ None → q ≢ p = λ q full e. full (ap (slot_at slots) e ∙ none) in
+    let same : (q : ℕ) → slot_at slots q ≢ None → slice_index (set entry_of p n) q ≡ slice_index entry_of q = λ q full. index_other entry_of p q n (apart q full) in
+    record {
+      columns = length-set entry_of p n ∙ s.columns;
+      stands = s.stands;
+      index_back = λ i l. same (slice_index bucket_of i) (s.stands i l) ∙ s.index_back i l;
+      indexed = λ q full. subst (λ k. k < length bucket_of) (sym (same q full)) (s.indexed q full);
+      bucket_back = λ q full. ap (slice_index bucket_of) (same q full) ∙ s.bucket_back q full;
+      counted = s.counted;
+    }
+
+in_step_at : (slots slots' : List (Option ℕ)) (entry_of entry_of' bucket_of : List ℕ) → slots' ≡ slots → entry_of' ≡ entry_of → InStep slots entry_of bucket_of → InStep slots' entry_of' bucket_of
+in_step_at slots slots' entry_of entry_of' bucket_of f n s = subst (λ x. InStep x entry_of' bucket_of) (sym f) (subst (λ x. InStep slots x bucket_of) (sym n) s)
+
+table_at : (slots slots' : List (Option ℕ)) (entry_of entry_of' bucket_of : List ℕ) (capacity : ℕ) → slots' ≡ slots → entry_of' ≡ entry_of → IsTable slots entry_of bucket_of capacity → IsTable slots' entry_of' bucket_of capacity
+table_at slots slots' entry_of entry_of' bucket_of capacity f n t = subst (λ x. IsTable x entry_of' bucket_of capacity) (sym f) (subst (λ x. IsTable slots x bucket_of capacity) (sym n) t)
+
+-- a stored hash that is added leaves the others
+more-by : (hashes : List ℕ) (h n : ℕ) → n ≤ length hashes → slot_by (hashes ++ h ∷ []) n ≡ slot_by hashes n
+more-by hashes h zero l = refl
+more-by hashes h (suc i) l =
+    let in_old : i < length hashes = omega arith in
+    slice_get-get_or (hashes ++ h ∷ []) i 0 (omega (arith, length_push hashes h)) ∙ ap Some (get_or_append_left hashes (h ∷ []) 0 i in_old) ∙ sym (slice_get-get_or hashes i 0 in_old)
+
+last-by : (hashes : List ℕ) (h : ℕ) → slot_by (hashes ++ h ∷ []) (suc (length hashes)) ≡ Some h
+last-by hashes h = slice_get-get_or (hashes ++ h ∷ []) (length hashes) 0 (omega (arith, length_push hashes h)) ∙ ap Some (get_or_push hashes h 0 (length hashes) refl)
+
+module _ (hashes buckets bucket_of : List ℕ) (hash_capacity entry_capacity : ℕ) (x : IsIndex hashes buckets bucket_of hash_capacity entry_capacity) where
+  abbrev slots : List (Option ℕ)
+  slots = slots_by hashes buckets
+
+  -- each pair has one stored hash and one bucket
+  pub index-count : length bucket_of ≡ length hashes
+  index-count = sym (length-hashes_at slots bucket_of) ∙ ap length x.column
+
+  pub index-buckets : IsBucketCount (length buckets)
+  index-buckets = subst IsBucketCount (length-slots_by hashes buckets) x.table.buckets
+
+  pub index-within : length hashes ≤ capacity_of (length buckets)
+  index-within = subst (λ m. length hashes ≤ capacity_of m) (length-slots_by hashes buckets) (let w = x.table.within in omega (arith, index-count))
+
+  pub index-reserved : capacity_of (length buckets) ≤ entry_capacity
+  index-reserved = subst (λ m. capacity_of m ≤ entry_capacity) (length-slots_by hashes buckets) x.table.reserved
+
+  pub index-shows : (t : TableState) → table_state hashes slots ≡ t → Shows slots (entries_by buckets) t
+  index-shows t view = record {
+    bucket_of = bucket_of;
+    capacity = entry_capacity;
+    table = x.table;
+    view = ap (λ hs. table_state hs slots) x.column ∙ view;
+  }
+
+  -- the columns with other capacities that are enough
+  pub index-capacities : (more more' : ℕ) → capacity_of (length buckets) ≤ more → capacity_of (length buckets) ≤ more' → IsIndex hashes buckets bucket_of more more'
+  index-capacities more more' enough enough' =
+      let t = x.table in
+      record {
+        whole = x.whole;
+        column = x.column;
+        reserved = enough;
+        table = record {
+          buckets = t.buckets;
+          within = t.within;
+          reserved = subst (λ m. capacity_of m ≤ more') (sym (length-slots_by hashes buckets)) enough';
+          in_step = t.in_step;
+          ordered = t.ordered;
+        };
+      }
+
+  module _ (p h : ℕ) (w : IsVacancyFor slots h p) (few : length hashes < capacity_of (length buckets)) where
+    abbrev hashes' : List ℕ
+    hashes' = hashes ++ h ∷ []
+
+    abbrev buckets' : List ℕ
+    buckets' = set buckets p (suc (length hashes))
+
+    slots-add : slots_by hashes' buckets' ≡ set slots p (Some h)
+    slots-add =
+        slots_by-set hashes' buckets p (suc (length hashes))
+        ∙ ap (λ s. set s p (slot_by hashes' (suc (length hashes)))) (slots_by-same hashes' hashes buckets buckets refl (λ q l. more-by hashes h (slice_index buckets q) (whole-at hashes buckets q x.whole)))
+        ∙ ap (set slots p) (last-by hashes h)
+
+    entries-add : entries_by buckets' ≡ set (entries_by buckets) p (length bucket_of)
+    entries-add = entries_by-set buckets p (suc (length hashes)) ∙ ap (set (entries_by buckets) p) (omega (arith, index-count))
+
+    room : length bucket_of < capacity_of (length slots)
+    room = subst (λ m. length bucket_of < capacity_of m) (sym (length-slots_by hashes buckets)) (omega (arith, index-count))
+
+    pub IsIndex-add : IsIndex hashes' buckets' (bucket_of ++ p ∷ []) hash_capacity entry_capacity
+    IsIndex-add = record {
+      whole =
+          whole-set hashes' buckets p (suc (length hashes)) (omega (arith, length_push hashes h))
+          (whole-from hashes' buckets (λ q l. omega (arith, length_push hashes h, whole-at hashes buckets q x.whole)));
+      column =
+          ap (λ s. hashes_at s (bucket_of ++ p ∷ [])) slots-add
+          ∙ hashes_at-add slots (entries_by buckets) bucket_of x.table.in_step p h w.within w.vacant ∙ ap (λ hs. hs ++ h ∷ []) x.column;
+      reserved = subst (λ m. capacity_of m ≤ hash_capacity) (sym (length-set buckets p (suc (length hashes)))) x.reserved;
+      table = table_at _ _ _ _ (bucket_of ++ p ∷ []) entry_capacity slots-add entries-add (IsTable-add slots (entries_by buckets) bucket_of entry_capacity p h x.table w room);
+    }
+
+  -- the pair of this entry index is taken out, and the last pair gets its index
+  module _ (index last : ℕ) (in_index : index < length bucket_of) (is_last : suc last ≡ length bucket_of) where
+    abbrev bucket : ℕ
+    bucket = slice_index bucket_of index
+
+    abbrev last_bucket : ℕ
+    last_bucket = slice_index bucket_of last
+
+    abbrev hashes° : List ℕ
+    hashes° = swap_remove hashes index 0
+
+    abbrev buckets° : List ℕ
+    buckets° = set (set buckets last_bucket (suc index)) bucket 0
+
+    s : InStep slots (entries_by buckets) bucket_of
+    s = x.table.in_step
+
+    pub remove-bucket : bucket < length buckets
+    remove-bucket = omega (arith, full-lt slots bucket (s.stands index in_index), length-slots_by hashes buckets)
+
+    pub remove-last : last_bucket < length buckets
+    remove-last = omega (arith, full-lt slots last_bucket (s.stands last (omega arith)), length-slots_by hashes buckets)
+
+    long : suc last ≡ length hashes
+    long = is_last ∙ index-count
+
+    pub length-hashes° : length hashes° ≡ last
+    length-hashes° = length-swap_remove hashes index last long
+
+    -- what stands in a bucket afterwards
+    at_bucket : slice_index buckets° bucket ≡ 0
+    at_bucket = index_set (set buckets last_bucket (suc index)) bucket 0 (omega (arith, length-set buckets last_bucket (suc index), remove-bucket))
+
+    at_last : last_bucket ≢ bucket → slice_index buckets° last_bucket ≡ suc index
+    at_last ne = index_other (set buckets last_bucket (suc index)) bucket last_bucket 0 ne ∙ index_set buckets last_bucket (suc index) remove-last
+
+    at_other : (q : ℕ) → q ≢ bucket → q ≢ last_bucket → slice_index buckets° q ≡ slice_index buckets q
+    at_other q nb nl = index_other (set buckets last_bucket (suc index)) bucket q 0 nb ∙ index_other buckets last_bucket q (suc index) nl
+
+    -- the last pair is another one, where its bucket is
+    before_last : last_bucket ≢ bucket → index < last
+    before_last ne = elim (cases_eq index last) [ inl e ↦ absurd (ne (ap (slice_index bucket_of) (sym e))) | inr other ↦ omega arith ]
+
+    -- a full bucket that was not written has another entry index
+    kept_entry : (q : ℕ) → q ≢ bucket → q ≢ last_bucket → slot_at slots q ≢ None → (slice_index (entries_by buckets) q < last) × (slice_index (entries_by buckets) q ≢ index)
+    kept_entry q nb nl full =
+        let l = s.indexed q full in
+        let not_index : slice_index (entries_by buckets) q ≢ index = λ e. nb (sym (s.bucket_back q full) ∙ ap (slice_index bucket_of) e) in
+        let not_last : slice_index (entries_by buckets) q ≢ last = λ e. nl (sym (s.bucket_back q full) ∙ ap (slice_index bucket_of) e) in
+        (omega arith, not_index)
+
+    -- the hash of an entry index that is left
+    kept-by : (n : ℕ) → n ≢ suc index → n ≤ last → slot_by hashes° n ≡ slot_by hashes n
+    kept-by zero ne l = refl
+    kept-by (suc i) ne l =
+        let in_new : i < last = omega arith in
+        let other : i ≢ index = λ e. ne (ap suc e) in
+        slice_get-get_or hashes° i 0 (omega (arith, length-hashes°)) ∙ ap Some (swap_remove-other hashes index i last long in_new other) ∙ sym (slice_get-get_or hashes i 0 (omega (arith, long)))
+
+    moved-by : index < last → slot_by hashes° (suc index) ≡ Some (slice_index hashes last)
+    moved-by l = slice_get-get_or hashes° index 0 (omega (arith, length-hashes°)) ∙ ap Some (swap_remove-at hashes index last long l)
+
+    other-by : (q n : ℕ) → q ≢ bucket → q ≢ last_bucket → slice_index buckets q ≡ n → slot_by hashes° n ≡ slot_by hashes n
+    other-by q zero nb nl e = refl
+    other-by q (suc i) nb nl e =
+        let in_old : i < length hashes = omega (arith, whole-at hashes buckets q x.whole) in
+        let is : slot_at slots q ≡ Some (get_or hashes i 0) = slot_by-at hashes buckets q ∙ ap (slot_by hashes) e ∙ slice_get-get_or hashes i 0 in_old in
+        let full = full_from _ (get_or hashes i 0) is in
+        let kept = kept_entry q nb nl full in
+        let entry : slice_index (entries_by buckets) q ≡ i = omega (arith, entry_by-at buckets q) in
+        let below = kept.0 in
+        let other : suc i ≢ suc index = λ same. kept.1 (entry ∙ omega arith) in
+        kept-by (suc i) other (omega arith)
+
+    pub slots-remove : slots_by hashes° buckets° ≡ set slots bucket None
+    slots-remove =
+        slots_by-same hashes° hashes buckets° (set buckets bucket 0) (length-set (set buckets last_bucket (suc index)) bucket 0 ∙ length-set buckets last_bucket (suc index) ∙ sym (length-set buckets bucket 0))
+        (λ q l.
+        elim (cases_eq q bucket) [
+          | inl e ↦
+              ap (λ b. slot_by hashes° (slice_index buckets° b)) e ∙ ap (slot_by hashes°) at_bucket
+              ∙ sym (ap (λ b. slot_by hashes (slice_index (set buckets bucket 0) b)) e ∙ ap (slot_by hashes) (index_set buckets bucket 0 remove-bucket))
+          | inr nb ↦
+              let old : slice_index (set buckets bucket 0) q ≡ slice_index buckets q = index_other buckets bucket q 0 nb in
+              elim (cases_eq q last_bucket) [
+                | inl e ↦
+                    let apart : last_bucket ≢ bucket = λ same. nb (e ∙ same) in
+                    ap (λ b. slot_by hashes° (slice_index buckets° b)) e ∙ ap (slot_by hashes°) (at_last apart) ∙ moved-by (before_last apart)
+                    ∙ ap (λ hs. Some (slice_index hs last)) (sym x.column)
+                    ∙ sym (ap (slot_by hashes) old ∙ sym (slot_by-at hashes buckets q) ∙ ap (slot_at slots) e ∙ hash_at_bucket slots (entries_by buckets) bucket_of s last (omega arith))
+                | inr nl ↦ ap (slot_by hashes°) (at_other q nb nl) ∙ other-by q (slice_index buckets q) nb nl refl ∙ ap (slot_by hashes) (sym old)
+              ]
+        ])
+        ∙ slots_by-set hashes buckets bucket 0
+
+    pub whole-remove : WithinHashes hashes° buckets°
+    whole-remove = whole-from hashes° buckets° (λ q l.
+        elim (cases_eq q bucket) [
+          | inl e ↦ omega (arith, ap (slice_index buckets°) e ∙ at_bucket)
+          | inr nb ↦ elim (cases_eq q last_bucket) [
+            | inl e ↦
+                let apart : last_bucket ≢ bucket = λ same. nb (e ∙ same) in
+                omega (arith, ap (slice_index buckets°) e ∙ at_last apart, before_last apart, length-hashes°)
+            | inr nl ↦ elim (cases_lt 0 (slice_index buckets q)) [
+              | inr none ↦ omega (arith, at_other q nb nl)
+              | inl some ↦
+                  let i : ℕ = slice_index buckets q - 1 in
+                  let in_old : i < length hashes = omega (arith, whole-at hashes buckets q x.whole) in
+                  let word : slice_index buckets q ≡ suc i = omega arith in
+                  let is : slot_at slots q ≡ Some (get_or hashes i 0) = slot_by-at hashes buckets q ∙ ap (slot_by hashes) word ∙ slice_get-get_or hashes i 0 in_old in
+                  let below = (kept_entry q nb nl (full_from _ (get_or hashes i 0) is)).0 in
+                  omega (arith, at_other q nb nl, entry_by-at buckets q, length-hashes°)
+            ]
+          ]
+        ])
+
+    pub column-remove : hashes_at (slots_by hashes° buckets°) (swap_remove bucket_of index 0) ≡ hashes°
+    column-remove =
+        ap (λ y. hashes_at y (swap_remove bucket_of index 0)) slots-remove
+        ∙ hashes_at-remove slots (entries_by buckets) bucket_of s index last in_index is_last ∙ ap (λ hs. swap_remove hs index 0) x.column
+
+    pub gap-remove : HasGap (slots_by hashes° buckets°) bucket
+    gap-remove =
+        let vacant = table_vacant slots (entries_by buckets) bucket_of entry_capacity x.table (omega (arith, remove-bucket, length-slots_by hashes buckets)) in
+        subst (λ y. HasGap y bucket) (sym slots-remove) (HasGap-remove slots (entries_by buckets) bucket_of s x.table.ordered vacant index last in_index is_last)
+
+    pub length-buckets° : length buckets° ≡ length buckets
+    length-buckets° = length-set (set buckets last_bucket (suc index)) bucket 0 ∙ length-set buckets last_bucket (suc index)
+
+    pub in_step-remove : InStep (slots_by hashes° buckets°) (entries_by buckets°) (swap_remove bucket_of index 0)
+    in_step-remove =
+        let none : slot_at (set slots bucket None) bucket ≡ None = slot_set slots bucket None (omega (arith, remove-bucket, length-slots_by hashes buckets)) in
+        in_step_at _ _ _ _ (swap_remove bucket_of index 0) slots-remove
+        (entries_by-set (set buckets last_bucket (suc index)) bucket 0 ∙ ap (λ es. set es bucket 0) (entries_by-set buckets last_bucket (suc index) ∙ ap (set (entries_by buckets) last_bucket) (omega arith)))
+        (InStep-vacant (set slots bucket None) (set (entries_by buckets) last_bucket index) (swap_remove bucket_of index 0) (InStep-remove slots (entries_by buckets) bucket_of s index last in_index is_last) bucket 0 none)
+
+-- what a backward shift leaves is a table's columns again
+pub IsIndex-from : (hashes buckets bucket_of : List ℕ) (hash_capacity entry_capacity : ℕ) → IsBucketCount (length buckets) → length bucket_of ≤ capacity_of (length buckets) → capacity_of (length buckets) ≤ hash_capacity → capacity_of (length buckets) ≤ entry_capacity →
+    WithinHashes hashes buckets → hashes_at (slots_by hashes buckets) bucket_of ≡ hashes → InStep (slots_by hashes buckets) (entries_by buckets) bucket_of → ProbeInvariant (slots_by hashes buckets) → IsIndex hashes buckets bucket_of hash_capacity entry_capacity
+IsIndex-from hashes buckets bucket_of hash_capacity entry_capacity count within enough enough' whole column in_step ordered =
+    let same = sym (length-slots_by hashes buckets) in
+    record {
+      whole = whole;
+      column = column;
+      reserved = enough;
+      table = record {
+        buckets = subst IsBucketCount same count;
+        within = subst (λ m. length bucket_of ≤ capacity_of m) same within;
+        reserved = subst (λ m. capacity_of m ≤ entry_capacity) same enough';
+        in_step = in_step;
+        ordered = ordered;
+      };
+    }
+
+-- equal columns whose capacities are enough
+pub IsIndex-as : (hashes hashes' buckets buckets' bucket_of bucket_of' : List ℕ) (old old' new new' : ℕ) → hashes' ≡ hashes → buckets' ≡ buckets → bucket_of' ≡ bucket_of → capacity_of (length buckets) ≤ new → capacity_of (length buckets) ≤ new' →
+    IsIndex hashes buckets bucket_of old old' → IsIndex hashes' buckets' bucket_of' new new'
+IsIndex-as hashes hs buckets bs bucket_of po old old' new new' h b o enough enough' x =
+    subst (λ y. IsIndex y bs po new new') (sym h)
+    (subst (λ y. IsIndex hashes y po new new') (sym b)
+    (subst (λ y. IsIndex hashes buckets y new new') (sym o) (index-capacities hashes buckets bucket_of old old' x new new' enough enough')))
+
+-- no pair
+pub IsIndex-empty : (count hash_capacity entry_capacity : ℕ) → IsBucketCount count → capacity_of count ≤ hash_capacity → capacity_of count ≤ entry_capacity → IsIndex [] (replicate count 0) [] hash_capacity entry_capacity
+IsIndex-empty count hash_capacity entry_capacity b enough enough' =
+    let none : Option ℕ = None in
+    let long : length (entries_by (replicate count 0)) ≡ count = length-map (replicate count 0) (λ n. n - 1) ∙ length-replicate {A = ℕ} count 0 in
+    record {
+      whole = whole-empty [] count;
+      column = refl;
+      reserved = subst (λ m. capacity_of m ≤ hash_capacity) (sym (length-replicate {A = ℕ} count 0)) enough;
+      table = table_at (replicate count none) (slots_by [] (replicate count 0)) (entries_by (replicate count 0)) (entries_by (replicate count 0)) [] entry_capacity (slots_by-empty [] count) refl (IsTable-empty count (entries_by (replicate count 0)) entry_capacity b long enough');
+    }
