@@ -27,7 +27,7 @@ import time
 
 TOP = pathlib.Path(__file__).resolve().parent.parent
 # The crates, the longest checks first.
-CRATES = ("halfbrown", "half_store", "halfmap", "half_tests")
+CRATES = ("halfbrown", "half_store", "halfmap", "half_tests", "test_support")
 # What a check of one job takes at most.
 MEMORY = 2_000_000_000
 # Where antt cannot read a text, or a proof misses a name, nothing is said of a contract.
@@ -174,7 +174,7 @@ def main(words):
     found = [edit for crate in CRATES for edit in sorted((TOP / "tests/edits" / crate).glob("*.edit"))]
     others = {it for it in (TOP / "tests/edits").rglob("*") if it.is_file()} - {*found}
     chosen = [it for it in found if not words or any(word in f"{it.parent.name}/{it.name}" for word in words)]
-    for crate in ("half_store", "halfbrown", "halfmap", "half_tests"):
+    for crate in ("half_store", "halfbrown", "halfmap", "test_support", "half_tests"):
         if any(it.parent.name == crate for it in chosen):
             prove(crate)
     edits, lock, results = queue.SimpleQueue(), threading.Lock(), []

@@ -12,7 +12,7 @@ use Rattle.half_store.proofs.ReachLemmas.{is_loaded-yes, is_loaded-no, loaded_ru
 use Rattle.half_store.proofs.CapacityLemmas.{buckets_for-least, buckets_of-capacity_of, four-le_count}
 use Rattle.halfbrown.specs.Pairs.{value_of, holds}
 use Rattle.halfbrown.proofs.Indices.{NonePasses, none_at, absent_of_none}
-use Rattle.half_tests.specs.declared.builders.Rule.TheVariants.{Zero}
+use Rattle.test_support.specs.declared.builders.Rule.TheVariants.{Zero}
 use Rattle.half_tests.specs.Tables.{twins}
 use Rattle.half_tests.proofs.Searches.{matches, probe}
 use Rattle.half_tests.proofs.Tables.{keys_of-twins}

@@ -13,9 +13,9 @@ use Rattle.half_store.specs.Work.{Work}
 use Rattle.halfbrown.specs.Costs.{SearchCosts, InsertCosts, Cost, GrewBy, GrewWithin, exactly, between, add_ranges, search_cost_of, insert_cost, NoHomeIsShared}
 use Rattle.halfbrown.specs.Pairs.{value_of, holds}
 use Rattle.halfbrown.specs.State.{State, state, contents_of}
-use Rattle.half_tests.specs.declared.builders.Rule.{Rule}
-use Rattle.half_tests.specs.declared.builders.Counting.{Counting}
-use Rattle.half_tests.specs.Hashes.{hash_by, shifted}
+use Rattle.test_support.specs.declared.builders.Rule.{Rule}
+use Rattle.test_support.specs.declared.builders.Counting.{Counting}
+use Rattle.test_support.specs.Hashes.{hash_by, shifted}
 use Rattle.half_tests.specs.Tables.{IsTable, AtMost, more_work, are_distinct}
 
 -- ---- distinct numbers, from the test

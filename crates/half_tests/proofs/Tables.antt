@@ -12,8 +12,8 @@ use Rattle.halfbrown.specs.Growth.{is_full, stays_vec, insert_needs, HasCapacity
 use Rattle.halfbrown.specs.Pairs.{holds, put, take_out}
 use Rattle.halfbrown.specs.State.{State, WithPairs}
 use Rattle.halfbrown.proofs.Indices.{NonePasses, none_at, absent_of_none}
-use Rattle.half_tests.specs.declared.builders.Rule.{Rule}
-use Rattle.half_tests.specs.declared.builders.Counting.{Counting}
+use Rattle.test_support.specs.declared.builders.Rule.{Rule}
+use Rattle.test_support.specs.declared.builders.Counting.{Counting}
 use Rattle.half_tests.specs.Tables.{IsTable, twins}
 
 -- a map that was made for this capacity, and into which these keys were inserted; it is a vector as long as no capacity was needed

@@ -13,8 +13,8 @@ use Rattle.halfbrown.specs.Growth.{stays_vec}
 use Rattle.halfbrown.specs.Pairs.{value_of, put}
 use Rattle.halfbrown.specs.State.{State, state, contents_of}
 use Rattle.halfbrown.proofs.Indices.{NonePasses, IsFirst, first_of_match, index_of-first, index_of_first, absent_of_none}
-use Rattle.half_tests.specs.declared.builders.Rule.{Rule}
-use Rattle.half_tests.specs.declared.builders.Counting.{Counting}
+use Rattle.test_support.specs.declared.builders.Rule.{Rule}
+use Rattle.test_support.specs.declared.builders.Counting.{Counting}
 use Rattle.half_tests.specs.Tables.{IsVector, more_work, twins}
 use Rattle.half_tests.proofs.Searches.{number_hash, builder_hash, work_is, grew_exactly}
 use Rattle.half_tests.proofs.Tables.{keys_of-twins, twins-push}

@@ -3,8 +3,8 @@ use Rattle.std.specs.Prelude.{◌≡◌, ℕ, ◌+◌, ◌≤◌, Bool, true, fa
 use Rattle.std.specs.List.{list_any}
 use Rattle.half_store.specs.Work.{Work}
 use Rattle.halfbrown.specs.State.{State}
-use Rattle.half_tests.specs.declared.builders.Rule.{Rule}
-use Rattle.half_tests.specs.declared.builders.Counting.{Counting}
+use Rattle.test_support.specs.declared.builders.Rule.{Rule}
+use Rattle.test_support.specs.declared.builders.Counting.{Counting}
 
 -- so many more hashes, comparisons and buckets read
 abbrev pub more_work : ℕ → ℕ → ℕ → Work → Work

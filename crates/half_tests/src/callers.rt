@@ -129,12 +129,12 @@ pub fn stored<K: Eq + Hash + Copy, S: BuildHasher, L: Limit>(
 #[cfg(test)]
 mod tests {
     use super::*;
-    use crate::asserts::{assert_same, assert_same_at, assert_true, assert_true_at};
-    use crate::builders::{Counting, Rule};
-    use crate::counts::Counts;
-    use crate::keys::Key;
     use halfbrown::{DefaultHashBuilder, HashMap, SizedHashMap};
     use std::test::Fail;
+    use test_support::asserts::{assert_same, assert_same_at, assert_true, assert_true_at};
+    use test_support::builders::{Counting, Rule};
+    use test_support::counts::Counts;
+    use test_support::keys::Key;
 
     #[test]
     fn an_inner_scope_hides_the_outer(rt: HostRuntime) -> Result<(), Fail> {
@@ -142,35 +142,27 @@ mod tests {
         let mut inner = HashMap::<u64, u64, DefaultHashBuilder>::new(rt.alloc());
         for name in 0..40 {
             assert_same_at(
-                &rt,
                 name,
                 declare(&mut outer, name, name)?,
                 None,
                 "the name is new",
-            );
+            )?;
         }
-        assert_same(
-            &rt,
-            declare(&mut inner, 7, 70)?,
-            None,
-            "new in the inner scope",
-        );
-        assert_same(&rt, declare(&mut inner, 7, 71)?, Some(70), "declared again");
+        assert_same(declare(&mut inner, 7, 70)?, None, "new in the inner scope")?;
+        assert_same(declare(&mut inner, 7, 71)?, Some(70), "declared again")?;
         for (name, meaning) in [(7, Some(71)), (8, Some(8)), (39, Some(39)), (40, None)] {
             assert_same_at(
-                &rt,
                 name,
                 resolve(&inner, &outer, &name).copied(),
                 meaning,
                 "the name",
-            );
+            )?;
         }
         assert_same(
-            &rt,
             resolve(&outer, &inner, &7).copied(),
             Some(7),
             "the scopes swapped",
-        );
+        )?;
         Ok(())
     }
 
@@ -183,20 +175,16 @@ mod tests {
         );
         for id in 1..=5 {
             let label = counts.key(id);
-            assert_true_at(&rt, id, add_label(&mut labels, label)?, "the label is new");
+            assert_true_at(id, add_label(&mut labels, label)?, "the label is new")?;
         }
         let again = counts.marked(3, 2);
-        assert_true(&rt, has_label(&labels, &again), "3#2 is the label 3#1");
-        assert_true(&rt, !add_label(&mut labels, again)?, "it is not added");
-        assert_true(
-            &rt,
-            labels.is_vec() && labels.len() == 5,
-            "nothing has changed",
-        );
-        assert_same(&rt, counts.take().0, 0, "a vector hashes nothing");
+        assert_true(has_label(&labels, &again), "3#2 is the label 3#1")?;
+        assert_true(!add_label(&mut labels, again)?, "it is not added")?;
+        assert_true(labels.is_vec() && labels.len() == 5, "nothing has changed")?;
+        assert_same(counts.take().0, 0, "a vector hashes nothing")?;
         let stored = labels.remove_entry(&again).map(|pair| pair.0.name());
-        assert_same(&rt, stored, Some((3, 1)), "the label that was added first");
-        assert_true(&rt, !has_label(&labels, &again), "it is gone");
+        assert_same(stored, Some((3, 1)), "the label that was added first")?;
+        assert_true(!has_label(&labels, &again), "it is gone")?;
         Ok(())
     }
 
@@ -208,13 +196,7 @@ mod tests {
             counts.builder(Rule::Plain),
         );
         for key in 1..=12 {
-            assert_same_at(
-                &rt,
-                key,
-                cache.insert(key, 10 * key)?,
-                None,
-                "the key is new",
-            );
+            assert_same_at(key, cache.insert(key, 10 * key)?, None, "the key is new")?;
             for sought in 1..=13 {
                 counts.take();
                 let value = lookup_counted(&cache, &sought, &mut Tally::new()).copied();
@@ -223,21 +205,14 @@ mod tests {
                 } else {
                     None
                 };
-                assert_same_at(
-                    &rt,
-                    (sought, key),
-                    value,
-                    wanted,
-                    "the key sought, of so many",
-                );
+                assert_same_at((sought, key), value, wanted, "the key sought, of so many")?;
                 let times = if key <= 5 { 0 } else { 1 };
                 assert_same_at(
-                    &rt,
                     (sought, key),
                     counts.take().0,
                     times,
                     "the key sought, of so many",
-                );
+                )?;
             }
         }
         Ok(())

@@ -1,12 +1,12 @@
 //! The examples of the map's documentation, word for word, each with its result.
 
-use crate::asserts::{assert_same, assert_true};
 use halfbrown::run::{run, run_counted};
 use halfbrown::{
     Command, DefaultHashBuilder, HashMap, LimitedHashMap, Refusal, Reply, SizedHashMap, Tally, UpTo,
 };
 use std::hash::BuildHasher;
 use std::test::Fail;
+use test_support::asserts::{assert_same, assert_true};
 
 type Ages = HashMap<u64, u32, DefaultHashBuilder>;
 
@@ -18,12 +18,12 @@ fn a_map_and_its_limit(rt: HostRuntime) -> Result<(), Fail> {
     let mut ages = Ages::new(alloc);
     ages.insert(1, 36)?;
     let age = ages.get(&1).copied(); // 36
-    assert_same(&rt, age, Some(36), "the age of 1");
+    assert_same(age, Some(36), "the age of 1")?;
     let mut scope = SizedHashMap::<u64, u32, DefaultHashBuilder, 8>::new(alloc);
     scope.insert(7, 70)?;
-    assert_true(&rt, scope.is_vec(), "one of eight");
+    assert_true(scope.is_vec(), "one of eight")?;
     let few = Few::new(alloc);
-    assert_true(&rt, few.is_vec() && few.is_empty(), "none of eight");
+    assert_true(few.is_vec() && few.is_empty(), "none of eight")?;
     Ok(())
 }
 
@@ -31,19 +31,19 @@ fn a_map_and_its_limit(rt: HostRuntime) -> Result<(), Fail> {
 fn making(rt: HostRuntime) -> Result<(), Fail> {
     let alloc = rt.alloc();
     let ages = Ages::new(alloc); // an empty vector
-    assert_true(&rt, ages.is_vec() && ages.is_empty(), "new");
+    assert_true(ages.is_vec() && ages.is_empty(), "new")?;
     let small = Ages::with_capacity(alloc, 32)?; // a vector
     let large = Ages::with_capacity(alloc, 33)?; // a table
-    assert_true(&rt, small.is_vec() && large.is_map(), "by the limit");
+    assert_true(small.is_vec() && large.is_map(), "by the limit")?;
     let ages = Ages::vec_with_capacity(alloc, 100)?; // a vector with capacity 32
-    assert_true(&rt, ages.is_vec() && ages.capacity() == 32, "a vector");
+    assert_true(ages.is_vec() && ages.capacity() == 32, "a vector")?;
     let ages = Ages::with_hasher(alloc, DefaultHashBuilder::new()); // an empty vector
-    assert_true(&rt, ages.is_vec() && ages.is_empty(), "with a builder");
+    assert_true(ages.is_vec() && ages.is_empty(), "with a builder")?;
     let ages = Ages::default(alloc); // an empty vector
-    assert_true(&rt, ages.is_vec() && ages.is_empty(), "by default");
+    assert_true(ages.is_vec() && ages.is_empty(), "by default")?;
     let builder = DefaultHashBuilder::new();
     let ages = Ages::with_capacity_and_hasher(alloc, 100, builder)?; // a table with capacity 192
-    assert_true(&rt, ages.is_map() && ages.capacity() == 192, "a table");
+    assert_true(ages.is_map() && ages.capacity() == 192, "a table")?;
     Ok(())
 }
 
@@ -53,25 +53,24 @@ fn what_a_map_says_of_itself(rt: HostRuntime) -> Result<(), Fail> {
     ages.insert(1, 36)?;
     ages.insert(2, 41)?;
     let count = ages.len(); // 2
-    assert_same(&rt, count, 2, "the pairs");
+    assert_same(count, 2, "the pairs")?;
     let none = ages.is_empty(); // false
-    assert_true(&rt, !none, "two pairs");
+    assert_true(!none, "two pairs")?;
     let hash = ages.hasher().hash_one(&1u64); // the hash that a table of these ages stores for 1
     assert_same(
-        &rt,
         hash,
         DefaultHashBuilder::new().hash_one(&1u64),
         "the same builder",
-    );
+    )?;
     let is_vector = ages.is_vec(); // true: two pairs, and the limit is 32
-    assert_true(&rt, is_vector, "a vector");
+    assert_true(is_vector, "a vector")?;
     let is_table = ages.is_map(); // false
-    assert_true(&rt, !is_table, "no table");
+    assert_true(!is_table, "no table")?;
     let capacity = ages.capacity(); // 4, since it was made for so many
-    assert_same(&rt, capacity, 4, "the capacity");
+    assert_same(capacity, 4, "the capacity")?;
     ages.clear();
     let count = ages.len(); // 0
-    assert_same(&rt, count, 0, "no pairs");
+    assert_same(count, 0, "no pairs")?;
     Ok(())
 }
 
@@ -79,29 +78,29 @@ fn what_a_map_says_of_itself(rt: HostRuntime) -> Result<(), Fail> {
 fn inserting(rt: HostRuntime) -> Result<(), Fail> {
     let mut ages = Ages::new(rt.alloc());
     let before = ages.insert(1, 36)?; // none
-    assert_same(&rt, before, None, "1 is new");
+    assert_same(before, None, "1 is new")?;
     let before = ages.insert(1, 37)?; // 36
-    assert_same(&rt, before, Some(36), "the age before");
+    assert_same(before, Some(36), "the age before")?;
     let mut tally = Tally::new();
     let before = ages.insert_counted(1, 38, &mut tally)?; // 37
-    assert_same(&rt, before, Some(37), "the age before");
+    assert_same(before, Some(37), "the age before")?;
     if !ages.contains_key(&2) {
         ages.insert_nocheck(2, 41)?;
     }
-    assert_same(&rt, ages.get(&2).copied(), Some(41), "the age of 2");
+    assert_same(ages.get(&2).copied(), Some(41), "the age of 2")?;
     if !ages.contains_key_counted(&3, &mut tally) {
         ages.insert_nocheck_counted(3, 5, &mut tally)?;
     }
-    assert_same(&rt, ages.get(&3).copied(), Some(5), "the age of 3");
+    assert_same(ages.get(&3).copied(), Some(5), "the age of 3")?;
     let pair = ages
         .insert(4, 8)
         .err()
         .map(|refused| (refused.key, refused.value)); // none, or 4 and 8
-    assert_same(&rt, pair, None, "granted");
+    assert_same(pair, None, "granted")?;
     ages.reserve(20)?; // twenty more ages need no more memory
-    assert_true(&rt, ages.capacity() >= 24, "capacity for 24");
+    assert_true(ages.capacity() >= 24, "capacity for 24")?;
     ages.shrink_to_fit();
-    assert_same(&rt, ages.capacity(), 4, "capacity for 4");
+    assert_same(ages.capacity(), 4, "capacity for 4")?;
     Ok(())
 }
 
@@ -115,13 +114,8 @@ fn insert_and_reserve(ages: &mut Ages) -> Result<(), Refusal> {
 #[test]
 fn errors_convert(rt: HostRuntime) -> Result<(), Fail> {
     let mut ages = Ages::new(rt.alloc());
-    assert_same(
-        &rt,
-        insert_and_reserve(&mut ages),
-        Ok(()),
-        "memory is ample",
-    );
-    assert_same(&rt, ages.get(&3).copied(), Some(5), "the age of 3");
+    assert_same(insert_and_reserve(&mut ages), Ok(()), "memory is ample")?;
+    assert_same(ages.get(&3).copied(), Some(5), "the age of 3")?;
     Ok(())
 }
 
@@ -131,29 +125,29 @@ fn reading(rt: HostRuntime) -> Result<(), Fail> {
     let mut tally = Tally::new();
     ages.insert(1, 36)?;
     let age = ages.get(&1).copied(); // 36
-    assert_same(&rt, age, Some(36), "the age of 1");
+    assert_same(age, Some(36), "the age of 1")?;
     let age = ages.get_counted(&1, &mut tally).copied(); // 36
-    assert_same(&rt, age, Some(36), "the age of 1");
+    assert_same(age, Some(36), "the age of 1")?;
     if let Some(age) = ages.get_mut(&1) {
         *age = 37;
     }
-    assert_same(&rt, ages.get(&1).copied(), Some(37), "a year later");
+    assert_same(ages.get(&1).copied(), Some(37), "a year later")?;
     if let Some(age) = ages.get_mut_counted(&1, &mut tally) {
         *age = 38;
     }
-    assert_same(&rt, ages.get(&1).copied(), Some(38), "two years later");
+    assert_same(ages.get(&1).copied(), Some(38), "two years later")?;
     let known = ages.contains_key(&1); // true
-    assert_true(&rt, known, "1 is held");
+    assert_true(known, "1 is held")?;
     let known = ages.contains_key_counted(&2, &mut tally); // false
-    assert_true(&rt, !known, "2 is not held");
+    assert_true(!known, "2 is not held")?;
     let age = if ages.contains_key(&1) { ages[&1] } else { 0 }; // 38
-    assert_same(&rt, age, 38, "the age of 1");
+    assert_same(age, 38, "the age of 1")?;
     let age = if ages.contains_key(&1) {
         *ages.index_counted(&1, &mut tally)
     } else {
         0
     }; // 38
-    assert_same(&rt, age, 38, "the age of 1");
+    assert_same(age, 38, "the age of 1")?;
     Ok(())
 }
 
@@ -165,13 +159,13 @@ fn removing(rt: HostRuntime) -> Result<(), Fail> {
         ages.insert(number, age)?;
     }
     let age = ages.remove(&1); // 36
-    assert_same(&rt, age, Some(36), "the age of 1");
+    assert_same(age, Some(36), "the age of 1")?;
     let age = ages.remove_counted(&2, &mut tally); // 41
-    assert_same(&rt, age, Some(41), "the age of 2");
+    assert_same(age, Some(41), "the age of 2")?;
     let pair = ages.remove_entry(&3); // 3 and 5
-    assert_same(&rt, pair, Some((3, 5)), "the pair of 3");
+    assert_same(pair, Some((3, 5)), "the pair of 3")?;
     let pair = ages.remove_entry_counted(&4, &mut tally); // 4 and 8
-    assert_same(&rt, pair, Some((4, 8)), "the pair of 4");
+    assert_same(pair, Some((4, 8)), "the pair of 4")?;
     Ok(())
 }
 
@@ -181,14 +175,14 @@ fn running(rt: HostRuntime) -> Result<(), Fail> {
     let mut ages = Ages::new(alloc);
     let commands = vec![in alloc; Command::Insert(1, 36), Command::Get(1), Command::Len]?;
     let replies = run(alloc, &mut ages, commands); // Was(None), Found(Some(36)), Length(1)
-    let replies = replies.ok().expect(&rt, "memory for the replies");
+    let replies = replies.ok().ok_or("no memory for the replies")?;
     let wanted = [Reply::Was(None), Reply::Found(Some(36)), Reply::Length(1)];
-    assert_same(&rt, replies.as_slice(), wanted.as_slice(), "the replies");
+    assert_same(replies.as_slice(), wanted.as_slice(), "the replies")?;
     let mut tally = Tally::new();
     let commands = vec![in alloc; Command::Remove(1), Command::IsVec]?;
     let replies = run_counted(alloc, &mut ages, commands, &mut tally); // the pair of 1, and true
-    let replies = replies.ok().expect(&rt, "memory for the replies");
+    let replies = replies.ok().ok_or("no memory for the replies")?;
     let wanted = [Reply::Removed(Some((1, 36))), Reply::Form(true)];
-    assert_same(&rt, replies.as_slice(), wanted.as_slice(), "the replies");
+    assert_same(replies.as_slice(), wanted.as_slice(), "the replies")?;
     Ok(())
 }

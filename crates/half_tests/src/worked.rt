@@ -13,10 +13,10 @@ pub mod shorter;
 mod tests;
 pub mod vectors;
 
-use crate::builders::{Counting, Rule};
-use crate::counts::Counts;
 use halfbrown::{Refusal, SizedHashMap};
 use std::alloc::Global;
+use test_support::builders::{Counting, Rule};
+use test_support::counts::Counts;
 
 /// A map from numbers to numbers that is a table from its first insertion on.
 pub type Numbers<'a> = SizedHashMap<u64, u64, Counting<'a>, 0>;

@@ -1,10 +1,10 @@
 //! What a scenario does once memory may be refused: one call of the map, which is printed with what came back.
 
 use crate::report::print_hashes;
-use half_tests::counts::{Counted, Counts};
-use half_tests::keys::Key;
 use halfbrown::Refused;
 use std::io;
+use test_support::counts::{Counted, Counts};
+use test_support::keys::Key;
 
 /// A call that may take memory.
 #[derive(Clone, Copy)]

@@ -1,9 +1,9 @@
 //! What is printed of a map, and of the hashes that a call took.
 
-use half_tests::counts::{Counted, Counts};
 use halfbrown::{Limit, LimitedHashMap, Refusal};
 use std::hash::{BuildHasher, Hash};
 use std::io;
+use test_support::counts::{Counted, Counts};
 
 /// No scenario has a key past this one.
 const LAST_KEY: u64 = 8;

@@ -2,13 +2,13 @@
 
 use crate::act::Act;
 use crate::report::{print_begin, print_hashes, print_made, print_state};
-use half_tests::builders::Rule;
-use half_tests::counts::{Counted, Counts};
 use halfbrown::run::run;
 use halfbrown::{Command, DefaultHashBuilder, HashMap, Refusal, SizedHashMap};
 use std::alloc::AllocError;
 use std::io;
 use std::io::Error;
+use test_support::builders::Rule;
+use test_support::counts::{Counted, Counts};
 
 type Default32 = HashMap<u64, u64, DefaultHashBuilder>;
 

@@ -3,10 +3,10 @@ ghost use Rattle.std.specs.Prelude.{◌≡◌, [], ◌∷◌, OnOk, IfOk, None};
 ghost use Rattle.half_tests.specs.Tables.{IsTable, Misses, more_work, twins};
 
 use super::{Numbers, table_of};
-use crate::builders::Rule;
-use crate::counts::Counts;
 use halfbrown::{Refusal, Tally};
 use std::alloc::Global;
+use test_support::builders::Rule;
+use test_support::counts::Counts;
 
 /// Keys 6, 14, 7, 15 and 0 in eight buckets. The first two have bucket 6 as their home, the next two bucket 7, and the last
 /// the first bucket: they fill buckets 6, 7, 0, 1 and 2.

@@ -3,10 +3,10 @@ ghost use Rattle.std.specs.Prelude.{◌≡◌, ◌<◌, [], ◌∷◌, OnOk, IfO
 ghost use Rattle.half_tests.specs.Tables.{IsTable, Misses, more_work, twins};
 
 use super::{Numbers, table_of};
-use crate::builders::Rule;
-use crate::counts::Counts;
 use halfbrown::{Refusal, Tally};
 use std::alloc::Global;
+use test_support::builders::Rule;
+use test_support::counts::Counts;
 
 /// Keys 0 to 5 in eight buckets: it is full.
 #[tactic(auto, unfolding(half_store::specs::Capacity::buckets_for))]

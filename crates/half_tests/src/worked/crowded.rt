@@ -3,10 +3,10 @@ ghost use Rattle.std.specs.Prelude.{◌≡◌, [], ◌∷◌, OnOk, IfOk, None, 
 ghost use Rattle.half_tests.specs.Tables.{IsTable, AtMost, more_work, twins};
 
 use super::{Numbers, table_of};
-use crate::builders::Rule;
-use crate::counts::Counts;
 use halfbrown::{Refusal, Tally};
 use std::alloc::Global;
+use test_support::builders::Rule;
+use test_support::counts::Counts;
 
 /// Keys 3, 7, 11 in four buckets. Key 3 has bucket 3, key 7 bucket 0 and key 11 bucket 1.
 #[tactic(auto, unfolding(half_store::specs::Capacity::buckets_for))]

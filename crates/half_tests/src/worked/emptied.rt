@@ -3,10 +3,10 @@ ghost use Rattle.std.specs.Prelude.{◌≡◌, [], OnOk, IfOk, None};
 ghost use Rattle.half_tests.specs.Tables.{IsTable, more_work};
 
 use super::{Numbers, table_of};
-use crate::builders::Rule;
-use crate::counts::Counts;
 use halfbrown::{Refusal, Tally};
 use std::alloc::Global;
+use test_support::builders::Rule;
+use test_support::counts::Counts;
 
 /// A table that was made for three pairs, and holds none.
 #[tactic(auto, unfolding(half_store::specs::Capacity::buckets_for))]

@@ -5,10 +5,10 @@ ghost use Rattle.half_store.specs.Capacity.{capacity_for};
 ghost use Rattle.half_tests.specs.Tables.{IsTable, AtMost, more_work, twins};
 
 use super::{Numbers, table_of};
-use crate::builders::Rule;
-use crate::counts::Counts;
 use halfbrown::{Refusal, Tally};
 use std::alloc::Global;
+use test_support::builders::Rule;
+use test_support::counts::Counts;
 
 /// Keys 1, 2 and 3 of hash 0 in four buckets: they have buckets 0, 1 and 2.
 #[tactic(auto, unfolding(half_store::specs::Capacity::buckets_for))]

@@ -3,10 +3,10 @@ ghost use Rattle.std.specs.Prelude.{◌≡◌, ◌<◌, [], ◌∷◌, OnOk, IfO
 ghost use Rattle.half_tests.specs.Tables.{IsTable, AtMost, more_work, twins};
 
 use super::{Numbers, table_of};
-use crate::builders::Rule;
-use crate::counts::Counts;
 use halfbrown::{Refusal, Tally};
 use std::alloc::Global;
+use test_support::builders::Rule;
+use test_support::counts::Counts;
 
 /// Keys 2^64 - 1, 3 and 0 in four buckets. The first two have the last bucket as their home, so key 3 has the first, and
 /// key 0 the second.

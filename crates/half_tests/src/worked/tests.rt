@@ -1,24 +1,22 @@
 //! What the worked maps return when they run, and how many hashes that takes with those of their making.
 
 use super::{alike, apart, crowded, emptied, one_hash, shorter, vectors};
-use crate::asserts::{assert_same, assert_same_at, assert_true};
-use crate::counts::Counts;
 use halfbrown::Tally;
 use std::fmt::Debug;
-use std::process::Abort;
 use std::test::Fail;
+use test_support::asserts::{assert_same, assert_same_at, assert_true};
+use test_support::counts::Counts;
 
 // The call returned what was expected, and the builder hashed so often since the last one.
 fn expect<T: PartialEq + Debug + Drop>(
-    rt: &impl Abort,
     counts: &Counts,
     returned: T,
     expected: T,
     hashes: u64,
     what: &str,
-) {
-    assert_same(rt, returned, expected, what);
-    assert_same_at(rt, what, counts.take().0, hashes, "hashes");
+) -> Result<(), Fail> {
+    assert_same(returned, expected, what)?;
+    assert_same_at(what, counts.take().0, hashes, "hashes")
 }
 
 #[test]
@@ -26,13 +24,13 @@ fn three_keys_of_one_home(rt: HostRuntime) -> Result<(), Fail> {
     let counts = Counts::new();
     let mut tally = Tally::new();
     let miss = crowded::a_miss(rt.alloc(), &counts, &mut tally)?;
-    expect(&rt, &counts, miss, None, 4, "key 15");
+    expect(&counts, miss, None, 4, "key 15")?;
     let miss = crowded::a_miss_after_a_removal(rt.alloc(), &counts, &mut tally)?;
-    expect(&rt, &counts, miss, None, 5, "key 15 after the removal");
+    expect(&counts, miss, None, 5, "key 15 after the removal")?;
     let hit = crowded::a_hit_after_a_removal(rt.alloc(), &counts, &mut tally)?;
-    expect(&rt, &counts, hit, Some(11), 5, "key 11 after the removal");
+    expect(&counts, hit, Some(11), 5, "key 11 after the removal")?;
     let grown = crowded::an_insertion_that_grows(rt.alloc(), &counts, &mut tally)?;
-    expect(&rt, &counts, grown, (None, 4, 6), 4, "key 15 is new");
+    expect(&counts, grown, (None, 4, 6), 4, "key 15 is new")?;
     Ok(())
 }
 
@@ -42,13 +40,13 @@ fn keys_of_their_own_homes(rt: HostRuntime) -> Result<(), Fail> {
     let mut tally = Tally::new();
     for key in 0..6 {
         let hit = apart::a_hit(rt.alloc(), &counts, key, &mut tally)?;
-        expect(&rt, &counts, hit, Some(key), 7, "a key of the full table");
+        expect(&counts, hit, Some(key), 7, "a key of the full table")?;
     }
     let hit = apart::a_hit_beside_a_gap(rt.alloc(), &counts, &mut tally)?;
-    expect(&rt, &counts, hit, Some(0), 7, "key 0");
+    expect(&counts, hit, Some(0), 7, "key 0")?;
     for key in [16, 12] {
         let miss = apart::a_miss_beside_a_gap(rt.alloc(), &counts, key, &mut tally)?;
-        expect(&rt, &counts, miss, None, 7, "a key beside a gap");
+        expect(&counts, miss, None, 7, "a key beside a gap")?;
     }
     Ok(())
 }
@@ -58,14 +56,14 @@ fn removals_before_a_hit(rt: HostRuntime) -> Result<(), Fail> {
     let counts = Counts::new();
     let mut tally = Tally::new();
     let hit = shorter::a_hit_around(rt.alloc(), &counts, &mut tally)?;
-    expect(&rt, &counts, hit, Some(0), 4, "key 0");
+    expect(&counts, hit, Some(0), 4, "key 0")?;
     let hit = shorter::a_hit_around_after_a_removal(rt.alloc(), &counts, &mut tally)?;
-    expect(&rt, &counts, hit, Some(0), 5, "key 0 after the removal");
+    expect(&counts, hit, Some(0), 5, "key 0 after the removal")?;
     let hit = shorter::a_hit_pushed_on(rt.alloc(), &counts, &mut tally)?;
-    expect(&rt, &counts, hit, Some(1), 4, "key 1");
+    expect(&counts, hit, Some(1), 4, "key 1")?;
     for key in [0, 1] {
         let hit = shorter::a_hit_pushed_on_after_a_removal(rt.alloc(), &counts, key, &mut tally)?;
-        expect(&rt, &counts, hit, Some(key), 5, "a key after the removal");
+        expect(&counts, hit, Some(key), 5, "a key after the removal")?;
     }
     Ok(())
 }
@@ -75,11 +73,11 @@ fn keys_of_one_hash(rt: HostRuntime) -> Result<(), Fail> {
     let counts = Counts::new();
     let mut tally = Tally::new();
     let miss = one_hash::a_miss_among_three(rt.alloc(), &counts, &mut tally)?;
-    expect(&rt, &counts, miss, None, 4, "key 4");
+    expect(&counts, miss, None, 4, "key 4")?;
     let hit = one_hash::a_hit_among_two(rt.alloc(), &counts, &mut tally)?;
-    expect(&rt, &counts, hit, Some(3), 5, "key 3 after the removal");
+    expect(&counts, hit, Some(3), 5, "key 3 after the removal")?;
     let miss = one_hash::a_miss_among_768(rt.alloc(), &counts, &mut tally)?;
-    expect(&rt, &counts, miss, (None, 768), 769, "key 769");
+    expect(&counts, miss, (None, 768), 769, "key 769")?;
     Ok(())
 }
 
@@ -88,12 +86,12 @@ fn two_tables_alike(rt: HostRuntime) -> Result<(), Fail> {
     let counts = Counts::new();
     let mut tally = Tally::new();
     let miss = alike::a_miss(rt.alloc(), &counts, &mut tally)?;
-    expect(&rt, &counts, miss, None, 6, "key 22");
+    expect(&counts, miss, None, 6, "key 22")?;
     for key in [8, 22, 23, 3] {
         let miss = alike::a_miss_after_a_removal(rt.alloc(), &counts, key, &mut tally)?;
-        expect(&rt, &counts, miss, None, 7, "after the removal");
+        expect(&counts, miss, None, 7, "after the removal")?;
         let miss = alike::a_miss_where_no_other_was_held(rt.alloc(), &counts, key, &mut tally)?;
-        expect(&rt, &counts, miss, None, 5, "where no other was held");
+        expect(&counts, miss, None, 5, "where no other was held")?;
     }
     Ok(())
 }
@@ -104,11 +102,11 @@ fn tables_of_no_key(rt: HostRuntime) -> Result<(), Fail> {
     let mut tally = Tally::new();
     for key in [0, 1, u64::MAX] {
         let miss = emptied::a_miss(rt.alloc(), &counts, key, &mut tally)?;
-        expect(&rt, &counts, miss, None, 1, "in four buckets");
+        expect(&counts, miss, None, 1, "in four buckets")?;
         let miss = emptied::a_miss_without_buckets(rt.alloc(), &counts, key, &mut tally)?;
-        expect(&rt, &counts, miss, None, 3, "without buckets");
+        expect(&counts, miss, None, 3, "without buckets")?;
         let made = emptied::an_insertion_without_buckets(rt.alloc(), &counts, key, &mut tally)?;
-        expect(&rt, &counts, made, (None, 1, 3), 3, "the first key again");
+        expect(&counts, made, (None, 1, 3), 3, "the first key again")?;
     }
     Ok(())
 }
@@ -120,13 +118,13 @@ fn vectors_of_five(rt: HostRuntime) -> Result<(), Fail> {
     let keys = [40, 10, 30, 20, 50];
     for (index, key) in keys.iter().enumerate() {
         let hit = vectors::a_hit(rt.alloc(), &counts, &keys, index, &mut tally)?;
-        expect(&rt, &counts, hit, Some(*key), 0, "a key of the vector");
+        expect(&counts, hit, Some(*key), 0, "a key of the vector")?;
     }
     let hit = vectors::a_hit_at_the_third(rt.alloc(), &counts, &mut tally)?;
-    expect(&rt, &counts, hit, Some(30), 0, "key 30");
+    expect(&counts, hit, Some(30), 0, "key 30")?;
     for key in 1..6 {
         let written = vectors::an_overwrite_at_the_limit(rt.alloc(), &counts, key, &mut tally)?;
-        expect(&rt, &counts, written, (Some(key), 5, 6), 6, "a full vector");
+        expect(&counts, written, (Some(key), 5, 6), 6, "a full vector")?;
     }
     Ok(())
 }
@@ -144,8 +142,8 @@ fn capacities_of_worked_tables(rt: HostRuntime) -> Result<(), Fail> {
         (emptied::empty(alloc, &counts)?, 3),
         (emptied::shrunk(alloc, &counts)?, 0),
     ] {
-        assert_true(&rt, map.is_map(), "a table");
-        assert_same(&rt, map.capacity(), capacity, "its capacity");
+        assert_true(map.is_map(), "a table")?;
+        assert_same(map.capacity(), capacity, "its capacity")?;
     }
     Ok(())
 }

@@ -2,10 +2,10 @@
 ghost use Rattle.std.specs.Prelude.{◌≡◌, ◌+◌, ◌<◌, ◌≤◌, [], ◌∷◌, OnOk, IfOk, IsTrue, Some, length, slice_index};
 ghost use Rattle.half_tests.specs.Tables.{IsVector, are_distinct, more_work, twins};
 
-use crate::builders::{Counting, Rule};
-use crate::counts::Counts;
 use halfbrown::{Refusal, SizedHashMap, Tally};
 use std::alloc::Global;
+use test_support::builders::{Counting, Rule};
+use test_support::counts::Counts;
 
 /// A map from numbers to numbers that is a vector up to five pairs.
 pub type Few<'a> = SizedHashMap<u64, u64, Counting<'a>, 5>;

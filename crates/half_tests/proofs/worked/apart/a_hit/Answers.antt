@@ -1,7 +1,7 @@
 use Rattle.std.proofs.Common.{◌≡◌, ℕ, zero, suc, ◌<◌, eqb, List, [], ◌∷◌, Some, is_some, refl, ap, ◌∙◌, arith}
 use Rattle.std.specs.Hash.{le_bytes}
 use Rattle.halfbrown.specs.Pairs.{value_of}
-use Rattle.half_tests.specs.declared.builders.Rule.TheVariants.{Plain}
+use Rattle.test_support.specs.declared.builders.Rule.TheVariants.{Plain}
 use Rattle.half_tests.specs.Tables.{twins}
 use Rattle.half_tests.proofs.Searches.{matches, found_at_home}
 use Rattle.half_tests.proofs.worked.apart.a_hit.Goals as goal

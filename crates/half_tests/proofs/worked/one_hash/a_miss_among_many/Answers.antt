@@ -2,7 +2,7 @@ use Rattle.std.proofs.Common.{◌+◌, eqb, ap, ◌∙◌, arith}
 use Rattle.std.specs.List.{range_with_len}
 use Rattle.half_store.specs.Capacity.{capacity_for}
 use Rattle.halfbrown.specs.Pairs.{value_of}
-use Rattle.half_tests.specs.declared.builders.Rule.TheVariants.{Zero}
+use Rattle.test_support.specs.declared.builders.Rule.TheVariants.{Zero}
 use Rattle.half_tests.specs.Tables.{more_work, twins}
 use Rattle.half_tests.proofs.OneHash.{absent_above, none_above, matches_zeros, probe_zeros}
 use Rattle.half_tests.proofs.Searches.{probe, missing}

@@ -2,7 +2,7 @@ use Rattle.std.proofs.Common.{◌≡◌, suc, ◌+◌, [], ◌∷◌, ◌++◌, 
 use Rattle.std.specs.List.{range_with_len}
 use Rattle.std.proofs.lemmas.List.FromFn.{length-range_with_len}
 use Rattle.half_store.specs.Capacity.{buckets_for, capacity_for}
-use Rattle.half_tests.specs.declared.builders.Rule.TheVariants.{Zero}
+use Rattle.test_support.specs.declared.builders.Rule.TheVariants.{Zero}
 use Rattle.half_tests.specs.Tables.{IsTable, twins}
 use Rattle.half_tests.proofs.OneHash.{range_more, fresh_above}
 use Rattle.half_tests.proofs.Tables.{IsFilled, filled_more, table_of_filled}

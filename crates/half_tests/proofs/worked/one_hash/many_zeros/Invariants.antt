@@ -1,5 +1,5 @@
 use Rattle.std.specs.List.{range_with_len}
-use Rattle.half_tests.specs.declared.builders.Rule.TheVariants.{Zero}
+use Rattle.test_support.specs.declared.builders.Rule.TheVariants.{Zero}
 use Rattle.half_tests.proofs.Tables.{IsFilled}
 use Rattle.half_tests.proofs.worked.one_hash.many_zeros.Given as goal
 

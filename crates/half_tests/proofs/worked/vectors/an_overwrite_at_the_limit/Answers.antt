@@ -9,8 +9,8 @@ use Rattle.halfbrown.specs.Costs.{InsertCosts, GrewBy, GrewWithin, between, exac
 use Rattle.halfbrown.specs.Growth.{is_full, stays_vec, insert_needs, HasCapacityAfter}
 use Rattle.halfbrown.specs.Pairs.{value_of, holds}
 use Rattle.halfbrown.specs.State.{State, state, contents_of}
-use Rattle.half_tests.specs.declared.builders.Counting.{Counting}
-use Rattle.half_tests.specs.declared.builders.Rule.TheVariants.{Plain}
+use Rattle.test_support.specs.declared.builders.Counting.{Counting}
+use Rattle.test_support.specs.declared.builders.Rule.TheVariants.{Plain}
 use Rattle.half_tests.specs.Tables.{IsVector, more_work, twins}
 use Rattle.half_tests.proofs.Searches.{matches, number_hash, builder_hash, homes_apart, work_is}
 use Rattle.half_tests.proofs.worked.vectors.an_overwrite_at_the_limit.Goals as goal

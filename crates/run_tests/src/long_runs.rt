@@ -1,15 +1,14 @@
 //! A thousand commands by a fixed rule: the replies are those of a plain list, and the work is what the costs say.
 
-use crate::asserts::{assert_same_at, assert_true_at};
-use crate::builders::Rule;
-use crate::counts::{Counted, Counts};
 use crate::expected::{Expected, Work};
 use crate::names::{Name, with_counting_key, with_names};
 use halfbrown::run::run;
 use halfbrown::{Command, Reply};
 use std::alloc::{AllocError, Global};
-use std::process::Abort;
 use std::test::Fail;
+use test_support::asserts::{assert_same_at, assert_true_at};
+use test_support::builders::Rule;
+use test_support::counts::{Counted, Counts};
 
 const COMMANDS: u64 = 1_000;
 
@@ -44,28 +43,23 @@ fn commands(alloc: Global) -> Result<Vec<Command<Name, u64>>, AllocError> {
 
 // The replies of a run, with keys that count their comparisons.
 fn replies_to<'a, const N: usize>(
-    rt: &impl Abort,
     alloc: Global,
     map: &mut Counted<'a, N>,
     commands: Vec<Command<Name, u64>>,
     counts: &'a Counts,
-) -> Result<Vec<Reply<Name, u64>>, AllocError> {
+) -> Result<Vec<Reply<Name, u64>>, Fail> {
     let commands = commands
         .into_iter()
         .map(|command| with_counting_key(command, counts))
         .collect(alloc)?;
     let replies = run(alloc, map, commands)
         .ok()
-        .expect(rt, "memory for the replies");
-    replies.into_iter().map(with_names).collect(alloc)
+        .ok_or("no memory for the replies")?;
+    Ok(replies.into_iter().map(with_names).collect(alloc)?)
 }
 
 // Command by command: the reply, the work, the form and the capacity.
-fn replies_one_by_one<const N: usize>(
-    rt: &impl Abort,
-    alloc: Global,
-    rule: Rule,
-) -> Result<(), Fail> {
+fn replies_one_by_one<const N: usize>(alloc: Global, rule: Rule) -> Result<(), Fail> {
     let counts = Counts::new();
     let mut map = counts.map::<N>(alloc, rule);
     let mut expected = Expected::new(alloc, N, rule);
@@ -74,34 +68,24 @@ fn replies_one_by_one<const N: usize>(
         let capacities = expected.capacities_after(*command, map.capacity());
         let (reply, work) = expected.reply_to(*command)?;
         let one = vec![in alloc; *command]?;
-        let replies = replies_to(rt, alloc, &mut map, one, &counts)?;
+        let replies = replies_to(alloc, &mut map, one, &counts)?;
         let spent = counts.take();
-        assert_same_at(rt, at, replies.as_slice(), [reply].as_slice(), "the reply");
-        assert_true_at(
-            rt,
-            (at, spent, work),
-            work.allows(spent.0, spent.1),
-            "the work",
-        );
-        assert_same_at(rt, at, map.is_vec(), expected.is_vec(), "the form");
+        assert_same_at(at, replies.as_slice(), [reply].as_slice(), "the reply")?;
+        assert_true_at((at, spent, work), work.allows(spent.0, spent.1), "the work")?;
+        assert_same_at(at, map.is_vec(), expected.is_vec(), "the form")?;
         let capacity = map.capacity();
         assert_true_at(
-            rt,
             (at, capacity, capacities),
             capacities.allow(capacity),
             "the capacity",
-        );
+        )?;
     }
-    assert_true_at(rt, (N, rule), map.is_map(), "the switch is reached");
+    assert_true_at((N, rule), map.is_map(), "the switch is reached")?;
     Ok(())
 }
 
 // All commands at once: the replies, and the work as a sum.
-fn replies_all_at_once<const N: usize>(
-    rt: &impl Abort,
-    alloc: Global,
-    rule: Rule,
-) -> Result<(), Fail> {
+fn replies_all_at_once<const N: usize>(alloc: Global, rule: Rule) -> Result<(), Fail> {
     let commands = commands(alloc)?;
     let mut expected = Expected::new(alloc, N, rule);
     let mut wanted = Vec::new(alloc);
@@ -113,37 +97,35 @@ fn replies_all_at_once<const N: usize>(
     }
     let counts = Counts::new();
     let mut map = counts.map::<N>(alloc, rule);
-    let replies = replies_to(rt, alloc, &mut map, commands, &counts)?;
+    let replies = replies_to(alloc, &mut map, commands, &counts)?;
     let spent = counts.take();
     assert_same_at(
-        rt,
         (N, rule),
         replies.as_slice(),
         wanted.as_slice(),
         "the replies",
-    );
+    )?;
     assert_true_at(
-        rt,
         (N, rule, spent, work),
         work.allows(spent.0, spent.1),
         "the work",
-    );
+    )?;
     Ok(())
 }
 
 #[test]
 fn a_long_run_replies_as_a_list(rt: HostRuntime) -> Result<(), Fail> {
     for rule in [Rule::Plain, Rule::Zero, Rule::Top] {
-        replies_one_by_one::<0>(&rt, rt.alloc(), rule)?;
-        replies_one_by_one::<1>(&rt, rt.alloc(), rule)?;
-        replies_one_by_one::<2>(&rt, rt.alloc(), rule)?;
-        replies_one_by_one::<5>(&rt, rt.alloc(), rule)?;
-        replies_one_by_one::<32>(&rt, rt.alloc(), rule)?;
-        replies_all_at_once::<0>(&rt, rt.alloc(), rule)?;
-        replies_all_at_once::<1>(&rt, rt.alloc(), rule)?;
-        replies_all_at_once::<2>(&rt, rt.alloc(), rule)?;
-        replies_all_at_once::<5>(&rt, rt.alloc(), rule)?;
-        replies_all_at_once::<32>(&rt, rt.alloc(), rule)?;
+        replies_one_by_one::<0>(rt.alloc(), rule)?;
+        replies_one_by_one::<1>(rt.alloc(), rule)?;
+        replies_one_by_one::<2>(rt.alloc(), rule)?;
+        replies_one_by_one::<5>(rt.alloc(), rule)?;
+        replies_one_by_one::<32>(rt.alloc(), rule)?;
+        replies_all_at_once::<0>(rt.alloc(), rule)?;
+        replies_all_at_once::<1>(rt.alloc(), rule)?;
+        replies_all_at_once::<2>(rt.alloc(), rule)?;
+        replies_all_at_once::<5>(rt.alloc(), rule)?;
+        replies_all_at_once::<32>(rt.alloc(), rule)?;
     }
     Ok(())
 }
@@ -162,16 +144,14 @@ fn a_long_run_meets_the_rare_replies(rt: HostRuntime) -> Result<(), Fail> {
         }
     }
     assert_true_at(
-        &rt,
         (added, present),
         added > 50 && present > 50,
         "so many were new, and were held",
-    );
+    )?;
     assert_true_at(
-        &rt,
         (done, refused),
         done > 50 && refused > 10,
         "so many were done, and were refused",
-    );
+    )?;
     Ok(())
 }

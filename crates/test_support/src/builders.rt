@@ -1,6 +1,6 @@
 //! Builders whose hashes are known beforehand, and which count the hashes that they make.
 ghost use Rattle.std.specs.Prelude.{◌≡◌};
-ghost use Rattle.half_tests.specs.Hashes.{hash_by, shifted};
+ghost use Rattle.test_support.specs.Hashes.{hash_by, shifted};
 
 use std::cell::Cell;
 use std::hash::{BuildHasher, Hasher};

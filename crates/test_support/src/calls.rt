@@ -2,30 +2,27 @@
 
 use crate::asserts::{assert_same, assert_same_at};
 use crate::counts::{Counted, Counts};
-use std::process::Abort;
 use std::test::Fail;
 
 /// What a call returns, and its hashes and comparisons.
-type Outcome = (Option<u64>, (u64, u64));
+pub type Outcome = (Option<u64>, (u64, u64));
 
 /// Looks the key up.
-pub(crate) fn assert_get<'a, const N: usize>(
-    rt: &impl Abort,
+pub fn assert_get<'a, const N: usize>(
     map: &Counted<'a, N>,
     counts: &'a Counts,
     id: u64,
     expected: Outcome,
-) {
+) -> Result<(), Fail> {
     let key = counts.key(id);
     counts.take();
     let value = map.get(&key).copied();
     let outcome = (value, counts.take());
-    assert_same_at(rt, id, outcome, expected, "get: the value, and the work");
+    assert_same_at(id, outcome, expected, "get: the value, and the work")
 }
 
 /// Inserts the key with this value, where memory is ample.
-pub(crate) fn assert_insert<'a, const N: usize>(
-    rt: &impl Abort,
+pub fn assert_insert<'a, const N: usize>(
     map: &mut Counted<'a, N>,
     counts: &'a Counts,
     pair: (u64, u64),
@@ -36,60 +33,51 @@ pub(crate) fn assert_insert<'a, const N: usize>(
     let old = map.insert(key, pair.1)?;
     let outcome = (old, counts.take());
     assert_same_at(
-        rt,
         pair,
         outcome,
         expected,
         "insert: the old value, and the work",
-    );
-    Ok(())
+    )
 }
 
 /// Removes the key.
-pub(crate) fn assert_remove<'a, const N: usize>(
-    rt: &impl Abort,
+pub fn assert_remove<'a, const N: usize>(
     map: &mut Counted<'a, N>,
     counts: &'a Counts,
     id: u64,
     expected: Outcome,
-) {
+) -> Result<(), Fail> {
     let key = counts.key(id);
     counts.take();
     let value = map.remove(&key);
     let outcome = (value, counts.take());
-    assert_same_at(rt, id, outcome, expected, "remove: the value, and the work");
+    assert_same_at(id, outcome, expected, "remove: the value, and the work")
 }
 
 /// The form of a map.
 #[derive(Clone, Copy, Debug, PartialEq, Eq)]
-pub(crate) enum Form {
+pub enum Form {
     Vector,
     Table,
 }
 
 /// The form, the length and the capacity.
-pub(crate) fn assert_form<const N: usize>(
-    rt: &impl Abort,
+pub fn assert_form<const N: usize>(
     map: &Counted<'_, N>,
     expected: (Form, usize, usize),
-) {
+) -> Result<(), Fail> {
     let form = if map.is_vec() {
         Form::Vector
     } else {
         Form::Table
     };
-    assert_same(rt, map.is_map(), !map.is_vec(), "the two calls agree");
+    assert_same(map.is_map(), !map.is_vec(), "the two calls agree")?;
     let actual = (form, map.len(), map.capacity());
-    assert_same(
-        rt,
-        actual,
-        expected,
-        "the form, the length and the capacity",
-    );
+    assert_same(actual, expected, "the form, the length and the capacity")
 }
 
 /// Inserts these keys, each as a new one with its number as its value.
-pub(crate) fn fill<'a, const N: usize>(
+pub fn fill<'a, const N: usize>(
     map: &mut Counted<'a, N>,
     counts: &'a Counts,
     ids: &[u64],

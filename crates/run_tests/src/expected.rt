@@ -1,9 +1,9 @@
 //! What a map must reply, what it must cost, and which capacity it may have, by a plain list of its pairs.
 
-use crate::builders::Rule;
 use crate::names::Name;
 use halfbrown::{Command, Refusal, Reply};
 use std::alloc::{AllocError, Global};
+use test_support::builders::Rule;
 
 // The most pairs that a map may need capacity for.
 const MOST_PAIRS: usize = 1 << 60;

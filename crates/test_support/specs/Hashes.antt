@@ -1,7 +1,7 @@
 -- What the test builders answer.
 use Rattle.std.specs.Prelude.{ℕ, ◌+◌, ◌-◌, ◌*◌, ◌/◌, ◌^◌, List, fold}
-use Rattle.half_tests.specs.declared.builders.Rule.{Rule}
-use Rattle.half_tests.specs.declared.builders.Rule.TheVariants.{Plain, Zero, Top}
+use Rattle.test_support.specs.declared.builders.Rule.{Rule}
+use Rattle.test_support.specs.declared.builders.Rule.TheVariants.{Plain, Zero, Top}
 
 -- a word of 64 bits into which bytes are shifted from above: after eight bytes, the number that they write lowest first
 abbrev pub shifted : ℕ → List ℕ → ℕ

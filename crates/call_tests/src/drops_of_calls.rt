@@ -5,15 +5,14 @@ ghost use Rattle.std.specs.Hash as fed;
 ghost use Rattle.std.specs.Cmp.Rules.{comparing, hashing};
 ghost use Rattle.std.proofs.Common.{rules};
 
-use crate::asserts::{assert_same, assert_same_at};
 use crate::small_maps::{ABSENT, HELD, On};
 use halfbrown::run::run;
 use halfbrown::{Command, DefaultHashBuilder, Refusal, Refused, Reply, SizedHashMap, Tally};
-use std::alloc::{AllocError, Global};
+use std::alloc::Global;
 use std::cell::Cell;
 use std::hash::{Hash, Hasher};
-use std::process::Abort;
 use std::test::Fail;
+use test_support::asserts::{assert_same, assert_same_at};
 
 // A key that counts its drop.
 struct Key<'a> {
@@ -228,37 +227,41 @@ enum Returned<'a> {
 type Dropped = ((u64, u64), (u64, u64), (u64, u64));
 
 // Makes the call on a new map of the held keys, and then drops its result and the map.
-fn dropped_by(rt: &impl Abort, alloc: Global, call: Call, on: On) -> Result<Dropped, Refusal> {
+fn dropped_by(alloc: Global, call: Call, on: On) -> Result<Dropped, Fail> {
     match on {
-        On::Vector => dropped_at::<5>(rt, alloc, call, 5),
-        On::TightVector => dropped_at::<5>(rt, alloc, call, 3),
-        On::FullVector => dropped_at::<3>(rt, alloc, call, 3),
-        On::Table => dropped_at::<0>(rt, alloc, call, 6),
-        On::TightTable => dropped_at::<0>(rt, alloc, call, 3),
+        On::Vector => dropped_at::<5>(alloc, call, 5),
+        On::TightVector => dropped_at::<5>(alloc, call, 3),
+        On::FullVector => dropped_at::<3>(alloc, call, 3),
+        On::Table => dropped_at::<0>(alloc, call, 6),
+        On::TightTable => dropped_at::<0>(alloc, call, 3),
     }
 }
 
-// The same, on a map of this limit and this capacity.
-fn dropped_at<const N: usize>(
-    rt: &impl Abort,
+// A map of this limit and this capacity, with the held keys.
+fn held_by<const N: usize>(
     alloc: Global,
-    call: Call,
+    drops: &Drops,
     capacity: usize,
-) -> Result<Dropped, Refusal> {
-    let drops = Drops::new();
+) -> Result<Dropping<'_, N>, Refusal> {
     let builder = DefaultHashBuilder::new();
     let mut map = Dropping::<'_, N>::with_capacity_and_hasher(alloc, capacity, builder)?;
     for id in HELD {
         map.insert(drops.key(id), drops.value())?;
     }
-    assert_same(rt, drops.take(), (0, 0), "the held pairs");
+    Ok(map)
+}
+
+// The same, on a map of this limit and this capacity.
+fn dropped_at<const N: usize>(alloc: Global, call: Call, capacity: usize) -> Result<Dropped, Fail> {
+    let drops = Drops::new();
+    let mut map = held_by::<N>(alloc, &drops, capacity)?;
+    assert_same(drops.take(), (0, 0), "the held pairs")?;
     assert_same_at(
-        rt,
         N,
         (map.len(), map.capacity()),
         (3, capacity),
         "length and capacity",
-    );
+    )?;
     let returned = returned_by(&mut map, &drops, call)?;
     let by_call = drops.take();
     drop(returned);
@@ -332,18 +335,17 @@ fn insert_unsearched<'a, const N: usize>(
 fn each_call_drops_what_it_takes_and_does_not_keep(rt: HostRuntime) -> Result<(), Fail> {
     for (call, on, by_call, with_result, with_map) in CASES {
         assert_same_at(
-            &rt,
             (call, on),
-            dropped_by(&rt, rt.alloc(), call, on)?,
+            dropped_by(rt.alloc(), call, on)?,
             (by_call, with_result, with_map),
             "the outcome",
-        );
+        )?;
     }
     Ok(())
 }
 
 #[test]
-fn a_refused_pair_is_dropped_once(rt: HostRuntime) {
+fn a_refused_pair_is_dropped_once() -> Result<(), Fail> {
     let drops = Drops::new();
     let refused = || Refused {
         key: drops.key(1),
@@ -351,9 +353,9 @@ fn a_refused_pair_is_dropped_once(rt: HostRuntime) {
         why: Refusal::Memory,
     };
     drop(refused());
-    assert_same(&rt, drops.take(), (1, 1), "dropped");
-    assert_same(&rt, Refusal::from(refused()), Refusal::Memory, "the reason");
-    assert_same(&rt, drops.take(), (1, 1), "converted");
+    assert_same(drops.take(), (1, 1), "dropped")?;
+    assert_same(Refusal::from(refused()), Refusal::Memory, "the reason")?;
+    assert_same(drops.take(), (1, 1), "converted")
 }
 
 // A map whose keys count their drops.
@@ -361,11 +363,10 @@ type DroppingKeys<'a, const N: usize> = SizedHashMap<Key<'a>, u64, DefaultHashBu
 
 // The replies to a run of nine keys: one overwrites, one comes back, two are looked up, two are sought to be removed.
 fn replies_of_a_run<'a, const N: usize>(
-    rt: &impl Abort,
     alloc: Global,
     map: &mut DroppingKeys<'a, N>,
     drops: &'a Drops,
-) -> Result<Vec<Reply<Key<'a>, u64>>, AllocError> {
+) -> Result<Vec<Reply<Key<'a>, u64>>, Fail> {
     let commands = vec![in alloc;
         Command::Insert(drops.key(1), 1),
         Command::Insert(drops.key(2), 2),
@@ -380,21 +381,15 @@ fn replies_of_a_run<'a, const N: usize>(
         Command::Shrink,
         Command::Len,
     ]?;
-    Ok(
-        run(alloc, map, commands)
-            .ok()
-            .expect(rt, "memory for the replies"),
-    )
+    let replies = run(alloc, map, commands).ok();
+    Ok(replies.ok_or("no memory for the replies")?)
 }
 
 // How many keys are dropped by the run, with its replies, and with the map.
-fn dropped_by_a_run<const N: usize>(
-    rt: &impl Abort,
-    alloc: Global,
-) -> Result<(u64, u64, u64), AllocError> {
+fn dropped_by_a_run<const N: usize>(alloc: Global) -> Result<(u64, u64, u64), Fail> {
     let drops = Drops::new();
     let mut map = DroppingKeys::<'_, N>::new(alloc);
-    let replies = replies_of_a_run(rt, alloc, &mut map, &drops)?;
+    let replies = replies_of_a_run(alloc, &mut map, &drops)?;
     let by_run = drops.take().0;
     drop(replies);
     let with_replies = drops.take().0;
@@ -407,8 +402,8 @@ fn a_run_drops_each_key_once(rt: HostRuntime) -> Result<(), Fail> {
     let alloc = rt.alloc();
     // The overwriting key and the four that are sought; the one that comes back and the one that is removed; two held ones.
     let wanted = (5, 2, 2);
-    assert_same(&rt, dropped_by_a_run::<32>(&rt, alloc)?, wanted, "a vector");
-    assert_same(&rt, dropped_by_a_run::<2>(&rt, alloc)?, wanted, "a switch");
-    assert_same(&rt, dropped_by_a_run::<0>(&rt, alloc)?, wanted, "a table");
+    assert_same(dropped_by_a_run::<32>(alloc)?, wanted, "a vector")?;
+    assert_same(dropped_by_a_run::<2>(alloc)?, wanted, "a switch")?;
+    assert_same(dropped_by_a_run::<0>(alloc)?, wanted, "a table")?;
     Ok(())
 }

@@ -3,15 +3,14 @@
 //! The costs in the contracts see what the tally counts. Here the builder and the keys count for themselves, and each call,
 //! plain and counted, does as much work as its cost says and no more.
 
-use crate::asserts::{assert_same, assert_same_at, assert_true};
-use crate::builders::Rule;
-use crate::counts::{Counted, Counts};
-use crate::keys::Key;
 use crate::small_maps::{ABSENT, HELD, On};
 use halfbrown::Tally;
 use std::alloc::Global;
-use std::process::Abort;
 use std::test::Fail;
+use test_support::asserts::{assert_same, assert_same_at, assert_true};
+use test_support::builders::Rule;
+use test_support::counts::{Counted, Counts};
+use test_support::keys::Key;
 
 // A call that searches for a key, and inserts nothing.
 #[derive(Clone, Copy, Debug)]
@@ -164,23 +163,18 @@ enum Call {
 type Outcome = (bool, u64, u64);
 
 // Makes the call on a new map of the held keys.
-fn outcome_of(rt: &impl Abort, alloc: Global, call: Call, on: On) -> Result<Outcome, Fail> {
+fn outcome_of(alloc: Global, call: Call, on: On) -> Result<Outcome, Fail> {
     match on {
-        On::Vector => outcome_at::<5>(rt, alloc, call, 5),
-        On::TightVector => outcome_at::<5>(rt, alloc, call, 3),
-        On::FullVector => outcome_at::<3>(rt, alloc, call, 3),
-        On::Table => outcome_at::<0>(rt, alloc, call, 6),
-        On::TightTable => outcome_at::<0>(rt, alloc, call, 3),
+        On::Vector => outcome_at::<5>(alloc, call, 5),
+        On::TightVector => outcome_at::<5>(alloc, call, 3),
+        On::FullVector => outcome_at::<3>(alloc, call, 3),
+        On::Table => outcome_at::<0>(alloc, call, 6),
+        On::TightTable => outcome_at::<0>(alloc, call, 3),
     }
 }
 
 // The same, on a map of this limit and this capacity.
-fn outcome_at<const N: usize>(
-    rt: &impl Abort,
-    alloc: Global,
-    call: Call,
-    capacity: usize,
-) -> Result<Outcome, Fail> {
+fn outcome_at<const N: usize>(alloc: Global, call: Call, capacity: usize) -> Result<Outcome, Fail> {
     let counts = Counts::new();
     let builder = counts.builder(Rule::Plain);
     let mut map = Counted::<'_, N>::with_capacity_and_hasher(alloc, capacity, builder)?;
@@ -188,12 +182,11 @@ fn outcome_at<const N: usize>(
         map.insert(counts.key(id), id)?;
     }
     assert_same_at(
-        rt,
         N,
         (map.len(), map.capacity()),
         (3, capacity),
         "length and capacity",
-    );
+    )?;
     counts.take();
     let is_right = match call {
         Call::Searches(search, id) => {
@@ -293,12 +286,11 @@ fn each_search_does_the_work_of_one_search(rt: HostRuntime) -> Result<(), Fail> 
         for (id, compared) in HELD.iter().chain([ABSENT].iter()).zip(compared) {
             let call = Call::Searches(search, *id);
             assert_same_at(
-                &rt,
                 (call, on),
-                outcome_of(&rt, rt.alloc(), call, on)?,
+                outcome_of(rt.alloc(), call, on)?,
                 (true, asked, *compared),
                 "the outcome",
-            );
+            )?;
         }
     }
     Ok(())
@@ -309,12 +301,11 @@ fn each_insertion_does_the_work_of_its_cost(rt: HostRuntime) -> Result<(), Fail>
     for (insertion, on, id, asked, compared) in INSERTIONS {
         let call = Call::Inserts(insertion, id);
         assert_same_at(
-            &rt,
             (call, on),
-            outcome_of(&rt, rt.alloc(), call, on)?,
+            outcome_of(rt.alloc(), call, on)?,
             (true, asked, compared),
             "the outcome",
-        );
+        )?;
     }
     Ok(())
 }
@@ -324,12 +315,11 @@ fn no_other_call_hashes_or_compares(rt: HostRuntime) -> Result<(), Fail> {
     for (other, on, asked, compared) in OTHERS {
         let call = Call::Does(other);
         assert_same_at(
-            &rt,
             (call, on),
-            outcome_of(&rt, rt.alloc(), call, on)?,
+            outcome_of(rt.alloc(), call, on)?,
             (true, asked, compared),
             "the outcome",
-        );
+        )?;
     }
     Ok(())
 }
@@ -339,12 +329,12 @@ fn making_a_map_hashes_nothing(rt: HostRuntime) -> Result<(), Fail> {
     let counts = Counts::new();
     let plain = || counts.builder(Rule::Plain);
     let map = Counted::<'_, 5>::with_hasher(rt.alloc(), plain());
-    assert_true(&rt, map.is_vec(), "with_hasher makes a vector");
-    assert_same(&rt, counts.take(), (0, 0), "with_hasher");
+    assert_true(map.is_vec(), "with_hasher makes a vector")?;
+    assert_same(counts.take(), (0, 0), "with_hasher")?;
     for capacity in [0, 5, 6, 100] {
         let map = Counted::<'_, 5>::with_capacity_and_hasher(rt.alloc(), capacity, plain())?;
-        assert_same_at(&rt, capacity, map.is_vec(), capacity <= 5, "the capacity");
-        assert_same_at(&rt, capacity, counts.take(), (0, 0), "the capacity");
+        assert_same_at(capacity, map.is_vec(), capacity <= 5, "the capacity")?;
+        assert_same_at(capacity, counts.take(), (0, 0), "the capacity")?;
     }
     Ok(())
 }

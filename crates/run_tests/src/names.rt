@@ -1,8 +1,8 @@
 //! Commands and replies with keys by name, beside those with keys that count.
 
-use crate::counts::Counts;
-use crate::keys::Key;
 use halfbrown::{Command, Reply};
+use test_support::counts::Counts;
+use test_support::keys::Key;
 
 /// A key by its id and its mark. Keys of one id are equal to a map.
 pub(crate) type Name = (u64, u64);
