@@ -4,27 +4,40 @@ use halfbrown::{DefaultHashBuilder, HashMap};
 use std::test::Fail;
 use test_support::asserts::{assert_same, assert_same_at};
 use test_support::builders::Rule;
-use test_support::calls::{Form, assert_form, assert_get, assert_insert};
+use test_support::calls::Form;
 use test_support::counts::Counts;
+use test_support::steps::{Step, play};
 
 #[test]
 fn the_sixth_insertion_of_limit_five_makes_a_table(rt: HostRuntime) -> Result<(), Fail> {
-    let counts = Counts::new();
-    let mut map = counts.map::<5>(rt.alloc(), Rule::Plain);
-    assert_form(&map, (Form::Vector, 0, 0))?;
-    for id in 1..=5 {
-        // It is compared with each held key, and nothing is hashed.
-        assert_insert(&mut map, &counts, (id, id), (None, (0, id - 1)))?;
-        assert_same_at(id, map.is_vec(), true, "so many pairs are a vector")?;
-    }
-    // Five hashes for the switch and one for the search.
-    assert_insert(&mut map, &counts, (6, 6), (None, (6, 0)))?;
-    assert_form(&map, (Form::Table, 6, 6))?;
-    for id in 1..=6 {
-        assert_get(&map, &counts, id, (Some(id), (1, 1)))?;
-    }
-    assert_get(&map, &counts, 7, (None, (1, 0)))?;
-    Ok(())
+    play::<5>(
+        rt.alloc(),
+        Rule::Plain,
+        &[
+            Step::Is(Form::Vector, 0, 0),
+            // A key is compared with each held key, and nothing is hashed.
+            Step::Insert((1, 1), (None, (0, 0))),
+            Step::HasForm(Form::Vector),
+            Step::Insert((2, 2), (None, (0, 1))),
+            Step::HasForm(Form::Vector),
+            Step::Insert((3, 3), (None, (0, 2))),
+            Step::HasForm(Form::Vector),
+            Step::Insert((4, 4), (None, (0, 3))),
+            Step::HasForm(Form::Vector),
+            Step::Insert((5, 5), (None, (0, 4))),
+            Step::HasForm(Form::Vector),
+            // Five hashes for the switch and one for the search.
+            Step::Insert((6, 6), (None, (6, 0))),
+            Step::Is(Form::Table, 6, 6),
+            Step::Get(1, (Some(1), (1, 1))),
+            Step::Get(2, (Some(2), (1, 1))),
+            Step::Get(3, (Some(3), (1, 1))),
+            Step::Get(4, (Some(4), (1, 1))),
+            Step::Get(5, (Some(5), (1, 1))),
+            Step::Get(6, (Some(6), (1, 1))),
+            Step::Get(7, (None, (1, 0))),
+        ],
+    )
 }
 
 #[test]
@@ -40,28 +53,36 @@ fn an_insertion_returns_the_value_before_it(rt: HostRuntime) -> Result<(), Fail>
 
 #[test]
 fn an_overwrite_of_a_full_vector_makes_a_table(rt: HostRuntime) -> Result<(), Fail> {
-    let counts = Counts::new();
-    let mut map = counts.map::<5>(rt.alloc(), Rule::Plain);
-    for id in 1..=5 {
-        assert_insert(&mut map, &counts, (id, id), (None, (0, id - 1)))?;
-    }
-    assert_same(map.is_vec(), true, "five pairs are a vector")?;
-    // Five hashes for the switch and one for the search; one key has the hash of key 3.
-    assert_insert(&mut map, &counts, (3, 9), (Some(3), (6, 1)))?;
-    assert_form(&map, (Form::Table, 5, 6))?;
-    assert_get(&map, &counts, 3, (Some(9), (1, 1)))?;
-    Ok(())
+    play::<5>(
+        rt.alloc(),
+        Rule::Plain,
+        &[
+            Step::Insert((1, 1), (None, (0, 0))),
+            Step::Insert((2, 2), (None, (0, 1))),
+            Step::Insert((3, 3), (None, (0, 2))),
+            Step::Insert((4, 4), (None, (0, 3))),
+            Step::Insert((5, 5), (None, (0, 4))),
+            Step::HasForm(Form::Vector),
+            // Five hashes for the switch and one for the search; one key has the hash of key 3.
+            Step::Insert((3, 9), (Some(3), (6, 1))),
+            Step::Is(Form::Table, 5, 6),
+            Step::Get(3, (Some(9), (1, 1))),
+        ],
+    )
 }
 
 #[test]
 fn limit_zero_is_a_table_from_the_first_insertion_on(rt: HostRuntime) -> Result<(), Fail> {
-    let counts = Counts::new();
-    let mut map = counts.map::<0>(rt.alloc(), Rule::Plain);
-    assert_form(&map, (Form::Vector, 0, 0))?;
-    // One hash for the search; no key is held.
-    assert_insert(&mut map, &counts, (1, 1), (None, (1, 0)))?;
-    assert_form(&map, (Form::Table, 1, 3))?;
-    Ok(())
+    play::<0>(
+        rt.alloc(),
+        Rule::Plain,
+        &[
+            Step::Is(Form::Vector, 0, 0),
+            // One hash for the search; no key is held.
+            Step::Insert((1, 1), (None, (1, 0))),
+            Step::Is(Form::Table, 1, 3),
+        ],
+    )
 }
 
 #[test]

@@ -3,7 +3,6 @@
 //! The costs in the contracts see what the tally counts. Here the builder and the keys count for themselves, and each call,
 //! plain and counted, does as much work as its cost says and no more.
 
-use crate::small_maps::{ABSENT, HELD, On};
 use halfbrown::Tally;
 use std::alloc::Global;
 use std::test::Fail;
@@ -11,8 +10,9 @@ use test_support::asserts::{assert_same, assert_same_at, assert_true};
 use test_support::builders::Rule;
 use test_support::counts::{Counted, Counts};
 use test_support::keys::Key;
+use test_support::small_maps::{ABSENT, HELD, On};
 
-// A call that searches for a key, and inserts nothing.
+// A call that looks a key up.
 #[derive(Clone, Copy, Debug)]
 enum Search {
     Get,
@@ -23,14 +23,13 @@ enum Search {
     ContainsKeyCounted,
     Index,
     IndexCounted,
-    Remove,
-    RemoveCounted,
-    RemoveEntry,
-    RemoveEntryCounted,
 }
 
+// The held keys and the absent one.
+const SOUGHT: [u64; 4] = [HELD[0], HELD[1], HELD[2], ABSENT];
+
 // The call, the map, the hashes, and the comparisons for each held key and the absent one, which cannot be indexed by.
-const SEARCHES: [(Search, On, u64, &[u64]); 30] = [
+const SEARCHES: [(Search, On, u64, &[u64]); 20] = [
     (Search::Get, On::Vector, 0, &[1, 2, 3, 3]),
     (Search::Get, On::FullVector, 0, &[1, 2, 3, 3]),
     (Search::Get, On::Table, 1, &[1, 1, 1, 0]),
@@ -51,16 +50,29 @@ const SEARCHES: [(Search, On, u64, &[u64]); 30] = [
     (Search::Index, On::Table, 1, &[1, 1, 1]),
     (Search::IndexCounted, On::Vector, 0, &[1, 2, 3]),
     (Search::IndexCounted, On::Table, 1, &[1, 1, 1]),
-    (Search::Remove, On::Vector, 0, &[1, 2, 3, 3]),
-    (Search::Remove, On::FullVector, 0, &[1, 2, 3, 3]),
-    (Search::Remove, On::Table, 1, &[1, 1, 1, 0]),
-    (Search::RemoveCounted, On::Vector, 0, &[1, 2, 3, 3]),
-    (Search::RemoveCounted, On::Table, 1, &[1, 1, 1, 0]),
-    (Search::RemoveEntry, On::Vector, 0, &[1, 2, 3, 3]),
-    (Search::RemoveEntry, On::FullVector, 0, &[1, 2, 3, 3]),
-    (Search::RemoveEntry, On::Table, 1, &[1, 1, 1, 0]),
-    (Search::RemoveEntryCounted, On::Vector, 0, &[1, 2, 3, 3]),
-    (Search::RemoveEntryCounted, On::Table, 1, &[1, 1, 1, 0]),
+];
+
+// A call that removes a key.
+#[derive(Clone, Copy, Debug)]
+enum Removal {
+    Remove,
+    RemoveCounted,
+    RemoveEntry,
+    RemoveEntryCounted,
+}
+
+// The call, the map, the hashes, and the comparisons for each held key and the absent one.
+const REMOVALS: [(Removal, On, u64, &[u64]); 10] = [
+    (Removal::Remove, On::Vector, 0, &[1, 2, 3, 3]),
+    (Removal::Remove, On::FullVector, 0, &[1, 2, 3, 3]),
+    (Removal::Remove, On::Table, 1, &[1, 1, 1, 0]),
+    (Removal::RemoveCounted, On::Vector, 0, &[1, 2, 3, 3]),
+    (Removal::RemoveCounted, On::Table, 1, &[1, 1, 1, 0]),
+    (Removal::RemoveEntry, On::Vector, 0, &[1, 2, 3, 3]),
+    (Removal::RemoveEntry, On::FullVector, 0, &[1, 2, 3, 3]),
+    (Removal::RemoveEntry, On::Table, 1, &[1, 1, 1, 0]),
+    (Removal::RemoveEntryCounted, On::Vector, 0, &[1, 2, 3, 3]),
+    (Removal::RemoveEntryCounted, On::Table, 1, &[1, 1, 1, 0]),
 ];
 
 // A call that inserts a key.
@@ -155,6 +167,7 @@ const OTHERS: [(Other, On, u64, u64); 26] = [
 #[derive(Clone, Copy, Debug)]
 enum Call {
     Searches(Search, u64),
+    Removes(Removal, u64),
     Inserts(Insertion, u64),
     Does(Other),
 }
@@ -192,6 +205,9 @@ fn outcome_at<const N: usize>(alloc: Global, call: Call, capacity: usize) -> Res
         Call::Searches(search, id) => {
             found(&mut map, &counts, search, counts.key(id)) == (id != ABSENT)
         }
+        Call::Removes(removal, id) => {
+            removed(&mut map, removal, counts.key(id)) == (id != ABSENT)
+        }
         Call::Inserts(insertion, id) => {
             replaced(&mut map, &counts, insertion, counts.key(id))? == (id != ABSENT)
         }
@@ -216,10 +232,6 @@ fn found<'a, const N: usize>(
         Search::GetMutCounted => map.get_mut_counted(&key, tally).is_some(),
         Search::ContainsKey => map.contains_key(&key),
         Search::ContainsKeyCounted => map.contains_key_counted(&key, tally),
-        Search::Remove => map.remove(&key).is_some(),
-        Search::RemoveCounted => map.remove_counted(&key, tally).is_some(),
-        Search::RemoveEntry => map.remove_entry(&key).is_some(),
-        Search::RemoveEntryCounted => map.remove_entry_counted(&key, tally).is_some(),
         Search::Index | Search::IndexCounted if !map.contains_key(&key) => false,
         Search::Index => {
             counts.take();
@@ -229,6 +241,17 @@ fn found<'a, const N: usize>(
             counts.take();
             *map.index_counted(&key, tally) == key.id
         }
+    }
+}
+
+// Whether the removal found the key.
+fn removed<'a, const N: usize>(map: &mut Counted<'a, N>, removal: Removal, key: Key<'a>) -> bool {
+    let tally = &mut Tally::new();
+    match removal {
+        Removal::Remove => map.remove(&key).is_some(),
+        Removal::RemoveCounted => map.remove_counted(&key, tally).is_some(),
+        Removal::RemoveEntry => map.remove_entry(&key).is_some(),
+        Removal::RemoveEntryCounted => map.remove_entry_counted(&key, tally).is_some(),
     }
 }
 
@@ -280,17 +303,29 @@ fn did<const N: usize>(map: &mut Counted<'_, N>, other: Other) -> bool {
     }
 }
 
+// Makes the call on a new map, and fails where something else came of it.
+fn assert_outcome(alloc: Global, call: Call, on: On, expected: Outcome) -> Result<(), Fail> {
+    let outcome = outcome_of(alloc, call, on)?;
+    assert_same_at((call, on), outcome, expected, "the outcome")
+}
+
 #[test]
 fn each_search_does_the_work_of_one_search(rt: HostRuntime) -> Result<(), Fail> {
     for (search, on, asked, compared) in SEARCHES {
-        for (id, compared) in HELD.iter().chain([ABSENT].iter()).zip(compared) {
+        for (id, compared) in SOUGHT.iter().zip(compared) {
             let call = Call::Searches(search, *id);
-            assert_same_at(
-                (call, on),
-                outcome_of(rt.alloc(), call, on)?,
-                (true, asked, *compared),
-                "the outcome",
-            )?;
+            assert_outcome(rt.alloc(), call, on, (true, asked, *compared))?;
+        }
+    }
+    Ok(())
+}
+
+#[test]
+fn each_removal_does_the_work_of_one_search(rt: HostRuntime) -> Result<(), Fail> {
+    for (removal, on, asked, compared) in REMOVALS {
+        for (id, compared) in SOUGHT.iter().zip(compared) {
+            let call = Call::Removes(removal, *id);
+            assert_outcome(rt.alloc(), call, on, (true, asked, *compared))?;
         }
     }
     Ok(())
@@ -300,12 +335,7 @@ fn each_search_does_the_work_of_one_search(rt: HostRuntime) -> Result<(), Fail> 
 fn each_insertion_does_the_work_of_its_cost(rt: HostRuntime) -> Result<(), Fail> {
     for (insertion, on, id, asked, compared) in INSERTIONS {
         let call = Call::Inserts(insertion, id);
-        assert_same_at(
-            (call, on),
-            outcome_of(rt.alloc(), call, on)?,
-            (true, asked, compared),
-            "the outcome",
-        )?;
+        assert_outcome(rt.alloc(), call, on, (true, asked, compared))?;
     }
     Ok(())
 }
@@ -314,12 +344,7 @@ fn each_insertion_does_the_work_of_its_cost(rt: HostRuntime) -> Result<(), Fail>
 fn no_other_call_hashes_or_compares(rt: HostRuntime) -> Result<(), Fail> {
     for (other, on, asked, compared) in OTHERS {
         let call = Call::Does(other);
-        assert_same_at(
-            (call, on),
-            outcome_of(rt.alloc(), call, on)?,
-            (true, asked, compared),
-            "the outcome",
-        )?;
+        assert_outcome(rt.alloc(), call, on, (true, asked, compared))?;
     }
     Ok(())
 }

@@ -1,6 +1,8 @@
-//! Tests of long runs: a thousand commands against an expected map.
+//! Tests of runs: a thousand commands against an expected map, and what calls and runs drop.
 #![tactic(auto)]
 
+#[cfg(test)]
+mod drops_of_calls;
 #[cfg(test)]
 mod expected;
 #[cfg(test)]

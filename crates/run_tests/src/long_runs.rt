@@ -58,30 +58,40 @@ fn replies_to<'a, const N: usize>(
     Ok(replies.into_iter().map(with_names).collect(alloc)?)
 }
 
-// Command by command: the reply, the work, the form and the capacity.
+// One command: the reply, the work, the form and the capacity.
+fn assert_command<'a, const N: usize>(
+    alloc: Global,
+    map: &mut Counted<'a, N>,
+    counts: &'a Counts,
+    expected: &mut Expected,
+    command: Command<Name, u64>,
+) -> Result<(), Fail> {
+    let at = (N, map.hasher().rule, command);
+    let capacities = expected.capacities_after(command, map.capacity());
+    let (reply, work) = expected.reply_to(command)?;
+    let one = vec![in alloc; command]?;
+    let replies = replies_to(alloc, map, one, counts)?;
+    let spent = counts.take();
+    assert_same_at(at, replies.as_slice(), [reply].as_slice(), "the reply")?;
+    assert_true_at((at, spent, work), work.allows(spent.0, spent.1), "the work")?;
+    assert_same_at(at, map.is_vec(), expected.is_vec(), "the form")?;
+    let capacity = map.capacity();
+    assert_true_at(
+        (at, capacity, capacities),
+        capacities.allow(capacity),
+        "the capacity",
+    )
+}
+
+// Command by command.
 fn replies_one_by_one<const N: usize>(alloc: Global, rule: Rule) -> Result<(), Fail> {
     let counts = Counts::new();
     let mut map = counts.map::<N>(alloc, rule);
     let mut expected = Expected::new(alloc, N, rule);
     for command in &commands(alloc)? {
-        let at = (N, rule, *command);
-        let capacities = expected.capacities_after(*command, map.capacity());
-        let (reply, work) = expected.reply_to(*command)?;
-        let one = vec![in alloc; *command]?;
-        let replies = replies_to(alloc, &mut map, one, &counts)?;
-        let spent = counts.take();
-        assert_same_at(at, replies.as_slice(), [reply].as_slice(), "the reply")?;
-        assert_true_at((at, spent, work), work.allows(spent.0, spent.1), "the work")?;
-        assert_same_at(at, map.is_vec(), expected.is_vec(), "the form")?;
-        let capacity = map.capacity();
-        assert_true_at(
-            (at, capacity, capacities),
-            capacities.allow(capacity),
-            "the capacity",
-        )?;
+        assert_command(alloc, &mut map, &counts, &mut expected, *command)?;
     }
-    assert_true_at((N, rule), map.is_map(), "the switch is reached")?;
-    Ok(())
+    assert_true_at((N, rule), map.is_map(), "the switch is reached")
 }
 
 // All commands at once: the replies, and the work as a sum.
@@ -113,19 +123,20 @@ fn replies_all_at_once<const N: usize>(alloc: Global, rule: Rule) -> Result<(), 
     Ok(())
 }
 
+// Both, at one limit.
+fn replies_as_a_list<const N: usize>(alloc: Global, rule: Rule) -> Result<(), Fail> {
+    replies_one_by_one::<N>(alloc, rule)?;
+    replies_all_at_once::<N>(alloc, rule)
+}
+
 #[test]
 fn a_long_run_replies_as_a_list(rt: HostRuntime) -> Result<(), Fail> {
     for rule in [Rule::Plain, Rule::Zero, Rule::Top] {
-        replies_one_by_one::<0>(rt.alloc(), rule)?;
-        replies_one_by_one::<1>(rt.alloc(), rule)?;
-        replies_one_by_one::<2>(rt.alloc(), rule)?;
-        replies_one_by_one::<5>(rt.alloc(), rule)?;
-        replies_one_by_one::<32>(rt.alloc(), rule)?;
-        replies_all_at_once::<0>(rt.alloc(), rule)?;
-        replies_all_at_once::<1>(rt.alloc(), rule)?;
-        replies_all_at_once::<2>(rt.alloc(), rule)?;
-        replies_all_at_once::<5>(rt.alloc(), rule)?;
-        replies_all_at_once::<32>(rt.alloc(), rule)?;
+        replies_as_a_list::<0>(rt.alloc(), rule)?;
+        replies_as_a_list::<1>(rt.alloc(), rule)?;
+        replies_as_a_list::<2>(rt.alloc(), rule)?;
+        replies_as_a_list::<5>(rt.alloc(), rule)?;
+        replies_as_a_list::<32>(rt.alloc(), rule)?;
     }
     Ok(())
 }

@@ -2,6 +2,7 @@
 
 use crate::asserts::{assert_same, assert_same_at};
 use crate::counts::{Counted, Counts};
+use halfbrown::Refusal;
 use std::test::Fail;
 
 /// What a call returns, and its hashes and comparisons.
@@ -54,6 +55,49 @@ pub fn assert_remove<'a, const N: usize>(
     assert_same_at(id, outcome, expected, "remove: the value, and the work")
 }
 
+/// Inserts a key that is not held, with its number as its value and without a search.
+pub fn assert_insert_unsearched<'a, const N: usize>(
+    map: &mut Counted<'a, N>,
+    counts: &'a Counts,
+    id: u64,
+    work: (u64, u64),
+) -> Result<(), Fail> {
+    let key = counts.key(id);
+    if map.contains_key(&key) {
+        return Err(Fail::new("a key that is held is not inserted without a search"));
+    }
+    counts.take();
+    map.insert_nocheck(key, id)?;
+    assert_same_at(id, counts.take(), work, "insert_nocheck: the work")
+}
+
+/// Reserves for so many pairs more, without work.
+pub fn assert_reserve<'a, const N: usize>(
+    map: &mut Counted<'a, N>,
+    counts: &Counts,
+    additional: usize,
+    expected: Result<(), Refusal>,
+) -> Result<(), Fail> {
+    counts.take();
+    let outcome = (map.reserve(additional), counts.take());
+    assert_same_at(
+        additional,
+        outcome,
+        (expected, (0, 0)),
+        "reserve: the result, and the work",
+    )
+}
+
+/// Shrinks the capacity, without work.
+pub fn assert_shrink<'a, const N: usize>(
+    map: &mut Counted<'a, N>,
+    counts: &Counts,
+) -> Result<(), Fail> {
+    counts.take();
+    map.shrink_to_fit();
+    assert_same(counts.take(), (0, 0), "shrink_to_fit: the work")
+}
+
 /// The form of a map.
 #[derive(Clone, Copy, Debug, PartialEq, Eq)]
 pub enum Form {
@@ -61,18 +105,27 @@ pub enum Form {
     Table,
 }
 
+// The form, where the two calls that say it agree.
+fn form_of<const N: usize>(map: &Counted<'_, N>) -> Result<Form, Fail> {
+    assert_same(map.is_map(), !map.is_vec(), "the two calls agree")?;
+    Ok(if map.is_vec() {
+        Form::Vector
+    } else {
+        Form::Table
+    })
+}
+
+/// The form alone.
+pub fn assert_has_form<const N: usize>(map: &Counted<'_, N>, expected: Form) -> Result<(), Fail> {
+    assert_same(form_of(map)?, expected, "the form")
+}
+
 /// The form, the length and the capacity.
 pub fn assert_form<const N: usize>(
     map: &Counted<'_, N>,
     expected: (Form, usize, usize),
 ) -> Result<(), Fail> {
-    let form = if map.is_vec() {
-        Form::Vector
-    } else {
-        Form::Table
-    };
-    assert_same(map.is_map(), !map.is_vec(), "the two calls agree")?;
-    let actual = (form, map.len(), map.capacity());
+    let actual = (form_of(map)?, map.len(), map.capacity());
     assert_same(actual, expected, "the form, the length and the capacity")
 }
 

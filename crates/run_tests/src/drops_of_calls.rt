@@ -5,7 +5,6 @@ ghost use Rattle.std.specs.Hash as fed;
 ghost use Rattle.std.specs.Cmp.Rules.{comparing, hashing};
 ghost use Rattle.std.proofs.Common.{rules};
 
-use crate::small_maps::{ABSENT, HELD, On};
 use halfbrown::run::run;
 use halfbrown::{Command, DefaultHashBuilder, Refusal, Refused, Reply, SizedHashMap, Tally};
 use std::alloc::Global;
@@ -13,6 +12,7 @@ use std::cell::Cell;
 use std::hash::{Hash, Hasher};
 use std::test::Fail;
 use test_support::asserts::{assert_same, assert_same_at};
+use test_support::small_maps::{ABSENT, HELD, On};
 
 // A key that counts its drop.
 struct Key<'a> {
@@ -331,15 +331,16 @@ fn insert_unsearched<'a, const N: usize>(
     Ok(())
 }
 
+// Makes the call on a new map, and fails where something else was dropped.
+fn assert_dropped(alloc: Global, call: Call, on: On, expected: Dropped) -> Result<(), Fail> {
+    let dropped = dropped_by(alloc, call, on)?;
+    assert_same_at((call, on), dropped, expected, "what is dropped")
+}
+
 #[test]
 fn each_call_drops_what_it_takes_and_does_not_keep(rt: HostRuntime) -> Result<(), Fail> {
     for (call, on, by_call, with_result, with_map) in CASES {
-        assert_same_at(
-            (call, on),
-            dropped_by(rt.alloc(), call, on)?,
-            (by_call, with_result, with_map),
-            "the outcome",
-        )?;
+        assert_dropped(rt.alloc(), call, on, (by_call, with_result, with_map))?;
     }
     Ok(())
 }

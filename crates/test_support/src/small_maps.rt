@@ -2,14 +2,14 @@
 
 /// The held keys, in the order of their insertion. Where a key's hash is its number, all keys here have bucket 0 as home
 /// bucket in each table below, so that their hashes alone decide which are compared.
-pub(crate) const HELD: [u64; 3] = [24, 8, 16];
+pub const HELD: [u64; 3] = [24, 8, 16];
 
 /// A key that is not held.
-pub(crate) const ABSENT: u64 = 32;
+pub const ABSENT: u64 = 32;
 
 /// A map of the three held keys.
 #[derive(Clone, Copy, Debug)]
-pub(crate) enum On {
+pub enum On {
     /// A vector at limit 5, of capacity 5.
     Vector,
     /// A vector at limit 5, of capacity 3: it grows at a new key.
