@@ -8,6 +8,7 @@ use std::alloc::Global;
 use std::test::Fail;
 use test_support::asserts::{assert_same, assert_same_at, assert_true};
 use test_support::builders::Rule;
+use test_support::calls::fill;
 use test_support::counts::{Counted, Counts};
 use test_support::keys::Key;
 use test_support::small_maps::{ABSENT, HELD, On};
@@ -189,32 +190,41 @@ fn outcome_of(alloc: Global, call: Call, on: On) -> Result<Outcome, Fail> {
 // The same, on a map of this limit and this capacity.
 fn outcome_at<const N: usize>(alloc: Global, call: Call, capacity: usize) -> Result<Outcome, Fail> {
     let counts = Counts::new();
-    let builder = counts.builder(Rule::Plain);
-    let mut map = Counted::<'_, N>::with_capacity_and_hasher(alloc, capacity, builder)?;
-    for id in HELD {
-        map.insert(counts.key(id), id)?;
-    }
-    assert_same_at(
-        N,
-        (map.len(), map.capacity()),
-        (3, capacity),
-        "length and capacity",
-    )?;
+    let mut map = held_by::<N>(alloc, &counts, capacity)?;
     counts.take();
-    let is_right = match call {
-        Call::Searches(search, id) => {
-            found(&mut map, &counts, search, counts.key(id)) == (id != ABSENT)
-        }
-        Call::Removes(removal, id) => {
-            removed(&mut map, removal, counts.key(id)) == (id != ABSENT)
-        }
-        Call::Inserts(insertion, id) => {
-            replaced(&mut map, &counts, insertion, counts.key(id))? == (id != ABSENT)
-        }
-        Call::Does(other) => did(&mut map, other),
-    };
+    let is_right = made(&mut map, &counts, call)?;
     let (asked, compared) = counts.take();
     Ok((is_right, asked, compared))
+}
+
+// A map of this limit and this capacity, with the held keys.
+fn held_by<const N: usize>(
+    alloc: Global,
+    counts: &Counts,
+    capacity: usize,
+) -> Result<Counted<'_, N>, Fail> {
+    let builder = counts.builder(Rule::Plain);
+    let mut map = Counted::<'_, N>::with_capacity_and_hasher(alloc, capacity, builder)?;
+    fill(&mut map, counts, &HELD)?;
+    let actual = (map.len(), map.capacity());
+    assert_same_at(N, actual, (3, capacity), "length and capacity")?;
+    Ok(map)
+}
+
+// Whether the call returned what it should.
+fn made<'a, const N: usize>(
+    map: &mut Counted<'a, N>,
+    counts: &'a Counts,
+    call: Call,
+) -> Result<bool, Fail> {
+    Ok(match call {
+        Call::Searches(search, id) => found(map, counts, search, counts.key(id)) == (id != ABSENT),
+        Call::Removes(removal, id) => removed(map, removal, counts.key(id)) == (id != ABSENT),
+        Call::Inserts(insertion, id) => {
+            replaced(map, counts, insertion, counts.key(id))? == (id != ABSENT)
+        }
+        Call::Does(other) => did(map, other),
+    })
 }
 
 // Whether the search found the key. Only a held key is indexed by.
@@ -311,10 +321,10 @@ fn assert_outcome(alloc: Global, call: Call, on: On, expected: Outcome) -> Resul
 
 #[test]
 fn each_search_does_the_work_of_one_search(rt: HostRuntime) -> Result<(), Fail> {
-    for (search, on, asked, compared) in SEARCHES {
-        for (id, compared) in SOUGHT.iter().zip(compared) {
-            let call = Call::Searches(search, *id);
-            assert_outcome(rt.alloc(), call, on, (true, asked, *compared))?;
+    for (search, on, asked, compared) in &SEARCHES {
+        for (id, compared) in SOUGHT.iter().zip(*compared) {
+            let call = Call::Searches(*search, *id);
+            assert_outcome(rt.alloc(), call, *on, (true, *asked, *compared))?;
         }
     }
     Ok(())
@@ -322,10 +332,10 @@ fn each_search_does_the_work_of_one_search(rt: HostRuntime) -> Result<(), Fail> 
 
 #[test]
 fn each_removal_does_the_work_of_one_search(rt: HostRuntime) -> Result<(), Fail> {
-    for (removal, on, asked, compared) in REMOVALS {
-        for (id, compared) in SOUGHT.iter().zip(compared) {
-            let call = Call::Removes(removal, *id);
-            assert_outcome(rt.alloc(), call, on, (true, asked, *compared))?;
+    for (removal, on, asked, compared) in &REMOVALS {
+        for (id, compared) in SOUGHT.iter().zip(*compared) {
+            let call = Call::Removes(*removal, *id);
+            assert_outcome(rt.alloc(), call, *on, (true, *asked, *compared))?;
         }
     }
     Ok(())
@@ -333,18 +343,18 @@ fn each_removal_does_the_work_of_one_search(rt: HostRuntime) -> Result<(), Fail>
 
 #[test]
 fn each_insertion_does_the_work_of_its_cost(rt: HostRuntime) -> Result<(), Fail> {
-    for (insertion, on, id, asked, compared) in INSERTIONS {
-        let call = Call::Inserts(insertion, id);
-        assert_outcome(rt.alloc(), call, on, (true, asked, compared))?;
+    for (insertion, on, id, asked, compared) in &INSERTIONS {
+        let call = Call::Inserts(*insertion, *id);
+        assert_outcome(rt.alloc(), call, *on, (true, *asked, *compared))?;
     }
     Ok(())
 }
 
 #[test]
 fn no_other_call_hashes_or_compares(rt: HostRuntime) -> Result<(), Fail> {
-    for (other, on, asked, compared) in OTHERS {
-        let call = Call::Does(other);
-        assert_outcome(rt.alloc(), call, on, (true, asked, compared))?;
+    for (other, on, asked, compared) in &OTHERS {
+        let call = Call::Does(*other);
+        assert_outcome(rt.alloc(), call, *on, (true, *asked, *compared))?;
     }
     Ok(())
 }

@@ -127,7 +127,9 @@ enum Call {
 }
 
 // The call, the map, and how many keys and values are dropped: by the call, with what it returned, and with the map.
-const CASES: [(Call, On, (u64, u64), (u64, u64), (u64, u64)); 43] = [
+type Case = (Call, On, (u64, u64), (u64, u64), (u64, u64));
+
+const INSERTIONS: [Case; 19] = [
     (Call::Insert(32), On::Vector, (0, 0), (0, 0), (4, 4)),
     (Call::Insert(32), On::TightVector, (0, 0), (0, 0), (4, 4)),
     (Call::Insert(32), On::FullVector, (0, 0), (0, 0), (4, 4)),
@@ -177,6 +179,9 @@ const CASES: [(Call, On, (u64, u64), (u64, u64), (u64, u64)); 43] = [
         (0, 0),
         (4, 4),
     ),
+];
+
+const REMOVALS: [Case; 12] = [
     (Call::Remove(8), On::Vector, (1, 0), (0, 1), (2, 2)),
     (Call::Remove(8), On::Table, (1, 0), (0, 1), (2, 2)),
     (Call::Remove(32), On::Vector, (0, 0), (0, 0), (3, 3)),
@@ -201,6 +206,9 @@ const CASES: [(Call, On, (u64, u64), (u64, u64), (u64, u64)); 43] = [
         (1, 1),
         (2, 2),
     ),
+];
+
+const OTHERS: [Case; 12] = [
     (Call::WriteByGetMut(8), On::Vector, (0, 1), (0, 0), (3, 3)),
     (Call::WriteByGetMut(8), On::Table, (0, 1), (0, 0), (3, 3)),
     (Call::Reserve(1), On::TightVector, (0, 0), (0, 0), (3, 3)),
@@ -331,18 +339,29 @@ fn insert_unsearched<'a, const N: usize>(
     Ok(())
 }
 
-// Makes the call on a new map, and fails where something else was dropped.
-fn assert_dropped(alloc: Global, call: Call, on: On, expected: Dropped) -> Result<(), Fail> {
-    let dropped = dropped_by(alloc, call, on)?;
-    assert_same_at((call, on), dropped, expected, "what is dropped")
+// Makes each call on a new map, and fails where something else is dropped.
+fn assert_dropped(alloc: Global, cases: &[Case]) -> Result<(), Fail> {
+    for (call, on, by_call, with_result, with_map) in cases {
+        let dropped = dropped_by(alloc, *call, *on)?;
+        let expected = (*by_call, *with_result, *with_map);
+        assert_same_at((*call, *on), dropped, expected, "what is dropped")?;
+    }
+    Ok(())
 }
 
 #[test]
-fn each_call_drops_what_it_takes_and_does_not_keep(rt: HostRuntime) -> Result<(), Fail> {
-    for (call, on, by_call, with_result, with_map) in CASES {
-        assert_dropped(rt.alloc(), call, on, (by_call, with_result, with_map))?;
-    }
-    Ok(())
+fn an_insertion_drops_what_it_does_not_keep(rt: HostRuntime) -> Result<(), Fail> {
+    assert_dropped(rt.alloc(), &INSERTIONS)
+}
+
+#[test]
+fn a_removal_drops_what_it_does_not_return(rt: HostRuntime) -> Result<(), Fail> {
+    assert_dropped(rt.alloc(), &REMOVALS)
+}
+
+#[test]
+fn every_other_call_drops_what_it_takes_out(rt: HostRuntime) -> Result<(), Fail> {
+    assert_dropped(rt.alloc(), &OTHERS)
 }
 
 #[test]
