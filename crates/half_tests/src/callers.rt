@@ -130,6 +130,7 @@ pub fn stored<K: Eq + Hash + Copy, S: BuildHasher, L: Limit>(
 mod tests {
     use super::*;
     use halfbrown::{DefaultHashBuilder, HashMap, SizedHashMap};
+    use std::alloc::Global;
     use std::test::Fail;
     use test_support::asserts::{assert_same, assert_same_at, assert_true, assert_true_at};
     use test_support::builders::{Counting, Rule};
@@ -166,26 +167,36 @@ mod tests {
         Ok(())
     }
 
+    type Labels<'a> = SizedHashMap<Key<'a>, (), Counting<'a>, 5>;
+
+    // The labels 1#1 to 5#1.
+    fn five_labels(alloc: Global, counts: &Counts) -> Result<Labels<'_>, Fail> {
+        let mut labels = Labels::with_hasher(alloc, counts.builder(Rule::Plain));
+        for id in 1..=5 {
+            let is_new = add_label(&mut labels, counts.key(id))?;
+            assert_true_at(id, is_new, "the label is new")?;
+        }
+        Ok(labels)
+    }
+
     #[test]
     fn a_label_added_twice_keeps_its_index(rt: HostRuntime) -> Result<(), Fail> {
         let counts = Counts::new();
-        let mut labels = SizedHashMap::<Key<'_>, (), Counting<'_>, 5>::with_hasher(
-            rt.alloc(),
-            counts.builder(Rule::Plain),
-        );
-        for id in 1..=5 {
-            let label = counts.key(id);
-            assert_true_at(id, add_label(&mut labels, label)?, "the label is new")?;
-        }
+        let mut labels = five_labels(rt.alloc(), &counts)?;
         let again = counts.marked(3, 2);
-        assert_true(has_label(&labels, &again), "3#2 is the label 3#1")?;
-        assert_true(!add_label(&mut labels, again)?, "it is not added")?;
-        assert_true(labels.is_vec() && labels.len() == 5, "nothing has changed")?;
+        let is_held = has_label(&labels, &again);
+        let is_new = add_label(&mut labels, again)?;
+        assert_same(
+            (is_held, is_new),
+            (true, false),
+            "3#2 is the label 3#1, and not added",
+        )?;
+        let state = (labels.is_vec(), labels.len());
+        assert_same(state, (true, 5), "nothing has changed")?;
         assert_same(counts.take().0, 0, "a vector hashes nothing")?;
         let stored = labels.remove_entry(&again).map(|pair| pair.0.name());
         assert_same(stored, Some((3, 1)), "the label that was added first")?;
-        assert_true(!has_label(&labels, &again), "it is gone")?;
-        Ok(())
+        assert_true(!has_label(&labels, &again), "it is gone")
     }
 
     #[test]

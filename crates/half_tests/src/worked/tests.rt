@@ -1,7 +1,7 @@
 //! What the worked maps return when they run, and how many hashes that takes with those of their making.
 
-use super::{alike, apart, crowded, emptied, one_hash, shorter, vectors};
-use halfbrown::Tally;
+use super::{Numbers, alike, apart, crowded, emptied, one_hash, shorter, vectors};
+use halfbrown::{Refusal, Tally};
 use std::fmt::Debug;
 use std::test::Fail;
 use test_support::asserts::{assert_same, assert_same_at, assert_true};
@@ -129,21 +129,22 @@ fn vectors_of_five(rt: HostRuntime) -> Result<(), Fail> {
     Ok(())
 }
 
+// It is a table of this capacity.
+fn expect_table(made: Result<Numbers<'_>, Refusal>, capacity: usize) -> Result<(), Fail> {
+    let map = made?;
+    assert_true(map.is_map(), "a table")?;
+    assert_same(map.capacity(), capacity, "its capacity")
+}
+
 #[test]
 fn capacities_of_worked_tables(rt: HostRuntime) -> Result<(), Fail> {
     let counts = Counts::new();
     let alloc = rt.alloc();
-    for (map, capacity) in [
-        (crowded::crowded(alloc, &counts)?, 3),
-        (apart::full(alloc, &counts)?, 6),
-        (apart::every_other(alloc, &counts)?, 12),
-        (alike::after_a_removal(alloc, &counts)?, 6),
-        (alike::never_held_another(alloc, &counts)?, 6),
-        (emptied::empty(alloc, &counts)?, 3),
-        (emptied::shrunk(alloc, &counts)?, 0),
-    ] {
-        assert_true(map.is_map(), "a table")?;
-        assert_same(map.capacity(), capacity, "its capacity")?;
-    }
-    Ok(())
+    expect_table(crowded::crowded(alloc, &counts), 3)?;
+    expect_table(apart::full(alloc, &counts), 6)?;
+    expect_table(apart::every_other(alloc, &counts), 12)?;
+    expect_table(alike::after_a_removal(alloc, &counts), 6)?;
+    expect_table(alike::never_held_another(alloc, &counts), 6)?;
+    expect_table(emptied::empty(alloc, &counts), 3)?;
+    expect_table(emptied::shrunk(alloc, &counts), 0)
 }
