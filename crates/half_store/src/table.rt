@@ -1,8 +1,8 @@
 //! An index over entry indices: from a hash to the entry indices of the pairs that have it.
 //!
-//! A bucket contains an entry index, and the hashes are stored in a column by entry index; there are no keys, and a search takes
-//! a test of an entry index. Probes go up from the home bucket of a hash, one bucket at a time, and a removal shifts back
-//! what follows it, so no tombstone is left.
+//! A bucket contains an entry index, and a column has the stored hash of each. There are no keys: a search takes a test of
+//! an entry index. Probes go up from the home bucket of a hash, one bucket at a time, and a removal shifts back what
+//! follows it, so no tombstone is left.
 ghost use Rattle.std.specs.Prelude.{◌≡◌, ℕ, ◌+◌, ◌^◌, ◌<◌, ◌≤◌, ◌↔◌, true, false, List, [], ◌∷◌, ◌++◌, length, Some, IsTrue, slice_get};
 ghost use Rattle.std.specs.List.{swap_remove};
 ghost use Rattle.half_store.specs.Reach.{reach};

@@ -6,10 +6,13 @@ ghost use Rattle.half_store.specs.Buckets.{slots_by, entries_by, WithinHashes};
 
 /// Buckets that tell their stored hashes and their entry indices.
 pub(crate) trait Buckets {
+    // the hash stored for each bucket
     ghost slots: { Self → List (Option ℕ) };
 
+    // the entry index in each bucket that is full
     ghost entry_of: { Self → List ℕ };
 
+    // what must hold for a bucket to be read
     ghost is_whole: { Self → Type 0 };
 
     /// How many there are.
