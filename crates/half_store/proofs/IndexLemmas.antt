@@ -46,7 +46,7 @@ more-by hashes h (suc i) l =
 last-by : (hashes : List ℕ) (h : ℕ) → slot_by (hashes ++ h ∷ []) (suc (length hashes)) ≡ Some h
 last-by hashes h = slice_get-get_or (hashes ++ h ∷ []) (length hashes) 0 (omega (arith, length_push hashes h)) ∙ ap Some (get_or_push hashes h 0 (length hashes) refl)
 
-module _ (hashes buckets bucket_of : List ℕ) (hash_capacity entry_capacity : ℕ) (x : IsIndex hashes buckets bucket_of hash_capacity entry_capacity) where
+module _ {hashes buckets bucket_of : List ℕ} {hash_capacity entry_capacity : ℕ} (x : IsIndex hashes buckets bucket_of hash_capacity entry_capacity) where
   abbrev slots : List (Option ℕ)
   slots = slots_by hashes buckets
 
@@ -63,8 +63,8 @@ module _ (hashes buckets bucket_of : List ℕ) (hash_capacity entry_capacity : �
   pub index-reserved : capacity_of (length buckets) ≤ entry_capacity
   index-reserved = subst (λ m. capacity_of m ≤ entry_capacity) (length-slots_by hashes buckets) x.table.reserved
 
-  pub index-shows : (t : TableState) → table_state hashes slots ≡ t → Shows slots (entries_by buckets) t
-  index-shows t view = record {
+  pub index-shows : {t : TableState} → table_state hashes slots ≡ t → Shows slots (entries_by buckets) t
+  index-shows view = record {
     bucket_of = bucket_of;
     capacity = entry_capacity;
     table = x.table;
@@ -279,7 +279,7 @@ pub IsIndex-as : (hashes hashes' buckets buckets' bucket_of bucket_of' : List �
 IsIndex-as hashes hs buckets bs bucket_of po old old' new new' h b o enough enough' x =
     subst (λ y. IsIndex y bs po new new') (sym h)
     (subst (λ y. IsIndex hashes y po new new') (sym b)
-    (subst (λ y. IsIndex hashes buckets y new new') (sym o) (index-capacities hashes buckets bucket_of old old' x new new' enough enough')))
+    (subst (λ y. IsIndex hashes buckets y new new') (sym o) (index-capacities x new new' enough enough')))
 
 -- no pair
 pub IsIndex-empty : (count hash_capacity entry_capacity : ℕ) → IsBucketCount count → capacity_of count ≤ hash_capacity → capacity_of count ≤ entry_capacity → IsIndex [] (replicate count 0) [] hash_capacity entry_capacity

@@ -65,7 +65,7 @@ module _ (slots : List (Option ℕ)) (entry_of bucket_of : List ℕ) (capacity :
       ]
 
 -- what callers see of the costs
-module _ (slots : List (Option ℕ)) (entry_of : List ℕ) (x : TableState) (shown : Shows slots entry_of x) (hash : ℕ) where
+module _ {slots : List (Option ℕ)} {entry_of : List ℕ} {x : TableState} (shown : Shows slots entry_of x) (hash : ℕ) where
   abbrev bucket_of : List ℕ
   bucket_of = shown.bucket_of
 

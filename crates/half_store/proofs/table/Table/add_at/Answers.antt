@@ -23,8 +23,8 @@ invariant_of-self c =
     let same = ap capacity_of (length-set bs c.args.bucket (suc (length hs))) in
     let hashes = c.push_reserved.ensures in
     let rest = c.push_reserved-2.ensures in
-    let reserved = index-reserved hs bs t.bucket_of.items (vec_capacity t.hashes) (vec_capacity t.bucket_of) x in
+    let reserved = index-reserved x in
     IsIndex-as (hs ++ c.args.hash ∷ []) c.push_reserved.new.self.items (set bs c.args.bucket (suc (length hs))) (set bs c.args.bucket (c.len.result + 1)) (t.bucket_of.items ++ c.args.bucket ∷ []) c.push_reserved-2.new.self.items
     (vec_capacity t.hashes) (vec_capacity t.bucket_of) (vec_capacity c.push_reserved.new.self) (vec_capacity c.push_reserved-2.new.self)
     hashes.items (ap (set bs c.args.bucket) index) rest.items (omega (arith, same, x.reserved, hashes.capacity)) (omega (arith, same, reserved, rest.capacity))
-    (IsIndex-add hs bs t.bucket_of.items (vec_capacity t.hashes) (vec_capacity t.bucket_of) x c.args.bucket c.args.hash w few)
+    (IsIndex-add x c.args.bucket c.args.hash w few)

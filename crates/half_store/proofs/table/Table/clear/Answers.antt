@@ -11,9 +11,9 @@ invariant_of-self c =
     let x = c.self.invariant in
     let m : ℕ = length t.buckets.items in
     let same = ap capacity_of (length-replicate {A = ℕ} m 0) in
-    let reserved = index-reserved t.hashes.items t.buckets.items t.bucket_of.items (vec_capacity t.hashes) (vec_capacity t.bucket_of) x in
+    let reserved = index-reserved x in
     IsIndex-as [] c.clear.new.self.items (replicate m 0) c.fill.new.self.items [] c.clear-2.new.self.items
     (capacity_of m) (capacity_of m) (vec_capacity c.clear.new.self) (vec_capacity c.clear-2.new.self)
     c.clear.ensures.items (c.fill.ensures.items (λ y e. e) ∙ ap (λ n. replicate n 0) t.buckets.ok.0) c.clear-2.ensures.items
     (omega (arith, same, x.reserved, c.clear.ensures.capacity)) (omega (arith, same, reserved, c.clear-2.ensures.capacity))
-    (IsIndex-empty m (capacity_of m) (capacity_of m) (index-buckets t.hashes.items t.buckets.items t.bucket_of.items (vec_capacity t.hashes) (vec_capacity t.bucket_of) x) (omega arith) (omega arith))
+    (IsIndex-empty m (capacity_of m) (capacity_of m) (index-buckets x) (omega arith) (omega arith))

@@ -1,127 +1,51 @@
-use Rattle.std.proofs.Common.{◌≡◌, ◌≢◌, ℕ, ◌∙◌, List, Option, true, false, length, slice_index, sym, ap, subst, arith}
+use Rattle.std.proofs.Common.{◌≢◌, ◌∙◌, true, false, sym, ap, subst, arith}
 use Rattle.std.specs.List.{slice_get}
-use Rattle.half_store.specs.Buckets.{slots_by, entries_by}
 use Rattle.half_store.proofs.TableLemmas.{count_seen, missing_cost_seen, found_cost_seen, short_seen, index_seen, each_index, vacant_seen, empty_cost_seen}
 use Rattle.half_store.proofs.BucketsSeen.{buckets_seen}
 use Rattle.half_store.proofs.table.Table.find.Goals as goal
 
 pub returns-then-count-eq0-clause-missing_cost : goal.returns-then-count-eq0-clause-missing_cost
-returns-then-count-eq0-clause-missing_cost g c =
-    let b = c.hashed_buckets-buckets.result in
-    let slots : List (Option ℕ) = slots_by b.hashes.now b.buckets.now in
-    let entries : List ℕ = entries_by b.buckets.now in
-    let x = c.args.self.now in
-    let shown = c.hashed_buckets-buckets.ensures.shown in
-    let none : length slots ≡ 0 = sym c.count.ensures ∙ c.if-count-eq0.true in
-    empty_cost_seen slots entries x shown c.args.hash c.args.tally.now none
+returns-then-count-eq0-clause-missing_cost g c = empty_cost_seen c.hashed_buckets-buckets.ensures.shown c.args.hash c.args.tally.now (sym c.count.ensures ∙ c.if-count-eq0.true)
 
 pub returns-then-count-eq0-clause-short : goal.returns-then-count-eq0-clause-short
-returns-then-count-eq0-clause-short g c =
-    let b = c.hashed_buckets-buckets.result in
-    let slots : List (Option ℕ) = slots_by b.hashes.now b.buckets.now in
-    let entries : List ℕ = entries_by b.buckets.now in
-    let x = c.args.self.now in
-    let shown = c.hashed_buckets-buckets.ensures.shown in
-    short_seen slots entries x shown c.args.hash
+returns-then-count-eq0-clause-short g c = short_seen c.hashed_buckets-buckets.ensures.shown c.args.hash
 
 pub search-requires-clause-vacant : goal.search-requires-clause-vacant
 search-requires-clause-vacant g c =
-    let b = c.hashed_buckets-buckets.result in
-    let slots : List (Option ℕ) = slots_by b.hashes.now b.buckets.now in
-    let entries : List ℕ = entries_by b.buckets.now in
-    let x = c.args.self.now in
-    let shown = c.hashed_buckets-buckets.ensures.shown in
     let some : c.count.result ≢ 0 = c.if-count-eq0.false in
-    vacant_seen slots entries x shown c.args.hash (omega (arith, c.count.ensures, count_seen slots entries x shown c.args.hash))
+    vacant_seen c.hashed_buckets-buckets.ensures.shown c.args.hash (omega (arith, c.count.ensures, count_seen c.hashed_buckets-buckets.ensures.shown c.args.hash))
 
 pub search-requires-clause-callable : goal.search-requires-clause-callable
-search-requires-clause-callable g c =
-    let b = c.hashed_buckets-buckets.result in
-    let slots : List (Option ℕ) = slots_by b.hashes.now b.buckets.now in
-    let entries : List ℕ = entries_by b.buckets.now in
-    let x = c.args.self.now in
-    let shown = c.hashed_buckets-buckets.ensures.shown in
-    λ p is. c.requires (slice_index entries p) (index_seen slots entries x shown c.args.hash p is)
+search-requires-clause-callable g c = λ p is. c.requires _ (index_seen c.hashed_buckets-buckets.ensures.shown c.args.hash p is)
 
 pub returns-in-Ok-clause-found : goal.returns-in-Ok-clause-found
 returns-in-Ok-clause-found g c =
-    let b = c.hashed_buckets-buckets.result in
-    let slots : List (Option ℕ) = slots_by b.hashes.now b.buckets.now in
-    let entries : List ℕ = entries_by b.buckets.now in
-    let x = c.args.self.now in
-    let shown = c.hashed_buckets-buckets.ensures.shown in
-    ap (slice_get x.hashes) c.entry_at.ensures ∙ index_seen slots entries x shown c.args.hash c.in-Ok.bucket c.in-Ok.ensures.found.found
+    ap (slice_get c.args.self.now.hashes) c.entry_at.ensures ∙ index_seen c.hashed_buckets-buckets.ensures.shown c.args.hash c.in-Ok.bucket c.in-Ok.ensures.found.found
 
 pub returns-in-Ok-clause-accepted : goal.returns-in-Ok-clause-accepted
-returns-in-Ok-clause-accepted g c =
-    let b = c.hashed_buckets-buckets.result in
-    let slots : List (Option ℕ) = slots_by b.hashes.now b.buckets.now in
-    let entries : List ℕ = entries_by b.buckets.now in
-    let x = c.args.self.now in
-    let shown = c.hashed_buckets-buckets.ensures.shown in
-    subst (λ n. goal.F-post g c.args.matches.now n true) (sym c.entry_at.ensures) c.in-Ok.ensures.accepted
+returns-in-Ok-clause-accepted g c = subst (λ n. goal.F-post g c.args.matches.now n true) (sym c.entry_at.ensures) c.in-Ok.ensures.accepted
 
 pub returns-in-Ok-clause-found_cost : goal.returns-in-Ok-clause-found_cost
 returns-in-Ok-clause-found_cost g c =
-    let b = c.hashed_buckets-buckets.result in
-    let slots : List (Option ℕ) = slots_by b.hashes.now b.buckets.now in
-    let entries : List ℕ = entries_by b.buckets.now in
-    let x = c.args.self.now in
-    let shown = c.hashed_buckets-buckets.ensures.shown in
     let told = c.in-Ok.ensures in
-    found_cost_seen slots entries x shown c.args.hash c.in-Ok.bucket c.args.tally.now c.search.new.tally told.found told.asked told.looked_found told.compared_some told.compared_most
+    found_cost_seen c.hashed_buckets-buckets.ensures.shown c.args.hash c.in-Ok.bucket c.args.tally.now c.search.new.tally told.found told.asked told.looked_found told.compared_some told.compared_most
 
 pub returns-in-Ok-clause-short : goal.returns-in-Ok-clause-short
-returns-in-Ok-clause-short g c =
-    let b = c.hashed_buckets-buckets.result in
-    let slots : List (Option ℕ) = slots_by b.hashes.now b.buckets.now in
-    let entries : List ℕ = entries_by b.buckets.now in
-    let x = c.args.self.now in
-    let shown = c.hashed_buckets-buckets.ensures.shown in
-    short_seen slots entries x shown c.args.hash
+returns-in-Ok-clause-short g c = short_seen c.hashed_buckets-buckets.ensures.shown c.args.hash
 
 pub returns-in-Err-clause-refused : goal.returns-in-Err-clause-refused
-returns-in-Err-clause-refused g c =
-    let b = c.hashed_buckets-buckets.result in
-    let slots : List (Option ℕ) = slots_by b.hashes.now b.buckets.now in
-    let entries : List ℕ = entries_by b.buckets.now in
-    let x = c.args.self.now in
-    let shown = c.hashed_buckets-buckets.ensures.shown in
-    each_index slots entries x shown c.args.hash (λ n. goal.F-post g c.args.matches.now n false) c.in-Err.ensures.refused
+returns-in-Err-clause-refused g c = each_index c.hashed_buckets-buckets.ensures.shown c.args.hash (λ n. goal.F-post g c.args.matches.now n false) c.in-Err.ensures.refused
 
 pub returns-in-Err-clause-missing_cost : goal.returns-in-Err-clause-missing_cost
 returns-in-Err-clause-missing_cost g c =
-    let b = c.hashed_buckets-buckets.result in
-    let slots : List (Option ℕ) = slots_by b.hashes.now b.buckets.now in
-    let entries : List ℕ = entries_by b.buckets.now in
-    let x = c.args.self.now in
-    let shown = c.hashed_buckets-buckets.ensures.shown in
     let told = c.in-Err.ensures in
-    missing_cost_seen slots entries x shown c.args.hash c.in-Err.bucket c.args.tally.now c.search.new.tally told.vacancy told.asked told.looked_missing told.compared_all
+    missing_cost_seen c.hashed_buckets-buckets.ensures.shown c.args.hash c.in-Err.bucket c.args.tally.now c.search.new.tally told.vacancy told.asked told.looked_missing told.compared_all
 
 pub returns-in-Err-clause-short : goal.returns-in-Err-clause-short
-returns-in-Err-clause-short g c =
-    let b = c.hashed_buckets-buckets.result in
-    let slots : List (Option ℕ) = slots_by b.hashes.now b.buckets.now in
-    let entries : List ℕ = entries_by b.buckets.now in
-    let x = c.args.self.now in
-    let shown = c.hashed_buckets-buckets.ensures.shown in
-    short_seen slots entries x shown c.args.hash
+returns-in-Err-clause-short g c = short_seen c.hashed_buckets-buckets.ensures.shown c.args.hash
 
 pub returns-in-Ok-clause-buckets : goal.returns-in-Ok-clause-buckets
-returns-in-Ok-clause-buckets g c =
-    let b = c.hashed_buckets-buckets.result in
-    let slots : List (Option ℕ) = slots_by b.hashes.now b.buckets.now in
-    let entries : List ℕ = entries_by b.buckets.now in
-    let x = c.args.self.now in
-    let shown = c.hashed_buckets-buckets.ensures.shown in
-    buckets_seen slots entries x shown
+returns-in-Ok-clause-buckets g c = buckets_seen c.hashed_buckets-buckets.ensures.shown
 
 pub returns-in-Err-clause-buckets : goal.returns-in-Err-clause-buckets
-returns-in-Err-clause-buckets g c =
-    let b = c.hashed_buckets-buckets.result in
-    let slots : List (Option ℕ) = slots_by b.hashes.now b.buckets.now in
-    let entries : List ℕ = entries_by b.buckets.now in
-    let x = c.args.self.now in
-    let shown = c.hashed_buckets-buckets.ensures.shown in
-    buckets_seen slots entries x shown
+returns-in-Err-clause-buckets g c = buckets_seen c.hashed_buckets-buckets.ensures.shown

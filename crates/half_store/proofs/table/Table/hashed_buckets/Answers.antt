@@ -1,5 +1,4 @@
 use Rattle.std.proofs.Common.{sym, subst}
-use Rattle.std.specs.Vec.{vec_capacity}
 use Rattle.half_store.specs.Buckets.{slots_by, entries_by, WithinHashes}
 use Rattle.half_store.specs.TableLayout.{Shows}
 use Rattle.half_store.proofs.IndexLemmas.{index-shows}
@@ -15,4 +14,4 @@ returns-clause-shown c =
     let t = c.self.inside in
     subst (λ hs. Shows (slots_by hs c.as_slice.result.now) (entries_by c.as_slice.result.now) c.args.self.now) (sym c.as_slice-2.ensures.value)
     (subst (λ bs. Shows (slots_by t.hashes.items bs) (entries_by bs) c.args.self.now) (sym c.as_slice.ensures.value)
-    (index-shows t.hashes.items t.buckets.items t.bucket_of.items (vec_capacity t.hashes) (vec_capacity t.bucket_of) c.self.invariant c.args.self.now c.self.view_is))
+    (index-shows c.self.invariant c.self.view_is))

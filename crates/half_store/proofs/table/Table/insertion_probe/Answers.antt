@@ -1,5 +1,4 @@
 use Rattle.std.proofs.Common.{subst}
-use Rattle.half_store.specs.Buckets.{slots_by, entries_by}
 use Rattle.half_store.specs.Slots.{IsVacancyFor}
 use Rattle.half_store.proofs.TableLemmas.{probing_cost_seen, vacant_seen, slots_seen}
 use Rattle.half_store.proofs.table.Table.insertion_probe.Goals as goal
@@ -8,17 +7,12 @@ pub first_empty-requires-clause-count : goal.first_empty-requires-clause-count
 first_empty-requires-clause-count c = c.hashed_buckets.ensures.shown.table.buckets
 
 pub first_empty-requires-clause-vacant : goal.first_empty-requires-clause-vacant
-first_empty-requires-clause-vacant c =
-    let b = c.hashed_buckets.result in
-    vacant_seen (slots_by b.hashes.now b.buckets.now) (entries_by b.buckets.now) c.args.self.now c.hashed_buckets.ensures.shown c.args.hash c.requires
+first_empty-requires-clause-vacant c = vacant_seen c.hashed_buckets.ensures.shown c.args.hash c.requires
 
 pub returns-clause-vacancy : goal.returns-clause-vacancy
 returns-clause-vacancy c =
-    let b = c.hashed_buckets.result in
-    subst (λ x. IsVacancyFor x c.args.hash c.first_empty.result) (slots_seen (slots_by b.hashes.now b.buckets.now) (entries_by b.buckets.now) c.args.self.now c.hashed_buckets.ensures.shown c.args.hash) c.first_empty.ensures.vacancy
+    subst (λ slots. IsVacancyFor slots c.args.hash c.first_empty.result) (slots_seen c.hashed_buckets.ensures.shown c.args.hash) c.first_empty.ensures.vacancy
 
 pub returns-clause-cost : goal.returns-clause-cost
 returns-clause-cost c =
-    let b = c.hashed_buckets.result in
-    probing_cost_seen (slots_by b.hashes.now b.buckets.now) (entries_by b.buckets.now) c.args.self.now c.hashed_buckets.ensures.shown c.args.hash
-    c.first_empty.result c.args.tally.now c.first_empty.new.tally c.first_empty.ensures.vacancy c.first_empty.ensures.cost
+    probing_cost_seen c.hashed_buckets.ensures.shown c.args.hash c.first_empty.result c.args.tally.now c.first_empty.new.tally c.first_empty.ensures.vacancy c.first_empty.ensures.cost

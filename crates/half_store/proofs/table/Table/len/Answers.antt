@@ -1,5 +1,4 @@
 use Rattle.std.proofs.Common.{◌<◌, ◌^◌, length, arith}
-use Rattle.std.specs.Vec.{vec_capacity}
 use Rattle.half_store.proofs.CapacityLemmas.{count-le}
 use Rattle.half_store.proofs.IndexLemmas.{index-within, index-buckets}
 use Rattle.half_store.proofs.table.Table.len.Goals as goal
@@ -13,6 +12,6 @@ returns-clause-small c =
       arith,
       c.len.ensures,
       t.hashes.ok,
-      index-within t.hashes.items t.buckets.items t.bucket_of.items (vec_capacity t.hashes) (vec_capacity t.bucket_of) i,
-      count-le (length t.buckets.items) (index-buckets t.hashes.items t.buckets.items t.bucket_of.items (vec_capacity t.hashes) (vec_capacity t.bucket_of) i) few,
+      index-within i,
+      count-le (length t.buckets.items) (index-buckets i) few,
     )

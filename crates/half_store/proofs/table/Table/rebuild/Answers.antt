@@ -9,7 +9,7 @@ pub invariant_of-self-in_err-reserve_in_all-2 : goal.invariant_of-self-in_err-re
 invariant_of-self-in_err-reserve_in_all-2 c =
     let t = c.self.inside in
     let x = c.self.invariant in
-    let reserved = index-reserved t.hashes.items t.buckets.items t.bucket_of.items (vec_capacity t.hashes) (vec_capacity t.bucket_of) x in
+    let reserved = index-reserved x in
     IsIndex-as t.hashes.items c.reserve_in_all.new.column.items t.buckets.items t.buckets.items t.bucket_of.items c.reserve_in_all-2.new.column.items
     (vec_capacity t.hashes) (vec_capacity t.bucket_of) (vec_capacity c.reserve_in_all.new.column) (vec_capacity c.reserve_in_all-2.new.column)
     c.in_ok-reserve_in_all.ensures.items refl c.in_err-reserve_in_all-2.ensures.items

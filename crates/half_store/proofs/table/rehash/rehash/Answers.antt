@@ -38,4 +38,4 @@ loop-index-preserved c =
     IsIndex-as (take i hs ++ slice_index hs i ∷ []) (take (i + 1) hs) (set l.buckets p (suc (length (take i hs)))) (set l.buckets p (i + 1)) (take i po ++ p ∷ []) (take (i + 1) (set po i p))
     (capacity_of m) (capacity_of m) (capacity_of m) (capacity_of m) (take_more hs i 0 c.loop-index-test.true) (ap (set l.buckets p) index) (take_more_set po i p in_po)
     (omega (arith, same, long)) (omega (arith, same, long))
-    (IsIndex-add (take i hs) l.buckets (take i po) (capacity_of m) (capacity_of m) l.invariant p (slice_index hs i) c.first_empty-bucket.ensures.vacancy few)
+    (IsIndex-add l.invariant p (slice_index hs i) c.first_empty-bucket.ensures.vacancy few)
