@@ -16,7 +16,7 @@ type Default32 = HashMap<u64, u64, DefaultHashBuilder>;
 pub(crate) fn play(rt: &(impl Print + AllocGlobal), name: &str) -> io::Result<()> {
     match name {
         "first-pair" => twice::<5>(rt, 0, 0, Act::Insert(1, 10)),
-        "vector-growth" => twice::<32>(rt, 0, 4, Act::Insert(5, 50)),
+        "vector-growth" => twice::<32>(rt, 0, 8, Act::Insert(9, 90)),
         "switch" => twice::<5>(rt, 0, 5, Act::Insert(6, 6)),
         "switch-by-overwrite" => twice::<5>(rt, 0, 5, Act::Insert(3, 9)),
         "first-pair-of-a-table" => twice::<0>(rt, 0, 0, Act::Insert(1, 10)),

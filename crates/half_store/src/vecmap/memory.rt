@@ -8,8 +8,8 @@ use crate::column::{reserve_in_all, shrink_column};
 use crate::refusal::check_size;
 use std::alloc::{AllocError, Global};
 
-/// The first capacity of a vector that grows.
-const FIRST_CAPACITY: usize = 4;
+/// The least capacity that a growth makes, unless the limit is less.
+const FIRST_CAPACITY: usize = 8;
 
 impl<K, V> VecMap<K, V> {
     /// No pairs, with exactly this capacity.
@@ -85,11 +85,12 @@ impl<K, V> VecMap<K, V> {
         }
     }
 
-    /// Makes the capacity enough for `needed` pairs in all. Where that needs memory it grows to at least twice what it was,
-    /// so that many insertions cost few growths, but never past `limit`. Where it needs none, nothing changes.
+    /// Makes the capacity enough for `needed` pairs in all. Where that needs memory it grows to eight pairs at least and to
+    /// twice what it was, so that many insertions cost few growths, but never past `limit`. Where it needs none, nothing
+    /// changes.
     ///
     /// ```
-    /// ages.grow(3, 5)?; // capacity 4: twice what it was
+    /// ages.grow(3, 32)?; // capacity 8: the least that a growth makes
     /// ```
     #[inline(never)]
     pub fn grow(&mut self, needed: usize, limit: usize) -> Result<(), Refusal>
