@@ -16,7 +16,7 @@ type Default32 = HashMap<u64, u64, DefaultHashBuilder>;
 pub(crate) fn play(rt: &(impl Print + AllocGlobal), name: &str) -> io::Result<()> {
     match name {
         "first-pair" => twice::<5>(rt, 0, 0, Act::Insert(1, 10)),
-        "vector-growth" => twice::<32>(rt, 0, 8, Act::Insert(9, 90)),
+        "vector-growth" => twice::<32>(rt, 4, 4, Act::Insert(5, 50)),
         "switch" => twice::<5>(rt, 0, 5, Act::Insert(6, 6)),
         "switch-by-overwrite" => twice::<5>(rt, 0, 5, Act::Insert(3, 9)),
         "first-pair-of-a-table" => twice::<0>(rt, 0, 0, Act::Insert(1, 10)),
@@ -24,7 +24,7 @@ pub(crate) fn play(rt: &(impl Print + AllocGlobal), name: &str) -> io::Result<()
         "overwrite-in-a-full-table" => twice::<0>(rt, 0, 3, Act::Insert(2, 20)),
         "unchecked-switch" => twice::<5>(rt, 0, 5, Act::InsertNocheck(6, 6)),
         "unchecked-table-growth" => twice::<0>(rt, 0, 3, Act::InsertNocheck(4, 4)),
-        "vector-reserve" => twice::<32>(rt, 0, 4, Act::Reserve(5)),
+        "vector-reserve" => twice::<32>(rt, 4, 4, Act::Reserve(5)),
         "table-reserve" => twice::<0>(rt, 0, 3, Act::Reserve(4)),
         "vector-shrink" => twice::<32>(rt, 16, 5, Act::ShrinkToFit),
         "table-shrink" => twice::<5>(rt, 24, 6, Act::ShrinkToFit),
