@@ -1,6 +1,5 @@
 //! What a probe reads: buckets, each empty or with the entry index of a pair, whose hash is stored.
-ghost use Rattle.std.specs.Prelude.{◌≡◌, ◌≢◌, ℕ, ◌<◌, ◌≤◌, ◌+◌, List, Option, None, length, slice_index};
-ghost use Rattle.std.specs.List.{All};
+ghost use Rattle.std.specs.Prelude.{◌≡◌, ◌≢◌, ℕ, ◌<◌, List, Option, None, length, slice_index};
 ghost use Rattle.half_store.specs.Slots.{slot_at};
 ghost use Rattle.half_store.specs.Buckets.{slots_by, entries_by, WithinHashes};
 
