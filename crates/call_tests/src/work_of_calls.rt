@@ -3,14 +3,14 @@
 //! The costs in the contracts see what the tally counts. Here the builder and the keys count for themselves, and each call,
 //! plain and counted, does as much work as its cost says and no more.
 
-use halfbrown::Tally;
+use halfbrown::{Equivalent, Tally};
 use std::alloc::Global;
 use std::test::Fail;
 use test_support::asserts::{assert_same, assert_same_at, assert_true};
 use test_support::builders::Rule;
 use test_support::calls::fill;
 use test_support::counts::{Counted, Counts};
-use test_support::keys::Key;
+use test_support::keys::{Id, Key};
 use test_support::small_maps::{ABSENT, HELD, On};
 
 // A call that looks a key up.
@@ -24,13 +24,15 @@ enum Search {
     ContainsKeyCounted,
     Index,
     IndexCounted,
+    GetKeyValue,
+    GetKeyValueCounted,
 }
 
 // The held keys and the absent one.
 const SOUGHT: [u64; 4] = [HELD[0], HELD[1], HELD[2], ABSENT];
 
 // The call, the map, the hashes, and the comparisons for each held key and the absent one, which cannot be indexed by.
-const SEARCHES: [(Search, On, u64, &[u64]); 20] = [
+const SEARCHES: [(Search, On, u64, &[u64]); 24] = [
     (Search::Get, On::Vector, 0, &[1, 2, 3, 3]),
     (Search::Get, On::FullVector, 0, &[1, 2, 3, 3]),
     (Search::Get, On::Table, 1, &[1, 1, 1, 0]),
@@ -51,6 +53,10 @@ const SEARCHES: [(Search, On, u64, &[u64]); 20] = [
     (Search::Index, On::Table, 1, &[1, 1, 1]),
     (Search::IndexCounted, On::Vector, 0, &[1, 2, 3]),
     (Search::IndexCounted, On::Table, 1, &[1, 1, 1]),
+    (Search::GetKeyValue, On::Vector, 0, &[1, 2, 3, 3]),
+    (Search::GetKeyValue, On::Table, 1, &[1, 1, 1, 0]),
+    (Search::GetKeyValueCounted, On::Vector, 0, &[1, 2, 3, 3]),
+    (Search::GetKeyValueCounted, On::Table, 1, &[1, 1, 1, 0]),
 ];
 
 // A call that removes a key.
@@ -168,7 +174,9 @@ const OTHERS: [(Other, On, u64, u64); 26] = [
 #[derive(Clone, Copy, Debug)]
 enum Call {
     Searches(Search, u64),
+    SearchesById(Search, u64),
     Removes(Removal, u64),
+    RemovesById(Removal, u64),
     Inserts(Insertion, u64),
     Does(Other),
 }
@@ -218,8 +226,10 @@ fn made<'a, const N: usize>(
     call: Call,
 ) -> Result<bool, Fail> {
     Ok(match call {
-        Call::Searches(search, id) => found(map, counts, search, counts.key(id)) == (id != ABSENT),
-        Call::Removes(removal, id) => removed(map, removal, counts.key(id)) == (id != ABSENT),
+        Call::Searches(search, id) => found(map, counts, search, &counts.key(id)) == (id != ABSENT),
+        Call::SearchesById(search, id) => found(map, counts, search, Id(id)) == (id != ABSENT),
+        Call::Removes(removal, id) => removed(map, removal, &counts.key(id)) == (id != ABSENT),
+        Call::RemovesById(removal, id) => removed(map, removal, Id(id)) == (id != ABSENT),
         Call::Inserts(insertion, id) => {
             replaced(map, counts, insertion, counts.key(id))? == (id != ABSENT)
         }
@@ -228,40 +238,50 @@ fn made<'a, const N: usize>(
 }
 
 // Whether the search found the key. Only a held key is indexed by.
-fn found<'a, const N: usize>(
+fn found<'a, Q: Equivalent<Key<'a>>, const N: usize>(
     map: &mut Counted<'a, N>,
     counts: &Counts,
     search: Search,
-    key: Key<'a>,
+    key: Q,
 ) -> bool {
     let tally = &mut Tally::new();
     match search {
-        Search::Get => map.get(&key).is_some(),
-        Search::GetCounted => map.get_counted(&key, tally).is_some(),
-        Search::GetMut => map.get_mut(&key).is_some(),
-        Search::GetMutCounted => map.get_mut_counted(&key, tally).is_some(),
-        Search::ContainsKey => map.contains_key(&key),
-        Search::ContainsKeyCounted => map.contains_key_counted(&key, tally),
-        Search::Index | Search::IndexCounted if !map.contains_key(&key) => false,
+        Search::Get => map.get(key).is_some(),
+        Search::GetCounted => map.get_counted(key, tally).is_some(),
+        Search::GetMut => map.get_mut(key).is_some(),
+        Search::GetMutCounted => map.get_mut_counted(key, tally).is_some(),
+        Search::ContainsKey => map.contains_key(key),
+        Search::ContainsKeyCounted => map.contains_key_counted(key, tally),
+        Search::GetKeyValue => map
+            .get_key_value(key)
+            .is_some_and(|pair| pair.0.id == *pair.1),
+        Search::GetKeyValueCounted => map
+            .get_key_value_counted(key, tally)
+            .is_some_and(|pair| pair.0.id == *pair.1),
+        Search::Index | Search::IndexCounted if !map.contains_key(key) => false,
         Search::Index => {
             counts.take();
-            map[&key] == key.id
+            map[key] > 0
         }
         Search::IndexCounted => {
             counts.take();
-            *map.index_counted(&key, tally) == key.id
+            *map.index_counted(key, tally) > 0
         }
     }
 }
 
 // Whether the removal found the key.
-fn removed<'a, const N: usize>(map: &mut Counted<'a, N>, removal: Removal, key: Key<'a>) -> bool {
+fn removed<'a, Q: Equivalent<Key<'a>>, const N: usize>(
+    map: &mut Counted<'a, N>,
+    removal: Removal,
+    key: Q,
+) -> bool {
     let tally = &mut Tally::new();
     match removal {
-        Removal::Remove => map.remove(&key).is_some(),
-        Removal::RemoveCounted => map.remove_counted(&key, tally).is_some(),
-        Removal::RemoveEntry => map.remove_entry(&key).is_some(),
-        Removal::RemoveEntryCounted => map.remove_entry_counted(&key, tally).is_some(),
+        Removal::Remove => map.remove(key).is_some(),
+        Removal::RemoveCounted => map.remove_counted(key, tally).is_some(),
+        Removal::RemoveEntry => map.remove_entry(key).is_some(),
+        Removal::RemoveEntryCounted => map.remove_entry_counted(key, tally).is_some(),
     }
 }
 
@@ -323,8 +343,9 @@ fn assert_outcome(alloc: Global, call: Call, on: On, expected: Outcome) -> Resul
 fn each_search_does_the_work_of_one_search(rt: HostRuntime) -> Result<(), Fail> {
     for (search, on, asked, compared) in &SEARCHES {
         for (id, compared) in SOUGHT.iter().zip(*compared) {
-            let call = Call::Searches(*search, *id);
-            assert_outcome(rt.alloc(), call, *on, (true, *asked, *compared))?;
+            let expected = (true, *asked, *compared);
+            assert_outcome(rt.alloc(), Call::Searches(*search, *id), *on, expected)?;
+            assert_outcome(rt.alloc(), Call::SearchesById(*search, *id), *on, expected)?;
         }
     }
     Ok(())
@@ -334,8 +355,9 @@ fn each_search_does_the_work_of_one_search(rt: HostRuntime) -> Result<(), Fail> 
 fn each_removal_does_the_work_of_one_search(rt: HostRuntime) -> Result<(), Fail> {
     for (removal, on, asked, compared) in &REMOVALS {
         for (id, compared) in SOUGHT.iter().zip(*compared) {
-            let call = Call::Removes(*removal, *id);
-            assert_outcome(rt.alloc(), call, *on, (true, *asked, *compared))?;
+            let expected = (true, *asked, *compared);
+            assert_outcome(rt.alloc(), Call::Removes(*removal, *id), *on, expected)?;
+            assert_outcome(rt.alloc(), Call::RemovesById(*removal, *id), *on, expected)?;
         }
     }
     Ok(())

@@ -9,7 +9,6 @@ pub mod CrowdingLemmas
 pub mod DeletionLemmas
 pub mod GapLemmas
 pub mod IndexLemmas
-pub mod Indices
 pub mod ProbeLemmas
 pub mod ReachLemmas
 pub mod SlotsLemmas

@@ -23,10 +23,12 @@ fn columns(rt: HostRuntime) -> Result<(), Fail> {
     assert_same(&rt, keys, [1, 2].as_slice(), "the keys");
     let age = *ages.value_at(1); // 41
     assert_same(&rt, age, 41, "the second value");
+    let pair = ages.pair_at(1); // 2 and 41
+    assert_true(&rt, *pair.0 == 2 && *pair.1 == 41, "the second pair");
     *ages.value_at_mut(1) = 42;
     let before = ages.replace_value(1, 43); // 42
     assert_same(&rt, before, 42, "the value before");
-    let index = ages.find(&2, &mut tally); // index 1, found by two comparisons
+    let index = ages.find(&|index| ages.keys()[index] == 2, &mut tally); // index 1, found by two comparisons
     assert_same(&rt, index, Some(1), "the index of 2");
     let pair = ages.swap_remove(0); // 1 and 36; the pair of 2 has index 0 now
     assert_same(&rt, pair, (1, 36), "the first pair");

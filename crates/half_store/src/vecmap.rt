@@ -1,8 +1,8 @@
-//! Pairs in two columns, one of keys and one of values: dense, in order, searched by `==`.
-ghost use Rattle.std.specs.Prelude.{◌≡◌, ◌^◌, ◌<◌, ◌≤◌, [], ◌∷◌, ◌++◌, length, slice_get, slice_index_or};
+//! Pairs in two columns, one of keys and one of values: dense, in order, searched from first to last.
+ghost use Rattle.std.specs.Prelude.{◌≡◌, ℕ, ◌^◌, ◌<◌, ◌≤◌, true, false, [], ◌∷◌, ◌++◌, length, slice_get, IfSome, IfNone};
 ghost use Rattle.std.specs.Borrow.{sem};
 ghost use Rattle.std.specs.Map.{keys_of, values_of};
-ghost use Rattle.half_store.specs.Pairs.{with_pairs, set_value, swap_out, index_of};
+ghost use Rattle.half_store.specs.Pairs.{with_pairs, set_value, swap_out};
 ghost use Rattle.half_store.specs.Work.{compared_more, first_match_cost};
 
 mod memory;
@@ -95,6 +95,19 @@ impl<K, V> VecMap<K, V> {
         &self.values[index]
     }
 
+    /// The key and the value of the pair at this index.
+    ///
+    /// ```
+    /// let pair = ages.pair_at(1); // 2 and 41
+    /// ```
+    #[inline(always)]
+    pub fn pair_at(&self, index: usize) -> (&K, &V)
+        requires { index < length self.now.pairs }
+        ensures { slice_get self.now.pairs index ≡ Some (result.0.now, result.1.now) }
+    {
+        (&self.keys[index], &self.values[index])
+    }
+
     /// The value of the pair at this index, to be written.
     ///
     /// ```
@@ -166,26 +179,22 @@ impl<K, V> VecMap<K, V> {
         self.keys.clear();
         self.values.clear();
     }
-}
 
-impl<K: Eq, V> VecMap<K, V> {
-    /// The index of the pair whose key equals this one.
+    /// Searches for the first pair that `matches` accepts. `matches` is called with entry indices, in order.
     ///
-    /// The keys are compared in order. Where none is equal each held key is compared once.
+    /// It calls it up to and with the one that it finds, or, where none is found, once for each pair.
     ///
     /// ```
-    /// let index = ages.find(&2, &mut tally); // index 1, found by two comparisons
+    /// let index = ages.find(&|index| ages.keys()[index] == 2, &mut tally); // index 1, found by two comparisons
     /// ```
-    #[inline]
-    pub fn find(&self, key: &K, tally: &mut Tally) -> Option<usize>
-        ensures index { result ≡ index_of (K.eq key.now) (keys_of self.now.pairs) }
+    #[inline(always)]
+    pub fn find<F: Fn(usize) -> bool>(&self, matches: &F, tally: &mut Tally) -> Option<usize>
+        requires { (index : ℕ) → index < length self.now.pairs → F.pre matches.now index }
+        ensures found { IfSome result (λ index. (index < length self.now.pairs) × F.post matches.now index true) }
+        ensures none_before { IfSome result (λ index. (earlier : ℕ) → earlier < index → F.post matches.now earlier false) }
+        ensures absent { IfNone result ((index : ℕ) → index < length self.now.pairs → F.post matches.now index false) }
         ensures work { tally.new ≡ compared_more (first_match_cost result (length self.now.pairs)) tally.old }
     {
-        let keys = self.keys();
-        let matches = |index: usize| -> bool
-            requires { index < length keys.now }
-            ensures { (d : K) → result ≡ K.eq key.entry.now (slice_index_or keys.entry.now index d) }
-        { *key == keys[index] };
-        search::first_match(keys.len(), &matches, tally)
+        search::first_match(self.len(), matches, tally)
     }
 }

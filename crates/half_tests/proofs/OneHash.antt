@@ -99,7 +99,7 @@ more_buckets_than n some =
 pub none_above : (n k : ℕ) → n < k → value_of eqb (twins (range_with_len 1 n)) k ≡ None
 none_above n k above =
     let keys = keys_of-twins (range_with_len 1 n) in
-    (absent_of_none eqb k (twins (range_with_len 1 n)) (subst (NonePasses (eqb k)) (sym keys) (fresh_above n k above))).value
+    (absent_of_none (eqb k) (twins (range_with_len 1 n)) (subst (NonePasses (eqb k)) (sym keys) (fresh_above n k above))).value
 
 pub absent_above : (n k : ℕ) → n < k → holds eqb (twins (range_with_len 1 n)) k ≡ false
 absent_above n k above = ap is_some (none_above n k above)

@@ -84,15 +84,15 @@ module _ (rule : Rule) (needed : ℕ) (keys : List ℕ) (k : ℕ) (old new : Sta
     (pairs : new.pairs ≡ put eqb old.pairs k k) (form : new.is_vec ≡ stays_vec 0 old) (grows : HasCapacityAfter old (insert_needs 0 eqb old k) new) (builder : new.builder ≡ old.builder) where
   pairs_is : new.pairs ≡ twins (keys ++ k ∷ [])
   pairs_is =
-      let absent = absent_of_none eqb k (twins keys) (subst (NonePasses (eqb k)) (sym (keys_of-twins keys)) fresh) in
-      pairs ∙ ap (λ ps. put eqb ps k k) was.pairs ∙ absent.put_is k ∙ sym (twins-push keys k)
+      let absent = absent_of_none (eqb k) (twins keys) (subst (NonePasses (eqb k)) (sym (keys_of-twins keys)) fresh) in
+      pairs ∙ ap (λ ps. put eqb ps k k) was.pairs ∙ absent.put_is k k ∙ sym (twins-push keys k)
 
   count : length old.pairs ≡ length keys
   count = ap length was.pairs ∙ length-map keys _
 
   unheld : holds eqb old.pairs k ≡ false
   unheld =
-      let absent = absent_of_none eqb k (twins keys) (subst (NonePasses (eqb k)) (sym (keys_of-twins keys)) fresh) in
+      let absent = absent_of_none (eqb k) (twins keys) (subst (NonePasses (eqb k)) (sym (keys_of-twins keys)) fresh) in
       ap (λ ps. holds eqb ps k) was.pairs ∙ ap is_some absent.value
 
   in_table : new.is_vec ≡ false

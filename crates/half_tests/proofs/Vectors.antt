@@ -30,11 +30,11 @@ pub vector_with : (rule : Rule) (keys : List ℕ) (k : ℕ) (old new : State ℕ
     → new.pairs ≡ put eqb old.pairs k k → new.is_vec ≡ stays_vec 5 old → new.builder ≡ old.builder
     → IsVector rule (twins (keys ++ k ∷ [])) new
 vector_with rule keys k old new vector fresh below pairs form builder =
-    let absent = absent_of_none eqb k (twins keys) (subst (NonePasses (eqb k)) (sym (keys_of-twins keys)) fresh) in
+    let absent = absent_of_none (eqb k) (twins keys) (subst (NonePasses (eqb k)) (sym (keys_of-twins keys)) fresh) in
     let count : length old.pairs ≡ length keys = ap length vector.pairs ∙ length-map keys _ in
     record {
       form = form ∙ stays_by old.is_vec (length old.pairs) vector.form (omega (arith, count));
-      pairs = pairs ∙ ap (λ ps. put eqb ps k k) vector.pairs ∙ absent.put_is k ∙ sym (twins-push keys k);
+      pairs = pairs ∙ ap (λ ps. put eqb ps k k) vector.pairs ∙ absent.put_is k k ∙ sym (twins-push keys k);
       builder = ap (λ b. b.rule) builder ∙ vector.builder;
     }
 
@@ -48,7 +48,7 @@ module _ (keys : List ℕ) (i : ℕ) (distinct : IsDistinct eqb keys) (within : 
   first_is : IsFirst (eqb (get_or keys i 0)) (keys_of (twins keys)) i
   first_is =
       let k = get_or keys i 0 in
-      subst (λ l. IsFirst (eqb k) l i) (sym (keys_of-twins keys)) (first_of_match eqb k nat_eq_equiv keys i 0 distinct within (eq-eqb k k refl))
+      subst (λ l. IsFirst (eqb k) l i) (sym (keys_of-twins keys)) (first_of_match (eqb k) eqb (nat_eq_equiv.congr k) keys i 0 distinct within (eq-eqb k k refl))
 
   -- the key at an index is found there
   pub index_is : index_of (eqb (get_or keys i 0)) (keys_of (twins keys)) ≡ Some i
@@ -57,7 +57,7 @@ module _ (keys : List ℕ) (i : ℕ) (distinct : IsDistinct eqb keys) (within : 
   -- and it is its own value
   pub value_is : value_of eqb (twins keys) (get_or keys i 0) ≡ Some (get_or keys i 0)
   value_is =
-      let at = index_of_first eqb (get_or keys i 0) (twins keys) i first_is in
+      let at = index_of_first (eqb (get_or keys i 0)) (twins keys) i first_is in
       at.value ∙ ap (λ l. slice_get l i) (values_of-twins keys) ∙ slice_get-get_or keys i 0 within
 
 module _ (rule : Rule) (held : List (ℕ × ℕ)) (k : ℕ) (m : State ℕ ℕ Counting) (vector : IsVector rule held m) where

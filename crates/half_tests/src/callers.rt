@@ -2,6 +2,7 @@
 //! whose look-ups are counted.
 ghost use Rattle.std.specs.Prelude.{◌≡◌, ◌+◌, Some, true, false, not, nat_eq, OnOk, IfOk, IfErr};
 ghost use Rattle.std.specs.Option.{option_copied};
+ghost use Rattle.std.specs.String.{string_bytes};
 ghost use Rattle.halfbrown.specs.Costs.{key_hash, SearchCosts};
 ghost use Rattle.halfbrown.specs.Growth.{insert_needs, unchecked_needs};
 ghost use Rattle.halfbrown.specs.Insertion.{HandsBack};
@@ -40,6 +41,17 @@ pub fn resolve<'a, N: Eq + Hash, M, S: BuildHasher, L: Limit>(
         Some(meaning) => Some(meaning),
         None => outer.get(name),
     }
+}
+
+/// What a text means in a scope of owned names. It finds what an owned name of the same text would, and allocates none.
+pub fn meaning_of<'a, M, S: BuildHasher, L: Limit>(
+    scope: &'a LimitedHashMap<String, M, S, L>,
+    name: &str,
+) -> Option<&'a M>
+    ensures { (owned : _) → string_bytes owned ≡ name.now
+        → option_copied result ≡ value_of ⟦<String as PartialEq>⟧.eq scope.now.pairs owned }
+{
+    scope.get(name)
 }
 
 /// Whether a label, or one equal to it, was added.

@@ -2,13 +2,16 @@
 
 use halfbrown::run::{run, run_counted};
 use halfbrown::{
-    Command, DefaultHashBuilder, HashMap, LimitedHashMap, Refusal, Reply, SizedHashMap, Tally, UpTo,
+    Command, DefaultHashBuilder, Equivalent, HashMap, LimitedHashMap, Refusal, Reply, SizedHashMap,
+    Tally, UpTo,
 };
 use std::hash::BuildHasher;
 use std::test::Fail;
 use test_support::asserts::{assert_same, assert_true};
 
 type Ages = HashMap<u64, u32, DefaultHashBuilder>;
+
+type People = HashMap<String, u32, DefaultHashBuilder>;
 
 type Few = LimitedHashMap<u64, u32, DefaultHashBuilder, UpTo<8>>; // up to eight pairs in a vector
 
@@ -120,6 +123,19 @@ fn errors_convert(rt: HostRuntime) -> Result<(), Fail> {
 }
 
 #[test]
+fn looking_up_by_a_text(rt: HostRuntime) -> Result<(), Fail> {
+    let alloc = rt.alloc();
+    let mut people = People::new(alloc);
+    people.insert(String::from_str(alloc, "Ada")?, 36)?;
+    let age = people.get("Ada").copied(); // 36
+    assert_same(age, Some(36), "the age of Ada")?;
+    let name = String::from_str(alloc, "Ada")?;
+    let same = "Ada".equivalent(&name); // true
+    assert_true(same, "the same text")?;
+    Ok(())
+}
+
+#[test]
 fn reading(rt: HostRuntime) -> Result<(), Fail> {
     let mut ages = Ages::new(rt.alloc());
     let mut tally = Tally::new();
@@ -128,6 +144,13 @@ fn reading(rt: HostRuntime) -> Result<(), Fail> {
     assert_same(age, Some(36), "the age of 1")?;
     let age = ages.get_counted(&1, &mut tally).copied(); // 36
     assert_same(age, Some(36), "the age of 1")?;
+    let pair = ages.get_key_value(&1); // 1 and 36
+    assert_true(
+        pair.is_some_and(|pair| *pair.0 == 1 && *pair.1 == 36),
+        "1 and its age",
+    )?;
+    let pair = ages.get_key_value_counted(&2, &mut tally); // none
+    assert_true(pair.is_none(), "2 is not held")?;
     if let Some(age) = ages.get_mut(&1) {
         *age = 37;
     }

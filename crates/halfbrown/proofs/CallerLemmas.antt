@@ -1,20 +1,19 @@
 -- What callers read off a list of pairs after a put or a removal: which key has which value, and how many pairs there are.
-use Rattle.std.proofs.Common.{◌≡◌, ℕ, suc, ◌+◌, Bool, true, false, cond, List, [], ◌∷◌, length, get_or, Option, None, Some, is_some, Result, Ok, Err, OnOk, refl, sym, ap, ◌∙◌, arith}
+use Rattle.std.proofs.Common.{◌≡◌, ℕ, suc, ◌+◌, Bool, true, false, cond, List, [], ◌∷◌, ◌++◌, length, get_or, Option, None, Some, is_some, Result, Ok, Err, OnOk, refl, sym, ap, subst, ◌∙◌, arith}
 use Rattle.std.specs.Cmp.{IsEquivalence}
 use Rattle.std.specs.List.{IsDistinct}
 use Rattle.std.specs.List.Sorted.{IsPermutation}
-use Rattle.std.specs.Map.{keys_of, values_of, lookup}
+use Rattle.std.specs.Map.{keys_of, lookup}
 use Rattle.std.proofs.Math.ListN.{get_or-map}
 use Rattle.std.proofs.lemmas.List.Sorted.{IsPermutation-map, IsPermutation-sym, Contains-permutation}
 use Rattle.std.proofs.lemmas.Map.{lookup-none}
-use Rattle.std.proofs.lemmas.Map.Entries.{place_from_lookup, none_past_head, length-keys_of, length-values_of}
+use Rattle.std.proofs.lemmas.Map.Entries.{place_from_lookup, none_past_head, length-keys_of}
 use Rattle.std.proofs.lemmas.Map.Keys.{IsDistinct-IsPermutation}
 use Rattle.std.proofs.lemmas.Map.Views.{lookup-from_Contains}
-use Rattle.std.proofs.lemmas.Option.{slice_get_within, get_or_from_slice_get, slice_get-get_or}
+use Rattle.std.proofs.lemmas.Option.{slice_get_within, get_or_from_slice_get}
 use Rattle.half_store.specs.Pairs.{index_of, swap_out}
-use Rattle.halfbrown.specs.Pairs.{value_of, holds, put, take_out}
-use Rattle.halfbrown.specs.Lookup.{IsIndexOf}
-use Rattle.halfbrown.specs.Updates.{HasPut, HasRemoved}
+use Rattle.halfbrown.specs.Pairs.{value_of, holds, put, take_out, value_by, set_by, take_out_by}
+use Rattle.halfbrown.specs.Updates.{HasPut, HasRemoved, HasRemovedBy}
 use Rattle.halfbrown.proofs.Indices.{IsFirst, first_of_index, first_passes, first_within, index_found, absent_of_index}
 use Rattle.halfbrown.proofs.SwapOut.{IsPermutation-swap_out, length-swap_out}
 
@@ -35,7 +34,21 @@ pub if_put : {A E P Q : Type 0} (r : Result A E) → OnOk r P → (P → Q) → 
 if_put (Ok a) p follows = follows p
 if_put (Err e) p follows = tt
 
+step_past : {K V : Type 0} (p : K × V) (set appended : List (K × V)) (other : Option V)
+    → cond (is_some other) (p ∷ set) (p ∷ appended) ≡ p ∷ cond (is_some other) set appended
+step_past p set appended (Some w) = refl
+step_past p set appended None = refl
+
+step_by : {K V : Type 0} (p : K × V) (here set appended : List (K × V)) (other : Option V) (b : Bool)
+    → cond (is_some (cond b (Some p.1) other)) (cond b here (p ∷ set)) (p ∷ appended) ≡ cond b here (p ∷ cond (is_some other) set appended)
+step_by p here set appended other true = refl
+step_by p here set appended other false = step_past p set appended other
+
 module _ {K V : Type 0} (eq : K → K → Bool) where
+  -- a put, one pair at a time
+  pub put_step : (p : K × V) (ps : List (K × V)) (k : K) (v : V) → put eq (p ∷ ps) k v ≡ cond (eq k p.0) ((p.0, v) ∷ ps) (p ∷ put eq ps k v)
+  put_step p ps k v = step_by p ((p.0, v) ∷ ps) (set_by (eq k) ps v) (ps ++ (k, v) ∷ []) (value_of eq ps k) (eq k p.0)
+
   len_by : (p : K × V) (ps : List (K × V)) (k : K) (v : V) → length (put eq ps k v) ≡ cond (holds eq ps k) (length ps) (length ps + 1)
       → (b : Bool) → length (cond b ((p.0, v) ∷ ps) (p ∷ put eq ps k v))
       ≡ cond (is_some (cond b (Some p.1) (value_of eq ps k))) (length (p ∷ ps)) (length (p ∷ ps) + 1)
@@ -45,19 +58,15 @@ module _ {K V : Type 0} (eq : K → K → Bool) where
   -- there is one pair more where the key was not held
   pub len_put : (ps : List (K × V)) (k : K) (v : V) → length (put eq ps k v) ≡ cond (holds eq ps k) (length ps) (length ps + 1)
   len_put [] k v = refl
-  len_put (p ∷ ps) k v = len_by p ps k v (len_put ps k v) (eq k p.0)
-
-  held_found : (ps : List (K × V)) (k : K) (i : ℕ) → IsIndexOf eq ps k i → holds eq ps k ≡ true
-  held_found [] k i at = absurd (omega arith)
-  held_found (p ∷ ps) k i at = ap is_some (at.value ∙ slice_get-get_or (values_of (p ∷ ps)) i p.1 (omega (arith, length-values_of (p ∷ ps))))
+  len_put (p ∷ ps) k v = ap length (put_step p ps k v) ∙ len_by p ps k v (len_put ps k v) (eq k p.0)
 
   len_taken_by : (ps : List (K × V)) (k : K) (index : Option ℕ) → index ≡ index_of (eq k) (keys_of ps)
       → length (take_out eq ps k) + cond (holds eq ps k) 1 0 ≡ length ps
   len_taken_by ps k (Some i) is =
-      let at = index_found eq k ps i is in
-      rw (held_found ps k i at) (ap (λ l. length l + 1) at.take_is ∙ length-swap_out ps i (omega arith))
+      let at = index_found (eq k) ps i is in
+      rw (at.held) (ap (λ l. length l + 1) at.take_is ∙ length-swap_out ps i (omega arith))
   len_taken_by ps k None is =
-      let absent = absent_of_index eq k ps is in
+      let absent = absent_of_index (eq k) ps is in
       let unheld : holds eq ps k ≡ false = ap is_some absent.value in
       rw unheld (omega (arith, ap length absent.take_is))
 
@@ -113,7 +122,7 @@ module _ {K V : Type 0} (eq : K → K → Bool) (laws : IsEquivalence eq) where
   -- the equals of the key have the value that was put, and each other key has what it had
   pub lookup_put : (ps : List (K × V)) (k : K) (v : V) (q : K) → value_of eq (put eq ps k v) q ≡ cond (eq k q) (Some v) (value_of eq ps q)
   lookup_put [] k v q = ap (λ b. cond b (Some v) None) (laws.symm q k)
-  lookup_put (p ∷ ps) k v q = put_by p ps k v q (lookup_put ps k v q) (eq k p.0) refl
+  lookup_put (p ∷ ps) k v q = ap (λ l. value_of eq l q) (put_step eq p ps k v) ∙ put_by p ps k v q (lookup_put ps k v q) (eq k p.0) refl
 
   pub value_of_put : (ps : List (K × V)) (k : K) (v : V) → value_of eq (put eq ps k v) k ≡ Some v
   value_of_put ps k v = lookup_put ps k v k ∙ ap (λ b. cond b (Some v) (value_of eq ps k)) (laws.refl k)
@@ -169,9 +178,9 @@ module _ {K V : Type 0} (eq : K → K → Bool) (laws : IsEquivalence eq) where
     taken_by : (index : Option ℕ) → index ≡ index_of (eq k) (keys_of ps) → (q : K) → value_of eq (take_out eq ps k) q ≡ cond (eq k q) None (value_of eq ps q)
     taken_by (Some i) is q =
         let left = split_first ps k i (first_of_index (eq k) (keys_of ps) i (sym is)) in
-        ap (λ l. value_of eq l q) (index_found eq k ps i is).take_is ∙ split_by (swap_out ps i) left q (eq k q) refl
+        ap (λ l. value_of eq l q) (index_found (eq k) ps i is).take_is ∙ split_by (swap_out ps i) left q (eq k q) refl
     taken_by None is q =
-        let absent = absent_of_index eq k ps is in
+        let absent = absent_of_index (eq k) ps is in
         ap (λ l. value_of eq l q) absent.take_is ∙ absent_by absent.value q (eq k q) refl
 
     -- no equal of the key has a value, and each other key has what it had
@@ -198,3 +207,39 @@ module _ {K V : Type 0} (eq : K → K → Bool) (laws : IsEquivalence eq) where
       others = other_of_taken;
       len = taken_from (holds eq ps k) (length (take_out eq ps k)) (length ps) (len_taken eq ps k);
     }
+
+  -- ---- a removal by a test
+
+  module _ (test : K → Bool) (one_class : (k other : K) → test k ≡ true → test other ≡ eq k other) (ps : List (K × V)) (distinct : IsDistinct eq (keys_of ps)) where
+    -- a key that passes decides which others do
+    test_is : (k : K) → test k ≡ true → test ≡ eq k
+    test_is k passes = λ i other. one_class k other passes i
+
+    removed_by : K → (index : Option ℕ) → index ≡ index_of test (keys_of ps) → HasRemovedBy eq test ps (take_out_by test ps)
+    removed_by d (Some i) is =
+        let k = get_or (keys_of ps) i d in
+        let passes : test k ≡ true = first_passes test (keys_of ps) i d (first_of_index test (keys_of ps) i (sym is)) in
+        subst (λ t. HasRemovedBy eq t ps (take_out_by t ps)) (sym (test_is k passes)) (has_removed ps distinct k)
+    removed_by d None is =
+        let absent = absent_of_index test ps is in
+        subst (HasRemovedBy eq test ps) (sym absent.take_is) (record {
+          not_held = absent.held;
+          no_value = absent.value;
+          equals = λ q passes. ap (λ t. value_by t ps) (sym (test_is q passes)) ∙ absent.value;
+          others = λ q fails. refl;
+          len = ap (λ b. cond b (length ps + 1) (length ps)) (sym absent.held);
+        })
+
+    removed_from : (qs : List (K × V)) → qs ≡ ps → HasRemovedBy eq test ps (take_out_by test ps)
+    removed_from [] none = subst (λ rs. HasRemovedBy eq test rs (take_out_by test rs)) none (record {
+      not_held = refl;
+      no_value = refl;
+      equals = λ q passes. refl;
+      others = λ q fails. refl;
+      len = refl;
+    })
+    removed_from (p ∷ qs) some = removed_by p.0 (index_of test (keys_of ps)) refl
+
+    -- no key that passes has a value, and each other key has what it had
+    pub has_removed_by : HasRemovedBy eq test ps (take_out_by test ps)
+    has_removed_by = removed_from ps refl

@@ -1,7 +1,6 @@
 -- Where a key stands among pairs of distinct keys, and what that says of reading and changing them.
 use Rattle.std.proofs.Common.{◌≡◌, ℕ, zero, suc, ◌<◌, Bool, true, false, cond, ◌||◌, List, [], ◌∷◌, ◌++◌, length, map, get_or, slice_get, Option, None, Some, is_some, sym, refl, ap, subst, ◌∙◌, arith, true≢false}
 use Rattle.std.specs.Option.{option_map, option_map_or}
-use Rattle.std.specs.Cmp.{IsEquivalence}
 use Rattle.std.specs.List.{IsDistinct, list_any}
 use Rattle.std.specs.Map.{keys_of, values_of, lookup, lookup_entry}
 use Rattle.std.proofs.Math.ListN.{length-map, get_or-map}
@@ -9,7 +8,7 @@ use Rattle.std.proofs.lemmas.Option.{slice_get-get_or}
 use Rattle.std.proofs.lemmas.Map.Entries.{length-keys_of}
 use Rattle.std.proofs.lemmas.Map.Keys.{apart_from_distinct}
 use Rattle.half_store.specs.Pairs.{index_of, set_value, swap_out}
-use Rattle.halfbrown.specs.Pairs.{holds, put}
+use Rattle.halfbrown.specs.Pairs.{holds_by, set_by}
 use Rattle.halfbrown.specs.Lookup.{IsIndexOf, IsAbsent}
 
 module _ {K : Type 0} (test : K → Bool) where
@@ -113,76 +112,88 @@ module _ {K : Type 0} (test : K → Bool) where
     entry_none [] n = refl
     entry_none (p ∷ ps) n = ap (λ b. cond b (Some p) (lookup_entry test ps)) n.0 ∙ entry_none ps n.1
 
-module _ {K V : Type 0} (eq : K → K → Bool) (k : K) where
-  put_first : (ps : List (K × V)) (i : ℕ) (v : V) → IsFirst (eq k) (keys_of ps) i → put eq ps k v ≡ set_value ps i v
-  put_first [] i v f = absurd f
-  put_first (p ∷ ps) zero v f = ap (λ b. cond b ((p.0, v) ∷ ps) (p ∷ put eq ps k v)) f
-  put_first (p ∷ ps) (suc i) v f = ap (λ b. cond b ((p.0, v) ∷ ps) (p ∷ put eq ps k v)) f.0 ∙ ap (λ l. p ∷ l) (put_first ps i v f.1)
+module _ {K V : Type 0} (test : K → Bool) where
+  set_first : (ps : List (K × V)) (i : ℕ) (v : V) → IsFirst test (keys_of ps) i → set_by test ps v ≡ set_value ps i v
+  set_first [] i v f = absurd f
+  set_first (p ∷ ps) zero v f = ap (λ b. cond b ((p.0, v) ∷ ps) (p ∷ set_by test ps v)) f
+  set_first (p ∷ ps) (suc i) v f = ap (λ b. cond b ((p.0, v) ∷ ps) (p ∷ set_by test ps v)) f.0 ∙ ap (λ l. p ∷ l) (set_first ps i v f.1)
 
-  put_none : (ps : List (K × V)) (v : V) → NonePasses (eq k) (keys_of ps) → put eq ps k v ≡ ps ++ (k, v) ∷ []
-  put_none [] v n = refl
-  put_none (p ∷ ps) v n = ap (λ b. cond b ((p.0, v) ∷ ps) (p ∷ put eq ps k v)) n.0 ∙ ap (λ l. p ∷ l) (put_none ps v n.1)
-
-  pub index_of_first : (ps : List (K × V)) (i : ℕ) → IsFirst (eq k) (keys_of ps) i → IsIndexOf eq ps k i
+  pub index_of_first : (ps : List (K × V)) (i : ℕ) → IsFirst test (keys_of ps) i → IsIndexOf test ps i
   index_of_first ps i f = record {
-    within = omega (arith, first_within (eq k) (keys_of ps) i f, length-keys_of ps);
-    held = held_first (eq k) ps i f;
-    value = lookup_first (eq k) ps i f;
-    pair = entry_first (eq k) ps i f;
-    put_is = λ v. put_first ps i v f;
-    take_is = ap (λ n. option_map_or (swap_out ps) n ps) (index_of-first (eq k) (keys_of ps) i f);
+    within = omega (arith, first_within test (keys_of ps) i f, length-keys_of ps);
+    index_is = index_of-first test (keys_of ps) i f;
+    held = held_first test ps i f;
+    value = lookup_first test ps i f;
+    pair = entry_first test ps i f;
+    set_is = λ v. set_first ps i v f;
+    put_is = λ k v. ap (λ b. cond b (set_by test ps v) (ps ++ (k, v) ∷ [])) (held_first test ps i f) ∙ set_first ps i v f;
+    take_is = ap (λ n. option_map_or (swap_out ps) n ps) (index_of-first test (keys_of ps) i f);
   }
 
-  pub absent_of_none : (ps : List (K × V)) → NonePasses (eq k) (keys_of ps) → IsAbsent eq ps k
+  pub absent_of_none : (ps : List (K × V)) → NonePasses test (keys_of ps) → IsAbsent test ps
   absent_of_none ps n = record {
-    index = index_of-none (eq k) (keys_of ps) n;
-    held = ap is_some (lookup_none (eq k) ps n);
-    value = lookup_none (eq k) ps n;
-    pair = entry_none (eq k) ps n;
-    put_is = λ v. put_none ps v n;
-    take_is = ap (λ m. option_map_or (swap_out ps) m ps) (index_of-none (eq k) (keys_of ps) n);
+    index = index_of-none test (keys_of ps) n;
+    held = ap is_some (lookup_none test ps n);
+    value = lookup_none test ps n;
+    pair = entry_none test ps n;
+    put_is = λ k v. ap (λ m. cond (is_some m) (set_by test ps v) (ps ++ (k, v) ∷ [])) (lookup_none test ps n);
+    take_is = ap (λ m. option_map_or (swap_out ps) m ps) (index_of-none test (keys_of ps) n);
   }
 
-  unheld_by : (p : K × V) (ps : List (K × V)) (b : Bool) → eq k p.0 ≡ b → (is_some (lookup (eq k) ps) ≡ false → NonePasses (eq k) (keys_of ps))
-      → is_some (cond b (Some p.1) (lookup (eq k) ps)) ≡ false → NonePasses (eq k) (keys_of (p ∷ ps))
+  unheld_by : (p : K × V) (ps : List (K × V)) (b : Bool) → test p.0 ≡ b → (is_some (lookup test ps) ≡ false → NonePasses test (keys_of ps))
+      → is_some (cond b (Some p.1) (lookup test ps)) ≡ false → NonePasses test (keys_of (p ∷ ps))
   unheld_by p ps true passes more h = absurd (true≢false h)
   unheld_by p ps false fails more h = (fails, more h)
 
-  none_of_unheld : (ps : List (K × V)) → is_some (lookup (eq k) ps) ≡ false → NonePasses (eq k) (keys_of ps)
+  none_of_unheld : (ps : List (K × V)) → is_some (lookup test ps) ≡ false → NonePasses test (keys_of ps)
   none_of_unheld [] h = tt
-  none_of_unheld (p ∷ ps) h = unheld_by p ps (eq k p.0) refl (none_of_unheld ps) h
+  none_of_unheld (p ∷ ps) h = unheld_by p ps (test p.0) refl (none_of_unheld ps) h
 
-  -- where no key equal to k is held
-  pub absent_of_unheld : (ps : List (K × V)) → holds eq ps k ≡ false → IsAbsent eq ps k
+  -- where no key that passes is held
+  pub absent_of_unheld : (ps : List (K × V)) → holds_by test ps ≡ false → IsAbsent test ps
   absent_of_unheld ps h = absent_of_none ps (none_of_unheld ps h)
 
-  -- from the answer of a search from first to last
-  pub index_found : (ps : List (K × V)) (i : ℕ) → Some i ≡ index_of (eq k) (keys_of ps) → IsIndexOf eq ps k i
-  index_found ps i e = index_of_first ps i (first_of_index (eq k) (keys_of ps) i (sym e))
+  -- from the index of the first key that passes
+  pub index_found : (ps : List (K × V)) (i : ℕ) → Some i ≡ index_of test (keys_of ps) → IsIndexOf test ps i
+  index_found ps i e = index_of_first ps i (first_of_index test (keys_of ps) i (sym e))
 
-  pub absent_of_index : (ps : List (K × V)) → None ≡ index_of (eq k) (keys_of ps) → IsAbsent eq ps k
-  absent_of_index ps e = absent_of_none ps (none_of_index (eq k) (keys_of ps) (sym e))
+  pub absent_of_index : (ps : List (K × V)) → None ≡ index_of test (keys_of ps) → IsAbsent test ps
+  absent_of_index ps e = absent_of_none ps (none_of_index test (keys_of ps) (sym e))
 
-module _ {K : Type 0} (eq : K → K → Bool) (k : K) where
-  module _ (laws : IsEquivalence eq) where
-    apart : (ks : List K) → IsDistinct eq ks → (i j : ℕ) (d : K) → j < i → i < length ks → eq k (get_or ks i d) ≡ true → (b : Bool) → eq k (get_or ks j d) ≡ b → eq k (get_or ks j d) ≡ false
+module _ {K : Type 0} (test : K → Bool) where
+  -- from what a search from first to last says of the index that it found
+  pub first_searched : (ks : List K) (i : ℕ) → (i < length ks) × ((d : K) → true ≡ test (get_or ks i d)) → ((j : ℕ) → j < i → (d : K) → false ≡ test (get_or ks j d)) → IsFirst test ks i
+  first_searched [] i found before = absurd (omega (arith, found.0))
+  first_searched (k ∷ ks) i found before = first_at test (k ∷ ks) i k found.0 (sym (found.1 k)) (λ j h. sym (before j h k))
+
+  -- from what it says where it found none
+  pub none_searched : (ks : List K) → ((j : ℕ) → j < length ks → (d : K) → false ≡ test (get_or ks j d)) → NonePasses test ks
+  none_searched ks absent = none_at test ks (λ j d within. sym (absent j within d))
+
+  module _ (eq : K → K → Bool) (one_class : (k other : K) → test k ≡ true → test other ≡ eq k other) where
+    apart : (ks : List K) → IsDistinct eq ks → (i j : ℕ) (d : K) → j < i → i < length ks → test (get_or ks i d) ≡ true → (b : Bool) → test (get_or ks j d) ≡ b → test (get_or ks j d) ≡ false
     apart ks distinct i j d before within at false e = e
     apart ks distinct i j d before within at true e =
-        absurd (true≢false (sym (laws.congr (get_or ks j d) k (get_or ks i d) (laws.symm (get_or ks j d) k ∙ e) ∙ at) ∙ apart_from_distinct eq ks j i d distinct before within))
+        absurd (true≢false (sym (sym (one_class (get_or ks j d) (get_or ks i d) e) ∙ at) ∙ apart_from_distinct eq ks j i d distinct before within))
 
-    -- an index where an equal key stands is the first, and the only one
-    pub first_of_match : (ks : List K) (i : ℕ) (d : K) → IsDistinct eq ks → i < length ks → eq k (get_or ks i d) ≡ true → IsFirst (eq k) ks i
-    first_of_match ks i d distinct within at = first_at (eq k) ks i d within at (λ j before. apart ks distinct i j d before within at (eq k (get_or ks j d)) refl)
+    -- an index whose key passes is the first, and the only one
+    pub first_of_match : (ks : List K) (i : ℕ) (d : K) → IsDistinct eq ks → i < length ks → test (get_or ks i d) ≡ true → IsFirst test ks i
+    first_of_match ks i d distinct within at = first_at test ks i d within at (λ j before. apart ks distinct i j d before within at (test (get_or ks j d)) refl)
 
-  module _ (hash : K → ℕ) (respects : (x y : K) → eq x y ≡ true → hash x ≡ hash y) where
-    unequal : (ks : List K) → ((j : ℕ) → slice_get (map hash ks) j ≡ Some (hash k) → (d : K) → false ≡ eq k (get_or ks j d))
-        → (j : ℕ) (d : K) → j < length ks → (b : Bool) → eq k (get_or ks j d) ≡ b → eq k (get_or ks j d) ≡ false
+    -- the same, from what a search among the keys of one hash says of the index that it found
+    pub first_matched : (ks : List K) (i : ℕ) → IsDistinct eq ks → i < length ks → ((d : K) → true ≡ test (get_or ks i d)) → IsFirst test ks i
+    first_matched [] i distinct within accepted = absurd (omega arith)
+    first_matched (k ∷ ks) i distinct within accepted = first_of_match (k ∷ ks) i k distinct within (sym (accepted k))
+
+  module _ (hash : K → ℕ) (sought : ℕ) (hashed : (k : K) → test k ≡ true → hash k ≡ sought) where
+    unequal : (ks : List K) → ((j : ℕ) → slice_get (map hash ks) j ≡ Some sought → (d : K) → false ≡ test (get_or ks j d))
+        → (j : ℕ) (d : K) → j < length ks → (b : Bool) → test (get_or ks j d) ≡ b → test (get_or ks j d) ≡ false
     unequal ks refused j d within false e = e
     unequal ks refused j d within true e =
-        let here : slice_get (map hash ks) j ≡ Some (hash k) =
-        slice_get-get_or (map hash ks) j (hash d) (omega (arith, length-map ks hash)) ∙ ap Some (get_or-map hash ks j d ∙ sym (respects k (get_or ks j d) e)) in
+        let here : slice_get (map hash ks) j ≡ Some sought =
+        slice_get-get_or (map hash ks) j (hash d) (omega (arith, length-map ks hash)) ∙ ap Some (get_or-map hash ks j d ∙ hashed (get_or ks j d) e) in
         sym (refused j here d)
 
-    -- where each key of this hash was compared and none is equal, none at all is
-    pub none_of_hash : (ks : List K) → ((j : ℕ) → slice_get (map hash ks) j ≡ Some (hash k) → (d : K) → false ≡ eq k (get_or ks j d)) → NonePasses (eq k) ks
-    none_of_hash ks refused = none_at (eq k) ks (λ j d within. unequal ks refused j d within (eq k (get_or ks j d)) refl)
+    -- where each key of the hash that is sought was compared and none passes, none at all does
+    pub none_of_hash : (ks : List K) → ((j : ℕ) → slice_get (map hash ks) j ≡ Some sought → (d : K) → false ≡ test (get_or ks j d)) → NonePasses test ks
+    none_of_hash ks refused = none_at test ks (λ j d within. unequal ks refused j d within (test (get_or ks j d)) refl)

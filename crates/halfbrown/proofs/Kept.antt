@@ -57,7 +57,7 @@ module _ {K V : Type 0} where
 
     -- one more pair, whose key is not held
     pub kept_added : IsEquivalence eq → (ps : List (K × V)) (columns : ℕ) (is_vec : Bool) (hashes after : List ℕ) (buckets : ℕ) (k : K) (v : V)
-        → IsKept eq hash limit ps columns is_vec hashes buckets → IsAbsent eq ps k → length ps < capacity_in limit columns is_vec buckets → (is_vec ≡ false → after ≡ hashes ++ hash k ∷ [])
+        → IsKept eq hash limit ps columns is_vec hashes buckets → IsAbsent (eq k) ps → length ps < capacity_in limit columns is_vec buckets → (is_vec ≡ false → after ≡ hashes ++ hash k ∷ [])
         → IsKept eq hash limit (ps ++ (k, v) ∷ []) columns is_vec after buckets
     kept_added laws ps columns is_vec hashes after buckets k v kept absent fits stored = record {
       distinct = subst (IsDistinct eq) (sym (keys_of-push ps k v)) (IsDistinct-push laws (keys_of ps) k kept.distinct (any_of_none (eq k) (keys_of ps) (none_of_index (eq k) (keys_of ps) absent.index)));

@@ -185,7 +185,7 @@ module _ {K V S : Type 0} (hash : S → K → ℕ) where
   module _ (eq : K → K → Bool) where
     -- where no key equal to k is held, a search in a vector compares each key
     comparisons-unheld : (pairs : List (K × V)) (k : K) → holds eq pairs k ≡ false → comparisons_in_order eq pairs k ≡ length pairs
-    comparisons-unheld pairs k unheld = let absent = absent_of_unheld eq k pairs unheld in ap (λ i. first_match_cost i (length pairs)) absent.index
+    comparisons-unheld pairs k unheld = let absent = absent_of_unheld (eq k) pairs unheld in ap (λ i. first_match_cost i (length pairs)) absent.index
 
     -- a search for a key that is not held compares exactly so many keys, and reads exactly so many buckets
     module _ (h : K → ℕ) (pairs : List (K × V)) (k : K) (unheld : holds eq pairs k ≡ false) where

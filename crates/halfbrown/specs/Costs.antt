@@ -10,7 +10,7 @@ use Rattle.half_store.specs.Reach.{reach, HomesApart}
 use Rattle.half_store.specs.Capacity.{buckets_of, capacity_for}
 use Rattle.half_store.specs.Work.{Work, first_match_cost}
 use Rattle.halfbrown.specs.State.{State}
-use Rattle.halfbrown.specs.Pairs.{holds}
+use Rattle.halfbrown.specs.Pairs.{holds, holds_by}
 use Rattle.halfbrown.specs.Growth.{is_full, stays_vec}
 
 -- the hash that the builder gives a key, from what std says of builder, hasher and key
@@ -59,41 +59,71 @@ abbrev pub search_asked : Bool → ℕ
 search_asked is_vec = if is_vec then 0 else 1
 
 module _ {K V : Type 0} (hash : K → ℕ) where
-  -- the held keys of the hash of k: a search in a table compares no other
+  -- the held keys of this hash: a search for it in a table compares no other
+  abbrev pub candidates_by : List (K × V) → ℕ → ℕ
+  candidates_by pairs sought = count_by (λ q. hash q == sought) (keys_of pairs)
+
+  -- the length of an unsuccessful probe for this hash in a table of this capacity; a vector has no buckets
+  abbrev pub probe_length_by : Bool → ℕ → List (K × V) → ℕ → ℕ
+  probe_length_by is_vec capacity pairs sought = if is_vec then 0 else reach (map hash (keys_of pairs)) (buckets_of capacity) sought
+
+  -- the held keys of the hash of k
   abbrev pub candidates : List (K × V) → K → ℕ
-  candidates pairs k = count_by (λ q. hash q == hash k) (keys_of pairs)
+  candidates pairs k = candidates_by pairs (hash k)
 
   -- the length of an unsuccessful probe for k in a table of this capacity; a vector has no buckets
   abbrev pub probe_length : Bool → ℕ → List (K × V) → K → ℕ
-  probe_length is_vec capacity pairs k = if is_vec then 0 else reach (map hash (keys_of pairs)) (buckets_of capacity) (hash k)
+  probe_length is_vec capacity pairs k = probe_length_by is_vec capacity pairs (hash k)
 
   -- no two held keys of a table of this capacity have the same home bucket
   abbrev pub NoHomeIsShared : ℕ → List (K × V) → Type 0
   NoHomeIsShared capacity pairs = HomesApart (map hash (keys_of pairs)) (buckets_of capacity)
 
--- the comparisons of a search in a vector: in order, up to and with the key that equals k, or all
+-- the comparisons of a search in a vector: in order, up to and with the key that passes, or all
+abbrev pub comparisons_in_order_by : {K V : Type 0} → (K → Bool) → List (K × V) → ℕ
+comparisons_in_order_by test pairs = first_match_cost (index_of test (keys_of pairs)) (length pairs)
+
+-- the same of the key that equals k
 abbrev pub comparisons_in_order : {K V : Type 0} → (K → K → Bool) → List (K × V) → K → ℕ
-comparisons_in_order eq pairs k = first_match_cost (index_of (eq k) (keys_of pairs)) (length pairs)
+comparisons_in_order eq pairs k = comparisons_in_order_by (eq k) pairs
 
+-- a search for the key that passes the test, under this hash, where `hash` gives those of the held keys
+module _ {K V : Type 0} (test : K → Bool) (hash : K → ℕ) (sought : ℕ) where
+  -- its comparisons: in a vector exactly those in order; in a table exactly all candidates where no key passes, and at least one of them
+  -- where one does
+  abbrev pub search_compares_by : Bool → List (K × V) → Range
+  search_compares_by is_vec pairs =
+      if is_vec then exactly (comparisons_in_order_by test pairs)
+      else (if holds_by test pairs then between 1 (candidates_by hash pairs sought) else exactly (candidates_by hash pairs sought))
+
+  -- the buckets that it reads: none in a vector; in a table exactly an unsuccessful probe where no key passes, and at least one and fewer
+  -- than that where one does
+  abbrev pub search_looks_by : Bool → ℕ → List (K × V) → Range
+  search_looks_by is_vec capacity pairs =
+      let probe = probe_length_by hash is_vec capacity pairs sought in
+      if is_vec then exactly 0 else (if holds_by test pairs then between 1 (probe - 1) else exactly probe)
+
+  -- what it costs
+  abbrev pub search_cost_by : Bool → ℕ → List (K × V) → Cost
+  search_cost_by is_vec capacity pairs =
+      record { asked = search_asked is_vec; compared = search_compares_by is_vec pairs; looked = search_looks_by is_vec capacity pairs }
+
+-- a search for the key that equals k
 module _ {K V : Type 0} (eq : K → K → Bool) (hash : K → ℕ) where
-  -- the comparisons of a search for k: in a vector exactly those in order; in a table exactly all candidates where k is not held, and
-  -- at least one of them where it is
   abbrev pub search_compares : Bool → List (K × V) → K → Range
-  search_compares is_vec pairs k =
-      if is_vec then exactly (comparisons_in_order eq pairs k)
-      else (if holds eq pairs k then between 1 (candidates hash pairs k) else exactly (candidates hash pairs k))
+  search_compares is_vec pairs k = search_compares_by (eq k) hash (hash k) is_vec pairs
 
-  -- the buckets that a search for k reads: none in a vector; in a table exactly an unsuccessful probe where k is not held, and at least
-  -- one and fewer than that where it is
   abbrev pub search_looks : Bool → ℕ → List (K × V) → K → Range
-  search_looks is_vec capacity pairs k =
-      let probe = probe_length hash is_vec capacity pairs k in
-      if is_vec then exactly 0 else (if holds eq pairs k then between 1 (probe - 1) else exactly probe)
+  search_looks is_vec capacity pairs k = search_looks_by (eq k) hash (hash k) is_vec capacity pairs
 
-  -- what one search for k costs
   abbrev pub search_cost : Bool → ℕ → List (K × V) → K → Cost
-  search_cost is_vec capacity pairs k =
-      record { asked = search_asked is_vec; compared = search_compares is_vec pairs k; looked = search_looks is_vec capacity pairs k }
+  search_cost is_vec capacity pairs k = search_cost_by (eq k) hash (hash k) is_vec capacity pairs
+
+-- what one search in the map for the key that passes the test, under this hash, cost, by the tally before it and after
+pub record SearchCostsBy {K V S : Type 0} (test : K → Bool) (hash : S → K → ℕ) (sought : ℕ) (m : State K V S) (before after : Work) : Type 0 where
+  pub grew : GrewBy (search_cost_by test (hash m.builder) sought m.is_vec m.capacity m.pairs) before after
+  pub looked_once : m.is_vec ≡ false → holds_by test m.pairs ≡ true → NoHomeIsShared (hash m.builder) m.capacity m.pairs → after.looked ≡ before.looked + 1
+  pub short : probe_length_by (hash m.builder) m.is_vec m.capacity m.pairs sought ≤ length m.pairs + 1
 
 module _ {K V S : Type 0} (eq : K → K → Bool) (hash : S → K → ℕ) where
   -- what a search for k in the map costs
@@ -101,10 +131,8 @@ module _ {K V S : Type 0} (eq : K → K → Bool) (hash : S → K → ℕ) where
   search_cost_of m k = search_cost eq (hash m.builder) m.is_vec m.capacity m.pairs k
 
   -- what one search for k in the map cost, by the tally before it and after
-  pub record SearchCosts (m : State K V S) (k : K) (before after : Work) : Type 0 where
-    pub grew : GrewBy (search_cost_of m k) before after
-    pub looked_once : m.is_vec ≡ false → holds eq m.pairs k ≡ true → NoHomeIsShared (hash m.builder) m.capacity m.pairs → after.looked ≡ before.looked + 1
-    pub short : probe_length (hash m.builder) m.is_vec m.capacity m.pairs k ≤ length m.pairs + 1
+  abbrev pub SearchCosts : State K V S → K → Work → Work → Type 0
+  SearchCosts m k before after = SearchCostsBy (eq k) hash (hash m.builder k) m before after
 
 module _ {K V S : Type 0} (limit : ℕ) where
   -- how often a granted switching call hashes for its switch: once for each pair of a full vector

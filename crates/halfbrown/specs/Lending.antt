@@ -1,12 +1,12 @@
 -- What a map ends as, once a value of it that was lent to be written comes back.
-use Rattle.std.specs.Prelude.{ℕ, Option}
+use Rattle.std.specs.Prelude.{ℕ, Bool, Option}
 use Rattle.std.specs.Borrow.{Fml, RattleType, MutBor, Lends, LendsIf}
 use Rattle.std.specs.HashMap.Lent.{HashMembers}
 use Rattle.std.specs.declared.hash.Hasher as hasher
 use Rattle.std.specs.declared.hash.BuildHasher as builder
 use Rattle.half_store.specs.Pairs.{set_value}
 use Rattle.halfbrown.specs.declared.limit.Limit as limits
-use Rattle.halfbrown.specs.Pairs.{put}
+use Rattle.halfbrown.specs.Pairs.{set_by}
 use Rattle.halfbrown.specs.State.{State, with_pairs}
 use Rattle.halfbrown.specs.contracts.map.LimitedHashMap.{the_row}
 
@@ -20,6 +20,6 @@ module _ (K V S L H : RattleType) (key : HashMembers K.Denot) (build : builder.G
     abbrev pub LendsValueAt : ℕ → MutBor V.Denot → Fml
     LendsValueAt index r = Lends map_row V m r (λ w. with_pairs m.now (set_value m.now.pairs index w))
 
-    -- the key that equals k has the last value written through the reference, and where none is held the map stays as it is
-    abbrev pub LendsValueOf : K.Denot → Option (MutBor V.Denot) → Fml
-    LendsValueOf k r = LendsIf map_row V m r (λ w. with_pairs m.now (put key.eq m.now.pairs k w)) m.now
+    -- the pair whose key passes the test has the last value written through the reference, and where none is held the map stays as it is
+    abbrev pub LendsValueBy : (K.Denot → Bool) → Option (MutBor V.Denot) → Fml
+    LendsValueBy test r = LendsIf map_row V m r (λ w. with_pairs m.now (set_by test m.now.pairs w)) m.now

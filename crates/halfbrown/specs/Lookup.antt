@@ -1,35 +1,37 @@
 -- What a search for a key in a map returns.
-use Rattle.std.specs.Prelude.{◌≡◌, ℕ, ◌+◌, ◌<◌, nat_lt, Bool, true, false, List, [], ◌∷◌, ◌++◌, length, slice_get, None, IfSome, is_none, if◌then◌else◌}
+use Rattle.std.specs.Prelude.{◌≡◌, ℕ, ◌+◌, ◌<◌, nat_lt, Bool, true, false, List, [], ◌∷◌, ◌++◌, length, slice_get, None, Some, IfSome, is_none, if◌then◌else◌}
 use Rattle.std.specs.Map.{keys_of, values_of}
 use Rattle.half_store.specs.Capacity.{capacity_for}
 use Rattle.half_store.specs.Pairs.{index_of, set_value, swap_out}
 use Rattle.half_store.specs.Table.{Contents, IsVacancyIn}
 use Rattle.halfbrown.specs.Costs.{probe_length}
-use Rattle.halfbrown.specs.Pairs.{value_of, pair_of, holds, put, take_out}
+use Rattle.halfbrown.specs.Pairs.{value_by, pair_by, holds_by, set_by, put_by, take_out_by}
 use Rattle.halfbrown.specs.State.{State, contents_of}
 use Rattle.halfbrown.specs.declared.map.lookup.Lookup.{Lookup}
 use Rattle.halfbrown.specs.declared.map.lookup.Lookup.TheVariants.{Found, Missing}
 use Rattle.halfbrown.specs.declared.map.lookup.Vacancy.{Vacancy}
 use Rattle.halfbrown.specs.declared.map.lookup.Vacancy.TheVariants.{InVector, InTable}
 
-module _ {K V : Type 0} (eq : K → K → Bool) (pairs : List (K × V)) (k : K) where
-  -- the pair at this index is that of the key that equals k
+module _ {K V : Type 0} (test : K → Bool) (pairs : List (K × V)) where
+  -- the pair at this index is that of the key that passes
   pub record IsIndexOf (index : ℕ) : Type 0 where
     pub within : index < length pairs
-    pub held : holds eq pairs k ≡ true
-    pub value : value_of eq pairs k ≡ slice_get (values_of pairs) index
-    pub pair : pair_of eq pairs k ≡ slice_get pairs index
-    pub put_is : (v : V) → put eq pairs k v ≡ set_value pairs index v
-    pub take_is : take_out eq pairs k ≡ swap_out pairs index
+    pub index_is : index_of test (keys_of pairs) ≡ Some index
+    pub held : holds_by test pairs ≡ true
+    pub value : value_by test pairs ≡ slice_get (values_of pairs) index
+    pub pair : pair_by test pairs ≡ slice_get pairs index
+    pub set_is : (v : V) → set_by test pairs v ≡ set_value pairs index v
+    pub put_is : (k : K) (v : V) → put_by test pairs k v ≡ set_value pairs index v
+    pub take_is : take_out_by test pairs ≡ swap_out pairs index
 
-  -- no key equal to k is held
+  -- no key that passes is held
   pub record IsAbsent : Type 0 where
-    pub index : index_of (eq k) (keys_of pairs) ≡ None
-    pub held : holds eq pairs k ≡ false
-    pub value : value_of eq pairs k ≡ None
-    pub pair : pair_of eq pairs k ≡ None
-    pub put_is : (v : V) → put eq pairs k v ≡ pairs ++ (k, v) ∷ []
-    pub take_is : take_out eq pairs k ≡ pairs
+    pub index : index_of test (keys_of pairs) ≡ None
+    pub held : holds_by test pairs ≡ false
+    pub value : value_by test pairs ≡ None
+    pub pair : pair_by test pairs ≡ None
+    pub put_is : (k : K) (v : V) → put_by test pairs k v ≡ pairs ++ (k, v) ∷ []
+    pub take_is : take_out_by test pairs ≡ pairs
 
 -- the hash that a vacancy in a table is for
 abbrev pub stored_hash : Vacancy → ℕ
@@ -52,10 +54,11 @@ abbrev pub IsVacancy : Bool → Contents → ℕ → Vacancy → Type 0
 IsVacancy is_vec contents hash InVector = is_vec ≡ true
 IsVacancy is_vec contents hash (InTable stored bucket) = (is_vec ≡ false) × (stored ≡ hash) × IfSome bucket (IsVacancyIn contents stored)
 
--- a search found the key, or no equal one is held and here the pair may be added: its bucket is known unless there are no buckets
-abbrev pub LooksUp : {K V S : Type 0} → (K → K → Bool) → (S → K → ℕ) → State K V S → K → Lookup → Type 0
-LooksUp eq hash m k (Found index) = IsIndexOf eq m.pairs k index
-LooksUp eq hash m k (Missing vacancy) = IsAbsent eq m.pairs k × IsVacancy m.is_vec (contents_of m) (hash m.builder k) vacancy × (is_unprobed vacancy ≡ true → m.capacity ≡ 0)
+-- a search found the key that passes the test, or none is held and here a pair of the hash may be added: its bucket is known unless
+-- there are no buckets
+abbrev pub LooksUp : {K V S : Type 0} → (K → Bool) → ℕ → State K V S → Lookup → Type 0
+LooksUp test hash m (Found index) = IsIndexOf test m.pairs index
+LooksUp test hash m (Missing vacancy) = IsAbsent test m.pairs × IsVacancy m.is_vec (contents_of m) hash vacancy × (is_unprobed vacancy ≡ true → m.capacity ≡ 0)
 
 -- the buckets that adding k reads: the insertion probe where its bucket is not known, and anew where the table grows first
 abbrev pub adding_looks : {K V S : Type 0} → (K → ℕ) → State K V S → K → Bool → Bool → ℕ

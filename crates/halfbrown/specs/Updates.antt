@@ -1,6 +1,6 @@
 -- What callers read off a changed list of pairs: which key has which value.
 use Rattle.std.specs.Prelude.{◌≡◌, ◌+◌, Bool, true, false, List, length, Some, None, if◌then◌else◌}
-use Rattle.halfbrown.specs.Pairs.{value_of, holds}
+use Rattle.halfbrown.specs.Pairs.{value_of, holds, value_by, holds_by}
 
 module _ {K V : Type 0} (eq : K → K → Bool) where
   -- after the pair (k, v) is put: k is held with the value v, as are its equals; each other key has what it had; there is one pair more
@@ -12,11 +12,16 @@ module _ {K V : Type 0} (eq : K → K → Bool) where
     pub others : (q : K) → eq k q ≡ false → value_of eq new q ≡ value_of eq old q
     pub len : length new ≡ (if holds eq old k then length old else length old + 1)
 
+  -- after the pair whose key passes the test is removed: no such key is held; each key that fails it has what it had; there is one pair
+  -- fewer exactly where one was held
+  pub record HasRemovedBy (test : K → Bool) (old new : List (K × V)) : Type 0 where
+    pub not_held : holds_by test new ≡ false
+    pub no_value : value_by test new ≡ None
+    pub equals : (q : K) → test q ≡ true → value_of eq new q ≡ None
+    pub others : (q : K) → test q ≡ false → value_of eq new q ≡ value_of eq old q
+    pub len : length old ≡ (if holds_by test old then length new + 1 else length new)
+
   -- after the pair of k is removed: no equal key is held; each other key has what it had; there is one pair fewer exactly where k was
   -- held
-  pub record HasRemoved (old : List (K × V)) (k : K) (new : List (K × V)) : Type 0 where
-    pub not_held : holds eq new k ≡ false
-    pub no_value : value_of eq new k ≡ None
-    pub equals : (q : K) → eq k q ≡ true → value_of eq new q ≡ None
-    pub others : (q : K) → eq k q ≡ false → value_of eq new q ≡ value_of eq old q
-    pub len : length old ≡ (if holds eq old k then length new + 1 else length new)
+  abbrev pub HasRemoved : List (K × V) → K → List (K × V) → Type 0
+  HasRemoved old k new = HasRemovedBy (eq k) old new

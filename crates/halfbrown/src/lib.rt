@@ -28,11 +28,13 @@
 //! ```
 #![tactic(auto)]
 
+mod equivalent;
 mod limit;
 mod map;
 mod refused;
 pub mod run;
 
+pub use equivalent::Equivalent;
 pub use half_store::{Refusal, Tally};
 pub use limit::{Limit, UpTo};
 pub use map::{DefaultHashBuilder, HashMap, LimitedHashMap, SizedHashMap, laws};

@@ -1,9 +1,12 @@
-//! Keys that are equal by their number alone, and count how often they are compared.
+//! Keys that are equal by their number alone, and count how often they are compared, and a form to look them up by.
 ghost use Rattle.std.specs.Prelude.{◌≡◌, ◌==◌};
 ghost use Rattle.std.specs.Hash as fed;
 ghost use Rattle.std.specs.Cmp.Rules.{comparing, hashing};
-ghost use Rattle.std.proofs.Common.{rules};
+ghost use Rattle.std.proofs.Common.{rules, ap};
+ghost use Rattle.std.proofs.lemmas.Bool.{eqb-true};
+ghost use Rattle.std.specs.Cmp.{nat_eq_equiv};
 
+use halfbrown::Equivalent;
 use std::cell::Cell;
 use std::fmt;
 use std::hash::{Hash, Hasher};
@@ -25,6 +28,10 @@ impl<'a> Key<'a> {
         Key { id, mark, compared }
     }
 
+    fn count_comparison(&self) {
+        self.compared.set(self.compared.get().saturating_add(1));
+    }
+
     /// What is compared of a key, and what is not.
     pub fn name(self) -> (u64, u64)
         ensures { result ≡ (self.entry.id, self.entry.mark) }
@@ -39,7 +46,7 @@ impl PartialEq for Key<'_> {
     ghost laws = { Prim.search (comparing, rules) };
 
     fn eq(&self, other: &Self) -> bool {
-        self.compared.set(self.compared.get().saturating_add(1));
+        self.count_comparison();
         self.id == other.id
     }
 }
@@ -55,6 +62,23 @@ impl Hash for Key<'_> {
 
     fn hash<H: Hasher>(&self, state: &mut H) {
         self.id.hash(state);
+    }
+}
+
+/// The number of a key, by which one is looked up. It is compared as a key is, and counted so.
+#[derive(Clone, Copy, Debug, PartialEq, Eq, Hash)]
+pub struct Id(pub u64);
+
+impl<'a> Equivalent<Key<'a>> for Id {
+    ghost equivalent = { λ form key. form.0 == key.id };
+
+    ghost hashes_alike = { λ form key same. ap fed.u64 (eqb-true form.0 key.id same) };
+
+    ghost stands_for_equals = { λ form key other. nat_eq_equiv.congr form.0 key.id other.id };
+
+    fn equivalent(&self, key: &Key<'a>) -> bool {
+        key.count_comparison();
+        self.0 == key.id
     }
 }
 

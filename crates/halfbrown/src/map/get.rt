@@ -2,20 +2,21 @@
 ghost use Rattle.std.specs.Prelude.{◌≡◌, IsTrue, Some, ◌<◌, length, slice_get};
 ghost use Rattle.std.specs.Borrow.{sem};
 ghost use Rattle.std.specs.Map.{values_of};
-ghost use Rattle.std.specs.Option.{option_copied, option_copied_mut};
-ghost use Rattle.halfbrown.specs.Costs.{key_hash, SearchCosts};
-ghost use Rattle.halfbrown.specs.Pairs.{value_of, holds};
+ghost use Rattle.std.specs.Map.Iter.{deref_pair};
+ghost use Rattle.std.specs.Option.{option_copied, option_copied_mut, option_map};
+ghost use Rattle.halfbrown.specs.Costs.{key_hash, SearchCostsBy};
+ghost use Rattle.halfbrown.specs.Pairs.{value_by, holds_by, pair_by};
 ghost use Rattle.halfbrown.specs.State.{IsState};
 
 use super::LimitedHashMap;
 use super::lookup::Lookup;
-use crate::Limit;
+use crate::{Equivalent, Limit};
 use half_store::Tally;
 use std::hash::{BuildHasher, Hash};
 use std::ops::Index;
 
 impl<K: Eq + Hash, V, S: BuildHasher, L: Limit> LimitedHashMap<K, V, S, L> {
-    ghost use Rattle.halfbrown.specs.Lending.{LendsValueOf, LendsValueAt};
+    ghost use Rattle.halfbrown.specs.Lending.{LendsValueBy, LendsValueAt};
 
     /// Returns the value of the held key that equals this one. It costs one search.
     ///
@@ -23,8 +24,8 @@ impl<K: Eq + Hash, V, S: BuildHasher, L: Limit> LimitedHashMap<K, V, S, L> {
     /// let age = ages.get(&1).copied(); // 36
     /// ```
     #[inline(always)]
-    pub fn get(&self, key: &K) -> Option<&V>
-        ensures { option_copied result ≡ value_of K.eq self.now.pairs key.now }
+    pub fn get<Q: Equivalent<K>>(&self, key: Q) -> Option<&V>
+        ensures { option_copied result ≡ value_by (Q.equivalent key) self.now.pairs }
     {
         self.get_counted(key, &mut Tally::new())
     }
@@ -36,14 +37,48 @@ impl<K: Eq + Hash, V, S: BuildHasher, L: Limit> LimitedHashMap<K, V, S, L> {
     /// let age = ages.get_counted(&1, &mut tally).copied(); // 36
     /// ```
     #[inline(always)]
-    pub fn get_counted(&self, key: &K, tally: &mut Tally) -> Option<&V>
-        ensures value { option_copied result ≡ value_of K.eq self.now.pairs key.now }
-        ensures cost { SearchCosts K.eq (key_hash S.BuildHasher S.Hasher.Hasher K.hash_input) self.now key.now
-            tally.old tally.new }
+    pub fn get_counted<Q: Equivalent<K>>(&self, key: Q, tally: &mut Tally) -> Option<&V>
+        ensures value { option_copied result ≡ value_by (Q.equivalent key) self.now.pairs }
+        ensures cost { SearchCostsBy (Q.equivalent key) (key_hash S.BuildHasher S.Hasher.Hasher K.hash_input)
+            (key_hash S.BuildHasher S.Hasher.Hasher Q.hash_input self.now.builder key) self.now tally.old tally.new }
         ensures state { IsState K.eq L.LIMIT self.now }
     {
         match self.find(key, tally) {
             Lookup::Found(index) => Some(self.columns.value_at(index)),
+            Lookup::Missing(_) => None,
+        }
+    }
+
+    /// Returns the stored key that equals this one, and its value. It costs one search.
+    ///
+    /// ```
+    /// let pair = ages.get_key_value(&1); // 1 and 36
+    /// ```
+    #[inline(always)]
+    pub fn get_key_value<Q: Equivalent<K>>(&self, key: Q) -> Option<(&K, &V)>
+        ensures { option_map deref_pair result ≡ pair_by (Q.equivalent key) self.now.pairs }
+    {
+        self.get_key_value_counted(key, &mut Tally::new())
+    }
+
+    /// `get_key_value`, with its work counted: that of one search.
+    ///
+    /// ```
+    /// let pair = ages.get_key_value_counted(&2, &mut tally); // none
+    /// ```
+    #[inline(always)]
+    pub fn get_key_value_counted<Q: Equivalent<K>>(
+        &self,
+        key: Q,
+        tally: &mut Tally,
+    ) -> Option<(&K, &V)>
+        ensures pair { option_map deref_pair result ≡ pair_by (Q.equivalent key) self.now.pairs }
+        ensures cost { SearchCostsBy (Q.equivalent key) (key_hash S.BuildHasher S.Hasher.Hasher K.hash_input)
+            (key_hash S.BuildHasher S.Hasher.Hasher Q.hash_input self.now.builder key) self.now tally.old tally.new }
+        ensures state { IsState K.eq L.LIMIT self.now }
+    {
+        match self.find(key, tally) {
+            Lookup::Found(index) => Some(self.columns.pair_at(index)),
             Lookup::Missing(_) => None,
         }
     }
@@ -56,10 +91,10 @@ impl<K: Eq + Hash, V, S: BuildHasher, L: Limit> LimitedHashMap<K, V, S, L> {
     /// }
     /// ```
     #[inline(always)]
-    pub fn get_mut(&mut self, key: &K) -> Option<&mut V>
-        ensures* writes_back { sem 𝓛 (LendsValueOf K.row V.row S.row L.row S.Hasher.row K.Hash S.BuildHasher
-            S.Hasher.Hasher L.Limit self.entry key.now result) }
-        ensures value { option_copied_mut result ≡ value_of K.eq self.old.pairs key.now }
+    pub fn get_mut<Q: Equivalent<K>>(&mut self, key: Q) -> Option<&mut V>
+        ensures* writes_back { sem 𝓛 (LendsValueBy K.row V.row S.row L.row S.Hasher.row K.Hash S.BuildHasher
+            S.Hasher.Hasher L.Limit self.entry (Q.equivalent key) result) }
+        ensures value { option_copied_mut result ≡ value_by (Q.equivalent key) self.old.pairs }
     {
         self.get_mut_counted(key, &mut Tally::new())
     }
@@ -72,12 +107,12 @@ impl<K: Eq + Hash, V, S: BuildHasher, L: Limit> LimitedHashMap<K, V, S, L> {
     /// }
     /// ```
     #[inline(always)]
-    pub fn get_mut_counted(&mut self, key: &K, tally: &mut Tally) -> Option<&mut V>
-        ensures* writes_back { sem 𝓛 (LendsValueOf K.row V.row S.row L.row S.Hasher.row K.Hash S.BuildHasher
-            S.Hasher.Hasher L.Limit self.entry key.now result) }
-        ensures value { option_copied_mut result ≡ value_of K.eq self.old.pairs key.now }
-        ensures cost { SearchCosts K.eq (key_hash S.BuildHasher S.Hasher.Hasher K.hash_input) self.old key.now
-            tally.old tally.new }
+    pub fn get_mut_counted<Q: Equivalent<K>>(&mut self, key: Q, tally: &mut Tally) -> Option<&mut V>
+        ensures* writes_back { sem 𝓛 (LendsValueBy K.row V.row S.row L.row S.Hasher.row K.Hash S.BuildHasher
+            S.Hasher.Hasher L.Limit self.entry (Q.equivalent key) result) }
+        ensures value { option_copied_mut result ≡ value_by (Q.equivalent key) self.old.pairs }
+        ensures cost { SearchCostsBy (Q.equivalent key) (key_hash S.BuildHasher S.Hasher.Hasher K.hash_input)
+            (key_hash S.BuildHasher S.Hasher.Hasher Q.hash_input self.old.builder key) self.old tally.old tally.new }
         ensures state { IsState K.eq L.LIMIT self.old }
     {
         match self.find(key, tally) {
@@ -92,8 +127,8 @@ impl<K: Eq + Hash, V, S: BuildHasher, L: Limit> LimitedHashMap<K, V, S, L> {
     /// let known = ages.contains_key(&1); // true
     /// ```
     #[inline(always)]
-    pub fn contains_key(&self, key: &K) -> bool
-        ensures { result ≡ holds K.eq self.now.pairs key.now }
+    pub fn contains_key<Q: Equivalent<K>>(&self, key: Q) -> bool
+        ensures { result ≡ holds_by (Q.equivalent key) self.now.pairs }
     {
         self.contains_key_counted(key, &mut Tally::new())
     }
@@ -104,10 +139,10 @@ impl<K: Eq + Hash, V, S: BuildHasher, L: Limit> LimitedHashMap<K, V, S, L> {
     /// let known = ages.contains_key_counted(&2, &mut tally); // false
     /// ```
     #[inline(always)]
-    pub fn contains_key_counted(&self, key: &K, tally: &mut Tally) -> bool
-        ensures held { result ≡ holds K.eq self.now.pairs key.now }
-        ensures cost { SearchCosts K.eq (key_hash S.BuildHasher S.Hasher.Hasher K.hash_input) self.now key.now
-            tally.old tally.new }
+    pub fn contains_key_counted<Q: Equivalent<K>>(&self, key: Q, tally: &mut Tally) -> bool
+        ensures held { result ≡ holds_by (Q.equivalent key) self.now.pairs }
+        ensures cost { SearchCostsBy (Q.equivalent key) (key_hash S.BuildHasher S.Hasher.Hasher K.hash_input)
+            (key_hash S.BuildHasher S.Hasher.Hasher Q.hash_input self.now.builder key) self.now tally.old tally.new }
         ensures state { IsState K.eq L.LIMIT self.now }
     {
         match self.find(key, tally) {
@@ -126,11 +161,11 @@ impl<K: Eq + Hash, V, S: BuildHasher, L: Limit> LimitedHashMap<K, V, S, L> {
     /// }; // 38
     /// ```
     #[inline(always)]
-    pub fn index_counted(&self, key: &K, tally: &mut Tally) -> &V
-        requires { IsTrue (holds K.eq self.now.pairs key.now) }
-        ensures value { value_of K.eq self.now.pairs key.now ≡ Some result.now }
-        ensures cost { SearchCosts K.eq (key_hash S.BuildHasher S.Hasher.Hasher K.hash_input) self.now key.now
-            tally.old tally.new }
+    pub fn index_counted<Q: Equivalent<K>>(&self, key: Q, tally: &mut Tally) -> &V
+        requires { IsTrue (holds_by (Q.equivalent key) self.now.pairs) }
+        ensures value { value_by (Q.equivalent key) self.now.pairs ≡ Some result.now }
+        ensures cost { SearchCostsBy (Q.equivalent key) (key_hash S.BuildHasher S.Hasher.Hasher K.hash_input)
+            (key_hash S.BuildHasher S.Hasher.Hasher Q.hash_input self.now.builder key) self.now tally.old tally.new }
     {
         match self.find(key, tally) {
             Lookup::Found(index) => self.columns.value_at(index),
@@ -150,12 +185,13 @@ impl<K: Eq + Hash, V, S: BuildHasher, L: Limit> LimitedHashMap<K, V, S, L> {
     }
 }
 
-impl<'a, K: Eq + Hash, V, S: BuildHasher, L: Limit> Index<&'a K> for LimitedHashMap<K, V, S, L> {
+impl<K: Eq + Hash, V, S: BuildHasher, L: Limit, Q: Equivalent<K>> Index<Q>
+    for LimitedHashMap<K, V, S, L> {
     type Output = V;
 
-    ghost can_index = { λ m k. IsTrue (holds K.eq m.pairs k.now) };
+    ghost can_index = { λ m key. IsTrue (holds_by (Q.equivalent key) m.pairs) };
 
-    ghost index_gives = { λ m k v. value_of K.eq m.pairs k.now ≡ Some v };
+    ghost index_gives = { λ m key v. value_by (Q.equivalent key) m.pairs ≡ Some v };
 
     /// Returns the value of the held key that equals this one, which must be held. It costs one search.
     ///
@@ -163,7 +199,7 @@ impl<'a, K: Eq + Hash, V, S: BuildHasher, L: Limit> Index<&'a K> for LimitedHash
     /// let age = if ages.contains_key(&1) { ages[&1] } else { 0 }; // 38
     /// ```
     #[inline(always)]
-    fn index(&self, key: &'a K) -> &V {
+    fn index(&self, key: Q) -> &V {
         self.index_counted(key, &mut Tally::new())
     }
 }

@@ -1,11 +1,11 @@
 //! The search for a key: in a vector by `==`, in a table by hash.
 ghost use Rattle.std.specs.Prelude.{◌≡◌, ◌<◌, slice_index_or, length};
-ghost use Rattle.halfbrown.specs.Costs.{key_hash, SearchCosts};
+ghost use Rattle.halfbrown.specs.Costs.{key_hash, SearchCostsBy};
 ghost use Rattle.halfbrown.specs.Lookup.{LooksUp, unprobed};
 ghost use Rattle.halfbrown.specs.State.{IsState};
 
 use super::LimitedHashMap;
-use crate::Limit;
+use crate::{Equivalent, Limit};
 use half_store::table::probe::Probe;
 use half_store::{Tally, counting};
 use std::hash::{BuildHasher, Hash};
@@ -43,24 +43,25 @@ impl Vacancy {
 impl<K: Eq + Hash, V, S: BuildHasher, L: Limit> LimitedHashMap<K, V, S, L> {
     /// Searches for a key: in a vector by `==` alone, in a table among the keys of its hash.
     #[inline(always)]
-    pub(crate) fn find(&self, key: &K, tally: &mut Tally) -> Lookup
-        ensures found { LooksUp K.eq (key_hash S.BuildHasher S.Hasher.Hasher K.hash_input) self.now key.now result }
-        ensures cost { SearchCosts K.eq (key_hash S.BuildHasher S.Hasher.Hasher K.hash_input) self.now key.now
-            tally.old tally.new }
+    pub(crate) fn find<Q: Equivalent<K>>(&self, key: Q, tally: &mut Tally) -> Lookup
+        ensures found { LooksUp (Q.equivalent key)
+            (key_hash S.BuildHasher S.Hasher.Hasher Q.hash_input self.now.builder key) self.now result }
+        ensures cost { SearchCostsBy (Q.equivalent key) (key_hash S.BuildHasher S.Hasher.Hasher K.hash_input)
+            (key_hash S.BuildHasher S.Hasher.Hasher Q.hash_input self.now.builder key) self.now tally.old tally.new }
         ensures state { IsState K.eq L.LIMIT self.now }
     {
+        let keys = self.columns.keys();
+        let matches = |index: usize| -> bool
+            requires { index < length keys.now }
+            ensures { (d : K) → result ≡ Q.equivalent key (slice_index_or keys.entry.now index d) }
+        { key.equivalent(&keys[index]) };
         let Some(table) = self.form.table() else {
-            return match self.columns.find(key, tally) {
+            return match self.columns.find(&matches, tally) {
                 Some(index) => Lookup::Found(index),
                 None => Lookup::Missing(Vacancy::InVector),
             };
         };
-        let hash = counting::hash_one(&self.builder, key, tally);
-        let keys = self.columns.keys();
-        let matches = |index: usize| -> bool
-            requires { index < length keys.now }
-            ensures { (d : K) → result ≡ K.eq key.entry.now (slice_index_or keys.entry.now index d) }
-        { *key == keys[index] };
+        let hash = counting::hash_one(&self.builder, &key, tally);
         match table.find(hash, &matches, tally) {
             Probe::Found(index) => Lookup::Found(index),
             Probe::Vacant(bucket) => Lookup::Missing(Vacancy::InTable(hash, Some(bucket))),

@@ -1,15 +1,15 @@
 //! Removal.
 ghost use Rattle.std.specs.Prelude.{◌≡◌, ◌<◌, length, slice_get, Some};
 ghost use Rattle.half_store.specs.Pairs.{swap_out};
-ghost use Rattle.halfbrown.specs.Costs.{key_hash, SearchCosts};
+ghost use Rattle.halfbrown.specs.Costs.{key_hash, SearchCostsBy};
 ghost use Rattle.std.specs.Map.{values_of};
-ghost use Rattle.halfbrown.specs.Pairs.{value_of, pair_of, take_out};
+ghost use Rattle.halfbrown.specs.Pairs.{value_by, pair_by, take_out_by};
 ghost use Rattle.halfbrown.specs.State.{IsState, WithPairs};
-ghost use Rattle.halfbrown.specs.Updates.{HasRemoved};
+ghost use Rattle.halfbrown.specs.Updates.{HasRemovedBy};
 
 use super::LimitedHashMap;
 use super::lookup::Lookup;
-use crate::Limit;
+use crate::{Equivalent, Limit};
 use half_store::Tally;
 use std::hash::{BuildHasher, Hash};
 
@@ -21,12 +21,12 @@ impl<K: Eq + Hash, V, S: BuildHasher, L: Limit> LimitedHashMap<K, V, S, L> {
     /// let age = ages.remove(&1); // 36
     /// ```
     #[inline]
-    pub fn remove(&mut self, key: &K) -> Option<V>
+    pub fn remove<Q: Equivalent<K>>(&mut self, key: Q) -> Option<V>
     where
         K: Drop,
-        ensures value { result ≡ value_of K.eq self.old.pairs key.now }
-        ensures after { WithPairs self.old (take_out K.eq self.old.pairs key.now) self.new }
-        ensures removed { HasRemoved K.eq self.old.pairs key.now self.new.pairs }
+        ensures value { result ≡ value_by (Q.equivalent key) self.old.pairs }
+        ensures after { WithPairs self.old (take_out_by (Q.equivalent key) self.old.pairs) self.new }
+        ensures removed { HasRemovedBy K.eq (Q.equivalent key) self.old.pairs self.new.pairs }
         ensures state { IsState K.eq L.LIMIT self.new }
     {
         self.remove_counted(key, &mut Tally::new())
@@ -38,14 +38,14 @@ impl<K: Eq + Hash, V, S: BuildHasher, L: Limit> LimitedHashMap<K, V, S, L> {
     /// let age = ages.remove_counted(&2, &mut tally); // 41
     /// ```
     #[inline]
-    pub fn remove_counted(&mut self, key: &K, tally: &mut Tally) -> Option<V>
+    pub fn remove_counted<Q: Equivalent<K>>(&mut self, key: Q, tally: &mut Tally) -> Option<V>
     where
         K: Drop,
-        ensures value { result ≡ value_of K.eq self.old.pairs key.now }
-        ensures after { WithPairs self.old (take_out K.eq self.old.pairs key.now) self.new }
-        ensures removed { HasRemoved K.eq self.old.pairs key.now self.new.pairs }
-        ensures cost { SearchCosts K.eq (key_hash S.BuildHasher S.Hasher.Hasher K.hash_input) self.old key.now
-            tally.old tally.new }
+        ensures value { result ≡ value_by (Q.equivalent key) self.old.pairs }
+        ensures after { WithPairs self.old (take_out_by (Q.equivalent key) self.old.pairs) self.new }
+        ensures removed { HasRemovedBy K.eq (Q.equivalent key) self.old.pairs self.new.pairs }
+        ensures cost { SearchCostsBy (Q.equivalent key) (key_hash S.BuildHasher S.Hasher.Hasher K.hash_input)
+            (key_hash S.BuildHasher S.Hasher.Hasher Q.hash_input self.old.builder key) self.old tally.old tally.new }
         ensures state { IsState K.eq L.LIMIT self.new }
     {
         let (_, value) = self.remove_entry_counted(key, tally)?;
@@ -59,10 +59,10 @@ impl<K: Eq + Hash, V, S: BuildHasher, L: Limit> LimitedHashMap<K, V, S, L> {
     /// let pair = ages.remove_entry(&3); // 3 and 5
     /// ```
     #[inline]
-    pub fn remove_entry(&mut self, key: &K) -> Option<(K, V)>
-        ensures pair { result ≡ pair_of K.eq self.old.pairs key.now }
-        ensures after { WithPairs self.old (take_out K.eq self.old.pairs key.now) self.new }
-        ensures removed { HasRemoved K.eq self.old.pairs key.now self.new.pairs }
+    pub fn remove_entry<Q: Equivalent<K>>(&mut self, key: Q) -> Option<(K, V)>
+        ensures pair { result ≡ pair_by (Q.equivalent key) self.old.pairs }
+        ensures after { WithPairs self.old (take_out_by (Q.equivalent key) self.old.pairs) self.new }
+        ensures removed { HasRemovedBy K.eq (Q.equivalent key) self.old.pairs self.new.pairs }
         ensures state { IsState K.eq L.LIMIT self.new }
     {
         self.remove_entry_counted(key, &mut Tally::new())
@@ -74,12 +74,16 @@ impl<K: Eq + Hash, V, S: BuildHasher, L: Limit> LimitedHashMap<K, V, S, L> {
     /// let pair = ages.remove_entry_counted(&4, &mut tally); // 4 and 8
     /// ```
     #[inline]
-    pub fn remove_entry_counted(&mut self, key: &K, tally: &mut Tally) -> Option<(K, V)>
-        ensures pair { result ≡ pair_of K.eq self.old.pairs key.now }
-        ensures after { WithPairs self.old (take_out K.eq self.old.pairs key.now) self.new }
-        ensures removed { HasRemoved K.eq self.old.pairs key.now self.new.pairs }
-        ensures cost { SearchCosts K.eq (key_hash S.BuildHasher S.Hasher.Hasher K.hash_input) self.old key.now
-            tally.old tally.new }
+    pub fn remove_entry_counted<Q: Equivalent<K>>(
+        &mut self,
+        key: Q,
+        tally: &mut Tally,
+    ) -> Option<(K, V)>
+        ensures pair { result ≡ pair_by (Q.equivalent key) self.old.pairs }
+        ensures after { WithPairs self.old (take_out_by (Q.equivalent key) self.old.pairs) self.new }
+        ensures removed { HasRemovedBy K.eq (Q.equivalent key) self.old.pairs self.new.pairs }
+        ensures cost { SearchCostsBy (Q.equivalent key) (key_hash S.BuildHasher S.Hasher.Hasher K.hash_input)
+            (key_hash S.BuildHasher S.Hasher.Hasher Q.hash_input self.old.builder key) self.old tally.old tally.new }
         ensures state { IsState K.eq L.LIMIT self.new }
     {
         match self.find(key, tally) {

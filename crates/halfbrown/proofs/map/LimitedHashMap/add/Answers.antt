@@ -9,7 +9,7 @@ stays false full e = refl
 
 pub returns-then-len-capacity-clause-ok : goal.returns-then-len-capacity-clause-ok
 returns-then-len-capacity-clause-ok g c = record {
-  pairs = c.push.ensures.after.pairs ∙ sym ((absent_of_unheld g.K.PartialEq.eq c.args.key c.args.self.now.pairs c.requires.absent).put_is c.args.value);
+  pairs = c.push.ensures.after.pairs ∙ sym ((absent_of_unheld (g.K.PartialEq.eq c.args.key) c.args.self.now.pairs c.requires.absent).put_is c.args.key c.args.value);
   form = c.push.ensures.after.form ∙ stays _ _ c.requires.not_full;
   capacity = search rules;
   grantable = search rules;
@@ -20,7 +20,7 @@ pub returns-in-Ok-clause-ok : goal.returns-in-Ok-clause-ok
 returns-in-Ok-clause-ok g c = record {
   pairs =
       c.push-in-Ok.ensures.after.pairs ∙ ap (λ ps. ps ++ (c.args.key, c.args.value) ∷ []) c.in-Ok.ensures.ok.pairs
-      ∙ sym ((absent_of_unheld g.K.PartialEq.eq c.args.key c.args.self.now.pairs c.requires.absent).put_is c.args.value);
+      ∙ sym ((absent_of_unheld (g.K.PartialEq.eq c.args.key) c.args.self.now.pairs c.requires.absent).put_is c.args.key c.args.value);
   form = c.push-in-Ok.ensures.after.form ∙ c.in-Ok.ensures.ok.form ∙ stays _ _ c.requires.not_full;
   capacity = search rules;
   grantable = search rules;

@@ -10,7 +10,7 @@ pub returns-in-Found-clause-put : goal.returns-in-Found-clause-put
 returns-in-Found-clause-put g c =
     let eq = g.K.PartialEq.eq in
     subst (HasPut eq c.args.self.now.pairs c.args.key c.args.value)
-    (ap (λ ps. put eq ps c.args.key c.args.value) (sym c.switch_if_full.ensures.pairs) ∙ c.in-Found.ensures.found.put_is c.args.value ∙ sym c.set_at.ensures.after.pairs)
+    (ap (λ ps. put eq ps c.args.key c.args.value) (sym c.switch_if_full.ensures.pairs) ∙ c.in-Found.ensures.found.put_is c.args.key c.args.value ∙ sym c.set_at.ensures.after.pairs)
     (has_put eq g.met.K.Eq.laws c.args.self.now.pairs c.args.key c.args.value)
 
 pub returns-in-Found-clause-cost : goal.returns-in-Found-clause-cost

@@ -17,7 +17,7 @@ invariant_of-self g c =
     let after = c.add.new.self in
     let key = c.args.key in
     let value = c.args.value in
-    let absent : IsAbsent eq columns.pairs key = subst (λ ps. IsAbsent eq ps key) (sym (ap (λ m. m.pairs) c.self.view_is)) (absent_of_unheld eq key c.args.self.now.pairs c.requires.absent) in
+    let absent : IsAbsent (eq key) columns.pairs = subst (IsAbsent (eq key)) (sym (ap (λ m. m.pairs) c.self.view_is)) (absent_of_unheld (eq key) c.args.self.now.pairs c.requires.absent) in
     let fits : length columns.pairs < capacity_in limit columns.capacity before.is_vec before.buckets = omega (arith, c.requires.capacity, ap length (ap (λ m. m.pairs) c.self.view_is), ap (λ m. m.capacity) c.self.view_is) in
     let vacant : IsVacancy before.is_vec before.contents (hash key) c.args.vacancy =
     subst (λ m. IsVacancy m.is_vec (contents_of m) (key_hash g.S.BuildHasher g.S.Hasher.Hasher g.K.Hash.hash_input m.builder key) c.args.vacancy) (sym c.self.view_is) c.requires.vacant in
