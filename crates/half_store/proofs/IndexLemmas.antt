@@ -95,7 +95,7 @@ module _ {hashes buckets bucket_of : List ℕ} {hash_capacity entry_capacity : �
     abbrev buckets' : List ℕ
     buckets' = set buckets p (suc (length hashes))
 
-    slots-add : slots_by hashes' buckets' ≡ set slots p (Some h)
+    pub slots-add : slots_by hashes' buckets' ≡ set slots p (Some h)
     slots-add =
         slots_by-set hashes' buckets p (suc (length hashes))
         ∙ ap (λ s. set s p (slot_by hashes' (suc (length hashes)))) (slots_by-same hashes' hashes buckets buckets refl (λ q l. more-by hashes h (slice_index buckets q) (whole-at hashes buckets q x.whole)))

@@ -1,5 +1,5 @@
 -- The value of a table.
-use Rattle.std.specs.Prelude.{ℕ, List, [], map, length, Option, unwrap_or}
+use Rattle.std.specs.Prelude.{ℕ, List, [], map, length, Option, Some, unwrap_or, slice_set}
 use Rattle.std.specs.Coded.{Coded, coded×, coded_list, coded_option, coded_ℕ}
 use base.Stored.{coded_via}
 use Rattle.half_store.specs.Slots.{slot_at, IsVacancyFor}
@@ -28,6 +28,10 @@ no_contents = record { slots = [] }
 -- an insertion probe for the hash ends at this bucket
 abbrev pub IsVacancyIn : Contents → ℕ → ℕ → Type 0
 IsVacancyIn c hash bucket = IsVacancyFor c.slots hash bucket
+
+-- the same once the hash is stored in this bucket
+abbrev pub with_hash_in : Contents → ℕ → ℕ → Contents
+with_hash_in c hash bucket = record { slots = slice_set c.slots bucket (Some hash) }
 
 abbrev pub contents_code : Coded Contents
 contents_code = coded_via (coded_list (coded_option coded_ℕ)) (λ c. c.slots) (λ a b e i. record { slots = e i })

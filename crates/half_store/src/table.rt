@@ -8,7 +8,7 @@ ghost use Rattle.std.specs.List.{swap_remove};
 ghost use Rattle.half_store.specs.Reach.{reach};
 ghost use Rattle.half_store.specs.Capacity.{capacity_of, IsBucketCount, capacity_for, buckets_of};
 ghost use Rattle.half_store.specs.Probe.{IfFound, OnMissing, IfVacant, looked_more, after_missing, AddsFinding};
-ghost use Rattle.half_store.specs.Table.{contents_of, IsVacancyIn, no_buckets};
+ghost use Rattle.half_store.specs.Table.{contents_of, with_hash_in, IsVacancyIn, no_buckets};
 
 pub(crate) mod buckets;
 mod deletion;
@@ -159,6 +159,7 @@ impl Table {
         requires { 0 < self.now.buckets }
         ensures vacancy { IsVacancyIn (contents_of self.now) hash result }
         ensures cost { tally.new ≡ looked_more tally.old (reach self.now.hashes self.now.buckets hash) }
+        ensures buckets { self.now.buckets ≡ buckets_of (capacity_of self.now.buckets) }
     {
         first_empty(&self.hashed_buckets(), hash, tally)
     }
@@ -174,6 +175,7 @@ impl Table {
         requires vacancy { IsVacancyIn (contents_of self.old) hash bucket }
         ensures hashes { self.new.hashes ≡ self.old.hashes ++ hash ∷ [] }
         ensures buckets { self.new.buckets ≡ self.old.buckets }
+        ensures contents { contents_of self.new ≡ with_hash_in (contents_of self.old) hash bucket }
     {
         self.buckets[bucket] = self.len() + 1;
         self.hashes.push_reserved(hash);
