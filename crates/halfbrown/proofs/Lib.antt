@@ -1,10 +1,13 @@
 pub mod CallerLemmas
+pub mod Entries
 pub mod Full
 pub mod Indices
-pub mod InsertLemmas
 pub mod Kept
 pub mod Lookups
 pub mod MapLaws
+pub mod PlaceProp
+pub mod Places
 pub mod RunLaws
 pub mod RunLemmas
 pub mod SwapOut
+pub mod Written

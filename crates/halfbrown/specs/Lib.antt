@@ -1,4 +1,6 @@
 pub mod Costs
+pub mod Entry
+pub mod EntryLending
 pub mod Form
 pub mod Growth
 pub mod Insertion
@@ -7,6 +9,7 @@ pub mod Lending
 pub mod Lookup
 pub mod MapLaws
 pub mod Pairs
+pub mod Room
 pub mod Run
 pub mod RunCost
 pub mod RunLaws

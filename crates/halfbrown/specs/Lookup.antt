@@ -1,10 +1,8 @@
 -- What a search for a key in a map returns.
-use Rattle.std.specs.Prelude.{◌≡◌, ℕ, ◌+◌, ◌<◌, nat_lt, Bool, true, false, List, [], ◌∷◌, ◌++◌, length, slice_get, None, Some, IfSome, is_none, if◌then◌else◌}
+use Rattle.std.specs.Prelude.{◌≡◌, ℕ, ◌<◌, Bool, true, false, List, [], ◌∷◌, ◌++◌, length, slice_get, None, Some, IfSome, is_none}
 use Rattle.std.specs.Map.{keys_of, values_of}
-use Rattle.half_store.specs.Capacity.{capacity_for}
 use Rattle.half_store.specs.Pairs.{index_of, set_value, swap_out}
 use Rattle.half_store.specs.Table.{Contents, IsVacancyIn}
-use Rattle.halfbrown.specs.Costs.{probe_length}
 use Rattle.halfbrown.specs.Pairs.{value_by, pair_by, holds_by, set_by, put_by, take_out_by}
 use Rattle.halfbrown.specs.State.{State, contents_of}
 use Rattle.halfbrown.specs.declared.map.lookup.Lookup.{Lookup}
@@ -59,9 +57,3 @@ IsVacancy is_vec contents hash (InTable stored bucket) = (is_vec ≡ false) × (
 abbrev pub LooksUp : {K V S : Type 0} → (K → Bool) → ℕ → State K V S → Lookup → Type 0
 LooksUp test hash m (Found index) = IsIndexOf test m.pairs index
 LooksUp test hash m (Missing vacancy) = IsAbsent test m.pairs × IsVacancy m.is_vec (contents_of m) hash vacancy × (is_unprobed vacancy ≡ true → m.capacity ≡ 0)
-
--- the buckets that adding k reads: the insertion probe where its bucket is not known, and anew where the table grows first
-abbrev pub adding_looks : {K V S : Type 0} → (K → ℕ) → State K V S → K → Bool → Bool → ℕ
-adding_looks hash m k is_unprobed granted =
-    if nat_lt (length m.pairs) m.capacity then (if is_unprobed then probe_length hash m.is_vec m.capacity m.pairs k else 0)
-    else (if granted then probe_length hash m.is_vec (capacity_for (length m.pairs + 1)) m.pairs k else 0)

@@ -28,15 +28,19 @@
 //! ```
 #![tactic(auto)]
 
+mod entry;
 mod equivalent;
 mod limit;
 mod map;
 mod refused;
 pub mod run;
 
+pub use entry::{
+    Entry, LimitedEntry, LimitedOccupiedEntry, LimitedVacantEntry, OccupiedEntry, VacantEntry,
+};
 pub use equivalent::Equivalent;
 pub use half_store::{Refusal, Tally};
 pub use limit::{Limit, UpTo};
 pub use map::{DefaultHashBuilder, HashMap, LimitedHashMap, SizedHashMap, laws};
-pub use refused::Refused;
+pub use refused::{Refused, RefusedKey};
 pub use run::{Command, Reply};

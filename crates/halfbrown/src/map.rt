@@ -3,6 +3,7 @@ ghost use Rattle.std.specs.Prelude.{◌≡◌, ◌^◌, ◌<◌, ◌↔◌, fals
 ghost use Rattle.halfbrown.specs.State.{IsState, WithPairs};
 
 mod add;
+mod at;
 mod form;
 mod get;
 mod growth;
@@ -11,6 +12,7 @@ pub mod laws;
 pub(crate) mod lookup;
 mod make;
 mod remove;
+mod room;
 mod switch;
 
 use crate::{Limit, UpTo};

@@ -1,4 +1,4 @@
-//! The error of an insertion.
+//! The errors of an insertion, and of an entry.
 ghost use Rattle.std.specs.Prelude.{◌≡◌, ◌++◌, Some, codes};
 ghost use Rattle.half_store.specs.Refusal.{text_of};
 
@@ -42,6 +42,42 @@ impl<K: Drop, V: Drop> From<Refused<K, V>> for Refusal {
     ghost from_gives = { λ refused why. why ≡ refused.why };
 
     fn from(refused: Refused<K, V>) -> Refusal {
+        refused.why
+    }
+}
+
+/// A key for which no entry was made, and why. The map is unchanged.
+///
+/// `?` converts it into a `Refusal`, and drops the key:
+///
+/// ```
+/// *ages.entry(5)?.or_insert(0) = 13;
+/// ages.reserve(1)?;
+/// ```
+///
+/// ```
+/// let key = ages.entry(6).err().map(|refused| refused.key); // none, or 6
+/// ```
+#[derive(Debug, Drop)]
+pub struct RefusedKey<K> {
+    pub key: K,
+    pub why: Refusal,
+}
+
+impl<K> fmt::Display for RefusedKey<K> {
+    ghost output = { λ refused. Some (codes "no entry was made: " ++ text_of refused.why) };
+
+    fn fmt<W: fmt::Write>(&self, f: &mut fmt::Formatter<W>) -> fmt::Result {
+        write!(f, "no entry was made: {}", self.why)
+    }
+}
+
+impl<K: fmt::Debug + Drop> Error for RefusedKey<K> {}
+
+impl<K: Drop> From<RefusedKey<K>> for Refusal {
+    ghost from_gives = { λ refused why. why ≡ refused.why };
+
+    fn from(refused: RefusedKey<K>) -> Refusal {
         refused.why
     }
 }

@@ -1,12 +1,14 @@
 //! The form of a map: a vector, or a table over the same columns.
-ghost use Rattle.std.specs.Prelude.{◌≡◌, ◌<◌, ◌≤◌, ◌↔◌, ◌⊎◌, ◌^◌, ◌∷◌, ◌++◌, true, false, max, [], length, Err, IsOk, OnOk, OnErr, if◌then◌else◌};
+ghost use Rattle.std.specs.Prelude.{◌≡◌, ◌<◌, ◌≤◌, ◌↔◌, ◌⊎◌, ◌^◌, ◌∷◌, ◌++◌, true, false, max, [], length, Err, IsOk, OnOk, OnErr};
 ghost use Rattle.std.specs.Option.{option_copied};
 ghost use Rattle.half_store.specs.Capacity.{capacity_of, capacity_for, buckets_of, buckets_for};
 ghost use Rattle.half_store.specs.Pairs.{swap_out};
 ghost use Rattle.half_store.specs.Probe.{looked_more};
 ghost use Rattle.half_store.specs.Reach.{reach};
+ghost use Rattle.half_store.specs.Table.{IsVacancyIn};
 ghost use Rattle.halfbrown.specs.Form.{form_of, vector_form, table_form};
-ghost use Rattle.halfbrown.specs.Lookup.{IsVacancy, stored_hash, is_unprobed};
+ghost use Rattle.halfbrown.specs.Lookup.{stored_hash};
+ghost use Rattle.halfbrown.specs.Room.{IsPlace, filled};
 
 use super::lookup::Vacancy;
 use half_store::table::Table;
@@ -113,24 +115,34 @@ impl Form {
         }
     }
 
-    /// Stores the hash of a pair that is added. A vector stores none.
+    /// Probes for the empty bucket of a table where a pair of this hash belongs.
     #[inline(always)]
-    pub(crate) fn add(&mut self, vacancy: Vacancy, tally: &mut Tally)
+    pub(crate) fn insertion_probe(&self, hash: u64, tally: &mut Tally) -> usize
+        requires table { self.now.is_vec ≡ false }
+        requires capacity { length self.now.hashes < capacity_of self.now.buckets }
+        ensures vacancy { IsVacancyIn self.now.contents hash result }
+        ensures work { tally.new ≡ looked_more tally.old
+            (reach self.now.hashes (buckets_of (capacity_of self.now.buckets)) hash) }
+    {
+        match &self.table {
+            Some(table) => table.insertion_probe(hash, tally),
+            None => unreachable!(),
+        }
+    }
+
+    /// Stores the hash of a pair that is added, in a bucket that is known. A vector stores none.
+    #[inline(always)]
+    pub(crate) fn add(&mut self, vacancy: Vacancy)
         requires capacity { self.old.is_vec ≡ false → length self.old.hashes < capacity_of self.old.buckets }
-        requires vacant { IsVacancy self.old.is_vec self.old.contents (stored_hash vacancy) vacancy }
+        requires place { IsPlace self.old.is_vec self.old.contents (stored_hash vacancy) vacancy }
         ensures form { self.new.is_vec ≡ self.old.is_vec }
         ensures buckets { self.new.buckets ≡ self.old.buckets }
         ensures hashes { self.old.is_vec ≡ false → self.new.hashes ≡ self.old.hashes ++ stored_hash vacancy ∷ [] }
-        ensures work { tally.new ≡ looked_more tally.old
-            (if is_unprobed vacancy then reach self.old.hashes
-            (buckets_of (capacity_of self.old.buckets)) (stored_hash vacancy) else 0) }
+        ensures contents { self.new.contents ≡ filled self.old.contents vacancy }
     {
         if let Some(table) = &mut self.table {
-            if let Vacancy::InTable(hash, bucket) = vacancy {
-                match bucket {
-                    Some(bucket) => table.add_at(hash, bucket),
-                    None => table.add(hash, tally),
-                }
+            if let Vacancy::InTable(hash, Some(bucket)) = vacancy {
+                table.add_at(hash, bucket);
             }
         }
     }

@@ -173,9 +173,9 @@ impl<K: Eq + Hash, V, S: BuildHasher, L: Limit> LimitedHashMap<K, V, S, L> {
         }
     }
 
-    // The value of the pair at this index, to be written.
+    /// The value of the pair at this index, to be written.
     #[inline(always)]
-    fn value_at_mut(&mut self, index: usize) -> &mut V
+    pub(crate) fn value_at_mut(&mut self, index: usize) -> &mut V
         requires { index < length self.old.pairs }
         ensures* writes_back { sem 𝓛 (LendsValueAt K.row V.row S.row L.row S.Hasher.row K.Hash S.BuildHasher
             S.Hasher.Hasher L.Limit self.entry index result) }

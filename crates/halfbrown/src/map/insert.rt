@@ -69,15 +69,13 @@ impl<K: Eq + Hash, V, S: BuildHasher, L: Limit> LimitedHashMap<K, V, S, L> {
             key (is_ok result) tally.old tally.new }
         ensures state { IsState K.eq L.LIMIT self.new }
     {
-        if let Err(why) = self.switch_if_full(tally) {
-            return Err(Refused { key, value, why });
-        }
-        match self.find(&key, tally) {
-            Lookup::Found(index) => Ok(Some(self.set_at(index, value))),
-            Lookup::Missing(vacancy) => {
-                self.add(key, value, vacancy, tally)?;
+        match self.prepare(&key, tally) {
+            Ok(Lookup::Found(index)) => Ok(Some(self.set_at(index, value))),
+            Ok(Lookup::Missing(vacancy)) => {
+                self.push(key, value, vacancy);
                 Ok(None)
             }
+            Err(why) => Err(Refused { key, value, why }),
         }
     }
 
@@ -124,10 +122,12 @@ impl<K: Eq + Hash, V, S: BuildHasher, L: Limit> LimitedHashMap<K, V, S, L> {
             tally.old tally.new }
         ensures state { IsState K.eq L.LIMIT self.new }
     {
-        if let Err(why) = self.switch_if_full(tally) {
-            return Err(Refused { key, value, why });
+        match self.prepare_new(&key, tally) {
+            Ok(vacancy) => {
+                self.push(key, value, vacancy);
+                Ok(())
+            }
+            Err(why) => Err(Refused { key, value, why }),
         }
-        let vacancy = self.unsearched(&key, tally);
-        self.add(key, value, vacancy, tally)
     }
 }

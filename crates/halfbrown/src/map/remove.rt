@@ -92,9 +92,9 @@ impl<K: Eq + Hash, V, S: BuildHasher, L: Limit> LimitedHashMap<K, V, S, L> {
         }
     }
 
-    // Removes the pair at this index.
+    /// Removes the pair at this index.
     #[inline]
-    fn take_at(&mut self, index: usize) -> (K, V)
+    pub(crate) fn take_at(&mut self, index: usize) -> (K, V)
         requires { index < length self.old.pairs }
         ensures taken { slice_get self.old.pairs index ≡ Some result }
         ensures value { slice_get (values_of self.old.pairs) index ≡ Some result.1 }

@@ -1,28 +1,23 @@
 use Rattle.std.proofs.Common.{sym, ap, subst, ◌∙◌}
-use Rattle.halfbrown.specs.Costs.{key_hash}
-use Rattle.halfbrown.specs.Pairs.{holds, put}
+use Rattle.halfbrown.specs.Pairs.{put}
 use Rattle.halfbrown.specs.Updates.{HasPut}
+use Rattle.halfbrown.specs.Costs.{key_hash}
+use Rattle.halfbrown.specs.Room.{IsReadyFor}
 use Rattle.halfbrown.proofs.CallerLemmas.{has_put}
-use Rattle.halfbrown.proofs.InsertLemmas.{held_costs}
 use Rattle.halfbrown.proofs.map.LimitedHashMap.insert_counted.Goals as goal
 
-pub returns-in-Found-clause-put : goal.returns-in-Found-clause-put
-returns-in-Found-clause-put g c =
+pub returns-in-Ok-Found-clause-put : goal.returns-in-Ok-Found-clause-put
+returns-in-Ok-Found-clause-put g c =
     let eq = g.K.PartialEq.eq in
+    let ready = subst (IsReadyFor eq (key_hash g.S.BuildHasher g.S.Hasher.Hasher g.K.Hash.hash_input) c.prepare.new.self c.args.key) c.in-Ok-Found.field-0-is c.in-Ok-Found.ensures.ready in
     subst (HasPut eq c.args.self.now.pairs c.args.key c.args.value)
-    (ap (λ ps. put eq ps c.args.key c.args.value) (sym c.switch_if_full.ensures.pairs) ∙ c.in-Found.ensures.found.put_is c.args.key c.args.value ∙ sym c.set_at.ensures.after.pairs)
+    (ap (λ ps. put eq ps c.args.key c.args.value) (sym c.in-Ok-Found.ensures.ok.pairs) ∙ ready.put_is c.args.key c.args.value ∙ sym c.set_at.ensures.after.pairs)
     (has_put eq g.met.K.Eq.laws c.args.self.now.pairs c.args.key c.args.value)
 
-pub returns-in-Found-clause-cost : goal.returns-in-Found-clause-cost
-returns-in-Found-clause-cost g c =
+pub returns-in-Ok-Missing-clause-put : goal.returns-in-Ok-Missing-clause-put
+returns-in-Ok-Missing-clause-put g c =
     let eq = g.K.PartialEq.eq in
-    held_costs g.L.Limit.LIMIT eq (key_hash g.S.BuildHasher g.S.Hasher.Hasher g.K.Hash.hash_input) c.args.self.now c.args.key c.switch_if_full.new.self c.args.tally.now c.switch_if_full.new.tally c.find.new.tally
-    c.in_default.ensures.form c.in_default.ensures.switched c.switch_if_full.ensures.pairs c.switch_if_full.ensures.hasher c.in_default.ensures.work c.in-Found.ensures.cost
-    (ap (λ ps. holds eq ps c.args.key) (sym c.switch_if_full.ensures.pairs) ∙ c.in-Found.ensures.found.held)
-
-pub returns-in_ok-add-in-Missing-clause-put : goal.returns-in_ok-add-in-Missing-clause-put
-returns-in_ok-add-in-Missing-clause-put g c =
-    let eq = g.K.PartialEq.eq in
+    let ready = subst (IsReadyFor eq (key_hash g.S.BuildHasher g.S.Hasher.Hasher g.K.Hash.hash_input) c.prepare.new.self c.args.key) c.in-Ok-Missing.field-0-is c.in-Ok-Missing.ensures.ready in
     subst (HasPut eq c.args.self.now.pairs c.args.key c.args.value)
-    (ap (λ ps. put eq ps c.args.key c.args.value) (sym c.switch_if_full.ensures.pairs) ∙ sym c.in_ok-add-in-Missing.ensures.ok.pairs)
+    (ap (λ ps. put eq ps c.args.key c.args.value) (sym c.in-Ok-Missing.ensures.ok.pairs) ∙ ready.absent.put_is c.args.key c.args.value ∙ sym c.push.ensures.after.pairs)
     (has_put eq g.met.K.Eq.laws c.args.self.now.pairs c.args.key c.args.value)

@@ -1,0 +1,122 @@
+-- What an entry of a key is, and what is written and removed through it.
+use Rattle.std.proofs.Common.{◌≡◌, ℕ, ◌<◌, Bool, List, [], ◌∷◌, ◌++◌, length, slice_get, Some, refl, sym, ap, subst, ◌∙◌, true≢false}
+use Rattle.std.specs.Coded.{le_prop}
+use Rattle.std.specs.Cmp.{IsEquivalence}
+use Rattle.std.specs.List.{IsDistinct}
+use Rattle.std.specs.Map.{keys_of, values_of}
+use Rattle.std.specs.declared.cmp.PartialEq as eq
+use Rattle.std.specs.declared.hash.Hash as hash
+use Rattle.std.specs.declared.hash.Hasher as hasher
+use Rattle.std.specs.declared.hash.BuildHasher as builder
+use Rattle.half_store.specs.Pairs.{set_value, swap_out}
+use Rattle.half_store.specs.Table.{Contents}
+use Rattle.halfbrown.specs.declared.entry.LimitedOccupiedEntry.{LimitedOccupiedEntry}
+use Rattle.halfbrown.specs.declared.entry.LimitedVacantEntry.{LimitedVacantEntry}
+use Rattle.halfbrown.specs.declared.limit.Limit as limits
+use Rattle.halfbrown.specs.Entry.{Occupied, Vacant, with_value, IsEntryOf, WritesPut, RemovesKey, IsWritten}
+use Rattle.halfbrown.specs.EntryLending.{with_entry_value}
+use Rattle.halfbrown.specs.Growth.{insert_needs}
+use Rattle.halfbrown.specs.Insertion.{Puts}
+use Rattle.halfbrown.specs.Lookup.{IsIndexOf, IsAbsent}
+use Rattle.halfbrown.specs.Pairs.{put, take_out}
+use Rattle.halfbrown.specs.Room.{MakesRoom, filled}
+use Rattle.halfbrown.specs.State.{State, state, contents_of, with_pairs}
+use Rattle.halfbrown.specs.Updates.{HasPut, HasRemoved}
+use Rattle.halfbrown.proofs.CallerLemmas.{has_put, has_removed}
+use Rattle.halfbrown.proofs.Kept.{keys_of-set_value}
+use Rattle.halfbrown.proofs.Written.{set_value-twice, value-set_value, swap_out-set_value}
+
+module _ {K V : Type 0} where
+  -- the pair that was just appended
+  pub set_value-last : (ps : List (K × V)) (k : K) (v w : V) → set_value (ps ++ (k, v) ∷ []) (length ps) w ≡ ps ++ (k, w) ∷ []
+  set_value-last [] k v w = refl
+  set_value-last (p ∷ ps) k v w = ap (λ l. p ∷ l) (set_value-last ps k v w)
+
+  pub value-last : (ps : List (K × V)) (k : K) (v : V) → slice_get (values_of (ps ++ (k, v) ∷ [])) (length ps) ≡ Some v
+  value-last [] k v = refl
+  value-last (p ∷ ps) k v = value-last ps k v
+
+module _ {K V S : Type 0} (limit : ℕ) (same : K → K → Bool) (laws : IsEquivalence same) (old m : State K V S) (k : K) (room : MakesRoom limit old (insert_needs limit same old k) m) where
+  put_is : (ps : List (K × V)) (v : V) → put same m.pairs k v ≡ ps → put same old.pairs k v ≡ ps
+  put_is ps v is = ap (λ qs. put same qs k v) (sym room.pairs) ∙ is
+
+  has_put_at : (ps : List (K × V)) (v : V) → put same m.pairs k v ≡ ps → HasPut same old.pairs k v ps
+  has_put_at ps v is = subst (HasPut same old.pairs k v) (put_is ps v is) (has_put same laws old.pairs k v)
+
+  puts_at : (ps : List (K × V)) (contents : Contents) (v : V) → put same m.pairs k v ≡ ps
+      → Puts limit same old k v (insert_needs limit same old k) (state m.is_vec ps m.capacity m.builder contents)
+  puts_at ps contents v is = record {
+    pairs = sym (put_is ps v is);
+    form = room.form;
+    capacity = room.capacity;
+    grantable = room.grantable;
+    builder = room.builder;
+  }
+
+  taken_is : (ps : List (K × V)) → take_out same m.pairs k ≡ ps → take_out same old.pairs k ≡ ps
+  taken_is ps is = ap (λ qs. take_out same qs k) (sym room.pairs) ∙ is
+
+  has_removed_at : (ps : List (K × V)) → IsDistinct same (keys_of m.pairs) → take_out same m.pairs k ≡ ps → HasRemoved same old.pairs k ps
+  has_removed_at ps distinct is =
+      subst (HasRemoved same old.pairs k) (taken_is ps is) (has_removed same laws old.pairs (subst (λ qs. IsDistinct same (keys_of qs)) room.pairs distinct) k)
+
+module _ {K V S L H : Type 0} {e : eq.Ghosts K} {h : hash.Ghosts K} {b : builder.Ghosts S H} {w : hasher.Ghosts H} {l : limits.Ghosts L} (limit : ℕ) (same : K → K → Bool) (laws : IsEquivalence same) (old : State K V S) where
+  -- of a held key
+  module _ (k : K) (o : LimitedOccupiedEntry K V S L H e h b w l) (room : MakesRoom limit old (insert_needs limit same old k) o.map.now) (at : IsIndexOf (same k) o.map.now.pairs o.index) where
+    pub found_entry : IsEntryOf same old.pairs k (Occupied o)
+    found_entry = subst (λ ps. IsEntryOf same ps k (Occupied o)) room.pairs (record {
+      occupied = sym at.held;
+      pair = sym at.pair;
+      value = sym at.value;
+      new_key = λ vacant. absurd (true≢false vacant);
+    })
+
+    pub found_writes : WritesPut limit same old k (Occupied o)
+    found_writes = record {
+      puts = λ v. puts_at limit same laws old o.map.now k room (set_value o.map.now.pairs o.index v) (contents_of o.map.now) v (at.put_is k v);
+      put = λ v. has_put_at limit same laws old o.map.now k room (set_value o.map.now.pairs o.index v) v (at.put_is k v);
+    }
+
+    pub found_removes : IsDistinct same (keys_of o.map.now.pairs) → RemovesKey same old.pairs k (Occupied o)
+    found_removes distinct = record {
+      pairs_left = sym (taken_is limit same laws old o.map.now k room (swap_out o.map.now.pairs o.index) at.take_is);
+      removed = has_removed_at limit same laws old o.map.now k room (swap_out o.map.now.pairs o.index) distinct at.take_is;
+    }
+
+  -- of a key that is not held
+  module _ (v : LimitedVacantEntry K V S L H e h b w l) (room : MakesRoom limit old (insert_needs limit same old v.key) v.map.now) (absent : IsAbsent (same v.key) v.map.now.pairs) where
+    pub missing_entry : IsEntryOf same old.pairs v.key (Vacant v)
+    missing_entry = subst (λ ps. IsEntryOf same ps v.key (Vacant v)) room.pairs (record {
+      occupied = sym absent.held;
+      pair = sym absent.pair;
+      value = sym absent.value;
+      new_key = λ vacant. refl;
+    })
+
+    pub missing_writes : WritesPut limit same old v.key (Vacant v)
+    missing_writes = record {
+      puts = λ value. puts_at limit same laws old v.map.now v.key room (v.map.now.pairs ++ (v.key, value) ∷ []) (filled (contents_of v.map.now) v.vacancy) value (absent.put_is v.key value);
+      put = λ value. has_put_at limit same laws old v.map.now v.key room (v.map.now.pairs ++ (v.key, value) ∷ []) value (absent.put_is v.key value);
+    }
+
+    pub missing_removes : IsDistinct same (keys_of v.map.now.pairs) → RemovesKey same old.pairs v.key (Vacant v)
+    missing_removes distinct = record {
+      pairs_left = sym (taken_is limit same laws old v.map.now v.key room v.map.now.pairs absent.take_is);
+      removed = has_removed_at limit same laws old v.map.now v.key room v.map.now.pairs distinct absent.take_is;
+    }
+
+module _ {K V S L H : Type 0} {e : eq.Ghosts K} {h : hash.Ghosts K} {b : builder.Ghosts S H} {w : hasher.Ghosts H} {l : limits.Ghosts L} (o : LimitedOccupiedEntry K V S L H e h b w l) where
+  -- the entry with this value, however it was shown that its index is within
+  pub lent_entry : (value : V) (within : o.index < length (set_value o.map.now.pairs o.index value))
+      → record { map = record o.map { now = with_value (Occupied o) value }; index = o.index; within = within } ≡ with_entry_value o value
+  lent_entry value within = λ i. record { map = record o.map { now = with_value (Occupied o) value }; index = o.index; within = le_prop within (with_entry_value o value).within i }
+
+  pub written_entry : (value : V) → IsWritten (Occupied o) value (Occupied (with_entry_value o value))
+  written_entry value = record {
+    same_map = refl;
+    map = refl;
+    value_is = value-set_value o.map.now.pairs o.index value o.within;
+    key = ap (λ ks. slice_get ks o.index) (keys_of-set_value o.map.now.pairs o.index value);
+    writes = λ v. ap (with_pairs o.map.now) (set_value-twice o.map.now.pairs o.index value v);
+    pairs_left = swap_out-set_value o.map.now.pairs o.index value;
+  }

@@ -1,0 +1,90 @@
+-- What contracts see of an entry: its key and value, and what the map is once they are written or taken out.
+pub use Rattle.halfbrown.specs.declared.entry.LimitedEntry.TheVariants.{Occupied, Vacant}
+use Rattle.std.specs.Prelude.{◌≡◌, ℕ, Bool, true, false, List, slice_get, Option, None, Some}
+use Rattle.std.specs.Borrow.{MutBor}
+use Rattle.std.specs.Map.{keys_of, values_of}
+use Rattle.std.specs.declared.cmp.PartialEq as eq
+use Rattle.std.specs.declared.hash.Hash as hash
+use Rattle.std.specs.declared.hash.Hasher as hasher
+use Rattle.std.specs.declared.hash.BuildHasher as builder
+use Rattle.half_store.specs.Pairs.{set_value, swap_out}
+use Rattle.halfbrown.specs.declared.entry.LimitedEntry.{LimitedEntry}
+use Rattle.halfbrown.specs.declared.limit.Limit as limits
+use Rattle.halfbrown.specs.declared.refused.RefusedKey.{RefusedKey}
+use Rattle.halfbrown.specs.Growth.{insert_needs, IsRefusal}
+use Rattle.halfbrown.specs.Insertion.{Puts}
+use Rattle.halfbrown.specs.Pairs.{value_of, pair_of, holds, take_out}
+use Rattle.halfbrown.specs.Room.{pushed}
+use Rattle.halfbrown.specs.State.{State, with_pairs}
+use Rattle.halfbrown.specs.Updates.{HasPut, HasRemoved}
+
+module _ {K V S L H : Type 0} {e : eq.Ghosts K} {h : hash.Ghosts K} {b : builder.Ghosts S H} {w : hasher.Ghosts H} {l : limits.Ghosts L} where
+  -- the reference to the map
+  abbrev pub map_ref : LimitedEntry K V S L H e h b w l → MutBor (State K V S)
+  map_ref (Occupied o) = o.map
+  map_ref (Vacant v) = v.map
+
+  -- the map, as it is
+  abbrev pub map_of : LimitedEntry K V S L H e h b w l → State K V S
+  map_of entry = (map_ref entry).now
+
+  -- whether the key is held
+  abbrev pub is_occupied : LimitedEntry K V S L H e h b w l → Bool
+  is_occupied (Occupied o) = true
+  is_occupied (Vacant v) = false
+
+  -- the stored key where it is held, else the key that the entry was made for
+  abbrev pub entry_key : LimitedEntry K V S L H e h b w l → Option K
+  entry_key (Occupied o) = slice_get (keys_of o.map.now.pairs) o.index
+  entry_key (Vacant v) = Some v.key
+
+  -- the value, where the key is held
+  abbrev pub entry_value : LimitedEntry K V S L H e h b w l → Option V
+  entry_value (Occupied o) = slice_get (values_of o.map.now.pairs) o.index
+  entry_value (Vacant v) = None
+
+  -- the stored pair, where the key is held
+  abbrev pub entry_pair : LimitedEntry K V S L H e h b w l → Option (K × V)
+  entry_pair (Occupied o) = slice_get o.map.now.pairs o.index
+  entry_pair (Vacant v) = None
+
+  -- the map once the key has this value
+  abbrev pub with_value : LimitedEntry K V S L H e h b w l → V → State K V S
+  with_value (Occupied o) value = with_pairs o.map.now (set_value o.map.now.pairs o.index value)
+  with_value (Vacant v) value = pushed v.map.now v.key value v.vacancy
+
+  -- the pairs once that of the key is taken out
+  abbrev pub pairs_without : LimitedEntry K V S L H e h b w l → List (K × V)
+  pairs_without (Occupied o) = swap_out o.map.now.pairs o.index
+  pairs_without (Vacant v) = v.map.now.pairs
+
+  -- the entry is that of k among these pairs
+  pub record IsEntryOf (same : K → K → Bool) (pairs : List (K × V)) (k : K) (entry : LimitedEntry K V S L H e h b w l) : Type 0 where
+    pub occupied : is_occupied entry ≡ holds same pairs k
+    pub pair : entry_pair entry ≡ pair_of same pairs k
+    pub value : entry_value entry ≡ value_of same pairs k
+    pub new_key : is_occupied entry ≡ false → entry_key entry ≡ Some k
+
+  -- a value that is written through the entry is put into the map that was, for k
+  pub record WritesPut (limit : ℕ) (same : K → K → Bool) (old : State K V S) (k : K) (entry : LimitedEntry K V S L H e h b w l) : Type 0 where
+    pub puts : (value : V) → Puts limit same old k value (insert_needs limit same old k) (with_value entry value)
+    pub put : (value : V) → HasPut same old.pairs k value (with_value entry value).pairs
+
+  -- a removal through the entry takes the pair of k out of these pairs
+  pub record RemovesKey (same : K → K → Bool) (pairs : List (K × V)) (k : K) (entry : LimitedEntry K V S L H e h b w l) : Type 0 where
+    pub pairs_left : pairs_without entry ≡ take_out same pairs k
+    pub removed : HasRemoved same pairs k (pairs_without entry)
+
+  -- the entry is the same one, and this value has been written
+  pub record IsWritten (entry : LimitedEntry K V S L H e h b w l) (value : V) (written : LimitedEntry K V S L H e h b w l) : Type 0 where
+    pub same_map : (map_ref written).ghost_name ≡ (map_ref entry).ghost_name
+    pub map : map_of written ≡ with_value entry value
+    pub value_is : entry_value written ≡ Some value
+    pub key : entry_key written ≡ entry_key entry
+    pub writes : (v : V) → with_value written v ≡ with_value entry v
+    pub pairs_left : pairs_without written ≡ pairs_without entry
+
+-- a refused entry that needed this much capacity: the key comes back with the reason
+pub record HandsBackKey {K : Type 0} (k : K) (needs : Option ℕ) (refused : RefusedKey K) : Type 0 where
+  pub why : IsRefusal needs refused.why
+  pub key : refused.key ≡ k

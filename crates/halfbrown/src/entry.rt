@@ -1,0 +1,70 @@
+//! The entry of one key: the pair that is held for it, or a place for the pair that is not.
+ghost use Rattle.std.specs.Prelude.{◌≡◌, ◌<◌, false, length};
+ghost use Rattle.halfbrown.specs.Costs.{key_hash};
+ghost use Rattle.halfbrown.specs.Pairs.{holds};
+ghost use Rattle.halfbrown.specs.Room.{IsPlace};
+ghost use Rattle.halfbrown.specs.State.{contents_of};
+
+mod debug;
+mod find;
+mod methods;
+mod occupied;
+mod vacant;
+
+use crate::map::lookup::Vacancy;
+use crate::{Limit, LimitedHashMap, UpTo};
+use std::hash::{BuildHasher, Hash};
+
+/// The entry of a key in a map that stores up to `N` pairs in a vector.
+///
+/// ```
+/// match ages.entry(1)? {
+///     Entry::Occupied(entry) => entry.remove(),
+///     Entry::Vacant(entry) => *entry.insert(36),
+/// }
+/// ```
+pub type Entry<'a, K, V, const N: usize, S> = LimitedEntry<'a, K, V, S, UpTo<N>>;
+
+/// The entry of a held key in a map that stores up to `N` pairs in a vector.
+///
+/// ```
+/// let oldest: OccupiedEntry<'_, u64, u32, 32, DefaultHashBuilder> = entry;
+/// ```
+pub type OccupiedEntry<'a, K, V, const N: usize, S> = LimitedOccupiedEntry<'a, K, V, S, UpTo<N>>;
+
+/// The entry of a key that is not held, in a map that stores up to `N` pairs in a vector.
+///
+/// ```
+/// let newest: VacantEntry<'_, u64, u32, 32, DefaultHashBuilder> = entry;
+/// ```
+pub type VacantEntry<'a, K, V, const N: usize, S> = LimitedVacantEntry<'a, K, V, S, UpTo<N>>;
+
+/// The entry of a key, by `LimitedHashMap::entry`. The map has been searched, and there is room for the pair where it is
+/// not held; so nothing fails after that, nothing is hashed, no key is compared, and no bucket is probed.
+#[derive(Drop)]
+pub enum LimitedEntry<'a, K: Eq + Hash, V, S: BuildHasher, L: Limit> {
+    /// The key is held.
+    Occupied(LimitedOccupiedEntry<'a, K, V, S, L>),
+    /// The key is not held.
+    Vacant(LimitedVacantEntry<'a, K, V, S, L>),
+}
+
+/// The pair of a held key.
+#[derive(Drop)]
+pub struct LimitedOccupiedEntry<'a, K: Eq + Hash, V, S: BuildHasher, L: Limit> {
+    map: &'a mut LimitedHashMap<K, V, S, L>,
+    index: usize,
+    ghost within: { index < length map.now.pairs },
+}
+
+/// A place for the pair of a key that is not held.
+#[derive(Drop)]
+pub struct LimitedVacantEntry<'a, K: Eq + Hash, V, S: BuildHasher, L: Limit> {
+    map: &'a mut LimitedHashMap<K, V, S, L>,
+    key: K,
+    vacancy: Vacancy,
+    ghost room: { length map.now.pairs < map.now.capacity },
+    ghost absent: { holds K.eq map.now.pairs key ≡ false },
+    ghost place: { ∥ IsPlace map.now.is_vec (contents_of map.now)
+        (key_hash S.BuildHasher S.Hasher.Hasher K.hash_input map.now.builder key) vacancy ∥₁ },
+}

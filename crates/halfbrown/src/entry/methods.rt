@@ -1,0 +1,87 @@
+//! The calls of an entry.
+ghost use Rattle.std.specs.Prelude.{◌≡◌, None, Some, IfSome, unwrap_or};
+ghost use Rattle.std.specs.Borrow.{sem, MutBor};
+ghost use Rattle.std.specs.Map.Calls.{ModifiesValue};
+ghost use Rattle.std.specs.Option.{UnwrapsOrElse};
+ghost use Rattle.halfbrown.specs.Entry.{map_ref, map_of, entry_key, entry_value, with_value, pairs_without};
+ghost use Rattle.halfbrown.specs.EntryLending.{EntryLends};
+
+use super::LimitedEntry;
+use crate::Limit;
+use std::hash::{BuildHasher, Hash};
+
+impl<'a, K: Eq + Hash, V, S: BuildHasher, L: Limit> LimitedEntry<'a, K, V, S, L> {
+    /// The stored key where it is held, else the key that the entry was made for.
+    #[inline(always)]
+    pub fn key(&self) -> &K
+        ensures { entry_key self.now ≡ Some result.now }
+    {
+        match self {
+            LimitedEntry::Occupied(entry) => entry.key(),
+            LimitedEntry::Vacant(entry) => entry.key(),
+        }
+    }
+
+    /// Adds the pair with this value where the key is not held. Returns the value that is held now, to be written for as
+    /// long as the map is borrowed.
+    #[inline]
+    pub fn or_insert(self, default: V) -> &'a mut V
+    where
+        V: Drop,
+        ensures* writes_back { sem 𝓛 (EntryLends K.row V.row S.row L.row S.Hasher.row self.entry result) }
+        ensures value { result.now ≡ unwrap_or (entry_value self.entry) default }
+    {
+        match self {
+            LimitedEntry::Occupied(entry) => entry.into_mut(),
+            LimitedEntry::Vacant(entry) => entry.insert(default),
+        }
+    }
+
+    /// `or_insert`, with a value that is made only where the key is not held.
+    #[inline]
+    pub fn or_insert_with<F: FnOnce() -> V>(self, default: F) -> &'a mut V
+        requires { entry_value self ≡ None → F.pre default }
+        ensures* writes_back { sem 𝓛 (EntryLends K.row V.row S.row L.row S.Hasher.row self.entry result) }
+        ensures value { UnwrapsOrElse (entry_value self.entry) (F.post default) result.now }
+    {
+        match self {
+            LimitedEntry::Occupied(entry) => entry.into_mut(),
+            LimitedEntry::Vacant(entry) => entry.insert(default()),
+        }
+    }
+
+    /// `or_insert` of the type's default value, which is made only where the key is not held.
+    #[inline]
+    pub fn or_default(self) -> &'a mut V
+    where
+        V: Default,
+        ensures* writes_back { sem 𝓛 (EntryLends K.row V.row S.row L.row S.Hasher.row self.entry result) }
+        ensures value { UnwrapsOrElse (entry_value self.entry) V.is_default result.now }
+    {
+        match self {
+            LimitedEntry::Occupied(entry) => entry.into_mut(),
+            LimitedEntry::Vacant(entry) => entry.insert(V::default()),
+        }
+    }
+
+    /// Changes the value where the key is held, and returns the entry.
+    #[inline]
+    pub fn and_modify<F: FnOnce(&mut V)>(self, f: F) -> LimitedEntry<'a, K, V, S, L>
+        requires { (lent : MutBor V) → entry_value self ≡ Some lent.now → F.pre f lent }
+        ensures modified { ModifiesValue F.FnOnce f (entry_value self.entry) (entry_value result) }
+        ensures same_map { (map_ref result).ghost_name ≡ (map_ref self.entry).ghost_name }
+        ensures key { entry_key result ≡ entry_key self.entry }
+        ensures writes { (value : V) → with_value result value ≡ with_value self.entry value }
+        ensures pairs_left { pairs_without result ≡ pairs_without self.entry }
+        ensures vacant { entry_value self.entry ≡ None → map_of result ≡ map_of self.entry }
+        ensures occupied { IfSome (entry_value result) (λ value. map_of result ≡ with_value self.entry value) }
+    {
+        match self {
+            LimitedEntry::Occupied(mut entry) => {
+                f(entry.get_mut());
+                LimitedEntry::Occupied(entry)
+            }
+            LimitedEntry::Vacant(entry) => LimitedEntry::Vacant(entry),
+        }
+    }
+}

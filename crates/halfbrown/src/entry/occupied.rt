@@ -1,0 +1,84 @@
+//! The calls of an occupied entry.
+ghost use Rattle.std.specs.Prelude.{◌≡◌, Some};
+ghost use Rattle.std.specs.Borrow.{sem};
+ghost use Rattle.halfbrown.specs.Entry.{Occupied, entry_key, entry_pair, entry_value, map_of, pairs_without, IsWritten};
+ghost use Rattle.halfbrown.specs.EntryLending.{EntryLends, OccupiedLends, with_entry_value};
+ghost use Rattle.halfbrown.specs.State.{IsState, WithPairs};
+
+use super::LimitedOccupiedEntry;
+use crate::Limit;
+use std::hash::{BuildHasher, Hash};
+
+impl<'a, K: Eq + Hash, V, S: BuildHasher, L: Limit> LimitedOccupiedEntry<'a, K, V, S, L> {
+    /// The stored key.
+    #[inline(always)]
+    pub fn key(&self) -> &K
+        ensures { entry_key (Occupied self.now) ≡ Some result.now }
+    {
+        self.map.key_at(self.index)
+    }
+
+    /// Its value.
+    #[inline(always)]
+    pub fn get(&self) -> &V
+        ensures { entry_value (Occupied self.now) ≡ Some result.now }
+    {
+        self.map.value_at(self.index)
+    }
+
+    /// Its value, to be written.
+    #[inline(always)]
+    pub fn get_mut(&mut self) -> &mut V
+        ensures* writes_back { sem 𝓛 (OccupiedLends K.row V.row S.row L.row S.Hasher.row self.entry result) }
+        ensures value { entry_value (Occupied self.old) ≡ Some result.now }
+        ensures written { (w : V) → IsWritten (Occupied self.old) w (Occupied (with_entry_value self.old w)) }
+    {
+        let index = self.index;
+        self.map.value_at_mut(index)
+    }
+
+    /// Its value, to be written for as long as the map is borrowed.
+    #[inline(always)]
+    pub fn into_mut(self) -> &'a mut V
+        ensures* writes_back { sem 𝓛 (EntryLends K.row V.row S.row L.row S.Hasher.row (Occupied self.entry) result) }
+        ensures value { entry_value (Occupied self.entry) ≡ Some result.now }
+    {
+        let map = self.map;
+        map.value_at_mut(self.index)
+    }
+
+    /// Replaces its value, and returns the old one.
+    #[inline(always)]
+    pub fn insert(&mut self, value: V) -> V
+        ensures old { entry_value (Occupied self.old) ≡ Some result }
+        ensures written { IsWritten (Occupied self.old) value (Occupied self.new) }
+    {
+        std::mem::replace(self.get_mut(), value)
+    }
+
+    /// Removes the pair, and returns its value.
+    #[inline]
+    pub fn remove(self) -> V
+    where
+        K: Drop,
+        ensures value { entry_value (Occupied self.entry) ≡ Some result }
+        ensures after { WithPairs (map_of (Occupied self.entry)) (pairs_without (Occupied self.entry))
+            self.exit.0.now }
+        ensures state { IsState K.eq L.LIMIT self.exit.0.now }
+    {
+        self.remove_entry().1
+    }
+
+    /// Removes the pair, and returns the stored key and the value.
+    #[inline]
+    pub fn remove_entry(self) -> (K, V)
+        ensures pair { entry_pair (Occupied self.entry) ≡ Some result }
+        ensures value { entry_value (Occupied self.entry) ≡ Some result.1 }
+        ensures after { WithPairs (map_of (Occupied self.entry)) (pairs_without (Occupied self.entry))
+            self.exit.0.now }
+        ensures state { IsState K.eq L.LIMIT self.exit.0.now }
+    {
+        let index = self.index;
+        self.map.take_at(index)
+    }
+}
