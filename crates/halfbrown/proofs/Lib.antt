@@ -2,6 +2,7 @@ pub mod CallerLemmas
 pub mod Entries
 pub mod Full
 pub mod Indices
+pub mod InsertLemmas
 pub mod Kept
 pub mod Lookups
 pub mod MapLaws

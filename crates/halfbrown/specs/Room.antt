@@ -1,5 +1,5 @@
 -- Room for one pair more: what each call that adds a pair makes first, and what adding the pair there leaves.
-use Rattle.std.specs.Prelude.{◌≡◌, ℕ, ◌+◌, ◌<◌, nat_lt, Bool, false, List, [], ◌∷◌, ◌++◌, length, Option, None, Some, if◌then◌else◌}
+use Rattle.std.specs.Prelude.{◌≡◌, ℕ, ◌+◌, ◌<◌, nat_lt, Bool, false, [], ◌∷◌, ◌++◌, length, Option, None, Some, if◌then◌else◌}
 use Rattle.half_store.specs.Capacity.{capacity_for}
 use Rattle.half_store.specs.Table.{Contents, with_hash_in}
 use Rattle.halfbrown.specs.Costs.{probe_length_by}

@@ -53,7 +53,10 @@ impl<K: Eq + Hash, V, S: BuildHasher, L: Limit> LimitedHashMap<K, V, S, L> {
         ensures state { IfOk result (λ e. IsState K.eq L.LIMIT (map_of e)) }
     {
         match self.prepare(&key, tally) {
-            Ok(Lookup::Found(index)) => Ok(LimitedEntry::Occupied(LimitedOccupiedEntry { map: self, index })),
+            Ok(Lookup::Found(index)) => Ok(LimitedEntry::Occupied(LimitedOccupiedEntry {
+                map: self,
+                index,
+            })),
             Ok(Lookup::Missing(vacancy)) => Ok(LimitedEntry::Vacant(LimitedVacantEntry {
                 map: self,
                 key,

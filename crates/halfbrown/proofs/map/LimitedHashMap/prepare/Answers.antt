@@ -1,0 +1,13 @@
+use Rattle.std.proofs.Common.{sym, ap, ◌∙◌}
+use Rattle.halfbrown.specs.Costs.{key_hash}
+use Rattle.halfbrown.specs.Pairs.{holds}
+use Rattle.halfbrown.proofs.InsertLemmas.{held_costs}
+use Rattle.halfbrown.proofs.map.LimitedHashMap.prepare.Goals as goal
+
+pub returns-in-Found-clause-cost : goal.returns-in-Found-clause-cost
+returns-in-Found-clause-cost g c =
+    let eq = g.K.PartialEq.eq in
+    let switched = c.in_ok-switch_if_full.ensures in
+    held_costs g.L.Limit.LIMIT eq (key_hash g.S.BuildHasher g.S.Hasher.Hasher g.K.Hash.hash_input) c.args.self.now c.args.key.now c.switch_if_full.new.self c.args.tally.now c.switch_if_full.new.tally c.find.new.tally
+    switched.form switched.switched switched.pairs switched.hasher switched.work c.in-Found.ensures.cost
+    (ap (λ ps. holds eq ps c.args.key.now) (sym switched.pairs) ∙ c.in-Found.ensures.found.held)
