@@ -217,7 +217,7 @@ fn an_overwrite_at_limit_one_makes_a_table(rt: HostRuntime) -> Result<(), Fail> 
 }
 
 #[test]
-fn a_run_of_all_commands_switches_at_a_new_pair_alone(rt: HostRuntime) -> Result<(), Fail> {
+fn a_run_of_all_commands_switches_at_an_entry(rt: HostRuntime) -> Result<(), Fail> {
     let counts = Counts::new();
     let key = |id| counts.key(id);
     let mut map = counts.map::<2>(rt.alloc(), Rule::Plain);
@@ -226,8 +226,10 @@ fn a_run_of_all_commands_switches_at_a_new_pair_alone(rt: HostRuntime) -> Result
         Command::InsertNew(key(16), 2),
         Command::InsertNew(key(8), 9),
         Command::IsVec,
-        Command::InsertNew(key(24), 3),
+        Command::EntryOrInsert(key(8), 7),
         Command::IsVec,
+        Command::InsertNew(key(24), 3),
+        Command::EntryOrInsert(key(24), 4),
         Command::Get(key(24)),
         Command::Remove(key(16)),
         Command::Len,
@@ -245,8 +247,10 @@ fn a_run_of_all_commands_switches_at_a_new_pair_alone(rt: HostRuntime) -> Result
         Reply::Added,
         Reply::Present(key(8), 9),
         Reply::Form(true),
-        Reply::Added,
+        Reply::Value(1),
         Reply::Form(false),
+        Reply::Added,
+        Reply::Value(3),
         Reply::Found(Some(3)),
         Reply::Removed(Some((key(16), 2))),
         Reply::Length(2),
@@ -258,8 +262,8 @@ fn a_run_of_all_commands_switches_at_a_new_pair_alone(rt: HostRuntime) -> Result
     ];
     assert_same(
         counts.take().0,
-        5,
-        "three for the switch, one for a look-up, one for a removal",
+        8,
+        "three for the first entry and its switch, two for a new pair, one each for an entry, a look-up and a removal",
     )?;
     assert_same(replies.as_slice(), wanted.as_slice(), "the replies")?;
     Ok(())

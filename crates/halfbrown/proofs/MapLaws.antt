@@ -14,7 +14,7 @@ use Rattle.half_store.proofs.ReachLemmas.{reach-none}
 use Rattle.half_store.proofs.CapacityLemmas.{four-le_count, buckets_for-least, buckets_of-capacity_of, capacity_for-capacity_of}
 use Rattle.half_store.proofs.TableLaws.{history_law as reach_history, crowding_law}
 use Rattle.halfbrown.specs.declared.run.Command.{Command}
-use Rattle.halfbrown.specs.declared.run.Command.TheVariants.{Insert, InsertNew, Get, Remove, Clear, Reserve, Shrink, IsVec, Len}
+use Rattle.halfbrown.specs.declared.run.Command.TheVariants.{Insert, InsertNew, EntryOrInsert, Get, Remove, Clear, Reserve, Shrink, IsVec, Len}
 use Rattle.halfbrown.specs.Costs.{Range, Cost, GrewBy, GrewWithin, exactly, between, add_ranges, no_cost, search_asked, candidates, probe_length, comparisons_in_order, search_compares, search_looks, search_cost_of, insert_cost, unchecked_cost, insertion_probe_looks, is_switch_refused, capacity_switched, capacity_grown, addition_grows, SearchCosts, InsertCosts}
 use Rattle.halfbrown.specs.MapLaws.{HoldSamePairs, GrewExactlyBy, HistoryLaw, InsertionHistoryLaw, CrowdedSearchLaw, CrowdedInsertionLaw, CrowdedProbeLaw, CrowdedGrowthLaw, CrowdedUncheckedLaw, CommandCostLaw, CommandHashesLaw, CommandBucketsLaw, finds_in_vector}
 use Rattle.halfbrown.specs.Growth.{is_full, stays_vec}
@@ -285,6 +285,7 @@ module _ {K V S : Type 0} (hash : S → K → ℕ) where
       hashes-same : (command : Command K V) (refused : Bool) → (command_cost limit eq hash first command refused).asked ≡ (command_cost limit eq hash second command refused).asked
       hashes-same (Insert k v) refused = insert-asked k (not refused)
       hashes-same (InsertNew k v) refused = ap (λ cost. search_asked is_vec + cost.asked) (added-same k (not refused))
+      hashes-same (EntryOrInsert k v) refused = insert-asked k (not refused)
       hashes-same (Get k) refused = refl
       hashes-same (Remove k) refused = refl
       hashes-same Clear refused = refl
@@ -296,6 +297,7 @@ module _ {K V S : Type 0} (hash : S → K → ℕ) where
       buckets-same : (command : Command K V) (refused : Bool) → (command_cost limit eq hash first command refused).looked ≡ (command_cost limit eq hash second command refused).looked
       buckets-same (Insert k v) refused = insert-looked k (not refused)
       buckets-same (InsertNew k v) refused = λ i. add_ranges (search-looked k i) (added-same k (not refused) i).looked
+      buckets-same (EntryOrInsert k v) refused = insert-looked k (not refused)
       buckets-same (Get k) refused = search-looked k
       buckets-same (Remove k) refused = search-looked k
       buckets-same Clear refused = refl
@@ -308,6 +310,7 @@ module _ {K V S : Type 0} (hash : S → K → ℕ) where
           → (command_cost limit eq hash first command refused).compared ≡ (command_cost limit eq hash second command refused).compared
       compared-same (Insert k v) refused none = insert-compared k (not refused) none
       compared-same (InsertNew k v) refused none = λ i. add_ranges (search-compared k none i) (added-same k (not refused) i).compared
+      compared-same (EntryOrInsert k v) refused none = insert-compared k (not refused) none
       compared-same (Get k) refused none = search-compared k none
       compared-same (Remove k) refused none = search-compared k none
       compared-same Clear refused none = refl

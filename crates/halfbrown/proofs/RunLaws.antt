@@ -1,17 +1,17 @@
 -- The laws of runs, by induction over the commands.
-use Rattle.std.proofs.Common.{◌≡◌, ◌∙◌, ℕ, ◌+◌, ◌⊎◌, inl, inr, Bool, true, false, true≢false, not, ◌&&◌, ◌||◌, ◌==◌, List, get_or, drop, unwrap_or, [], ◌∷◌, map, length, Option, None, Some, ap, sym, refl, arith, if◌then◌else◌}
+use Rattle.std.proofs.Common.{◌≡◌, ◌∙◌, ℕ, ◌+◌, ◌⊎◌, inl, inr, Bool, true, false, true≢false, not, ◌&&◌, ◌||◌, ◌==◌, List, get_or, drop, unwrap_or, [], ◌∷◌, map, length, Option, None, Some, ap, sym, refl, subst, arith, if◌then◌else◌}
 use Rattle.std.specs.Prelude.{MatchBool, is_some}
 use Rattle.half_store.specs.declared.refusal.Refusal.{Refusal}
 use Rattle.halfbrown.specs.declared.run.Command.{Command}
-use Rattle.halfbrown.specs.declared.run.Command.TheVariants.{Insert, InsertNew, Get, Remove, Clear, Reserve, Shrink, IsVec, Len}
+use Rattle.halfbrown.specs.declared.run.Command.TheVariants.{Insert, InsertNew, EntryOrInsert, Get, Remove, Clear, Reserve, Shrink, IsVec, Len}
 use Rattle.halfbrown.specs.declared.run.Reply.{Reply}
-use Rattle.halfbrown.specs.declared.run.Reply.TheVariants.{Was, Added, Present, Found, Removed, Done, Form, Length, Refused}
+use Rattle.halfbrown.specs.declared.run.Reply.TheVariants.{Was, Added, Present, Value, Found, Removed, Done, Form, Length, Refused}
 use Rattle.halfbrown.specs.Costs.{Cost, no_cost, add_costs, search_asked, search_cost_of, unchecked_cost}
 use Rattle.halfbrown.specs.Growth.{is_full, insert_needs, unchecked_needs}
 use Rattle.halfbrown.specs.Insertion.{Puts}
 use Rattle.halfbrown.specs.Pairs.{holds, put, take_out}
 use Rattle.halfbrown.specs.State.{State}
-use Rattle.halfbrown.specs.Step.{Steps, Leaves, granted_reply, refusal_in, is_refused}
+use Rattle.halfbrown.specs.Step.{value_or, Steps, Leaves, granted_reply, refusal_in, is_refused}
 use Rattle.halfbrown.specs.RunCost.{command_cost}
 use Rattle.halfbrown.specs.Run.{Runs}
 use Rattle.halfbrown.specs.RunLaws.{is_put, IsAlike, has_switched}
@@ -58,6 +58,7 @@ granted_new k v false = refl
 granted_is : {K V : Type 0} (eq : K → K → Bool) (is_vec : Bool) (pairs : List (K × V)) (command : Command K V) → refusal_in (granted_reply eq is_vec pairs command) ≡ None
 granted_is eq is_vec pairs (Insert k v) = refl
 granted_is eq is_vec pairs (InsertNew k v) = granted_new k v (holds eq pairs k)
+granted_is eq is_vec pairs (EntryOrInsert k v) = refl
 granted_is eq is_vec pairs (Get k) = refl
 granted_is eq is_vec pairs (Remove k) = refl
 granted_is eq is_vec pairs Clear = refl
@@ -83,6 +84,7 @@ module _ {K V S : Type 0} (limit : ℕ) (eq : K → K → Bool) where
   one_of_both old new command (Was before) step = inl step
   one_of_both old new command Added step = inl step
   one_of_both old new command (Present key value) step = inl step
+  one_of_both old new command (Value value) step = inl step
   one_of_both old new command (Found value) step = inl step
   one_of_both old new command (Removed pair) step = inl step
   one_of_both old new command Done step = inl step
@@ -98,6 +100,7 @@ module _ {K V S : Type 0} (limit : ℕ) (eq : K → K → Bool) where
       → new.is_vec ≡ vec_after old.is_vec (is_full limit old) (is_put (granted_reply eq old.is_vec old.pairs command))
   form_left old new (Insert k v) leaves = leaves.form
   form_left old new (InsertNew k v) leaves = form_left_new old new k v (holds eq old.pairs k) leaves
+  form_left old new (EntryOrInsert k v) leaves = leaves.form
   form_left old new (Get k) leaves = ap (λ m. m.is_vec) leaves
   form_left old new (Remove k) leaves = leaves.form
   form_left old new Clear leaves = leaves.form
@@ -139,6 +142,9 @@ module _ {K V S : Type 0} (limit : ℕ) (eq : K → K → Bool) where
   leaves_alike : (a b a_new b_new : State K V S) → IsAlike a b → (command : Command K V) → Leaves limit eq a command a_new → Leaves limit eq b command b_new → IsAlike a_new b_new
   leaves_alike a b a_new b_new alike (Insert k v) a_leaves b_leaves = put_alike a b a_new b_new alike k v (insert_needs limit eq a k) (insert_needs limit eq b k) a_leaves b_leaves
   leaves_alike a b a_new b_new alike (InsertNew k v) a_leaves b_leaves = new_alike a b a_new b_new alike k v (holds eq a.pairs k) (holds eq b.pairs k) (ap (λ ps. holds eq ps k) alike.pairs) a_leaves b_leaves
+  leaves_alike a b a_new b_new alike (EntryOrInsert k v) a_leaves b_leaves =
+      put_alike a b a_new b_new alike k (value_or eq a.pairs k v) (insert_needs limit eq a k) (insert_needs limit eq b k) a_leaves
+      (subst (λ ps. Puts limit eq b k (value_or eq ps k v) (insert_needs limit eq b k) b_new) (sym alike.pairs) b_leaves)
   leaves_alike a b a_new b_new alike (Get k) a_leaves b_leaves = same_alike a b a_new b_new alike a_leaves b_leaves
   leaves_alike a b a_new b_new alike (Remove k) a_leaves b_leaves = record {
     form = a_leaves.form ∙ alike.form ∙ sym b_leaves.form;
@@ -180,6 +186,7 @@ module _ {K V S : Type 0} (limit : ℕ) (eq : K → K → Bool) (hash : S → K 
       → (command_cost limit eq hash old command refused).asked ≡ 0
   command_asked old (Insert k v) refused form stays = asked_nothing limit old.is_vec (is_full limit old) (not refused) form stays
   command_asked old (InsertNew k v) refused form stays = new_asked old k v (holds eq old.pairs k) refused form stays
+  command_asked old (EntryOrInsert k v) refused form stays = asked_nothing limit old.is_vec (is_full limit old) (not refused) form stays
   command_asked old (Get k) refused form stays = ap search_asked form
   command_asked old (Remove k) refused form stays = ap search_asked form
   command_asked old Clear refused form stays = refl

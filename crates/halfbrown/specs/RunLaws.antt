@@ -2,7 +2,7 @@
 use Rattle.std.specs.Prelude.{◌≡◌, ℕ, Bool, true, false, not, ◌&&◌, ◌||◌, List, [], ◌∷◌, map}
 use Rattle.halfbrown.specs.declared.run.Command.{Command}
 use Rattle.halfbrown.specs.declared.run.Reply.{Reply}
-use Rattle.halfbrown.specs.declared.run.Reply.TheVariants.{Was, Added}
+use Rattle.halfbrown.specs.declared.run.Reply.TheVariants.{Was, Added, Value}
 use Rattle.halfbrown.specs.Growth.{is_full}
 use Rattle.halfbrown.specs.Run.{Runs}
 use Rattle.halfbrown.specs.Costs.{Cost}
@@ -13,6 +13,7 @@ use Rattle.halfbrown.specs.Step.{refusal_in}
 abbrev pub is_put : {K V : Type 0} → Reply K V → Bool
 is_put (Was before) = true
 is_put Added = true
+is_put (Value value) = true
 is_put reply = false
 
 -- two states have the same form, and the same pairs in the same order

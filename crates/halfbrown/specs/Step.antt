@@ -1,19 +1,24 @@
 -- What one command replies and does.
-use Rattle.std.specs.Prelude.{◌≡◌, ℕ, ◌+◌, Bool, List, [], length, Option, None, Some, is_some, MatchBool, if◌then◌else◌}
+use Rattle.std.specs.Prelude.{◌≡◌, ℕ, ◌+◌, Bool, List, [], length, Option, None, Some, is_some, unwrap_or, MatchBool, if◌then◌else◌}
 use Rattle.half_store.specs.declared.refusal.Refusal.{Refusal}
 use Rattle.halfbrown.specs.declared.run.Command.{Command}
-use Rattle.halfbrown.specs.declared.run.Command.TheVariants.{Insert, InsertNew, Get, Remove, Clear, Reserve, Shrink, IsVec, Len}
+use Rattle.halfbrown.specs.declared.run.Command.TheVariants.{Insert, InsertNew, EntryOrInsert, Get, Remove, Clear, Reserve, Shrink, IsVec, Len}
 use Rattle.halfbrown.specs.declared.run.Reply.{Reply}
-use Rattle.halfbrown.specs.declared.run.Reply.TheVariants.{Was, Added, Present, Found, Removed, Done, Form, Length, Refused}
+use Rattle.halfbrown.specs.declared.run.Reply.TheVariants.{Was, Added, Present, Value, Found, Removed, Done, Form, Length, Refused}
 use Rattle.halfbrown.specs.Growth.{insert_needs, unchecked_needs, reserve_needs, IsRefusal, Reserves, Shrinks}
 use Rattle.halfbrown.specs.Insertion.{Puts}
 use Rattle.halfbrown.specs.Pairs.{value_of, pair_of, holds, take_out}
 use Rattle.halfbrown.specs.State.{State, WithPairs}
 
+-- the value of k where it is held, else v: putting it changes no pair that is held
+abbrev pub value_or : {K V : Type 0} → (K → K → Bool) → List (K × V) → K → V → V
+value_or eq pairs k v = unwrap_or (value_of eq pairs k) v
+
 -- the reply to a granted command: the form and the pairs in order decide it
 abbrev pub granted_reply : {K V : Type 0} → (K → K → Bool) → Bool → List (K × V) → Command K V → Reply K V
 granted_reply eq is_vec pairs (Insert k v) = Was (value_of eq pairs k)
 granted_reply eq is_vec pairs (InsertNew k v) = if holds eq pairs k then Present k v else Added
+granted_reply eq is_vec pairs (EntryOrInsert k v) = Value (value_or eq pairs k v)
 granted_reply eq is_vec pairs (Get k) = Found (value_of eq pairs k)
 granted_reply eq is_vec pairs (Remove k) = Removed (pair_of eq pairs k)
 granted_reply eq is_vec pairs Clear = Done
@@ -27,6 +32,7 @@ module _ {K V S : Type 0} (limit : ℕ) (eq : K → K → Bool) where
   abbrev pub command_needs : State K V S → Command K V → Option ℕ
   command_needs m (Insert k v) = insert_needs limit eq m k
   command_needs m (InsertNew k v) = if holds eq m.pairs k then None else unchecked_needs limit m
+  command_needs m (EntryOrInsert k v) = insert_needs limit eq m k
   command_needs m (Reserve additional) = reserve_needs limit m (length m.pairs + additional)
   command_needs m command = None
 
@@ -34,6 +40,7 @@ module _ {K V S : Type 0} (limit : ℕ) (eq : K → K → Bool) where
   abbrev pub Leaves : State K V S → Command K V → State K V S → Type 0
   Leaves old (Insert k v) new = Puts limit eq old k v (insert_needs limit eq old k) new
   Leaves old (InsertNew k v) new = MatchBool (holds eq old.pairs k) (new ≡ old) (Puts limit eq old k v (unchecked_needs limit old) new)
+  Leaves old (EntryOrInsert k v) new = Puts limit eq old k (value_or eq old.pairs k v) (insert_needs limit eq old k) new
   Leaves old (Get k) new = new ≡ old
   Leaves old (Remove k) new = WithPairs old (take_out eq old.pairs k) new
   Leaves old Clear new = WithPairs old [] new

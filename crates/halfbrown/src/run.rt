@@ -2,13 +2,12 @@
 ghost use Rattle.std.specs.Prelude.{◌≡◌, true, false, [], IsOk, IfOk, IfErr, OnErr};
 ghost use Rattle.halfbrown.specs.Costs.{Cost, GrewBy, key_hash};
 ghost use Rattle.halfbrown.specs.Run.{Runs};
-ghost use Rattle.halfbrown.specs.State.{IsState};
 ghost use Rattle.halfbrown.specs.RunCost.{command_cost};
 ghost use Rattle.halfbrown.specs.Step.{Steps, is_refused};
 
 pub mod laws;
 
-use crate::{Limit, LimitedHashMap, Refused};
+use crate::{Limit, LimitedHashMap, Refused, RefusedKey};
 use half_store::{Refusal, Tally};
 use std::alloc::Global;
 use std::hash::{BuildHasher, Hash};
@@ -20,6 +19,8 @@ pub enum Command<K, V> {
     Insert(K, V),
     /// `contains_key`, and `insert_nocheck` where the key is not held.
     InsertNew(K, V),
+    /// `entry`, and `or_insert` through it.
+    EntryOrInsert(K, V),
     /// `get`.
     Get(K),
     /// `remove_entry`.
@@ -45,6 +46,8 @@ pub enum Reply<K, V> {
     Added,
     /// An equal key was held, so the pair comes back.
     Present(K, V),
+    /// The value that the key has now: the one that it had, or the one that was inserted.
+    Value(V),
     /// The value of the key, or none where it is not held.
     Found(Option<V>),
     /// The pair that was removed, or none where the key was not held.
@@ -117,6 +120,7 @@ pub fn run_counted<K: Eq + Hash + Drop, V: Copy, S: BuildHasher, L: Limit>(
     let mut left = commands.into_iter();
     while let Some(command) = left.next() {
         replies.push_reserved(step(map, command, tally));
+        let _ = map.len(); // tells the prover what holds of every map, and does nothing
     }
     left.destroy_empty();
     Ok(replies)
@@ -129,7 +133,6 @@ fn step<K: Eq + Hash + Drop, V: Copy, S: BuildHasher, L: Limit>(
     tally: &mut Tally,
 ) -> Reply<K, V>
     ensures step { Steps L.LIMIT K.eq map.old command result map.new }
-    ensures state { IsState K.eq L.LIMIT map.new }
     ensures cost { GrewBy (command_cost L.LIMIT K.eq (key_hash S.BuildHasher S.Hasher.Hasher K.hash_input)
         map.old command (is_refused result)) tally.old tally.new }
 {
@@ -139,6 +142,7 @@ fn step<K: Eq + Hash + Drop, V: Copy, S: BuildHasher, L: Limit>(
             Err(Refused { key, value, why }) => Reply::Refused(Command::Insert(key, value), why),
         },
         Command::InsertNew(key, value) => insert_new(map, key, value, tally),
+        Command::EntryOrInsert(key, value) => entry_or_insert(map, key, value, tally),
         Command::Clear => {
             map.clear();
             Reply::Done
@@ -166,7 +170,6 @@ fn insert_new<K: Eq + Hash + Drop, V: Copy, S: BuildHasher, L: Limit>(
     tally: &mut Tally,
 ) -> Reply<K, V>
     ensures step { Steps L.LIMIT K.eq map.old (Command.InsertNew key value) result map.new }
-    ensures state { IsState K.eq L.LIMIT map.new }
     ensures cost { GrewBy (command_cost L.LIMIT K.eq (key_hash S.BuildHasher S.Hasher.Hasher K.hash_input)
         map.old (Command.InsertNew key value) (is_refused result)) tally.old tally.new }
 {
@@ -176,5 +179,22 @@ fn insert_new<K: Eq + Hash + Drop, V: Copy, S: BuildHasher, L: Limit>(
     match map.insert_nocheck_counted(key, value, tally) {
         Ok(()) => Reply::Added,
         Err(Refused { key, value, why }) => Reply::Refused(Command::InsertNew(key, value), why),
+    }
+}
+
+// Inserts a pair where the key is not held, by one search.
+fn entry_or_insert<K: Eq + Hash + Drop, V: Copy, S: BuildHasher, L: Limit>(
+    map: &mut LimitedHashMap<K, V, S, L>,
+    key: K,
+    value: V,
+    tally: &mut Tally,
+) -> Reply<K, V>
+    ensures step { Steps L.LIMIT K.eq map.old (Command.EntryOrInsert key value) result map.new }
+    ensures cost { GrewBy (command_cost L.LIMIT K.eq (key_hash S.BuildHasher S.Hasher.Hasher K.hash_input)
+        map.old (Command.EntryOrInsert key value) (is_refused result)) tally.old tally.new }
+{
+    match map.entry_counted(key, tally) {
+        Ok(entry) => Reply::Value(*entry.or_insert(value)),
+        Err(refused) => Reply::Refused(Command::EntryOrInsert(refused.key, value), refused.why),
     }
 }

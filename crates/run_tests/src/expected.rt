@@ -103,7 +103,7 @@ impl Expected {
         before: usize,
     ) -> Capacities {
         let needed = match command {
-            Command::Insert(key, _) => self.insert_needs(key),
+            Command::Insert(key, _) | Command::EntryOrInsert(key, _) => self.insert_needs(key),
             Command::InsertNew(key, _) if self.index_of(key).is_none() => self.addition_needs(),
             Command::Reserve(additional) => self.reserve_needs(additional),
             Command::Shrink => return Capacities::exactly(self.least_capacity()),
@@ -129,6 +129,7 @@ impl Expected {
         Ok(match command {
             Command::Insert(key, value) => self.insert(key, value)?,
             Command::InsertNew(key, value) => self.insert_new(key, value)?,
+            Command::EntryOrInsert(key, value) => self.entry_or_insert(key, value)?,
             Command::Get(key) => self.get(key),
             Command::Remove(key) => self.remove(key),
             Command::Clear => {
@@ -158,6 +159,25 @@ impl Expected {
             }
         };
         Ok((Reply::Was(old), work))
+    }
+
+    // As an insertion, but a held key keeps its value.
+    fn entry_or_insert(
+        &mut self,
+        key: Name,
+        value: u64,
+    ) -> Result<(Reply<Name, u64>, Work), AllocError> {
+        let switch = self.switch_if_full();
+        let work = self.search_work(key).plus(switch);
+        let found = self.index_of(key);
+        let value = match found.and_then(|index| self.pairs.get(index)) {
+            Some(pair) => pair.1,
+            None => {
+                self.pairs.push((key, value))?;
+                value
+            }
+        };
+        Ok((Reply::Value(value), work))
     }
 
     // A search in the form before, and where it finds none an insertion that searches nothing and hashes once in a table.

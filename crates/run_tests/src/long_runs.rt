@@ -26,9 +26,10 @@ fn commands(alloc: Global) -> Result<Vec<Command<Name, u64>>, AllocError> {
             .wrapping_add(1_442_695_040_888_963_407);
         let id = (state >> 20) % KEYS;
         commands.push(match state >> 56 {
-            0..=89 => Command::Insert((id, number), number),
-            90..=134 => Command::InsertNew((id, number), number),
-            135..=167 => Command::Get((id, number)),
+            0..=74 => Command::Insert((id, number), number),
+            75..=119 => Command::InsertNew((id, number), number),
+            120..=139 => Command::EntryOrInsert((id, number), number),
+            140..=167 => Command::Get((id, number)),
             168..=199 => Command::Remove((id, number)),
             200..=202 => Command::Clear,
             203..=214 => Command::Reserve(id as usize),

@@ -16,6 +16,7 @@ pub(crate) fn with_counting_key(
     match command {
         Command::Insert(key, value) => Command::Insert(counting(key), value),
         Command::InsertNew(key, value) => Command::InsertNew(counting(key), value),
+        Command::EntryOrInsert(key, value) => Command::EntryOrInsert(counting(key), value),
         Command::Get(key) => Command::Get(counting(key)),
         Command::Remove(key) => Command::Remove(counting(key)),
         Command::Clear => Command::Clear,
@@ -32,6 +33,7 @@ pub(crate) fn with_names(reply: Reply<Key<'_>, u64>) -> Reply<Name, u64> {
         Reply::Was(old) => Reply::Was(old),
         Reply::Added => Reply::Added,
         Reply::Present(key, value) => Reply::Present(key.name(), value),
+        Reply::Value(value) => Reply::Value(value),
         Reply::Found(value) => Reply::Found(value),
         Reply::Removed(pair) => Reply::Removed(pair.map(|(key, value)| (key.name(), value))),
         Reply::Done => Reply::Done,
@@ -45,6 +47,7 @@ fn command_with_names(command: Command<Key<'_>, u64>) -> Command<Name, u64> {
     match command {
         Command::Insert(key, value) => Command::Insert(key.name(), value),
         Command::InsertNew(key, value) => Command::InsertNew(key.name(), value),
+        Command::EntryOrInsert(key, value) => Command::EntryOrInsert(key.name(), value),
         Command::Get(key) => Command::Get(key.name()),
         Command::Remove(key) => Command::Remove(key.name()),
         Command::Clear => Command::Clear,

@@ -29,7 +29,7 @@ loop-command-preserved g c =
     let so_far = subst (λ cs. So old commands c.loop-command.map cs c.loop-command.replies.items before c.loop-command.tally) c.in-Some.ensures.items c.loop-command.invariant.so_far in
     record {
       so_far = subst (λ rs. So old commands c.step.new.map left rs before c.step.new.tally) (sym c.push_reserved.ensures.items)
-          (step_more g.L.Limit.LIMIT g.K.PartialEq.eq (key_hash g.S.BuildHasher g.S.Hasher.Hasher g.K.Hash.hash_input) old commands c.loop-command.map c.step.new.map c.in-Some.command left c.loop-command.replies.items c.step.result before c.loop-command.tally c.step.new.tally so_far c.step.ensures.step c.step.ensures.state c.step.ensures.cost);
+          (step_more g.L.Limit.LIMIT g.K.PartialEq.eq (key_hash g.S.BuildHasher g.S.Hasher.Hasher g.K.Hash.hash_input) old commands c.loop-command.map c.step.new.map c.in-Some.command left c.loop-command.replies.items c.step.result before c.loop-command.tally c.step.new.tally so_far c.step.ensures.step c.len-in-Some.ensures.state c.step.ensures.cost);
       capacity = omega (arith, c.loop-command.invariant.capacity, c.push_reserved.ensures.len, c.push_reserved.ensures.capacity, c.in-Some.ensures.len);
     }
 
