@@ -19,7 +19,7 @@ use Rattle.halfbrown.specs.Growth.{insert_needs}
 use Rattle.halfbrown.specs.Insertion.{Puts}
 use Rattle.halfbrown.specs.Lookup.{IsIndexOf, IsAbsent}
 use Rattle.halfbrown.specs.Pairs.{put, take_out}
-use Rattle.halfbrown.specs.Room.{MakesRoom, filled}
+use Rattle.halfbrown.specs.Room.{MakesRoom, filled, pushed}
 use Rattle.halfbrown.specs.State.{State, state, contents_of, with_pairs}
 use Rattle.halfbrown.specs.Updates.{HasPut, HasRemoved}
 use Rattle.halfbrown.proofs.CallerLemmas.{has_put, has_removed}
@@ -72,6 +72,7 @@ module _ {K V S L H : Type 0} {e : eq.Ghosts K} {h : hash.Ghosts K} {b : builder
     })
 
     pub found_writes : WritesPut limit same old k (Occupied o)
+    unfolding with_value
     found_writes = record {
       puts = λ v. puts_at limit same laws old o.map.now k room (set_value o.map.now.pairs o.index v) (contents_of o.map.now) v (at.put_is k v);
       put = λ v. has_put_at limit same laws old o.map.now k room (set_value o.map.now.pairs o.index v) v (at.put_is k v);
@@ -94,6 +95,7 @@ module _ {K V S L H : Type 0} {e : eq.Ghosts K} {h : hash.Ghosts K} {b : builder
     })
 
     pub missing_writes : WritesPut limit same old v.key (Vacant v)
+    unfolding with_value
     missing_writes = record {
       puts = λ value. puts_at limit same laws old v.map.now v.key room (v.map.now.pairs ++ (v.key, value) ∷ []) (filled (contents_of v.map.now) v.vacancy) value (absent.put_is v.key value);
       put = λ value. has_put_at limit same laws old v.map.now v.key room (v.map.now.pairs ++ (v.key, value) ∷ []) value (absent.put_is v.key value);
@@ -106,12 +108,23 @@ module _ {K V S L H : Type 0} {e : eq.Ghosts K} {h : hash.Ghosts K} {b : builder
     }
 
 module _ {K V S L H : Type 0} {e : eq.Ghosts K} {h : hash.Ghosts K} {b : builder.Ghosts S H} {w : hasher.Ghosts H} {l : limits.Ghosts L} (o : LimitedOccupiedEntry K V S L H e h b w l) where
+  -- the map with this value
+  pub occupied_writes : (value : V) → with_pairs o.map.now (set_value o.map.now.pairs o.index value) ≡ with_value (Occupied o) value
+  unfolding with_value
+  occupied_writes value = refl
+
   -- the entry with this value, however it was shown that its index is within
   pub lent_entry : (value : V) (within : o.index < length (set_value o.map.now.pairs o.index value))
-      → record { map = record o.map { now = with_value (Occupied o) value }; index = o.index; within = within } ≡ with_entry_value o value
-  lent_entry value within = λ i. record { map = record o.map { now = with_value (Occupied o) value }; index = o.index; within = le_prop within (with_entry_value o value).within i }
+      → record { map = record o.map { now = with_pairs o.map.now (set_value o.map.now.pairs o.index value) }; index = o.index; within = within } ≡ with_entry_value o value
+  unfolding with_value
+  lent_entry value within = λ i. record { map = record o.map { now = with_pairs o.map.now (set_value o.map.now.pairs o.index value) }; index = o.index; within = le_prop within (with_entry_value o value).within i }
+
+  pub lent_within : (value : V) → o.index < length (set_value o.map.now.pairs o.index value)
+  unfolding with_value
+  lent_within value = (with_entry_value o value).within
 
   pub written_entry : (value : V) → IsWritten (Occupied o) value (Occupied (with_entry_value o value))
+  unfolding with_value
   written_entry value = record {
     same_map = refl;
     map = refl;
@@ -120,3 +133,9 @@ module _ {K V S L H : Type 0} {e : eq.Ghosts K} {h : hash.Ghosts K} {b : builder
     writes = λ v. ap (with_pairs o.map.now) (set_value-twice o.map.now.pairs o.index value v);
     pairs_left = swap_out-set_value o.map.now.pairs o.index value;
   }
+
+module _ {K V S L H : Type 0} {e : eq.Ghosts K} {h : hash.Ghosts K} {b : builder.Ghosts S H} {w : hasher.Ghosts H} {l : limits.Ghosts L} (v : LimitedVacantEntry K V S L H e h b w l) where
+  -- the map with this pair more
+  pub vacant_writes : (value : V) → pushed v.map.now v.key value v.vacancy ≡ with_value (Vacant v) value
+  unfolding with_value
+  vacant_writes value = refl

@@ -49,7 +49,7 @@ module _ {K V S L H : Type 0} {e : eq.Ghosts K} {h : hash.Ghosts K} {b : builder
   entry_pair (Vacant v) = None
 
   -- the map once the key has this value
-  abbrev pub with_value : LimitedEntry K V S L H e h b w l → V → State K V S
+  unfoldable pub with_value : LimitedEntry K V S L H e h b w l → V → State K V S
   with_value (Occupied o) value = with_pairs o.map.now (set_value o.map.now.pairs o.index value)
   with_value (Vacant v) value = pushed v.map.now v.key value v.vacancy
 

@@ -23,9 +23,13 @@ length-set_value (p ∷ pairs) zero value = refl
 length-set_value (p ∷ pairs) (suc index) value = ap suc (length-set_value pairs index value)
 
 module _ {K V S L H : Type 0} {e : eq.Ghosts K} {h : hash.Ghosts K} {b : builder.Ghosts S H} {w : hasher.Ghosts H} {l : limits.Ghosts L} where
+  pub still_within : (o : LimitedOccupiedEntry K V S L H e h b w l) (value : V) → o.index < length (with_value (Occupied o) value).pairs
+  unfolding with_value
+  still_within o value = subst (λ n. o.index < n) (sym (length-set_value o.map.now.pairs o.index value)) o.within
+
   -- the entry, once this value is written
   abbrev pub with_entry_value : LimitedOccupiedEntry K V S L H e h b w l → V → LimitedOccupiedEntry K V S L H e h b w l
-  with_entry_value o value = record { map = record o.map { now = with_value (Occupied o) value }; index = o.index; within = subst (λ n. o.index < n) (sym (length-set_value o.map.now.pairs o.index value)) o.within }
+  with_entry_value o value = record { map = record o.map { now = with_value (Occupied o) value }; index = o.index; within = still_within o value }
 
 module _ (K V S L H : RattleType) {e : eq.Ghosts K.Denot} {h : hash.Ghosts K.Denot} {b : builder.Ghosts S.Denot H.Denot} {w : hasher.Ghosts H.Denot} {l : limits.Ghosts L.Denot} where
   -- the map has the last value written through the reference, for the entry's key

@@ -39,6 +39,7 @@ impl<'a, K: Eq + Hash, V, S: BuildHasher, L: Limit> LimitedOccupiedEntry<'a, K, 
 
     /// Its value, to be written for as long as the map is borrowed.
     #[inline(always)]
+    #[tactic(auto, using(crate::proofs::Entries::occupied_writes))]
     pub fn into_mut(self) -> &'a mut V
         ensures* writes_back { sem 𝓛 (EntryLends K.row V.row S.row L.row S.Hasher.row (Occupied self.entry) result) }
         ensures value { entry_value (Occupied self.entry) ≡ Some result.now }
