@@ -11,6 +11,7 @@ pub mod GapLemmas
 pub mod IndexLemmas
 pub mod ProbeLemmas
 pub mod ReachLemmas
+pub mod Restored
 pub mod SlotsLemmas
 pub mod StepLemmas
 pub mod TableLaws

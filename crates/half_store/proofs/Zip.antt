@@ -5,7 +5,7 @@ use Rattle.std.specs.List.{zip, slice_get, swap_remove}
 use Rattle.std.specs.Map.{keys_of, values_of}
 use Rattle.half_store.specs.Pairs.{set_value, swap_out}
 
-get_or_within : {X : Type 0} (xs : List X) (i : ℕ) (d e : X) → i < length xs → get_or xs i d ≡ get_or xs i e
+pub get_or_within : {X : Type 0} (xs : List X) (i : ℕ) (d e : X) → i < length xs → get_or xs i d ≡ get_or xs i e
 get_or_within [] i d e within = absurd (omega arith)
 get_or_within (x ∷ xs) zero d e within = refl
 get_or_within (x ∷ xs) (suc i) d e within = get_or_within xs i d e (omega arith)

@@ -6,6 +6,7 @@ pub mod Pairs
 pub mod Probe
 pub mod Reach
 pub mod Refusal
+pub mod Replaced
 pub mod Slots
 pub mod Table
 pub mod TableLaws

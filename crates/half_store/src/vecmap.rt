@@ -6,6 +6,7 @@ ghost use Rattle.half_store.specs.Pairs.{with_pairs, set_value, swap_out};
 ghost use Rattle.half_store.specs.Work.{compared_more, first_match_cost};
 
 mod memory;
+mod replace;
 mod search;
 
 use crate::Tally;
