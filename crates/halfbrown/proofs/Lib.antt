@@ -1,5 +1,6 @@
 pub mod CallerLemmas
 pub mod Entries
+pub mod EntryReplacements
 pub mod Full
 pub mod Indices
 pub mod InsertLemmas
@@ -8,6 +9,7 @@ pub mod Lookups
 pub mod MapLaws
 pub mod PlaceProp
 pub mod Places
+pub mod Replacements
 pub mod RunLaws
 pub mod RunLemmas
 pub mod SwapOut

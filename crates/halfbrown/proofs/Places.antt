@@ -12,7 +12,7 @@ form_stays true full e = ap not (sym e)
 form_stays false full e = refl
 
 module _ (is_vec : Bool) (contents : Contents) (hash other : ℕ) (same : is_vec ≡ false → hash ≡ other) where
-  vacancy_for : (vacancy : Vacancy) → IsVacancy is_vec contents hash vacancy → IsVacancy is_vec contents other vacancy
+  pub vacancy_for : (vacancy : Vacancy) → IsVacancy is_vec contents hash vacancy → IsVacancy is_vec contents other vacancy
   vacancy_for InVector vacant = vacant
   vacancy_for (InTable stored bucket) vacant = (vacant.0, vacant.1 ∙ same vacant.0, vacant.2)
 

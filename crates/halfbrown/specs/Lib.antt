@@ -9,6 +9,7 @@ pub mod Lending
 pub mod Lookup
 pub mod MapLaws
 pub mod Pairs
+pub mod Replacement
 pub mod Room
 pub mod Run
 pub mod RunCost

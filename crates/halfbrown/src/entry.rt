@@ -9,6 +9,7 @@ mod debug;
 mod find;
 mod methods;
 mod occupied;
+mod replace;
 mod vacant;
 
 use crate::map::lookup::Vacancy;

@@ -12,6 +12,7 @@ pub mod laws;
 pub(crate) mod lookup;
 mod make;
 mod remove;
+mod replace;
 mod room;
 mod switch;
 

@@ -1,5 +1,5 @@
 //! The form of a map: a vector, or a table over the same columns.
-ghost use Rattle.std.specs.Prelude.{◌≡◌, ◌<◌, ◌≤◌, ◌↔◌, ◌⊎◌, ◌^◌, ◌∷◌, ◌++◌, true, false, max, [], length, Err, IsOk, OnOk, OnErr};
+ghost use Rattle.std.specs.Prelude.{◌≡◌, ◌<◌, ◌≤◌, ◌↔◌, ◌⊎◌, ◌^◌, ◌∷◌, ◌++◌, true, false, not, max, [], length, slice_get, Some, Err, IsOk, OnOk, OnErr};
 ghost use Rattle.std.specs.Option.{option_copied};
 ghost use Rattle.half_store.specs.Capacity.{capacity_of, capacity_for, buckets_of, buckets_for};
 ghost use Rattle.half_store.specs.Pairs.{swap_out};
@@ -7,7 +7,7 @@ ghost use Rattle.half_store.specs.Probe.{looked_more};
 ghost use Rattle.half_store.specs.Reach.{reach};
 ghost use Rattle.half_store.specs.Table.{IsVacancyIn};
 ghost use Rattle.halfbrown.specs.Form.{form_of, vector_form, table_form};
-ghost use Rattle.halfbrown.specs.Lookup.{stored_hash};
+ghost use Rattle.halfbrown.specs.Lookup.{IsVacancy, stored_hash, is_unprobed};
 ghost use Rattle.halfbrown.specs.Room.{IsPlace, filled};
 
 use super::lookup::Vacancy;
@@ -147,16 +147,21 @@ impl Form {
         }
     }
 
-    /// Removes the stored hash of the pair at this index. A vector stores none.
+    /// Removes the stored hash of the pair at this index, and returns a vacancy for it, which is still to be probed for. A
+    /// vector stores none.
     #[inline(always)]
-    pub(crate) fn remove(&mut self, index: usize)
+    pub(crate) fn remove(&mut self, index: usize) -> Vacancy
         requires { self.old.is_vec ≡ false → index < length self.old.hashes }
         ensures form { self.new.is_vec ≡ self.old.is_vec }
         ensures buckets { self.new.buckets ≡ self.old.buckets }
         ensures hashes { self.old.is_vec ≡ false → self.new.hashes ≡ swap_out self.old.hashes index }
+        ensures hash { self.old.is_vec ≡ false → slice_get self.old.hashes index ≡ Some (stored_hash result) }
+        ensures vacant { IsVacancy self.new.is_vec self.new.contents (stored_hash result) result }
+        ensures unprobed { is_unprobed result ≡ not self.old.is_vec }
     {
-        if let Some(table) = &mut self.table {
-            table.remove(index);
+        match &mut self.table {
+            Some(table) => Vacancy::InTable(table.remove(index), None),
+            None => Vacancy::InVector,
         }
     }
 }

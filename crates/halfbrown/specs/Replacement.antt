@@ -1,0 +1,49 @@
+-- What an entry is after its value was handed to a closure, which returned another or none.
+use Rattle.std.specs.Prelude.{◌≡◌, ℕ, List, [], ◌∷◌, ◌++◌, Option, None, Some, IfSome, MatchOption, if◌then◌else◌}
+use Rattle.std.specs.Borrow.{Bor}
+use Rattle.std.specs.declared.cmp.PartialEq as eq
+use Rattle.std.specs.declared.hash.Hash as hash
+use Rattle.std.specs.declared.hash.Hasher as hasher
+use Rattle.std.specs.declared.hash.BuildHasher as builder
+use Rattle.half_store.specs.Probe.{looked_more}
+use Rattle.half_store.specs.Replaced.{Answers}
+use Rattle.half_store.specs.Work.{Work}
+use Rattle.halfbrown.specs.declared.entry.LimitedEntry.{LimitedEntry}
+use Rattle.halfbrown.specs.declared.limit.Limit as limits
+use Rattle.halfbrown.specs.Costs.{probe_length}
+use Rattle.halfbrown.specs.Entry.{map_of, is_occupied, entry_key, entry_value, entry_pair, with_value, pairs_without}
+use Rattle.halfbrown.specs.State.{WithPairs}
+
+module _ {K V S L H : Type 0} {e : eq.Ghosts K} {h : hash.Ghosts K} {b : builder.Ghosts S H} {w : hasher.Ghosts H} {l : limits.Ghosts L} where
+  -- the pairs once the entry's key has the value that was returned: in a vector its pair goes last, in a table it keeps its index
+  abbrev pub kept_pairs : LimitedEntry K V S L H e h b w l → K → V → List (K × V)
+  kept_pairs entry key value = if (map_of entry).is_vec then pairs_without entry ++ (key, value) ∷ [] else (with_value entry value).pairs
+
+  -- the stored key stays, with the value that was returned
+  pub record KeepsPair (entry : LimitedEntry K V S L H e h b w l) (key : K) (value : V) (result : LimitedEntry K V S L H e h b w l) : Type 0 where
+    pub pair : entry_pair result ≡ Some (key, value)
+    pub value_is : entry_value result ≡ Some value
+    pub map : WithPairs (map_of entry) (kept_pairs entry key value) (map_of result)
+    pub writes : (v : V) → WithPairs (map_of entry) (kept_pairs entry key v) (with_value result v)
+    pub pairs_left : pairs_without result ≡ pairs_without entry
+
+  -- the pair is gone, and the entry is vacant, with the stored key
+  pub record LosesPair (entry : LimitedEntry K V S L H e h b w l) (key : K) (result : LimitedEntry K V S L H e h b w l) : Type 0 where
+    pub key_is : entry_key result ≡ Some key
+    pub no_value : entry_value result ≡ None
+    pub map : WithPairs (map_of entry) (pairs_without entry) (map_of result)
+    pub writes : (v : V) → WithPairs (map_of entry) (pairs_without entry ++ (key, v) ∷ []) (with_value result v)
+
+  -- the closure was given the stored key and its value, and its answer decides what becomes of the pair
+  pub record ReplacesEntry (returns : Bor K → V → Option V → Type 0) (entry result : LimitedEntry K V S L H e h b w l) : Type 0 where
+    pub key : K
+    pub value : V
+    pub answer : Option V
+    pub pair : entry_pair entry ≡ Some (key, value)
+    pub answered : Answers returns key value answer
+    pub after : MatchOption answer (LosesPair entry key result) (λ v. KeepsPair entry key v result)
+
+  -- one insertion probe where the pair is gone, and nothing else
+  abbrev pub ReplacementCosts : (S → K → ℕ) → LimitedEntry K V S L H e h b w l → Work → Work → Type 0
+  ReplacementCosts hash result before after = IfSome (entry_key result) (λ key. after ≡ looked_more before
+      (if is_occupied result then 0 else probe_length (hash (map_of result).builder) (map_of result).is_vec (map_of result).capacity (map_of result).pairs key))

@@ -1,0 +1,62 @@
+//! An entry whose value is handed to a closure.
+ghost use Rattle.std.specs.Prelude.{◌≡◌, Some};
+ghost use Rattle.std.specs.Borrow.{Bor};
+ghost use Rattle.halfbrown.specs.Costs.{key_hash};
+ghost use Rattle.halfbrown.specs.Entry.{Occupied, entry_pair, map_of, map_ref};
+ghost use Rattle.halfbrown.specs.Replacement.{ReplacesEntry, ReplacementCosts};
+ghost use Rattle.halfbrown.specs.State.{IsState};
+
+use super::{LimitedEntry, LimitedOccupiedEntry, LimitedVacantEntry};
+use crate::Limit;
+use half_store::Tally;
+use std::hash::{BuildHasher, Hash};
+
+impl<'a, K: Eq + Hash, V, S: BuildHasher, L: Limit> LimitedOccupiedEntry<'a, K, V, S, L> {
+    /// Hands the stored key and its value to `f`, and the key gets the value that `f` returns. Where it returns none the
+    /// pair is removed, and the entry is vacant.
+    #[inline]
+    pub fn replace_entry_with<F: FnOnce(&K, V) -> Option<V>>(
+        self,
+        f: F,
+    ) -> LimitedEntry<'a, K, V, S, L>
+        requires { (key : Bor K) (value : V) → entry_pair (Occupied self) ≡ Some (key.now, value)
+            → F.pre f key value }
+        ensures replaces { ReplacesEntry (F.post f) (Occupied self.entry) result }
+        ensures same_map { (map_ref result).ghost_name ≡ (map_ref (Occupied self.entry)).ghost_name }
+        ensures state { IsState K.eq L.LIMIT (map_of result) }
+    {
+        self.replace_entry_with_counted(f, &mut Tally::new())
+    }
+
+    /// `replace_entry_with`, with its work counted: one insertion probe where the pair is removed from a table.
+    #[inline]
+    pub fn replace_entry_with_counted<F: FnOnce(&K, V) -> Option<V>>(
+        self,
+        f: F,
+        tally: &mut Tally,
+    ) -> LimitedEntry<'a, K, V, S, L>
+        requires { (key : Bor K) (value : V) → entry_pair (Occupied self) ≡ Some (key.now, value)
+            → F.pre f key value }
+        ensures replaces { ReplacesEntry (F.post f) (Occupied self.entry) result }
+        ensures same_map { (map_ref result).ghost_name ≡ (map_ref (Occupied self.entry)).ghost_name }
+        ensures cost { ReplacementCosts (key_hash S.BuildHasher S.Hasher.Hasher K.hash_input) result tally.old
+            tally.new }
+        ensures state { IsState K.eq L.LIMIT (map_of result) }
+    {
+        let index = self.index;
+        let map = self.map;
+        match map.replace_at(index, f) {
+            Some((key, vacancy)) => {
+                let vacancy = map.probed(vacancy, tally);
+                LimitedEntry::Vacant(LimitedVacantEntry { map, key, vacancy })
+            }
+            None => {
+                if map.is_vec() {
+                    let last = map.move_last(index);
+                    return LimitedEntry::Occupied(LimitedOccupiedEntry { map, index: last });
+                }
+                LimitedEntry::Occupied(LimitedOccupiedEntry { map, index })
+            }
+        }
+    }
+}
