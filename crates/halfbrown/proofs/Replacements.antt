@@ -26,9 +26,9 @@ module _ {K V : Type 0} where
   key_there (p ∷ ps) (suc i) k d v at = key_there ps i k d v at
 
   -- a stored key is at its own index, and where its pair is gone no equal one is held
-  pub own_index : (eq : K → K → Bool) → IsEquivalence eq → (ps : List (K × V)) → IsDistinct eq (keys_of ps) → (i : ℕ) (k : K) (v : V) → slice_get ps i ≡ Some (k, v) → IsIndexOf eq ps k i
+  pub own_index : (eq : K → K → Bool) → IsEquivalence eq → (ps : List (K × V)) → IsDistinct eq (keys_of ps) → (i : ℕ) (k : K) (v : V) → slice_get ps i ≡ Some (k, v) → IsIndexOf (eq k) ps i
   own_index eq laws ps distinct i k v at =
-      index_of_first eq k ps i (first_of_match eq k laws (keys_of ps) i k distinct (omega (arith, slice_get_within ps i (k, v) at, length-keys_of ps)) (ap (eq k) (key_there ps i k k v at) ∙ laws.refl k))
+      index_of_first (eq k) ps i (first_of_match (eq k) eq (laws.congr k) (keys_of ps) i k distinct (omega (arith, slice_get_within ps i (k, v) at, length-keys_of ps)) (ap (eq k) (key_there ps i k k v at) ∙ laws.refl k))
 
   pub unheld_after : (eq : K → K → Bool) → IsEquivalence eq → (ps : List (K × V)) → IsDistinct eq (keys_of ps) → (i : ℕ) (k : K) (v : V) → slice_get ps i ≡ Some (k, v) → holds eq (swap_out ps i) k ≡ false
   unheld_after eq laws ps distinct i k v at =
