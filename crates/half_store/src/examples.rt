@@ -30,6 +30,10 @@ fn columns(rt: HostRuntime) -> Result<(), Fail> {
     assert_same(&rt, before, 42, "the value before");
     let index = ages.find(&|index| ages.keys()[index] == 2, &mut tally); // index 1, found by two comparisons
     assert_same(&rt, index, Some(1), "the index of 2");
+    let removed = ages.replace_with(0, |_, age| age.checked_sub(1)); // none, unless the age was 0
+    assert_same(&rt, removed, None, "the age is one less");
+    assert_same(&rt, *ages.value_at(0), 35, "one less");
+    ages.replace_value(0, 36);
     let pair = ages.swap_remove(0); // 1 and 36; the pair of 2 has index 0 now
     assert_same(&rt, pair, (1, 36), "the first pair");
     ages.grow(3, 32)?; // capacity 8: the least that a growth makes
