@@ -2,8 +2,8 @@
 
 use halfbrown::run::{run, run_counted};
 use halfbrown::{
-    Command, DefaultHashBuilder, Equivalent, HashMap, LimitedHashMap, Refusal, Reply, SizedHashMap,
-    Tally, UpTo,
+    Command, DefaultHashBuilder, Entry, Equivalent, HashMap, LimitedHashMap, OccupiedEntry,
+    Refusal, Reply, SizedHashMap, Tally, UpTo, VacantEntry,
 };
 use std::hash::BuildHasher;
 use std::test::Fail;
@@ -114,11 +114,19 @@ fn insert_and_reserve(ages: &mut Ages) -> Result<(), Refusal> {
     Ok(())
 }
 
+fn enter_and_reserve(ages: &mut Ages) -> Result<(), Refusal> {
+    *ages.entry(5)?.or_insert(0) = 13;
+    ages.reserve(1)?;
+    Ok(())
+}
+
 #[test]
 fn errors_convert(rt: HostRuntime) -> Result<(), Fail> {
     let mut ages = Ages::new(rt.alloc());
     assert_same(insert_and_reserve(&mut ages), Ok(()), "memory is ample")?;
     assert_same(ages.get(&3).copied(), Some(5), "the age of 3")?;
+    assert_same(enter_and_reserve(&mut ages), Ok(()), "memory is ample")?;
+    assert_same(ages.get(&5).copied(), Some(13), "the age of 5")?;
     Ok(())
 }
 
@@ -189,6 +197,103 @@ fn removing(rt: HostRuntime) -> Result<(), Fail> {
     assert_same(pair, Some((3, 5)), "the pair of 3")?;
     let pair = ages.remove_entry_counted(&4, &mut tally); // 4 and 8
     assert_same(pair, Some((4, 8)), "the pair of 4")?;
+    Ok(())
+}
+
+fn take(entry: OccupiedEntry<'_, u64, u32, 32, DefaultHashBuilder>) -> u32 {
+    entry.remove()
+}
+
+fn give(entry: VacantEntry<'_, u64, u32, 32, DefaultHashBuilder>, age: u32) -> u32 {
+    *entry.insert(age)
+}
+
+#[test]
+fn entries(rt: HostRuntime) -> Result<(), Fail> {
+    let mut ages = Ages::new(rt.alloc());
+    let mut tally = Tally::new();
+    let age = *ages.entry(1)?.or_insert(36); // 36
+    assert_same(age, 36, "the age of 1")?;
+    let age = *ages.entry_counted(1, &mut tally)?.or_insert(0); // 36
+    assert_same(age, 36, "it stays")?;
+    let key = *ages.entry(1)?.key(); // 1
+    assert_same(key, 1, "the key")?;
+    *ages.entry(2)?.or_insert(0) = 41;
+    assert_same(ages.get(&2).copied(), Some(41), "the age of 2")?;
+    let age = *ages.entry(3)?.or_insert_with(|| 5); // 5
+    assert_same(age, 5, "the age of 3")?;
+    let age = *ages.entry(4)?.or_default(); // 0
+    assert_same(age, 0, "the age of 4")?;
+    let age = *ages.entry(4)?.and_modify(|age| *age = 8).or_insert(0); // 8
+    assert_same(age, 8, "eight years later")?;
+    let age = match ages.entry(5)? {
+        Entry::Occupied(entry) => entry.remove(),
+        Entry::Vacant(entry) => *entry.insert(13),
+    }; // 13
+    assert_same(age, 13, "the age of 5")?;
+    Ok(())
+}
+
+#[test]
+fn occupied_entries(rt: HostRuntime) -> Result<(), Fail> {
+    let mut ages = Ages::new(rt.alloc());
+    for (number, age) in [(4, 8), (5, 13), (6, 21)] {
+        ages.insert(number, age)?;
+    }
+    if let Entry::Occupied(mut entry) = ages.entry(5)? {
+        let key = *entry.key(); // 5
+        assert_same(key, 5, "the stored key")?;
+        let age = *entry.get(); // 13
+        assert_same(age, 13, "the age of 5")?;
+        *entry.get_mut() = 14;
+        let before = entry.insert(15); // 14
+        assert_same(before, 14, "the age before")?;
+        *entry.into_mut() = 16;
+    }
+    if let Entry::Occupied(entry) = ages.entry(5)? {
+        let age = entry.remove(); // 16
+        assert_same(age, 16, "the last age")?;
+    }
+    if let Entry::Occupied(entry) = ages.entry(4)? {
+        let pair = entry.remove_entry(); // 4 and 8
+        assert_same(pair, (4, 8), "the pair of 4")?;
+    }
+    if let Entry::Occupied(entry) = ages.entry(6)? {
+        let left = entry.replace_entry_with(|_, age| age.checked_sub(21)); // 0
+        assert_same(*left.key(), 6, "the stored key")?;
+    }
+    assert_same(ages.get(&6).copied(), Some(0), "21 years less")?;
+    let mut tally = Tally::new();
+    if let Entry::Occupied(entry) = ages.entry(6)? {
+        let left = entry.replace_entry_with_counted(|_, age| age.checked_sub(1), &mut tally); // vacant
+        assert_same(*left.key(), 6, "the stored key")?;
+    }
+    assert_same(ages.len(), 0, "all are gone")?;
+    if let Entry::Vacant(entry) = ages.entry(7)? {
+        assert_same(give(entry, 34), 34, "the age of 7")?;
+    }
+    if let Entry::Occupied(entry) = ages.entry(7)? {
+        assert_same(take(entry), 34, "the age of 7")?;
+    }
+    Ok(())
+}
+
+#[test]
+fn vacant_entries(rt: HostRuntime) -> Result<(), Fail> {
+    let mut ages = Ages::new(rt.alloc());
+    let key = ages.entry(6).err().map(|refused| refused.key); // none, or 6
+    assert_same(key, None, "granted")?;
+    if let Entry::Vacant(entry) = ages.entry(6)? {
+        let key = *entry.key(); // 6
+        assert_same(key, 6, "the key")?;
+        let key = entry.into_key(); // 6
+        assert_same(key, 6, "the key")?;
+    }
+    assert_same(ages.len(), 0, "nothing was inserted")?;
+    if let Entry::Vacant(entry) = ages.entry(6)? {
+        *entry.insert(0) = 21;
+    }
+    assert_same(ages.get(&6).copied(), Some(21), "the age of 6")?;
     Ok(())
 }
 

@@ -2,6 +2,7 @@
 #![tactic(auto)]
 
 pub mod callers;
+pub mod entry_callers;
 #[cfg(test)]
 mod examples;
 pub mod first_example;

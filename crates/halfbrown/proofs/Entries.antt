@@ -1,9 +1,10 @@
 -- What an entry of a key is, and what is written and removed through it.
-use Rattle.std.proofs.Common.{◌≡◌, ℕ, ◌<◌, Bool, List, [], ◌∷◌, ◌++◌, length, slice_get, Some, refl, sym, ap, subst, ◌∙◌, true≢false}
+use Rattle.std.proofs.Common.{◌≡◌, ℕ, zero, suc, ◌<◌, Bool, List, [], ◌∷◌, ◌++◌, length, slice_get, Some, refl, sym, ap, subst, ◌∙◌, true≢false}
 use Rattle.std.specs.Coded.{le_prop}
 use Rattle.std.specs.Cmp.{IsEquivalence}
 use Rattle.std.specs.List.{IsDistinct}
 use Rattle.std.specs.Map.{keys_of, values_of}
+use Rattle.std.specs.Option.{option_map}
 use Rattle.std.specs.declared.cmp.PartialEq as eq
 use Rattle.std.specs.declared.hash.Hash as hash
 use Rattle.std.specs.declared.hash.Hasher as hasher
@@ -31,6 +32,12 @@ module _ {K V : Type 0} where
   pub set_value-last : (ps : List (K × V)) (k : K) (v w : V) → set_value (ps ++ (k, v) ∷ []) (length ps) w ≡ ps ++ (k, w) ∷ []
   set_value-last [] k v w = refl
   set_value-last (p ∷ ps) k v w = ap (λ l. p ∷ l) (set_value-last ps k v w)
+
+  -- the key of a pair
+  key_of-pair : (ps : List (K × V)) (i : ℕ) → slice_get (keys_of ps) i ≡ option_map (λ (p : K × V). p.0) (slice_get ps i)
+  key_of-pair [] i = refl
+  key_of-pair (p ∷ ps) zero = refl
+  key_of-pair (p ∷ ps) (suc i) = key_of-pair ps i
 
   pub value-last : (ps : List (K × V)) (k : K) (v : V) → slice_get (values_of (ps ++ (k, v) ∷ [])) (length ps) ≡ Some v
   value-last [] k v = refl
@@ -68,6 +75,7 @@ module _ {K V S L H : Type 0} {e : eq.Ghosts K} {h : hash.Ghosts K} {b : builder
       occupied = sym at.held;
       pair = sym at.pair;
       value = sym at.value;
+      stored_key = λ occupied. key_of-pair o.map.now.pairs o.index ∙ ap (option_map (λ (p : K × V). p.0)) (sym at.pair);
       new_key = λ vacant. absurd (true≢false vacant);
     })
 
@@ -91,6 +99,7 @@ module _ {K V S L H : Type 0} {e : eq.Ghosts K} {h : hash.Ghosts K} {b : builder
       occupied = sym absent.held;
       pair = sym absent.pair;
       value = sym absent.value;
+      stored_key = λ occupied. absurd (true≢false (sym occupied));
       new_key = λ vacant. refl;
     })
 

@@ -56,6 +56,7 @@ module _ {K V S L H : Type 0} {e : eq.Ghosts K} {h : hash.Ghosts K} {b : builder
         no_value = refl;
         map = record { pairs = lost.1; form = after.form; capacity = after.capacity; builder = after.builder };
         writes = λ value. record { pairs = λ j. lost.1 j ++ (sym lost.2 j, value) ∷ []; form = after.form; capacity = after.capacity; builder = after.builder };
+        pairs_left = lost.1;
       } in
       record {
         key = r.key;

@@ -3,6 +3,7 @@ pub use Rattle.halfbrown.specs.declared.entry.LimitedEntry.TheVariants.{Occupied
 use Rattle.std.specs.Prelude.{◌≡◌, ℕ, Bool, true, false, List, slice_get, Option, None, Some}
 use Rattle.std.specs.Borrow.{MutBor}
 use Rattle.std.specs.Map.{keys_of, values_of}
+use Rattle.std.specs.Option.{option_map}
 use Rattle.std.specs.declared.cmp.PartialEq as eq
 use Rattle.std.specs.declared.hash.Hash as hash
 use Rattle.std.specs.declared.hash.Hasher as hasher
@@ -63,6 +64,7 @@ module _ {K V S L H : Type 0} {e : eq.Ghosts K} {h : hash.Ghosts K} {b : builder
     pub occupied : is_occupied entry ≡ holds same pairs k
     pub pair : entry_pair entry ≡ pair_of same pairs k
     pub value : entry_value entry ≡ value_of same pairs k
+    pub stored_key : is_occupied entry ≡ true → entry_key entry ≡ option_map (λ p. p.0) (pair_of same pairs k)
     pub new_key : is_occupied entry ≡ false → entry_key entry ≡ Some k
 
   -- a value that is written through the entry is put into the map that was, for k

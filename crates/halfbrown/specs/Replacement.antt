@@ -33,6 +33,7 @@ module _ {K V S L H : Type 0} {e : eq.Ghosts K} {h : hash.Ghosts K} {b : builder
     pub no_value : entry_value result ≡ None
     pub map : WithPairs (map_of entry) (pairs_without entry) (map_of result)
     pub writes : (v : V) → WithPairs (map_of entry) (pairs_without entry ++ (key, v) ∷ []) (with_value result v)
+    pub pairs_left : pairs_without result ≡ pairs_without entry
 
   -- the closure was given the stored key and its value, and its answer decides what becomes of the pair
   pub record ReplacesEntry (returns : Bor K → V → Option V → Type 0) (entry result : LimitedEntry K V S L H e h b w l) : Type 0 where

@@ -19,29 +19,48 @@ use std::hash::{BuildHasher, Hash};
 /// The entry of a key in a map that stores up to `N` pairs in a vector.
 ///
 /// ```
-/// match ages.entry(1)? {
+/// let age = match ages.entry(5)? {
 ///     Entry::Occupied(entry) => entry.remove(),
-///     Entry::Vacant(entry) => *entry.insert(36),
-/// }
+///     Entry::Vacant(entry) => *entry.insert(13),
+/// }; // 13
 /// ```
 pub type Entry<'a, K, V, const N: usize, S> = LimitedEntry<'a, K, V, S, UpTo<N>>;
 
 /// The entry of a held key in a map that stores up to `N` pairs in a vector.
 ///
 /// ```
-/// let oldest: OccupiedEntry<'_, u64, u32, 32, DefaultHashBuilder> = entry;
+/// fn take(entry: OccupiedEntry<'_, u64, u32, 32, DefaultHashBuilder>) -> u32 {
+///     entry.remove()
+/// }
 /// ```
 pub type OccupiedEntry<'a, K, V, const N: usize, S> = LimitedOccupiedEntry<'a, K, V, S, UpTo<N>>;
 
 /// The entry of a key that is not held, in a map that stores up to `N` pairs in a vector.
 ///
 /// ```
-/// let newest: VacantEntry<'_, u64, u32, 32, DefaultHashBuilder> = entry;
+/// fn give(entry: VacantEntry<'_, u64, u32, 32, DefaultHashBuilder>, age: u32) -> u32 {
+///     *entry.insert(age)
+/// }
 /// ```
 pub type VacantEntry<'a, K, V, const N: usize, S> = LimitedVacantEntry<'a, K, V, S, UpTo<N>>;
 
 /// The entry of a key, by `LimitedHashMap::entry`. The map has been searched, and there is room for the pair where it is
-/// not held; so nothing fails after that, nothing is hashed, no key is compared, and no bucket is probed.
+/// not held; so nothing fails after that, nothing is hashed and no key is compared.
+///
+/// In a function of maps of any limit it is matched by this name:
+///
+/// ```
+/// match labels.entry(label)? {
+///     LimitedEntry::Occupied(entry) => {
+///         entry.remove();
+///         Ok(false)
+///     }
+///     LimitedEntry::Vacant(entry) => {
+///         entry.insert(());
+///         Ok(true)
+///     }
+/// }
+/// ```
 #[derive(Drop)]
 pub enum LimitedEntry<'a, K: Eq + Hash, V, S: BuildHasher, L: Limit> {
     /// The key is held.

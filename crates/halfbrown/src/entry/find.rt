@@ -15,7 +15,17 @@ use half_store::Tally;
 use std::hash::{BuildHasher, Hash};
 
 impl<K: Eq + Hash, V, S: BuildHasher, L: Limit> LimitedHashMap<K, V, S, L> {
-    /// The entry of a key, through which its pair is read, written, removed or added after one search.
+    /// The entry of a key, through which its pair is read, written, removed or added with no further search. Where an equal
+    /// key is held the given one is dropped. A full vector becomes a table first, in both cases.
+    ///
+    /// Fails only where more capacity is needed: by the switch, and by a new key where none is left. Then nothing changes, and
+    /// the error has the key. No call on the entry fails.
+    ///
+    /// It costs what `insert` costs. No call on the entry hashes a key or compares two.
+    ///
+    /// ```
+    /// let age = *ages.entry(1)?.or_insert(36); // 36
+    /// ```
     #[inline]
     pub fn entry(&mut self, key: K) -> Result<LimitedEntry<'_, K, V, S, L>, RefusedKey<K>>
     where
@@ -32,7 +42,12 @@ impl<K: Eq + Hash, V, S: BuildHasher, L: Limit> LimitedHashMap<K, V, S, L> {
         self.entry_counted(key, &mut Tally::new())
     }
 
-    /// `entry`, with its work counted: that of `insert`.
+    /// `entry`, with its work counted: one search, one hash for each pair at a switch, and one insertion probe where a new
+    /// key makes the table grow.
+    ///
+    /// ```
+    /// let age = *ages.entry_counted(1, &mut tally)?.or_insert(0); // 36
+    /// ```
     #[inline]
     pub fn entry_counted(
         &mut self,

@@ -12,6 +12,10 @@ use std::hash::{BuildHasher, Hash};
 
 impl<'a, K: Eq + Hash, V, S: BuildHasher, L: Limit> LimitedEntry<'a, K, V, S, L> {
     /// The stored key where it is held, else the key that the entry was made for.
+    ///
+    /// ```
+    /// let key = *ages.entry(1)?.key(); // 1
+    /// ```
     #[inline(always)]
     pub fn key(&self) -> &K
         ensures { entry_key self.now ≡ Some result.now }
@@ -23,7 +27,11 @@ impl<'a, K: Eq + Hash, V, S: BuildHasher, L: Limit> LimitedEntry<'a, K, V, S, L>
     }
 
     /// Adds the pair with this value where the key is not held. Returns the value that is held now, to be written for as
-    /// long as the map is borrowed.
+    /// long as the map is borrowed. A value that is held already stays, and the given one is dropped. It costs nothing.
+    ///
+    /// ```
+    /// *ages.entry(2)?.or_insert(0) = 41;
+    /// ```
     #[inline]
     pub fn or_insert(self, default: V) -> &'a mut V
     where
@@ -38,6 +46,10 @@ impl<'a, K: Eq + Hash, V, S: BuildHasher, L: Limit> LimitedEntry<'a, K, V, S, L>
     }
 
     /// `or_insert`, with a value that is made only where the key is not held.
+    ///
+    /// ```
+    /// let age = *ages.entry(3)?.or_insert_with(|| 5); // 5
+    /// ```
     #[inline]
     pub fn or_insert_with<F: FnOnce() -> V>(self, default: F) -> &'a mut V
         requires { entry_value self ≡ None → F.pre default }
@@ -51,6 +63,10 @@ impl<'a, K: Eq + Hash, V, S: BuildHasher, L: Limit> LimitedEntry<'a, K, V, S, L>
     }
 
     /// `or_insert` of the type's default value, which is made only where the key is not held.
+    ///
+    /// ```
+    /// let age = *ages.entry(4)?.or_default(); // 0
+    /// ```
     #[inline]
     pub fn or_default(self) -> &'a mut V
     where
@@ -64,7 +80,11 @@ impl<'a, K: Eq + Hash, V, S: BuildHasher, L: Limit> LimitedEntry<'a, K, V, S, L>
         }
     }
 
-    /// Changes the value where the key is held, and returns the entry.
+    /// Changes the value where the key is held, and returns the entry. Where it is not held `f` is not called.
+    ///
+    /// ```
+    /// let age = *ages.entry(4)?.and_modify(|age| *age = 8).or_insert(0); // 8
+    /// ```
     #[inline]
     pub fn and_modify<F: FnOnce(&mut V)>(self, f: F) -> LimitedEntry<'a, K, V, S, L>
         requires { (lent : MutBor V) → entry_value self ≡ Some lent.now → F.pre f lent }

@@ -11,6 +11,10 @@ use std::hash::{BuildHasher, Hash};
 
 impl<'a, K: Eq + Hash, V, S: BuildHasher, L: Limit> LimitedOccupiedEntry<'a, K, V, S, L> {
     /// The stored key.
+    ///
+    /// ```
+    /// let key = *entry.key(); // 5
+    /// ```
     #[inline(always)]
     pub fn key(&self) -> &K
         ensures { entry_key (Occupied self.now) ≡ Some result.now }
@@ -19,6 +23,10 @@ impl<'a, K: Eq + Hash, V, S: BuildHasher, L: Limit> LimitedOccupiedEntry<'a, K, 
     }
 
     /// Its value.
+    ///
+    /// ```
+    /// let age = *entry.get(); // 13
+    /// ```
     #[inline(always)]
     pub fn get(&self) -> &V
         ensures { entry_value (Occupied self.now) ≡ Some result.now }
@@ -27,6 +35,10 @@ impl<'a, K: Eq + Hash, V, S: BuildHasher, L: Limit> LimitedOccupiedEntry<'a, K, 
     }
 
     /// Its value, to be written.
+    ///
+    /// ```
+    /// *entry.get_mut() = 14;
+    /// ```
     #[inline(always)]
     pub fn get_mut(&mut self) -> &mut V
         ensures* writes_back { sem 𝓛 (OccupiedLends K.row V.row S.row L.row S.Hasher.row self.entry result) }
@@ -38,6 +50,10 @@ impl<'a, K: Eq + Hash, V, S: BuildHasher, L: Limit> LimitedOccupiedEntry<'a, K, 
     }
 
     /// Its value, to be written for as long as the map is borrowed.
+    ///
+    /// ```
+    /// *entry.into_mut() = 16;
+    /// ```
     #[inline(always)]
     #[tactic(auto, using(crate::proofs::Entries::occupied_writes))]
     pub fn into_mut(self) -> &'a mut V
@@ -48,7 +64,11 @@ impl<'a, K: Eq + Hash, V, S: BuildHasher, L: Limit> LimitedOccupiedEntry<'a, K, 
         map.value_at_mut(self.index)
     }
 
-    /// Replaces its value, and returns the old one.
+    /// Replaces its value, and returns the old one. The stored key stays.
+    ///
+    /// ```
+    /// let before = entry.insert(15); // 14
+    /// ```
     #[inline(always)]
     pub fn insert(&mut self, value: V) -> V
         ensures old { entry_value (Occupied self.old) ≡ Some result }
@@ -57,7 +77,11 @@ impl<'a, K: Eq + Hash, V, S: BuildHasher, L: Limit> LimitedOccupiedEntry<'a, K, 
         std::mem::replace(self.get_mut(), value)
     }
 
-    /// Removes the pair, and returns its value.
+    /// Removes the pair, and returns its value. The last pair takes its index. No bucket is probed.
+    ///
+    /// ```
+    /// let age = entry.remove(); // 16
+    /// ```
     #[inline]
     pub fn remove(self) -> V
     where
@@ -70,7 +94,11 @@ impl<'a, K: Eq + Hash, V, S: BuildHasher, L: Limit> LimitedOccupiedEntry<'a, K, 
         self.remove_entry().1
     }
 
-    /// Removes the pair, and returns the stored key and the value.
+    /// Removes the pair, and returns the stored key and the value. The last pair takes its index. No bucket is probed.
+    ///
+    /// ```
+    /// let pair = entry.remove_entry(); // 4 and 8
+    /// ```
     #[inline]
     pub fn remove_entry(self) -> (K, V)
         ensures pair { entry_pair (Occupied self.entry) ≡ Some result }

@@ -1,0 +1,152 @@
+//! What callers build on entries, proved from their public contracts alone: counters, and a set of labels that are switched on
+//! and off.
+ghost use Rattle.std.specs.Prelude.{◌≡◌, ◌+◌, ◌-◌, ◌^◌, ℕ, Some, true, false, not, min, nat_eq, OnOk, OnErr, IfOk, unwrap_or};
+ghost use Rattle.halfbrown.specs.Pairs.{value_of, holds, put};
+
+use halfbrown::{
+    DefaultHashBuilder, Entry, Limit, LimitedEntry, LimitedHashMap, Refusal, SizedHashMap,
+};
+use std::hash::{BuildHasher, Hash};
+
+/// Counts a key once more. Returns false where its count is the greatest number, and then nothing changes.
+pub fn count<K: Eq + Hash + Drop, S: BuildHasher, L: Limit>(
+    counts: &mut LimitedHashMap<K, u64, S, L>,
+    key: K,
+) -> Result<bool, Refusal>
+    ensures counted { IfOk result (λ counted. counted ≡ true → value_of K.eq counts.new.pairs key
+        ≡ Some (unwrap_or (value_of K.eq counts.old.pairs key) 0 + 1)) }
+    ensures kept { IfOk result (λ counted. counted ≡ false → value_of K.eq counts.new.pairs key
+        ≡ Some (2 ^ 64 - 1)) }
+    ensures others { OnOk result ((other : K) → K.eq key other ≡ false
+        → value_of K.eq counts.new.pairs other ≡ value_of K.eq counts.old.pairs other) }
+    ensures err { OnErr result (counts.new ≡ counts.old) }
+{
+    let count = counts.entry(key)?.or_insert(0);
+    if *count == u64::MAX {
+        return Ok(false);
+    }
+    *count += 1;
+    Ok(true)
+}
+
+/// Counts a key once more, up to the greatest number.
+pub fn count_up<K: Eq + Hash + Drop, S: BuildHasher, L: Limit>(
+    counts: &mut LimitedHashMap<K, u64, S, L>,
+    key: K,
+) -> Result<(), Refusal>
+    ensures first { OnOk result (holds K.eq counts.old.pairs key ≡ false
+        → value_of K.eq counts.new.pairs key ≡ Some 1) }
+    ensures again { OnOk result ((count : ℕ) → value_of K.eq counts.old.pairs key ≡ Some count
+        → value_of K.eq counts.new.pairs key ≡ Some (min (count + 1) (2 ^ 64 - 1))) }
+    ensures others { OnOk result ((other : K) → K.eq key other ≡ false
+        → value_of K.eq counts.new.pairs other ≡ value_of K.eq counts.old.pairs other) }
+    ensures err { OnErr result (counts.new ≡ counts.old) }
+{
+    counts
+        .entry(key)?
+        .and_modify(|count| *count = count.saturating_add(1))
+        .or_insert(1);
+    Ok(())
+}
+
+/// Removes a label that is held, and adds one that is not. Returns whether it is held now.
+pub fn toggle<K: Eq + Hash + Drop, S: BuildHasher, L: Limit>(
+    labels: &mut LimitedHashMap<K, (), S, L>,
+    label: K,
+) -> Result<bool, Refusal>
+    ensures toggled { IfOk result (λ is_held. is_held ≡ not (holds K.eq labels.old.pairs label)) }
+    ensures held { IfOk result (λ is_held. holds K.eq labels.new.pairs label ≡ is_held) }
+    ensures others { OnOk result ((other : K) → K.eq label other ≡ false
+        → value_of K.eq labels.new.pairs other ≡ value_of K.eq labels.old.pairs other) }
+    ensures err { OnErr result (labels.new ≡ labels.old) }
+{
+    match labels.entry(label)? {
+        LimitedEntry::Occupied(entry) => {
+            entry.remove();
+            Ok(false)
+        }
+        LimitedEntry::Vacant(entry) => {
+            entry.insert(());
+            Ok(true)
+        }
+    }
+}
+
+/// Gives a name its meaning where it has none, and returns what it means.
+pub fn meaning(
+    scope: &mut SizedHashMap<u64, u64, DefaultHashBuilder, 8>,
+    name: u64,
+    fallback: u64,
+) -> Result<u64, Refusal>
+    ensures means { IfOk result (λ meaning. meaning ≡ unwrap_or (value_of nat_eq scope.old.pairs name) fallback) }
+    ensures declared { IfOk result (λ meaning. scope.new.pairs ≡ put nat_eq scope.old.pairs name meaning) }
+{
+    match scope.entry(name)? {
+        Entry::Occupied(entry) => Ok(*entry.into_mut()),
+        Entry::Vacant(entry) => Ok(*entry.insert(fallback)),
+    }
+}
+
+#[cfg(test)]
+mod tests {
+    use super::*;
+    use halfbrown::HashMap;
+    use std::test::Fail;
+    use test_support::asserts::{assert_same, assert_same_at, assert_true};
+
+    #[test]
+    fn counts(rt: HostRuntime) -> Result<(), Fail> {
+        let mut counts = SizedHashMap::<u64, u64, DefaultHashBuilder, 5>::new(rt.alloc());
+        for round in 1..=3 {
+            for key in 0..12 {
+                assert_true(count(&mut counts, key)?, "counted")?;
+                assert_same_at(
+                    (key, round),
+                    counts.get(&key).copied(),
+                    Some(round),
+                    "its count",
+                )?;
+            }
+        }
+        count_up(&mut counts, 12)?;
+        count_up(&mut counts, 12)?;
+        assert_same(counts.get(&12).copied(), Some(2), "counted twice")?;
+        counts.insert(13, u64::MAX)?;
+        assert_true(!count(&mut counts, 13)?, "the greatest number")?;
+        Ok(())
+    }
+
+    #[test]
+    fn labels_on_and_off(rt: HostRuntime) -> Result<(), Fail> {
+        let mut labels = HashMap::<u64, (), DefaultHashBuilder>::new(rt.alloc());
+        for label in 0..40 {
+            assert_true(toggle(&mut labels, label)?, "on")?;
+        }
+        for label in 0..20 {
+            assert_true(!toggle(&mut labels, label)?, "off")?;
+        }
+        assert_same(labels.len(), 20, "twenty are left")?;
+        Ok(())
+    }
+
+    #[test]
+    fn meanings(rt: HostRuntime) -> Result<(), Fail> {
+        let mut scope = SizedHashMap::<u64, u64, DefaultHashBuilder, 8>::new(rt.alloc());
+        assert_same(meaning(&mut scope, 1, 10)?, 10, "new")?;
+        assert_same(meaning(&mut scope, 1, 11)?, 10, "known")?;
+        Ok(())
+    }
+
+    #[test]
+    fn entries_as_text(rt: HostRuntime) -> Result<(), Fail> {
+        let alloc = rt.alloc();
+        let mut letters = HashMap::<&str, u64, DefaultHashBuilder>::new(alloc);
+        letters.insert("a", 1)?;
+        let text = format!(in alloc; "{:?}", letters.entry("a")?)?;
+        let wanted = "Entry(OccupiedEntry { key: \"a\", value: 1 })";
+        assert_same(text.as_str(), wanted, "of a held key")?;
+        let text = format!(in alloc; "{:?}", letters.entry("b")?)?;
+        assert_same(text.as_str(), "Entry(VacantEntry(\"b\"))", "of another")?;
+        Ok(())
+    }
+}
