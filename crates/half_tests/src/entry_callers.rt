@@ -138,6 +138,29 @@ mod tests {
     }
 
     #[test]
+    fn an_entry_that_is_dropped_leaves_the_pairs(rt: HostRuntime) -> Result<(), Fail> {
+        let mut scope = SizedHashMap::<u64, u64, DefaultHashBuilder, 5>::new(rt.alloc());
+        for name in 1..=5 {
+            scope.insert(name, 10 * name)?;
+        }
+        for name in [3, 9] {
+            drop(scope.entry(name)?);
+            let state = (scope.is_vec(), scope.len(), scope.capacity());
+            assert_same_at(name, state, (false, 5, 6), "switched, and nothing else")?;
+        }
+        for name in 1..=5 {
+            assert_same_at(
+                name,
+                scope.get(&name).copied(),
+                Some(10 * name),
+                "its meaning",
+            )?;
+        }
+        assert_same(scope.get(&9).copied(), None, "not held")?;
+        Ok(())
+    }
+
+    #[test]
     fn entries_as_text(rt: HostRuntime) -> Result<(), Fail> {
         let alloc = rt.alloc();
         let mut letters = HashMap::<&str, u64, DefaultHashBuilder>::new(alloc);
