@@ -204,8 +204,8 @@ fn take(entry: OccupiedEntry<'_, u64, u32, 32, DefaultHashBuilder>) -> u32 {
     entry.remove()
 }
 
-fn give(entry: VacantEntry<'_, u64, u32, 32, DefaultHashBuilder>, age: u32) -> u32 {
-    *entry.insert(age)
+fn sought(entry: &VacantEntry<'_, u64, u32, 32, DefaultHashBuilder>) -> u64 {
+    *entry.key()
 }
 
 #[test]
@@ -270,7 +270,8 @@ fn occupied_entries(rt: HostRuntime) -> Result<(), Fail> {
     }
     assert_same(ages.len(), 0, "all are gone")?;
     if let Entry::Vacant(entry) = ages.entry(7)? {
-        assert_same(give(entry, 34), 34, "the age of 7")?;
+        assert_same(sought(&entry), 7, "the key")?;
+        assert_same(*entry.insert(34), 34, "the age of 7")?;
     }
     if let Entry::Occupied(entry) = ages.entry(7)? {
         assert_same(take(entry), 34, "the age of 7")?;

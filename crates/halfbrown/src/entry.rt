@@ -38,8 +38,8 @@ pub type OccupiedEntry<'a, K, V, const N: usize, S> = LimitedOccupiedEntry<'a, K
 /// The entry of a key that is not held, in a map that stores up to `N` pairs in a vector.
 ///
 /// ```
-/// fn give(entry: VacantEntry<'_, u64, u32, 32, DefaultHashBuilder>, age: u32) -> u32 {
-///     *entry.insert(age)
+/// fn sought(entry: &VacantEntry<'_, u64, u32, 32, DefaultHashBuilder>) -> u64 {
+///     *entry.key()
 /// }
 /// ```
 pub type VacantEntry<'a, K, V, const N: usize, S> = LimitedVacantEntry<'a, K, V, S, UpTo<N>>;
