@@ -34,7 +34,7 @@ module _ {K V : Type 0} where
   set_value-last (p ∷ ps) k v w = ap (λ l. p ∷ l) (set_value-last ps k v w)
 
   -- the key of a pair
-  key_of-pair : (ps : List (K × V)) (i : ℕ) → slice_get (keys_of ps) i ≡ option_map (λ (p : K × V). p.0) (slice_get ps i)
+  pub key_of-pair : (ps : List (K × V)) (i : ℕ) → slice_get (keys_of ps) i ≡ option_map (λ (p : K × V). p.0) (slice_get ps i)
   key_of-pair [] i = refl
   key_of-pair (p ∷ ps) zero = refl
   key_of-pair (p ∷ ps) (suc i) = key_of-pair ps i

@@ -5,6 +5,7 @@ use Rattle.std.proofs.lemmas.List.{take-set-le}
 use Rattle.std.proofs.lemmas.Option.{same_Some}
 use Rattle.std.specs.Borrow.{Bor, MutBor}
 use Rattle.std.specs.Map.{values_of}
+use Rattle.std.specs.Option.{option_map}
 use Rattle.std.specs.declared.cmp.PartialEq as eq
 use Rattle.std.specs.declared.hash.Hash as hash
 use Rattle.std.specs.declared.hash.Hasher as hasher
@@ -17,7 +18,7 @@ use Rattle.halfbrown.specs.declared.limit.Limit as limits
 use Rattle.halfbrown.specs.Entry.{Occupied, Vacant, with_value}
 use Rattle.halfbrown.specs.Replacement.{ReplacesEntry, KeepsPair, LosesPair}
 use Rattle.halfbrown.specs.State.{State, WithPairs}
-use Rattle.halfbrown.proofs.Entries.{set_value-last, value-last}
+use Rattle.halfbrown.proofs.Entries.{key_of-pair, set_value-last, value-last}
 use Rattle.halfbrown.proofs.Kept.{length-set_value}
 use Rattle.halfbrown.proofs.Replacements.{kept_value, lost_pair}
 use Rattle.halfbrown.proofs.Written.{set_value-twice, value-set_value, swap_out-set_value}
@@ -81,9 +82,11 @@ module _ {K V S L H : Type 0} {e : eq.Ghosts K} {h : hash.Ghosts K} {b : builder
           let ps = o.map.now.pairs in
           let v = kept.0 in
           let now : map.now.pairs ≡ set_value ps o.index v = ap (λ m. m.pairs) same ∙ kept.2 in
+          let pair_is : slice_get map.now.pairs o.index ≡ Some (r.key, v) = ap (λ qs. slice_get qs o.index) now ∙ pair-set_value ps o.index r.key r.value v r.pair in
           let form : o.map.now.is_vec ≡ false = sym after.form ∙ table in
           let keep : KeepsPair (Occupied o) r.key v (Occupied (record { map = map; index = o.index; within = within })) = record {
-            pair = ap (λ qs. slice_get qs o.index) now ∙ pair-set_value ps o.index r.key r.value v r.pair;
+            pair = pair_is;
+            key_is = key_of-pair map.now.pairs o.index ∙ ap (option_map (λ (p : K × V). p.0)) pair_is;
             value_is = ap (λ qs. slice_get (values_of qs) o.index) now ∙ value-set_value ps o.index v o.within;
             map = record {
               pairs = now ∙ ap (λ b. if b then swap_out ps o.index ++ (r.key, v) ∷ [] else set_value ps o.index v) (sym form);
@@ -124,9 +127,11 @@ module _ {K V S L H : Type 0} {e : eq.Ghosts K} {h : hash.Ghosts K} {b : builder
             let pair_is : pair ≡ (r.key, v) = same_Some pair (r.key, v) (sym at ∙ ap (λ qs. slice_get qs o.index) kept.2 ∙ pair-set_value ps o.index r.key r.value v r.pair) in
             let now : map.now.pairs ≡ front ++ (r.key, v) ∷ [] = moved.pairs ∙ (λ j. left j ++ pair_is j ∷ []) in
             let end : index ≡ length front = last ∙ ap length left in
+            let found : slice_get map.now.pairs index ≡ Some (r.key, v) = (λ j. slice_get (now j) (end j)) ∙ pair-last front (r.key, v) in
             let form : o.map.now.is_vec ≡ true = sym after.form ∙ vector in
             let keep : KeepsPair (Occupied o) r.key v (Occupied (record { map = map; index = index; within = within })) = record {
-              pair = (λ j. slice_get (now j) (end j)) ∙ pair-last front (r.key, v);
+              pair = found;
+              key_is = key_of-pair map.now.pairs index ∙ ap (option_map (λ (p : K × V). p.0)) found;
               value_is = (λ j. slice_get (values_of (now j)) (end j)) ∙ value-last front r.key v;
               map = record {
                 pairs = now ∙ ap (λ b. if b then front ++ (r.key, v) ∷ [] else set_value ps o.index v) (sym form);

@@ -22,6 +22,7 @@ module _ {K V S L H : Type 0} {e : eq.Ghosts K} {h : hash.Ghosts K} {b : builder
   -- the stored key stays, with the value that was returned
   pub record KeepsPair (entry : LimitedEntry K V S L H e h b w l) (key : K) (value : V) (result : LimitedEntry K V S L H e h b w l) : Type 0 where
     pub pair : entry_pair result ≡ Some (key, value)
+    pub key_is : entry_key result ≡ Some key
     pub value_is : entry_value result ≡ Some value
     pub map : WithPairs (map_of entry) (kept_pairs entry key value) (map_of result)
     pub writes : (v : V) → WithPairs (map_of entry) (kept_pairs entry key v) (with_value result v)
