@@ -188,7 +188,7 @@ impl<K, V> VecMap<K, V> {
     /// ```
     /// let index = ages.find(&|index| ages.keys()[index] == 2, &mut tally); // index 1, found by two comparisons
     /// ```
-    #[inline(always)]
+    #[inline]
     pub fn find<F: Fn(usize) -> bool>(&self, matches: &F, tally: &mut Tally) -> Option<usize>
         requires { (index : ℕ) → index < length self.now.pairs → F.pre matches.now index }
         ensures found { IfSome result (λ index. (index < length self.now.pairs) × F.post matches.now index true) }

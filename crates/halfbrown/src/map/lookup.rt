@@ -51,16 +51,21 @@ impl<K: Eq + Hash, V, S: BuildHasher, L: Limit> LimitedHashMap<K, V, S, L> {
         ensures state { IsState K.eq L.LIMIT self.now }
     {
         let keys = self.columns.keys();
-        let matches = |index: usize| -> bool
-            requires { index < length keys.now }
-            ensures { (d : K) → result ≡ Q.equivalent key (slice_index_or keys.entry.now index d) }
-        { key.equivalent(&keys[index]) };
+        // A test for each form, since a closure with one call is inlined there.
         let Some(table) = self.form.table() else {
+            let matches = |index: usize| -> bool
+                requires { index < length keys.now }
+                ensures { (d : K) → result ≡ Q.equivalent key (slice_index_or keys.entry.now index d) }
+            { key.equivalent(&keys[index]) };
             return match self.columns.find(&matches, tally) {
                 Some(index) => Lookup::Found(index),
                 None => Lookup::Missing(Vacancy::InVector),
             };
         };
+        let matches = |index: usize| -> bool
+            requires { index < length keys.now }
+            ensures { (d : K) → result ≡ Q.equivalent key (slice_index_or keys.entry.now index d) }
+        { key.equivalent(&keys[index]) };
         let hash = counting::hash_one(&self.builder, &key, tally);
         match table.find(hash, &matches, tally) {
             Probe::Found(index) => Lookup::Found(index),
