@@ -6,6 +6,8 @@ mod basic_calls;
 #[cfg(test)]
 mod capacity_calls;
 #[cfg(test)]
+mod entries;
+#[cfg(test)]
 mod forms_of_keys;
 #[cfg(test)]
 mod table_work;

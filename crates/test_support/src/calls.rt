@@ -1,7 +1,8 @@
 //! Calls of a counting map, with what they must return and the work they must do.
 
-use crate::asserts::{assert_same, assert_same_at};
+use crate::asserts::{assert_same, assert_same_at, assert_true_at};
 use crate::counts::{Counted, Counts};
+use crate::keys::Id;
 use halfbrown::Refusal;
 use std::test::Fail;
 
@@ -71,6 +72,39 @@ pub fn assert_insert_unsearched<'a, const N: usize>(
     assert_same_at(id, counts.take(), work, "insert_nocheck: the work")
 }
 
+/// Makes the entry of the key and inserts this value where it is vacant, where memory is ample. The value that is held then
+/// is returned.
+pub fn assert_or_insert<'a, const N: usize>(
+    map: &mut Counted<'a, N>,
+    counts: &'a Counts,
+    pair: (u64, u64),
+    expected: (u64, (u64, u64)),
+) -> Result<(), Fail> {
+    let key = counts.key(pair.0);
+    counts.take();
+    let value = *map.entry(key)?.or_insert(pair.1);
+    let outcome = (value, counts.take());
+    assert_same_at(
+        pair,
+        outcome,
+        expected,
+        "or_insert: the value, and the work",
+    )
+}
+
+/// Makes the entry of the key and drops it unused, where memory is ample.
+pub fn assert_unused_entry<'a, const N: usize>(
+    map: &mut Counted<'a, N>,
+    counts: &'a Counts,
+    id: u64,
+    work: (u64, u64),
+) -> Result<(), Fail> {
+    let key = counts.key(id);
+    counts.take();
+    drop(map.entry(key)?);
+    assert_same_at(id, counts.take(), work, "entry: the work")
+}
+
 /// Reserves for so many pairs more, without work.
 pub fn assert_reserve<'a, const N: usize>(
     map: &mut Counted<'a, N>,
@@ -127,6 +161,26 @@ pub fn assert_form<const N: usize>(
 ) -> Result<(), Fail> {
     let actual = (form_of(map)?, map.len(), map.capacity());
     assert_same(actual, expected, "the form, the length and the capacity")
+}
+
+/// The pairs are these, each with the id and the mark of its key, and in a vector in this order: a look-up there compares the
+/// keys up to the one that it finds.
+pub fn assert_pairs<const N: usize>(
+    map: &Counted<'_, N>,
+    counts: &Counts,
+    expected: &[((u64, u64), u64)],
+) -> Result<(), Fail> {
+    assert_same(map.len(), expected.len(), "the length")?;
+    counts.take();
+    for (index, pair) in expected.iter().enumerate() {
+        let found = map.get_key_value(Id(pair.0.0));
+        let found = found.map(|found| (found.0.name(), *found.1));
+        assert_same_at(index, found, Some(*pair), "the pair")?;
+        let compared = counts.take().1;
+        let is_there = map.is_map() || compared.checked_sub(1) == Some(index as u64);
+        assert_true_at((*pair, compared), is_there, "it is at its index")?;
+    }
+    Ok(())
 }
 
 /// Inserts these keys, each as a new one with its number as its value.
