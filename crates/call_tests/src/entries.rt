@@ -1,14 +1,14 @@
 //! Entries: worked examples, each of their calls on a held key and on an absent one, in both forms, and what they are
 //! printed as.
 
-use halfbrown::{DefaultHashBuilder, Entry, HashMap, OccupiedEntry, VacantEntry};
+use halfbrown::{DefaultHashBuilder, Entry, HashMap, SizedHashMap};
 use std::alloc::Global;
 use std::fmt::Debug;
 use std::test::Fail;
 use test_support::asserts::{assert_same, assert_same_at};
-use test_support::builders::{Counting, Rule};
+use test_support::builders::Rule;
 use test_support::calls::{Form, assert_pairs, fill};
-use test_support::counts::Counts;
+use test_support::counts::{Counted, Counts};
 use test_support::keys::Key;
 use test_support::small_maps::{ABSENT, HELD};
 use test_support::steps::{Step, play};
@@ -143,46 +143,71 @@ enum Call {
     Remove,
     RemoveEntry,
     VacantKey,
-    IntoKey,
     InsertVacant,
 }
 
 // The value that is inserted.
 const NEW: u64 = 90;
 
-type CountedEntry<'m, 'a, const N: usize> = Entry<'m, Key<'a>, u64, N, Counting<'a>>;
-
-type CountedOccupied<'m, 'a, const N: usize> = OccupiedEntry<'m, Key<'a>, u64, N, Counting<'a>>;
-
-type CountedVacant<'m, 'a, const N: usize> = VacantEntry<'m, Key<'a>, u64, N, Counting<'a>>;
-
 // The key and the value that a call returns, or that are read through the entry after it.
 type Returned = (Option<(u64, u64)>, Option<u64>);
 
-// Makes the call.
-fn returned_by<const N: usize>(call: Call, entry: CountedEntry<'_, '_, N>) -> Returned {
+// Makes a call on the entry of this key, and forgets the work that made the entry.
+fn returned_by<'a, const N: usize>(
+    map: &mut Counted<'a, N>,
+    counts: &Counts,
+    key: Key<'a>,
+    call: Call,
+) -> Result<Returned, Fail> {
     match call {
+        Call::Drop | Call::Key | Call::OrInsert | Call::OrInsertWith | Call::OrDefault => {
+            returned_by_entry(map, counts, key, call)
+        }
+        Call::AndModify => returned_by_modified(map, counts, key),
+        Call::VacantKey | Call::InsertVacant => { returned_by_vacant(map, counts, key, call) }
+        _ => returned_by_occupied(map, counts, key, call),
+    }
+}
+
+fn returned_by_entry<'a, const N: usize>(
+    map: &mut Counted<'a, N>,
+    counts: &Counts,
+    key: Key<'a>,
+    call: Call,
+) -> Result<Returned, Fail> {
+    let entry = map.entry(key)?;
+    counts.take();
+    Ok(match call {
         Call::Key => (Some(entry.key().name()), None),
         Call::OrInsert => (None, Some(*entry.or_insert(NEW))),
         Call::OrInsertWith => (None, Some(*entry.or_insert_with(|| NEW))),
         Call::OrDefault => (None, Some(*entry.or_default())),
-        Call::AndModify => {
-            let entry = entry.and_modify(|value| *value = value.saturating_add(1));
-            (Some(entry.key().name()), None)
-        }
-        _ => match entry {
-            Entry::Occupied(entry) => returned_by_occupied(call, entry),
-            Entry::Vacant(entry) => returned_by_vacant(call, entry),
-        },
-    }
+        _ => (None, None),
+    })
 }
 
-// Makes a call of an occupied entry.
-fn returned_by_occupied<const N: usize>(
+fn returned_by_modified<'a, const N: usize>(
+    map: &mut Counted<'a, N>,
+    counts: &Counts,
+    key: Key<'a>,
+) -> Result<Returned, Fail> {
+    let entry = map.entry(key)?;
+    counts.take();
+    let entry = entry.and_modify(|value| *value = value.saturating_add(1));
+    Ok((Some(entry.key().name()), None))
+}
+
+fn returned_by_occupied<'a, const N: usize>(
+    map: &mut Counted<'a, N>,
+    counts: &Counts,
+    key: Key<'a>,
     call: Call,
-    mut entry: CountedOccupied<'_, '_, N>,
-) -> Returned {
-    match call {
+) -> Result<Returned, Fail> {
+    let Entry::Occupied(mut entry) = map.entry(key)? else {
+        return Ok((None, None));
+    };
+    counts.take();
+    Ok(match call {
         Call::OccupiedKey => (Some(entry.key().name()), None),
         Call::Get => (None, Some(*entry.get())),
         Call::GetMut => {
@@ -205,21 +230,28 @@ fn returned_by_occupied<const N: usize>(
             (Some(key.name()), Some(value))
         }
         _ => (None, None),
-    }
+    })
 }
 
-// Makes a call of a vacant entry.
-fn returned_by_vacant<const N: usize>(call: Call, entry: CountedVacant<'_, '_, N>) -> Returned {
-    match call {
+fn returned_by_vacant<'a, const N: usize>(
+    map: &mut Counted<'a, N>,
+    counts: &Counts,
+    key: Key<'a>,
+    call: Call,
+) -> Result<Returned, Fail> {
+    let Entry::Vacant(entry) = map.entry(key)? else {
+        return Ok((None, None));
+    };
+    counts.take();
+    Ok(match call {
         Call::VacantKey => (Some(entry.key().name()), None),
-        Call::IntoKey => (Some(entry.into_key().name()), None),
         Call::InsertVacant => {
             let value = entry.insert(NEW - 1);
             *value = NEW;
             (None, Some(*value))
         }
         _ => (None, None),
-    }
+    })
 }
 
 // The pairs that are held at first, each key with mark 1.
@@ -228,7 +260,7 @@ const BEFORE: &[((u64, u64), u64)] = &[((24, 1), 24), ((8, 1), 8), ((16, 1), 16)
 // A call of the entry of key 8 with mark 2, what it returns, and the pairs after it.
 type Case = (Call, Returned, &'static [((u64, u64), u64)]);
 
-const OF_A_HELD_KEY: [Case; 15] = [
+const OF_A_HELD_KEY: [Case; 14] = [
     (Call::Drop, (None, None), BEFORE),
     (Call::Key, (Some((8, 1)), None), BEFORE),
     (Call::OrInsert, (None, Some(8)), BEFORE),
@@ -247,7 +279,6 @@ const OF_A_HELD_KEY: [Case; 15] = [
     (Call::InsertTwice, (Some((8, 1)), Some(NEW)), WRITTEN),
     (Call::Remove, (None, Some(8)), REMOVED),
     (Call::RemoveEntry, (Some((8, 1)), Some(8)), REMOVED),
-    (Call::IntoKey, (None, None), BEFORE),
 ];
 
 const WRITTEN: &[((u64, u64), u64)] = &[((24, 1), 24), ((8, 1), NEW), ((16, 1), 16)];
@@ -256,7 +287,7 @@ const WRITTEN: &[((u64, u64), u64)] = &[((24, 1), 24), ((8, 1), NEW), ((16, 1), 
 const REMOVED: &[((u64, u64), u64)] = &[((24, 1), 24), ((16, 1), 16)];
 
 // The same for the absent key with mark 2.
-const OF_AN_ABSENT_KEY: [Case; 11] = [
+const OF_AN_ABSENT_KEY: [Case; 8] = [
     (Call::Drop, (None, None), BEFORE),
     (Call::Key, (Some((ABSENT, 2)), None), BEFORE),
     (Call::OrInsert, (None, Some(NEW)), ADDED),
@@ -268,10 +299,7 @@ const OF_AN_ABSENT_KEY: [Case; 11] = [
     ),
     (Call::AndModify, (Some((ABSENT, 2)), None), BEFORE),
     (Call::VacantKey, (Some((ABSENT, 2)), None), BEFORE),
-    (Call::IntoKey, (Some((ABSENT, 2)), None), BEFORE),
     (Call::InsertVacant, (None, Some(NEW)), ADDED),
-    (Call::Get, (None, None), BEFORE),
-    (Call::Remove, (None, None), BEFORE),
 ];
 
 // The new pair is the last.
@@ -291,9 +319,7 @@ fn assert_case<const N: usize>(
     let counts = Counts::new();
     let mut map = counts.map::<N>(alloc, Rule::Plain);
     fill(&mut map, &counts, &HELD)?;
-    let entry = map.entry(counts.marked(id, 2))?;
-    counts.take();
-    let returned = returned_by(call, entry);
+    let returned = returned_by(&mut map, &counts, counts.marked(id, 2), call)?;
     assert_same_at((N, id, call), returned, expected, "what is returned")?;
     assert_same_at((N, id, call), counts.take(), (0, 0), "the work")?;
     assert_pairs(&map, &counts, pairs)
@@ -317,6 +343,28 @@ fn the_entry_of_a_held_key_keeps_the_stored_key(rt: HostRuntime) -> Result<(), F
 #[test]
 fn the_entry_of_an_absent_key_adds_the_key_it_was_made_for(rt: HostRuntime) -> Result<(), Fail> {
     assert_cases(rt.alloc(), ABSENT, &OF_AN_ABSENT_KEY)
+}
+
+// The key that the vacant entry of this one gives back, and how many pairs are held after it.
+fn given_back<const N: usize>(alloc: Global, key: u64) -> Result<(Option<u64>, usize), Fail> {
+    let mut map = SizedHashMap::<u64, u64, DefaultHashBuilder, N>::new(alloc);
+    map.insert(8, 8)?;
+    let given_back = match map.entry(key)? {
+        Entry::Vacant(entry) => Some(entry.into_key()),
+        Entry::Occupied(_) => None,
+    };
+    Ok((given_back, map.len()))
+}
+
+#[test]
+fn a_vacant_entry_gives_its_key_back(rt: HostRuntime) -> Result<(), Fail> {
+    for (key, expected) in [(8, None), (9, Some(9))] {
+        let in_vector = given_back::<5>(rt.alloc(), key)?;
+        assert_same_at(key, in_vector, (expected, 1), "in a vector")?;
+        let in_table = given_back::<0>(rt.alloc(), key)?;
+        assert_same_at(key, in_table, (expected, 1), "in a table")?;
+    }
+    Ok(())
 }
 
 // How often the entry of this key calls the closure of `or_insert_with`, and that of `and_modify`.

@@ -3,11 +3,11 @@
 //! The costs in the contracts see what the tally counts. Here the builder and the keys count for themselves, and each call,
 //! plain and counted, does as much work as its cost says and no more.
 
-use halfbrown::{Equivalent, Tally};
+use halfbrown::{Entry, Equivalent, Tally};
 use std::alloc::Global;
 use std::test::Fail;
 use test_support::asserts::{assert_same, assert_same_at, assert_true};
-use test_support::builders::Rule;
+use test_support::builders::{Counting, Rule};
 use test_support::calls::fill;
 use test_support::counts::{Counted, Counts};
 use test_support::keys::{Id, Key};
@@ -82,48 +82,52 @@ const REMOVALS: [(Removal, On, u64, &[u64]); 10] = [
     (Removal::RemoveEntryCounted, On::Table, 1, &[1, 1, 1, 0]),
 ];
 
-// A call that inserts a key.
+// A call that inserts a key, or makes its entry, which is then dropped or is inserted through.
 #[derive(Clone, Copy, Debug)]
 enum Insertion {
     Insert,
     InsertCounted,
+    Entry,
+    EntryCounted,
+    EntryOrInsert,
+    EntryCountedOrInsert,
     InsertNocheck,
     InsertNocheckCounted,
 }
 
-// The call, the map, the key, the hashes and the comparisons. A switch hashes the three held keys. Calls without a search
-// need a key that is not held.
-const INSERTIONS: [(Insertion, On, u64, u64, u64); 30] = [
-    (Insertion::Insert, On::Vector, 8, 0, 2),
-    (Insertion::Insert, On::Vector, 32, 0, 3),
-    (Insertion::Insert, On::TightVector, 8, 0, 2),
-    (Insertion::Insert, On::TightVector, 32, 0, 3),
-    (Insertion::Insert, On::FullVector, 8, 4, 1),
-    (Insertion::Insert, On::FullVector, 32, 4, 0),
-    (Insertion::Insert, On::Table, 8, 1, 1),
-    (Insertion::Insert, On::Table, 32, 1, 0),
-    (Insertion::Insert, On::TightTable, 8, 1, 1),
-    (Insertion::Insert, On::TightTable, 32, 1, 0),
-    (Insertion::InsertCounted, On::Vector, 8, 0, 2),
-    (Insertion::InsertCounted, On::Vector, 32, 0, 3),
-    (Insertion::InsertCounted, On::TightVector, 8, 0, 2),
-    (Insertion::InsertCounted, On::TightVector, 32, 0, 3),
-    (Insertion::InsertCounted, On::FullVector, 8, 4, 1),
-    (Insertion::InsertCounted, On::FullVector, 32, 4, 0),
-    (Insertion::InsertCounted, On::Table, 8, 1, 1),
-    (Insertion::InsertCounted, On::Table, 32, 1, 0),
-    (Insertion::InsertCounted, On::TightTable, 8, 1, 1),
-    (Insertion::InsertCounted, On::TightTable, 32, 1, 0),
-    (Insertion::InsertNocheck, On::Vector, 32, 0, 0),
-    (Insertion::InsertNocheck, On::TightVector, 32, 0, 0),
-    (Insertion::InsertNocheck, On::FullVector, 32, 4, 0),
-    (Insertion::InsertNocheck, On::Table, 32, 1, 0),
-    (Insertion::InsertNocheck, On::TightTable, 32, 1, 0),
-    (Insertion::InsertNocheckCounted, On::Vector, 32, 0, 0),
-    (Insertion::InsertNocheckCounted, On::TightVector, 32, 0, 0),
-    (Insertion::InsertNocheckCounted, On::FullVector, 32, 4, 0),
-    (Insertion::InsertNocheckCounted, On::Table, 32, 1, 0),
-    (Insertion::InsertNocheckCounted, On::TightTable, 32, 1, 0),
+// The calls that search for the key. Their work is the same.
+const SEARCHING: [Insertion; 6] = [
+    Insertion::Insert,
+    Insertion::InsertCounted,
+    Insertion::Entry,
+    Insertion::EntryCounted,
+    Insertion::EntryOrInsert,
+    Insertion::EntryCountedOrInsert,
+];
+
+// The map, the key, the hashes and the comparisons. A switch hashes the three held keys.
+const SEARCHED: [(On, u64, u64, u64); 10] = [
+    (On::Vector, 8, 0, 2),
+    (On::Vector, 32, 0, 3),
+    (On::TightVector, 8, 0, 2),
+    (On::TightVector, 32, 0, 3),
+    (On::FullVector, 8, 4, 1),
+    (On::FullVector, 32, 4, 0),
+    (On::Table, 8, 1, 1),
+    (On::Table, 32, 1, 0),
+    (On::TightTable, 8, 1, 1),
+    (On::TightTable, 32, 1, 0),
+];
+
+// The calls without a search, which need a key that is not held.
+const UNSEARCHING: [Insertion; 2] = [Insertion::InsertNocheck, Insertion::InsertNocheckCounted];
+
+const UNSEARCHED: [(On, u64, u64, u64); 5] = [
+    (On::Vector, 32, 0, 0),
+    (On::TightVector, 32, 0, 0),
+    (On::FullVector, 32, 4, 0),
+    (On::Table, 32, 1, 0),
+    (On::TightTable, 32, 1, 0),
 ];
 
 // A call that needs no key.
@@ -285,7 +289,15 @@ fn removed<'a, Q: Equivalent<Key<'a>>, const N: usize>(
     }
 }
 
-// Whether the insertion replaced a value. Only a key that is not held is inserted without a search.
+// Whether the entry is that of a held key.
+fn is_occupied<const N: usize>(entry: &Entry<'_, Key<'_>, u64, N, Counting<'_>>) -> bool {
+    match entry {
+        Entry::Occupied(_) => true,
+        Entry::Vacant(_) => false,
+    }
+}
+
+// Whether the key of the insertion was held. Only a key that is not held is inserted without a search.
 fn replaced<'a, const N: usize>(
     map: &mut Counted<'a, N>,
     counts: &Counts,
@@ -296,6 +308,10 @@ fn replaced<'a, const N: usize>(
     Ok(match insertion {
         Insertion::Insert => map.insert(key, 0)?.is_some(),
         Insertion::InsertCounted => map.insert_counted(key, 0, tally)?.is_some(),
+        Insertion::Entry => is_occupied(&map.entry(key)?),
+        Insertion::EntryCounted => is_occupied(&map.entry_counted(key, tally)?),
+        Insertion::EntryOrInsert => *map.entry(key)?.or_insert(0) > 0,
+        Insertion::EntryCountedOrInsert => *map.entry_counted(key, tally)?.or_insert(0) > 0,
         Insertion::InsertNocheck | Insertion::InsertNocheckCounted if map.contains_key(&key) => {
             true
         }
@@ -363,13 +379,25 @@ fn each_removal_does_the_work_of_one_search(rt: HostRuntime) -> Result<(), Fail>
     Ok(())
 }
 
-#[test]
-fn each_insertion_does_the_work_of_its_cost(rt: HostRuntime) -> Result<(), Fail> {
-    for (insertion, on, id, asked, compared) in &INSERTIONS {
-        let call = Call::Inserts(*insertion, *id);
-        assert_outcome(rt.alloc(), call, *on, (true, *asked, *compared))?;
+// Makes each of these calls in each of these cases.
+fn assert_insertions(
+    alloc: Global,
+    insertions: &[Insertion],
+    cases: &[(On, u64, u64, u64)],
+) -> Result<(), Fail> {
+    for insertion in insertions {
+        for (on, id, asked, compared) in cases {
+            let call = Call::Inserts(*insertion, *id);
+            assert_outcome(alloc, call, *on, (true, *asked, *compared))?;
+        }
     }
     Ok(())
+}
+
+#[test]
+fn each_insertion_does_the_work_of_its_cost(rt: HostRuntime) -> Result<(), Fail> {
+    assert_insertions(rt.alloc(), &SEARCHING, &SEARCHED)?;
+    assert_insertions(rt.alloc(), &UNSEARCHING, &UNSEARCHED)
 }
 
 #[test]
