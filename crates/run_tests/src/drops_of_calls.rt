@@ -6,7 +6,9 @@ ghost use Rattle.std.specs.Cmp.Rules.{comparing, hashing};
 ghost use Rattle.std.proofs.Common.{rules};
 
 use halfbrown::run::run;
-use halfbrown::{Command, DefaultHashBuilder, Refusal, Refused, Reply, SizedHashMap, Tally};
+use halfbrown::{
+    Command, DefaultHashBuilder, Entry, Refusal, Refused, RefusedKey, Reply, SizedHashMap, Tally,
+};
 use std::alloc::Global;
 use std::cell::Cell;
 use std::hash::{Hash, Hasher};
@@ -121,6 +123,14 @@ enum Call {
     RemoveEntry(u64),
     RemoveEntryCounted(u64),
     WriteByGetMut(u64),
+    DropEntry(u64),
+    OrInsert(u64),
+    OrInsertWith(u64),
+    AndModify(u64),
+    WriteByEntry(u64),
+    InsertByEntry(u64),
+    RemoveByEntry(u64),
+    RemoveEntryByEntry(u64),
     Reserve(usize),
     ShrinkToFit,
     Clear,
@@ -223,6 +233,37 @@ const OTHERS: [Case; 12] = [
     (Call::Clear, On::Table, (3, 3), (0, 0), (0, 0)),
 ];
 
+// The call, the maps, and how many keys and values are dropped, as in a case.
+type EntryCase = (Call, (u64, u64), (u64, u64), (u64, u64));
+
+// The key that an entry was made for is dropped where an equal one is held, and where the entry is unused.
+const ENTRIES: [EntryCase; 15] = [
+    (Call::DropEntry(8), (1, 0), (0, 0), (3, 3)),
+    (Call::DropEntry(32), (1, 0), (0, 0), (3, 3)),
+    (Call::OrInsert(8), (1, 1), (0, 0), (3, 3)),
+    (Call::OrInsert(32), (0, 0), (0, 0), (4, 4)),
+    (Call::OrInsertWith(8), (1, 0), (0, 0), (3, 3)),
+    (Call::OrInsertWith(32), (0, 0), (0, 0), (4, 4)),
+    (Call::AndModify(8), (1, 1), (0, 0), (3, 3)),
+    (Call::AndModify(32), (1, 0), (0, 0), (3, 3)),
+    (Call::WriteByEntry(8), (1, 1), (0, 0), (3, 3)),
+    (Call::WriteByEntry(32), (0, 1), (0, 0), (4, 4)),
+    (Call::InsertByEntry(8), (1, 0), (0, 1), (3, 3)),
+    (Call::InsertByEntry(32), (0, 0), (0, 0), (4, 4)),
+    (Call::RemoveByEntry(8), (2, 0), (0, 1), (2, 2)),
+    (Call::RemoveByEntry(32), (1, 0), (0, 0), (3, 3)),
+    (Call::RemoveEntryByEntry(8), (1, 0), (1, 1), (2, 2)),
+];
+
+// The maps on which each is made.
+const ON: [On; 5] = [
+    On::Vector,
+    On::TightVector,
+    On::FullVector,
+    On::Table,
+    On::TightTable,
+];
+
 // What a call returned.
 #[derive(Drop)]
 enum Returned<'a> {
@@ -306,6 +347,32 @@ fn returned_by<'a, const N: usize>(
             }
             Returned::Nothing
         }
+        Call::DropEntry(id) => {
+            drop(map.entry(drops.key(id))?);
+            Returned::Nothing
+        }
+        Call::OrInsert(id) => {
+            map.entry(drops.key(id))?.or_insert(drops.value());
+            Returned::Nothing
+        }
+        Call::OrInsertWith(id) => {
+            map.entry(drops.key(id))?.or_insert_with(|| drops.value());
+            Returned::Nothing
+        }
+        Call::AndModify(id) => {
+            drop(
+                map.entry(drops.key(id))?
+                    .and_modify(|value| *value = drops.value()),
+            );
+            Returned::Nothing
+        }
+        Call::WriteByEntry(id) => {
+            write_by_entry(map, drops, id)?;
+            Returned::Nothing
+        }
+        Call::InsertByEntry(id) => Returned::Value(insert_by_entry(map, drops, id)?),
+        Call::RemoveByEntry(id) => Returned::Value(remove_by_entry(map, drops, id)?),
+        Call::RemoveEntryByEntry(id) => Returned::Pair(remove_entry_by_entry(map, drops, id)?),
         Call::Reserve(additional) => {
             map.reserve(additional)?;
             Returned::Nothing
@@ -339,6 +406,58 @@ fn insert_unsearched<'a, const N: usize>(
     Ok(())
 }
 
+// Writes a value through the entry: over the held one, or over one that is inserted.
+fn write_by_entry<'a, const N: usize>(
+    map: &mut Dropping<'a, N>,
+    drops: &'a Drops,
+    id: u64,
+) -> Result<(), Refusal> {
+    match map.entry(drops.key(id))? {
+        Entry::Occupied(entry) => *entry.into_mut() = drops.value(),
+        Entry::Vacant(entry) => *entry.insert(drops.value()) = drops.value(),
+    }
+    Ok(())
+}
+
+// Inserts a value through the entry, and returns the old one.
+fn insert_by_entry<'a, const N: usize>(
+    map: &mut Dropping<'a, N>,
+    drops: &'a Drops,
+    id: u64,
+) -> Result<Option<Value<'a>>, Refusal> {
+    Ok(match map.entry(drops.key(id))? {
+        Entry::Occupied(mut entry) => Some(entry.insert(drops.value())),
+        Entry::Vacant(entry) => {
+            entry.insert(drops.value());
+            None
+        }
+    })
+}
+
+// Removes the pair through its entry, and returns the value.
+fn remove_by_entry<'a, const N: usize>(
+    map: &mut Dropping<'a, N>,
+    drops: &'a Drops,
+    id: u64,
+) -> Result<Option<Value<'a>>, Refusal> {
+    Ok(match map.entry(drops.key(id))? {
+        Entry::Occupied(entry) => Some(entry.remove()),
+        Entry::Vacant(_vacant) => None,
+    })
+}
+
+// The same, with the stored key.
+fn remove_entry_by_entry<'a, const N: usize>(
+    map: &mut Dropping<'a, N>,
+    drops: &'a Drops,
+    id: u64,
+) -> Result<Option<(Key<'a>, Value<'a>)>, Refusal> {
+    Ok(match map.entry(drops.key(id))? {
+        Entry::Occupied(entry) => Some(entry.remove_entry()),
+        Entry::Vacant(_vacant) => None,
+    })
+}
+
 // Makes the call on a new map, and fails where something else is dropped.
 fn assert_dropped(alloc: Global, case: Case) -> Result<(), Fail> {
     let (call, on, by_call, with_result, with_map) = case;
@@ -357,6 +476,17 @@ fn assert_all_dropped(alloc: Global, cases: &[Case]) -> Result<(), Fail> {
 #[test]
 fn an_insertion_drops_what_it_does_not_keep(rt: HostRuntime) -> Result<(), Fail> {
     assert_all_dropped(rt.alloc(), &INSERTIONS)
+}
+
+#[test]
+fn an_entry_drops_what_it_does_not_keep(rt: HostRuntime) -> Result<(), Fail> {
+    for (call, by_call, with_result, with_map) in &ENTRIES {
+        for on in &ON {
+            let case = (*call, *on, *by_call, *with_result, *with_map);
+            assert_dropped(rt.alloc(), case)?;
+        }
+    }
+    Ok(())
 }
 
 #[test]
@@ -381,6 +511,19 @@ fn a_refused_pair_is_dropped_once() -> Result<(), Fail> {
     assert_same(drops.take(), (1, 1), "dropped")?;
     assert_same(Refusal::from(refused()), Refusal::Memory, "the reason")?;
     assert_same(drops.take(), (1, 1), "converted")
+}
+
+#[test]
+fn a_refused_key_is_dropped_once() -> Result<(), Fail> {
+    let drops = Drops::new();
+    let refused = || RefusedKey {
+        key: drops.key(1),
+        why: Refusal::Memory,
+    };
+    drop(refused());
+    assert_same(drops.take(), (1, 0), "dropped")?;
+    assert_same(Refusal::from(refused()), Refusal::Memory, "the reason")?;
+    assert_same(drops.take(), (1, 0), "converted")
 }
 
 // A map whose keys count their drops.

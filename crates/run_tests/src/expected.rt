@@ -143,6 +143,33 @@ impl Expected {
         })
     }
 
+    /// The pairs, in the order of a vector.
+    pub(crate) fn pairs(&self) -> &[(Name, u64)] {
+        self.pairs.as_slice()
+    }
+
+    /// Makes the entry of a key, and returns the index and the pair where it is held, and the work.
+    pub(crate) fn entry(&mut self, key: Name) -> (Option<(usize, (Name, u64))>, Work) {
+        let switch = self.switch_if_full();
+        let held = self
+            .index_of(key)
+            .and_then(|index| Some((index, *self.pairs.get(index)?)));
+        (held, self.search_work(key).plus(switch))
+    }
+
+    /// Writes the value of the pair at this index.
+    pub(crate) fn write(&mut self, index: usize, value: u64) {
+        if let Some(pair) = self.pairs.get_mut(index) {
+            pair.1 = value;
+        }
+    }
+
+    /// Adds a pair at the end.
+    pub(crate) fn push(&mut self, key: Name, value: u64) -> Result<(), AllocError> {
+        self.pairs.push((key, value))?;
+        Ok(())
+    }
+
     fn insert(&mut self, key: Name, value: u64) -> Result<(Reply<Name, u64>, Work), AllocError> {
         let switch = self.switch_if_full();
         let found = self.index_of(key);
@@ -298,8 +325,8 @@ impl Expected {
         self.pairs.iter().position(|pair| pair.0.0 == key.0)
     }
 
-    // The last pair takes the index of the one that is removed.
-    fn swap_remove(&mut self, index: usize) -> Option<(Name, u64)> {
+    /// Removes the pair at this index, which the last pair takes.
+    pub(crate) fn swap_remove(&mut self, index: usize) -> Option<(Name, u64)> {
         if index < self.pairs.len() {
             Some(self.pairs.swap_remove(index))
         } else {

@@ -8,4 +8,6 @@ mod expected;
 #[cfg(test)]
 mod long_runs;
 #[cfg(test)]
+mod long_runs_of_entries;
+#[cfg(test)]
 mod names;
