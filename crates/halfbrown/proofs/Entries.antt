@@ -20,7 +20,7 @@ use Rattle.halfbrown.specs.Growth.{insert_needs}
 use Rattle.halfbrown.specs.Insertion.{Puts}
 use Rattle.halfbrown.specs.Lookup.{IsIndexOf, IsAbsent}
 use Rattle.halfbrown.specs.Pairs.{put, take_out}
-use Rattle.halfbrown.specs.Room.{MakesRoom, filled, pushed}
+use Rattle.halfbrown.specs.Preparation.{Prepares, filled, pushed}
 use Rattle.halfbrown.specs.State.{State, state, contents_of, with_pairs}
 use Rattle.halfbrown.specs.Updates.{HasPut, HasRemoved}
 use Rattle.halfbrown.proofs.CallerLemmas.{has_put, has_removed}
@@ -43,9 +43,9 @@ module _ {K V : Type 0} where
   value-last [] k v = refl
   value-last (p ∷ ps) k v = value-last ps k v
 
-module _ {K V S : Type 0} (limit : ℕ) (same : K → K → Bool) (laws : IsEquivalence same) (old m : State K V S) (k : K) (room : MakesRoom limit old (insert_needs limit same old k) m) where
+module _ {K V S : Type 0} (limit : ℕ) (same : K → K → Bool) (laws : IsEquivalence same) (old m : State K V S) (k : K) (prepared : Prepares limit old (insert_needs limit same old k) m) where
   put_is : (ps : List (K × V)) (v : V) → put same m.pairs k v ≡ ps → put same old.pairs k v ≡ ps
-  put_is ps v is = ap (λ qs. put same qs k v) (sym room.pairs) ∙ is
+  put_is ps v is = ap (λ qs. put same qs k v) (sym prepared.pairs) ∙ is
 
   has_put_at : (ps : List (K × V)) (v : V) → put same m.pairs k v ≡ ps → HasPut same old.pairs k v ps
   has_put_at ps v is = subst (HasPut same old.pairs k v) (put_is ps v is) (has_put same laws old.pairs k v)
@@ -54,24 +54,24 @@ module _ {K V S : Type 0} (limit : ℕ) (same : K → K → Bool) (laws : IsEqui
       → Puts limit same old k v (insert_needs limit same old k) (state m.is_vec ps m.capacity m.builder contents)
   puts_at ps contents v is = record {
     pairs = sym (put_is ps v is);
-    form = room.form;
-    capacity = room.capacity;
-    grantable = room.grantable;
-    builder = room.builder;
+    form = prepared.form;
+    capacity = prepared.capacity;
+    grantable = prepared.grantable;
+    builder = prepared.builder;
   }
 
   taken_is : (ps : List (K × V)) → take_out same m.pairs k ≡ ps → take_out same old.pairs k ≡ ps
-  taken_is ps is = ap (λ qs. take_out same qs k) (sym room.pairs) ∙ is
+  taken_is ps is = ap (λ qs. take_out same qs k) (sym prepared.pairs) ∙ is
 
   has_removed_at : (ps : List (K × V)) → IsDistinct same (keys_of m.pairs) → take_out same m.pairs k ≡ ps → HasRemoved same old.pairs k ps
   has_removed_at ps distinct is =
-      subst (HasRemoved same old.pairs k) (taken_is ps is) (has_removed same laws old.pairs (subst (λ qs. IsDistinct same (keys_of qs)) room.pairs distinct) k)
+      subst (HasRemoved same old.pairs k) (taken_is ps is) (has_removed same laws old.pairs (subst (λ qs. IsDistinct same (keys_of qs)) prepared.pairs distinct) k)
 
 module _ {K V S L H : Type 0} {e : eq.Ghosts K} {h : hash.Ghosts K} {b : builder.Ghosts S H} {w : hasher.Ghosts H} {l : limits.Ghosts L} (limit : ℕ) (same : K → K → Bool) (laws : IsEquivalence same) (old : State K V S) where
   -- of a held key
-  module _ (k : K) (o : LimitedOccupiedEntry K V S L H e h b w l) (room : MakesRoom limit old (insert_needs limit same old k) o.map.now) (at : IsIndexOf (same k) o.map.now.pairs o.index) where
+  module _ (k : K) (o : LimitedOccupiedEntry K V S L H e h b w l) (prepared : Prepares limit old (insert_needs limit same old k) o.map.now) (at : IsIndexOf (same k) o.map.now.pairs o.index) where
     pub found_entry : IsEntryOf same old.pairs k (Occupied o)
-    found_entry = subst (λ ps. IsEntryOf same ps k (Occupied o)) room.pairs (record {
+    found_entry = subst (λ ps. IsEntryOf same ps k (Occupied o)) prepared.pairs (record {
       occupied = sym at.held;
       pair = sym at.pair;
       value = sym at.value;
@@ -82,20 +82,20 @@ module _ {K V S L H : Type 0} {e : eq.Ghosts K} {h : hash.Ghosts K} {b : builder
     pub found_writes : WritesPut limit same old k (Occupied o)
     unfolding with_value
     found_writes = record {
-      puts = λ v. puts_at limit same laws old o.map.now k room (set_value o.map.now.pairs o.index v) (contents_of o.map.now) v (at.put_is k v);
-      put = λ v. has_put_at limit same laws old o.map.now k room (set_value o.map.now.pairs o.index v) v (at.put_is k v);
+      puts = λ v. puts_at limit same laws old o.map.now k prepared (set_value o.map.now.pairs o.index v) (contents_of o.map.now) v (at.put_is k v);
+      put = λ v. has_put_at limit same laws old o.map.now k prepared (set_value o.map.now.pairs o.index v) v (at.put_is k v);
     }
 
     pub found_removes : IsDistinct same (keys_of o.map.now.pairs) → RemovesKey same old.pairs k (Occupied o)
     found_removes distinct = record {
-      pairs_left = sym (taken_is limit same laws old o.map.now k room (swap_out o.map.now.pairs o.index) at.take_is);
-      removed = has_removed_at limit same laws old o.map.now k room (swap_out o.map.now.pairs o.index) distinct at.take_is;
+      pairs_left = sym (taken_is limit same laws old o.map.now k prepared (swap_out o.map.now.pairs o.index) at.take_is);
+      removed = has_removed_at limit same laws old o.map.now k prepared (swap_out o.map.now.pairs o.index) distinct at.take_is;
     }
 
   -- of a key that is not held
-  module _ (v : LimitedVacantEntry K V S L H e h b w l) (room : MakesRoom limit old (insert_needs limit same old v.key) v.map.now) (absent : IsAbsent (same v.key) v.map.now.pairs) where
+  module _ (v : LimitedVacantEntry K V S L H e h b w l) (prepared : Prepares limit old (insert_needs limit same old v.key) v.map.now) (absent : IsAbsent (same v.key) v.map.now.pairs) where
     pub missing_entry : IsEntryOf same old.pairs v.key (Vacant v)
-    missing_entry = subst (λ ps. IsEntryOf same ps v.key (Vacant v)) room.pairs (record {
+    missing_entry = subst (λ ps. IsEntryOf same ps v.key (Vacant v)) prepared.pairs (record {
       occupied = sym absent.held;
       pair = sym absent.pair;
       value = sym absent.value;
@@ -106,14 +106,14 @@ module _ {K V S L H : Type 0} {e : eq.Ghosts K} {h : hash.Ghosts K} {b : builder
     pub missing_writes : WritesPut limit same old v.key (Vacant v)
     unfolding with_value
     missing_writes = record {
-      puts = λ value. puts_at limit same laws old v.map.now v.key room (v.map.now.pairs ++ (v.key, value) ∷ []) (filled (contents_of v.map.now) v.vacancy) value (absent.put_is v.key value);
-      put = λ value. has_put_at limit same laws old v.map.now v.key room (v.map.now.pairs ++ (v.key, value) ∷ []) value (absent.put_is v.key value);
+      puts = λ value. puts_at limit same laws old v.map.now v.key prepared (v.map.now.pairs ++ (v.key, value) ∷ []) (filled (contents_of v.map.now) v.vacancy) value (absent.put_is v.key value);
+      put = λ value. has_put_at limit same laws old v.map.now v.key prepared (v.map.now.pairs ++ (v.key, value) ∷ []) value (absent.put_is v.key value);
     }
 
     pub missing_removes : IsDistinct same (keys_of v.map.now.pairs) → RemovesKey same old.pairs v.key (Vacant v)
     missing_removes distinct = record {
-      pairs_left = sym (taken_is limit same laws old v.map.now v.key room v.map.now.pairs absent.take_is);
-      removed = has_removed_at limit same laws old v.map.now v.key room v.map.now.pairs distinct absent.take_is;
+      pairs_left = sym (taken_is limit same laws old v.map.now v.key prepared v.map.now.pairs absent.take_is);
+      removed = has_removed_at limit same laws old v.map.now v.key prepared v.map.now.pairs distinct absent.take_is;
     }
 
 module _ {K V S L H : Type 0} {e : eq.Ghosts K} {h : hash.Ghosts K} {b : builder.Ghosts S H} {w : hasher.Ghosts H} {l : limits.Ghosts L} (o : LimitedOccupiedEntry K V S L H e h b w l) where

@@ -7,8 +7,8 @@ pub mod InsertLemmas
 pub mod Kept
 pub mod Lookups
 pub mod MapLaws
-pub mod PlaceProp
-pub mod Places
+pub mod VacancyProp
+pub mod Vacancies
 pub mod Replacements
 pub mod RunLaws
 pub mod RunLemmas

@@ -15,7 +15,7 @@ use Rattle.halfbrown.specs.declared.refused.RefusedKey.{RefusedKey}
 use Rattle.halfbrown.specs.Growth.{insert_needs, IsRefusal}
 use Rattle.halfbrown.specs.Insertion.{Puts}
 use Rattle.halfbrown.specs.Pairs.{value_of, pair_of, holds, take_out}
-use Rattle.halfbrown.specs.Room.{pushed}
+use Rattle.halfbrown.specs.Preparation.{pushed}
 use Rattle.halfbrown.specs.State.{State, with_pairs}
 use Rattle.halfbrown.specs.Updates.{HasPut, HasRemoved}
 

@@ -10,7 +10,7 @@ pub mod Lookup
 pub mod MapLaws
 pub mod Pairs
 pub mod Replacement
-pub mod Room
+pub mod Preparation
 pub mod Run
 pub mod RunCost
 pub mod RunLaws

@@ -1,8 +1,8 @@
-//! The entry of one key: the pair that is held for it, or a place for the pair that is not.
+//! The entry of one key: the pair that is held for it, or a vacancy for the pair that is not.
 ghost use Rattle.std.specs.Prelude.{◌≡◌, ◌<◌, false, length};
 ghost use Rattle.halfbrown.specs.Costs.{key_hash};
 ghost use Rattle.halfbrown.specs.Pairs.{holds};
-ghost use Rattle.halfbrown.specs.Room.{IsPlace};
+ghost use Rattle.halfbrown.specs.Preparation.{IsProbedVacancy};
 ghost use Rattle.halfbrown.specs.State.{contents_of};
 
 mod debug;
@@ -44,7 +44,7 @@ pub type OccupiedEntry<'a, K, V, const N: usize, S> = LimitedOccupiedEntry<'a, K
 /// ```
 pub type VacantEntry<'a, K, V, const N: usize, S> = LimitedVacantEntry<'a, K, V, S, UpTo<N>>;
 
-/// The entry of a key, by `LimitedHashMap::entry`. The map has been searched, and there is room for the pair where it is
+/// The entry of a key, by `LimitedHashMap::entry`. The map has been searched, and the capacity is enough for the pair where it is
 /// not held; so nothing fails after that, nothing is hashed and no key is compared.
 ///
 /// In a function of maps of any limit it is matched by this name:
@@ -77,14 +77,14 @@ pub struct LimitedOccupiedEntry<'a, K: Eq + Hash, V, S: BuildHasher, L: Limit> {
     ghost within: { index < length map.now.pairs },
 }
 
-/// A place for the pair of a key that is not held.
+/// A vacancy for the pair of a key that is not held.
 #[derive(Drop)]
 pub struct LimitedVacantEntry<'a, K: Eq + Hash, V, S: BuildHasher, L: Limit> {
     map: &'a mut LimitedHashMap<K, V, S, L>,
     key: K,
     vacancy: Vacancy,
-    ghost room: { length map.now.pairs < map.now.capacity },
+    ghost capacity_left: { length map.now.pairs < map.now.capacity },
     ghost absent: { holds K.eq map.now.pairs key ≡ false },
-    ghost place: { ∥ IsPlace map.now.is_vec (contents_of map.now)
+    ghost probed: { ∥ IsProbedVacancy map.now.is_vec (contents_of map.now)
         (key_hash S.BuildHasher S.Hasher.Hasher K.hash_input map.now.builder key) vacancy ∥₁ },
 }

@@ -11,9 +11,9 @@ mod insert;
 pub mod laws;
 pub(crate) mod lookup;
 mod make;
+mod prepare;
 mod remove;
 mod replace;
-mod room;
 mod switch;
 
 use crate::{Limit, UpTo};

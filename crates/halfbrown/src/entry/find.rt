@@ -5,7 +5,7 @@ ghost use Rattle.halfbrown.specs.Costs.{key_hash, InsertCosts};
 ghost use Rattle.halfbrown.specs.Entry.{map_of, map_ref, IsEntryOf, WritesPut, RemovesKey, HandsBackKey};
 ghost use Rattle.halfbrown.specs.EntryLending.{RestsIfRefused};
 ghost use Rattle.halfbrown.specs.Growth.{insert_needs};
-ghost use Rattle.halfbrown.specs.Room.{MakesRoom};
+ghost use Rattle.halfbrown.specs.Preparation.{Prepares};
 ghost use Rattle.halfbrown.specs.State.{IsState};
 
 use super::{LimitedEntry, LimitedOccupiedEntry, LimitedVacantEntry};
@@ -32,7 +32,7 @@ impl<K: Eq + Hash, V, S: BuildHasher, L: Limit> LimitedHashMap<K, V, S, L> {
         K: Drop,
         ensures* unchanged { sem 𝓛 (RestsIfRefused K.row V.row S.row L.row S.Hasher.row self.entry result) }
         ensures same_map { IfOk result (λ e. (map_ref e).ghost_name ≡ self.entry.ghost_name) }
-        ensures ok { IfOk result (λ e. MakesRoom L.LIMIT self.old (insert_needs L.LIMIT K.eq self.old key) (map_of e)) }
+        ensures ok { IfOk result (λ e. Prepares L.LIMIT self.old (insert_needs L.LIMIT K.eq self.old key) (map_of e)) }
         ensures entry { IfOk result (IsEntryOf K.eq self.old.pairs key) }
         ensures writes { IfOk result (WritesPut L.LIMIT K.eq self.old key) }
         ensures removes { IfOk result (RemovesKey K.eq self.old.pairs key) }
@@ -58,7 +58,7 @@ impl<K: Eq + Hash, V, S: BuildHasher, L: Limit> LimitedHashMap<K, V, S, L> {
         K: Drop,
         ensures* unchanged { sem 𝓛 (RestsIfRefused K.row V.row S.row L.row S.Hasher.row self.entry result) }
         ensures same_map { IfOk result (λ e. (map_ref e).ghost_name ≡ self.entry.ghost_name) }
-        ensures ok { IfOk result (λ e. MakesRoom L.LIMIT self.old (insert_needs L.LIMIT K.eq self.old key) (map_of e)) }
+        ensures ok { IfOk result (λ e. Prepares L.LIMIT self.old (insert_needs L.LIMIT K.eq self.old key) (map_of e)) }
         ensures entry { IfOk result (IsEntryOf K.eq self.old.pairs key) }
         ensures writes { IfOk result (WritesPut L.LIMIT K.eq self.old key) }
         ensures removes { IfOk result (RemovesKey K.eq self.old.pairs key) }

@@ -4,7 +4,7 @@ ghost use Rattle.std.specs.Map.{values_of};
 ghost use Rattle.half_store.specs.Pairs.{set_value};
 ghost use Rattle.halfbrown.specs.Costs.{key_hash};
 ghost use Rattle.halfbrown.specs.Pairs.{holds};
-ghost use Rattle.halfbrown.specs.Room.{IsPlace, pushed};
+ghost use Rattle.halfbrown.specs.Preparation.{IsProbedVacancy, pushed};
 ghost use Rattle.halfbrown.specs.State.{IsState, WithPairs, contents_of};
 
 use super::LimitedHashMap;
@@ -24,12 +24,12 @@ impl<K: Eq + Hash, V, S: BuildHasher, L: Limit> LimitedHashMap<K, V, S, L> {
         self.columns.replace_value(index, value)
     }
 
-    /// Adds a pair whose key is not held, at a place for it. It probes nothing.
+    /// Adds a pair whose key is not held, at a vacancy whose bucket is known. It probes nothing.
     #[inline(always)]
     pub(crate) fn push(&mut self, key: K, value: V, vacancy: Vacancy)
         requires capacity { length self.old.pairs < self.old.capacity }
         requires absent { holds K.eq self.old.pairs key ≡ false }
-        requires place { IsPlace self.old.is_vec (contents_of self.old)
+        requires probed { IsProbedVacancy self.old.is_vec (contents_of self.old)
             (key_hash S.BuildHasher S.Hasher.Hasher K.hash_input self.old.builder key) vacancy }
         ensures exact { self.new ≡ pushed self.old key value vacancy }
         ensures after { WithPairs self.old (self.old.pairs ++ (key, value) ∷ []) self.new }

@@ -8,7 +8,7 @@ ghost use Rattle.half_store.specs.Reach.{reach};
 ghost use Rattle.half_store.specs.Table.{IsVacancyIn};
 ghost use Rattle.halfbrown.specs.Form.{form_of, vector_form, table_form};
 ghost use Rattle.halfbrown.specs.Lookup.{IsVacancy, stored_hash, is_unprobed};
-ghost use Rattle.halfbrown.specs.Room.{IsPlace, filled};
+ghost use Rattle.halfbrown.specs.Preparation.{IsProbedVacancy, filled};
 
 use super::lookup::Vacancy;
 use half_store::table::Table;
@@ -134,7 +134,7 @@ impl Form {
     #[inline(always)]
     pub(crate) fn add(&mut self, vacancy: Vacancy)
         requires capacity { self.old.is_vec ≡ false → length self.old.hashes < capacity_of self.old.buckets }
-        requires place { IsPlace self.old.is_vec self.old.contents (stored_hash vacancy) vacancy }
+        requires probed { IsProbedVacancy self.old.is_vec self.old.contents (stored_hash vacancy) vacancy }
         ensures form { self.new.is_vec ≡ self.old.is_vec }
         ensures buckets { self.new.buckets ≡ self.old.buckets }
         ensures hashes { self.old.is_vec ≡ false → self.new.hashes ≡ self.old.hashes ++ stored_hash vacancy ∷ [] }

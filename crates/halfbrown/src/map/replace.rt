@@ -32,7 +32,7 @@ impl<K: Eq + Hash, V, S: BuildHasher, L: Limit> LimitedHashMap<K, V, S, L> {
         ensures vacant { IfSome result (λ removed. IsVacancy self.new.is_vec (contents_of self.new)
             (key_hash S.BuildHasher S.Hasher.Hasher K.hash_input self.new.builder removed.0) removed.1) }
         ensures absent { IfSome result (λ removed. holds K.eq self.new.pairs removed.0 ≡ false) }
-        ensures room { OnSome result (length self.new.pairs < self.new.capacity) }
+        ensures capacity_left { OnSome result (length self.new.pairs < self.new.capacity) }
         ensures unprobed { IfSome result (λ removed. is_unprobed removed.1 ≡ not self.new.is_vec) }
         ensures state { IsState K.eq L.LIMIT self.new }
     {

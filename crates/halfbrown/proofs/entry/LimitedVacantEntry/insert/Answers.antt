@@ -4,17 +4,17 @@ use Rattle.std.proofs.lemmas.Option.{same_Some}
 use Rattle.std.specs.Map.{values_of}
 use Rattle.half_store.specs.Pairs.{set_value}
 use Rattle.halfbrown.specs.Costs.{key_hash}
-use Rattle.halfbrown.specs.Room.{pushed}
+use Rattle.halfbrown.specs.Preparation.{pushed}
 use Rattle.halfbrown.specs.State.{with_pairs, contents_of}
 use Rattle.halfbrown.proofs.Entries.{set_value-last, value-last, vacant_writes}
-use Rattle.halfbrown.proofs.PlaceProp.{place-prop}
+use Rattle.halfbrown.proofs.VacancyProp.{probed_vacancy-prop}
 use Rattle.halfbrown.proofs.entry.LimitedVacantEntry.insert.Goals as goal
 
-pub push-requires-clause-place : goal.push-requires-clause-place
-push-requires-clause-place g c =
+pub push-requires-clause-probed : goal.push-requires-clause-probed
+push-requires-clause-probed g c =
     let v = c.args.self in
     let m = v.map.now in
-    ∥∥₁_elim v.place (place-prop m.is_vec (contents_of m) (key_hash g.S.BuildHasher g.S.Hasher.Hasher g.K.Hash.hash_input m.builder v.key) v.vacancy) (λ place. place)
+    ∥∥₁_elim v.probed (probed_vacancy-prop m.is_vec (contents_of m) (key_hash g.S.BuildHasher g.S.Hasher.Hasher g.K.Hash.hash_input m.builder v.key) v.vacancy) (λ known. known)
 
 pub returns : goal.returns
 returns g c =

@@ -1,6 +1,6 @@
 use Rattle.std.proofs.Common.{refl, subst}
 use Rattle.halfbrown.specs.Costs.{key_hash}
-use Rattle.halfbrown.specs.Room.{IsReadyFor}
+use Rattle.halfbrown.specs.Preparation.{IsReadyFor}
 use Rattle.halfbrown.proofs.Entries.{found_entry, found_writes, found_removes, missing_entry, missing_writes, missing_removes}
 use Rattle.halfbrown.proofs.map.LimitedHashMap.entry_counted.Goals as goal
 
@@ -10,16 +10,16 @@ returns-in-Ok-Found g c =
     let laws = g.met.K.Eq.laws in
     let limit = g.L.Limit.LIMIT in
     let key = c.args.key in
-    let room = c.in-Ok-Found.ensures.ok in
+    let prepared = c.in-Ok-Found.ensures.ok in
     let at = subst (IsReadyFor same (key_hash g.S.BuildHasher g.S.Hasher.Hasher g.K.Hash.hash_input) c.prepare.new.self key) c.in-Ok-Found.field-0-is c.in-Ok-Found.ensures.ready in (
       (refl, λ n. refl, tt),
       record {
         unchanged = tt;
         same_map = refl;
-        ok = room;
-        entry = found_entry limit same laws c.args.self.now key _ room at;
-        writes = found_writes limit same laws c.args.self.now key _ room at;
-        removes = found_removes limit same laws c.args.self.now key _ room at c.prepare.ensures.state.distinct;
+        ok = prepared;
+        entry = found_entry limit same laws c.args.self.now key _ prepared at;
+        writes = found_writes limit same laws c.args.self.now key _ prepared at;
+        removes = found_removes limit same laws c.args.self.now key _ prepared at c.prepare.ensures.state.distinct;
         err = tt;
         cost = c.in-Ok-Found.ensures.cost;
         state = c.prepare.ensures.state;
@@ -31,16 +31,16 @@ returns-in-Ok-Missing g c =
     let same = g.K.PartialEq.eq in
     let laws = g.met.K.Eq.laws in
     let limit = g.L.Limit.LIMIT in
-    let room = c.in-Ok-Missing.ensures.ok in
+    let prepared = c.in-Ok-Missing.ensures.ok in
     let ready = subst (IsReadyFor same (key_hash g.S.BuildHasher g.S.Hasher.Hasher g.K.Hash.hash_input) c.prepare.new.self c.args.key) c.in-Ok-Missing.field-0-is c.in-Ok-Missing.ensures.ready in (
       (refl, λ n. refl, tt),
       record {
         unchanged = tt;
         same_map = refl;
-        ok = room;
-        entry = missing_entry limit same laws c.args.self.now _ room ready.absent;
-        writes = missing_writes limit same laws c.args.self.now _ room ready.absent;
-        removes = missing_removes limit same laws c.args.self.now _ room ready.absent c.prepare.ensures.state.distinct;
+        ok = prepared;
+        entry = missing_entry limit same laws c.args.self.now _ prepared ready.absent;
+        writes = missing_writes limit same laws c.args.self.now _ prepared ready.absent;
+        removes = missing_removes limit same laws c.args.self.now _ prepared ready.absent c.prepare.ensures.state.distinct;
         err = tt;
         cost = c.in-Ok-Missing.ensures.cost;
         state = c.prepare.ensures.state;

@@ -2,7 +2,7 @@ use Rattle.std.proofs.Common.{sym, ap, subst, ◌∙◌}
 use Rattle.halfbrown.specs.Pairs.{put}
 use Rattle.halfbrown.specs.Updates.{HasPut}
 use Rattle.halfbrown.specs.Costs.{key_hash}
-use Rattle.halfbrown.specs.Room.{IsReadyFor}
+use Rattle.halfbrown.specs.Preparation.{IsReadyFor}
 use Rattle.halfbrown.proofs.CallerLemmas.{has_put}
 use Rattle.halfbrown.proofs.map.LimitedHashMap.insert_counted.Goals as goal
 

@@ -7,7 +7,7 @@ use Rattle.halfbrown.specs.Layout.{IsKept, capacity_in}
 use Rattle.halfbrown.specs.Lookup.{stored_hash}
 use Rattle.halfbrown.specs.Pairs.{holds}
 use Rattle.halfbrown.proofs.Kept.{kept_taken, kept_same, kept_values, keys_of-set_value, length-set_value, state_of}
-use Rattle.halfbrown.proofs.Places.{vacancy_for}
+use Rattle.halfbrown.proofs.Vacancies.{vacancy_for}
 use Rattle.halfbrown.proofs.Replacements.{hash_at, kept_value, lost_pair, unheld_after}
 use Rattle.halfbrown.proofs.SwapOut.{length-swap_out}
 use Rattle.halfbrown.proofs.map.LimitedHashMap.replace_at.Goals as goal
@@ -77,8 +77,8 @@ returns-in-Some-clause-absent g c =
     let pairs = c.self.inside.columns.pairs in
     (λ j. holds eq (lost.1 j) (sym lost.2 j)) ∙ unheld_after eq g.met.K.Eq.laws pairs c.self.invariant.distinct index replaces.key replaces.value replaces.pair
 
-pub returns-in-Some-clause-room : goal.returns-in-Some-clause-room
-returns-in-Some-clause-room g c =
+pub returns-in-Some-clause-capacity_left : goal.returns-in-Some-clause-capacity_left
+returns-in-Some-clause-capacity_left g c =
     let columns = c.self.inside.columns in
     let index = c.args.index in
     let lost = lost_pair c.in-Some.ensures.replaces in

@@ -1,4 +1,4 @@
-//! What an insertion does before it writes: the switch, the search, and room for one pair more.
+//! What an insertion does before it writes: the switch, the search, and capacity for one pair more.
 ghost use Rattle.std.specs.Prelude.{◌≡◌, ◌<◌, true, false, length, OnOk, OnErr, IfOk, IfErr, is_ok, if◌then◌else◌};
 ghost use Rattle.half_store.specs.Probe.{looked_more};
 ghost use Rattle.half_store.specs.Work.{asked_more};
@@ -6,7 +6,7 @@ ghost use Rattle.halfbrown.specs.Costs.{key_hash, probe_length_by, search_asked,
 ghost use Rattle.halfbrown.specs.Growth.{is_full, addition_needs, insert_needs, unchecked_needs, IsRefusal};
 ghost use Rattle.halfbrown.specs.Lookup.{IsVacancy, stored_hash, is_unprobed};
 ghost use Rattle.halfbrown.specs.Pairs.{holds};
-ghost use Rattle.halfbrown.specs.Room.{IsPlace, IsReadyFor, HasPlaceFor, MakesRoom, room_looks};
+ghost use Rattle.halfbrown.specs.Preparation.{IsProbedVacancy, IsReadyFor, HasVacancyFor, Prepares, preparation_looks};
 ghost use Rattle.halfbrown.specs.State.{IsState, contents_of};
 
 use super::LimitedHashMap;
@@ -16,10 +16,10 @@ use half_store::{Refusal, Tally, counting};
 use std::hash::{BuildHasher, Hash};
 
 impl<K: Eq + Hash, V, S: BuildHasher, L: Limit> LimitedHashMap<K, V, S, L> {
-    /// Switches a full map and searches for a key; where it is not held, makes room for its pair.
+    /// Switches a full map and searches for a key; where it is not held, makes capacity for its pair.
     #[inline(always)]
     pub(crate) fn prepare(&mut self, key: &K, tally: &mut Tally) -> Result<Lookup, Refusal>
-        ensures ok { OnOk result (MakesRoom L.LIMIT self.old (insert_needs L.LIMIT K.eq self.old key.now) self.new) }
+        ensures ok { OnOk result (Prepares L.LIMIT self.old (insert_needs L.LIMIT K.eq self.old key.now) self.new) }
         ensures ready { IfOk result (IsReadyFor K.eq
             (key_hash S.BuildHasher S.Hasher.Hasher K.hash_input) self.new key.now) }
         ensures refused { IfErr result (IsRefusal (insert_needs L.LIMIT K.eq self.old key.now)) }
@@ -31,17 +31,17 @@ impl<K: Eq + Hash, V, S: BuildHasher, L: Limit> LimitedHashMap<K, V, S, L> {
         self.switch_if_full(tally)?;
         match self.find(key, tally) {
             Lookup::Found(index) => Ok(Lookup::Found(index)),
-            Lookup::Missing(vacancy) => Ok(Lookup::Missing(self.make_room(vacancy, tally)?)),
+            Lookup::Missing(vacancy) => Ok(Lookup::Missing(self.make_capacity(vacancy, tally)?)),
         }
     }
 
-    /// Switches a full map and makes room for the pair of a key that is not held. In a table the key is hashed; nothing is
+    /// Switches a full map and makes capacity for the pair of a key that is not held. In a table the key is hashed; nothing is
     /// searched.
     #[inline(always)]
     pub(crate) fn prepare_new(&mut self, key: &K, tally: &mut Tally) -> Result<Vacancy, Refusal>
         requires { holds K.eq self.old.pairs key.now ≡ false }
-        ensures ok { OnOk result (MakesRoom L.LIMIT self.old (unchecked_needs L.LIMIT self.old) self.new) }
-        ensures ready { IfOk result (HasPlaceFor K.eq
+        ensures ok { OnOk result (Prepares L.LIMIT self.old (unchecked_needs L.LIMIT self.old) self.new) }
+        ensures ready { IfOk result (HasVacancyFor K.eq
             (key_hash S.BuildHasher S.Hasher.Hasher K.hash_input) self.new key.now) }
         ensures refused { IfErr result (IsRefusal (unchecked_needs L.LIMIT self.old)) }
         ensures err { OnErr result (self.new ≡ self.old) }
@@ -52,8 +52,8 @@ impl<K: Eq + Hash, V, S: BuildHasher, L: Limit> LimitedHashMap<K, V, S, L> {
     {
         self.switch_if_full(tally)?;
         let vacancy = self.unsearched(key, tally);
-        let place = self.make_room(vacancy, tally)?;
-        Ok(place)
+        let probed = self.make_capacity(vacancy, tally)?;
+        Ok(probed)
     }
 
     // Where a pair may be added whose key is not held. In a table the key is hashed; nothing is searched.
@@ -71,19 +71,19 @@ impl<K: Eq + Hash, V, S: BuildHasher, L: Limit> LimitedHashMap<K, V, S, L> {
         Vacancy::InTable(counting::hash_one(&self.builder, key, tally), None)
     }
 
-    // Makes the capacity enough for one pair more, and returns a place for it: the vacancy, whose bucket is probed for
+    // Makes the capacity enough for one pair more, and returns the vacancy, whose bucket is probed for
     // where it is not known, and anew where the table grew.
     #[inline(always)]
-    fn make_room(&mut self, vacancy: Vacancy, tally: &mut Tally) -> Result<Vacancy, Refusal>
+    fn make_capacity(&mut self, vacancy: Vacancy, tally: &mut Tally) -> Result<Vacancy, Refusal>
         requires not_full { is_full L.LIMIT self.old ≡ false }
         requires vacant { IsVacancy self.old.is_vec (contents_of self.old) (stored_hash vacancy) vacancy }
-        ensures ok { OnOk result (MakesRoom L.LIMIT self.old (addition_needs self.old) self.new) }
+        ensures ok { OnOk result (Prepares L.LIMIT self.old (addition_needs self.old) self.new) }
         ensures capacity { OnOk result (length self.new.pairs < self.new.capacity) }
-        ensures place { IfOk result (IsPlace self.new.is_vec (contents_of self.new) (stored_hash vacancy)) }
+        ensures probed { IfOk result (IsProbedVacancy self.new.is_vec (contents_of self.new) (stored_hash vacancy)) }
         ensures refused { IfErr result (IsRefusal (addition_needs self.old)) }
         ensures err { OnErr result (self.new ≡ self.old) }
         ensures work { tally.new ≡ looked_more tally.old
-            (room_looks (key_hash S.BuildHasher S.Hasher.Hasher K.hash_input self.old.builder)
+            (preparation_looks (key_hash S.BuildHasher S.Hasher.Hasher K.hash_input self.old.builder)
             self.old (stored_hash vacancy) (is_unprobed vacancy) (is_ok result)) }
         ensures state { IsState K.eq L.LIMIT self.new }
     {
@@ -99,7 +99,7 @@ impl<K: Eq + Hash, V, S: BuildHasher, L: Limit> LimitedHashMap<K, V, S, L> {
     pub(crate) fn probed(&self, vacancy: Vacancy, tally: &mut Tally) -> Vacancy
         requires capacity { length self.now.pairs < self.now.capacity }
         requires vacant { IsVacancy self.now.is_vec (contents_of self.now) (stored_hash vacancy) vacancy }
-        ensures place { IsPlace self.now.is_vec (contents_of self.now) (stored_hash vacancy) result }
+        ensures probed { IsProbedVacancy self.now.is_vec (contents_of self.now) (stored_hash vacancy) result }
         ensures work { tally.new ≡ looked_more tally.old (if is_unprobed vacancy then probe_length_by
             (key_hash S.BuildHasher S.Hasher.Hasher K.hash_input self.now.builder)
             self.now.is_vec self.now.capacity self.now.pairs (stored_hash vacancy) else 0) }
