@@ -1,7 +1,7 @@
 //! What a scenario does once memory may be refused: one call of the map, which is printed with what came back.
 
 use crate::report::print_hashes;
-use halfbrown::Refused;
+use halfbrown::{Entry, Refused, RefusedKey};
 use std::io;
 use test_support::counts::{Counted, Counts};
 use test_support::keys::Key;
@@ -11,6 +11,8 @@ use test_support::keys::Key;
 pub(crate) enum Act {
     Insert(u64, u64),
     InsertNocheck(u64, u64),
+    OrInsert(u64, u64),
+    UnusedEntry(u64),
     Reserve(usize),
     ShrinkToFit,
 }
@@ -26,6 +28,8 @@ impl Act {
         match self {
             Act::Insert(key, value) => insert(rt, map, counts, key, value),
             Act::InsertNocheck(key, value) => insert_nocheck(rt, map, counts, key, value),
+            Act::OrInsert(key, value) => or_insert(rt, map, counts, key, value),
+            Act::UnusedEntry(key) => unused_entry(rt, map, counts, key),
             Act::Reserve(additional) => reserve(rt, map, counts, additional),
             Act::ShrinkToFit => shrink_to_fit(rt, map, counts),
         }
@@ -68,6 +72,46 @@ fn insert_nocheck<'a, const N: usize>(
         Err(refused) => print_refused(rt, &refused)?,
     }
     print_hashes(rt, counts)
+}
+
+fn or_insert<'a, const N: usize>(
+    rt: &impl Print,
+    map: &mut Counted<'a, N>,
+    counts: &'a Counts,
+    key: u64,
+    value: u64,
+) -> io::Result<()> {
+    print!(rt; "entry {key}, or_insert {value}: ")?;
+    counts.take();
+    match map.entry(counts.key(key)) {
+        Ok(entry) => {
+            let value = entry.or_insert(value);
+            print!(rt; "value {value}")?
+        }
+        Err(refused) => print_refused_key(rt, &refused)?,
+    }
+    print_hashes(rt, counts)
+}
+
+fn unused_entry<'a, const N: usize>(
+    rt: &impl Print,
+    map: &mut Counted<'a, N>,
+    counts: &'a Counts,
+    key: u64,
+) -> io::Result<()> {
+    print!(rt; "entry {key}: ")?;
+    counts.take();
+    match map.entry(counts.key(key)) {
+        Ok(Entry::Occupied(entry)) => print!(rt; "held with value {}", entry.get())?,
+        Ok(Entry::Vacant(_)) => print!(rt; "vacant")?,
+        Err(refused) => print_refused_key(rt, &refused)?,
+    }
+    print_hashes(rt, counts)
+}
+
+fn print_refused_key<'a>(rt: &impl Print, refused: &RefusedKey<Key<'a>>) -> io::Result<()> {
+    let RefusedKey { key, why } = refused;
+    print!(rt; "refused for {why:?}, {} returned", key.id)
 }
 
 fn print_refused<'a>(rt: &impl Print, refused: &Refused<Key<'a>, u64>) -> io::Result<()> {
