@@ -131,9 +131,6 @@ enum Call {
     InsertByEntry(u64),
     RemoveByEntry(u64),
     RemoveEntryByEntry(u64),
-    KeepByReplacement(u64),
-    LoseByReplacement(u64),
-    InsertByReplacement(u64),
     Reserve(usize),
     ShrinkToFit,
     Clear,
@@ -240,7 +237,7 @@ const OTHERS: [Case; 12] = [
 type EntryCase = (Call, (u64, u64), (u64, u64), (u64, u64));
 
 // The key that an entry was made for is dropped where an equal one is held, and where the entry is unused.
-const ENTRIES: [EntryCase; 18] = [
+const ENTRIES: [EntryCase; 15] = [
     (Call::DropEntry(8), (1, 0), (0, 0), (3, 3)),
     (Call::DropEntry(32), (1, 0), (0, 0), (3, 3)),
     (Call::OrInsert(8), (1, 1), (0, 0), (3, 3)),
@@ -256,9 +253,6 @@ const ENTRIES: [EntryCase; 18] = [
     (Call::RemoveByEntry(8), (2, 0), (0, 1), (2, 2)),
     (Call::RemoveByEntry(32), (1, 0), (0, 0), (3, 3)),
     (Call::RemoveEntryByEntry(8), (1, 0), (1, 1), (2, 2)),
-    (Call::KeepByReplacement(8), (1, 0), (0, 0), (3, 3)),
-    (Call::LoseByReplacement(8), (2, 1), (0, 0), (2, 2)),
-    (Call::InsertByReplacement(8), (1, 1), (0, 0), (3, 3)),
 ];
 
 // The maps on which each is made.
@@ -379,18 +373,6 @@ fn returned_by<'a, const N: usize>(
         Call::InsertByEntry(id) => Returned::Value(insert_by_entry(map, drops, id)?),
         Call::RemoveByEntry(id) => Returned::Value(remove_by_entry(map, drops, id)?),
         Call::RemoveEntryByEntry(id) => Returned::Pair(remove_entry_by_entry(map, drops, id)?),
-        Call::KeepByReplacement(id) => {
-            replace_by_entry(map, drops, id, true, false)?;
-            Returned::Nothing
-        }
-        Call::LoseByReplacement(id) => {
-            replace_by_entry(map, drops, id, false, false)?;
-            Returned::Nothing
-        }
-        Call::InsertByReplacement(id) => {
-            replace_by_entry(map, drops, id, false, true)?;
-            Returned::Nothing
-        }
         Call::Reserve(additional) => {
             map.reserve(additional)?;
             Returned::Nothing
@@ -474,27 +456,6 @@ fn remove_entry_by_entry<'a, const N: usize>(
         Entry::Occupied(entry) => Some(entry.remove_entry()),
         Entry::Vacant(_vacant) => None,
     })
-}
-
-// Hands the value to a closure, which keeps it or drops it; where the pair is gone another value may be inserted.
-fn replace_by_entry<'a, const N: usize>(
-    map: &mut Dropping<'a, N>,
-    drops: &'a Drops,
-    id: u64,
-    keeps: bool,
-    inserts: bool,
-) -> Result<(), Refusal> {
-    let Entry::Occupied(entry) = map.entry(drops.key(id))? else {
-        return Ok(());
-    };
-    match entry.replace_entry_with(|_, value| if keeps { Some(value) } else { None }) {
-        Entry::Vacant(entry) if inserts => {
-            entry.insert(drops.value());
-        }
-        Entry::Vacant(_vacant) => (),
-        Entry::Occupied(_occupied) => (),
-    }
-    Ok(())
 }
 
 // Makes the call on a new map, and fails where something else is dropped.

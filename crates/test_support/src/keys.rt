@@ -82,6 +82,20 @@ impl<'a> Equivalent<Key<'a>> for Id {
     }
 }
 
+// A key is a form by which a number is looked up, and counts how often it is compared with one.
+impl Equivalent<u64> for Key<'_> {
+    ghost equivalent = { λ form k. form.id == k };
+
+    ghost hashes_alike = { λ form k same. ap fed.u64 (eqb-true form.id k same) };
+
+    ghost stands_for_equals = { λ form k other. nat_eq_equiv.congr form.id k other };
+
+    fn equivalent(&self, key: &u64) -> bool {
+        self.count_comparison();
+        self.id == *key
+    }
+}
+
 impl fmt::Debug for Key<'_> {
     fn fmt<W: fmt::Write>(&self, f: &mut fmt::Formatter<W>) -> fmt::Result {
         let (id, mark) = self.name();
