@@ -19,6 +19,12 @@ module _ {K V : Type 0} where
   set_value (p ∷ ps) zero v = (p.0, v) ∷ ps
   set_value (p ∷ ps) (suc index) v = p ∷ set_value ps index v
 
+  -- the pair at this index gets this key and keeps its value
+  abbrev pub set_key : List (K × V) → ℕ → K → List (K × V)
+  set_key [] index k = []
+  set_key (p ∷ ps) zero k = (k, p.1) ∷ ps
+  set_key (p ∷ ps) (suc index) k = p ∷ set_key ps index k
+
   abbrev pub pairs_code : Coded K → Coded V → Coded (Pairs K V)
   pairs_code k v = coded_via (coded× (coded_list (coded× k v)) coded_ℕ) (λ c. (c.pairs, c.capacity)) (λ a b e i. record { pairs = (e i).0; capacity = (e i).1 })
 

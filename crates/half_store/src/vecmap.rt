@@ -2,7 +2,7 @@
 ghost use Rattle.std.specs.Prelude.{◌≡◌, ℕ, ◌^◌, ◌<◌, ◌≤◌, true, false, [], ◌∷◌, ◌++◌, length, slice_get, IfSome, IfNone};
 ghost use Rattle.std.specs.Borrow.{sem};
 ghost use Rattle.std.specs.Map.{keys_of, values_of};
-ghost use Rattle.half_store.specs.Pairs.{with_pairs, set_value, swap_out};
+ghost use Rattle.half_store.specs.Pairs.{with_pairs, set_key, set_value, swap_out};
 ghost use Rattle.half_store.specs.Work.{compared_more, first_match_cost};
 
 mod memory;
@@ -135,6 +135,34 @@ impl<K, V> VecMap<K, V> {
         ensures after { self.new ≡ with_pairs self.old (set_value self.old.pairs index value) }
     {
         replace(&mut self.values[index], value)
+    }
+
+    /// The key and the value of the pair at this index, the value to be written.
+    ///
+    /// ```
+    /// *ages.pair_at_mut(1).1 = 44;
+    /// ```
+    #[inline(always)]
+    pub fn pair_at_mut(&mut self, index: usize) -> (&K, &mut V)
+        requires { index < length self.old.pairs }
+        ensures* writes_back { sem 𝓛 (LendsValue K.row V.row self.entry index result.1) }
+        ensures pair { slice_get self.old.pairs index ≡ Some (result.0.now, result.1.now) }
+    {
+        (&self.keys[index], &mut self.values[index])
+    }
+
+    /// Replaces the key of the pair at this index, and returns the old one.
+    ///
+    /// ```
+    /// let before = ages.replace_key(1, 2); // 2
+    /// ```
+    #[inline(always)]
+    pub fn replace_key(&mut self, index: usize, key: K) -> K
+        requires { index < length self.old.pairs }
+        ensures old { slice_get (keys_of self.old.pairs) index ≡ Some result }
+        ensures after { self.new ≡ with_pairs self.old (set_key self.old.pairs index key) }
+    {
+        replace(&mut self.keys[index], key)
     }
 
     /// Appends a pair. The capacity must be enough for it.

@@ -120,10 +120,20 @@ module _ {K V : Type 0} (eq : K → K → Bool) (hash : K → ℕ) where
   search_cost is_vec capacity pairs k = search_cost_by (eq k) hash (hash k) is_vec capacity pairs
 
 -- what one search in the map for the key that passes the test, under this hash, cost, by the tally before it and after
-pub record SearchCostsBy {K V S : Type 0} (test : K → Bool) (hash : S → K → ℕ) (sought : ℕ) (m : State K V S) (before after : Work) : Type 0 where
-  pub grew : GrewBy (search_cost_by test (hash m.builder) sought m.is_vec m.capacity m.pairs) before after
-  pub looked_once : m.is_vec ≡ false → holds_by test m.pairs ≡ true → NoHomeIsShared (hash m.builder) m.capacity m.pairs → after.looked ≡ before.looked + 1
-  pub short : probe_length_by (hash m.builder) m.is_vec m.capacity m.pairs sought ≤ length m.pairs + 1
+module _ {K V S : Type 0} (test : K → Bool) (hash : S → K → ℕ) (sought : ℕ) (m : State K V S) where
+  -- where the builder was asked so often
+  pub record SearchCostsAsking (asked : ℕ) (before after : Work) : Type 0 where
+    pub grew : GrewBy (record (search_cost_by test (hash m.builder) sought m.is_vec m.capacity m.pairs) { asked = asked }) before after
+    pub looked_once : m.is_vec ≡ false → holds_by test m.pairs ≡ true → NoHomeIsShared (hash m.builder) m.capacity m.pairs → after.looked ≡ before.looked + 1
+    pub short : probe_length_by (hash m.builder) m.is_vec m.capacity m.pairs sought ≤ length m.pairs + 1
+
+  -- where the search hashed its key
+  abbrev pub SearchCostsBy : Work → Work → Type 0
+  SearchCostsBy before after = SearchCostsAsking (search_asked m.is_vec) before after
+
+  -- where the hash was handed in: the builder is not asked
+  abbrev pub HashedSearchCostsBy : Work → Work → Type 0
+  HashedSearchCostsBy before after = SearchCostsAsking 0 before after
 
 module _ {K V S : Type 0} (eq : K → K → Bool) (hash : S → K → ℕ) where
   -- what a search for k in the map costs

@@ -8,7 +8,11 @@ pub mod Layout
 pub mod Lending
 pub mod Lookup
 pub mod MapLaws
+pub mod Match
 pub mod Pairs
+pub mod RawEntry
+pub mod RawEntryBuilder
+pub mod RawEntryLending
 pub mod Replacement
 pub mod Preparation
 pub mod Run

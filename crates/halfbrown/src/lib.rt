@@ -32,6 +32,7 @@ mod entry;
 mod equivalent;
 mod limit;
 mod map;
+mod raw_entry;
 mod refused;
 pub mod run;
 
@@ -42,5 +43,10 @@ pub use equivalent::Equivalent;
 pub use half_store::{Refusal, Tally};
 pub use limit::{Limit, UpTo};
 pub use map::{DefaultHashBuilder, HashMap, LimitedHashMap, SizedHashMap, laws};
+pub use raw_entry::{
+    LimitedRawEntryBuilder, LimitedRawEntryBuilderMut, LimitedRawEntryMut,
+    LimitedRawOccupiedEntryMut, LimitedRawVacantEntryMut, RawEntryBuilder, RawEntryBuilderMut,
+    RawEntryMut, RawOccupiedEntryMut, RawVacantEntryMut,
+};
 pub use refused::{Refused, RefusedKey};
 pub use run::{Command, Reply};

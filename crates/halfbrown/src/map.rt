@@ -4,6 +4,7 @@ ghost use Rattle.halfbrown.specs.State.{IsState, WithPairs};
 
 mod add;
 mod at;
+mod find;
 mod form;
 mod get;
 mod growth;

@@ -1,12 +1,17 @@
-//! Reading a pair by its index.
-ghost use Rattle.std.specs.Prelude.{◌≡◌, ◌<◌, Some, length, slice_get};
+//! Reading and writing a pair by its index.
+ghost use Rattle.std.specs.Prelude.{◌≡◌, ◌<◌, true, Some, IfSome, length, slice_get};
+ghost use Rattle.std.specs.Borrow.{sem};
 ghost use Rattle.std.specs.Map.{keys_of, values_of};
+ghost use Rattle.half_store.specs.Pairs.{set_key};
+ghost use Rattle.halfbrown.specs.State.{IsState, WithPairs};
 
 use super::LimitedHashMap;
 use crate::Limit;
 use std::hash::{BuildHasher, Hash};
 
 impl<K: Eq + Hash, V, S: BuildHasher, L: Limit> LimitedHashMap<K, V, S, L> {
+    ghost use Rattle.halfbrown.specs.Lending.{LendsValueAt};
+
     /// The stored key of the pair at this index.
     #[inline(always)]
     pub(crate) fn key_at(&self, index: usize) -> &K
@@ -23,5 +28,36 @@ impl<K: Eq + Hash, V, S: BuildHasher, L: Limit> LimitedHashMap<K, V, S, L> {
         ensures { slice_get (values_of self.now.pairs) index ≡ Some result.now }
     {
         self.columns.value_at(index)
+    }
+    /// The stored key of the pair at this index, and its value.
+    #[inline(always)]
+    pub(crate) fn pair_at(&self, index: usize) -> (&K, &V)
+        requires { index < length self.now.pairs }
+        ensures { slice_get self.now.pairs index ≡ Some (result.0.now, result.1.now) }
+    {
+        self.columns.pair_at(index)
+    }
+
+    /// The stored key of the pair at this index, and its value, to be written.
+    #[inline(always)]
+    pub(crate) fn pair_at_mut(&mut self, index: usize) -> (&K, &mut V)
+        requires { index < length self.old.pairs }
+        ensures* writes_back { sem 𝓛 (LendsValueAt K.row V.row S.row L.row S.Hasher.row K.Hash S.BuildHasher
+            S.Hasher.Hasher L.Limit self.entry index result.1) }
+        ensures pair { slice_get self.old.pairs index ≡ Some (result.0.now, result.1.now) }
+    {
+        self.columns.pair_at_mut(index)
+    }
+
+    /// Replaces the stored key of the pair at this index by an equal one, and returns the old one.
+    #[inline(always)]
+    pub(crate) fn set_key_at(&mut self, index: usize, key: K) -> K
+        requires within { index < length self.old.pairs }
+        requires equal { IfSome (slice_get (keys_of self.old.pairs) index) (λ k. K.eq k key ≡ true) }
+        ensures old { slice_get (keys_of self.old.pairs) index ≡ Some result }
+        ensures after { WithPairs self.old (set_key self.old.pairs index key) self.new }
+        ensures state { IsState K.eq L.LIMIT self.new }
+    {
+        self.columns.replace_key(index, key)
     }
 }

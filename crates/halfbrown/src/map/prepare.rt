@@ -2,7 +2,7 @@
 ghost use Rattle.std.specs.Prelude.{◌≡◌, ◌<◌, true, false, length, OnOk, OnErr, IfOk, IfErr, is_ok, if◌then◌else◌};
 ghost use Rattle.half_store.specs.Probe.{looked_more};
 ghost use Rattle.half_store.specs.Work.{asked_more};
-ghost use Rattle.halfbrown.specs.Costs.{key_hash, probe_length_by, search_asked, unchecked_cost, GrewBy, InsertCosts};
+ghost use Rattle.halfbrown.specs.Costs.{key_hash, probe_length_by, switch_asked, unchecked_cost, GrewBy, InsertCosts};
 ghost use Rattle.halfbrown.specs.Growth.{is_full, addition_needs, insert_needs, unchecked_needs, IsRefusal};
 ghost use Rattle.halfbrown.specs.Lookup.{IsVacancy, stored_hash, is_unprobed};
 ghost use Rattle.halfbrown.specs.Pairs.{holds};
@@ -51,24 +51,52 @@ impl<K: Eq + Hash, V, S: BuildHasher, L: Limit> LimitedHashMap<K, V, S, L> {
         ensures state { IsState K.eq L.LIMIT self.new }
     {
         self.switch_if_full(tally)?;
-        let vacancy = self.unsearched(key, tally);
+        let vacancy = self.unprobed_for(self.hash_to_store(key, tally));
         let probed = self.make_capacity(vacancy, tally)?;
         Ok(probed)
     }
 
-    // Where a pair may be added whose key is not held. In a table the key is hashed; nothing is searched.
+    /// Switches a full map and makes capacity for one pair more, whatever its key. Nothing is searched.
     #[inline(always)]
-    fn unsearched(&self, key: &K, tally: &mut Tally) -> Vacancy
-        ensures vacant { IsVacancy self.now.is_vec (contents_of self.now)
-            (key_hash S.BuildHasher S.Hasher.Hasher K.hash_input self.now.builder key.now)
-            result }
+    pub(crate) fn prepare_any(&mut self, tally: &mut Tally) -> Result<(), Refusal>
+        ensures ok { OnOk result (Prepares L.LIMIT self.old (unchecked_needs L.LIMIT self.old) self.new) }
+        ensures capacity { OnOk result (length self.new.pairs < self.new.capacity) }
+        ensures refused { IfErr result (IsRefusal (unchecked_needs L.LIMIT self.old)) }
+        ensures err { OnErr result (self.new ≡ self.old) }
+        ensures work { tally.new ≡ (if is_ok result then asked_more (switch_asked L.LIMIT self.old) tally.old
+            else tally.old) }
+        ensures state { IsState K.eq L.LIMIT self.new }
+    {
+        self.switch_if_full(tally)?;
+        if self.len() < self.capacity() {
+            return Ok(());
+        }
+        self.reserve(1)
+    }
+
+    /// Where a pair of a key that is not held may be added, under the key's hash: the capacity must be enough for it. In a table
+    /// its bucket is probed for, and a vector does not look at the hash.
+    #[inline(always)]
+    pub(crate) fn vacancy_for(&self, hash: u64, tally: &mut Tally) -> Vacancy
+        requires capacity { length self.now.pairs < self.now.capacity }
+        ensures probed { IsProbedVacancy self.now.is_vec (contents_of self.now) hash result }
+        ensures work { tally.new ≡ looked_more tally.old (probe_length_by
+            (key_hash S.BuildHasher S.Hasher.Hasher K.hash_input self.now.builder)
+            self.now.is_vec self.now.capacity self.now.pairs hash) }
+    {
+        self.probed(self.unprobed_for(hash), tally)
+    }
+
+    // The same, with its bucket still to be probed for.
+    #[inline(always)]
+    fn unprobed_for(&self, hash: u64) -> Vacancy
+        ensures vacant { IsVacancy self.now.is_vec (contents_of self.now) hash result }
         ensures unprobed { self.now.is_vec ≡ false → is_unprobed result ≡ true }
-        ensures work { tally.new ≡ asked_more (search_asked self.now.is_vec) tally.old }
     {
         if self.form.is_vec() {
             return Vacancy::InVector;
         }
-        Vacancy::InTable(counting::hash_one(&self.builder, key, tally), None)
+        Vacancy::InTable(hash, None)
     }
 
     // Makes the capacity enough for one pair more, and returns the vacancy, whose bucket is probed for

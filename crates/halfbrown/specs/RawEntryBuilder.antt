@@ -1,0 +1,24 @@
+-- What contracts see of the builders of raw entries: the map that they search.
+use Rattle.std.specs.Borrow.{MutBor}
+use Rattle.std.specs.declared.cmp.PartialEq as eq
+use Rattle.std.specs.declared.hash.Hash as hash
+use Rattle.std.specs.declared.hash.Hasher as hasher
+use Rattle.std.specs.declared.hash.BuildHasher as builder
+use Rattle.halfbrown.specs.declared.limit.Limit as limits
+use Rattle.halfbrown.specs.declared.raw_entry.LimitedRawEntryBuilder.{LimitedRawEntryBuilder}
+use Rattle.halfbrown.specs.declared.raw_entry.LimitedRawEntryBuilderMut.{LimitedRawEntryBuilderMut}
+use Rattle.halfbrown.specs.declared.raw_entry.LimitedRawEntryBuilderMut.TheVariants.{Ready}
+use Rattle.halfbrown.specs.State.{State}
+
+module _ {K V S L H : Type 0} {e : eq.Ghosts K} {h : hash.Ghosts K} {b : builder.Ghosts S H} {w : hasher.Ghosts H} {l : limits.Ghosts L} where
+  -- the map that is searched
+  abbrev pub map_in : LimitedRawEntryBuilder K V S L H e h b w l → State K V S
+  map_in builder = builder.map.now
+
+  -- the reference to the map that is ready for one pair more
+  abbrev pub ready_ref : LimitedRawEntryBuilderMut K V S L H e h b w l → MutBor (State K V S)
+  ready_ref (Ready prepared) = prepared.map
+
+  -- that map, as it is
+  abbrev pub ready_map : LimitedRawEntryBuilderMut K V S L H e h b w l → State K V S
+  ready_map builder = (ready_ref builder).now

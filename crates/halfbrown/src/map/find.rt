@@ -1,0 +1,108 @@
+//! The search for a key, or by a match on keys: in a vector by `==` alone, in a table by hash.
+ghost use Rattle.std.specs.Prelude.{◌≡◌, ◌<◌, ℕ, Some, false, slice_get, length};
+ghost use Rattle.std.specs.Borrow.{Bor};
+ghost use Rattle.std.specs.Fn.{FnReturnsAt};
+ghost use Rattle.std.specs.Map.{keys_of};
+ghost use Rattle.half_store.specs.Work.{asked_more};
+ghost use Rattle.halfbrown.specs.Costs.{key_hash, search_asked, SearchCostsBy, HashedSearchCostsBy};
+ghost use Rattle.halfbrown.specs.Lookup.{LooksUp};
+ghost use Rattle.halfbrown.specs.Match.{Matches, MatchCosts, ReturnsAt, found_index};
+ghost use Rattle.halfbrown.specs.State.{IsState};
+
+use super::LimitedHashMap;
+use super::lookup::{Lookup, Vacancy};
+use crate::{Equivalent, Limit};
+use half_store::table::probe::Probe;
+use half_store::{Tally, counting};
+use std::hash::{BuildHasher, Hash};
+
+impl<K: Eq + Hash, V, S: BuildHasher, L: Limit> LimitedHashMap<K, V, S, L> {
+    /// Searches for a key: in a vector by `==` alone, in a table among the keys of its hash.
+    #[inline(always)]
+    pub(crate) fn find<Q: Equivalent<K>>(&self, key: Q, tally: &mut Tally) -> Lookup
+        ensures found { LooksUp (Q.equivalent key)
+            (key_hash S.BuildHasher S.Hasher.Hasher Q.hash_input self.now.builder key) self.now result }
+        ensures cost { SearchCostsBy (Q.equivalent key) (key_hash S.BuildHasher S.Hasher.Hasher K.hash_input)
+            (key_hash S.BuildHasher S.Hasher.Hasher Q.hash_input self.now.builder key) self.now tally.old tally.new }
+        ensures state { IsState K.eq L.LIMIT self.now }
+    {
+        let hash = self.hash_to_store(&key, tally);
+        self.find_hashed(hash, key, tally)
+    }
+
+    /// The hash of a key in a table. In a vector nothing is hashed, and it is 0.
+    #[inline(always)]
+    pub(crate) fn hash_to_store<Q: Hash>(&self, key: &Q, tally: &mut Tally) -> u64
+        ensures hash { self.now.is_vec ≡ false
+            → result ≡ key_hash S.BuildHasher S.Hasher.Hasher Q.hash_input self.now.builder key.now }
+        ensures work { tally.new ≡ asked_more (search_asked self.now.is_vec) tally.old }
+    {
+        if self.form.is_vec() {
+            return 0;
+        }
+        counting::hash_one(&self.builder, key, tally)
+    }
+
+    /// `find`, under a hash that is known. A vector does not look at it.
+    #[inline(always)]
+    pub(crate) fn find_hashed<Q: Equivalent<K>>(
+        &self,
+        hash: u64,
+        key: Q,
+        tally: &mut Tally,
+    ) -> Lookup
+        requires { self.now.is_vec ≡ false
+            → hash ≡ key_hash S.BuildHasher S.Hasher.Hasher Q.hash_input self.now.builder key }
+        ensures found { LooksUp (Q.equivalent key)
+            (key_hash S.BuildHasher S.Hasher.Hasher Q.hash_input self.now.builder key) self.now result }
+        ensures cost { HashedSearchCostsBy (Q.equivalent key) (key_hash S.BuildHasher S.Hasher.Hasher K.hash_input)
+            (key_hash S.BuildHasher S.Hasher.Hasher Q.hash_input self.now.builder key) self.now tally.old tally.new }
+        ensures state { IsState K.eq L.LIMIT self.now }
+    {
+        let matches = |held: &K| -> bool
+            ensures { result ≡ Q.equivalent key held.now }
+        { key.equivalent(held) };
+        self.find_match(hash, &matches, tally)
+    }
+
+    /// Searches for a key that `matches` accepts: in a vector for the first, in a table among the keys of this hash.
+    #[inline(always)]
+    pub(crate) fn find_match<F: Fn(&K) -> bool>(
+        &self,
+        hash: u64,
+        matches: &F,
+        tally: &mut Tally,
+    ) -> Lookup
+        requires { (key : Bor K) (index : ℕ) → slice_get (keys_of self.now.pairs) index ≡ Some key.now
+            → F.pre matches.now key }
+        ensures found { Matches (FnReturnsAt F.Fn matches.now)
+            (key_hash S.BuildHasher S.Hasher.Hasher K.hash_input) hash self.now result }
+        ensures cost { MatchCosts (key_hash S.BuildHasher S.Hasher.Hasher K.hash_input) hash self.now
+            (found_index result) tally.old tally.new }
+        ensures state { IsState K.eq L.LIMIT self.now }
+    {
+        let keys = self.columns.keys();
+        // A test for each form, since a closure with one call is inlined there.
+        let Some(table) = self.form.table() else {
+            let matches_at = |index: usize| -> bool
+                requires within { index < length keys.now }
+                requires callable { (key : Bor K) → slice_get keys.now index ≡ Some key.now → F.pre matches.now key }
+                ensures { ReturnsAt (FnReturnsAt F.Fn matches.entry.now) keys.entry.now index result }
+            { matches(&keys[index]) };
+            return match self.columns.find(&matches_at, tally) {
+                Some(index) => Lookup::Found(index),
+                None => Lookup::Missing(Vacancy::InVector),
+            };
+        };
+        let matches_at = |index: usize| -> bool
+            requires within { index < length keys.now }
+            requires callable { (key : Bor K) → slice_get keys.now index ≡ Some key.now → F.pre matches.now key }
+            ensures { ReturnsAt (FnReturnsAt F.Fn matches.entry.now) keys.entry.now index result }
+        { matches(&keys[index]) };
+        match table.find(hash, &matches_at, tally) {
+            Probe::Found(index) => Lookup::Found(index),
+            Probe::Vacant(bucket) => Lookup::Missing(Vacancy::InTable(hash, Some(bucket))),
+            Probe::NoBuckets => Lookup::Missing(Vacancy::InTable(hash, None)),
+        }
+    }
+}

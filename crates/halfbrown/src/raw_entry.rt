@@ -1,0 +1,142 @@
+//! Raw entries: pairs by a hash that the caller knows, or by a match on keys.
+ghost use Rattle.std.specs.Prelude.{◌<◌, length};
+
+mod builder;
+mod builder_mut;
+mod debug;
+mod make;
+mod methods;
+mod occupied;
+mod vacant;
+
+use crate::{Limit, LimitedHashMap, UpTo};
+use std::hash::{BuildHasher, Hash};
+
+/// Look-ups by a known hash or by a match on keys, in a map that stores up to `N` pairs in a vector.
+///
+/// ```
+/// fn known(ages: RawEntryBuilder<'_, u64, u32, 32, DefaultHashBuilder>) -> bool {
+///     ages.from_key(&1).is_some()
+/// }
+/// ```
+pub type RawEntryBuilder<'a, K, V, const N: usize, S> = LimitedRawEntryBuilder<
+    'a,
+    K,
+    V,
+    S,
+    UpTo<N>,
+>;
+
+/// What a raw entry is made from, in a map that stores up to `N` pairs in a vector.
+///
+/// ```
+/// fn known(ages: RawEntryBuilderMut<'_, u64, u32, 32, DefaultHashBuilder>) -> bool {
+///     matches!(ages.from_key(&1), RawEntryMut::Occupied(_entry))
+/// }
+/// ```
+pub type RawEntryBuilderMut<'a, K, V, const N: usize, S> = LimitedRawEntryBuilderMut<
+    'a,
+    K,
+    V,
+    S,
+    UpTo<N>,
+>;
+
+/// A raw entry of a map that stores up to `N` pairs in a vector.
+///
+/// ```
+/// let age = match ages.raw_entry_mut()?.from_key(&1) {
+///     RawEntryMut::Occupied(entry) => entry.remove(),
+///     RawEntryMut::Vacant(_vacant) => 0,
+/// };
+/// ```
+pub type RawEntryMut<'a, K, V, const N: usize, S> = LimitedRawEntryMut<'a, K, V, S, UpTo<N>>;
+
+/// The raw entry of a pair that was found, in a map that stores up to `N` pairs in a vector.
+///
+/// ```
+/// fn take(entry: RawOccupiedEntryMut<'_, u64, u32, 32, DefaultHashBuilder>) -> u32 {
+///     entry.remove()
+/// }
+/// ```
+pub type RawOccupiedEntryMut<'a, K, V, const N: usize, S> = LimitedRawOccupiedEntryMut<
+    'a,
+    K,
+    V,
+    S,
+    UpTo<N>,
+>;
+
+/// The raw entry where no pair was found, in a map that stores up to `N` pairs in a vector.
+///
+/// ```
+/// fn leave(_entry: RawVacantEntryMut<'_, u64, u32, 32, DefaultHashBuilder>) {}
+/// ```
+pub type RawVacantEntryMut<'a, K, V, const N: usize, S> = LimitedRawVacantEntryMut<
+    'a,
+    K,
+    V,
+    S,
+    UpTo<N>,
+>;
+
+/// Look-ups by a known hash or by a match on keys. `LimitedHashMap::raw_entry` makes it.
+///
+/// ```
+/// let hash = ages.hasher().hash_one(&1);
+/// let pair = ages.raw_entry().from_key_hashed_nocheck(hash, &1); // 1 and 36; nothing more is hashed
+/// ```
+#[derive(Drop)]
+pub struct LimitedRawEntryBuilder<'a, K: Eq + Hash, V, S: BuildHasher, L: Limit> {
+    map: &'a LimitedHashMap<K, V, S, L>,
+}
+
+/// What a raw entry is made from: a map with capacity for one pair more. `LimitedHashMap::raw_entry_mut` makes it.
+///
+/// ```
+/// let entry = ages.raw_entry_mut()?.from_key(&1);
+/// ```
+#[derive(Drop)]
+pub enum LimitedRawEntryBuilderMut<'a, K: Eq + Hash, V, S: BuildHasher, L: Limit> {
+    #[doc(hidden)]
+    Ready(Prepared<'a, K, V, S, L>),
+}
+
+/// A map with capacity for one pair more.
+#[derive(Drop)]
+pub struct Prepared<'a, K: Eq + Hash, V, S: BuildHasher, L: Limit> {
+    map: &'a mut LimitedHashMap<K, V, S, L>,
+    ghost capacity_left: { length map.now.pairs < map.now.capacity },
+}
+
+/// A raw entry: the pair that a search found, or a vacancy for any pair whose key is not held. The map has capacity for it, so
+/// nothing fails after that.
+///
+/// ```
+/// let age = match ages.raw_entry_mut()?.from_key(&5) {
+///     RawEntryMut::Occupied(entry) => entry.remove(),
+///     RawEntryMut::Vacant(entry) => *entry.insert(5, 13).1,
+/// }; // 13
+/// ```
+#[derive(Drop)]
+pub enum LimitedRawEntryMut<'a, K: Eq + Hash, V, S: BuildHasher, L: Limit> {
+    /// A pair was found.
+    Occupied(LimitedRawOccupiedEntryMut<'a, K, V, S, L>),
+    /// None was.
+    Vacant(LimitedRawVacantEntryMut<'a, K, V, S, L>),
+}
+
+/// The pair that was found.
+#[derive(Drop)]
+pub struct LimitedRawOccupiedEntryMut<'a, K: Eq + Hash, V, S: BuildHasher, L: Limit> {
+    map: &'a mut LimitedHashMap<K, V, S, L>,
+    index: usize,
+    ghost within: { index < length map.now.pairs },
+}
+
+/// A vacancy for any pair whose key is not held.
+#[derive(Drop)]
+pub struct LimitedRawVacantEntryMut<'a, K: Eq + Hash, V, S: BuildHasher, L: Limit> {
+    map: &'a mut LimitedHashMap<K, V, S, L>,
+    ghost capacity_left: { length map.now.pairs < map.now.capacity },
+}

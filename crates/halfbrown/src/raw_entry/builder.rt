@@ -1,0 +1,142 @@
+//! The searches of `raw_entry`.
+ghost use Rattle.std.specs.Prelude.{◌≡◌, ℕ, Some, slice_get};
+ghost use Rattle.std.specs.Borrow.{Bor};
+ghost use Rattle.std.specs.Fn.{FnReturnsAt};
+ghost use Rattle.std.specs.Map.{keys_of};
+ghost use Rattle.std.specs.Map.Iter.{deref_pair};
+ghost use Rattle.std.specs.Option.{option_map};
+ghost use Rattle.halfbrown.specs.Costs.{key_hash, SearchCostsBy, HashedSearchCostsBy};
+ghost use Rattle.halfbrown.specs.Match.{FindsMatch, FindingCosts};
+ghost use Rattle.halfbrown.specs.Pairs.{pair_by};
+ghost use Rattle.halfbrown.specs.RawEntryBuilder.{map_in};
+
+use super::LimitedRawEntryBuilder;
+use crate::map::lookup::Lookup;
+use crate::{Equivalent, Limit};
+use half_store::Tally;
+use std::hash::{BuildHasher, Hash};
+
+impl<'a, K: Eq + Hash, V, S: BuildHasher, L: Limit> LimitedRawEntryBuilder<'a, K, V, S, L> {
+    /// Returns the stored key that equals this one, and its value. It costs one search.
+    ///
+    /// ```
+    /// let pair = ages.raw_entry().from_key(&1); // 1 and 36
+    /// ```
+    #[inline(always)]
+    pub fn from_key<Q: Equivalent<K>>(self, key: Q) -> Option<(&'a K, &'a V)>
+        ensures { option_map deref_pair result ≡ pair_by (Q.equivalent key) (map_in self.entry).pairs }
+    {
+        self.from_key_counted(key, &mut Tally::new())
+    }
+
+    /// `from_key`, with its work counted: that of one search.
+    ///
+    /// ```
+    /// let pair = ages.raw_entry().from_key_counted(&2, &mut tally); // none
+    /// ```
+    #[inline(always)]
+    pub fn from_key_counted<Q: Equivalent<K>>(
+        self,
+        key: Q,
+        tally: &mut Tally,
+    ) -> Option<(&'a K, &'a V)>
+        ensures pair { option_map deref_pair result ≡ pair_by (Q.equivalent key) (map_in self.entry).pairs }
+        ensures cost { SearchCostsBy (Q.equivalent key) (key_hash S.BuildHasher S.Hasher.Hasher K.hash_input)
+            (key_hash S.BuildHasher S.Hasher.Hasher Q.hash_input (map_in self.entry).builder key) (map_in self.entry)
+            tally.old tally.new }
+    {
+        match self.map.find(key, tally) {
+            Lookup::Found(index) => Some(self.map.pair_at(index)),
+            Lookup::Missing(_) => None,
+        }
+    }
+
+    /// `from_key`, by a hash that is known, which must be the builder's hash of the key. Nothing is hashed.
+    ///
+    /// ```
+    /// let hash = ages.hasher().hash_one(&1);
+    /// let pair = ages.raw_entry().from_key_hashed_nocheck(hash, &1); // 1 and 36
+    /// ```
+    #[inline(always)]
+    pub fn from_key_hashed_nocheck<Q: Equivalent<K>>(
+        self,
+        hash: u64,
+        key: Q,
+    ) -> Option<(&'a K, &'a V)>
+        requires { hash ≡ key_hash S.BuildHasher S.Hasher.Hasher Q.hash_input (map_in self).builder key }
+        ensures { option_map deref_pair result ≡ pair_by (Q.equivalent key) (map_in self.entry).pairs }
+    {
+        self.from_key_hashed_nocheck_counted(hash, key, &mut Tally::new())
+    }
+
+    /// `from_key_hashed_nocheck`, with its work counted: that of one search, with no hash.
+    ///
+    /// ```
+    /// let hash = ages.hasher().hash_one(&2);
+    /// let pair = ages
+    ///     .raw_entry()
+    ///     .from_key_hashed_nocheck_counted(hash, &2, &mut tally); // none
+    /// ```
+    #[inline(always)]
+    pub fn from_key_hashed_nocheck_counted<Q: Equivalent<K>>(
+        self,
+        hash: u64,
+        key: Q,
+        tally: &mut Tally,
+    ) -> Option<(&'a K, &'a V)>
+        requires { hash ≡ key_hash S.BuildHasher S.Hasher.Hasher Q.hash_input (map_in self).builder key }
+        ensures pair { option_map deref_pair result ≡ pair_by (Q.equivalent key) (map_in self.entry).pairs }
+        ensures cost { HashedSearchCostsBy (Q.equivalent key) (key_hash S.BuildHasher S.Hasher.Hasher K.hash_input)
+            (key_hash S.BuildHasher S.Hasher.Hasher Q.hash_input (map_in self.entry).builder key) (map_in self.entry)
+            tally.old tally.new }
+    {
+        match self.map.find_hashed(hash, key, tally) {
+            Lookup::Found(index) => Some(self.map.pair_at(index)),
+            Lookup::Missing(_) => None,
+        }
+    }
+
+    /// Returns a pair whose key `is_match` accepts: in a vector the first, whatever the hash, in a table one among those of this
+    /// hash, and none exactly where there is none. Any hash may be given.
+    ///
+    /// `is_match` is called with keys that are held, in a table with those of this hash alone.
+    ///
+    /// ```
+    /// let hash = ages.hasher().hash_one(&1);
+    /// let pair = ages.raw_entry().from_hash(hash, |age| *age == 1); // 1 and 36
+    /// ```
+    #[inline(always)]
+    pub fn from_hash<F: Fn(&K) -> bool>(self, hash: u64, is_match: F) -> Option<(&'a K, &'a V)>
+        requires { (key : Bor K) (index : ℕ) → slice_get (keys_of (map_in self).pairs) index ≡ Some key.now
+            → F.pre is_match key }
+        ensures { FindsMatch (FnReturnsAt F.Fn is_match) (key_hash S.BuildHasher S.Hasher.Hasher K.hash_input) hash
+            (map_in self.entry) (option_map deref_pair result) }
+    {
+        self.from_hash_counted(hash, is_match, &mut Tally::new())
+    }
+
+    /// `from_hash`, with its work counted: that of one search, with no hash.
+    ///
+    /// ```
+    /// let pair = ages.raw_entry().from_hash_counted(5, |_| false, &mut tally); // none
+    /// ```
+    #[inline(always)]
+    pub fn from_hash_counted<F: Fn(&K) -> bool>(
+        self,
+        hash: u64,
+        is_match: F,
+        tally: &mut Tally,
+    ) -> Option<(&'a K, &'a V)>
+        requires { (key : Bor K) (index : ℕ) → slice_get (keys_of (map_in self).pairs) index ≡ Some key.now
+            → F.pre is_match key }
+        ensures found { FindsMatch (FnReturnsAt F.Fn is_match) (key_hash S.BuildHasher S.Hasher.Hasher K.hash_input) hash
+            (map_in self.entry) (option_map deref_pair result) }
+        ensures cost { FindingCosts (key_hash S.BuildHasher S.Hasher.Hasher K.hash_input) hash (map_in self.entry)
+            (option_map deref_pair result) tally.old tally.new }
+    {
+        match self.map.find_match(hash, &is_match, tally) {
+            Lookup::Found(index) => Some(self.map.pair_at(index)),
+            Lookup::Missing(_) => None,
+        }
+    }
+}

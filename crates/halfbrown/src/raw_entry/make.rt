@@ -1,0 +1,72 @@
+//! Making what raw entries are made from.
+ghost use Rattle.std.specs.Prelude.{◌≡◌, OnOk, IfOk, IfErr, is_ok, if◌then◌else◌};
+ghost use Rattle.std.specs.Borrow.{sem};
+ghost use Rattle.half_store.specs.Work.{asked_more};
+ghost use Rattle.halfbrown.specs.Costs.{switch_asked};
+ghost use Rattle.halfbrown.specs.Growth.{unchecked_needs, IsRefusal};
+ghost use Rattle.halfbrown.specs.Preparation.{Prepares};
+ghost use Rattle.halfbrown.specs.RawEntryBuilder.{map_in, ready_ref, ready_map};
+ghost use Rattle.halfbrown.specs.RawEntryLending.{RestsIfUnready};
+ghost use Rattle.halfbrown.specs.State.{IsState};
+
+use super::{LimitedRawEntryBuilder, LimitedRawEntryBuilderMut, Prepared};
+use crate::{Limit, LimitedHashMap};
+use half_store::{Refusal, Tally};
+use std::hash::{BuildHasher, Hash};
+
+impl<K: Eq + Hash, V, S: BuildHasher, L: Limit> LimitedHashMap<K, V, S, L> {
+    /// Look-ups by a known hash, or by a match on keys. It costs nothing.
+    ///
+    /// ```
+    /// let pair = ages.raw_entry().from_key(&1); // 1 and 36
+    /// ```
+    #[inline(always)]
+    pub fn raw_entry(&self) -> LimitedRawEntryBuilder<'_, K, V, S, L>
+        ensures { map_in result ≡ self.now }
+    {
+        LimitedRawEntryBuilder { map: self }
+    }
+
+    /// What raw entries are made from: pairs by a known hash or by a match on keys, to be read, written, removed or added.
+    ///
+    /// Whatever is searched afterwards, a full vector becomes a table first, and the capacity is made enough for one pair more.
+    /// Fails only where memory for that is refused, and then nothing changes. No call on the entry fails.
+    ///
+    /// ```
+    /// let age = *ages.raw_entry_mut()?.from_key(&1).or_insert(1, 36).1; // 36
+    /// ```
+    #[inline]
+    pub fn raw_entry_mut(&mut self) -> Result<LimitedRawEntryBuilderMut<'_, K, V, S, L>, Refusal>
+        ensures* unchanged { sem 𝓛 (RestsIfUnready K.row V.row S.row L.row S.Hasher.row self.entry result) }
+        ensures same_map { IfOk result (λ r. (ready_ref r).ghost_name ≡ self.entry.ghost_name) }
+        ensures ok { IfOk result (λ r. Prepares L.LIMIT self.old (unchecked_needs L.LIMIT self.old) (ready_map r)) }
+        ensures err { IfErr result (IsRefusal (unchecked_needs L.LIMIT self.old)) }
+        ensures state { IfOk result (λ r. IsState K.eq L.LIMIT (ready_map r)) }
+    {
+        self.raw_entry_mut_counted(&mut Tally::new())
+    }
+
+    /// `raw_entry_mut`, with its work counted: one hash for each pair at a switch, and nothing else.
+    ///
+    /// ```
+    /// let entry = ages.raw_entry_mut_counted(&mut tally)?.from_key_counted(&1, &mut tally);
+    /// ```
+    #[inline]
+    pub fn raw_entry_mut_counted(
+        &mut self,
+        tally: &mut Tally,
+    ) -> Result<LimitedRawEntryBuilderMut<'_, K, V, S, L>, Refusal>
+        ensures* unchanged { sem 𝓛 (RestsIfUnready K.row V.row S.row L.row S.Hasher.row self.entry result) }
+        ensures same_map { IfOk result (λ r. (ready_ref r).ghost_name ≡ self.entry.ghost_name) }
+        ensures ok { IfOk result (λ r. Prepares L.LIMIT self.old (unchecked_needs L.LIMIT self.old) (ready_map r)) }
+        ensures err { IfErr result (IsRefusal (unchecked_needs L.LIMIT self.old)) }
+        ensures cost { tally.new ≡ (if is_ok result then asked_more (switch_asked L.LIMIT self.old) tally.old
+            else tally.old) }
+        ensures state { IfOk result (λ r. IsState K.eq L.LIMIT (ready_map r)) }
+    {
+        match self.prepare_any(tally) {
+            Ok(()) => Ok(LimitedRawEntryBuilderMut::Ready(Prepared { map: self })),
+            Err(why) => Err(why),
+        }
+    }
+}

@@ -1,0 +1,245 @@
+//! The calls of a raw entry.
+ghost use Rattle.std.specs.Prelude.{◌≡◌, true, false, None, Some, IfSome, unwrap_or, if◌then◌else◌};
+ghost use Rattle.std.specs.Borrow.{Bor, MutBor};
+ghost use Rattle.std.specs.Option.{UnwrapsOrElse};
+ghost use Rattle.halfbrown.specs.Costs.{key_hash};
+ghost use Rattle.halfbrown.specs.Pairs.{holds};
+ghost use Rattle.halfbrown.specs.RawEntry.{Occupied, map_of, map_ref, is_occupied, entry_key, entry_value, entry_pair, pairs_with, pairs_without, PutsPair, ModifiesPair, after_adding};
+ghost use Rattle.halfbrown.specs.State.{IsState, WithPairs};
+
+use super::{LimitedRawEntryMut, LimitedRawOccupiedEntryMut};
+use crate::Limit;
+use half_store::Tally;
+use std::hash::{BuildHasher, Hash};
+
+impl<'a, K: Eq + Hash, V, S: BuildHasher, L: Limit> LimitedRawEntryMut<'a, K, V, S, L> {
+    /// Gives the pair that was found this value, and drops the given key; where none was found, adds the pair, whose key must not
+    /// be held. Returns its entry.
+    ///
+    /// ```
+    /// let entry = ages.raw_entry_mut()?.from_key(&1).insert(1, 37);
+    /// ```
+    #[inline]
+    pub fn insert(self, key: K, value: V) -> LimitedRawOccupiedEntryMut<'a, K, V, S, L>
+    where
+        K: Drop,
+        V: Drop,
+        requires { is_occupied self ≡ false → holds K.eq (map_of self).pairs key ≡ false }
+        ensures puts { PutsPair self.entry key value result }
+        ensures state { IsState K.eq L.LIMIT (map_of (Occupied result)) }
+    {
+        self.insert_counted(key, value, &mut Tally::new())
+    }
+
+    /// `insert`, with its work counted: nothing where a pair was found, and else that of a vacant entry's `insert`.
+    ///
+    /// ```
+    /// let entry = ages
+    ///     .raw_entry_mut()?
+    ///     .from_key(&1)
+    ///     .insert_counted(1, 38, &mut tally);
+    /// ```
+    #[inline]
+    pub fn insert_counted(
+        self,
+        key: K,
+        value: V,
+        tally: &mut Tally,
+    ) -> LimitedRawOccupiedEntryMut<'a, K, V, S, L>
+    where
+        K: Drop,
+        V: Drop,
+        requires { is_occupied self ≡ false → holds K.eq (map_of self).pairs key ≡ false }
+        ensures puts { PutsPair self.entry key value result }
+        ensures cost { tally.new ≡ (if is_occupied self.entry then tally.old else after_adding
+            (key_hash S.BuildHasher S.Hasher.Hasher K.hash_input) (map_of self.entry) key tally.old) }
+        ensures state { IsState K.eq L.LIMIT (map_of (Occupied result)) }
+    {
+        match self {
+            LimitedRawEntryMut::Occupied(mut entry) => {
+                entry.insert(value);
+                entry
+            }
+            LimitedRawEntryMut::Vacant(entry) => entry.insert_entry_counted(key, value, tally),
+        }
+    }
+
+    /// Adds the pair where none was found, whose key must not be held. Returns the entry of the pair that is held now: a value that
+    /// is held already stays, and the given pair is dropped.
+    ///
+    /// ```
+    /// let age = *ages.raw_entry_mut()?.from_key(&2).or_insert_entry(2, 41).get(); // 41
+    /// ```
+    #[inline]
+    pub fn or_insert_entry(
+        self,
+        default_key: K,
+        default_value: V,
+    ) -> LimitedRawOccupiedEntryMut<'a, K, V, S, L>
+    where
+        K: Drop,
+        V: Drop,
+        requires { is_occupied self ≡ false → holds K.eq (map_of self).pairs default_key ≡ false }
+        ensures puts { PutsPair self.entry default_key (unwrap_or (entry_value self.entry) default_value) result }
+        ensures state { IsState K.eq L.LIMIT (map_of (Occupied result)) }
+    {
+        self.or_insert_entry_counted(default_key, default_value, &mut Tally::new())
+    }
+
+    /// `or_insert_entry`, with its work counted: nothing where a pair was found, and else that of a vacant entry's `insert`.
+    ///
+    /// ```
+    /// let entry = ages
+    ///     .raw_entry_mut()?
+    ///     .from_key(&2)
+    ///     .or_insert_entry_counted(2, 41, &mut tally);
+    /// ```
+    #[inline]
+    pub fn or_insert_entry_counted(
+        self,
+        default_key: K,
+        default_value: V,
+        tally: &mut Tally,
+    ) -> LimitedRawOccupiedEntryMut<'a, K, V, S, L>
+    where
+        K: Drop,
+        V: Drop,
+        requires { is_occupied self ≡ false → holds K.eq (map_of self).pairs default_key ≡ false }
+        ensures puts { PutsPair self.entry default_key (unwrap_or (entry_value self.entry) default_value) result }
+        ensures cost { tally.new ≡ (if is_occupied self.entry then tally.old else after_adding
+            (key_hash S.BuildHasher S.Hasher.Hasher K.hash_input) (map_of self.entry) default_key tally.old) }
+        ensures state { IsState K.eq L.LIMIT (map_of (Occupied result)) }
+    {
+        match self {
+            LimitedRawEntryMut::Occupied(entry) => entry,
+            LimitedRawEntryMut::Vacant(entry) => {
+                entry.insert_entry_counted(default_key, default_value, tally)
+            }
+        }
+    }
+
+    /// Adds the pair where none was found, whose key must not be held. Returns the stored key and the value that is held now, to
+    /// be written for as long as the map is borrowed: a value that is held already stays, and the given pair is dropped.
+    ///
+    /// ```
+    /// *ages.raw_entry_mut()?.from_key(&3).or_insert(3, 5).1 += 1;
+    /// ```
+    #[inline]
+    pub fn or_insert(self, default_key: K, default_value: V) -> (&'a K, &'a mut V)
+    where
+        K: Drop,
+        V: Drop,
+        requires { is_occupied self ≡ false → holds K.eq (map_of self).pairs default_key ≡ false }
+        ensures { (result.0.now, result.1.now) ≡ unwrap_or (entry_pair self.entry) (default_key, default_value) }
+    {
+        self.or_insert_counted(default_key, default_value, &mut Tally::new())
+    }
+
+    /// `or_insert`, with its work counted: nothing where a pair was found, and else that of a vacant entry's `insert`.
+    ///
+    /// ```
+    /// let pair = ages
+    ///     .raw_entry_mut()?
+    ///     .from_key(&3)
+    ///     .or_insert_counted(3, 5, &mut tally);
+    /// ```
+    #[inline]
+    pub fn or_insert_counted(
+        self,
+        default_key: K,
+        default_value: V,
+        tally: &mut Tally,
+    ) -> (&'a K, &'a mut V)
+    where
+        K: Drop,
+        V: Drop,
+        requires { is_occupied self ≡ false → holds K.eq (map_of self).pairs default_key ≡ false }
+        ensures pair { (result.0.now, result.1.now) ≡ unwrap_or (entry_pair self.entry) (default_key, default_value) }
+        ensures cost { tally.new ≡ (if is_occupied self.entry then tally.old else after_adding
+            (key_hash S.BuildHasher S.Hasher.Hasher K.hash_input) (map_of self.entry) default_key tally.old) }
+    {
+        match self {
+            LimitedRawEntryMut::Occupied(entry) => entry.into_key_value(),
+            LimitedRawEntryMut::Vacant(entry) => entry.insert_counted(
+                default_key,
+                default_value,
+                tally,
+            ),
+        }
+    }
+
+    /// `or_insert`, with a pair that is made only where none was found.
+    ///
+    /// ```
+    /// let age = *ages.raw_entry_mut()?.from_key(&4).or_insert_with(|| (4, 8)).1; // 8
+    /// ```
+    #[inline]
+    pub fn or_insert_with<F: FnOnce() -> (K, V)>(self, default: F) -> (&'a K, &'a mut V)
+        requires callable { is_occupied self ≡ false → F.pre default }
+        requires absent { is_occupied self ≡ false → (pair : K × V) → F.post default pair
+            → holds K.eq (map_of self).pairs pair.0 ≡ false }
+        ensures { UnwrapsOrElse (entry_pair self.entry) (F.post default) (result.0.now, result.1.now) }
+    {
+        self.or_insert_with_counted(default, &mut Tally::new())
+    }
+
+    /// `or_insert_with`, with its work counted: nothing where a pair was found, and else that of a vacant entry's `insert`.
+    ///
+    /// ```
+    /// let pair = ages
+    ///     .raw_entry_mut()?
+    ///     .from_key(&4)
+    ///     .or_insert_with_counted(|| (4, 8), &mut tally);
+    /// ```
+    #[inline]
+    pub fn or_insert_with_counted<F: FnOnce() -> (K, V)>(
+        self,
+        default: F,
+        tally: &mut Tally,
+    ) -> (&'a K, &'a mut V)
+        requires callable { is_occupied self ≡ false → F.pre default }
+        requires absent { is_occupied self ≡ false → (pair : K × V) → F.post default pair
+            → holds K.eq (map_of self).pairs pair.0 ≡ false }
+        ensures pair { UnwrapsOrElse (entry_pair self.entry) (F.post default) (result.0.now, result.1.now) }
+        ensures cost { tally.new ≡ (if is_occupied self.entry then tally.old else after_adding
+            (key_hash S.BuildHasher S.Hasher.Hasher K.hash_input) (map_of self.entry) result.0.now tally.old) }
+    {
+        match self {
+            LimitedRawEntryMut::Occupied(entry) => entry.into_key_value(),
+            LimitedRawEntryMut::Vacant(entry) => {
+                let (key, value) = default();
+                entry.insert_counted(key, value, tally)
+            }
+        }
+    }
+
+    /// Changes the value of the pair that was found, and returns the entry. Where none was found `f` is not called.
+    ///
+    /// ```
+    /// let entry = ages
+    ///     .raw_entry_mut()?
+    ///     .from_key(&4)
+    ///     .and_modify(|_, age| *age += 1);
+    /// ```
+    #[inline]
+    pub fn and_modify<F: FnOnce(&K, &mut V)>(self, f: F) -> LimitedRawEntryMut<'a, K, V, S, L>
+        requires { (key : Bor K) (lent : MutBor V) → entry_pair self ≡ Some (key.now, lent.now) → F.pre f key lent }
+        ensures modified { ModifiesPair F.FnOnce f (entry_pair self.entry) (entry_value result) }
+        ensures same_map { (map_ref result).ghost_name ≡ (map_ref self.entry).ghost_name }
+        ensures key { entry_key result ≡ entry_key self.entry }
+        ensures writes { (key : K) (value : V) → pairs_with result key value ≡ pairs_with self.entry key value }
+        ensures pairs_left { pairs_without result ≡ pairs_without self.entry }
+        ensures vacant { entry_value self.entry ≡ None → map_of result ≡ map_of self.entry }
+        ensures occupied { (key : K) → IfSome (entry_value result)
+            (λ value. WithPairs (map_of self.entry) (pairs_with self.entry key value) (map_of result)) }
+    {
+        match self {
+            LimitedRawEntryMut::Occupied(mut entry) => {
+                let (key, value) = entry.get_key_value_mut();
+                f(key, value);
+                LimitedRawEntryMut::Occupied(entry)
+            }
+            LimitedRawEntryMut::Vacant(entry) => LimitedRawEntryMut::Vacant(entry),
+        }
+    }
+}

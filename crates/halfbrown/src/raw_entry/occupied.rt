@@ -1,0 +1,192 @@
+//! The calls of an occupied raw entry.
+ghost use Rattle.std.specs.Prelude.{◌≡◌, true, Some, IfSome};
+ghost use Rattle.std.specs.Borrow.{sem};
+ghost use Rattle.halfbrown.specs.RawEntry.{Occupied, entry_key, entry_pair, entry_value, map_of, pairs_without, HasNewKey, IsWritten};
+ghost use Rattle.halfbrown.specs.RawEntryLending.{RawEntryLends, RawOccupiedLends, with_entry_value};
+ghost use Rattle.halfbrown.specs.State.{IsState, WithPairs};
+
+use super::LimitedRawOccupiedEntryMut;
+use crate::Limit;
+use std::hash::{BuildHasher, Hash};
+
+impl<'a, K: Eq + Hash, V, S: BuildHasher, L: Limit> LimitedRawOccupiedEntryMut<'a, K, V, S, L> {
+    /// The stored key.
+    ///
+    /// ```
+    /// let key = *entry.key(); // 5
+    /// ```
+    #[inline(always)]
+    pub fn key(&self) -> &K
+        ensures { entry_key (Occupied self.now) ≡ Some result.now }
+    {
+        self.map.key_at(self.index)
+    }
+
+    /// The stored key. It cannot be written, since its hash may not change: `insert_key` replaces it by an equal one.
+    ///
+    /// ```
+    /// let key = *entry.key_mut(); // 5
+    /// ```
+    #[inline(always)]
+    pub fn key_mut(&mut self) -> &K
+        ensures key { entry_key (Occupied self.old) ≡ Some result.now }
+        ensures same { self.new ≡ self.old }
+    {
+        self.map.key_at(self.index)
+    }
+
+    /// The stored key, for as long as the map is borrowed.
+    ///
+    /// ```
+    /// let key = *entry.into_key(); // 5
+    /// ```
+    #[inline(always)]
+    pub fn into_key(self) -> &'a K
+        ensures { entry_key (Occupied self.entry) ≡ Some result.now }
+    {
+        self.into_key_value().0
+    }
+
+    /// Its value.
+    ///
+    /// ```
+    /// let age = *entry.get(); // 13
+    /// ```
+    #[inline(always)]
+    pub fn get(&self) -> &V
+        ensures { entry_value (Occupied self.now) ≡ Some result.now }
+    {
+        self.map.value_at(self.index)
+    }
+
+    /// Its value, to be written.
+    ///
+    /// ```
+    /// *entry.get_mut() = 14;
+    /// ```
+    #[inline(always)]
+    pub fn get_mut(&mut self) -> &mut V
+        ensures* writes_back { sem 𝓛 (RawOccupiedLends K.row V.row S.row L.row S.Hasher.row self.entry result) }
+        ensures value { entry_value (Occupied self.old) ≡ Some result.now }
+        ensures written { (w : V) → IsWritten self.old w (with_entry_value self.old w) }
+    {
+        let index = self.index;
+        self.map.value_at_mut(index)
+    }
+
+    /// Its value, to be written for as long as the map is borrowed.
+    ///
+    /// ```
+    /// *entry.into_mut() = 16;
+    /// ```
+    #[inline(always)]
+    pub fn into_mut(self) -> &'a mut V
+        ensures* writes_back { sem 𝓛 (RawEntryLends K.row V.row S.row L.row S.Hasher.row self.entry result) }
+        ensures value { entry_value (Occupied self.entry) ≡ Some result.now }
+    {
+        let map = self.map;
+        map.value_at_mut(self.index)
+    }
+
+    /// The stored key and its value.
+    ///
+    /// ```
+    /// let pair = entry.get_key_value(); // 5 and 14
+    /// ```
+    #[inline(always)]
+    pub fn get_key_value(&self) -> (&K, &V)
+        ensures { entry_pair (Occupied self.now) ≡ Some (result.0.now, result.1.now) }
+    {
+        self.map.pair_at(self.index)
+    }
+
+    /// The stored key, and its value to be written.
+    ///
+    /// ```
+    /// *entry.get_key_value_mut().1 = 15;
+    /// ```
+    #[inline(always)]
+    pub fn get_key_value_mut(&mut self) -> (&K, &mut V)
+        ensures* writes_back { sem 𝓛 (RawOccupiedLends K.row V.row S.row L.row S.Hasher.row self.entry result.1) }
+        ensures pair { entry_pair (Occupied self.old) ≡ Some (result.0.now, result.1.now) }
+        ensures written { (w : V) → IsWritten self.old w (with_entry_value self.old w) }
+    {
+        let index = self.index;
+        self.map.pair_at_mut(index)
+    }
+
+    /// The stored key, and its value to be written, for as long as the map is borrowed.
+    ///
+    /// ```
+    /// *entry.into_key_value().1 = 17;
+    /// ```
+    #[inline(always)]
+    pub fn into_key_value(self) -> (&'a K, &'a mut V)
+        ensures { entry_pair (Occupied self.entry) ≡ Some (result.0.now, result.1.now) }
+    {
+        let map = self.map;
+        map.pair_at_mut(self.index)
+    }
+
+    /// Replaces its value, and returns the old one. The stored key stays.
+    ///
+    /// ```
+    /// let before = entry.insert(15); // 14
+    /// ```
+    #[inline(always)]
+    pub fn insert(&mut self, value: V) -> V
+        ensures old { entry_value (Occupied self.old) ≡ Some result }
+        ensures written { IsWritten self.old value self.new }
+    {
+        std::mem::replace(self.get_mut(), value)
+    }
+
+    /// Replaces the stored key by an equal one, and returns it. The value stays.
+    ///
+    /// ```
+    /// let before = entry.insert_key(5); // 5
+    /// ```
+    #[inline(always)]
+    pub fn insert_key(&mut self, key: K) -> K
+        requires { IfSome (entry_key (Occupied self.old)) (λ k. K.eq k key ≡ true) }
+        ensures old { entry_key (Occupied self.old) ≡ Some result }
+        ensures new { HasNewKey self.old key self.new }
+    {
+        let index = self.index;
+        self.map.set_key_at(index, key)
+    }
+
+    /// Removes the pair, and returns its value. The last pair takes its index. No bucket is probed.
+    ///
+    /// ```
+    /// let age = entry.remove(); // 16
+    /// ```
+    #[inline]
+    pub fn remove(self) -> V
+    where
+        K: Drop,
+        ensures value { entry_value (Occupied self.entry) ≡ Some result }
+        ensures after { WithPairs (map_of (Occupied self.entry)) (pairs_without (Occupied self.entry))
+            self.exit.0.now }
+        ensures state { IsState K.eq L.LIMIT self.exit.0.now }
+    {
+        self.remove_entry().1
+    }
+
+    /// Removes the pair, and returns the stored key and the value. The last pair takes its index. No bucket is probed.
+    ///
+    /// ```
+    /// let pair = entry.remove_entry(); // 4 and 8
+    /// ```
+    #[inline]
+    pub fn remove_entry(self) -> (K, V)
+        ensures pair { entry_pair (Occupied self.entry) ≡ Some result }
+        ensures value { entry_value (Occupied self.entry) ≡ Some result.1 }
+        ensures after { WithPairs (map_of (Occupied self.entry)) (pairs_without (Occupied self.entry))
+            self.exit.0.now }
+        ensures state { IsState K.eq L.LIMIT self.exit.0.now }
+    {
+        let index = self.index;
+        self.map.take_at(index)
+    }
+}

@@ -1,0 +1,225 @@
+//! The calls of a vacant raw entry.
+ghost use Rattle.std.specs.Prelude.{◌≡◌, false};
+ghost use Rattle.halfbrown.specs.Costs.{key_hash};
+ghost use Rattle.halfbrown.specs.Pairs.{holds};
+ghost use Rattle.halfbrown.specs.RawEntry.{Occupied, Vacant, map_of, PutsPair, after_adding, after_probe};
+ghost use Rattle.halfbrown.specs.State.{IsState};
+
+use super::{LimitedRawOccupiedEntryMut, LimitedRawVacantEntryMut};
+use crate::Limit;
+use half_store::Tally;
+use std::hash::{BuildHasher, Hash};
+
+impl<'a, K: Eq + Hash, V, S: BuildHasher, L: Limit> LimitedRawVacantEntryMut<'a, K, V, S, L> {
+    /// Adds a pair at the end, whose key must not be held. Returns the stored key, and the value, to be written for as long as the
+    /// map is borrowed. In a table the key is hashed once, and one insertion probe made.
+    ///
+    /// ```
+    /// *entry.insert(5, 0).1 = 21;
+    /// ```
+    #[inline]
+    pub fn insert(self, key: K, value: V) -> (&'a K, &'a mut V)
+        requires { holds K.eq (map_of (Vacant self)).pairs key ≡ false }
+        ensures { (result.0.now, result.1.now) ≡ (key, value) }
+    {
+        self.insert_counted(key, value, &mut Tally::new())
+    }
+
+    /// `insert`, with its work counted: one hash and one insertion probe in a table, and nothing in a vector.
+    ///
+    /// ```
+    /// let pair = entry.insert_counted(5, 21, &mut tally); // 5 and 21
+    /// ```
+    #[inline]
+    pub fn insert_counted(self, key: K, value: V, tally: &mut Tally) -> (&'a K, &'a mut V)
+        requires { holds K.eq (map_of (Vacant self)).pairs key ≡ false }
+        ensures pair { (result.0.now, result.1.now) ≡ (key, value) }
+        ensures cost { tally.new ≡ after_adding (key_hash S.BuildHasher S.Hasher.Hasher K.hash_input)
+            (map_of (Vacant self.entry)) key tally.old }
+    {
+        self.insert_entry_counted(key, value, tally)
+            .into_key_value()
+    }
+
+    /// `insert`, which returns the pair's entry.
+    ///
+    /// ```
+    /// let entry = entry.insert_entry(5, 21);
+    /// ```
+    #[inline]
+    pub fn insert_entry(self, key: K, value: V) -> LimitedRawOccupiedEntryMut<'a, K, V, S, L>
+        requires { holds K.eq (map_of (Vacant self)).pairs key ≡ false }
+        ensures puts { PutsPair (Vacant self.entry) key value result }
+        ensures state { IsState K.eq L.LIMIT (map_of (Occupied result)) }
+    {
+        self.insert_entry_counted(key, value, &mut Tally::new())
+    }
+
+    /// `insert_entry`, with its work counted: that of `insert`.
+    ///
+    /// ```
+    /// let entry = entry.insert_entry_counted(5, 21, &mut tally);
+    /// ```
+    #[inline]
+    pub fn insert_entry_counted(
+        self,
+        key: K,
+        value: V,
+        tally: &mut Tally,
+    ) -> LimitedRawOccupiedEntryMut<'a, K, V, S, L>
+        requires { holds K.eq (map_of (Vacant self)).pairs key ≡ false }
+        ensures puts { PutsPair (Vacant self.entry) key value result }
+        ensures cost { tally.new ≡ after_adding (key_hash S.BuildHasher S.Hasher.Hasher K.hash_input)
+            (map_of (Vacant self.entry)) key tally.old }
+        ensures state { IsState K.eq L.LIMIT (map_of (Occupied result)) }
+    {
+        let hash = self.map.hash_to_store(&key, tally);
+        self.add(hash, key, value, tally)
+    }
+
+    /// `insert`, by a hash that is known, which must be the builder's hash of the key. Nothing is hashed.
+    ///
+    /// ```
+    /// let pair = entry.insert_hashed_nocheck(hash, 5, 21); // 5 and 21
+    /// ```
+    #[inline]
+    pub fn insert_hashed_nocheck(self, hash: u64, key: K, value: V) -> (&'a K, &'a mut V)
+        requires hash { hash ≡ key_hash S.BuildHasher S.Hasher.Hasher K.hash_input (map_of (Vacant self)).builder key }
+        requires absent { holds K.eq (map_of (Vacant self)).pairs key ≡ false }
+        ensures { (result.0.now, result.1.now) ≡ (key, value) }
+    {
+        self.insert_hashed_nocheck_counted(hash, key, value, &mut Tally::new())
+    }
+
+    /// `insert_hashed_nocheck`, with its work counted: one insertion probe in a table, and nothing in a vector.
+    ///
+    /// ```
+    /// let pair = entry.insert_hashed_nocheck_counted(hash, 5, 21, &mut tally); // 5 and 21
+    /// ```
+    #[inline]
+    pub fn insert_hashed_nocheck_counted(
+        self,
+        hash: u64,
+        key: K,
+        value: V,
+        tally: &mut Tally,
+    ) -> (&'a K, &'a mut V)
+        requires hash { hash ≡ key_hash S.BuildHasher S.Hasher.Hasher K.hash_input (map_of (Vacant self)).builder key }
+        requires absent { holds K.eq (map_of (Vacant self)).pairs key ≡ false }
+        ensures pair { (result.0.now, result.1.now) ≡ (key, value) }
+        ensures cost { tally.new ≡ after_probe (key_hash S.BuildHasher S.Hasher.Hasher K.hash_input)
+            (map_of (Vacant self.entry)) hash tally.old }
+    {
+        self.add(hash, key, value, tally).into_key_value()
+    }
+
+    /// `insert_hashed_nocheck`, which returns the pair's entry.
+    ///
+    /// ```
+    /// let entry = entry.insert_entry_hashed_nocheck(hash, 5, 21);
+    /// ```
+    #[inline]
+    pub fn insert_entry_hashed_nocheck(
+        self,
+        hash: u64,
+        key: K,
+        value: V,
+    ) -> LimitedRawOccupiedEntryMut<'a, K, V, S, L>
+        requires hash { hash ≡ key_hash S.BuildHasher S.Hasher.Hasher K.hash_input (map_of (Vacant self)).builder key }
+        requires absent { holds K.eq (map_of (Vacant self)).pairs key ≡ false }
+        ensures puts { PutsPair (Vacant self.entry) key value result }
+        ensures state { IsState K.eq L.LIMIT (map_of (Occupied result)) }
+    {
+        self.insert_entry_hashed_nocheck_counted(hash, key, value, &mut Tally::new())
+    }
+
+    /// `insert_entry_hashed_nocheck`, with its work counted: that of `insert_hashed_nocheck`.
+    ///
+    /// ```
+    /// let entry = entry.insert_entry_hashed_nocheck_counted(hash, 5, 21, &mut tally);
+    /// ```
+    #[inline]
+    pub fn insert_entry_hashed_nocheck_counted(
+        self,
+        hash: u64,
+        key: K,
+        value: V,
+        tally: &mut Tally,
+    ) -> LimitedRawOccupiedEntryMut<'a, K, V, S, L>
+        requires hash { hash ≡ key_hash S.BuildHasher S.Hasher.Hasher K.hash_input (map_of (Vacant self)).builder key }
+        requires absent { holds K.eq (map_of (Vacant self)).pairs key ≡ false }
+        ensures puts { PutsPair (Vacant self.entry) key value result }
+        ensures cost { tally.new ≡ after_probe (key_hash S.BuildHasher S.Hasher.Hasher K.hash_input)
+            (map_of (Vacant self.entry)) hash tally.old }
+        ensures state { IsState K.eq L.LIMIT (map_of (Occupied result)) }
+    {
+        self.add(hash, key, value, tally)
+    }
+
+    /// `insert_hashed_nocheck`, with a function that hashes keys. It is not called, since hashes are stored.
+    ///
+    /// ```
+    /// let pair = entry.insert_with_hasher(hash, 5, 21, |_| hash); // 5 and 21
+    /// ```
+    #[inline]
+    pub fn insert_with_hasher<F: Fn(&K) -> u64>(
+        self,
+        hash: u64,
+        key: K,
+        value: V,
+        hasher: F,
+    ) -> (&'a K, &'a mut V)
+        requires hash { hash ≡ key_hash S.BuildHasher S.Hasher.Hasher K.hash_input (map_of (Vacant self)).builder key }
+        requires absent { holds K.eq (map_of (Vacant self)).pairs key ≡ false }
+        ensures { (result.0.now, result.1.now) ≡ (key, value) }
+    {
+        self.insert_with_hasher_counted(hash, key, value, hasher, &mut Tally::new())
+    }
+
+    /// `insert_with_hasher`, with its work counted: that of `insert_hashed_nocheck`.
+    ///
+    /// ```
+    /// let pair = entry.insert_with_hasher_counted(hash, 5, 21, |_| hash, &mut tally); // 5 and 21
+    /// ```
+    #[inline]
+    pub fn insert_with_hasher_counted<F: Fn(&K) -> u64>(
+        self,
+        hash: u64,
+        key: K,
+        value: V,
+        _hasher: F,
+        tally: &mut Tally,
+    ) -> (&'a K, &'a mut V)
+        requires hash { hash ≡ key_hash S.BuildHasher S.Hasher.Hasher K.hash_input (map_of (Vacant self)).builder key }
+        requires absent { holds K.eq (map_of (Vacant self)).pairs key ≡ false }
+        ensures pair { (result.0.now, result.1.now) ≡ (key, value) }
+        ensures cost { tally.new ≡ after_probe (key_hash S.BuildHasher S.Hasher.Hasher K.hash_input)
+            (map_of (Vacant self.entry)) hash tally.old }
+    {
+        self.insert_hashed_nocheck_counted(hash, key, value, tally)
+    }
+
+    // Adds a pair whose key is not held, under its hash, at which a vector does not look.
+    #[inline(always)]
+    fn add(
+        self,
+        hash: u64,
+        key: K,
+        value: V,
+        tally: &mut Tally,
+    ) -> LimitedRawOccupiedEntryMut<'a, K, V, S, L>
+        requires hash { (map_of (Vacant self)).is_vec ≡ false
+            → hash ≡ key_hash S.BuildHasher S.Hasher.Hasher K.hash_input (map_of (Vacant self)).builder key }
+        requires absent { holds K.eq (map_of (Vacant self)).pairs key ≡ false }
+        ensures puts { PutsPair (Vacant self.entry) key value result }
+        ensures cost { tally.new ≡ after_probe (key_hash S.BuildHasher S.Hasher.Hasher K.hash_input)
+            (map_of (Vacant self.entry)) hash tally.old }
+        ensures state { IsState K.eq L.LIMIT (map_of (Occupied result)) }
+    {
+        let map = self.map;
+        let vacancy = map.vacancy_for(hash, tally);
+        let index = map.len();
+        map.push(key, value, vacancy);
+        LimitedRawOccupiedEntryMut { map, index }
+    }
+}
