@@ -3,7 +3,7 @@ use Rattle.std.proofs.Common.{◌≡◌, ℕ, zero, suc, ◌-◌, ◌<◌, List,
 use Rattle.std.proofs.Math.ListN.{set}
 use Rattle.std.specs.List.{zip, slice_get, swap_remove}
 use Rattle.std.specs.Map.{keys_of, values_of}
-use Rattle.half_store.specs.Pairs.{set_value, swap_out}
+use Rattle.half_store.specs.Pairs.{set_key, set_value, swap_out}
 
 pub get_or_within : {X : Type 0} (xs : List X) (i : ℕ) (d e : X) → i < length xs → get_or xs i d ≡ get_or xs i e
 get_or_within [] i d e within = absurd (omega arith)
@@ -54,6 +54,12 @@ module _ {K V : Type 0} where
   zip-nil : (ks : List K) → ◌≡◌ {A = List (K × V)} (zip ks []) []
   zip-nil [] = refl
   zip-nil (k ∷ ks) = refl
+
+  pub zip-set_key : (ks : List K) (vs : List V) (i : ℕ) (k : K) → zip (set ks i k) vs ≡ set_key (zip ks vs) i k
+  zip-set_key [] vs i k = refl
+  zip-set_key (x ∷ ks) [] i k = zip-nil (set (x ∷ ks) i k)
+  zip-set_key (x ∷ ks) (v ∷ vs) zero k = refl
+  zip-set_key (x ∷ ks) (v ∷ vs) (suc i) k = ap (λ l. (x, v) ∷ l) (zip-set_key ks vs i k)
 
   zip-take : (n : ℕ) (ks : List K) (vs : List V) → zip (take n ks) (take n vs) ≡ take n (zip ks vs)
   zip-take zero ks vs = refl
