@@ -10,11 +10,11 @@ use Rattle.halfbrown.specs.declared.raw_entry.LimitedRawEntryBuilderMut.{Limited
 use Rattle.halfbrown.specs.declared.raw_entry.LimitedRawEntryBuilderMut.TheVariants.{Ready}
 use Rattle.halfbrown.specs.State.{State}
 
-module _ {K V S L H : Type 0} {e : eq.Ghosts K} {h : hash.Ghosts K} {b : builder.Ghosts S H} {w : hasher.Ghosts H} {l : limits.Ghosts L} where
-  -- the map that is searched
-  abbrev pub map_in : LimitedRawEntryBuilder K V S L H e h b w l → State K V S
-  map_in builder = builder.map.now
+-- the map that is searched
+abbrev pub map_in : {K V S L H : Type 0} → LimitedRawEntryBuilder K V S L H → State K V S
+map_in builder = builder.map.now
 
+module _ {K V S L H : Type 0} {e : eq.Ghosts K} {h : hash.Ghosts K} {b : builder.Ghosts S H} {w : hasher.Ghosts H} {l : limits.Ghosts L} where
   -- the reference to the map that is ready for one pair more
   abbrev pub ready_ref : LimitedRawEntryBuilderMut K V S L H e h b w l → MutBor (State K V S)
   ready_ref (Ready prepared) = prepared.map
