@@ -7,6 +7,7 @@ pub mod InsertLemmas
 pub mod Kept
 pub mod Lookups
 pub mod MapLaws
+pub mod Matches
 pub mod VacancyProp
 pub mod Vacancies
 pub mod Replacements
