@@ -1,5 +1,5 @@
 -- What a search costs.
-use Rattle.std.proofs.Common.{◌≡◌, ℕ, ◌+◌, ◌-◌, ◌≤◌, ◌==◌, Bool, false, List, [], ◌∷◌, length, map, count_by, fold, cond, Option, Some, is_some, refl, ap, sym, subst, ◌∙◌, arith}
+use Rattle.std.proofs.Common.{◌≡◌, ℕ, ◌+◌, ◌-◌, ◌≤◌, ◌==◌, Bool, true, false, List, [], ◌∷◌, length, map, count_by, fold, cond, Option, Some, is_some, refl, ap, sym, subst, ◌∙◌, arith}
 use Rattle.std.proofs.Math.ListN.{length-map}
 use Rattle.std.proofs.lemmas.Map.Entries.{length-keys_of}
 use Rattle.std.specs.Map.{keys_of}
@@ -73,3 +73,24 @@ module _ {K V S : Type 0} (hash : S → K → ℕ) (sought : ℕ) (m : State K V
       looked_once = λ in_table found apart. costs.looked_once in_table found apart ∙ ap (λ w. w.looked + 1) asking;
       short = costs.short;
     }
+
+module _ {K V S : Type 0} (hash : S → K → ℕ) (sought own : ℕ) (m : State K V S) (before after : Work) (index : Option ℕ) where
+  -- a vector looks at no hash
+  cost_in_vector : m.is_vec ≡ true → (h : ℕ) → match_cost hash h m index ≡ record { asked = 0; compared = exactly (first_match_cost index (length m.pairs)); looked = exactly 0 }
+  cost_in_vector form h = λ i. record {
+    asked = 0;
+    compared = cond (form i) (exactly (first_match_cost index (length m.pairs))) (cond (is_some index) (between 1 (candidates_by (hash m.builder) m.pairs h)) (exactly (candidates_by (hash m.builder) m.pairs h)));
+    looked = cond (form i) (exactly 0) (cond (is_some index) (between 1 (probe_length_by (hash m.builder) m.is_vec m.capacity m.pairs h - 1)) (exactly (probe_length_by (hash m.builder) m.is_vec m.capacity m.pairs h)));
+  }
+
+  costs_by_form : (is_vec : Bool) → m.is_vec ≡ is_vec → (is_vec ≡ false → sought ≡ own) → MatchCosts hash sought m index before after → MatchCosts hash own m index before after
+  costs_by_form true form same costs = record {
+    grew = subst (λ (c : Cost). GrewBy c before after) (cost_in_vector form sought ∙ sym (cost_in_vector form own)) costs.grew;
+    looked_once = costs.looked_once;
+    short = subst (λ b. probe_length_by (hash m.builder) b m.capacity m.pairs own ≤ length m.pairs + 1) (sym form) (omega arith);
+  }
+  costs_by_form false form same costs = subst (λ h. MatchCosts hash h m index before after) (same refl) costs
+
+  -- the costs under one hash are those under another that is the same in a table
+  pub costs_for_other : (m.is_vec ≡ false → sought ≡ own) → MatchCosts hash sought m index before after → MatchCosts hash own m index before after
+  costs_for_other same costs = costs_by_form m.is_vec refl same costs
