@@ -37,7 +37,7 @@ module _ {K V S : Type 0} (test : K → Bool) (returns : K → Bool → Type 0) 
     refused_by : HasNoMatch returns hash sought m → (j : ℕ) (d : K) → j < length (keys_of m.pairs) → (b : Bool) → test (get_or (keys_of m.pairs) j d) ≡ b → test (get_or (keys_of m.pairs) j d) ≡ false
     refused_by none j d within false fails = fails
     refused_by none j d within true passes =
-        sym (decides _ false (none j _ (slice_get-get_or (keys_of m.pairs) j d within) (λ form. hashed _ passes ∙ sym (known form))))
+        sym (decides _ false (none.refused j _ (slice_get-get_or (keys_of m.pairs) j d within) (λ form. hashed _ passes ∙ sym (known form))))
 
     -- where each key of the hash is refused none passes
     absent_of_no_match : HasNoMatch returns hash sought m → IsAbsent test m.pairs

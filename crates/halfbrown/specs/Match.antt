@@ -22,8 +22,8 @@ module _ {K V S : Type 0} (returns : K → Bool → Type 0) (hash : S → K → 
     pub hashed : m.is_vec ≡ false → (k : K) → slice_get (keys_of m.pairs) index ≡ Some k → hash m.builder k ≡ sought
 
   -- the match refuses each held key, in a table each of this hash
-  abbrev pub HasNoMatch : Type 0
-  HasNoMatch = (index : ℕ) (k : K) → slice_get (keys_of m.pairs) index ≡ Some k → (m.is_vec ≡ false → hash m.builder k ≡ sought) → returns k false
+  pub record HasNoMatch : Type 0 where
+    pub refused : (index : ℕ) (k : K) → slice_get (keys_of m.pairs) index ≡ Some k → (m.is_vec ≡ false → hash m.builder k ≡ sought) → returns k false
 
   -- a search by the match found this index, or none, and here a pair of the hash may be added: its bucket is known unless there are no buckets
   abbrev pub Matches : Lookup → Type 0

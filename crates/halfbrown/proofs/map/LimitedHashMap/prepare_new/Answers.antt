@@ -19,6 +19,9 @@ returns-clause-ready g c =
       absent = absent_of_unheld (eq key) now.pairs (ap (λ ps. holds eq ps key) (prepared.ok.pairs ∙ c.switch_if_full.ensures.pairs) ∙ c.requires);
       capacity = prepared.capacity;
       probed = vacancy_for_other now.is_vec (contents_of now) _ (hash now.builder key)
-          (λ form. stored_is (contents_of opened) (hash opened.builder key) opened.is_vec c.unsearched-vacancy.result c.unsearched-vacancy.ensures.vacant (form_stays opened.is_vec _ c.in_ok-switch_if_full.ensures.not_full ∙ sym prepared.ok.form ∙ form) ∙ ap (λ s. hash s key) (sym prepared.ok.builder))
+          (λ form.
+          let in_table = form_stays opened.is_vec _ c.in_ok-switch_if_full.ensures.not_full ∙ sym prepared.ok.form ∙ form in
+          stored_is (contents_of opened) c.hash_to_store.result opened.is_vec c.unprobed_for-vacancy.result c.unprobed_for-vacancy.ensures.vacant in_table
+          ∙ c.hash_to_store.ensures.hash in_table ∙ ap (λ s. hash s key) (sym prepared.ok.builder))
           c.in_ok-probed.probed prepared.probed;
     }
