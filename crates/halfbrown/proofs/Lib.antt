@@ -10,6 +10,7 @@ pub mod MapLaws
 pub mod Matches
 pub mod VacancyProp
 pub mod Vacancies
+pub mod RawCosts
 pub mod Replacements
 pub mod RunLaws
 pub mod RunLemmas

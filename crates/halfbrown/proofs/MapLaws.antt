@@ -14,8 +14,8 @@ use Rattle.half_store.proofs.ReachLemmas.{reach-none}
 use Rattle.half_store.proofs.CapacityLemmas.{four-le_count, buckets_for-least, buckets_of-capacity_of, capacity_for-capacity_of}
 use Rattle.half_store.proofs.TableLaws.{history_law as reach_history, crowding_law}
 use Rattle.halfbrown.specs.declared.run.Command.{Command}
-use Rattle.halfbrown.specs.declared.run.Command.TheVariants.{Insert, InsertNew, EntryOrInsert, Get, Remove, Clear, Reserve, Shrink, IsVec, Len}
-use Rattle.halfbrown.specs.Costs.{Range, Cost, GrewBy, GrewWithin, exactly, between, add_ranges, no_cost, search_asked, candidates, probe_length, comparisons_in_order, search_compares, search_looks, search_cost_of, insert_cost, unchecked_cost, insertion_probe_looks, is_switch_refused, capacity_switched, capacity_grown, addition_grows, SearchCosts, InsertCosts}
+use Rattle.halfbrown.specs.declared.run.Command.TheVariants.{Insert, InsertNew, EntryOrInsert, RawOrInsert, Get, Remove, Clear, Reserve, Shrink, IsVec, Len}
+use Rattle.halfbrown.specs.Costs.{Range, Cost, GrewBy, GrewWithin, exactly, between, add_ranges, no_cost, search_asked, candidates, probe_length, comparisons_in_order, search_compares, search_looks, search_cost_of, insert_cost, raw_insert_cost, unchecked_cost, insertion_probe_looks, is_switch_refused, capacity_switched, capacity_grown, addition_grows, SearchCosts, InsertCosts}
 use Rattle.halfbrown.specs.MapLaws.{HoldSamePairs, GrewExactlyBy, HistoryLaw, InsertionHistoryLaw, CrowdedSearchLaw, CrowdedInsertionLaw, CrowdedProbeLaw, CrowdedGrowthLaw, CrowdedUncheckedLaw, CommandCostLaw, CommandHashesLaw, CommandBucketsLaw, finds_in_vector}
 use Rattle.halfbrown.specs.Growth.{is_full, stays_vec}
 use Rattle.halfbrown.specs.Pairs.{holds}
@@ -262,6 +262,10 @@ module _ {K V S : Type 0} (hash : S → K → ℕ) where
         search-same : (is_vec && holds eq xs k) ≡ false → search_cost_of eq hash first k ≡ search_cost_of eq hash second k
         search-same none = λ i. record { asked = search_asked is_vec; compared = search-compared none i; looked = search-looked i }
 
+        -- the search of a switching call
+        searched-alike : (stays (length xs) && holds eq xs k) ≡ false → search_compares eq (hash builder) (stays (length xs)) xs k ≡ search_compares eq (hash builder) (stays (length ys)) ys k
+        searched-alike none = compares-same eq builder xs ys p k (stays (length xs)) none ∙ (λ i. search_compares eq (hash builder) (stays (long i)) ys k)
+
         module _ (granted : Bool) where
           insert-asked : (insert_cost limit eq hash first k granted).asked ≡ (insert_cost limit eq hash second k granted).asked
           insert-asked = simp long
@@ -270,13 +274,20 @@ module _ {K V S : Type 0} (hash : S → K → ℕ) where
           insert-looked = simp (long, held k, looked k)
 
           insert-compared : (stays (length xs) && holds eq xs k) ≡ false → (insert_cost limit eq hash first k granted).compared ≡ (insert_cost limit eq hash second k granted).compared
-          insert-compared none =
-              let searched : search_compares eq (hash builder) (stays (length xs)) xs k ≡ search_compares eq (hash builder) (stays (length ys)) ys k =
-              compares-same eq builder xs ys p k (stays (length xs)) none ∙ (λ i. search_compares eq (hash builder) (stays (long i)) ys k) in
-              λ i. if is_vec && (long i == limit) && not granted then exactly 0 else searched i
+          insert-compared none = λ i. if is_vec && (long i == limit) && not granted then exactly 0 else searched-alike none i
 
           insert-same : (stays (length xs) && holds eq xs k) ≡ false → insert_cost limit eq hash first k granted ≡ insert_cost limit eq hash second k granted
           insert-same none = λ i. record { asked = insert-asked i; compared = insert-compared none i; looked = insert-looked i }
+
+          -- an insertion by a raw entry
+          raw-asked : (raw_insert_cost limit eq hash first k granted).asked ≡ (raw_insert_cost limit eq hash second k granted).asked
+          raw-asked = simp (long, held k)
+
+          raw-looked : (raw_insert_cost limit eq hash first k granted).looked ≡ (raw_insert_cost limit eq hash second k granted).looked
+          raw-looked = simp (long, held k, looked k)
+
+          raw-compared : (stays (length xs) && holds eq xs k) ≡ false → (raw_insert_cost limit eq hash first k granted).compared ≡ (raw_insert_cost limit eq hash second k granted).compared
+          raw-compared none = λ i. if granted then searched-alike none i else exactly 0
 
           -- an insertion without a search, where the key is not held
           added-same : (if holds eq xs k then no_cost else unchecked_cost limit eq hash first k granted) ≡ (if holds eq ys k then no_cost else unchecked_cost limit eq hash second k granted)
@@ -286,6 +297,7 @@ module _ {K V S : Type 0} (hash : S → K → ℕ) where
       hashes-same (Insert k v) refused = insert-asked k (not refused)
       hashes-same (InsertNew k v) refused = ap (λ cost. search_asked is_vec + cost.asked) (added-same k (not refused))
       hashes-same (EntryOrInsert k v) refused = insert-asked k (not refused)
+      hashes-same (RawOrInsert k v) refused = raw-asked k (not refused)
       hashes-same (Get k) refused = refl
       hashes-same (Remove k) refused = refl
       hashes-same Clear refused = refl
@@ -298,6 +310,7 @@ module _ {K V S : Type 0} (hash : S → K → ℕ) where
       buckets-same (Insert k v) refused = insert-looked k (not refused)
       buckets-same (InsertNew k v) refused = λ i. add_ranges (search-looked k i) (added-same k (not refused) i).looked
       buckets-same (EntryOrInsert k v) refused = insert-looked k (not refused)
+      buckets-same (RawOrInsert k v) refused = raw-looked k (not refused)
       buckets-same (Get k) refused = search-looked k
       buckets-same (Remove k) refused = search-looked k
       buckets-same Clear refused = refl
@@ -311,6 +324,7 @@ module _ {K V S : Type 0} (hash : S → K → ℕ) where
       compared-same (Insert k v) refused none = insert-compared k (not refused) none
       compared-same (InsertNew k v) refused none = λ i. add_ranges (search-compared k none i) (added-same k (not refused) i).compared
       compared-same (EntryOrInsert k v) refused none = insert-compared k (not refused) none
+      compared-same (RawOrInsert k v) refused none = raw-compared k (not refused) none
       compared-same (Get k) refused none = search-compared k none
       compared-same (Remove k) refused none = search-compared k none
       compared-same Clear refused none = refl

@@ -3,7 +3,7 @@ use Rattle.std.proofs.Common.{◌≡◌, ◌∙◌, ℕ, ◌+◌, ◌⊎◌, inl
 use Rattle.std.specs.Prelude.{MatchBool, is_some}
 use Rattle.half_store.specs.declared.refusal.Refusal.{Refusal}
 use Rattle.halfbrown.specs.declared.run.Command.{Command}
-use Rattle.halfbrown.specs.declared.run.Command.TheVariants.{Insert, InsertNew, EntryOrInsert, Get, Remove, Clear, Reserve, Shrink, IsVec, Len}
+use Rattle.halfbrown.specs.declared.run.Command.TheVariants.{Insert, InsertNew, EntryOrInsert, RawOrInsert, Get, Remove, Clear, Reserve, Shrink, IsVec, Len}
 use Rattle.halfbrown.specs.declared.run.Reply.{Reply}
 use Rattle.halfbrown.specs.declared.run.Reply.TheVariants.{Was, Added, Present, Value, Found, Removed, Done, Form, Length, Refused}
 use Rattle.halfbrown.specs.Costs.{Cost, no_cost, add_costs, search_asked, search_cost_of, unchecked_cost}
@@ -50,6 +50,14 @@ asked_nothing limit true true false form stays = refl
 asked_nothing limit true true true form stays = absurd (true≢false (sym (stays refl)))
 asked_nothing limit false full granted form stays = absurd (true≢false (sym form))
 
+raw_asked_nothing : (limit : ℕ) (v full granted held : Bool) → v ≡ true → (granted ≡ true → (v && not full) ≡ true)
+    → (if granted then (if full then limit else 0) + search_asked (v && not full) + (if held then 0 else search_asked (v && not full)) else 0) ≡ 0
+raw_asked_nothing limit v full false held form stays = refl
+raw_asked_nothing limit true false true true form stays = refl
+raw_asked_nothing limit true false true false form stays = refl
+raw_asked_nothing limit true true true held form stays = absurd (true≢false (sym (stays refl)))
+raw_asked_nothing limit false full true held form stays = absurd (true≢false (sym form))
+
 -- a granted command is not answered a refusal
 granted_new : {K V : Type 0} (k : K) (v : V) (held : Bool) → refusal_in (if held then Present k v else Added) ≡ None
 granted_new k v true = refl
@@ -59,6 +67,7 @@ granted_is : {K V : Type 0} (eq : K → K → Bool) (is_vec : Bool) (pairs : Lis
 granted_is eq is_vec pairs (Insert k v) = refl
 granted_is eq is_vec pairs (InsertNew k v) = granted_new k v (holds eq pairs k)
 granted_is eq is_vec pairs (EntryOrInsert k v) = refl
+granted_is eq is_vec pairs (RawOrInsert k v) = refl
 granted_is eq is_vec pairs (Get k) = refl
 granted_is eq is_vec pairs (Remove k) = refl
 granted_is eq is_vec pairs Clear = refl
@@ -101,6 +110,7 @@ module _ {K V S : Type 0} (limit : ℕ) (eq : K → K → Bool) where
   form_left old new (Insert k v) leaves = leaves.form
   form_left old new (InsertNew k v) leaves = form_left_new old new k v (holds eq old.pairs k) leaves
   form_left old new (EntryOrInsert k v) leaves = leaves.form
+  form_left old new (RawOrInsert k v) leaves = leaves.form
   form_left old new (Get k) leaves = ap (λ m. m.is_vec) leaves
   form_left old new (Remove k) leaves = leaves.form
   form_left old new Clear leaves = leaves.form
@@ -145,6 +155,9 @@ module _ {K V S : Type 0} (limit : ℕ) (eq : K → K → Bool) where
   leaves_alike a b a_new b_new alike (EntryOrInsert k v) a_leaves b_leaves =
       put_alike a b a_new b_new alike k (value_or eq a.pairs k v) (insert_needs limit eq a k) (insert_needs limit eq b k) a_leaves
       (subst (λ ps. Puts limit eq b k (value_or eq ps k v) (insert_needs limit eq b k) b_new) (sym alike.pairs) b_leaves)
+  leaves_alike a b a_new b_new alike (RawOrInsert k v) a_leaves b_leaves =
+      put_alike a b a_new b_new alike k (value_or eq a.pairs k v) (unchecked_needs limit a) (unchecked_needs limit b) a_leaves
+      (subst (λ ps. Puts limit eq b k (value_or eq ps k v) (unchecked_needs limit b) b_new) (sym alike.pairs) b_leaves)
   leaves_alike a b a_new b_new alike (Get k) a_leaves b_leaves = same_alike a b a_new b_new alike a_leaves b_leaves
   leaves_alike a b a_new b_new alike (Remove k) a_leaves b_leaves = record {
     form = a_leaves.form ∙ alike.form ∙ sym b_leaves.form;
@@ -187,6 +200,7 @@ module _ {K V S : Type 0} (limit : ℕ) (eq : K → K → Bool) (hash : S → K 
   command_asked old (Insert k v) refused form stays = asked_nothing limit old.is_vec (is_full limit old) (not refused) form stays
   command_asked old (InsertNew k v) refused form stays = new_asked old k v (holds eq old.pairs k) refused form stays
   command_asked old (EntryOrInsert k v) refused form stays = asked_nothing limit old.is_vec (is_full limit old) (not refused) form stays
+  command_asked old (RawOrInsert k v) refused form stays = raw_asked_nothing limit old.is_vec (is_full limit old) (not refused) (holds eq old.pairs k) form stays
   command_asked old (Get k) refused form stays = ap search_asked form
   command_asked old (Remove k) refused form stays = ap search_asked form
   command_asked old Clear refused form stays = refl

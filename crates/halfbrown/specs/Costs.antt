@@ -191,6 +191,19 @@ module _ {K V S : Type 0} (limit : ℕ) where
     unchecked_cost m k granted =
         record { asked = insert_asked m granted; compared = exactly 0; looked = exactly (if granted then insertion_probe_looks m k else 0) }
 
+    -- what `raw_entry_mut`, `from_key` of k and `or_insert` of k cost: the switch hashes each key, and one search follows, once the capacity
+    -- is enough for one pair more; a new key is hashed again in a table, and one insertion probe made for it; where the capacity was refused
+    -- they cost nothing
+    abbrev pub raw_insert_cost : State K V S → K → Bool → Cost
+    raw_insert_cost m k granted = record {
+      asked = if granted then switch_asked m + search_asked (stays_vec limit m) + (if holds eq m.pairs k then 0 else search_asked (stays_vec limit m)) else 0;
+      compared = if granted then search_compares eq (hash m.builder) (stays_vec limit m) m.pairs k else exactly 0;
+      looked = if granted then add_ranges
+          (search_looks eq (hash m.builder) (stays_vec limit m) (capacity_grown m) m.pairs k)
+          (exactly (if holds eq m.pairs k then 0 else insertion_probe_looks m k))
+          else exactly 0;
+    }
+
     -- what an insertion of k cost, by the tally before it and after
     pub record InsertCosts (m : State K V S) (k : K) (granted : Bool) (before after : Work) : Type 0 where
       pub grew : GrewBy (insert_cost m k granted) before after

@@ -5,7 +5,7 @@ use Rattle.half_store.specs.Capacity.{buckets_of}
 use Rattle.half_store.specs.TableLaws.{IsCrowded}
 use Rattle.half_store.specs.Work.{Work}
 use Rattle.halfbrown.specs.declared.run.Command.{Command}
-use Rattle.halfbrown.specs.declared.run.Command.TheVariants.{Insert, InsertNew, EntryOrInsert, Get, Remove, Clear, Reserve, Shrink, IsVec, Len}
+use Rattle.halfbrown.specs.declared.run.Command.TheVariants.{Insert, InsertNew, EntryOrInsert, RawOrInsert, Get, Remove, Clear, Reserve, Shrink, IsVec, Len}
 use Rattle.halfbrown.specs.Costs.{probe_length, addition_grows, capacity_switched, capacity_grown, unchecked_cost, GrewBy, SearchCosts, InsertCosts}
 use Rattle.halfbrown.specs.Growth.{stays_vec}
 use Rattle.halfbrown.specs.Pairs.{holds}
@@ -45,6 +45,7 @@ module _ {K V S : Type 0} (limit : ℕ) (eq : K → K → Bool) where
   finds_in_vector m (Insert k v) = stays_vec limit m && holds eq m.pairs k
   finds_in_vector m (InsertNew k v) = m.is_vec && holds eq m.pairs k
   finds_in_vector m (EntryOrInsert k v) = stays_vec limit m && holds eq m.pairs k
+  finds_in_vector m (RawOrInsert k v) = stays_vec limit m && holds eq m.pairs k
   finds_in_vector m (Get k) = m.is_vec && holds eq m.pairs k
   finds_in_vector m (Remove k) = m.is_vec && holds eq m.pairs k
   finds_in_vector m Clear = false

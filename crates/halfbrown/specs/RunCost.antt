@@ -1,8 +1,8 @@
 -- What a command costs.
 use Rattle.std.specs.Prelude.{ℕ, Bool, not, if◌then◌else◌}
 use Rattle.halfbrown.specs.declared.run.Command.{Command}
-use Rattle.halfbrown.specs.declared.run.Command.TheVariants.{Insert, InsertNew, EntryOrInsert, Get, Remove, Clear, Reserve, Shrink, IsVec, Len}
-use Rattle.halfbrown.specs.Costs.{Cost, no_cost, add_costs, search_cost_of, insert_cost, unchecked_cost}
+use Rattle.halfbrown.specs.declared.run.Command.TheVariants.{Insert, InsertNew, EntryOrInsert, RawOrInsert, Get, Remove, Clear, Reserve, Shrink, IsVec, Len}
+use Rattle.halfbrown.specs.Costs.{Cost, no_cost, add_costs, search_cost_of, insert_cost, raw_insert_cost, unchecked_cost}
 use Rattle.halfbrown.specs.Pairs.{holds}
 use Rattle.halfbrown.specs.State.{State}
 
@@ -13,6 +13,7 @@ module _ {K V S : Type 0} (limit : ℕ) (eq : K → K → Bool) (hash : S → K 
   command_cost m (InsertNew k v) refused =
       add_costs (search_cost_of eq hash m k) (if holds eq m.pairs k then no_cost else unchecked_cost limit eq hash m k (not refused))
   command_cost m (EntryOrInsert k v) refused = insert_cost limit eq hash m k (not refused)
+  command_cost m (RawOrInsert k v) refused = raw_insert_cost limit eq hash m k (not refused)
   command_cost m (Get k) refused = search_cost_of eq hash m k
   command_cost m (Remove k) refused = search_cost_of eq hash m k
   command_cost m Clear refused = no_cost

@@ -2,7 +2,7 @@
 use Rattle.std.specs.Prelude.{◌≡◌, ℕ, ◌+◌, Bool, List, [], length, Option, None, Some, is_some, unwrap_or, MatchBool, if◌then◌else◌}
 use Rattle.half_store.specs.declared.refusal.Refusal.{Refusal}
 use Rattle.halfbrown.specs.declared.run.Command.{Command}
-use Rattle.halfbrown.specs.declared.run.Command.TheVariants.{Insert, InsertNew, EntryOrInsert, Get, Remove, Clear, Reserve, Shrink, IsVec, Len}
+use Rattle.halfbrown.specs.declared.run.Command.TheVariants.{Insert, InsertNew, EntryOrInsert, RawOrInsert, Get, Remove, Clear, Reserve, Shrink, IsVec, Len}
 use Rattle.halfbrown.specs.declared.run.Reply.{Reply}
 use Rattle.halfbrown.specs.declared.run.Reply.TheVariants.{Was, Added, Present, Value, Found, Removed, Done, Form, Length, Refused}
 use Rattle.halfbrown.specs.Growth.{insert_needs, unchecked_needs, reserve_needs, IsRefusal, Reserves, Shrinks}
@@ -19,6 +19,7 @@ abbrev pub granted_reply : {K V : Type 0} → (K → K → Bool) → Bool → Li
 granted_reply eq is_vec pairs (Insert k v) = Was (value_of eq pairs k)
 granted_reply eq is_vec pairs (InsertNew k v) = if holds eq pairs k then Present k v else Added
 granted_reply eq is_vec pairs (EntryOrInsert k v) = Value (value_or eq pairs k v)
+granted_reply eq is_vec pairs (RawOrInsert k v) = Value (value_or eq pairs k v)
 granted_reply eq is_vec pairs (Get k) = Found (value_of eq pairs k)
 granted_reply eq is_vec pairs (Remove k) = Removed (pair_of eq pairs k)
 granted_reply eq is_vec pairs Clear = Done
@@ -33,6 +34,7 @@ module _ {K V S : Type 0} (limit : ℕ) (eq : K → K → Bool) where
   command_needs m (Insert k v) = insert_needs limit eq m k
   command_needs m (InsertNew k v) = if holds eq m.pairs k then None else unchecked_needs limit m
   command_needs m (EntryOrInsert k v) = insert_needs limit eq m k
+  command_needs m (RawOrInsert k v) = unchecked_needs limit m
   command_needs m (Reserve additional) = reserve_needs limit m (length m.pairs + additional)
   command_needs m command = None
 
@@ -41,6 +43,7 @@ module _ {K V S : Type 0} (limit : ℕ) (eq : K → K → Bool) where
   Leaves old (Insert k v) new = Puts limit eq old k v (insert_needs limit eq old k) new
   Leaves old (InsertNew k v) new = MatchBool (holds eq old.pairs k) (new ≡ old) (Puts limit eq old k v (unchecked_needs limit old) new)
   Leaves old (EntryOrInsert k v) new = Puts limit eq old k (value_or eq old.pairs k v) (insert_needs limit eq old k) new
+  Leaves old (RawOrInsert k v) new = Puts limit eq old k (value_or eq old.pairs k v) (unchecked_needs limit old) new
   Leaves old (Get k) new = new ≡ old
   Leaves old (Remove k) new = WithPairs old (take_out eq old.pairs k) new
   Leaves old Clear new = WithPairs old [] new

@@ -21,6 +21,8 @@ pub enum Command<K, V> {
     InsertNew(K, V),
     /// `entry`, and `or_insert` through it.
     EntryOrInsert(K, V),
+    /// `raw_entry_mut`, `from_key`, and `or_insert` through that.
+    RawOrInsert(K, V),
     /// `get`.
     Get(K),
     /// `remove_entry`.
@@ -143,6 +145,7 @@ fn step<K: Eq + Hash + Drop, V: Copy, S: BuildHasher, L: Limit>(
         },
         Command::InsertNew(key, value) => insert_new(map, key, value, tally),
         Command::EntryOrInsert(key, value) => entry_or_insert(map, key, value, tally),
+        Command::RawOrInsert(key, value) => raw_or_insert(map, key, value, tally),
         Command::Clear => {
             map.clear();
             Reply::Done
@@ -196,5 +199,26 @@ fn entry_or_insert<K: Eq + Hash + Drop, V: Copy, S: BuildHasher, L: Limit>(
     match map.entry_counted(key, tally) {
         Ok(entry) => Reply::Value(*entry.or_insert(value)),
         Err(refused) => Reply::Refused(Command::EntryOrInsert(refused.key, value), refused.why),
+    }
+}
+
+// Inserts a pair where the key is not held, through a raw entry.
+fn raw_or_insert<K: Eq + Hash + Drop, V: Copy, S: BuildHasher, L: Limit>(
+    map: &mut LimitedHashMap<K, V, S, L>,
+    key: K,
+    value: V,
+    tally: &mut Tally,
+) -> Reply<K, V>
+    ensures step { Steps L.LIMIT K.eq map.old (Command.RawOrInsert key value) result map.new }
+    ensures cost { GrewBy (command_cost L.LIMIT K.eq (key_hash S.BuildHasher S.Hasher.Hasher K.hash_input)
+        map.old (Command.RawOrInsert key value) (is_refused result)) tally.old tally.new }
+{
+    match map.raw_entry_mut_counted(tally) {
+        Ok(entries) => {
+            let found = entries.from_key_counted(&key, tally);
+            let entry = found.or_insert_entry_counted(key, value, tally);
+            Reply::Value(*entry.get())
+        }
+        Err(why) => Reply::Refused(Command::RawOrInsert(key, value), why),
     }
 }

@@ -1,5 +1,5 @@
 //! Making what raw entries are made from.
-ghost use Rattle.std.specs.Prelude.{◌≡◌, OnOk, IfOk, IfErr, is_ok, if◌then◌else◌};
+ghost use Rattle.std.specs.Prelude.{◌≡◌, ◌<◌, length, IfOk, IfErr, is_ok, if◌then◌else◌};
 ghost use Rattle.std.specs.Borrow.{sem};
 ghost use Rattle.half_store.specs.Work.{asked_more};
 ghost use Rattle.halfbrown.specs.Costs.{switch_asked};
@@ -40,6 +40,7 @@ impl<K: Eq + Hash, V, S: BuildHasher, L: Limit> LimitedHashMap<K, V, S, L> {
         ensures* unchanged { sem 𝓛 (RestsIfUnready K.row V.row S.row L.row S.Hasher.row self.entry result) }
         ensures same_map { IfOk result (λ r. (ready_ref r).ghost_name ≡ self.entry.ghost_name) }
         ensures ok { IfOk result (λ r. Prepares L.LIMIT self.old (unchecked_needs L.LIMIT self.old) (ready_map r)) }
+        ensures capacity { IfOk result (λ r. length (ready_map r).pairs < (ready_map r).capacity) }
         ensures err { IfErr result (IsRefusal (unchecked_needs L.LIMIT self.old)) }
         ensures state { IfOk result (λ r. IsState K.eq L.LIMIT (ready_map r)) }
     {
@@ -59,6 +60,7 @@ impl<K: Eq + Hash, V, S: BuildHasher, L: Limit> LimitedHashMap<K, V, S, L> {
         ensures* unchanged { sem 𝓛 (RestsIfUnready K.row V.row S.row L.row S.Hasher.row self.entry result) }
         ensures same_map { IfOk result (λ r. (ready_ref r).ghost_name ≡ self.entry.ghost_name) }
         ensures ok { IfOk result (λ r. Prepares L.LIMIT self.old (unchecked_needs L.LIMIT self.old) (ready_map r)) }
+        ensures capacity { IfOk result (λ r. length (ready_map r).pairs < (ready_map r).capacity) }
         ensures err { IfErr result (IsRefusal (unchecked_needs L.LIMIT self.old)) }
         ensures cost { tally.new ≡ (if is_ok result then asked_more (switch_asked L.LIMIT self.old) tally.old
             else tally.old) }

@@ -30,7 +30,7 @@ returns-in-None-clause-found g c =
     let hashing = key_hash g.S.BuildHasher g.S.Hasher.Hasher g.K.Hash.hash_input in
     let pairs = c.self.inside.columns.pairs in (
       subst (λ (m : State g.row.K.Denot g.row.V.Denot g.row.S.Denot). HasNoMatch (FnReturnsAt g.F.Fn c.args.matches.now) hashing c.args.hash m) c.self.view_is
-      (record { refused = λ index k at hashed. c.in-None.ensures.absent index (omega (arith, slice_get_within (keys_of pairs) index k at, length-keys_of pairs)) k (ap (λ ks. slice_get ks index) c.keys-keys.ensures.keys ∙ at) }),
+          (record { refused = λ index k at hashed. c.in-None.ensures.absent index (omega (arith, slice_get_within (keys_of pairs) index k at, length-keys_of pairs)) k (ap (λ ks. slice_get ks index) c.keys-keys.ensures.keys ∙ at) }),
       sym (ap (λ m. m.is_vec) c.self.view_is) ∙ sym (ap (λ f. f.is_vec) c.in_default.ensures),
       λ unprobed. absurd (true≢false (sym unprobed)),
     )
@@ -78,11 +78,11 @@ returns-in-Vacant-clause-found g c =
     let vector : c.self.inside.form.is_vec ≡ false = sym (ap (λ f. f.is_vec) c.in-Some.ensures) in
     let hashed : c.in-Some.table.now.hashes ≡ map (hashing builder) (keys_of pairs) = ap (λ f. f.hashes) c.in-Some.ensures ∙ c.self.invariant.hashed vector in (
       subst (λ (m : State g.row.K.Denot g.row.V.Denot g.row.S.Denot). HasNoMatch (FnReturnsAt g.F.Fn c.args.matches.now) hashing c.args.hash m) c.self.view_is
-      (record {
-        refused = λ index k at own. c.in-Vacant.ensures.refused index
-            (ap (λ hs. slice_get hs index) hashed ∙ slice_get-map (hashing builder) (keys_of pairs) index ∙ ap (option_map (hashing builder)) at ∙ ap Some (own vector))
-            k (ap (λ ks. slice_get ks index) c.keys-keys.ensures.keys ∙ at);
-      }),
+          (record {
+            refused = λ index k at own. c.in-Vacant.ensures.refused index
+                (ap (λ hs. slice_get hs index) hashed ∙ slice_get-map (hashing builder) (keys_of pairs) index ∙ ap (option_map (hashing builder)) at ∙ ap Some (own vector))
+                k (ap (λ ks. slice_get ks index) c.keys-keys.ensures.keys ∙ at);
+          }),
       (
         sym (ap (λ m. m.is_vec) c.self.view_is) ∙ vector,
         refl,

@@ -1,0 +1,86 @@
+-- What an insertion through a raw entry costs: its switch, one search, and for a new key one hash and one insertion probe.
+use Rattle.std.proofs.Common.{◌≡◌, ℕ, ◌+◌, ◌<◌, ◌≤◌, Bool, true, false, not, nat_lt, length, Option, None, Some, MatchBool, MatchOption, cond, if◌then◌else◌, refl, sym, ap, subst, ◌∙◌, arith}
+use Rattle.std.proofs.lemmas.Bool.Decides.{nat_tests}
+use Rattle.half_store.specs.Capacity.{capacity_for}
+use Rattle.half_store.specs.Work.{Work, asked_more}
+use Rattle.halfbrown.specs.Costs.{Cost, GrewBy, search_asked, search_compares, search_looks, probe_length, switch_asked, capacity_grown, raw_insert_cost, SearchCostsBy}
+use Rattle.halfbrown.specs.Growth.{is_full, stays_vec, unchecked_needs}
+use Rattle.halfbrown.specs.Pairs.{holds}
+use Rattle.halfbrown.specs.Preparation.{Prepares}
+use Rattle.halfbrown.specs.RawEntry.{after_adding}
+use Rattle.halfbrown.specs.State.{State}
+use Rattle.halfbrown.proofs.Full.{full_len}
+
+less_is_true : (n m : ℕ) → n < m → nat_lt n m ≡ true
+less_is_true n m less = grind (arith, nat_tests)
+
+capacity_by : (full less : Bool) (limit len capacity new : ℕ) → MatchOption (if full then Some (limit + 1) else (if less then None else Some (len + 1))) (new ≡ capacity) (λ n. new ≡ capacity_for n)
+    → (full ≡ true → nat_lt len (capacity_for (limit + 1)) ≡ true) → nat_lt len capacity ≡ less
+    → new ≡ (if not (nat_lt len (if full then capacity_for (limit + 1) else capacity)) then capacity_for (len + 1) else (if full then capacity_for (limit + 1) else capacity))
+capacity_by true less limit len capacity new has fits is = has ∙ sym (ap (λ b. cond (not b) (capacity_for (len + 1)) (capacity_for (limit + 1))) (fits refl))
+capacity_by false true limit len capacity new has fits is = has ∙ sym (ap (λ b. cond (not b) (capacity_for (len + 1)) capacity) is)
+capacity_by false false limit len capacity new has fits is = has ∙ sym (ap (λ b. cond (not b) (capacity_for (len + 1)) capacity) is)
+
+in_table : (needs : Option ℕ) (is_vec : Bool) (new capacity : ℕ) → is_vec ≡ false → MatchOption needs (new ≡ capacity) (λ n. MatchBool is_vec (n ≤ new) (new ≡ capacity_for n))
+    → MatchOption needs (new ≡ capacity) (λ n. new ≡ capacity_for n)
+in_table None is_vec new capacity form has = has
+in_table (Some n) is_vec new capacity form has = subst (λ b. MatchBool b (n ≤ new) (new ≡ capacity_for n)) form has
+
+module _ {K V S : Type 0} (limit : ℕ) (old m : State K V S) (prepared : Prepares limit old (unchecked_needs limit old) m) (left : length m.pairs < m.capacity) where
+  full_fits : m.is_vec ≡ false → is_full limit old ≡ true → nat_lt (length old.pairs) (capacity_for (limit + 1)) ≡ true
+  full_fits form full =
+      let has : m.capacity ≡ capacity_for (limit + 1) =
+      subst (λ b. MatchOption (if b then Some (limit + 1) else (if nat_lt (length old.pairs) old.capacity then None else Some (length old.pairs + 1))) (m.capacity ≡ old.capacity) (λ n. m.capacity ≡ capacity_for n)) full
+      (in_table (unchecked_needs limit old) m.is_vec m.capacity old.capacity form prepared.capacity) in
+      less_is_true (length old.pairs) (capacity_for (limit + 1)) (omega (arith, left, has, ap length prepared.pairs))
+
+  -- the capacity of a table that is ready for one pair more
+  pub capacity_ready : m.is_vec ≡ false → m.capacity ≡ capacity_grown limit old
+  capacity_ready form = capacity_by (is_full limit old) (nat_lt (length old.pairs) old.capacity) limit (length old.pairs) old.capacity m.capacity
+      (in_table (unchecked_needs limit old) m.is_vec m.capacity old.capacity form prepared.capacity) (full_fits form) refl
+
+module _ {K V S : Type 0} (limit : ℕ) (eq : K → K → Bool) (hash : S → K → ℕ) (old m : State K V S) (k : K) (prepared : Prepares limit old (unchecked_needs limit old) m) (left : length m.pairs < m.capacity)
+    (before between searched after : Work) (spent : between ≡ asked_more (switch_asked limit old) before) (search : SearchCostsBy (eq k) hash (hash m.builder k) m between searched) where
+  abbrev stays : Bool
+  stays = stays_vec limit old
+
+  looks_by : (is_vec : Bool) → (is_vec ≡ false → m.capacity ≡ capacity_grown limit old) → search_looks eq (hash old.builder) is_vec m.capacity old.pairs k ≡ search_looks eq (hash old.builder) is_vec (capacity_grown limit old) old.pairs k
+  looks_by true same = refl
+  looks_by false same = ap (λ n. search_looks eq (hash old.builder) false n old.pairs k) (same refl)
+
+  probe_by : (is_vec : Bool) → (is_vec ≡ false → m.capacity ≡ capacity_grown limit old) → probe_length (hash old.builder) is_vec m.capacity old.pairs k ≡ probe_length (hash old.builder) is_vec (capacity_grown limit old) old.pairs k
+  probe_by true same = refl
+  probe_by false same = ap (λ n. probe_length (hash old.builder) false n old.pairs k) (same refl)
+
+  grown : stays ≡ false → m.capacity ≡ capacity_grown limit old
+  grown form = capacity_ready limit old m prepared left (prepared.form ∙ form)
+
+  search_grew : GrewBy (record { asked = search_asked stays; compared = search_compares eq (hash old.builder) stays old.pairs k; looked = search_looks eq (hash old.builder) stays (capacity_grown limit old) old.pairs k }) between searched
+  search_grew =
+      subst (λ (c : Cost). GrewBy c between searched)
+      (λ i. record { asked = search_asked stays; compared = search_compares eq (hash old.builder) stays old.pairs k; looked = looks_by stays grown i })
+      (subst (λ (c : Cost). GrewBy c between searched)
+      (λ i. record {
+        asked = search_asked (prepared.form i);
+        compared = search_compares eq (hash (prepared.builder i)) (prepared.form i) (prepared.pairs i) k;
+        looked = search_looks eq (hash (prepared.builder i)) (prepared.form i) m.capacity (prepared.pairs i) k;
+      }) search.grew)
+
+  probe_is : probe_length (hash m.builder) m.is_vec m.capacity m.pairs k ≡ probe_length (hash old.builder) stays (capacity_grown limit old) old.pairs k
+  probe_is = (λ i. probe_length (hash (prepared.builder i)) (prepared.form i) m.capacity (prepared.pairs i) k) ∙ probe_by stays grown
+
+  costs_by : (held : Bool) → holds eq old.pairs k ≡ held → after ≡ (if held then searched else after_adding hash m k searched) → GrewBy (raw_insert_cost limit eq hash old k true) before after
+  costs_by true held is = rw held (record {
+    asked = omega (arith, search_grew.asked, ap (λ w. w.asked) spent, ap (λ w. w.asked) is);
+    compared = record { least = omega (arith, search_grew.compared.least, ap (λ w. w.compared) spent, ap (λ w. w.compared) is); most = omega (arith, search_grew.compared.most, ap (λ w. w.compared) spent, ap (λ w. w.compared) is) };
+    looked = record { least = omega (arith, search_grew.looked.least, ap (λ w. w.looked) spent, ap (λ w. w.looked) is); most = omega (arith, search_grew.looked.most, ap (λ w. w.looked) spent, ap (λ w. w.looked) is) };
+  })
+  costs_by false held is = rw held (record {
+    asked = omega (arith, search_grew.asked, ap (λ w. w.asked) spent, ap (λ w. w.asked) is, ap search_asked prepared.form);
+    compared = record { least = omega (arith, search_grew.compared.least, ap (λ w. w.compared) spent, ap (λ w. w.compared) is); most = omega (arith, search_grew.compared.most, ap (λ w. w.compared) spent, ap (λ w. w.compared) is) };
+    looked = record { least = omega (arith, search_grew.looked.least, ap (λ w. w.looked) spent, ap (λ w. w.looked) is, probe_is); most = omega (arith, search_grew.looked.most, ap (λ w. w.looked) spent, ap (λ w. w.looked) is, probe_is) };
+  })
+
+  -- what an insertion of k through a raw entry cost
+  pub raw_costs : after ≡ (if holds eq m.pairs k then searched else after_adding hash m k searched) → GrewBy (raw_insert_cost limit eq hash old k true) before after
+  raw_costs is = costs_by (holds eq old.pairs k) refl (is ∙ ap (λ ps. cond (holds eq ps k) searched (after_adding hash m k searched)) prepared.pairs)
