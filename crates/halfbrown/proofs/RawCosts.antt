@@ -3,7 +3,7 @@ use Rattle.std.proofs.Common.{◌≡◌, ℕ, ◌+◌, ◌<◌, ◌≤◌, Bool,
 use Rattle.std.proofs.lemmas.Bool.Decides.{nat_tests}
 use Rattle.half_store.specs.Capacity.{capacity_for}
 use Rattle.half_store.specs.Work.{Work, asked_more}
-use Rattle.halfbrown.specs.Costs.{Cost, GrewBy, search_asked, search_compares, search_looks, probe_length, switch_asked, capacity_grown, raw_insert_cost, SearchCostsBy}
+use Rattle.halfbrown.specs.Costs.{Cost, GrewBy, add_ranges, exactly, insertion_probe_looks, search_asked, search_compares, search_looks, probe_length, switch_asked, capacity_grown, raw_insert_cost, SearchCostsBy}
 use Rattle.halfbrown.specs.Growth.{is_full, stays_vec, unchecked_needs}
 use Rattle.halfbrown.specs.Pairs.{holds}
 use Rattle.halfbrown.specs.Preparation.{Prepares}
@@ -69,13 +69,21 @@ module _ {K V S : Type 0} (limit : ℕ) (eq : K → K → Bool) (hash : S → K 
   probe_is : probe_length (hash m.builder) m.is_vec m.capacity m.pairs k ≡ probe_length (hash old.builder) stays (capacity_grown limit old) old.pairs k
   probe_is = (λ i. probe_length (hash (prepared.builder i)) (prepared.form i) m.capacity (prepared.pairs i) k) ∙ probe_by stays grown
 
+  -- the cost of a granted insertion, by whether the key is held
+  abbrev cost_by : Bool → Cost
+  cost_by held = record {
+    asked = switch_asked limit old + search_asked stays + (if held then 0 else search_asked stays);
+    compared = search_compares eq (hash old.builder) stays old.pairs k;
+    looked = add_ranges (search_looks eq (hash old.builder) stays (capacity_grown limit old) old.pairs k) (exactly (if held then 0 else insertion_probe_looks limit eq hash old k));
+  }
+
   costs_by : (held : Bool) → holds eq old.pairs k ≡ held → after ≡ (if held then searched else after_adding hash m k searched) → GrewBy (raw_insert_cost limit eq hash old k true) before after
-  costs_by true held is = rw held (record {
+  costs_by true held is = subst (λ h. GrewBy (cost_by h) before after) (sym held) (record {
     asked = omega (arith, search_grew.asked, ap (λ w. w.asked) spent, ap (λ w. w.asked) is);
     compared = record { least = omega (arith, search_grew.compared.least, ap (λ w. w.compared) spent, ap (λ w. w.compared) is); most = omega (arith, search_grew.compared.most, ap (λ w. w.compared) spent, ap (λ w. w.compared) is) };
     looked = record { least = omega (arith, search_grew.looked.least, ap (λ w. w.looked) spent, ap (λ w. w.looked) is); most = omega (arith, search_grew.looked.most, ap (λ w. w.looked) spent, ap (λ w. w.looked) is) };
   })
-  costs_by false held is = rw held (record {
+  costs_by false held is = subst (λ h. GrewBy (cost_by h) before after) (sym held) (record {
     asked = omega (arith, search_grew.asked, ap (λ w. w.asked) spent, ap (λ w. w.asked) is, ap search_asked prepared.form);
     compared = record { least = omega (arith, search_grew.compared.least, ap (λ w. w.compared) spent, ap (λ w. w.compared) is); most = omega (arith, search_grew.compared.most, ap (λ w. w.compared) spent, ap (λ w. w.compared) is) };
     looked = record { least = omega (arith, search_grew.looked.least, ap (λ w. w.looked) spent, ap (λ w. w.looked) is, probe_is); most = omega (arith, search_grew.looked.most, ap (λ w. w.looked) spent, ap (λ w. w.looked) is, probe_is) };
