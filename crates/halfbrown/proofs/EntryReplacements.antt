@@ -31,7 +31,7 @@ front_of : {X : Type 0} (xs : List X) (x y : X) (n : ℕ) → n ≡ length xs �
 front_of xs x y n is = take-set-le n (xs ++ x ∷ []) (length xs) y (omega arith) ∙ ap (λ m. take m (xs ++ x ∷ [])) is ∙ take-front xs (x ∷ [])
 
 -- the last element that is taken out leaves the others as they are
-swap_out-last : {X : Type 0} (xs : List X) (x : X) → swap_out (xs ++ x ∷ []) (length xs) ≡ xs
+pub swap_out-last : {X : Type 0} (xs : List X) (x : X) → swap_out (xs ++ x ∷ []) (length xs) ≡ xs
 swap_out-last [] x = front_of [] x x (length (x ∷ []) - 1) (omega arith)
 swap_out-last (y ∷ ys) x = front_of (y ∷ ys) x _ (length (y ∷ ys ++ x ∷ []) - 1) (omega (arith, length-append ys (x ∷ [])))
 

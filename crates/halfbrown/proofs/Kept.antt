@@ -1,5 +1,5 @@
 -- What the fields of a map keep, from call to call.
-use Rattle.std.proofs.Common.{◌≡◌, ℕ, zero, suc, ◌<◌, ◌≤◌, Bool, true, false, List, [], ◌∷◌, ◌++◌, length, map, min, sym, refl, ap, subst, ◌∙◌, arith, true≢false}
+use Rattle.std.proofs.Common.{◌≡◌, ℕ, zero, suc, ◌<◌, ◌≤◌, Bool, true, false, List, [], ◌∷◌, ◌++◌, length, slice_get, Some, map, min, sym, refl, ap, subst, ◌∙◌, arith, true≢false}
 use Rattle.std.proofs.Math.ListN.{length-append}
 use Rattle.std.proofs.lemmas.List.{map-append}
 use Rattle.std.specs.Cmp.{IsEquivalence}
@@ -7,7 +7,7 @@ use Rattle.std.specs.List.{IsDistinct}
 use Rattle.std.specs.Map.{keys_of}
 use Rattle.std.proofs.lemmas.Map.Entries.{length-keys_of}
 use Rattle.std.proofs.lemmas.Map.Keys.{IsDistinct-push}
-use Rattle.half_store.specs.Pairs.{Pairs, set_value, swap_out}
+use Rattle.half_store.specs.Pairs.{Pairs, set_key, set_value, swap_out}
 use Rattle.half_store.specs.Table.{TableState, Contents}
 use Rattle.half_store.specs.Capacity.{capacity_of}
 use Rattle.halfbrown.specs.Form.{FormState, vector_form, table_form}
@@ -16,6 +16,7 @@ use Rattle.halfbrown.specs.Lookup.{IsAbsent, IsVacancy, stored_hash}
 use Rattle.halfbrown.specs.declared.map.lookup.Vacancy.{Vacancy}
 use Rattle.halfbrown.specs.declared.map.lookup.Vacancy.TheVariants.{InVector, InTable}
 use Rattle.halfbrown.specs.State.{IsState, IsTableCapacity}
+use Rattle.halfbrown.proofs.Rekeyed.{keys_of-set_key, length-set_key, map-set_alike, IsDistinct-set}
 use Rattle.halfbrown.proofs.SwapOut.{map-swap_out, length-swap_out, IsDistinct-swap_out}
 use Rattle.halfbrown.proofs.Indices.{none_of_index, any_of_none}
 
@@ -75,6 +76,18 @@ module _ {K V : Type 0} where
       fits = omega (arith, kept.fits);
       backed = kept.backed;
       hashed = λ form. kept.hashed form ∙ ap (map hash) (sym keys);
+      series = kept.series;
+    }
+
+    -- a pair has another key, equal to its own and of the same hash
+    pub kept_key : IsEquivalence eq → (ps : List (K × V)) (columns : ℕ) (is_vec : Bool) (hashes : List ℕ) (buckets i : ℕ) (old new : K)
+        → IsKept eq hash limit ps columns is_vec hashes buckets → slice_get (keys_of ps) i ≡ Some old → eq old new ≡ true → hash old ≡ hash new
+        → IsKept eq hash limit (set_key ps i new) columns is_vec hashes buckets
+    kept_key laws ps columns is_vec hashes buckets i old new kept at same alike = record {
+      distinct = subst (IsDistinct eq) (sym (keys_of-set_key ps i new)) (IsDistinct-set eq laws old new same (keys_of ps) i at kept.distinct);
+      fits = omega (arith, length-set_key ps i new, kept.fits);
+      backed = kept.backed;
+      hashed = λ form. kept.hashed form ∙ sym (map-set_alike hash (keys_of ps) i old new at alike) ∙ ap (map hash) (sym (keys_of-set_key ps i new));
       series = kept.series;
     }
 

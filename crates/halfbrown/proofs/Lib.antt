@@ -8,11 +8,13 @@ pub mod Kept
 pub mod Lookups
 pub mod MapLaws
 pub mod Matches
-pub mod VacancyProp
-pub mod Vacancies
 pub mod RawCosts
+pub mod RawEntries
+pub mod Rekeyed
 pub mod Replacements
 pub mod RunLaws
 pub mod RunLemmas
 pub mod SwapOut
+pub mod Vacancies
+pub mod VacancyProp
 pub mod Written

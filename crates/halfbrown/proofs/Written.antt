@@ -20,7 +20,7 @@ module _ {X : Type 0} where
       ]
 
   -- an element that is taken out may be another
-  swap_out-set : (xs : List X) (i : ℕ) (a : X) → swap_out (set xs i a) i ≡ swap_out xs i
+  pub swap_out-set : (xs : List X) (i : ℕ) (a : X) → swap_out (set xs i a) i ≡ swap_out xs i
   swap_out-set [] i a = refl
   swap_out-set (x ∷ xs) zero a = taken_by (x ∷ xs) (length (x ∷ xs) - 1) zero a a x (omega arith)
   swap_out-set (x ∷ xs) (suc i) a =

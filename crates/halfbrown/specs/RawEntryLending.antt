@@ -1,10 +1,11 @@
 -- What a map, or a raw entry, ends as once a value that was lent through a raw entry comes back.
-use Rattle.std.specs.Prelude.{◌≡◌, ℕ, [], Result}
-use Rattle.std.specs.Borrow.{Fml, RattleType, MutBor, follows, RestsIfErr}
+use Rattle.std.specs.Prelude.{◌≡◌, ℕ, [], ⊤, Result}
+use Rattle.std.specs.Borrow.{Fml, RattleType, MutBor, follows, follows_so, RestsIfErr}
 use Rattle.std.specs.declared.cmp.PartialEq as eq
 use Rattle.std.specs.declared.hash.Hash as hash
 use Rattle.std.specs.declared.hash.Hasher as hasher
 use Rattle.std.specs.declared.hash.BuildHasher as builder
+use mathlib.Core.Option.{none}
 use mir.Syntax.{named}
 use Rattle.halfbrown.specs.declared.limit.Limit as limits
 use Rattle.halfbrown.specs.declared.raw_entry.LimitedRawEntryBuilderMut.{LimitedRawEntryBuilderMut}
@@ -33,6 +34,12 @@ module _ (K V S L H : RattleType) {e : eq.Ghosts K.Denot} {h : hash.Ghosts K.Den
   -- the entry has the last value written through the reference
   abbrev pub RawOccupiedLends : MutBor (LimitedRawOccupiedEntryMut K.Denot V.Denot S.Denot L.Denot H.Denot e h b w l) → MutBor V.Denot → Fml
   RawOccupiedLends o r = follows (occupied.the_row (record { mir = named 1; lft = [] }) K V S L H e h b w l) V o.ghost_name r.ghost_name (with_entry_value o.now)
+
+  -- the entry stays as it is
+  abbrev pub RawOccupiedRests : MutBor (LimitedRawOccupiedEntryMut K.Denot V.Denot S.Denot L.Denot H.Denot e h b w l) → Fml
+  RawOccupiedRests o =
+      let row = occupied.the_row (record { mir = named 1; lft = [] }) K V S L H e h b w l in
+      follows_so row row o.ghost_name none (λ x n. ⊤) (λ n. n ≡ o.now)
 
   -- where the capacity was refused the map is as it was
   abbrev pub RestsIfUnready : {E : Type 0} → MutBor (State K.Denot V.Denot S.Denot) → Result (LimitedRawEntryBuilderMut K.Denot V.Denot S.Denot L.Denot H.Denot e h b w l) E → Fml

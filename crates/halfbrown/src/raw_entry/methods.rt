@@ -58,6 +58,7 @@ impl<'a, K: Eq + Hash, V, S: BuildHasher, L: Limit> LimitedRawEntryMut<'a, K, V,
         match self {
             LimitedRawEntryMut::Occupied(mut entry) => {
                 entry.insert(value);
+                prove!(entry.index < entry.map.len());
                 entry
             }
             LimitedRawEntryMut::Vacant(entry) => entry.insert_entry_counted(key, value, tally),
@@ -111,7 +112,10 @@ impl<'a, K: Eq + Hash, V, S: BuildHasher, L: Limit> LimitedRawEntryMut<'a, K, V,
         ensures state { IsState K.eq L.LIMIT (map_of (Occupied result)) }
     {
         match self {
-            LimitedRawEntryMut::Occupied(entry) => entry,
+            LimitedRawEntryMut::Occupied(entry) => {
+                prove!(entry.index < entry.map.len());
+                entry
+            }
             LimitedRawEntryMut::Vacant(entry) => {
                 entry.insert_entry_counted(default_key, default_value, tally)
             }

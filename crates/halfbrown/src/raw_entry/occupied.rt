@@ -2,7 +2,7 @@
 ghost use Rattle.std.specs.Prelude.{◌≡◌, true, Some, IfSome};
 ghost use Rattle.std.specs.Borrow.{sem};
 ghost use Rattle.halfbrown.specs.RawEntry.{Occupied, entry_key, entry_pair, entry_value, map_of, pairs_without, HasNewKey, IsWritten};
-ghost use Rattle.halfbrown.specs.RawEntryLending.{RawEntryLends, RawOccupiedLends, with_entry_value};
+ghost use Rattle.halfbrown.specs.RawEntryLending.{RawEntryLends, RawOccupiedLends, RawOccupiedRests, with_entry_value};
 ghost use Rattle.halfbrown.specs.State.{IsState, WithPairs};
 
 use super::LimitedRawOccupiedEntryMut;
@@ -29,10 +29,10 @@ impl<'a, K: Eq + Hash, V, S: BuildHasher, L: Limit> LimitedRawOccupiedEntryMut<'
     /// ```
     #[inline(always)]
     pub fn key_mut(&mut self) -> &K
+        ensures* unchanged { sem 𝓛 (RawOccupiedRests K.row V.row S.row L.row S.Hasher.row self.entry) }
         ensures key { entry_key (Occupied self.old) ≡ Some result.now }
-        ensures same { self.new ≡ self.old }
     {
-        self.map.key_at(self.index)
+        self.key()
     }
 
     /// The stored key, for as long as the map is borrowed.
@@ -80,6 +80,7 @@ impl<'a, K: Eq + Hash, V, S: BuildHasher, L: Limit> LimitedRawOccupiedEntryMut<'
     /// *entry.into_mut() = 16;
     /// ```
     #[inline(always)]
+    #[tactic(auto, using(crate::proofs::RawEntries::raw_writes))]
     pub fn into_mut(self) -> &'a mut V
         ensures* writes_back { sem 𝓛 (RawEntryLends K.row V.row S.row L.row S.Hasher.row self.entry result) }
         ensures value { entry_value (Occupied self.entry) ≡ Some result.now }

@@ -20,7 +20,8 @@ impl<'a, K: Eq + Hash, V, S: BuildHasher, L: Limit> LimitedRawVacantEntryMut<'a,
     #[inline]
     pub fn insert(self, key: K, value: V) -> (&'a K, &'a mut V)
         requires { holds K.eq (map_of (Vacant self)).pairs key ≡ false }
-        ensures { (result.0.now, result.1.now) ≡ (key, value) }
+        ensures key { result.0.now ≡ key }
+        ensures value { result.1.now ≡ value }
     {
         self.insert_counted(key, value, &mut Tally::new())
     }
@@ -33,7 +34,8 @@ impl<'a, K: Eq + Hash, V, S: BuildHasher, L: Limit> LimitedRawVacantEntryMut<'a,
     #[inline]
     pub fn insert_counted(self, key: K, value: V, tally: &mut Tally) -> (&'a K, &'a mut V)
         requires { holds K.eq (map_of (Vacant self)).pairs key ≡ false }
-        ensures pair { (result.0.now, result.1.now) ≡ (key, value) }
+        ensures key { result.0.now ≡ key }
+        ensures value { result.1.now ≡ value }
         ensures cost { tally.new ≡ after_adding (key_hash S.BuildHasher S.Hasher.Hasher K.hash_input)
             (map_of (Vacant self.entry)) key tally.old }
     {
@@ -86,7 +88,8 @@ impl<'a, K: Eq + Hash, V, S: BuildHasher, L: Limit> LimitedRawVacantEntryMut<'a,
     pub fn insert_hashed_nocheck(self, hash: u64, key: K, value: V) -> (&'a K, &'a mut V)
         requires hash { hash ≡ key_hash S.BuildHasher S.Hasher.Hasher K.hash_input (map_of (Vacant self)).builder key }
         requires absent { holds K.eq (map_of (Vacant self)).pairs key ≡ false }
-        ensures { (result.0.now, result.1.now) ≡ (key, value) }
+        ensures key { result.0.now ≡ key }
+        ensures value { result.1.now ≡ value }
     {
         self.insert_hashed_nocheck_counted(hash, key, value, &mut Tally::new())
     }
@@ -106,7 +109,8 @@ impl<'a, K: Eq + Hash, V, S: BuildHasher, L: Limit> LimitedRawVacantEntryMut<'a,
     ) -> (&'a K, &'a mut V)
         requires hash { hash ≡ key_hash S.BuildHasher S.Hasher.Hasher K.hash_input (map_of (Vacant self)).builder key }
         requires absent { holds K.eq (map_of (Vacant self)).pairs key ≡ false }
-        ensures pair { (result.0.now, result.1.now) ≡ (key, value) }
+        ensures key { result.0.now ≡ key }
+        ensures value { result.1.now ≡ value }
         ensures cost { tally.new ≡ after_probe (key_hash S.BuildHasher S.Hasher.Hasher K.hash_input)
             (map_of (Vacant self.entry)) hash tally.old }
     {
@@ -171,7 +175,8 @@ impl<'a, K: Eq + Hash, V, S: BuildHasher, L: Limit> LimitedRawVacantEntryMut<'a,
     ) -> (&'a K, &'a mut V)
         requires hash { hash ≡ key_hash S.BuildHasher S.Hasher.Hasher K.hash_input (map_of (Vacant self)).builder key }
         requires absent { holds K.eq (map_of (Vacant self)).pairs key ≡ false }
-        ensures { (result.0.now, result.1.now) ≡ (key, value) }
+        ensures key { result.0.now ≡ key }
+        ensures value { result.1.now ≡ value }
     {
         self.insert_with_hasher_counted(hash, key, value, hasher, &mut Tally::new())
     }
@@ -192,7 +197,8 @@ impl<'a, K: Eq + Hash, V, S: BuildHasher, L: Limit> LimitedRawVacantEntryMut<'a,
     ) -> (&'a K, &'a mut V)
         requires hash { hash ≡ key_hash S.BuildHasher S.Hasher.Hasher K.hash_input (map_of (Vacant self)).builder key }
         requires absent { holds K.eq (map_of (Vacant self)).pairs key ≡ false }
-        ensures pair { (result.0.now, result.1.now) ≡ (key, value) }
+        ensures key { result.0.now ≡ key }
+        ensures value { result.1.now ≡ value }
         ensures cost { tally.new ≡ after_probe (key_hash S.BuildHasher S.Hasher.Hasher K.hash_input)
             (map_of (Vacant self.entry)) hash tally.old }
     {

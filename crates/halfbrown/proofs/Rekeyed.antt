@@ -1,0 +1,69 @@
+-- Pairs of which one has another key, equal to its own.
+use Rattle.std.proofs.Common.{◌≡◌, ℕ, zero, suc, ◌<◌, Bool, true, false, List, [], ◌∷◌, length, map, set, get_or, slice_get, Some, refl, sym, ap, subst, ◌∙◌, arith}
+use Rattle.std.proofs.lemmas.Option.{same_Some}
+use Rattle.std.specs.Cmp.{IsEquivalence}
+use Rattle.std.specs.List.{AllByRecursion, IsDistinct}
+use Rattle.std.specs.Map.{keys_of, values_of}
+use Rattle.half_store.specs.Pairs.{set_key, swap_out}
+use Rattle.halfbrown.proofs.Written.{swap_out-set}
+
+module _ {K V : Type 0} where
+  pub keys_of-set_key : (ps : List (K × V)) (i : ℕ) (k : K) → keys_of (set_key ps i k) ≡ set (keys_of ps) i k
+  keys_of-set_key [] i k = refl
+  keys_of-set_key (p ∷ ps) zero k = refl
+  keys_of-set_key (p ∷ ps) (suc i) k = ap (λ l. p.0 ∷ l) (keys_of-set_key ps i k)
+
+  -- the values stay
+  pub values_of-set_key : (ps : List (K × V)) (i : ℕ) (k : K) → values_of (set_key ps i k) ≡ values_of ps
+  values_of-set_key [] i k = refl
+  values_of-set_key (p ∷ ps) zero k = refl
+  values_of-set_key (p ∷ ps) (suc i) k = ap (λ l. p.1 ∷ l) (values_of-set_key ps i k)
+
+  pub length-set_key : (ps : List (K × V)) (i : ℕ) (k : K) → length (set_key ps i k) ≡ length ps
+  length-set_key [] i k = refl
+  length-set_key (p ∷ ps) zero k = refl
+  length-set_key (p ∷ ps) (suc i) k = ap suc (length-set_key ps i k)
+
+  -- the key that was written
+  pub key-set_key : (ps : List (K × V)) (i : ℕ) (k : K) → i < length ps → slice_get (keys_of (set_key ps i k)) i ≡ Some k
+  key-set_key [] i k within = absurd (omega arith)
+  key-set_key (p ∷ ps) zero k within = refl
+  key-set_key (p ∷ ps) (suc i) k within = key-set_key ps i k (omega arith)
+
+  set_key-set : (ps : List (K × V)) (i : ℕ) (k : K) (d : K × V) → set_key ps i k ≡ set ps i (k, (get_or ps i d).1)
+  set_key-set [] i k d = refl
+  set_key-set (p ∷ ps) zero k d = refl
+  set_key-set (p ∷ ps) (suc i) k d = ap (λ l. p ∷ l) (set_key-set ps i k d)
+
+  -- a pair that is taken out may have another key
+  pub swap_out-set_key : (ps : List (K × V)) (i : ℕ) (k : K) → swap_out (set_key ps i k) i ≡ swap_out ps i
+  swap_out-set_key [] i k = refl
+  swap_out-set_key (p ∷ ps) i k = ap (λ l. swap_out l i) (set_key-set (p ∷ ps) i k p) ∙ swap_out-set (p ∷ ps) i (k, (get_or (p ∷ ps) i p).1)
+
+-- an element is replaced by one that f cannot tell from it
+pub map-set_alike : {A B : Type 0} (f : A → B) (xs : List A) (i : ℕ) (old new : A) → slice_get xs i ≡ Some old → f old ≡ f new → map f (set xs i new) ≡ map f xs
+map-set_alike f [] i old new at alike = refl
+map-set_alike f (x ∷ xs) zero old new at alike = ap (λ y. y ∷ map f xs) (sym alike ∙ ap f (sym (same_Some x old at)))
+map-set_alike f (x ∷ xs) (suc i) old new at alike = ap (λ l. f x ∷ l) (map-set_alike f xs i old new at alike)
+
+-- P stays true of each element where it goes over from the old one to the new
+all-set : {A : Type 0} (P : A → Type 0) (xs : List A) (i : ℕ) (old new : A) → slice_get xs i ≡ Some old → (P old → P new) → AllByRecursion P xs → AllByRecursion P (set xs i new)
+all-set P [] i old new at over all = all
+all-set P (x ∷ xs) zero old new at over all = (over (subst P (same_Some x old at) all.0), all.1)
+all-set P (x ∷ xs) (suc i) old new at over all = (all.0, all-set P xs i old new at over all.1)
+
+module _ {A : Type 0} where
+  all-map : (P Q : A → Type 0) → ((y : A) → P y → Q y) → (xs : List A) → AllByRecursion P xs → AllByRecursion Q xs
+  all-map P Q over [] all = all
+  all-map P Q over (x ∷ xs) all = (over x all.0, all-map P Q over xs all.1)
+
+-- distinct keys stay distinct where one is replaced by its equal
+pub IsDistinct-set : {K : Type 0} (eq : K → K → Bool) → IsEquivalence eq → (old new : K) → eq old new ≡ true → (ks : List K) (i : ℕ) → slice_get ks i ≡ Some old → IsDistinct eq ks → IsDistinct eq (set ks i new)
+unfolding IsDistinct
+IsDistinct-set eq laws old new same [] i at distinct = distinct
+IsDistinct-set {K = K} eq laws old new same (k ∷ ks) zero at distinct =
+    let alike : (y : K) → eq k y ≡ false → eq new y ≡ false = λ y apart. sym (laws.congr old new y same) ∙ ap (λ x. eq x y) (sym (same_Some k old at)) ∙ apart in
+    (all-map (λ y. eq k y ≡ false) (λ y. eq new y ≡ false) alike ks distinct.0, distinct.1)
+IsDistinct-set eq laws old new same (k ∷ ks) (suc i) at distinct =
+    let over : eq k old ≡ false → eq k new ≡ false = λ apart. laws.symm k new ∙ sym (laws.congr old new k same) ∙ laws.symm old k ∙ apart in
+    (all-set (λ y. eq k y ≡ false) ks i old new at over distinct.0, IsDistinct-set eq laws old new same ks i at distinct.1)

@@ -1,0 +1,27 @@
+use Rattle.std.proofs.Common.{◌≡◌, true, slice_get, IfSome, sym, ap, subst, ◌∙◌}
+use Rattle.std.specs.Map.{keys_of}
+use Rattle.half_store.specs.Hash.{hash_by}
+use Rattle.half_store.specs.Pairs.{set_key}
+use Rattle.halfbrown.specs.Costs.{key_hash}
+use Rattle.halfbrown.specs.Layout.{IsKept}
+use Rattle.halfbrown.proofs.Kept.{kept_key, state_of}
+use Rattle.halfbrown.proofs.map.LimitedHashMap.set_key_at.Goals as goal
+
+pub invariant_of-self : goal.invariant_of-self
+invariant_of-self g c =
+    let eq = g.K.PartialEq.eq in
+    let hash = key_hash g.S.BuildHasher g.S.Hasher.Hasher g.K.Hash.hash_input c.self.inside.builder in
+    let limit = g.L.Limit.LIMIT in
+    let columns = c.self.inside.columns in
+    let form = c.self.inside.form in
+    let old = c.replace_key.result in
+    let key = c.args.key in
+    let at = c.replace_key.ensures.old in
+    let same : eq old key ≡ true = subst (λ k. IfSome k (λ k. eq k key ≡ true)) (ap (λ m. slice_get (keys_of m.pairs) c.args.index) (sym c.self.view_is) ∙ at) c.requires.equal in
+    let alike = ap (hash_by g.S.BuildHasher g.S.Hasher.Hasher c.self.inside.builder) (g.met.K.Hash.respects_eq old key same) in
+    subst (λ cs. IsKept eq hash limit cs.pairs cs.capacity form.is_vec form.hashes form.buckets) (sym c.replace_key.ensures.after)
+    (kept_key eq hash limit g.met.K.Eq.laws columns.pairs columns.capacity form.is_vec form.hashes form.buckets c.args.index old key c.self.invariant at same alike)
+
+pub returns-clause-state : goal.returns-clause-state
+returns-clause-state g c =
+    state_of g.K.PartialEq.eq (key_hash g.S.BuildHasher g.S.Hasher.Hasher g.K.Hash.hash_input c.self.inside.builder) g.L.Limit.LIMIT c.replace_key.new.self c.self.inside.form c.self.inside.builder (invariant_of-self g c)
