@@ -12,6 +12,7 @@ use Rattle.std.specs.declared.hash.Hasher as hasher
 use Rattle.std.specs.declared.hash.BuildHasher as builder
 use Rattle.half_store.specs.Pairs.{set_key, set_value, swap_out}
 use Rattle.halfbrown.specs.declared.limit.Limit as limits
+use Rattle.halfbrown.specs.declared.raw_entry.LimitedRawEntryMut.{LimitedRawEntryMut}
 use Rattle.halfbrown.specs.declared.raw_entry.LimitedRawOccupiedEntryMut.{LimitedRawOccupiedEntryMut}
 use Rattle.halfbrown.specs.declared.raw_entry.LimitedRawVacantEntryMut.{LimitedRawVacantEntryMut}
 use Rattle.halfbrown.specs.Entry as entries
@@ -74,16 +75,21 @@ module _ {K V S L H : Type 0} {e : eq.Ghosts K} {h : hash.Ghosts K} {b : builder
   unfolding entries.with_value
   raw_lent value within = λ i. record { map = record o.map { now = with_pairs o.map.now (set_value o.map.now.pairs o.index value) }; index = o.index; within = le_prop within (with_entry_value o value).within i }
 
-  pub raw_written : (value : V) → IsWritten o value (with_entry_value o value)
+  -- the entry where its map has this value, however it was shown that its index is within
+  pub raw_written_as : (value left : V) (within : o.index < length (with_value (Occupied o) left).pairs) → left ≡ value
+      → IsWritten o value (record { map = record o.map { now = with_value (Occupied o) left }; index = o.index; within = within })
   unfolding entries.with_value
-  raw_written value = record {
+  raw_written_as value left within is = record {
     same_map = refl;
-    map = refl;
-    value_is = value-set_value o.map.now.pairs o.index value o.within;
-    key = ap (λ ks. slice_get ks o.index) (keys_of-set_value o.map.now.pairs o.index value);
-    writes = λ v. ap (with_pairs o.map.now) (set_value-twice o.map.now.pairs o.index value v);
-    pairs_left = swap_out-set_value o.map.now.pairs o.index value;
+    map = ap (λ v. with_pairs o.map.now (set_value o.map.now.pairs o.index v)) is;
+    value_is = value-set_value o.map.now.pairs o.index left o.within ∙ ap Some is;
+    key = ap (λ ks. slice_get ks o.index) (keys_of-set_value o.map.now.pairs o.index left);
+    writes = λ v. ap (with_pairs o.map.now) (set_value-twice o.map.now.pairs o.index left v);
+    pairs_left = swap_out-set_value o.map.now.pairs o.index left;
   }
+
+  pub raw_written : (value : V) → IsWritten o value (with_entry_value o value)
+  raw_written value = raw_written_as value value (with_entry_value o value).within refl
 
   -- the pair has a value
   pub raw_value : entry_value (Occupied o) ≡ None → ⊥
@@ -111,17 +117,6 @@ module _ {K V S L H : Type 0} {e : eq.Ghosts K} {h : hash.Ghosts K} {b : builder
     value_is = is.value_is;
     writes = λ v. subst (WithPairs o.map.now (set_value o.map.now.pairs o.index v)) (sym (is.writes v)) (raw_with_pairs key v);
     pairs_left = is.pairs_left;
-  }
-
-  -- a pair that is found and left is put with its own value
-  pub held_puts : (key : K) (value : V) → PutsPair (Occupied o) key (unwrap_or (entry_value (Occupied o)) value) o
-  held_puts key value = record {
-    same_map = refl;
-    map = record { pairs = sym (set_value-held o.map.now.pairs o.index value); form = refl; capacity = refl; builder = refl };
-    key_is = key_there key;
-    value_is = some_at (values_of o.map.now.pairs) o.index value (omega (arith, length-values_of o.map.now.pairs, o.within));
-    writes = λ v. raw_with_pairs key v;
-    pairs_left = refl;
   }
 
   -- the index is within where the map has the pairs with another key
@@ -159,3 +154,21 @@ module _ {K V S L H : Type 0} {e : eq.Ghosts K} {h : hash.Ghosts K} {b : builder
         };
         pairs_left = (λ i. swap_out (after.pairs i) (last i)) ∙ swap_out-last ps (key, value);
       }
+
+module _ {K V S L H : Type 0} {e : eq.Ghosts K} {h : hash.Ghosts K} {b : builder.Ghosts S H} {w : hasher.Ghosts H} {l : limits.Ghosts L} where
+  held_puts_at : (o : LimitedRawOccupiedEntryMut K V S L H e h b w l) (key : K) (value : V) (within : o.index < length o.map.now.pairs)
+      → PutsPair (Occupied o) key (unwrap_or (entry_value (Occupied o)) value) (record { map = o.map; index = o.index; within = within })
+  held_puts_at o key value within = record {
+    same_map = refl;
+    map = record { pairs = sym (set_value-held o.map.now.pairs o.index value); form = refl; capacity = refl; builder = refl };
+    key_is = key_there o key;
+    value_is = some_at (values_of o.map.now.pairs) o.index value (omega (arith, length-values_of o.map.now.pairs, o.within));
+    writes = λ v. raw_with_pairs (record { map = o.map; index = o.index; within = within }) key v;
+    pairs_left = refl;
+  }
+
+  -- a pair that is found and left is put with its own value, however it was shown that its index is within
+  pub held_puts : (entry : LimitedRawEntryMut K V S L H e h b w l) (o : LimitedRawOccupiedEntryMut K V S L H e h b w l) → entry ≡ Occupied o → (key : K) (value : V) (within : o.index < length o.map.now.pairs)
+      → PutsPair entry key (unwrap_or (entry_value entry) value) (record { map = o.map; index = o.index; within = within })
+  held_puts entry o is key value within =
+      subst (λ found. PutsPair found key (unwrap_or (entry_value found) value) (record { map = o.map; index = o.index; within = within })) (sym is) (held_puts_at o key value within)

@@ -58,7 +58,6 @@ impl<'a, K: Eq + Hash, V, S: BuildHasher, L: Limit> LimitedRawEntryMut<'a, K, V,
         match self {
             LimitedRawEntryMut::Occupied(mut entry) => {
                 entry.insert(value);
-                prove!(entry.index < entry.map.len());
                 entry
             }
             LimitedRawEntryMut::Vacant(entry) => entry.insert_entry_counted(key, value, tally),
@@ -113,8 +112,9 @@ impl<'a, K: Eq + Hash, V, S: BuildHasher, L: Limit> LimitedRawEntryMut<'a, K, V,
     {
         match self {
             LimitedRawEntryMut::Occupied(entry) => {
+                // The length shows that what holds of every map holds of this one.
                 prove!(entry.index < entry.map.len());
-                entry
+                return entry;
             }
             LimitedRawEntryMut::Vacant(entry) => {
                 entry.insert_entry_counted(default_key, default_value, tally)

@@ -138,8 +138,12 @@ impl<'a, K: Eq + Hash, V, S: BuildHasher, L: Limit> LimitedRawOccupiedEntryMut<'
     pub fn insert(&mut self, value: V) -> V
         ensures old { entry_value (Occupied self.old) ≡ Some result }
         ensures written { IsWritten self.old value self.new }
+        ensures state { IsState K.eq L.LIMIT (map_of (Occupied self.new)) }
     {
-        std::mem::replace(self.get_mut(), value)
+        let old = std::mem::replace(self.get_mut(), value);
+        // The length shows that what holds of every map holds of this one.
+        prove!(self.index < self.map.len());
+        old
     }
 
     /// Replaces the stored key by an equal one, and returns it. The value stays.
@@ -152,6 +156,7 @@ impl<'a, K: Eq + Hash, V, S: BuildHasher, L: Limit> LimitedRawOccupiedEntryMut<'
         requires { IfSome (entry_key (Occupied self.old)) (λ k. K.eq k key ≡ true) }
         ensures old { entry_key (Occupied self.old) ≡ Some result }
         ensures new { HasNewKey self.old key self.new }
+        ensures state { IsState K.eq L.LIMIT (map_of (Occupied self.new)) }
     {
         let index = self.index;
         self.map.set_key_at(index, key)
