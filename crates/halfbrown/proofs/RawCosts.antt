@@ -9,7 +9,6 @@ use Rattle.halfbrown.specs.Pairs.{holds}
 use Rattle.halfbrown.specs.Preparation.{Prepares}
 use Rattle.halfbrown.specs.RawEntry.{after_adding}
 use Rattle.halfbrown.specs.State.{State}
-use Rattle.halfbrown.proofs.Full.{full_len}
 
 less_is_true : (n m : ℕ) → n < m → nat_lt n m ≡ true
 less_is_true n m less = grind (arith, nat_tests)

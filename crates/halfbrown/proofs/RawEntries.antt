@@ -1,5 +1,5 @@
 -- What a raw entry is once its pair is written, added or given another key.
-use Rattle.std.proofs.Common.{◌≡◌, ℕ, zero, suc, ◌<◌, List, [], ◌∷◌, ◌++◌, length, slice_get, Option, None, Some, unwrap_or, refl, sym, ap, subst, ◌∙◌, arith}
+use Rattle.std.proofs.Common.{◌≡◌, ℕ, zero, suc, ◌<◌, List, [], ◌∷◌, ◌++◌, length, slice_get, None, Some, unwrap_or, refl, sym, ap, subst, ◌∙◌, arith}
 use Rattle.std.proofs.lemmas.Map.Entries.{length-keys_of, length-values_of}
 use Rattle.std.proofs.lemmas.Option.{same_Some}
 use Rattle.std.specs.Borrow.{MutBor}
@@ -10,13 +10,13 @@ use Rattle.std.specs.declared.cmp.PartialEq as eq
 use Rattle.std.specs.declared.hash.Hash as hash
 use Rattle.std.specs.declared.hash.Hasher as hasher
 use Rattle.std.specs.declared.hash.BuildHasher as builder
-use Rattle.half_store.specs.Pairs.{set_key, set_value, swap_out}
+use Rattle.half_store.specs.Pairs.{set_value, swap_out}
 use Rattle.halfbrown.specs.declared.limit.Limit as limits
 use Rattle.halfbrown.specs.declared.raw_entry.LimitedRawEntryMut.{LimitedRawEntryMut}
 use Rattle.halfbrown.specs.declared.raw_entry.LimitedRawOccupiedEntryMut.{LimitedRawOccupiedEntryMut}
 use Rattle.halfbrown.specs.declared.raw_entry.LimitedRawVacantEntryMut.{LimitedRawVacantEntryMut}
 use Rattle.halfbrown.specs.Entry as entries
-use Rattle.halfbrown.specs.RawEntry.{Occupied, Vacant, entry_key, entry_value, entry_pair, map_of, with_value, pairs_with, pairs_with_key, IsWritten, HasNewKey, PutsPair}
+use Rattle.halfbrown.specs.RawEntry.{Occupied, Vacant, entry_key, entry_value, map_of, with_value, pairs_with, pairs_with_key, IsWritten, HasNewKey, PutsPair}
 use Rattle.halfbrown.specs.RawEntryLending.{with_entry_value}
 use Rattle.halfbrown.specs.State.{State, with_pairs, WithPairs}
 use Rattle.halfbrown.proofs.Entries.{set_value-last, value-last, key_of-pair}

@@ -1,5 +1,5 @@
 -- What a map, or a raw entry, ends as once a value that was lent through a raw entry comes back.
-use Rattle.std.specs.Prelude.{◌≡◌, ℕ, [], ⊤, Result}
+use Rattle.std.specs.Prelude.{◌≡◌, [], ⊤, Result}
 use Rattle.std.specs.Borrow.{Fml, RattleType, MutBor, follows, follows_so, RestsIfErr}
 use Rattle.std.specs.declared.cmp.PartialEq as eq
 use Rattle.std.specs.declared.hash.Hash as hash

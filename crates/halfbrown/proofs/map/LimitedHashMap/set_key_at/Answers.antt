@@ -1,7 +1,6 @@
 use Rattle.std.proofs.Common.{◌≡◌, true, slice_get, IfSome, sym, ap, subst, ◌∙◌}
 use Rattle.std.specs.Map.{keys_of}
 use Rattle.half_store.specs.Hash.{hash_by}
-use Rattle.half_store.specs.Pairs.{set_key}
 use Rattle.halfbrown.specs.Costs.{key_hash}
 use Rattle.halfbrown.specs.Layout.{IsKept}
 use Rattle.halfbrown.proofs.Kept.{kept_key, state_of}

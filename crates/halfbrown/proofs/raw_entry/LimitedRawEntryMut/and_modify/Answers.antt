@@ -1,4 +1,4 @@
-use Rattle.std.proofs.Common.{◌≡◌, Option, Some, IfSome, refl, sym, ap, subst, ◌∙◌}
+use Rattle.std.proofs.Common.{Option, IfSome, refl, sym, ap, subst, ◌∙◌}
 use Rattle.halfbrown.specs.RawEntry.{entry_pair, entry_value, map_of, pairs_with, Occupied, with_value, MayWritePair, ModifiesPair}
 use Rattle.halfbrown.specs.State.{WithPairs}
 use Rattle.halfbrown.proofs.RawEntries.{raw_value, raw_with_pairs, raw_twice}
