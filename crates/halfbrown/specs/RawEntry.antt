@@ -18,7 +18,7 @@ use Rattle.halfbrown.specs.Costs.{probe_length_by, search_asked}
 use Rattle.halfbrown.specs.Entry as entries
 use Rattle.halfbrown.specs.Pairs.{value_by, pair_by, holds_by, set_by, put_by, take_out_by}
 use Rattle.halfbrown.specs.State.{State, WithPairs}
-use Rattle.halfbrown.specs.Updates.{HasPut, HasRemovedBy}
+use Rattle.halfbrown.specs.Updates.{HasPut, HasSetBy, HasRemovedBy}
 
 module _ {K V S L H : Type 0} {e : eq.Ghosts K} {h : hash.Ghosts K} {b : builder.Ghosts S H} {w : hasher.Ghosts H} {l : limits.Ghosts L} where
   -- the entry of the same pair
@@ -82,6 +82,7 @@ module _ {K V S L H : Type 0} {e : eq.Ghosts K} {h : hash.Ghosts K} {b : builder
     pub puts : (k : K) (v : V) → pairs_with entry k v ≡ put_by test m.pairs k v
     pub put : (k : K) (v : V) → test k ≡ true → HasPut same m.pairs k v (pairs_with entry k v)
     pub writes : is_occupied entry ≡ true → (v : V) → WithPairs m (set_by test m.pairs v) (with_value entry v)
+    pub written : is_occupied entry ≡ true → (v : V) → HasSetBy same test m.pairs v (with_value entry v).pairs
     pub takes : pairs_without entry ≡ take_out_by test m.pairs
     pub removed : HasRemovedBy same test m.pairs (pairs_without entry)
 
@@ -93,6 +94,11 @@ module _ {K V S L H : Type 0} {e : eq.Ghosts K} {h : hash.Ghosts K} {b : builder
     pub value_is : entry_value (Occupied result) ≡ Some value
     pub writes : (v : V) → WithPairs (map_of entry) (pairs_with entry key v) (with_value (Occupied result) v)
     pub pairs_left : pairs_without (Occupied result) ≡ pairs_without entry
+
+  -- the pair of this key, which was not held, is added with this value, and has what is written to it
+  pub record AddsPair (same : K → K → Bool) (pairs : List (K × V)) (key : K) (value : V) (result : LimitedRawOccupiedEntryMut K V S L H e h b w l) : Type 0 where
+    pub put : HasPut same pairs key value (map_of (Occupied result)).pairs
+    pub written : (v : V) → HasPut same pairs key v (with_value (Occupied result) v).pairs
 
   -- the entry is the same one, and this value has been written
   pub record IsWritten (entry : LimitedRawOccupiedEntryMut K V S L H e h b w l) (value : V) (written : LimitedRawOccupiedEntryMut K V S L H e h b w l) : Type 0 where
