@@ -1,8 +1,10 @@
 -- What the raw entry of a key is, where a search found it, and where none is held.
-use Rattle.std.proofs.Common.{◌≡◌, ℕ, ◌+◌, Bool, true, false, List, [], ◌∷◌, ◌++◌, length, get_or, cond, refl, sym, ap, subst, ◌∙◌, true≢false}
+use Rattle.std.proofs.Common.{◌≡◌, ℕ, zero, suc, ◌+◌, ◌<◌, Bool, true, false, List, [], ◌∷◌, ◌++◌, length, get_or, slice_get, Option, None, Some, IfSome, cond, refl, sym, ap, subst, ◌∙◌, arith, true≢false}
 use Rattle.std.specs.Cmp.{IsEquivalence}
 use Rattle.std.specs.List.{IsDistinct}
+use Rattle.std.proofs.lemmas.Option.{get_or_from_slice_get, slice_get_within}
 use Rattle.std.specs.Map.{keys_of}
+use Rattle.std.specs.Option.{option_map}
 use Rattle.std.specs.declared.cmp.PartialEq as eq
 use Rattle.std.specs.declared.hash.Hash as hash
 use Rattle.std.specs.declared.hash.Hasher as hasher
@@ -18,13 +20,19 @@ use Rattle.halfbrown.specs.RawEntry.{Occupied, Vacant, AddsPair, FindsEntry, Put
 use Rattle.halfbrown.specs.State.{State}
 use Rattle.halfbrown.specs.Updates.{HasPut, HasSetBy, HasRemovedBy}
 use Rattle.halfbrown.proofs.CallerLemmas.{has_put, has_removed_by}
-use Rattle.halfbrown.proofs.Indices.{IsFirst, absent_of_unheld, first_of_index, first_passes}
+use Rattle.halfbrown.proofs.Entries.{key_of-pair}
+use Rattle.halfbrown.proofs.Indices.{IsFirst, absent_of_unheld, first_matched, first_of_index, first_passes, index_of_first}
 
 module _ {K : Type 0} (same : K → K → Bool) (laws : IsEquivalence same) (test : K → Bool) (one_class : (k other : K) → test k ≡ true → test other ≡ same k other) where
   -- a key that passes is put as the key itself is
   has_put_by : {V : Type 0} (ps qs : List (K × V)) (k : K) (v : V) → qs ≡ put_by test ps k v → test k ≡ true → HasPut same ps k v qs
   has_put_by ps qs k v is passes =
       subst (HasPut same ps k v) (ap (λ (t : K → Bool). put_by t ps k v) (λ i x. sym (one_class k x passes) i) ∙ sym is) (has_put same laws ps k v)
+
+  passes_at : (ks : List K) (i : ℕ) → IsFirst test ks i → IfSome (slice_get ks i) (λ k. test k ≡ true)
+  passes_at [] i first = absurd first
+  passes_at (k ∷ ks) zero first = first
+  passes_at (k ∷ ks) (suc i) first = passes_at ks i first.1
 
   passing_key : (ks : List K) (i : ℕ) → IsFirst test ks i → (k : K) × (test k ≡ true)
   passing_key [] i first = absurd first
@@ -59,6 +67,7 @@ module _ {K : Type 0} (same : K → K → Bool) (laws : IsEquivalence same) (tes
       occupied = sym at.held;
       pair = sym at.pair;
       value = sym at.value;
+      equal = passes_at (keys_of o.map.now.pairs) o.index (first_of_index test (keys_of o.map.now.pairs) o.index at.index_is);
       puts = λ k v. sym (at.put_is k v);
       put = λ k v. has_put_by o.map.now.pairs (set_value o.map.now.pairs o.index v) k v (sym (at.put_is k v));
       writes = λ occupied v. record { pairs = sym (at.set_is v); form = refl; capacity = refl; builder = refl };
@@ -74,6 +83,7 @@ module _ {K : Type 0} (same : K → K → Bool) (laws : IsEquivalence same) (tes
       occupied = sym absent.held;
       pair = sym absent.pair;
       value = sym absent.value;
+      equal = tt;
       puts = λ k value. sym (absent.put_is k value);
       put = λ k value. has_put_by v.map.now.pairs (v.map.now.pairs ++ (k, value) ∷ []) k value (sym (absent.put_is k value));
       writes = λ occupied. absurd (true≢false (sym occupied));
@@ -92,3 +102,19 @@ module _ {K V S L H : Type 0} {e : eq.Ghosts K} {h : hash.Ghosts K} {b : builder
         put = subst (HasPut same v.map.now.pairs key value) (absent.put_is key value ∙ sym puts.map.pairs) (has_put same laws v.map.now.pairs key value);
         written = λ written. subst (HasPut same v.map.now.pairs key written) (absent.put_is key written ∙ sym (puts.writes written).pairs) (has_put same laws v.map.now.pairs key written);
       }
+
+  found_at : (m : State K V S) (o : LimitedRawOccupiedEntryMut K V S L H e h b w l) → m ≡ o.map.now → IsDistinct same (keys_of o.map.now.pairs)
+      → (found : Option (K × V)) → slice_get o.map.now.pairs o.index ≡ found → IfSome found (λ pair. FindsEntry same (same pair.0) m (Occupied o))
+  found_at m o is distinct None at = tt
+  found_at m o is distinct (Some pair) at =
+      let pairs = o.map.now.pairs in
+      let key : slice_get (keys_of pairs) o.index ≡ Some pair.0 = key_of-pair pairs o.index ∙ ap (option_map (λ (p : K × V). p.0)) at in
+      let within : o.index < length (keys_of pairs) = slice_get_within (keys_of pairs) o.index pair.0 key in
+      found_entry same laws (same pair.0) (λ k other alike. laws.congr pair.0 k other alike) m o is distinct
+      (index_of_first (same pair.0) pairs o.index (first_matched (same pair.0) same (λ k other alike. laws.congr pair.0 k other alike) (keys_of pairs) o.index distinct within
+      (λ d. sym (laws.refl pair.0) ∙ ap (same pair.0) (sym (get_or_from_slice_get (keys_of pairs) o.index pair.0 d key)))))
+
+  -- the entry of a pair that a match found is that of the pair's key
+  pub found_by_match : (m : State K V S) (o : LimitedRawOccupiedEntryMut K V S L H e h b w l) → m ≡ o.map.now → IsDistinct same (keys_of o.map.now.pairs)
+      → IfSome (slice_get o.map.now.pairs o.index) (λ pair. FindsEntry same (same pair.0) m (Occupied o))
+  found_by_match m o is distinct = found_at m o is distinct (slice_get o.map.now.pairs o.index) refl

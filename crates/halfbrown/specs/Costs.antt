@@ -191,7 +191,7 @@ module _ {K V S : Type 0} (limit : ℕ) where
     unchecked_cost m k granted =
         record { asked = insert_asked m granted; compared = exactly 0; looked = exactly (if granted then insertion_probe_looks m k else 0) }
 
-    -- what `raw_entry_mut`, `from_key` of k and `or_insert` of k cost: the switch hashes each key, and one search follows, once the capacity
+    -- what `raw_entry_mut`, `from_key` of k and `or_insert_entry` of k cost: the switch hashes each key, and one search follows, once the capacity
     -- is enough for one pair more; a new key is hashed again in a table, and one insertion probe made for it; where the capacity was refused
     -- they cost nothing
     abbrev pub raw_insert_cost : State K V S → K → Bool → Cost

@@ -69,4 +69,5 @@ module _ {K V S : Type 0} (hash : S → K → ℕ) (sought : ℕ) (m : State K V
   pub record FindingCosts (found : Option (K × V)) (before after : Work) : Type 0 where
     pub index : Option ℕ
     pub at : option_and_then (slice_get m.pairs) index ≡ found
+    pub is_found : is_some index ≡ is_some found
     pub costs : MatchCosts index before after

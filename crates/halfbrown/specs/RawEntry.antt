@@ -1,6 +1,6 @@
 -- What contracts see of a raw entry: its pair, and what the map is once it is written or taken out.
 pub use Rattle.halfbrown.specs.declared.raw_entry.LimitedRawEntryMut.TheVariants.{Occupied, Vacant}
-use Rattle.std.specs.Prelude.{◌≡◌, ℕ, Bool, true, false, List, [], ◌∷◌, ◌++◌, Option, None, Some, IsSomeAnd, unwrap_or}
+use Rattle.std.specs.Prelude.{◌≡◌, ℕ, Bool, true, false, List, [], ◌∷◌, ◌++◌, Option, None, Some, IfSome, IsSomeAnd, unwrap_or}
 use Rattle.std.specs.Borrow.{Bor, MutBor}
 use Rattle.std.specs.Fn.{Once}
 use Rattle.std.specs.declared.cmp.PartialEq as eq
@@ -79,6 +79,7 @@ module _ {K V S L H : Type 0} {e : eq.Ghosts K} {h : hash.Ghosts K} {b : builder
     pub occupied : is_occupied entry ≡ holds_by test m.pairs
     pub pair : entry_pair entry ≡ pair_by test m.pairs
     pub value : entry_value entry ≡ value_by test m.pairs
+    pub equal : IfSome (entry_key entry) (λ k. test k ≡ true)
     pub puts : (k : K) (v : V) → pairs_with entry k v ≡ put_by test m.pairs k v
     pub put : (k : K) (v : V) → test k ≡ true → HasPut same m.pairs k v (pairs_with entry k v)
     pub writes : is_occupied entry ≡ true → (v : V) → WithPairs m (set_by test m.pairs v) (with_value entry v)

@@ -21,7 +21,7 @@ pub enum Command<K, V> {
     InsertNew(K, V),
     /// `entry`, and `or_insert` through it.
     EntryOrInsert(K, V),
-    /// `raw_entry_mut`, `from_key`, and `or_insert` through that.
+    /// `raw_entry_mut`, `from_key`, and `or_insert_entry` through that.
     RawOrInsert(K, V),
     /// `get`.
     Get(K),

@@ -53,7 +53,7 @@ impl<K: Eq + Hash, V, S: BuildHasher, L: Limit> LimitedHashMap<K, V, S, L> {
     #[inline(always)]
     pub(crate) fn set_key_at(&mut self, index: usize, key: K) -> K
         requires within { index < length self.old.pairs }
-        requires equal { IfSome (slice_get (keys_of self.old.pairs) index) (λ k. K.eq k key ≡ true) }
+        requires equal { IfSome (slice_get (keys_of self.old.pairs) index) (λ k. K.eq key k ≡ true) }
         ensures old { slice_get (keys_of self.old.pairs) index ≡ Some result }
         ensures after { WithPairs self.old (set_key self.old.pairs index key) self.new }
         ensures state { IsState K.eq L.LIMIT self.new }

@@ -2,12 +2,12 @@
 ghost use Rattle.std.specs.Prelude.{◌≡◌};
 ghost use Rattle.halfbrown.specs.Lookup.{unprobed};
 
-/// What a search for a key found.
+/// What a search found.
 #[derive(Clone, Copy)]
 pub(crate) enum Lookup {
-    /// The pair at this index has an equal key.
+    /// The pair at this index has the key that is sought.
     Found(usize),
-    /// No held key is equal, and the pair may be added here.
+    /// No held key is the one, and a pair of it may be added here.
     Missing(Vacancy),
 }
 

@@ -1,5 +1,5 @@
 //! The searches of `raw_entry_mut`.
-ghost use Rattle.std.specs.Prelude.{◌≡◌, ℕ, Some, slice_get};
+ghost use Rattle.std.specs.Prelude.{◌≡◌, ℕ, Some, IfSome, slice_get};
 ghost use Rattle.std.specs.Borrow.{Bor};
 ghost use Rattle.std.specs.Fn.{FnReturnsAt};
 ghost use Rattle.std.specs.Map.{keys_of};
@@ -142,6 +142,8 @@ impl<'a, K: Eq + Hash, V, S: BuildHasher, L: Limit> LimitedRawEntryBuilderMut<'a
         ensures map { map_of result ≡ ready_map self.entry }
         ensures found { FindsMatch (FnReturnsAt F.Fn is_match) (key_hash S.BuildHasher S.Hasher.Hasher K.hash_input) hash
             (ready_map self.entry) (entry_pair result) }
+        ensures entry { IfSome (entry_pair result)
+            (λ pair. FindsEntry K.eq (K.eq pair.0) (ready_map self.entry) result) }
         ensures state { IsState K.eq L.LIMIT (map_of result) }
     {
         self.from_hash_counted(hash, is_match, &mut Tally::new())
@@ -165,6 +167,8 @@ impl<'a, K: Eq + Hash, V, S: BuildHasher, L: Limit> LimitedRawEntryBuilderMut<'a
         ensures map { map_of result ≡ ready_map self.entry }
         ensures found { FindsMatch (FnReturnsAt F.Fn is_match) (key_hash S.BuildHasher S.Hasher.Hasher K.hash_input) hash
             (ready_map self.entry) (entry_pair result) }
+        ensures entry { IfSome (entry_pair result)
+            (λ pair. FindsEntry K.eq (K.eq pair.0) (ready_map self.entry) result) }
         ensures cost { FindingCosts (key_hash S.BuildHasher S.Hasher.Hasher K.hash_input) hash (ready_map self.entry)
             (entry_pair result) tally.old tally.new }
         ensures state { IsState K.eq L.LIMIT (map_of result) }

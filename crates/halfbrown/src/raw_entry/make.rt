@@ -30,7 +30,7 @@ impl<K: Eq + Hash, V, S: BuildHasher, L: Limit> LimitedHashMap<K, V, S, L> {
     /// What raw entries are made from: pairs by a known hash or by a match on keys, to be read, written, removed or added.
     ///
     /// Whatever is searched afterwards, a full vector becomes a table first, and the capacity is made enough for one pair more.
-    /// Fails only where memory for that is refused, and then nothing changes. No call on the entry fails.
+    /// Fails only where more capacity is needed, and then nothing changes. No call on the entry fails.
     ///
     /// ```
     /// let age = *ages.raw_entry_mut()?.from_key(&1).or_insert(1, 36).1; // 36

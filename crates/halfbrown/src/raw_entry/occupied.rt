@@ -153,7 +153,7 @@ impl<'a, K: Eq + Hash, V, S: BuildHasher, L: Limit> LimitedRawOccupiedEntryMut<'
     /// ```
     #[inline(always)]
     pub fn insert_key(&mut self, key: K) -> K
-        requires { IfSome (entry_key (Occupied self.old)) (λ k. K.eq k key ≡ true) }
+        requires { IfSome (entry_key (Occupied self.old)) (λ k. K.eq key k ≡ true) }
         ensures old { entry_key (Occupied self.old) ≡ Some result }
         ensures new { HasNewKey self.old key self.new }
         ensures state { IsState K.eq L.LIMIT (map_of (Occupied self.new)) }

@@ -16,7 +16,7 @@ invariant_of-self g c =
     let old = c.replace_key.result in
     let key = c.args.key in
     let at = c.replace_key.ensures.old in
-    let same : eq old key ≡ true = subst (λ k. IfSome k (λ k. eq k key ≡ true)) (ap (λ m. slice_get (keys_of m.pairs) c.args.index) (sym c.self.view_is) ∙ at) c.requires.equal in
+    let same : eq old key ≡ true = g.met.K.Eq.laws.symm old key ∙ subst (λ k. IfSome k (λ k. eq key k ≡ true)) (ap (λ m. slice_get (keys_of m.pairs) c.args.index) (sym c.self.view_is) ∙ at) c.requires.equal in
     let alike = ap (hash_by g.S.BuildHasher g.S.Hasher.Hasher c.self.inside.builder) (g.met.K.Hash.respects_eq old key same) in
     subst (λ cs. IsKept eq hash limit cs.pairs cs.capacity form.is_vec form.hashes form.buckets) (sym c.replace_key.ensures.after)
     (kept_key eq hash limit g.met.K.Eq.laws columns.pairs columns.capacity form.is_vec form.hashes form.buckets c.args.index old key c.self.invariant at same alike)
