@@ -10,6 +10,8 @@ mod entries;
 #[cfg(test)]
 mod forms_of_keys;
 #[cfg(test)]
+mod raw_entries;
+#[cfg(test)]
 mod replacements;
 #[cfg(test)]
 mod table_work;
