@@ -1,7 +1,8 @@
-//! Raw entries: worked examples, searches by a match on keys, and what they are printed as.
+//! Raw entries: worked examples, searches by a match on keys, how often closures are called, and what they are printed as.
 
 use halfbrown::{DefaultHashBuilder, Equivalent, HashMap, RawEntryMut};
 use std::alloc::Global;
+use std::cell::Cell;
 use std::fmt::Debug;
 use std::hash::BuildHasher;
 use std::test::Fail;
@@ -10,6 +11,7 @@ use test_support::builders::Rule;
 use test_support::calls::{Form, assert_form, assert_pairs, fill};
 use test_support::counts::{Counted, Counts};
 use test_support::keys::{Id, Key};
+use test_support::small_maps::{ABSENT, HELD};
 use test_support::steps::{Step, play, play_made_for};
 
 #[test]
@@ -282,6 +284,62 @@ fn a_vacant_raw_entry_adds_any_key_that_is_not_held(rt: HostRuntime) -> Result<(
     assert_added_by_vacancy::<5>(rt.alloc())?;
     assert_added_by_vacancy::<3>(rt.alloc())?;
     assert_added_by_vacancy::<0>(rt.alloc())
+}
+
+// How often the raw entry of this key calls the closure of `and_modify`, and that of `or_insert_with`.
+fn times_called<const N: usize>(alloc: Global, id: u64) -> Result<(u64, u64), Fail> {
+    let counts = Counts::new();
+    let mut map = counts.map::<N>(alloc, Rule::Plain);
+    fill(&mut map, &counts, &HELD)?;
+    let key = counts.key(id);
+    let mut modified = 0u64;
+    drop(
+        map.raw_entry_mut()?
+            .from_key(&key)
+            .and_modify(|_, _| modified = modified.saturating_add(1)),
+    );
+    let mut made = 0u64;
+    map.raw_entry_mut()?.from_key(&key).or_insert_with(|| {
+        made = made.saturating_add(1);
+        (key, 90)
+    });
+    Ok((modified, made))
+}
+
+#[test]
+fn a_closure_is_called_only_where_it_is_needed(rt: HostRuntime) -> Result<(), Fail> {
+    for (id, expected) in [(8, (1, 0)), (ABSENT, (0, 1))] {
+        let in_vector = times_called::<5>(rt.alloc(), id)?;
+        assert_same_at(id, in_vector, expected, "in a vector")?;
+        let in_table = times_called::<0>(rt.alloc(), id)?;
+        assert_same_at(id, in_table, expected, "in a table")?;
+    }
+    Ok(())
+}
+
+// How often the hasher is called that an insertion of the absent key is given.
+fn times_hashed<const N: usize>(alloc: Global) -> Result<u64, Fail> {
+    let counts = Counts::new();
+    let mut map = counts.map::<N>(alloc, Rule::Plain);
+    fill(&mut map, &counts, &HELD)?;
+    let key = counts.key(ABSENT);
+    let hash = map.hasher().hash_one(&key);
+    let times = Cell::new(0u64);
+    if let RawEntryMut::Vacant(entry) = map.raw_entry_mut()?.from_key(&key) {
+        entry.insert_with_hasher(hash, key, 90, |_| {
+            times.set(times.get().saturating_add(1));
+            hash
+        });
+    }
+    assert_same_at(N, map.get(&key).copied(), Some(90), "the new value")?;
+    Ok(times.get())
+}
+
+#[test]
+fn a_hasher_that_is_handed_in_is_not_called(rt: HostRuntime) -> Result<(), Fail> {
+    assert_same(times_hashed::<5>(rt.alloc())?, 0, "in a vector")?;
+    assert_same(times_hashed::<3>(rt.alloc())?, 0, "at a switch")?;
+    assert_same(times_hashed::<0>(rt.alloc())?, 0, "in a table")
 }
 
 fn assert_text<T: Debug>(alloc: Global, printed: &T, expected: &str) -> Result<(), Fail> {
