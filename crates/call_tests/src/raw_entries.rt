@@ -247,6 +247,20 @@ fn raw_entries_count_ponies(rt: HostRuntime) -> Result<(), Fail> {
     assert_same(map.len(), 1, "the horses are gone")
 }
 
+#[test]
+fn a_value_is_changed_or_inserted(rt: HostRuntime) -> Result<(), Fail> {
+    let mut map = HashMap::<&str, u64, DefaultHashBuilder>::new(rt.alloc());
+    let ponies = "poneyland";
+    for expected in [42, 43] {
+        let entry = map.raw_entry_mut()?.from_key(&ponies);
+        let (_, value) = entry
+            .and_modify(|_, value| *value = value.saturating_add(1))
+            .or_insert(ponies, 42);
+        assert_same(*value, expected, "the value of poneyland")?;
+    }
+    Ok(())
+}
+
 // Where this key is not held, adds it through the vacant entry of another one, or of no match.
 fn add_by_vacancy<'a, const N: usize>(
     map: &mut Counted<'a, N>,
