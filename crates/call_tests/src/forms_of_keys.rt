@@ -1,11 +1,11 @@
 //! Look-ups by other forms of a key: a text without an owner, a slice, and a form of one's own.
 
-use halfbrown::{DefaultHashBuilder, Equivalent, HashMap, SizedHashMap};
+use halfbrown::{DefaultHashBuilder, Equivalent, HashMap, RawEntryMut, SizedHashMap};
 use std::alloc::{AllocError, Global};
 use std::borrow::{CowSlice, CowStr};
 use std::boxed::{BoxedSlice, BoxedStr};
 use std::fmt::Debug;
-use std::hash::Hash;
+use std::hash::{BuildHasher, Hash};
 use std::rc::RcStr;
 use std::test::Fail;
 use test_support::asserts::{assert_same, assert_same_at, assert_true};
@@ -46,6 +46,8 @@ fn assert_found_at<K: Eq + Hash + Debug + Drop, Q: Equivalent<K>, const N: usize
         .get_key_value(form)
         .map(|pair| (form.equivalent(pair.0), *pair.1));
     assert_same_at(N, stored, Some((true, 2)), "get_key_value")?;
+    assert_found_raw(&map, form, absent)?;
+    assert_entered_raw(&mut map, form, absent)?;
     if let Some(value) = map.get_mut(form) {
         *value = 3;
     }
@@ -53,6 +55,55 @@ fn assert_found_at<K: Eq + Hash + Debug + Drop, Q: Equivalent<K>, const N: usize
     assert_same_at(N, map.remove(form), Some(3), "remove")?;
     assert_true(map.remove_entry(form).is_none(), "it is gone")?;
     assert_same_at(N, map.len(), 1, "the other is left")
+}
+
+// What the raw look-ups of the same map find.
+fn assert_found_raw<K: Eq + Hash + Debug + Drop, Q: Equivalent<K>, const N: usize>(
+    map: &SizedHashMap<K, u64, DefaultHashBuilder, N>,
+    form: Q,
+    absent: Q,
+) -> Result<(), Fail> {
+    let is_stored = |pair: (&K, &u64)| (form.equivalent(pair.0), *pair.1);
+    let stored = map.raw_entry().from_key(form).map(is_stored);
+    assert_same_at(N, stored, Some((true, 2)), "raw from_key")?;
+    let none = map.raw_entry().from_key(absent).is_none();
+    assert_same_at(N, none, true, "raw from_key of none")?;
+    let hash = map.hasher().hash_one(form);
+    let stored = map
+        .raw_entry()
+        .from_key_hashed_nocheck(hash, form)
+        .map(is_stored);
+    assert_same_at(N, stored, Some((true, 2)), "raw from_key_hashed_nocheck")?;
+    let hash = map.hasher().hash_one(absent);
+    let none = map
+        .raw_entry()
+        .from_key_hashed_nocheck(hash, absent)
+        .is_none();
+    assert_same_at(N, none, true, "raw from_key_hashed_nocheck of none")
+}
+
+// The same for raw entries. The value is written twice, and is 2 in the end.
+fn assert_entered_raw<K: Eq + Hash + Debug + Drop, Q: Equivalent<K>, const N: usize>(
+    map: &mut SizedHashMap<K, u64, DefaultHashBuilder, N>,
+    form: Q,
+    absent: Q,
+) -> Result<(), Fail> {
+    for (form, old) in [(form, Some(2)), (absent, None)] {
+        let found = match map.raw_entry_mut()?.from_key(form) {
+            RawEntryMut::Occupied(mut entry) => Some(entry.insert(7)),
+            RawEntryMut::Vacant(_vacant) => None,
+        };
+        assert_same_at(N, found, old, "the raw entry of a form")?;
+    }
+    for (form, old) in [(form, Some(7)), (absent, None)] {
+        let hash = map.hasher().hash_one(form);
+        let found = match map.raw_entry_mut()?.from_key_hashed_nocheck(hash, form) {
+            RawEntryMut::Occupied(mut entry) => Some(entry.insert(2)),
+            RawEntryMut::Vacant(_vacant) => None,
+        };
+        assert_same_at(N, found, old, "the raw entry of a form and its hash")?;
+    }
+    Ok(())
 }
 
 fn lent_text(text: &str) -> CowStr<'_, Global> {

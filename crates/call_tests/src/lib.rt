@@ -10,8 +10,14 @@ mod entries;
 #[cfg(test)]
 mod forms_of_keys;
 #[cfg(test)]
+mod raw_entries;
+#[cfg(test)]
+mod raw_entry_calls;
+#[cfg(test)]
 mod replacements;
 #[cfg(test)]
 mod table_work;
 #[cfg(test)]
 mod work_of_calls;
+#[cfg(test)]
+mod work_of_raw_calls;

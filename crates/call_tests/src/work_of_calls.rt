@@ -209,8 +209,8 @@ fn outcome_at<const N: usize>(alloc: Global, call: Call, capacity: usize) -> Res
     Ok((is_right, asked, compared))
 }
 
-// A map of this limit and this capacity, with the held keys.
-fn held_by<const N: usize>(
+/// A map of this limit and this capacity, with the held keys.
+pub(crate) fn held_by<const N: usize>(
     alloc: Global,
     counts: &Counts,
     capacity: usize,

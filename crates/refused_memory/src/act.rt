@@ -1,7 +1,7 @@
 //! What a scenario does once memory may be refused: one call of the map, which is printed with what came back.
 
 use crate::report::print_hashes;
-use halfbrown::{Entry, Refused, RefusedKey};
+use halfbrown::{Entry, RawEntryMut, Refused, RefusedKey};
 use std::io;
 use test_support::counts::{Counted, Counts};
 use test_support::keys::Key;
@@ -13,6 +13,9 @@ pub(crate) enum Act {
     InsertNocheck(u64, u64),
     OrInsert(u64, u64),
     UnusedEntry(u64),
+    RawOrInsert(u64, u64),
+    RawEntry(u64),
+    UnusedRawEntry,
     Reserve(usize),
     ShrinkToFit,
 }
@@ -30,6 +33,9 @@ impl Act {
             Act::InsertNocheck(key, value) => insert_nocheck(rt, map, counts, key, value),
             Act::OrInsert(key, value) => or_insert(rt, map, counts, key, value),
             Act::UnusedEntry(key) => unused_entry(rt, map, counts, key),
+            Act::RawOrInsert(key, value) => raw_or_insert(rt, map, counts, key, value),
+            Act::RawEntry(key) => raw_entry(rt, map, counts, key),
+            Act::UnusedRawEntry => unused_raw_entry(rt, map, counts),
             Act::Reserve(additional) => reserve(rt, map, counts, additional),
             Act::ShrinkToFit => shrink_to_fit(rt, map, counts),
         }
@@ -105,6 +111,61 @@ fn unused_entry<'a, const N: usize>(
         Ok(Entry::Occupied(entry)) => print!(rt; "held with value {}", entry.get())?,
         Ok(Entry::Vacant(_)) => print!(rt; "vacant")?,
         Err(refused) => print_refused_key(rt, &refused)?,
+    }
+    print_hashes(rt, counts)
+}
+
+fn raw_or_insert<'a, const N: usize>(
+    rt: &impl Print,
+    map: &mut Counted<'a, N>,
+    counts: &'a Counts,
+    key: u64,
+    value: u64,
+) -> io::Result<()> {
+    print!(rt; "raw entry {key}, or_insert {value}: ")?;
+    let key = counts.key(key);
+    counts.take();
+    match map.raw_entry_mut() {
+        Ok(builder) => {
+            let (_, value) = builder.from_key(&key).or_insert(key, value);
+            print!(rt; "value {value}")?
+        }
+        Err(why) => print!(rt; "refused for {why:?}")?,
+    }
+    print_hashes(rt, counts)
+}
+
+// The entry is found and left.
+fn raw_entry<'a, const N: usize>(
+    rt: &impl Print,
+    map: &mut Counted<'a, N>,
+    counts: &'a Counts,
+    key: u64,
+) -> io::Result<()> {
+    print!(rt; "raw entry {key}: ")?;
+    let key = counts.key(key);
+    counts.take();
+    match map.raw_entry_mut() {
+        Ok(builder) => match builder.from_key(&key) {
+            RawEntryMut::Occupied(entry) => print!(rt; "held with value {}", entry.get())?,
+            RawEntryMut::Vacant(_vacant) => print!(rt; "vacant")?,
+        },
+        Err(why) => print!(rt; "refused for {why:?}")?,
+    }
+    print_hashes(rt, counts)
+}
+
+// Nothing is searched.
+fn unused_raw_entry<'a, const N: usize>(
+    rt: &impl Print,
+    map: &mut Counted<'a, N>,
+    counts: &'a Counts,
+) -> io::Result<()> {
+    print!(rt; "raw_entry_mut: ")?;
+    counts.take();
+    match map.raw_entry_mut() {
+        Ok(_builder) => print!(rt; "granted")?,
+        Err(why) => print!(rt; "refused for {why:?}")?,
     }
     print_hashes(rt, counts)
 }

@@ -1,119 +1,20 @@
-//! Nothing leaks and nothing is dropped twice: keys and values count their drops, and each call that takes, moves or drops
-//! them is made in both forms.
-ghost use Rattle.std.specs.Prelude.{◌≡◌, ◌==◌};
-ghost use Rattle.std.specs.Hash as fed;
-ghost use Rattle.std.specs.Cmp.Rules.{comparing, hashing};
-ghost use Rattle.std.proofs.Common.{rules};
+//! What the calls of the map drop: nothing leaks and nothing is dropped twice. Keys and values count their drops, and each call
+//! that takes, moves or drops them is made in both forms.
 
+use crate::drops;
+use crate::drops::{Dropping, Drops, Key, Returned, assert_dropped};
 use halfbrown::run::run;
 use halfbrown::{
-    Command, DefaultHashBuilder, Entry, Refusal, Refused, RefusedKey, Reply, SizedHashMap, Tally,
+    Command, DefaultHashBuilder, Refusal, Refused, RefusedKey, Reply, SizedHashMap, Tally,
 };
 use std::alloc::Global;
-use std::cell::Cell;
-use std::hash::{Hash, Hasher};
 use std::test::Fail;
-use test_support::asserts::{assert_same, assert_same_at};
-use test_support::small_maps::{ABSENT, HELD, On};
+use test_support::asserts::assert_same;
+use test_support::small_maps::{ABSENT, On};
 
-// A key that counts its drop.
-struct Key<'a> {
-    id: u64,
-    dropped: &'a Cell<u64>,
-}
-
-impl Drop for Key<'_> {
-    fn drop(self) {
-        self.dropped.set(self.dropped.get().saturating_add(1));
-        let Key { id: _, dropped: _ } = self;
-    }
-}
-
-impl PartialEq for Key<'_> {
-    ghost eq = { λ a b. a.id == b.id };
-
-    ghost laws = { Prim.search (comparing, rules) };
-
-    fn eq(&self, other: &Self) -> bool {
-        self.id == other.id
-    }
-}
-
-impl Eq for Key<'_> {
-    ghost laws = { Prim.search (comparing, rules) };
-}
-
-impl Hash for Key<'_> {
-    ghost hash_input = { λ key. fed.u64 key.id };
-
-    ghost respects_eq = { Prim.search (hashing, rules) };
-
-    fn hash<H: Hasher>(&self, state: &mut H) {
-        self.id.hash(state);
-    }
-}
-
-// A value that counts its drop.
-struct Value<'a> {
-    dropped: &'a Cell<u64>,
-}
-
-impl Drop for Value<'_> {
-    fn drop(self) {
-        self.dropped.set(self.dropped.get().saturating_add(1));
-        let Value { dropped: _ } = self;
-    }
-}
-
-// How many keys and values were dropped, and apart from these how many keys that were only searched for.
-#[derive(Drop)]
-struct Drops {
-    keys: Cell<u64>,
-    values: Cell<u64>,
-    sought: Cell<u64>,
-}
-
-impl Drops {
-    fn new() -> Drops {
-        Drops {
-            keys: Cell::new(0),
-            values: Cell::new(0),
-            sought: Cell::new(0),
-        }
-    }
-
-    fn key(&self, id: u64) -> Key<'_> {
-        Key {
-            id,
-            dropped: &self.keys,
-        }
-    }
-
-    fn value(&self) -> Value<'_> {
-        Value {
-            dropped: &self.values,
-        }
-    }
-
-    // A key to search for, which is not counted among the keys.
-    fn sought(&self, id: u64) -> Key<'_> {
-        Key {
-            id,
-            dropped: &self.sought,
-        }
-    }
-
-    // How many keys and values were dropped since the last call.
-    fn take(&self) -> (u64, u64) {
-        (self.keys.replace(0), self.values.replace(0))
-    }
-}
-
-// A map whose keys and values count their drops.
-type Dropping<'a, const N: usize> = SizedHashMap<Key<'a>, Value<'a>, DefaultHashBuilder, N>;
-
+/// A call of the map.
 #[derive(Clone, Copy, Debug)]
-enum Call {
+pub(crate) enum Call {
     Insert(u64),
     InsertCounted(u64),
     InsertNocheck,
@@ -123,14 +24,6 @@ enum Call {
     RemoveEntry(u64),
     RemoveEntryCounted(u64),
     WriteByGetMut(u64),
-    DropEntry(u64),
-    OrInsert(u64),
-    OrInsertWith(u64),
-    AndModify(u64),
-    WriteByEntry(u64),
-    InsertByEntry(u64),
-    RemoveByEntry(u64),
-    RemoveEntryByEntry(u64),
     Reserve(usize),
     ShrinkToFit,
     Clear,
@@ -233,94 +126,8 @@ const OTHERS: [Case; 12] = [
     (Call::Clear, On::Table, (3, 3), (0, 0), (0, 0)),
 ];
 
-// The call, the maps, and how many keys and values are dropped, as in a case.
-type EntryCase = (Call, (u64, u64), (u64, u64), (u64, u64));
-
-// The key that an entry was made for is dropped where an equal one is held, and where the entry is unused.
-const ENTRIES: [EntryCase; 15] = [
-    (Call::DropEntry(8), (1, 0), (0, 0), (3, 3)),
-    (Call::DropEntry(32), (1, 0), (0, 0), (3, 3)),
-    (Call::OrInsert(8), (1, 1), (0, 0), (3, 3)),
-    (Call::OrInsert(32), (0, 0), (0, 0), (4, 4)),
-    (Call::OrInsertWith(8), (1, 0), (0, 0), (3, 3)),
-    (Call::OrInsertWith(32), (0, 0), (0, 0), (4, 4)),
-    (Call::AndModify(8), (1, 1), (0, 0), (3, 3)),
-    (Call::AndModify(32), (1, 0), (0, 0), (3, 3)),
-    (Call::WriteByEntry(8), (1, 1), (0, 0), (3, 3)),
-    (Call::WriteByEntry(32), (0, 1), (0, 0), (4, 4)),
-    (Call::InsertByEntry(8), (1, 0), (0, 1), (3, 3)),
-    (Call::InsertByEntry(32), (0, 0), (0, 0), (4, 4)),
-    (Call::RemoveByEntry(8), (2, 0), (0, 1), (2, 2)),
-    (Call::RemoveByEntry(32), (1, 0), (0, 0), (3, 3)),
-    (Call::RemoveEntryByEntry(8), (1, 0), (1, 1), (2, 2)),
-];
-
-// The maps on which each is made.
-const ON: [On; 5] = [
-    On::Vector,
-    On::TightVector,
-    On::FullVector,
-    On::Table,
-    On::TightTable,
-];
-
-// What a call returned.
-#[derive(Drop)]
-enum Returned<'a> {
-    Nothing,
-    Value(Option<Value<'a>>),
-    Pair(Option<(Key<'a>, Value<'a>)>),
-}
-
-// How many keys and values a call dropped, and how many were dropped with its result, and with the map.
-type Dropped = ((u64, u64), (u64, u64), (u64, u64));
-
-// Makes the call on a new map of the held keys, and then drops its result and the map.
-fn dropped_by(alloc: Global, call: Call, on: On) -> Result<Dropped, Fail> {
-    match on {
-        On::Vector => dropped_at::<5>(alloc, call, 5),
-        On::TightVector => dropped_at::<5>(alloc, call, 3),
-        On::FullVector => dropped_at::<3>(alloc, call, 3),
-        On::Table => dropped_at::<0>(alloc, call, 6),
-        On::TightTable => dropped_at::<0>(alloc, call, 3),
-    }
-}
-
-// A map of this limit and this capacity, with the held keys.
-fn held_by<const N: usize>(
-    alloc: Global,
-    drops: &Drops,
-    capacity: usize,
-) -> Result<Dropping<'_, N>, Refusal> {
-    let builder = DefaultHashBuilder::new();
-    let mut map = Dropping::<'_, N>::with_capacity_and_hasher(alloc, capacity, builder)?;
-    for id in HELD {
-        map.insert(drops.key(id), drops.value())?;
-    }
-    Ok(map)
-}
-
-// The same, on a map of this limit and this capacity.
-fn dropped_at<const N: usize>(alloc: Global, call: Call, capacity: usize) -> Result<Dropped, Fail> {
-    let drops = Drops::new();
-    let mut map = held_by::<N>(alloc, &drops, capacity)?;
-    assert_same(drops.take(), (0, 0), "the held pairs")?;
-    assert_same_at(
-        N,
-        (map.len(), map.capacity()),
-        (3, capacity),
-        "length and capacity",
-    )?;
-    let returned = returned_by(&mut map, &drops, call)?;
-    let by_call = drops.take();
-    drop(returned);
-    let with_result = drops.take();
-    drop(map);
-    Ok((by_call, with_result, drops.take()))
-}
-
-// What the call returns.
-fn returned_by<'a, const N: usize>(
+/// What the call returns.
+pub(crate) fn returned_by<'a, const N: usize>(
     map: &mut Dropping<'a, N>,
     drops: &'a Drops,
     call: Call,
@@ -347,32 +154,6 @@ fn returned_by<'a, const N: usize>(
             }
             Returned::Nothing
         }
-        Call::DropEntry(id) => {
-            drop(map.entry(drops.key(id))?);
-            Returned::Nothing
-        }
-        Call::OrInsert(id) => {
-            map.entry(drops.key(id))?.or_insert(drops.value());
-            Returned::Nothing
-        }
-        Call::OrInsertWith(id) => {
-            map.entry(drops.key(id))?.or_insert_with(|| drops.value());
-            Returned::Nothing
-        }
-        Call::AndModify(id) => {
-            drop(
-                map.entry(drops.key(id))?
-                    .and_modify(|value| *value = drops.value()),
-            );
-            Returned::Nothing
-        }
-        Call::WriteByEntry(id) => {
-            write_by_entry(map, drops, id)?;
-            Returned::Nothing
-        }
-        Call::InsertByEntry(id) => Returned::Value(insert_by_entry(map, drops, id)?),
-        Call::RemoveByEntry(id) => Returned::Value(remove_by_entry(map, drops, id)?),
-        Call::RemoveEntryByEntry(id) => Returned::Pair(remove_entry_by_entry(map, drops, id)?),
         Call::Reserve(additional) => {
             map.reserve(additional)?;
             Returned::Nothing
@@ -406,69 +187,10 @@ fn insert_unsearched<'a, const N: usize>(
     Ok(())
 }
 
-// Writes a value through the entry: over the held one, or over one that is inserted.
-fn write_by_entry<'a, const N: usize>(
-    map: &mut Dropping<'a, N>,
-    drops: &'a Drops,
-    id: u64,
-) -> Result<(), Refusal> {
-    match map.entry(drops.key(id))? {
-        Entry::Occupied(entry) => *entry.into_mut() = drops.value(),
-        Entry::Vacant(entry) => *entry.insert(drops.value()) = drops.value(),
-    }
-    Ok(())
-}
-
-// Inserts a value through the entry, and returns the old one.
-fn insert_by_entry<'a, const N: usize>(
-    map: &mut Dropping<'a, N>,
-    drops: &'a Drops,
-    id: u64,
-) -> Result<Option<Value<'a>>, Refusal> {
-    Ok(match map.entry(drops.key(id))? {
-        Entry::Occupied(mut entry) => Some(entry.insert(drops.value())),
-        Entry::Vacant(entry) => {
-            entry.insert(drops.value());
-            None
-        }
-    })
-}
-
-// Removes the pair through its entry, and returns the value.
-fn remove_by_entry<'a, const N: usize>(
-    map: &mut Dropping<'a, N>,
-    drops: &'a Drops,
-    id: u64,
-) -> Result<Option<Value<'a>>, Refusal> {
-    Ok(match map.entry(drops.key(id))? {
-        Entry::Occupied(entry) => Some(entry.remove()),
-        Entry::Vacant(_vacant) => None,
-    })
-}
-
-// The same, with the stored key.
-fn remove_entry_by_entry<'a, const N: usize>(
-    map: &mut Dropping<'a, N>,
-    drops: &'a Drops,
-    id: u64,
-) -> Result<Option<(Key<'a>, Value<'a>)>, Refusal> {
-    Ok(match map.entry(drops.key(id))? {
-        Entry::Occupied(entry) => Some(entry.remove_entry()),
-        Entry::Vacant(_vacant) => None,
-    })
-}
-
-// Makes the call on a new map, and fails where something else is dropped.
-fn assert_dropped(alloc: Global, case: Case) -> Result<(), Fail> {
-    let (call, on, by_call, with_result, with_map) = case;
-    let dropped = dropped_by(alloc, call, on)?;
-    let expected = (by_call, with_result, with_map);
-    assert_same_at((call, on), dropped, expected, "what is dropped")
-}
-
 fn assert_all_dropped(alloc: Global, cases: &[Case]) -> Result<(), Fail> {
-    for case in cases {
-        assert_dropped(alloc, *case)?;
+    for (call, on, by_call, with_result, with_map) in cases {
+        let expected = (*by_call, *with_result, *with_map);
+        assert_dropped(alloc, drops::Call::OfMap(*call), *on, expected)?;
     }
     Ok(())
 }
@@ -476,17 +198,6 @@ fn assert_all_dropped(alloc: Global, cases: &[Case]) -> Result<(), Fail> {
 #[test]
 fn an_insertion_drops_what_it_does_not_keep(rt: HostRuntime) -> Result<(), Fail> {
     assert_all_dropped(rt.alloc(), &INSERTIONS)
-}
-
-#[test]
-fn an_entry_drops_what_it_does_not_keep(rt: HostRuntime) -> Result<(), Fail> {
-    for (call, by_call, with_result, with_map) in &ENTRIES {
-        for on in &ON {
-            let case = (*call, *on, *by_call, *with_result, *with_map);
-            assert_dropped(rt.alloc(), case)?;
-        }
-    }
-    Ok(())
 }
 
 #[test]

@@ -26,12 +26,26 @@ impl Work {
         most_compared: 0,
     };
 
-    // So many hashes, and no comparison.
-    fn hashes(asked: u64) -> Work {
+    /// So many hashes, and no comparison.
+    pub(crate) fn hashes(asked: u64) -> Work {
         Work {
             asked,
             ..Work::NONE
         }
+    }
+
+    /// So many comparisons, and no hash.
+    pub(crate) fn compares(compared: u64) -> Work {
+        Work {
+            asked: 0,
+            least_compared: compared,
+            most_compared: compared,
+        }
+    }
+
+    /// The same with no hash.
+    pub(crate) fn without_hashes(self) -> Work {
+        Work { asked: 0, ..self }
     }
 
     /// The sum, command by command.
@@ -109,6 +123,15 @@ impl Expected {
             Command::Shrink => return Capacities::exactly(self.least_capacity()),
             _ => 0,
         };
+        self.capacities_for(needed, before)
+    }
+
+    /// The capacities that the map may have once it has capacity for one pair more.
+    pub(crate) fn capacities_for_one_more(&self, before: usize) -> Capacities {
+        self.capacities_for(self.addition_needs(), before)
+    }
+
+    fn capacities_for(&self, needed: usize, before: usize) -> Capacities {
         if needed <= before || needed > MOST_PAIRS {
             Capacities::exactly(before)
         } else if self.is_vec && needed <= self.limit {
@@ -151,16 +174,34 @@ impl Expected {
     /// Makes the entry of a key, and returns the index and the pair where it is held, and the work.
     pub(crate) fn entry(&mut self, key: Name) -> (Option<(usize, (Name, u64))>, Work) {
         let switch = self.switch_if_full();
+        let (held, search) = self.search(key);
+        (held, search.plus(switch))
+    }
+
+    /// The index and the pair of a key where it is held, and the work of one search.
+    pub(crate) fn search(&self, key: Name) -> (Option<(usize, (Name, u64))>, Work) {
         let held = self
             .index_of(key)
             .and_then(|index| Some((index, *self.pairs.get(index)?)));
-        (held, self.search_work(key).plus(switch))
+        (held, self.search_work(key))
+    }
+
+    /// The work of an insertion that searches nothing.
+    pub(crate) fn addition_work(&self) -> Work {
+        Work::hashes(self.search_hashes())
     }
 
     /// Writes the value of the pair at this index.
     pub(crate) fn write(&mut self, index: usize, value: u64) {
         if let Some(pair) = self.pairs.get_mut(index) {
             pair.1 = value;
+        }
+    }
+
+    /// Writes the key of the pair at this index.
+    pub(crate) fn write_key(&mut self, index: usize, key: Name) {
+        if let Some(pair) = self.pairs.get_mut(index) {
+            pair.0 = key;
         }
     }
 
@@ -218,7 +259,7 @@ impl Expected {
             return Ok((Reply::Present(key, value), search));
         }
         let switch = self.switch_if_full();
-        let addition = Work::hashes(self.search_hashes());
+        let addition = self.addition_work();
         self.pairs.push((key, value))?;
         Ok((Reply::Added, search.plus(switch).plus(addition)))
     }
@@ -245,8 +286,8 @@ impl Expected {
         Reply::Done
     }
 
-    // A full vector becomes a table, and each of its keys is hashed.
-    fn switch_if_full(&mut self) -> Work {
+    /// A full vector becomes a table, and each of its keys is hashed.
+    pub(crate) fn switch_if_full(&mut self) -> Work {
         if !self.is_full() {
             return Work::NONE;
         }

@@ -2,12 +2,20 @@
 #![tactic(auto)]
 
 #[cfg(test)]
+mod drops;
+#[cfg(test)]
 mod drops_of_calls;
+#[cfg(test)]
+mod drops_of_entries;
+#[cfg(test)]
+mod drops_of_raw_entries;
 #[cfg(test)]
 mod expected;
 #[cfg(test)]
 mod long_runs;
 #[cfg(test)]
 mod long_runs_of_entries;
+#[cfg(test)]
+mod long_runs_of_raw_entries;
 #[cfg(test)]
 mod names;

@@ -105,6 +105,37 @@ pub fn assert_unused_entry<'a, const N: usize>(
     assert_same_at(id, counts.take(), work, "entry: the work")
 }
 
+/// Makes the raw entry of the key and inserts this pair where it is vacant, where memory is ample. The value that is held then
+/// is returned.
+pub fn assert_raw_or_insert<'a, const N: usize>(
+    map: &mut Counted<'a, N>,
+    counts: &'a Counts,
+    pair: (u64, u64),
+    expected: (u64, (u64, u64)),
+) -> Result<(), Fail> {
+    let key = counts.key(pair.0);
+    counts.take();
+    let value = *map.raw_entry_mut()?.from_key(&key).or_insert(key, pair.1).1;
+    let outcome = (value, counts.take());
+    assert_same_at(
+        pair,
+        outcome,
+        expected,
+        "raw or_insert: the value, and the work",
+    )
+}
+
+/// Makes what raw entries are made from and drops it unused, where memory is ample.
+pub fn assert_unused_raw_entry<const N: usize>(
+    map: &mut Counted<'_, N>,
+    counts: &Counts,
+    work: (u64, u64),
+) -> Result<(), Fail> {
+    counts.take();
+    drop(map.raw_entry_mut()?);
+    assert_same(counts.take(), work, "raw_entry_mut: the work")
+}
+
 /// Reserves for so many pairs more, without work.
 pub fn assert_reserve<'a, const N: usize>(
     map: &mut Counted<'a, N>,

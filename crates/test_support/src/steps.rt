@@ -4,8 +4,8 @@ use crate::asserts::assert_true_at;
 use crate::builders::Rule;
 use crate::calls::{
     Form, Outcome, assert_form, assert_get, assert_has_form, assert_insert,
-    assert_insert_unsearched, assert_or_insert, assert_remove, assert_reserve, assert_shrink,
-    assert_unused_entry, fill,
+    assert_insert_unsearched, assert_or_insert, assert_raw_or_insert, assert_remove,
+    assert_reserve, assert_shrink, assert_unused_entry, assert_unused_raw_entry, fill,
 };
 use crate::counts::{Counted, Counts};
 use halfbrown::Refusal;
@@ -25,6 +25,10 @@ pub enum Step {
     OrInsert((u64, u64), (u64, (u64, u64))),
     /// Makes the entry of a key, and drops it unused: so many hashes and comparisons.
     UnusedEntry(u64, (u64, u64)),
+    /// Makes the raw entry of a key, and inserts a pair where it is vacant. The value that is held then is returned.
+    RawOrInsert((u64, u64), (u64, (u64, u64))),
+    /// Makes what raw entries are made from, and drops it unused: so many hashes and comparisons.
+    UnusedRawEntry((u64, u64)),
     /// Looks a key up.
     Get(u64, Outcome),
     /// Removes a key.
@@ -83,6 +87,8 @@ fn play_one<'a, const N: usize>(
         Step::InsertUnsearched(id, work) => assert_insert_unsearched(map, counts, id, work),
         Step::OrInsert(pair, expected) => assert_or_insert(map, counts, pair, expected),
         Step::UnusedEntry(id, work) => assert_unused_entry(map, counts, id, work),
+        Step::RawOrInsert(pair, expected) => assert_raw_or_insert(map, counts, pair, expected),
+        Step::UnusedRawEntry(work) => assert_unused_raw_entry(map, counts, work),
         Step::Get(id, expected) => assert_get(map, counts, id, expected),
         Step::Remove(id, expected) => assert_remove(map, counts, id, expected),
         Step::Reserve(additional, expected) => assert_reserve(map, counts, additional, expected),
