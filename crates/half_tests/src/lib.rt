@@ -6,4 +6,5 @@ pub mod entry_callers;
 #[cfg(test)]
 mod examples;
 pub mod first_example;
+pub mod raw_callers;
 pub mod worked;

@@ -10,6 +10,7 @@ pub mod MapLaws
 pub mod Matches
 pub mod RawCosts
 pub mod RawEntries
+pub mod RawFinds
 pub mod Rekeyed
 pub mod Replacements
 pub mod RunLaws

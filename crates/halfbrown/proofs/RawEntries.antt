@@ -1,11 +1,9 @@
 -- What a raw entry is once its pair is written, added or given another key.
 use Rattle.std.proofs.Common.{◌≡◌, ℕ, zero, suc, ◌<◌, List, [], ◌∷◌, ◌++◌, length, slice_get, None, Some, unwrap_or, refl, sym, ap, subst, ◌∙◌, arith}
 use Rattle.std.proofs.lemmas.Map.Entries.{length-keys_of, length-values_of}
-use Rattle.std.proofs.lemmas.Option.{same_Some}
 use Rattle.std.specs.Borrow.{MutBor}
 use Rattle.std.specs.Coded.{le_prop}
 use Rattle.std.specs.Map.{keys_of, values_of}
-use Rattle.std.specs.Option.{option_map}
 use Rattle.std.specs.declared.cmp.PartialEq as eq
 use Rattle.std.specs.declared.hash.Hash as hash
 use Rattle.std.specs.declared.hash.Hasher as hasher
@@ -19,7 +17,7 @@ use Rattle.halfbrown.specs.Entry as entries
 use Rattle.halfbrown.specs.RawEntry.{Occupied, Vacant, entry_key, entry_value, map_of, with_value, pairs_with, pairs_with_key, IsWritten, HasNewKey, PutsPair}
 use Rattle.halfbrown.specs.RawEntryLending.{with_entry_value}
 use Rattle.halfbrown.specs.State.{State, with_pairs, WithPairs}
-use Rattle.halfbrown.proofs.Entries.{set_value-last, value-last, key_of-pair}
+use Rattle.halfbrown.proofs.Entries.{set_value-last, value-last}
 use Rattle.halfbrown.proofs.EntryReplacements.{swap_out-last}
 use Rattle.halfbrown.proofs.Kept.{keys_of-set_value, length-set_value}
 use Rattle.halfbrown.proofs.Rekeyed.{length-set_key, values_of-set_key, key-set_key, swap_out-set_key}
@@ -31,6 +29,7 @@ some_at [] i d within = absurd (omega arith)
 some_at (x ∷ xs) zero d within = refl
 some_at (x ∷ xs) (suc i) d within = some_at xs i d (omega arith)
 
+-- and is something
 some_is_not_none : {X : Type 0} (xs : List X) (i : ℕ) → i < length xs → slice_get xs i ≡ None → ⊥
 some_is_not_none [] i within none = omega arith
 some_is_not_none (x ∷ xs) zero within none = cc
@@ -43,22 +42,10 @@ module _ {K V : Type 0} where
   set_value-held (p ∷ ps) zero d = refl
   set_value-held (p ∷ ps) (suc i) d = ap (λ l. p ∷ l) (set_value-held ps i d)
 
+  -- the key of a pair that was just appended
   key-last : (ps : List (K × V)) (k : K) (v : V) → slice_get (keys_of (ps ++ (k, v) ∷ [])) (length ps) ≡ Some k
   key-last [] k v = refl
   key-last (p ∷ ps) k v = key-last ps k v
-
-  value_of-pair : (ps : List (K × V)) (i : ℕ) → slice_get (values_of ps) i ≡ option_map (λ (p : K × V). p.1) (slice_get ps i)
-  value_of-pair [] i = refl
-  value_of-pair (p ∷ ps) zero = refl
-  value_of-pair (p ∷ ps) (suc i) = value_of-pair ps i
-
-  -- the key of the pair is the one that is known
-  pub key_shown : (ps : List (K × V)) (i : ℕ) (k : K) (v : V) (known : K) → slice_get ps i ≡ Some (k, v) → slice_get (keys_of ps) i ≡ Some known → k ≡ known
-  key_shown ps i k v known pair key = same_Some k known (ap (option_map (λ (p : K × V). p.0)) (sym pair) ∙ sym (key_of-pair ps i) ∙ key)
-
-  -- and so is its value
-  pub value_shown : (ps : List (K × V)) (i : ℕ) (k : K) (v : V) (known : V) → slice_get ps i ≡ Some (k, v) → slice_get (values_of ps) i ≡ Some known → v ≡ known
-  value_shown ps i k v known pair value = same_Some v known (ap (option_map (λ (p : K × V). p.1)) (sym pair) ∙ sym (value_of-pair ps i) ∙ value)
 
 module _ {K V S L H : Type 0} {e : eq.Ghosts K} {h : hash.Ghosts K} {b : builder.Ghosts S H} {w : hasher.Ghosts H} {l : limits.Ghosts L} (o : LimitedRawOccupiedEntryMut K V S L H e h b w l) where
   -- the map with this value
@@ -66,6 +53,7 @@ module _ {K V S L H : Type 0} {e : eq.Ghosts K} {h : hash.Ghosts K} {b : builder
   unfolding entries.with_value
   raw_writes value = refl
 
+  -- the index stays within
   pub raw_within : (value : V) → o.index < length (set_value o.map.now.pairs o.index value)
   raw_within value = omega (arith, length-set_value o.map.now.pairs o.index value, o.within)
 
@@ -88,6 +76,7 @@ module _ {K V S L H : Type 0} {e : eq.Ghosts K} {h : hash.Ghosts K} {b : builder
     pairs_left = swap_out-set_value o.map.now.pairs o.index left;
   }
 
+  -- the entry with this value is the same one, written
   pub raw_written : (value : V) → IsWritten o value (with_entry_value o value)
   raw_written value = raw_written_as value value (with_entry_value o value).within refl
 
@@ -105,6 +94,7 @@ module _ {K V S L H : Type 0} {e : eq.Ghosts K} {h : hash.Ghosts K} {b : builder
   unfolding entries.with_value
   raw_twice key value again = set_value-twice o.map.now.pairs o.index value again
 
+  -- the pair has a key
   key_there : (key : K) → entry_key (Occupied o) ≡ Some (unwrap_or (entry_key (Occupied o)) key)
   key_there key = some_at (keys_of o.map.now.pairs) o.index key (omega (arith, length-keys_of o.map.now.pairs, o.within))
 
@@ -156,6 +146,7 @@ module _ {K V S L H : Type 0} {e : eq.Ghosts K} {h : hash.Ghosts K} {b : builder
       }
 
 module _ {K V S L H : Type 0} {e : eq.Ghosts K} {h : hash.Ghosts K} {b : builder.Ghosts S H} {w : hasher.Ghosts H} {l : limits.Ghosts L} where
+  -- a pair that is left is put with its own value
   held_puts_at : (o : LimitedRawOccupiedEntryMut K V S L H e h b w l) (key : K) (value : V) (within : o.index < length o.map.now.pairs)
       → PutsPair (Occupied o) key (unwrap_or (entry_value (Occupied o)) value) (record { map = o.map; index = o.index; within = within })
   held_puts_at o key value within = record {

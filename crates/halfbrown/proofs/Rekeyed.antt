@@ -8,6 +8,7 @@ use Rattle.half_store.specs.Pairs.{set_key, swap_out}
 use Rattle.halfbrown.proofs.Written.{swap_out-set}
 
 module _ {K V : Type 0} where
+  -- only this key changes
   pub keys_of-set_key : (ps : List (K × V)) (i : ℕ) (k : K) → keys_of (set_key ps i k) ≡ set (keys_of ps) i k
   keys_of-set_key [] i k = refl
   keys_of-set_key (p ∷ ps) zero k = refl
@@ -19,6 +20,7 @@ module _ {K V : Type 0} where
   values_of-set_key (p ∷ ps) zero k = refl
   values_of-set_key (p ∷ ps) (suc i) k = ap (λ l. p.1 ∷ l) (values_of-set_key ps i k)
 
+  -- as many pairs stay
   pub length-set_key : (ps : List (K × V)) (i : ℕ) (k : K) → length (set_key ps i k) ≡ length ps
   length-set_key [] i k = refl
   length-set_key (p ∷ ps) zero k = refl
@@ -30,6 +32,7 @@ module _ {K V : Type 0} where
   key-set_key (p ∷ ps) zero k within = refl
   key-set_key (p ∷ ps) (suc i) k within = key-set_key ps i k (omega arith)
 
+  -- the pair at the index is set
   set_key-set : (ps : List (K × V)) (i : ℕ) (k : K) (d : K × V) → set_key ps i k ≡ set ps i (k, (get_or ps i d).1)
   set_key-set [] i k d = refl
   set_key-set (p ∷ ps) zero k d = refl
@@ -53,6 +56,7 @@ all-set P (x ∷ xs) zero old new at over all = (over (subst P (same_Some x old 
 all-set P (x ∷ xs) (suc i) old new at over all = (all.0, all-set P xs i old new at over all.1)
 
 module _ {A : Type 0} where
+  -- where P gives Q, all that P holds of is what Q holds of
   all-map : (P Q : A → Type 0) → ((y : A) → P y → Q y) → (xs : List A) → AllByRecursion P xs → AllByRecursion Q xs
   all-map P Q over [] all = all
   all-map P Q over (x ∷ xs) all = (over x all.0, all-map P Q over xs all.1)

@@ -16,8 +16,9 @@ use Rattle.halfbrown.specs.declared.raw_entry.LimitedRawEntryMut.{LimitedRawEntr
 use Rattle.halfbrown.specs.declared.raw_entry.LimitedRawOccupiedEntryMut.{LimitedRawOccupiedEntryMut}
 use Rattle.halfbrown.specs.Costs.{probe_length_by, search_asked}
 use Rattle.halfbrown.specs.Entry as entries
-use Rattle.halfbrown.specs.Pairs.{value_by, pair_by, holds_by, put_by, take_out_by}
+use Rattle.halfbrown.specs.Pairs.{value_by, pair_by, holds_by, set_by, put_by, take_out_by}
 use Rattle.halfbrown.specs.State.{State, WithPairs}
+use Rattle.halfbrown.specs.Updates.{HasPut, HasSetBy, HasRemovedBy}
 
 module _ {K V S L H : Type 0} {e : eq.Ghosts K} {h : hash.Ghosts K} {b : builder.Ghosts S H} {w : hasher.Ghosts H} {l : limits.Ghosts L} where
   -- the entry of the same pair
@@ -72,14 +73,18 @@ module _ {K V S L H : Type 0} {e : eq.Ghosts K} {h : hash.Ghosts K} {b : builder
   abbrev pub pairs_with_key : LimitedRawOccupiedEntryMut K V S L H e h b w l → K → List (K × V)
   pairs_with_key o key = set_key o.map.now.pairs o.index key
 
-  -- the entry is that of the key which passes the test, in this map
-  pub record FindsEntry (test : K → Bool) (m : State K V S) (entry : LimitedRawEntryMut K V S L H e h b w l) : Type 0 where
+  -- the entry is that of the key which passes the test, in this map: what it has, and what the map is once it is written or taken out
+  pub record FindsEntry (same : K → K → Bool) (test : K → Bool) (m : State K V S) (entry : LimitedRawEntryMut K V S L H e h b w l) : Type 0 where
     pub map : map_of entry ≡ m
     pub occupied : is_occupied entry ≡ holds_by test m.pairs
     pub pair : entry_pair entry ≡ pair_by test m.pairs
     pub value : entry_value entry ≡ value_by test m.pairs
     pub puts : (k : K) (v : V) → pairs_with entry k v ≡ put_by test m.pairs k v
-    pub removes : pairs_without entry ≡ take_out_by test m.pairs
+    pub put : (k : K) (v : V) → test k ≡ true → HasPut same m.pairs k v (pairs_with entry k v)
+    pub writes : is_occupied entry ≡ true → (v : V) → WithPairs m (set_by test m.pairs v) (with_value entry v)
+    pub written : is_occupied entry ≡ true → (v : V) → HasSetBy same test m.pairs v (with_value entry v).pairs
+    pub takes : pairs_without entry ≡ take_out_by test m.pairs
+    pub removed : HasRemovedBy same test m.pairs (pairs_without entry)
 
   -- the pair that was found has this value, or, where none was, the pair of this key is added; the result is its entry
   pub record PutsPair (entry : LimitedRawEntryMut K V S L H e h b w l) (key : K) (value : V) (result : LimitedRawOccupiedEntryMut K V S L H e h b w l) : Type 0 where
@@ -89,6 +94,11 @@ module _ {K V S L H : Type 0} {e : eq.Ghosts K} {h : hash.Ghosts K} {b : builder
     pub value_is : entry_value (Occupied result) ≡ Some value
     pub writes : (v : V) → WithPairs (map_of entry) (pairs_with entry key v) (with_value (Occupied result) v)
     pub pairs_left : pairs_without (Occupied result) ≡ pairs_without entry
+
+  -- the pair of this key, which was not held, is added with this value, and has what is written to it
+  pub record AddsPair (same : K → K → Bool) (pairs : List (K × V)) (key : K) (value : V) (result : LimitedRawOccupiedEntryMut K V S L H e h b w l) : Type 0 where
+    pub put : HasPut same pairs key value (map_of (Occupied result)).pairs
+    pub written : (v : V) → HasPut same pairs key v (with_value (Occupied result) v).pairs
 
   -- the entry is the same one, and this value has been written
   pub record IsWritten (entry : LimitedRawOccupiedEntryMut K V S L H e h b w l) (value : V) (written : LimitedRawOccupiedEntryMut K V S L H e h b w l) : Type 0 where

@@ -12,6 +12,15 @@ module _ {K V : Type 0} (eq : K → K → Bool) where
     pub others : (q : K) → eq k q ≡ false → value_of eq new q ≡ value_of eq old q
     pub len : length new ≡ (if holds eq old k then length old else length old + 1)
 
+  -- after the held key that passes the test is given the value v: it has v, as have its equals; each other key has what it had; there are
+  -- as many pairs
+  pub record HasSetBy (test : K → Bool) (old : List (K × V)) (v : V) (new : List (K × V)) : Type 0 where
+    pub held : holds_by test new ≡ true
+    pub value : value_by test new ≡ Some v
+    pub equals : (q : K) → test q ≡ true → value_of eq new q ≡ Some v
+    pub others : (q : K) → test q ≡ false → value_of eq new q ≡ value_of eq old q
+    pub len : length new ≡ length old
+
   -- after the pair whose key passes the test is removed: no such key is held; each key that fails it has what it had; there is one pair
   -- fewer exactly where one was held
   pub record HasRemovedBy (test : K → Bool) (old new : List (K × V)) : Type 0 where

@@ -30,7 +30,7 @@ impl<'a, K: Eq + Hash, V, S: BuildHasher, L: Limit> LimitedRawEntryBuilderMut<'a
     #[inline]
     pub fn from_key<Q: Equivalent<K>>(self, key: Q) -> LimitedRawEntryMut<'a, K, V, S, L>
         ensures same_map { (map_ref result).ghost_name ≡ (ready_ref self.entry).ghost_name }
-        ensures finds { FindsEntry (Q.equivalent key) (ready_map self.entry) result }
+        ensures finds { FindsEntry K.eq (Q.equivalent key) (ready_map self.entry) result }
         ensures state { IsState K.eq L.LIMIT (map_of result) }
     {
         self.from_key_counted(key, &mut Tally::new())
@@ -48,7 +48,7 @@ impl<'a, K: Eq + Hash, V, S: BuildHasher, L: Limit> LimitedRawEntryBuilderMut<'a
         tally: &mut Tally,
     ) -> LimitedRawEntryMut<'a, K, V, S, L>
         ensures same_map { (map_ref result).ghost_name ≡ (ready_ref self.entry).ghost_name }
-        ensures finds { FindsEntry (Q.equivalent key) (ready_map self.entry) result }
+        ensures finds { FindsEntry K.eq (Q.equivalent key) (ready_map self.entry) result }
         ensures cost { SearchCostsBy (Q.equivalent key) (key_hash S.BuildHasher S.Hasher.Hasher K.hash_input)
             (key_hash S.BuildHasher S.Hasher.Hasher Q.hash_input (ready_map self.entry).builder key)
             (ready_map self.entry) tally.old tally.new }
@@ -80,7 +80,7 @@ impl<'a, K: Eq + Hash, V, S: BuildHasher, L: Limit> LimitedRawEntryBuilderMut<'a
     ) -> LimitedRawEntryMut<'a, K, V, S, L>
         requires { hash ≡ key_hash S.BuildHasher S.Hasher.Hasher Q.hash_input (ready_map self).builder key }
         ensures same_map { (map_ref result).ghost_name ≡ (ready_ref self.entry).ghost_name }
-        ensures finds { FindsEntry (Q.equivalent key) (ready_map self.entry) result }
+        ensures finds { FindsEntry K.eq (Q.equivalent key) (ready_map self.entry) result }
         ensures state { IsState K.eq L.LIMIT (map_of result) }
     {
         self.from_key_hashed_nocheck_counted(hash, key, &mut Tally::new())
@@ -103,7 +103,7 @@ impl<'a, K: Eq + Hash, V, S: BuildHasher, L: Limit> LimitedRawEntryBuilderMut<'a
     ) -> LimitedRawEntryMut<'a, K, V, S, L>
         requires { hash ≡ key_hash S.BuildHasher S.Hasher.Hasher Q.hash_input (ready_map self).builder key }
         ensures same_map { (map_ref result).ghost_name ≡ (ready_ref self.entry).ghost_name }
-        ensures finds { FindsEntry (Q.equivalent key) (ready_map self.entry) result }
+        ensures finds { FindsEntry K.eq (Q.equivalent key) (ready_map self.entry) result }
         ensures cost { HashedSearchCostsBy (Q.equivalent key) (key_hash S.BuildHasher S.Hasher.Hasher K.hash_input)
             (key_hash S.BuildHasher S.Hasher.Hasher Q.hash_input (ready_map self.entry).builder key)
             (ready_map self.entry) tally.old tally.new }

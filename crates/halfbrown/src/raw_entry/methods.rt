@@ -112,7 +112,7 @@ impl<'a, K: Eq + Hash, V, S: BuildHasher, L: Limit> LimitedRawEntryMut<'a, K, V,
     {
         match self {
             LimitedRawEntryMut::Occupied(entry) => {
-                // The length shows that what holds of every map holds of this one.
+                // Of the map that is read here `len` states what holds of every map.
                 prove!(entry.index < entry.map.len());
                 return entry;
             }

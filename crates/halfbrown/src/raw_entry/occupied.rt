@@ -141,7 +141,7 @@ impl<'a, K: Eq + Hash, V, S: BuildHasher, L: Limit> LimitedRawOccupiedEntryMut<'
         ensures state { IsState K.eq L.LIMIT (map_of (Occupied self.new)) }
     {
         let old = std::mem::replace(self.get_mut(), value);
-        // The length shows that what holds of every map holds of this one.
+        // Of the map that is read here `len` states what holds of every map.
         prove!(self.index < self.map.len());
         old
     }

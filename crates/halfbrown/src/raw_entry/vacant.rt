@@ -2,7 +2,7 @@
 ghost use Rattle.std.specs.Prelude.{◌≡◌, false};
 ghost use Rattle.halfbrown.specs.Costs.{key_hash};
 ghost use Rattle.halfbrown.specs.Pairs.{holds};
-ghost use Rattle.halfbrown.specs.RawEntry.{Occupied, Vacant, map_of, PutsPair, after_adding, after_probe};
+ghost use Rattle.halfbrown.specs.RawEntry.{Occupied, Vacant, map_of, AddsPair, PutsPair, after_adding, after_probe};
 ghost use Rattle.halfbrown.specs.State.{IsState};
 
 use super::{LimitedRawOccupiedEntryMut, LimitedRawVacantEntryMut};
@@ -52,6 +52,7 @@ impl<'a, K: Eq + Hash, V, S: BuildHasher, L: Limit> LimitedRawVacantEntryMut<'a,
     pub fn insert_entry(self, key: K, value: V) -> LimitedRawOccupiedEntryMut<'a, K, V, S, L>
         requires { holds K.eq (map_of (Vacant self)).pairs key ≡ false }
         ensures puts { PutsPair (Vacant self.entry) key value result }
+        ensures adds { AddsPair K.eq (map_of (Vacant self.entry)).pairs key value result }
         ensures state { IsState K.eq L.LIMIT (map_of (Occupied result)) }
     {
         self.insert_entry_counted(key, value, &mut Tally::new())
@@ -71,6 +72,7 @@ impl<'a, K: Eq + Hash, V, S: BuildHasher, L: Limit> LimitedRawVacantEntryMut<'a,
     ) -> LimitedRawOccupiedEntryMut<'a, K, V, S, L>
         requires { holds K.eq (map_of (Vacant self)).pairs key ≡ false }
         ensures puts { PutsPair (Vacant self.entry) key value result }
+        ensures adds { AddsPair K.eq (map_of (Vacant self.entry)).pairs key value result }
         ensures cost { tally.new ≡ after_adding (key_hash S.BuildHasher S.Hasher.Hasher K.hash_input)
             (map_of (Vacant self.entry)) key tally.old }
         ensures state { IsState K.eq L.LIMIT (map_of (Occupied result)) }
@@ -132,6 +134,7 @@ impl<'a, K: Eq + Hash, V, S: BuildHasher, L: Limit> LimitedRawVacantEntryMut<'a,
         requires hash { hash ≡ key_hash S.BuildHasher S.Hasher.Hasher K.hash_input (map_of (Vacant self)).builder key }
         requires absent { holds K.eq (map_of (Vacant self)).pairs key ≡ false }
         ensures puts { PutsPair (Vacant self.entry) key value result }
+        ensures adds { AddsPair K.eq (map_of (Vacant self.entry)).pairs key value result }
         ensures state { IsState K.eq L.LIMIT (map_of (Occupied result)) }
     {
         self.insert_entry_hashed_nocheck_counted(hash, key, value, &mut Tally::new())
@@ -153,6 +156,7 @@ impl<'a, K: Eq + Hash, V, S: BuildHasher, L: Limit> LimitedRawVacantEntryMut<'a,
         requires hash { hash ≡ key_hash S.BuildHasher S.Hasher.Hasher K.hash_input (map_of (Vacant self)).builder key }
         requires absent { holds K.eq (map_of (Vacant self)).pairs key ≡ false }
         ensures puts { PutsPair (Vacant self.entry) key value result }
+        ensures adds { AddsPair K.eq (map_of (Vacant self.entry)).pairs key value result }
         ensures cost { tally.new ≡ after_probe (key_hash S.BuildHasher S.Hasher.Hasher K.hash_input)
             (map_of (Vacant self.entry)) hash tally.old }
         ensures state { IsState K.eq L.LIMIT (map_of (Occupied result)) }
@@ -218,6 +222,7 @@ impl<'a, K: Eq + Hash, V, S: BuildHasher, L: Limit> LimitedRawVacantEntryMut<'a,
             → hash ≡ key_hash S.BuildHasher S.Hasher.Hasher K.hash_input (map_of (Vacant self)).builder key }
         requires absent { holds K.eq (map_of (Vacant self)).pairs key ≡ false }
         ensures puts { PutsPair (Vacant self.entry) key value result }
+        ensures adds { AddsPair K.eq (map_of (Vacant self.entry)).pairs key value result }
         ensures cost { tally.new ≡ after_probe (key_hash S.BuildHasher S.Hasher.Hasher K.hash_input)
             (map_of (Vacant self.entry)) hash tally.old }
         ensures state { IsState K.eq L.LIMIT (map_of (Occupied result)) }

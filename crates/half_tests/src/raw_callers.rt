@@ -1,0 +1,69 @@
+//! What callers build on raw entries, proved from their public contracts alone: a cache that hashes each key once.
+ghost use Rattle.std.specs.Prelude.{◌≡◌, ◌+◌, None, Some, false, OnOk, OnErr, IfOk};
+ghost use Rattle.std.specs.Option.{UnwrapsOrElse};
+ghost use Rattle.halfbrown.specs.Costs.{switch_asked};
+ghost use Rattle.halfbrown.specs.Pairs.{value_of};
+
+use half_store::Tally;
+use halfbrown::{Limit, LimitedHashMap, LimitedRawEntryMut, Refusal};
+use std::hash::{BuildHasher, Hash};
+
+/// The value that is cached for a key, which is computed where there is none. The key is hashed once, before all else: the
+/// calls on the cache ask its builder for nothing more, but for the keys of a full vector as it becomes a table.
+pub fn cached<K: Eq + Hash + Drop, V: Copy, S: BuildHasher, L: Limit, F: FnOnce() -> V>(
+    cache: &mut LimitedHashMap<K, V, S, L>,
+    key: K,
+    compute: F,
+    tally: &mut Tally,
+) -> Result<V, Refusal>
+    requires { value_of K.eq cache.old.pairs key ≡ None → F.pre compute }
+    ensures value { IfOk result (UnwrapsOrElse (value_of K.eq cache.old.pairs key) (F.post compute)) }
+    ensures cached { IfOk result (λ value. value_of K.eq cache.new.pairs key ≡ Some value) }
+    ensures others { OnOk result ((other : K) → K.eq key other ≡ false
+        → value_of K.eq cache.new.pairs other ≡ value_of K.eq cache.old.pairs other) }
+    ensures hashes { OnOk result (tally.new.asked ≡ tally.old.asked + switch_asked L.LIMIT cache.old) }
+    ensures err { OnErr result (cache.new ≡ cache.old) }
+{
+    let hash = cache.hasher().hash_one(&key);
+    let found = cache
+        .raw_entry_mut_counted(tally)?
+        .from_key_hashed_nocheck_counted(hash, &key, tally);
+    match found {
+        LimitedRawEntryMut::Occupied(entry) => Ok(*entry.into_mut()),
+        LimitedRawEntryMut::Vacant(entry) => {
+            let entry = entry.insert_entry_hashed_nocheck_counted(hash, key, compute(), tally);
+            Ok(*entry.into_mut())
+        }
+    }
+}
+
+#[cfg(test)]
+mod tests {
+    use super::*;
+    use std::test::Fail;
+    use test_support::asserts::{assert_same, assert_same_at};
+    use test_support::builders::Rule;
+    use test_support::counts::Counts;
+
+    #[test]
+    fn a_cache_hashes_each_key_once(rt: HostRuntime) -> Result<(), Fail> {
+        let counts = Counts::new();
+        let mut squares = counts.map::<5>(rt.alloc(), Rule::Plain);
+        for asked in [17, 12] {
+            for number in 0..12u64 {
+                let square = || number.wrapping_mul(number);
+                let value = cached(&mut squares, counts.key(number), square, &mut Tally::new())?;
+                assert_same_at(number, value, number * number, "its square")?;
+            }
+            assert_same(
+                counts.take().0,
+                asked,
+                "one for each number, and five as the vector becomes a table",
+            )?;
+        }
+        let hit = cached(&mut squares, counts.key(3), || 0, &mut Tally::new())?;
+        assert_same(hit, 9, "what is cached is not computed again")?;
+        assert_same(squares.len(), 12, "each is cached once")?;
+        Ok(())
+    }
+}

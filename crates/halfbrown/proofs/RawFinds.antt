@@ -1,0 +1,94 @@
+-- What the raw entry of a key is, where a search found it, and where none is held.
+use Rattle.std.proofs.Common.{◌≡◌, ℕ, ◌+◌, Bool, true, false, List, [], ◌∷◌, ◌++◌, length, get_or, cond, refl, sym, ap, subst, ◌∙◌, true≢false}
+use Rattle.std.specs.Cmp.{IsEquivalence}
+use Rattle.std.specs.List.{IsDistinct}
+use Rattle.std.specs.Map.{keys_of}
+use Rattle.std.specs.declared.cmp.PartialEq as eq
+use Rattle.std.specs.declared.hash.Hash as hash
+use Rattle.std.specs.declared.hash.Hasher as hasher
+use Rattle.std.specs.declared.hash.BuildHasher as builder
+use Rattle.half_store.specs.Pairs.{set_value}
+use Rattle.halfbrown.specs.declared.limit.Limit as limits
+use Rattle.halfbrown.specs.declared.raw_entry.LimitedRawOccupiedEntryMut.{LimitedRawOccupiedEntryMut}
+use Rattle.halfbrown.specs.declared.raw_entry.LimitedRawVacantEntryMut.{LimitedRawVacantEntryMut}
+use Rattle.halfbrown.specs.Entry as entries
+use Rattle.halfbrown.specs.Lookup.{IsIndexOf, IsAbsent}
+use Rattle.halfbrown.specs.Pairs.{put_by, holds, holds_by, value_by}
+use Rattle.halfbrown.specs.RawEntry.{Occupied, Vacant, AddsPair, FindsEntry, PutsPair}
+use Rattle.halfbrown.specs.State.{State}
+use Rattle.halfbrown.specs.Updates.{HasPut, HasSetBy, HasRemovedBy}
+use Rattle.halfbrown.proofs.CallerLemmas.{has_put, has_removed_by}
+use Rattle.halfbrown.proofs.Indices.{IsFirst, absent_of_unheld, first_of_index, first_passes}
+
+module _ {K : Type 0} (same : K → K → Bool) (laws : IsEquivalence same) (test : K → Bool) (one_class : (k other : K) → test k ≡ true → test other ≡ same k other) where
+  -- a key that passes is put as the key itself is
+  has_put_by : {V : Type 0} (ps qs : List (K × V)) (k : K) (v : V) → qs ≡ put_by test ps k v → test k ≡ true → HasPut same ps k v qs
+  has_put_by ps qs k v is passes =
+      subst (HasPut same ps k v) (ap (λ (t : K → Bool). put_by t ps k v) (λ i x. sym (one_class k x passes) i) ∙ sym is) (has_put same laws ps k v)
+
+  passing_key : (ks : List K) (i : ℕ) → IsFirst test ks i → (k : K) × (test k ≡ true)
+  passing_key [] i first = absurd first
+  passing_key (k ∷ ks) i first = (get_or (k ∷ ks) i k, first_passes test (k ∷ ks) i k first)
+
+  module _ {V : Type 0} (ps qs : List (K × V)) (v : V) (k : K) (passes : test k ≡ true) where
+    same_test : same k ≡ test
+    same_test = λ i x. sym (one_class k x passes) i
+
+    -- what is put for a key that passes is set
+    set_of_put : holds_by test ps ≡ true → HasPut same ps k v qs → HasSetBy same test ps v qs
+    set_of_put held put = record {
+      held = ap (λ (t : K → Bool). holds_by t qs) (sym same_test) ∙ put.held;
+      value = ap (λ (t : K → Bool). value_by t qs) (sym same_test) ∙ put.value;
+      equals = λ q e. put.equals q (sym (one_class k q passes) ∙ e);
+      others = λ q e. put.others q (sym (one_class k q passes) ∙ e);
+      len = put.len ∙ ap (λ b. cond b (length ps) (length ps + 1)) (ap (λ (t : K → Bool). holds_by t ps) same_test ∙ held);
+    }
+
+  -- the value of the key that was found is set
+  has_set_by : {V : Type 0} (ps : List (K × V)) (i : ℕ) (v : V) → IsIndexOf test ps i → HasSetBy same test ps v (set_value ps i v)
+  has_set_by ps i v at =
+      let found = passing_key (keys_of ps) i (first_of_index test (keys_of ps) i at.index_is) in
+      set_of_put ps (set_value ps i v) v found.0 found.1 at.held (has_put_by ps (set_value ps i v) found.0 v (sym (at.put_is found.0 v)) found.1)
+
+  module _ {V S L H : Type 0} {e : eq.Ghosts K} {h : hash.Ghosts K} {b : builder.Ghosts S H} {w : hasher.Ghosts H} {l : limits.Ghosts L} (m : State K V S) where
+    -- where a search of the map found the key
+    pub found_entry : (o : LimitedRawOccupiedEntryMut K V S L H e h b w l) → m ≡ o.map.now → IsDistinct same (keys_of o.map.now.pairs) → IsIndexOf test o.map.now.pairs o.index → FindsEntry same test m (Occupied o)
+    unfolding entries.with_value
+    found_entry o is distinct at = subst (λ n. FindsEntry same test n (Occupied o)) (sym is) (record {
+      map = refl;
+      occupied = sym at.held;
+      pair = sym at.pair;
+      value = sym at.value;
+      puts = λ k v. sym (at.put_is k v);
+      put = λ k v. has_put_by o.map.now.pairs (set_value o.map.now.pairs o.index v) k v (sym (at.put_is k v));
+      writes = λ occupied v. record { pairs = sym (at.set_is v); form = refl; capacity = refl; builder = refl };
+      written = λ occupied v. has_set_by o.map.now.pairs o.index v at;
+      takes = sym at.take_is;
+      removed = subst (HasRemovedBy same test o.map.now.pairs) at.take_is (has_removed_by same laws test one_class o.map.now.pairs distinct);
+    })
+
+    -- where it found none
+    pub missing_entry : (v : LimitedRawVacantEntryMut K V S L H e h b w l) → m ≡ v.map.now → IsDistinct same (keys_of v.map.now.pairs) → IsAbsent test v.map.now.pairs → FindsEntry same test m (Vacant v)
+    missing_entry v is distinct absent = subst (λ n. FindsEntry same test n (Vacant v)) (sym is) (record {
+      map = refl;
+      occupied = sym absent.held;
+      pair = sym absent.pair;
+      value = sym absent.value;
+      puts = λ k value. sym (absent.put_is k value);
+      put = λ k value. has_put_by v.map.now.pairs (v.map.now.pairs ++ (k, value) ∷ []) k value (sym (absent.put_is k value));
+      writes = λ occupied. absurd (true≢false (sym occupied));
+      written = λ occupied. absurd (true≢false (sym occupied));
+      takes = sym absent.take_is;
+      removed = subst (HasRemovedBy same test v.map.now.pairs) absent.take_is (has_removed_by same laws test one_class v.map.now.pairs distinct);
+    })
+
+module _ {K V S L H : Type 0} {e : eq.Ghosts K} {h : hash.Ghosts K} {b : builder.Ghosts S H} {w : hasher.Ghosts H} {l : limits.Ghosts L} (same : K → K → Bool) (laws : IsEquivalence same) where
+  -- where the key was not held its pair is put
+  pub adds_pair : (v : LimitedRawVacantEntryMut K V S L H e h b w l) (key : K) (value : V) (result : LimitedRawOccupiedEntryMut K V S L H e h b w l) → holds same v.map.now.pairs key ≡ false
+      → PutsPair (Vacant v) key value result → AddsPair same v.map.now.pairs key value result
+  adds_pair v key value result unheld puts =
+      let absent = absent_of_unheld (same key) v.map.now.pairs unheld in
+      record {
+        put = subst (HasPut same v.map.now.pairs key value) (absent.put_is key value ∙ sym puts.map.pairs) (has_put same laws v.map.now.pairs key value);
+        written = λ written. subst (HasPut same v.map.now.pairs key written) (absent.put_is key written ∙ sym (puts.writes written).pairs) (has_put same laws v.map.now.pairs key written);
+      }
