@@ -29,6 +29,7 @@ impl<K: Eq + Hash, V, S: BuildHasher, L: Limit> LimitedHashMap<K, V, S, L> {
     {
         self.columns.value_at(index)
     }
+
     /// The stored key of the pair at this index, and its value.
     #[inline(always)]
     pub(crate) fn pair_at(&self, index: usize) -> (&K, &V)
