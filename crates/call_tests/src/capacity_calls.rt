@@ -228,8 +228,7 @@ fn a_run_of_all_commands_switches_at_an_entry(rt: HostRuntime) -> Result<(), Fai
         Command::IsVec,
         Command::EntryOrInsert(key(8), 7),
         Command::IsVec,
-        Command::InsertNew(key(24), 3),
-        Command::EntryOrInsert(key(24), 4),
+        Command::RawOrInsert(key(24), 3),
         Command::Get(key(24)),
         Command::Remove(key(16)),
         Command::Len,
@@ -249,7 +248,6 @@ fn a_run_of_all_commands_switches_at_an_entry(rt: HostRuntime) -> Result<(), Fai
         Reply::Form(true),
         Reply::Value(1),
         Reply::Form(false),
-        Reply::Added,
         Reply::Value(3),
         Reply::Found(Some(3)),
         Reply::Removed(Some((key(16), 2))),
@@ -262,8 +260,8 @@ fn a_run_of_all_commands_switches_at_an_entry(rt: HostRuntime) -> Result<(), Fai
     ];
     assert_same(
         counts.take().0,
-        8,
-        "three for the first entry and its switch, two for a new pair, one each for an entry, a look-up and a removal",
+        7,
+        "three for the entry and its switch, two for a new pair through a raw entry, one each for a look-up and a removal",
     )?;
     assert_same(replies.as_slice(), wanted.as_slice(), "the replies")?;
     Ok(())

@@ -119,6 +119,7 @@ impl Expected {
         let needed = match command {
             Command::Insert(key, _) | Command::EntryOrInsert(key, _) => self.insert_needs(key),
             Command::InsertNew(key, _) if self.index_of(key).is_none() => self.addition_needs(),
+            Command::RawOrInsert(_, _) => self.addition_needs(),
             Command::Reserve(additional) => self.reserve_needs(additional),
             Command::Shrink => return Capacities::exactly(self.least_capacity()),
             _ => 0,
@@ -153,6 +154,7 @@ impl Expected {
             Command::Insert(key, value) => self.insert(key, value)?,
             Command::InsertNew(key, value) => self.insert_new(key, value)?,
             Command::EntryOrInsert(key, value) => self.entry_or_insert(key, value)?,
+            Command::RawOrInsert(key, value) => self.raw_or_insert(key, value)?,
             Command::Get(key) => self.get(key),
             Command::Remove(key) => self.remove(key),
             Command::Clear => {
@@ -246,6 +248,22 @@ impl Expected {
             }
         };
         Ok((Reply::Value(value), work))
+    }
+
+    // As through an entry, but a new key is hashed once more in a table.
+    fn raw_or_insert(
+        &mut self,
+        key: Name,
+        value: u64,
+    ) -> Result<(Reply<Name, u64>, Work), AllocError> {
+        let is_new = self.index_of(key).is_none();
+        let (reply, work) = self.entry_or_insert(key, value)?;
+        let addition = if is_new {
+            self.addition_work()
+        } else {
+            Work::NONE
+        };
+        Ok((reply, work.plus(addition)))
     }
 
     // A search in the form before, and where it finds none an insertion that searches nothing and hashes once in a table.

@@ -28,8 +28,9 @@ fn commands(alloc: Global) -> Result<Vec<Command<Name, u64>>, AllocError> {
         commands.push(match state >> 56 {
             0..=74 => Command::Insert((id, number), number),
             75..=119 => Command::InsertNew((id, number), number),
-            120..=139 => Command::EntryOrInsert((id, number), number),
-            140..=167 => Command::Get((id, number)),
+            120..=133 => Command::EntryOrInsert((id, number), number),
+            134..=147 => Command::RawOrInsert((id, number), number),
+            148..=167 => Command::Get((id, number)),
             168..=199 => Command::Remove((id, number)),
             200..=202 => Command::Clear,
             203..=214 => Command::Reserve(id as usize),

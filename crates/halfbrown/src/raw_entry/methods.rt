@@ -230,6 +230,7 @@ impl<'a, K: Eq + Hash, V, S: BuildHasher, L: Limit> LimitedRawEntryMut<'a, K, V,
         requires { (key : Bor K) (lent : MutBor V) → entry_pair self ≡ Some (key.now, lent.now) → F.pre f key lent }
         ensures modified { ModifiesPair F.FnOnce f (entry_pair self.entry) (entry_value result) }
         ensures same_map { (map_ref result).ghost_name ≡ (map_ref self.entry).ghost_name }
+        ensures found { is_occupied result ≡ is_occupied self.entry }
         ensures key { entry_key result ≡ entry_key self.entry }
         ensures writes { (key : K) (value : V) → pairs_with result key value ≡ pairs_with self.entry key value }
         ensures pairs_left { pairs_without result ≡ pairs_without self.entry }
