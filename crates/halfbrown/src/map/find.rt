@@ -59,7 +59,7 @@ impl<K: Eq + Hash, V, S: BuildHasher, L: Limit> LimitedHashMap<K, V, S, L> {
             (key_hash S.BuildHasher S.Hasher.Hasher Q.hash_input self.now.builder key) self.now tally.old tally.new }
         ensures state { IsState K.eq L.LIMIT self.now }
     {
-        let matches = |held: &K| -> bool
+        let matches = move |held: &K| -> bool
             ensures { result ≡ Q.equivalent key held.now }
         { key.equivalent(held) };
         self.find_match(hash, &matches, tally)
@@ -81,9 +81,10 @@ impl<K: Eq + Hash, V, S: BuildHasher, L: Limit> LimitedHashMap<K, V, S, L> {
             (found_index result) tally.old tally.new }
         ensures state { IsState K.eq L.LIMIT self.now }
     {
-        let keys = self.columns.keys();
         // A test for each form, since a closure with one call is inlined there.
+        // It comes before the keys are read, so that LLVM can join it to the test before the hash.
         let Some(table) = self.form.table() else {
+            let keys = self.columns.keys();
             let matches_at = |index: usize| -> bool
                 requires within { index < length keys.now }
                 requires callable { (key : Bor K) → slice_get keys.now index ≡ Some key.now → F.pre matches.now key }
@@ -94,6 +95,7 @@ impl<K: Eq + Hash, V, S: BuildHasher, L: Limit> LimitedHashMap<K, V, S, L> {
                 None => Lookup::Missing(Vacancy::InVector),
             };
         };
+        let keys = self.columns.keys();
         let matches_at = |index: usize| -> bool
             requires within { index < length keys.now }
             requires callable { (key : Bor K) → slice_get keys.now index ≡ Some key.now → F.pre matches.now key }

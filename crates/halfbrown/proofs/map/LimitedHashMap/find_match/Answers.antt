@@ -38,8 +38,8 @@ returns-in-None-clause-found g c =
 pub find-requires-2 : goal.find-requires-2
 find-requires-2 g c = λ index at.
     let hashed = ap (λ f. f.hashes) c.in-Some.ensures ∙ c.self.invariant.hashed (sym (ap (λ f. f.is_vec) c.in-Some.ensures)) in (
-      omega (arith, slice_get_within c.in-Some.table.now.hashes index c.args.hash at, ap length hashed, length-map (keys_of c.self.inside.columns.pairs) (key_hash g.S.BuildHasher g.S.Hasher.Hasher g.K.Hash.hash_input c.self.inside.builder), ap length c.keys-keys.ensures.keys),
-      λ key here. c.requires key index (ap (λ m. slice_get (keys_of m.pairs) index) (sym c.self.view_is) ∙ ap (λ ks. slice_get ks index) (sym c.keys-keys.ensures.keys) ∙ here),
+      omega (arith, slice_get_within c.in-Some.table.now.hashes index c.args.hash at, ap length hashed, length-map (keys_of c.self.inside.columns.pairs) (key_hash g.S.BuildHasher g.S.Hasher.Hasher g.K.Hash.hash_input c.self.inside.builder), ap length c.keys-keys-2.ensures.keys),
+      λ key here. c.requires key index (ap (λ m. slice_get (keys_of m.pairs) index) (sym c.self.view_is) ∙ ap (λ ks. slice_get ks index) (sym c.keys-keys-2.ensures.keys) ∙ here),
     )
 
 pub returns-in-Found-clause-found : goal.returns-in-Found-clause-found
@@ -51,7 +51,7 @@ returns-in-Found-clause-found g c =
     let hashed : c.in-Some.table.now.hashes ≡ map (hashing builder) (keys_of pairs) = ap (λ f. f.hashes) c.in-Some.ensures ∙ c.self.invariant.hashed (sym (ap (λ f. f.is_vec) c.in-Some.ensures)) in
     subst (λ (m : State g.row.K.Denot g.row.V.Denot g.row.S.Denot). IsMatch (FnReturnsAt g.F.Fn c.args.matches.now) hashing c.args.hash m index) c.self.view_is (record {
       within = omega (arith, slice_get_within c.in-Some.table.now.hashes index c.args.hash c.in-Found.ensures.found, ap length hashed, length-map (keys_of pairs) (hashing builder), length-keys_of pairs);
-      accepted = λ k at. c.in-Found.ensures.accepted k (ap (λ ks. slice_get ks index) c.keys-keys.ensures.keys ∙ at);
+      accepted = λ k at. c.in-Found.ensures.accepted k (ap (λ ks. slice_get ks index) c.keys-keys-2.ensures.keys ∙ at);
       first = λ form. absurd (true≢false (sym form ∙ sym (ap (λ f. f.is_vec) c.in-Some.ensures)));
       hashed = λ form k at. same_Some _ _ (ap (option_map (hashing builder)) (sym at) ∙ sym (slice_get-map (hashing builder) (keys_of pairs) index) ∙ ap (λ hs. slice_get hs index) (sym hashed) ∙ c.in-Found.ensures.found);
     })
@@ -81,7 +81,7 @@ returns-in-Vacant-clause-found g c =
           (record {
             refused = λ index k at own. c.in-Vacant.ensures.refused index
                 (ap (λ hs. slice_get hs index) hashed ∙ slice_get-map (hashing builder) (keys_of pairs) index ∙ ap (option_map (hashing builder)) at ∙ ap Some (own vector))
-                k (ap (λ ks. slice_get ks index) c.keys-keys.ensures.keys ∙ at);
+                k (ap (λ ks. slice_get ks index) c.keys-keys-2.ensures.keys ∙ at);
           }),
       (
         sym (ap (λ m. m.is_vec) c.self.view_is) ∙ vector,
