@@ -1,6 +1,6 @@
 //! Look-ups by other forms of a key: a text without an owner, a slice, and a form of one's own.
 
-use halfbrown::{DefaultHashBuilder, Equivalent, HashMap, RawEntryMut, SizedHashMap};
+use halfbrown::{DefaultHashBuilder, Equivalent, HashMap, RawEntryMut, Refusal, SizedHashMap};
 use std::alloc::{AllocError, Global};
 use std::borrow::{CowSlice, CowStr};
 use std::boxed::{BoxedSlice, BoxedStr};
@@ -82,28 +82,52 @@ fn assert_found_raw<K: Eq + Hash + Debug + Drop, Q: Equivalent<K>, const N: usiz
     assert_same_at(N, none, true, "raw from_key_hashed_nocheck of none")
 }
 
-// The same for raw entries. The value is written twice, and is 2 in the end.
-fn assert_entered_raw<K: Eq + Hash + Debug + Drop, Q: Equivalent<K>, const N: usize>(
+// Writes the value of a form's raw entry, and returns the old one, where the key is held.
+fn written_raw<K: Eq + Hash, Q: Equivalent<K>, const N: usize>(
+    map: &mut SizedHashMap<K, u64, DefaultHashBuilder, N>,
+    form: Q,
+    value: u64,
+) -> Result<Option<u64>, Refusal> {
+    Ok(match map.raw_entry_mut()?.from_key(form) {
+        RawEntryMut::Occupied(mut entry) => Some(entry.insert(value)),
+        RawEntryMut::Vacant(_vacant) => None,
+    })
+}
+
+// The same by a hash that is handed in.
+fn written_by_hash<K: Eq + Hash, Q: Equivalent<K>, const N: usize>(
+    map: &mut SizedHashMap<K, u64, DefaultHashBuilder, N>,
+    form: Q,
+    value: u64,
+) -> Result<Option<u64>, Refusal> {
+    let hash = map.hasher().hash_one(&form);
+    let entry = map.raw_entry_mut()?.from_key_hashed_nocheck(hash, form);
+    Ok(match entry {
+        RawEntryMut::Occupied(mut entry) => Some(entry.insert(value)),
+        RawEntryMut::Vacant(_vacant) => None,
+    })
+}
+
+// What raw entries of the same map find. The value is written twice, and is 2 in the end.
+fn assert_entered_raw<K: Eq + Hash, Q: Equivalent<K>, const N: usize>(
     map: &mut SizedHashMap<K, u64, DefaultHashBuilder, N>,
     form: Q,
     absent: Q,
 ) -> Result<(), Fail> {
-    for (form, old) in [(form, Some(2)), (absent, None)] {
-        let found = match map.raw_entry_mut()?.from_key(form) {
-            RawEntryMut::Occupied(mut entry) => Some(entry.insert(7)),
-            RawEntryMut::Vacant(_vacant) => None,
-        };
-        assert_same_at(N, found, old, "the raw entry of a form")?;
-    }
-    for (form, old) in [(form, Some(7)), (absent, None)] {
-        let hash = map.hasher().hash_one(form);
-        let found = match map.raw_entry_mut()?.from_key_hashed_nocheck(hash, form) {
-            RawEntryMut::Occupied(mut entry) => Some(entry.insert(2)),
-            RawEntryMut::Vacant(_vacant) => None,
-        };
-        assert_same_at(N, found, old, "the raw entry of a form and its hash")?;
-    }
-    Ok(())
+    assert_same_at(N, written_raw(map, form, 7)?, Some(2), "by a form")?;
+    assert_same_at(N, written_raw(map, absent, 7)?, None, "by another")?;
+    assert_same_at(
+        N,
+        written_by_hash(map, form, 2)?,
+        Some(7),
+        "by a form and its hash",
+    )?;
+    assert_same_at(
+        N,
+        written_by_hash(map, absent, 2)?,
+        None,
+        "by another and its hash",
+    )
 }
 
 fn lent_text(text: &str) -> CowStr<'_, Global> {

@@ -10,6 +10,8 @@ mod entries;
 #[cfg(test)]
 mod forms_of_keys;
 #[cfg(test)]
+mod raw_additions;
+#[cfg(test)]
 mod raw_entries;
 #[cfg(test)]
 mod raw_entry_calls;

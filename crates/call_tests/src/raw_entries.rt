@@ -1,6 +1,7 @@
 //! Raw entries: worked examples, searches by a match on keys, how often closures are called, and what they are printed as.
 
-use halfbrown::{DefaultHashBuilder, Equivalent, HashMap, RawEntryMut};
+use crate::raw_additions::{add_by_hash, add_by_vacancy};
+use halfbrown::{DefaultHashBuilder, Equivalent, HashMap, RawEntryMut, SizedHashMap};
 use std::alloc::Global;
 use std::cell::Cell;
 use std::fmt::Debug;
@@ -218,15 +219,14 @@ fn a_known_hash_is_not_made_again(rt: HostRuntime) -> Result<(), Fail> {
     let mut map = Counted::<'_, 0>::with_capacity_and_hasher(rt.alloc(), 1, builder)?;
     assert_form(&map, (Form::Table, 0, 3))?;
     let key = counts.key(5);
-    let hash = map.hasher().hash_one(&key);
-    assert_same((hash, counts.take()), (5, (1, 0)), "the hash")?;
-    match map.raw_entry_mut()?.from_key_hashed_nocheck(hash, &key) {
-        RawEntryMut::Vacant(entry) => {
-            let (key, value) = entry.insert_hashed_nocheck(hash, key, 50);
-            assert_same((key.id, *value), (5, 50), "the new pair")?;
-        }
-        RawEntryMut::Occupied(_occupied) => return Err(Fail::new("the entry is vacant")),
-    }
+    let (hash, asked) = (Cell::new(0), Cell::new((0, 0)));
+    let added = add_by_hash(&mut map, key, 50, |made| {
+        hash.set(made);
+        asked.set(counts.take());
+    })?;
+    assert_same((hash.get(), asked.get()), (5, (1, 0)), "the hash")?;
+    let pair = added.map(|(key, value)| (key.id, value));
+    assert_same(pair, Some((5, 50)), "the new pair")?;
     assert_same(counts.take(), (0, 0), "the three calls")?;
     assert_same(map.get(&key).copied(), Some(50), "the value")?;
     assert_same(counts.take(), (1, 1), "the look-up")
@@ -261,34 +261,15 @@ fn a_value_is_changed_or_inserted(rt: HostRuntime) -> Result<(), Fail> {
     Ok(())
 }
 
-// Where this key is not held, adds it through the vacant entry of another one, or of no match.
-fn add_by_vacancy<'a, const N: usize>(
-    map: &mut Counted<'a, N>,
-    sought: Option<Key<'a>>,
-    added: Key<'a>,
-) -> Result<(), Fail> {
-    if map.contains_key(&added) {
-        return Err(Fail::new("a key that is held is not added"));
-    }
-    let builder = map.raw_entry_mut()?;
-    let entry = match sought {
-        Some(sought) => builder.from_key(&sought),
-        None => builder.from_hash(0, |_| false),
-    };
-    match entry {
-        RawEntryMut::Vacant(entry) => *entry.insert(added, 0).1 = added.id,
-        RawEntryMut::Occupied(_occupied) => return Err(Fail::new("the entry is vacant")),
-    }
-    Ok(())
-}
-
 // A vacancy is for any key that is not held.
 fn assert_added_by_vacancy<const N: usize>(alloc: Global) -> Result<(), Fail> {
     let counts = Counts::new();
     let mut map = counts.map::<N>(alloc, Rule::Plain);
     fill(&mut map, &counts, &[1, 2])?;
-    add_by_vacancy(&mut map, Some(counts.key(3)), counts.key(4))?;
-    add_by_vacancy(&mut map, None, counts.key(5))?;
+    let added = add_by_vacancy(&mut map, Some(counts.key(3)), counts.key(4), 4)?;
+    assert_same_at(N, added, true, "by the entry of another key")?;
+    let added = add_by_vacancy(&mut map, None, counts.key(5), 5)?;
+    assert_same_at(N, added, true, "by a match that accepts none")?;
     let pairs = [((1, 1), 1), ((2, 1), 2), ((4, 1), 4), ((5, 1), 5)];
     assert_pairs(&map, &counts, &pairs)
 }
@@ -333,10 +314,11 @@ fn a_closure_is_called_only_where_it_is_needed(rt: HostRuntime) -> Result<(), Fa
 
 // How often the hasher is called that an insertion of the absent key is given.
 fn times_hashed<const N: usize>(alloc: Global) -> Result<u64, Fail> {
-    let counts = Counts::new();
-    let mut map = counts.map::<N>(alloc, Rule::Plain);
-    fill(&mut map, &counts, &HELD)?;
-    let key = counts.key(ABSENT);
+    let mut map = SizedHashMap::<u64, u64, DefaultHashBuilder, N>::new(alloc);
+    for key in [8, 16, 24] {
+        map.insert(key, key)?;
+    }
+    let key = 32u64;
     let hash = map.hasher().hash_one(&key);
     let times = Cell::new(0u64);
     if let RawEntryMut::Vacant(entry) = map.raw_entry_mut()?.from_key(&key) {
@@ -378,8 +360,8 @@ fn raw_entries_are_printed(rt: HostRuntime) -> Result<(), Fail> {
     assert_text(alloc, &entry, "RawEntry(RawVacantEntryMut)")?;
     if let RawEntryMut::Vacant(entry) = entry {
         assert_text(alloc, &entry, "RawVacantEntryMut")?;
-        entry.insert(key, 1);
     }
+    map.insert(key, 1)?;
     let entry = map.raw_entry_mut()?.from_key(&key);
     assert_text(
         alloc,

@@ -1,6 +1,8 @@
 //! Raw entries: each of their calls on a held key and on an absent one, in both forms, with what it returns, how often it hashes,
 //! and the pairs after it.
+ghost use Rattle.std.specs.Prelude.{◌≡◌};
 
+use crate::raw_additions::{Addition, add_entry, add_pair, key_of, write_pair};
 use halfbrown::{RawEntryMut, Tally};
 use std::alloc::Global;
 use std::hash::BuildHasher;
@@ -54,21 +56,6 @@ enum Write {
     InsertTwice,
 }
 
-// A call of a vacant entry.
-#[derive(Clone, Copy, Debug)]
-enum Addition {
-    Insert,
-    InsertCounted,
-    InsertEntry,
-    InsertEntryCounted,
-    Hashed,
-    HashedCounted,
-    EntryHashed,
-    EntryHashedCounted,
-    WithHasher,
-    WithHasherCounted,
-}
-
 // The value that is inserted.
 const NEW: u64 = 90;
 
@@ -90,7 +77,15 @@ fn returned_by<'a, const N: usize>(
         Call::OrInsertWith | Call::OrInsertWithCounted => {
             returned_by_or_insert_with(map, counts, key, call)
         }
+        Call::Read(Read::IntoKey) => {
+            let lent = key_of(map, key, || drop(counts.take()))?;
+            Ok((lent.map(|key| key.name()), None))
+        }
         Call::Read(read) => returned_by_read(map, counts, key, read),
+        Call::Write(Write::IntoKeyValue) => {
+            let made = || drop(counts.take());
+            Ok(returned(write_pair(map, key, NEW, made)?))
+        }
         Call::Write(write) => returned_by_write(map, counts, key, write),
         Call::InsertKey => returned_by_key(map, counts, key),
         Call::Remove | Call::RemoveEntry => returned_by_removal(map, counts, key, call),
@@ -157,10 +152,14 @@ fn returned_by_or_insert_with<'a, const N: usize>(
     let tally = &mut Tally::new();
     let entry = map.raw_entry_mut()?.from_key(&key);
     counts.take();
+    let before = NEW - 1;
+    let made = || -> (Key<'_>, u64)
+        ensures { result ≡ (key.entry, before) }
+    { (key, before) };
     let (stored, value) = if let Call::OrInsertWith = call {
-        entry.or_insert_with(|| (key, NEW - 1))
+        entry.or_insert_with(made)
     } else {
-        entry.or_insert_with_counted(|| (key, NEW - 1), tally)
+        entry.or_insert_with_counted(made, tally)
     };
     *value = value.saturating_add(1);
     Ok((Some(stored.name()), Some(*value)))
@@ -194,9 +193,8 @@ fn returned_by_read<'a, const N: usize>(
     Ok(match read {
         Read::Key => (Some(entry.key().name()), None),
         Read::KeyMut => (Some(entry.key_mut().name()), None),
-        Read::IntoKey => (Some(entry.into_key().name()), None),
         Read::Get => (None, Some(*entry.get())),
-        Read::GetKeyValue => {
+        Read::GetKeyValue | Read::IntoKey => {
             let (key, value) = entry.get_key_value();
             (Some(key.name()), Some(*value))
         }
@@ -228,13 +226,8 @@ fn returned_by_write<'a, const N: usize>(
             *value = NEW;
             (Some(key.name()), Some(*entry.get()))
         }
-        Write::IntoKeyValue => {
-            let (key, value) = entry.into_key_value();
-            *value = NEW;
-            (Some(key.name()), Some(*value))
-        }
         Write::Insert => (None, Some(entry.insert(NEW))),
-        Write::InsertTwice => {
+        Write::InsertTwice | Write::IntoKeyValue => {
             entry.insert(NEW);
             (Some(entry.key().name()), Some(entry.insert(NEW)))
         }
@@ -282,23 +275,8 @@ fn returned_by_addition<'a, const N: usize>(
     key: Key<'a>,
     addition: Addition,
 ) -> Result<Returned, Fail> {
-    let tally = &mut Tally::new();
-    let hash = map.hasher().hash_one(&key);
-    let RawEntryMut::Vacant(entry) = map.raw_entry_mut()?.from_key(&key) else {
-        return Ok((None, None));
-    };
-    counts.take();
-    let before = NEW - 1;
-    let (stored, value) = match addition {
-        Addition::Insert => entry.insert(key, before),
-        Addition::InsertCounted => entry.insert_counted(key, before, tally),
-        Addition::Hashed => entry.insert_hashed_nocheck(hash, key, before),
-        Addition::HashedCounted => entry.insert_hashed_nocheck_counted(hash, key, before, tally),
-        Addition::WithHasher => entry.insert_with_hasher(hash, key, before, |_| hash),
-        _ => entry.insert_with_hasher_counted(hash, key, before, |_| hash, tally),
-    };
-    *value = NEW;
-    Ok((Some(stored.name()), Some(*value)))
+    let made = || drop(counts.take());
+    Ok(returned(add_pair(map, key, NEW, addition, made)?))
 }
 
 // The same, where the entry of the new pair is returned.
@@ -308,20 +286,15 @@ fn returned_by_added_entry<'a, const N: usize>(
     key: Key<'a>,
     addition: Addition,
 ) -> Result<Returned, Fail> {
-    let tally = &mut Tally::new();
-    let hash = map.hasher().hash_one(&key);
-    let RawEntryMut::Vacant(entry) = map.raw_entry_mut()?.from_key(&key) else {
-        return Ok((None, None));
-    };
-    counts.take();
-    let mut left = match addition {
-        Addition::InsertEntry => entry.insert_entry(key, 0),
-        Addition::InsertEntryCounted => entry.insert_entry_counted(key, 0, tally),
-        Addition::EntryHashed => entry.insert_entry_hashed_nocheck(hash, key, 0),
-        _ => entry.insert_entry_hashed_nocheck_counted(hash, key, 0, tally),
-    };
-    *left.get_mut() = NEW;
-    Ok((Some(left.key().name()), Some(*left.get())))
+    let made = || drop(counts.take());
+    Ok(returned(add_entry(map, key, NEW, addition, made)?))
+}
+
+fn returned(pair: Option<(Key<'_>, u64)>) -> Returned {
+    match pair {
+        Some((key, value)) => (Some(key.name()), Some(value)),
+        None => (None, None),
+    }
 }
 
 // The pairs that are held at first, each key with mark 1.
