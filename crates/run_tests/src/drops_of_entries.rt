@@ -3,8 +3,11 @@
 
 use crate::drops;
 use crate::drops::{Dropping, Drops, Key, Returned, Value, assert_dropped_everywhere};
-use halfbrown::{DefaultHashBuilder, Entry, Refusal, SizedHashMap};
+use halfbrown::{
+    DefaultHashBuilder, Entry, Limit, LimitedEntry, LimitedHashMap, Refusal, SizedHashMap,
+};
 use std::alloc::Global;
+use std::hash::{BuildHasher, Hash};
 use std::test::Fail;
 use test_support::asserts::assert_same_at;
 
@@ -73,12 +76,14 @@ pub(crate) fn returned_by<'a, const N: usize>(
         Call::Insert => Returned::Value(insert(map, drops, id)?),
         Call::Remove => Returned::Value(remove(map, drops, id)?),
         Call::RemoveEntry => Returned::Pair(remove_entry(map, drops, id)?),
-        Call::IntoKey => Returned::Key(into_key(map, drops, id)?),
+        Call::IntoKey => Returned::Key(into_key(map, drops.key(id))?),
         Call::ReplaceBySame
         | Call::ReplaceByNew
         | Call::ReplaceByNone
         | Call::ReplaceByNoneAndInsert
-        | Call::ReplaceByNoneAndIntoKey => Returned::Key(replace(map, drops, call, id)?),
+        | Call::ReplaceByNoneAndIntoKey => {
+            Returned::Key(replace(map, drops.key(id), call, || drops.value())?)
+        },
         _ => {
             use_entry(map, drops, call, id)?;
             Returned::Nothing
@@ -160,38 +165,42 @@ fn remove_entry<'a, const N: usize>(
 }
 
 // Takes the key out of a vacant entry.
-fn into_key<'a, const N: usize>(
-    map: &mut Dropping<'a, N>,
-    drops: &'a Drops,
-    id: u64,
-) -> Result<Option<Key<'a>>, Refusal> {
-    Ok(match map.entry(drops.key(id))? {
-        Entry::Occupied(_occupied) => None,
-        Entry::Vacant(entry) => Some(entry.into_key()),
+fn into_key<K: Eq + Hash + Drop, V, S: BuildHasher, L: Limit>(
+    map: &mut LimitedHashMap<K, V, S, L>,
+    key: K,
+) -> Result<Option<K>, Refusal> {
+    Ok(match map.entry(key)? {
+        LimitedEntry::Occupied(_occupied) => None,
+        LimitedEntry::Vacant(entry) => Some(entry.into_key()),
     })
 }
 
 // Hands the pair to a closure. Where it returns none, the vacant entry is used as the call says.
-fn replace<'a, const N: usize>(
-    map: &mut Dropping<'a, N>,
-    drops: &'a Drops,
+fn replace<K: Eq + Hash + Drop, V: Drop, S: BuildHasher, L: Limit, F: Fn() -> V>(
+    map: &mut LimitedHashMap<K, V, S, L>,
+    key: K,
     call: Call,
-    id: u64,
-) -> Result<Option<Key<'a>>, Refusal> {
-    let Entry::Occupied(entry) = map.entry(drops.key(id))? else {
+    make: F,
+) -> Result<Option<K>, Refusal>
+    requires { F.IsAlwaysCallable make }
+{
+    let LimitedEntry::Occupied(entry) = map.entry(key)? else {
         return Ok(None);
     };
     let left = match call {
         Call::ReplaceBySame => entry.replace_entry_with(|_, value| Some(value)),
-        Call::ReplaceByNew => entry.replace_entry_with(|_, _value| Some(drops.value())),
-        _ => entry.replace_entry_with(|_, _value| None),
+        Call::ReplaceByNew => {
+            let new = make();
+            entry.replace_entry_with(move |_, _old| Some(new))
+        }
+        _ => entry.replace_entry_with(|_, _old| None),
     };
-    if let Entry::Vacant(entry) = left {
+    if let LimitedEntry::Vacant(entry) = left {
         if let Call::ReplaceByNoneAndIntoKey = call {
             return Ok(Some(entry.into_key()));
         }
         if let Call::ReplaceByNoneAndInsert = call {
-            entry.insert(drops.value());
+            entry.insert(make());
         }
     }
     Ok(None)

@@ -3,8 +3,8 @@
 
 use crate::drops;
 use crate::drops::{Dropping, Drops, Key, Returned, Value, assert_dropped_everywhere};
-use halfbrown::{RawEntryMut, Refusal};
-use std::hash::BuildHasher;
+use halfbrown::{Limit, LimitedHashMap, LimitedRawEntryMut, RawEntryMut, Refusal};
+use std::hash::{BuildHasher, Hash};
 use std::test::Fail;
 
 /// A call of the raw entry of a key.
@@ -14,7 +14,6 @@ pub(crate) enum Call {
     Insert,
     OrInsert,
     OrInsertEntry,
-    OrInsertWith,
     AndModify,
     Write,
     InsertValue,
@@ -49,8 +48,6 @@ const RAW_ENTRIES: [Case; 23] = [
     (Call::OrInsertEntry, 8, (1, 1), (0, 0), (3, 3)),
     (Call::OrInsertEntry, 32, (0, 0), (0, 0), (4, 4)),
     // The closure has the key, and makes the value only where it is called.
-    (Call::OrInsertWith, 8, (1, 0), (0, 0), (3, 3)),
-    (Call::OrInsertWith, 32, (0, 0), (0, 0), (4, 4)),
     (Call::AndModify, 8, (0, 1), (0, 0), (3, 3)),
     (Call::AndModify, 32, (0, 0), (0, 0), (3, 3)),
     (Call::Write, 8, (0, 1), (0, 0), (3, 3)),
@@ -82,17 +79,13 @@ pub(crate) fn returned_by<'a, const N: usize>(
             insert(map, drops, call, id)?;
             Returned::Nothing
         }
-        Call::OrInsertWith => {
-            or_insert_with(map, drops, id)?;
-            Returned::Nothing
-        }
         Call::InsertValue => Returned::Value(insert_value(map, drops, id)?),
         Call::InsertKey => Returned::Key(insert_key(map, drops, id)?),
         Call::Remove => Returned::Value(remove(map, drops, id)?),
         Call::RemoveEntry => Returned::Pair(remove_entry(map, drops, id)?),
         Call::RemoveByHash => Returned::Pair(remove_by_hash(map, drops, id)?),
         Call::Add(addition) => {
-            add(map, drops, addition, id)?;
+            add(map, drops.key(id), drops.value(), addition)?;
             Returned::Nothing
         }
     })
@@ -110,7 +103,7 @@ fn use_entry<'a, const N: usize>(
         Call::AndModify => drop(entry.and_modify(|_, value| *value = drops.value())),
         Call::Write => {
             if let RawEntryMut::Occupied(entry) = entry {
-                *entry.into_key_value().1 = drops.value();
+                *entry.into_mut() = drops.value();
             }
         }
         _ => drop(entry),
@@ -134,17 +127,6 @@ fn insert<'a, const N: usize>(
             entry.or_insert(key, drops.value());
         }
     }
-    Ok(())
-}
-
-fn or_insert_with<'a, const N: usize>(
-    map: &mut Dropping<'a, N>,
-    drops: &'a Drops,
-    id: u64,
-) -> Result<(), Refusal> {
-    let key = drops.key(id);
-    let entry = map.raw_entry_mut()?.from_key(&key);
-    entry.or_insert_with(move || (key, drops.value()));
     Ok(())
 }
 
@@ -216,30 +198,29 @@ fn remove_by_hash<'a, const N: usize>(
 }
 
 // Adds the pair through a vacant entry.
-fn add<'a, const N: usize>(
-    map: &mut Dropping<'a, N>,
-    drops: &'a Drops,
+fn add<K: Eq + Hash + Drop, V: Drop, S: BuildHasher, L: Limit>(
+    map: &mut LimitedHashMap<K, V, S, L>,
+    key: K,
+    value: V,
     addition: Addition,
-    id: u64,
 ) -> Result<(), Refusal> {
-    let key = drops.key(id);
     let hash = map.hasher().hash_one(&key);
-    let RawEntryMut::Vacant(entry) = map.raw_entry_mut()?.from_key(&key) else {
+    let LimitedRawEntryMut::Vacant(entry) = map.raw_entry_mut()?.from_key(&key) else {
         return Ok(());
     };
     match addition {
         Addition::Insert => {
-            entry.insert(key, drops.value());
+            entry.insert(key, value);
         }
-        Addition::InsertEntry => drop(entry.insert_entry(key, drops.value())),
+        Addition::InsertEntry => drop(entry.insert_entry(key, value)),
         Addition::Hashed => {
-            entry.insert_hashed_nocheck(hash, key, drops.value());
+            entry.insert_hashed_nocheck(hash, key, value);
         }
         Addition::EntryHashed => {
-            drop(entry.insert_entry_hashed_nocheck(hash, key, drops.value()));
+            drop(entry.insert_entry_hashed_nocheck(hash, key, value));
         }
         Addition::WithHasher => {
-            entry.insert_with_hasher(hash, key, drops.value(), |_| hash);
+            entry.insert_with_hasher(hash, key, value, |_| hash);
         }
     }
     Ok(())

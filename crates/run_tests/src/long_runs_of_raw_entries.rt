@@ -3,9 +3,11 @@
 
 use crate::expected::{Expected, Work};
 use crate::names::Name;
-use halfbrown::{Command, Equivalent, RawEntryMut};
+use halfbrown::{
+    Command, Equivalent, Limit, LimitedHashMap, LimitedRawEntryMut, RawEntryMut, Refusal,
+};
 use std::alloc::{AllocError, Global};
-use std::hash::BuildHasher;
+use std::hash::{BuildHasher, Hash};
 use std::test::Fail;
 use test_support::asserts::{assert_same_at, assert_true_at};
 use test_support::builders::Rule;
@@ -108,17 +110,26 @@ fn inserted_or_held<'a, const N: usize>(
 }
 
 // The hash is made before, and only once.
+fn insert_by_hash<K: Eq + Hash + Copy, S: BuildHasher, L: Limit>(
+    map: &mut LimitedHashMap<K, u64, S, L>,
+    key: K,
+    value: u64,
+) -> Result<(K, u64), Refusal> {
+    let hash = map.hasher().hash_one(&key);
+    let (stored, value) = match map.raw_entry_mut()?.from_key_hashed_nocheck(hash, &key) {
+        LimitedRawEntryMut::Occupied(entry) => entry.into_key_value(),
+        LimitedRawEntryMut::Vacant(entry) => entry.insert_hashed_nocheck(hash, key, value),
+    };
+    Ok((*stored, *value))
+}
+
 fn inserted_by_hash<'a, const N: usize>(
     map: &mut Counted<'a, N>,
     key: Key<'a>,
     value: u64,
 ) -> Result<Answer, Fail> {
-    let hash = map.hasher().hash_one(&key);
-    let (stored, value) = match map.raw_entry_mut()?.from_key_hashed_nocheck(hash, &key) {
-        RawEntryMut::Occupied(entry) => entry.into_key_value(),
-        RawEntryMut::Vacant(entry) => entry.insert_hashed_nocheck(hash, key, value),
-    };
-    Ok((Some(stored.name()), Some(*value)))
+    let (stored, value) = insert_by_hash(map, key, value)?;
+    Ok((Some(stored.name()), Some(value)))
 }
 
 // The key takes the place of an equal one, with which it is compared once more.
