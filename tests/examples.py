@@ -9,7 +9,7 @@ import sys
 
 CRATES = pathlib.Path(__file__).resolve().parent.parent / "crates"
 DOCUMENTED = ("half_store", "halfbrown")
-PROVED = ("half_store/src/examples.rt", "half_tests/src/examples.rt", "half_tests/src/callers.rt", "half_tests/src/entry_callers.rt")
+PROVED = ("half_store/src/examples.rt", "half_tests/src/examples.rt", "half_tests/src/raw_examples.rt", "half_tests/src/callers.rt", "half_tests/src/entry_callers.rt", "half_tests/src/raw_callers.rt")
 
 
 def stripped(text):

@@ -30,6 +30,10 @@ fn columns(rt: HostRuntime) -> Result<(), Fail> {
     assert_same(&rt, before, 42, "the value before");
     let index = ages.find(&|index| ages.keys()[index] == 2, &mut tally); // index 1, found by two comparisons
     assert_same(&rt, index, Some(1), "the index of 2");
+    *ages.pair_at_mut(1).1 = 44;
+    assert_same(&rt, *ages.value_at(1), 44, "the value that was written");
+    let before = ages.replace_key(1, 2); // 2
+    assert_same(&rt, before, 2, "the key before");
     let removed = ages.replace_with(0, |_, age| age.checked_sub(1)); // none, unless the age was 0
     assert_same(&rt, removed, None, "the age is one less");
     assert_same(&rt, *ages.value_at(0), 35, "one less");

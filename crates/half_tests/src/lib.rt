@@ -7,4 +7,6 @@ pub mod entry_callers;
 mod examples;
 pub mod first_example;
 pub mod raw_callers;
+#[cfg(test)]
+mod raw_examples;
 pub mod worked;

@@ -30,9 +30,7 @@ pub type RawEntryBuilder<'a, K, V, const N: usize, S> = LimitedRawEntryBuilder<
 /// What a raw entry is made from, in a map that stores up to `N` pairs in a vector.
 ///
 /// ```
-/// fn known(ages: RawEntryBuilderMut<'_, u64, u32, 32, DefaultHashBuilder>) -> bool {
-///     matches!(ages.from_key(&1), RawEntryMut::Occupied(_entry))
-/// }
+/// fn leave_all(_ages: RawEntryBuilderMut<'_, u64, u32, 32, DefaultHashBuilder>) {}
 /// ```
 pub type RawEntryBuilderMut<'a, K, V, const N: usize, S> = LimitedRawEntryBuilderMut<
     'a,
@@ -83,7 +81,7 @@ pub type RawVacantEntryMut<'a, K, V, const N: usize, S> = LimitedRawVacantEntryM
 /// Look-ups by a known hash or by a match on keys. `LimitedHashMap::raw_entry` makes it.
 ///
 /// ```
-/// let hash = ages.hasher().hash_one(&1);
+/// let hash = ages.hasher().hash_one(&1u64);
 /// let pair = ages.raw_entry().from_key_hashed_nocheck(hash, &1); // 1 and 36; nothing more is hashed
 /// ```
 #[derive(Drop)]

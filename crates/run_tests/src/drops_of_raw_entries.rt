@@ -38,7 +38,7 @@ pub(crate) enum Addition {
 type Case = (Call, u64, (u64, u64), (u64, u64), (u64, u64));
 
 // A key that is only searched for is not counted.
-const RAW_ENTRIES: [Case; 23] = [
+const RAW_ENTRIES: [Case; 21] = [
     (Call::Drop, 8, (0, 0), (0, 0), (3, 3)),
     (Call::Drop, 32, (0, 0), (0, 0), (3, 3)),
     (Call::Insert, 8, (1, 1), (0, 0), (3, 3)),

@@ -54,7 +54,7 @@ impl<'a, K: Eq + Hash, V, S: BuildHasher, L: Limit> LimitedRawEntryBuilder<'a, K
     /// `from_key`, by a hash that is known, which must be the builder's hash of the key. Nothing is hashed.
     ///
     /// ```
-    /// let hash = ages.hasher().hash_one(&1);
+    /// let hash = ages.hasher().hash_one(&1u64);
     /// let pair = ages.raw_entry().from_key_hashed_nocheck(hash, &1); // 1 and 36
     /// ```
     #[inline(always)]
@@ -72,7 +72,7 @@ impl<'a, K: Eq + Hash, V, S: BuildHasher, L: Limit> LimitedRawEntryBuilder<'a, K
     /// `from_key_hashed_nocheck`, with its work counted: that of one search, with no hash.
     ///
     /// ```
-    /// let hash = ages.hasher().hash_one(&2);
+    /// let hash = ages.hasher().hash_one(&2u64);
     /// let pair = ages
     ///     .raw_entry()
     ///     .from_key_hashed_nocheck_counted(hash, &2, &mut tally); // none
@@ -102,7 +102,7 @@ impl<'a, K: Eq + Hash, V, S: BuildHasher, L: Limit> LimitedRawEntryBuilder<'a, K
     /// `is_match` is called with keys that are held, in a table with those of this hash alone.
     ///
     /// ```
-    /// let hash = ages.hasher().hash_one(&1);
+    /// let hash = ages.hasher().hash_one(&1u64);
     /// let pair = ages.raw_entry().from_hash(hash, |age| *age == 1); // 1 and 36
     /// ```
     #[inline(always)]

@@ -69,7 +69,7 @@ impl<'a, K: Eq + Hash, V, S: BuildHasher, L: Limit> LimitedRawEntryBuilderMut<'a
     /// `from_key`, by a hash that is known, which must be the builder's hash of the key. Nothing is hashed.
     ///
     /// ```
-    /// let hash = ages.hasher().hash_one(&1);
+    /// let hash = ages.hasher().hash_one(&1u64);
     /// let entry = ages.raw_entry_mut()?.from_key_hashed_nocheck(hash, &1);
     /// ```
     #[inline]
@@ -89,7 +89,7 @@ impl<'a, K: Eq + Hash, V, S: BuildHasher, L: Limit> LimitedRawEntryBuilderMut<'a
     /// `from_key_hashed_nocheck`, with its work counted: that of one search, with no hash.
     ///
     /// ```
-    /// let hash = ages.hasher().hash_one(&1);
+    /// let hash = ages.hasher().hash_one(&1u64);
     /// let entry = ages
     ///     .raw_entry_mut()?
     ///     .from_key_hashed_nocheck_counted(hash, &1, &mut tally);
@@ -127,7 +127,7 @@ impl<'a, K: Eq + Hash, V, S: BuildHasher, L: Limit> LimitedRawEntryBuilderMut<'a
     /// `is_match` is called with keys that are held, in a table with those of this hash alone.
     ///
     /// ```
-    /// let hash = ages.hasher().hash_one(&1);
+    /// let hash = ages.hasher().hash_one(&1u64);
     /// let entry = ages.raw_entry_mut()?.from_hash(hash, |age| *age == 1);
     /// ```
     #[inline]
@@ -152,7 +152,9 @@ impl<'a, K: Eq + Hash, V, S: BuildHasher, L: Limit> LimitedRawEntryBuilderMut<'a
     /// `from_hash`, with its work counted: that of one search, with no hash.
     ///
     /// ```
-    /// let entry = ages.raw_entry_mut()?.from_hash_counted(5, |_| false, &mut tally);
+    /// let entry = ages
+    ///     .raw_entry_mut()?
+    ///     .from_hash_counted(5, |_| false, &mut tally);
     /// ```
     #[inline]
     pub fn from_hash_counted<F: Fn(&K) -> bool>(

@@ -50,7 +50,9 @@ impl<K: Eq + Hash, V, S: BuildHasher, L: Limit> LimitedHashMap<K, V, S, L> {
     /// `raw_entry_mut`, with its work counted: one hash for each pair at a switch, and nothing else.
     ///
     /// ```
-    /// let entry = ages.raw_entry_mut_counted(&mut tally)?.from_key_counted(&1, &mut tally);
+    /// let entry = ages
+    ///     .raw_entry_mut_counted(&mut tally)?
+    ///     .from_key_counted(&1, &mut tally);
     /// ```
     #[inline]
     pub fn raw_entry_mut_counted(

@@ -68,7 +68,11 @@ impl<'a, K: Eq + Hash, V, S: BuildHasher, L: Limit> LimitedRawEntryMut<'a, K, V,
     /// is held already stays, and the given pair is dropped.
     ///
     /// ```
-    /// let age = *ages.raw_entry_mut()?.from_key(&2).or_insert_entry(2, 41).get(); // 41
+    /// let age = *ages
+    ///     .raw_entry_mut()?
+    ///     .from_key(&2)
+    ///     .or_insert_entry(2, 41)
+    ///     .get(); // 41
     /// ```
     #[inline]
     pub fn or_insert_entry(
@@ -126,7 +130,7 @@ impl<'a, K: Eq + Hash, V, S: BuildHasher, L: Limit> LimitedRawEntryMut<'a, K, V,
     /// be written for as long as the map is borrowed: a value that is held already stays, and the given pair is dropped.
     ///
     /// ```
-    /// *ages.raw_entry_mut()?.from_key(&3).or_insert(3, 5).1 += 1;
+    /// *ages.raw_entry_mut()?.from_key(&3).or_insert(3, 5).1 = 6;
     /// ```
     #[inline]
     pub fn or_insert(self, default_key: K, default_value: V) -> (&'a K, &'a mut V)
@@ -175,7 +179,11 @@ impl<'a, K: Eq + Hash, V, S: BuildHasher, L: Limit> LimitedRawEntryMut<'a, K, V,
     /// `or_insert`, with a pair that is made only where none was found.
     ///
     /// ```
-    /// let age = *ages.raw_entry_mut()?.from_key(&4).or_insert_with(|| (4, 8)).1; // 8
+    /// let age = *ages
+    ///     .raw_entry_mut()?
+    ///     .from_key(&4)
+    ///     .or_insert_with(|| (4, 8))
+    ///     .1; // 8
     /// ```
     #[inline]
     pub fn or_insert_with<F: FnOnce() -> (K, V)>(self, default: F) -> (&'a K, &'a mut V)
@@ -223,7 +231,7 @@ impl<'a, K: Eq + Hash, V, S: BuildHasher, L: Limit> LimitedRawEntryMut<'a, K, V,
     /// let entry = ages
     ///     .raw_entry_mut()?
     ///     .from_key(&4)
-    ///     .and_modify(|_, age| *age += 1);
+    ///     .and_modify(|_, age| *age = 9);
     /// ```
     #[inline]
     pub fn and_modify<F: FnOnce(&K, &mut V)>(self, f: F) -> LimitedRawEntryMut<'a, K, V, S, L>
