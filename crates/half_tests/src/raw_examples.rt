@@ -228,16 +228,19 @@ fn a_vacant_entry_by_hash(rt: HostRuntime) -> Result<(), Fail> {
         assert_same((*pair.0, *pair.1), (5, 21), "the pair")?;
     }
     ages.clear();
+    let hash = ages.hasher().hash_one(&5u64);
     if let RawEntryMut::Vacant(entry) = ages.raw_entry_mut()?.from_key(&5) {
         let pair = entry.insert_hashed_nocheck_counted(hash, 5, 21, &mut tally); // 5 and 21
         assert_same((*pair.0, *pair.1), (5, 21), "the pair")?;
     }
     ages.clear();
+    let hash = ages.hasher().hash_one(&5u64);
     if let RawEntryMut::Vacant(entry) = ages.raw_entry_mut()?.from_key(&5) {
         let entry = entry.insert_entry_hashed_nocheck(hash, 5, 21);
         assert_same(*entry.get(), 21, "the age of 5")?;
     }
     ages.clear();
+    let hash = ages.hasher().hash_one(&5u64);
     if let RawEntryMut::Vacant(entry) = ages.raw_entry_mut()?.from_key(&5) {
         let entry = entry.insert_entry_hashed_nocheck_counted(hash, 5, 21, &mut tally);
         assert_same(*entry.get(), 21, "the age of 5")?;
@@ -255,6 +258,7 @@ fn a_vacant_entry_with_a_hasher(rt: HostRuntime) -> Result<(), Fail> {
         assert_same((*pair.0, *pair.1), (5, 21), "the pair")?;
     }
     ages.clear();
+    let hash = ages.hasher().hash_one(&5u64);
     if let RawEntryMut::Vacant(entry) = ages.raw_entry_mut()?.from_key(&5) {
         let pair = entry.insert_with_hasher_counted(hash, 5, 21, |_| hash, &mut tally); // 5 and 21
         assert_same((*pair.0, *pair.1), (5, 21), "the pair")?;
