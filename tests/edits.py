@@ -27,7 +27,7 @@ import time
 
 TOP = pathlib.Path(__file__).resolve().parent.parent
 # The crates, the longest checks first.
-CRATES = ("halfbrown", "half_store", "halfmap", "half_tests", "test_support")
+CRATES = ("halfbrown", "half_store", "halfmap", "half_tests", "half_uses", "test_support")
 # What a check of one job takes at most.
 MEMORY = 2_000_000_000
 # Where antt cannot read a text, or a proof misses a name, nothing is said of a contract.
@@ -58,16 +58,21 @@ def read_edit(path, crate):
 
 
 def changed_function(file, at):
-    """Returns the name of the function at this place of the file, or None. In an impl it begins with the type's."""
+    """Returns the name of the function at this place of the file, or None. In an impl it begins with the type's, and a trait's
+    comes after that."""
     if file.suffix != ".rt":
         return None
     above = file.read_text()[: at + 1]
     functions = re.findall(r"^( *)(?:pub(?:\([^)]*\))? )?(?:const |unsafe )*fn (\w+)", above, re.M)
-    types = re.findall(r"^impl\b.*?(\w+)(?:<[^{}]*>)? \{", above, re.M)
+    headers = re.findall(r"^impl\b(?:<[^{}]*?>)? ([^{}]*?) \{", above, re.M)
     if not functions:
         return None
     indent, name = functions[-1]
-    return f"{types[-1]}::{name}" if indent and types else name
+    parts = re.fullmatch(r"(?:[\w:]*?(\w+)(?:<.*>)?\s+for )?(&\S* )?(mut )?(\w+)(?:<.*>)?", headers[-1], re.S) if headers else None
+    if not indent or not parts:
+        return name
+    trait, lent, mutably, kind = parts.groups(default="")
+    return f"{'Ref' if lent else ''}{'Mut' if mutably else ''}{kind}{trait}::{name}"
 
 
 def judge(said):

@@ -9,7 +9,8 @@ import sys
 
 CRATES = pathlib.Path(__file__).resolve().parent.parent / "crates"
 DOCUMENTED = ("half_store", "halfbrown")
-PROVED = ("half_store/src/examples.rt", "half_tests/src/examples.rt", "half_tests/src/raw_examples.rt", "half_tests/src/callers.rt", "half_tests/src/entry_callers.rt", "half_tests/src/raw_callers.rt")
+# A crate's examples, and the callers that are proved from the public contracts.
+PROVED = ("half_*/src/*examples.rt", "half_*/src/*callers.rt")
 
 
 def stripped(text):
@@ -40,7 +41,7 @@ def stands_in(lines, text):
 
 
 def main():
-    proved = [stripped((CRATES / name).read_text()) for name in PROVED]
+    proved = [stripped(path.read_text()) for pattern in PROVED for path in sorted(CRATES.glob(pattern))]
     sources = [path for crate in DOCUMENTED for path in sorted((CRATES / crate / "src").rglob("*.rt"))]
     passed = failed = 0
     for path in sources:

@@ -1,10 +1,10 @@
 -- What the two columns of a `VecMap` are to its list of pairs.
 use Rattle.std.proofs.Common.{◌≡◌, ℕ, min, List, length, sym, ap, ◌∙◌}
-use Rattle.std.specs.List.{zip}
+use Rattle.std.specs.List.{zip, refill}
 use Rattle.std.specs.declared.vec.Vec.{Vec}
 use Rattle.std.specs.Map.{keys_of, values_of}
-use Rattle.half_store.proofs.Zip.{length-zip, keys_of-zip, values_of-zip}
-use Rattle.half_store.specs.Pairs.{Pairs, with_pairs}
+use Rattle.half_store.proofs.Zip.{length-zip, keys_of-zip, values_of-zip, zip-refill}
+use Rattle.half_store.specs.Pairs.{Pairs, with_pairs, set_values}
 
 module _ {K V Z : Type 0} where
   -- what is known of the columns of a map whose pairs and capacity are these
@@ -40,3 +40,15 @@ module _ {K V : Type 0} where
   pub pairs_are : (map : Pairs K V) {ps qs : List (K × V)} {capacity : ℕ} → ps ≡ qs → capacity ≡ map.capacity
       → ◌≡◌ {A = Pairs K V} (record { pairs = ps; capacity = capacity }) (with_pairs map qs)
   pairs_are map p q = λ i. record { pairs = p i; capacity = q i }
+
+module _ {K V Z : Type 0} where
+  -- the map whose values are written, one after the other
+  pub written : (keys : Vec K Z) (values : Vec V Z) (map : Pairs K V)
+      → ◌≡◌ {A = Pairs K V} (record { pairs = zip keys.items values.items; capacity = min keys.cap values.cap }) map
+      → length values.items ≡ length keys.items → (w : List V)
+      → ◌≡◌ {A = Pairs K V} (record { pairs = zip keys.items (refill values.len values.items w); capacity = min keys.cap values.cap }) (with_pairs map (set_values map.pairs w))
+  written keys values map view even w =
+      let o = opened keys values map view even in
+      pairs_are map
+      (ap (λ n. zip keys.items (refill n values.items w)) values.ok.0 ∙ zip-refill keys.items values.items w even ∙ ap (λ ps. set_values ps w) o.pairs)
+      o.capacity

@@ -9,9 +9,11 @@ pub mod CrowdingLemmas
 pub mod DeletionLemmas
 pub mod GapLemmas
 pub mod IndexLemmas
+pub mod Mirrored
 pub mod ProbeLemmas
 pub mod ReachLemmas
 pub mod Restored
+pub mod RetainLemmas
 pub mod SlotsLemmas
 pub mod StepLemmas
 pub mod TableLaws

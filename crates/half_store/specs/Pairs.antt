@@ -25,6 +25,12 @@ module _ {K V : Type 0} where
   set_key (p ∷ ps) zero k = (k, p.1) ∷ ps
   set_key (p ∷ ps) (suc index) k = p ∷ set_key ps index k
 
+  -- the pairs keep their keys and get these values, one after the other; pairs for which there is none keep theirs
+  abbrev pub set_values : List (K × V) → List V → List (K × V)
+  set_values [] vs = []
+  set_values (p ∷ ps) [] = p ∷ ps
+  set_values (p ∷ ps) (v ∷ vs) = (p.0, v) ∷ set_values ps vs
+
   abbrev pub pairs_code : Coded K → Coded V → Coded (Pairs K V)
   pairs_code k v = coded_via (coded× (coded_list (coded× k v)) coded_ℕ) (λ c. (c.pairs, c.capacity)) (λ a b e i. record { pairs = (e i).0; capacity = (e i).1 })
 

@@ -1,5 +1,6 @@
 //! The capacity of one column, which is a vector: making it, and giving it back.
-ghost use Rattle.std.specs.Prelude.{◌≡◌, ◌<◌, ◌≤◌, ◌⊎◌, max, min, [], OnOk, OnErr, vec_len, vec_capacity};
+ghost use Rattle.std.specs.Prelude.{◌≡◌, ◌<◌, ◌≤◌, ◌⊎◌, max, min, [], length, IfOk, OnOk, OnErr, vec_len, vec_capacity};
+ghost use Rattle.std.specs.List.{AllZip};
 
 use std::alloc::AllocError;
 use std::mem::replace;
@@ -53,4 +54,19 @@ fn move_all<T>(from: Vec<T>, mut to: Vec<T>) -> Vec<T>
     }
     left.destroy_empty();
     to
+}
+
+/// Clones all elements, in order, into an empty column whose capacity is enough.
+pub(crate) fn clone_all<T: Clone>(from: &[T], mut to: Vec<T>) -> Result<Vec<T>, AllocError>
+    requires empty { to.items ≡ [] }
+    requires len { vec_len to ≡ 0 }
+    requires fits { length from.now ≤ vec_capacity to }
+    ensures items { IfOk result (λ v. AllZip T.is_clone from.now v.items) }
+    ensures len { IfOk result (λ v. vec_len v ≡ length from.now) }
+    ensures capacity { IfOk result (λ v. vec_capacity v ≡ vec_capacity to) }
+{
+    for item in from {
+        to.push_reserved(item.clone()?);
+    }
+    Ok(to)
 }

@@ -23,6 +23,9 @@ fn columns(rt: HostRuntime) -> Result<(), Fail> {
     assert_same(&rt, keys, [1, 2].as_slice(), "the keys");
     let age = *ages.value_at(1); // 41
     assert_same(&rt, age, 41, "the second value");
+    let copy = ages.clone_with_capacity(5)?; // the same two ages, and capacity 5
+    assert_true(&rt, copy.len() == 2 && copy.capacity() == 5, "the copy");
+    assert_same(&rt, *copy.value_at(1), 41, "the second value of the copy");
     let pair = ages.pair_at(1); // 2 and 41
     assert_true(&rt, *pair.0 == 2 && *pair.1 == 41, "the second pair");
     *ages.value_at_mut(1) = 42;
@@ -38,16 +41,41 @@ fn columns(rt: HostRuntime) -> Result<(), Fail> {
     assert_same(&rt, removed, None, "the age is one less");
     assert_same(&rt, *ages.value_at(0), 35, "one less");
     ages.replace_value(0, 36);
+    ages.reverse();
+    assert_true(&rt, *ages.pair_at(0).0 == 2, "the opposite order");
+    ages.reverse();
     let pair = ages.swap_remove(0); // 1 and 36; the pair of 2 has index 0 now
     assert_same(&rt, pair, (1, 36), "the first pair");
     ages.grow(3, 32)?; // capacity 8: the least that a growth makes
     assert_same(&rt, ages.capacity(), 8, "grown");
     ages.reserve(10)?; // capacity 10
     assert_same(&rt, ages.capacity(), 10, "reserved");
+    ages.push(1, 36);
+    ages.retain(|_, age| *age < 40); // the pair of 2 is gone, whose age is 44
+    assert_same(&rt, ages.keys(), [1].as_slice(), "the key that is left");
     ages.shrink_to(3); // capacity 3
     assert_same(&rt, ages.capacity(), 3, "shrunk");
     ages.clear();
     assert_same(&rt, ages.len(), 0, "no pairs");
+    Ok(())
+}
+
+#[test]
+fn columns_apart(rt: HostRuntime) -> Result<(), Fail> {
+    let mut ages: VecMap<u64, u32> = VecMap::with_capacity(rt.alloc(), 2)?;
+    ages.push(1, 36);
+    ages.push(2, 41);
+    let values = ages.values(); // 36 and 41
+    assert_same(&rt, values, [36, 41].as_slice(), "the values");
+    let copy = ages.clone_with_capacity(5)?; // the same two ages, and capacity 5
+    assert_same(&rt, (copy.len(), copy.capacity()), (2, 5), "the copy");
+    ages.values_mut().reverse(); // 41 and 36
+    assert_same(&rt, ages.values(), [41, 36].as_slice(), "reversed");
+    ages.columns_mut().1.fill(45); // 45 and 45
+    assert_same(&rt, ages.values(), [45, 45].as_slice(), "all written");
+    let (keys, values) = ages.into_columns(); // 1 and 2; 45 and 45
+    assert_same(&rt, keys.as_slice(), [1, 2].as_slice(), "the keys");
+    assert_same(&rt, values.as_slice(), [45, 45].as_slice(), "the values");
     Ok(())
 }
 
@@ -70,6 +98,14 @@ fn a_table(rt: HostRuntime) -> Result<(), Fail> {
     assert_same(&rt, capacity, 3, "the capacity");
     let found = table.find(11, &|_| true, &mut tally); // entry index 1
     assert_same(&rt, found, Probe::Found(1), "hash 11");
+    table.reverse(); // of entry indices 0 and 1, each has the hash of the other
+    assert_same(
+        &rt,
+        table.find(11, &|_| true, &mut tally),
+        Probe::Found(0),
+        "hash 11 is first",
+    );
+    table.reverse();
     let copy = table.copy()?; // the same pairs, in as many buckets
     assert_same(&rt, (copy.len(), copy.capacity()), (2, 3), "the copy");
     let hash = table.remove(0); // 7; the pair of hash 11 has index 0 now
@@ -84,6 +120,20 @@ fn a_table(rt: HostRuntime) -> Result<(), Fail> {
     assert_same(&rt, table.len(), 0, "no pairs");
     let table = Table::from_hashes(alloc, &[7, 11], 4)?; // two pairs, capacity 6
     assert_same(&rt, (table.len(), table.capacity()), (2, 6), "from hashes");
+    Ok(())
+}
+
+#[test]
+fn pairs_and_their_table(rt: HostRuntime) -> Result<(), Fail> {
+    let alloc = rt.alloc();
+    let mut ages: VecMap<u64, u32> = VecMap::with_capacity(alloc, 2)?;
+    ages.push(1, 36);
+    ages.push(2, 41);
+    let mut table = Table::from_hashes(alloc, &[7, 11], 2)?;
+    table.retain(&mut ages, |_, age| *age < 40); // one pair is left, and one hash
+    assert_same(&rt, (ages.len(), table.len()), (1, 1), "one is left");
+    let found = table.find(7, &|_| true, &mut Tally::new());
+    assert_same(&rt, found, Probe::Found(0), "hash 7");
     Ok(())
 }
 

@@ -16,6 +16,8 @@ pub mod laws;
 mod memory;
 pub mod probe;
 mod rehash;
+mod retain;
+mod reverse;
 #[cfg(test)]
 mod tests;
 

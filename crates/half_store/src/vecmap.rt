@@ -1,12 +1,14 @@
 //! Pairs in two columns, one of keys and one of values: dense, in order, searched from first to last.
-ghost use Rattle.std.specs.Prelude.{◌≡◌, ℕ, ◌^◌, ◌<◌, ◌≤◌, true, false, [], ◌∷◌, ◌++◌, length, slice_get, IfSome, IfNone};
+ghost use Rattle.std.specs.Prelude.{◌≡◌, ℕ, ◌^◌, ◌<◌, ◌≤◌, true, false, [], ◌∷◌, ◌++◌, length, reverse, slice_get, IfSome, IfNone};
 ghost use Rattle.std.specs.Borrow.{sem};
 ghost use Rattle.std.specs.Map.{keys_of, values_of};
 ghost use Rattle.half_store.specs.Pairs.{with_pairs, set_key, set_value, swap_out};
 ghost use Rattle.half_store.specs.Work.{compared_more, first_match_cost};
 
+mod columns;
 mod memory;
 mod replace;
+mod retain;
 mod search;
 
 use crate::Tally;
@@ -68,19 +70,6 @@ impl<K, V> VecMap<K, V> {
         ensures small { length self.now.pairs < 2 ^ 63 }
     {
         self.keys.len()
-    }
-
-    /// The keys, in order.
-    ///
-    /// ```
-    /// let keys = ages.keys(); // 1 and 2
-    /// ```
-    #[inline(always)]
-    pub fn keys(&self) -> &[K]
-        ensures keys { result.now ≡ keys_of self.now.pairs }
-        ensures small { length self.now.pairs < 2 ^ 63 }
-    {
-        self.keys.as_slice()
     }
 
     /// The value of the pair at this index.
@@ -192,6 +181,19 @@ impl<K, V> VecMap<K, V> {
         ensures after { self.new ≡ with_pairs self.old (swap_out self.old.pairs index) }
     {
         (self.keys.swap_remove(index), self.values.swap_remove(index))
+    }
+
+    /// Puts the pairs in the opposite order.
+    ///
+    /// ```
+    /// ages.reverse();
+    /// ```
+    pub fn reverse(&mut self)
+        ensures after { self.new ≡ with_pairs self.old (reverse self.old.pairs) }
+        ensures small { length self.old.pairs < 2 ^ 63 }
+    {
+        self.keys.reverse();
+        self.values.reverse();
     }
 
     /// Removes all pairs. The capacity stays.

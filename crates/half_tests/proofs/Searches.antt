@@ -152,6 +152,19 @@ module _ (rule : Rule) (held : List (ℕ × ℕ)) (capacity : ℕ) (k : ℕ) whe
         let grew : GrewBy (table_insert_cost false) before after = subst (λ b. GrewBy (table_insert_cost b) before after) absent (subst (λ c. GrewBy c before after) insert_cost_is cost.grew) in
         work_is _ _ grew.asked (grew_exactly _ _ _ grew.compared) (grew_exactly _ _ _ grew.looked)
 
+    -- the entry of a held key: at most each key of its hash is compared, and its probe is read to no empty bucket
+    pub entering : (before after : Work) → InsertCosts 0 eqb builder_hash m k true before after → (compared looked : ℕ)
+        → holds eqb held k ≡ true → matches ≡ compared → probe ≡ looked + 1 → AtMost compared looked before after
+    entering before after cost compared looked present as_many as_far =
+        let grew : GrewBy (table_insert_cost true) before after = subst (λ b. GrewBy (table_insert_cost b) before after) present (subst (λ c. GrewBy c before after) insert_cost_is cost.grew) in
+        record {
+          asked = grew.asked;
+          compared_some = grew.compared.least;
+          compared_most = omega (arith, grew.compared.most, as_many);
+          looked_some = grew.looked.least;
+          looked_most = omega (arith, grew.looked.most, as_far);
+        }
+
 -- a key that is not held, by its number
 pub missing_as : (rule : Rule) (held : List (ℕ × ℕ)) (capacity k j : ℕ) → k ≡ j → (m : State ℕ ℕ Counting)
     → IsTable rule held capacity m

@@ -78,6 +78,20 @@ fn what_a_map_says_of_itself(rt: HostRuntime) -> Result<(), Fail> {
 }
 
 #[test]
+fn keeping_some(rt: HostRuntime) -> Result<(), Fail> {
+    let mut ages = Ages::new(rt.alloc());
+    for (name, age) in [(1, 36), (2, 39), (3, 41)] {
+        ages.insert(name, age)?;
+    }
+    ages.retain(|_, age| {
+        *age = age.saturating_add(1);
+        *age < 40
+    }); // those who are below 40 in a year, with their ages then
+    assert_same(ages.len(), 1, "one of three")?;
+    assert_same(ages.get(&1).copied(), Some(37), "a year later")
+}
+
+#[test]
 fn inserting(rt: HostRuntime) -> Result<(), Fail> {
     let mut ages = Ages::new(rt.alloc());
     let before = ages.insert(1, 36)?; // none

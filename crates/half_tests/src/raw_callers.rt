@@ -1,8 +1,10 @@
-//! What callers build on raw entries, proved from their public contracts alone: a cache that hashes each key once.
+//! What callers build on raw entries, proved from their public contracts alone: a cache that hashes each key once, and another
+//! spelling of a key.
 ghost use Rattle.std.specs.Prelude.{◌≡◌, ◌+◌, None, Some, false, OnOk, OnErr, IfOk};
-ghost use Rattle.std.specs.Option.{UnwrapsOrElse};
+ghost use Rattle.std.specs.Map.{values_of};
+ghost use Rattle.std.specs.Option.{UnwrapsOrElse, option_map};
 ghost use Rattle.halfbrown.specs.Costs.{switch_asked};
-ghost use Rattle.halfbrown.specs.Pairs.{value_of};
+ghost use Rattle.halfbrown.specs.Pairs.{value_of, pair_of};
 
 use half_store::Tally;
 use halfbrown::{Limit, LimitedHashMap, LimitedRawEntryMut, Refusal};
@@ -37,6 +39,27 @@ pub fn cached<K: Eq + Hash + Drop, V: Copy, S: BuildHasher, L: Limit, F: FnOnce(
     }
 }
 
+/// Stores this spelling of a held key, and returns the one that was stored. The values stay, in the same order. Where no equal
+/// key is held, none is added. It needs capacity for one pair more, as `raw_entry_mut` does.
+pub fn respell<K: Eq + Hash + Drop, V, S: BuildHasher, L: Limit>(
+    map: &mut LimitedHashMap<K, V, S, L>,
+    spelling: K,
+) -> Result<Option<K>, Refusal>
+    ensures before { IfOk result (λ before. before
+        ≡ option_map (λ pair. pair.0) (pair_of K.eq map.old.pairs spelling)) }
+    ensures pair { OnOk result (pair_of K.eq map.new.pairs spelling
+        ≡ option_map (λ value. (spelling, value)) (value_of K.eq map.old.pairs spelling)) }
+    ensures others { OnOk result ((other : K) → K.eq spelling other ≡ false
+        → pair_of K.eq map.new.pairs other ≡ pair_of K.eq map.old.pairs other) }
+    ensures order { OnOk result (values_of map.new.pairs ≡ values_of map.old.pairs) }
+    ensures err { OnErr result (map.new ≡ map.old) }
+{
+    match map.raw_entry_mut()?.from_key(&spelling) {
+        LimitedRawEntryMut::Occupied(mut entry) => Ok(Some(entry.insert_key(spelling))),
+        LimitedRawEntryMut::Vacant(_vacant) => Ok(None),
+    }
+}
+
 #[cfg(test)]
 mod tests {
     use super::*;
@@ -44,6 +67,7 @@ mod tests {
     use test_support::asserts::{assert_same, assert_same_at};
     use test_support::builders::Rule;
     use test_support::counts::Counts;
+    use test_support::keys::Key;
 
     #[test]
     fn a_cache_hashes_each_key_once(rt: HostRuntime) -> Result<(), Fail> {
@@ -64,6 +88,34 @@ mod tests {
         let hit = cached(&mut squares, counts.key(3), || 0, &mut Tally::new())?;
         assert_same(hit, 9, "what is cached is not computed again")?;
         assert_same(squares.len(), 12, "each is cached once")?;
+        Ok(())
+    }
+
+    #[test]
+    fn a_key_is_respelt_in_both_forms(rt: HostRuntime) -> Result<(), Fail> {
+        let counts = Counts::new();
+        let mut map = counts.map::<3>(rt.alloc(), Rule::Plain);
+        for id in 1..5u64 {
+            map.insert(counts.marked(id, 1), 10 * id)?;
+            let before = respell(&mut map, counts.marked(id, 2))?;
+            assert_same_at(
+                id,
+                before.map(Key::name),
+                Some((id, 1)),
+                "the spelling that was stored",
+            )?;
+        }
+        assert_same(map.is_vec(), false, "the fourth pair makes a table")?;
+        let before = respell(&mut map, counts.marked(1, 3))?;
+        assert_same(before.map(Key::name), Some((1, 2)), "in a table")?;
+        assert_same(
+            map.get(&counts.key(1)).copied(),
+            Some(10),
+            "the value stays",
+        )?;
+        let before = respell(&mut map, counts.marked(5, 3))?;
+        assert_same(before.map(Key::name), None, "a key that is not held")?;
+        assert_same(map.len(), 4, "none is added")?;
         Ok(())
     }
 }

@@ -8,6 +8,7 @@ pub mod apart;
 pub mod crowded;
 pub mod emptied;
 pub mod one_hash;
+pub mod retained;
 pub mod shorter;
 #[cfg(test)]
 mod tests;

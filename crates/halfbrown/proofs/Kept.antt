@@ -105,6 +105,14 @@ module _ {K V : Type 0} where
           series = kept.series;
         }
 
+    -- no more pairs, of distinct keys, with their hashes
+    pub kept_retained : (ps qs : List (K × V)) (columns as_much : ℕ) (is_vec : Bool) (hashes after : List ℕ) (buckets : ℕ)
+        → IsKept eq hash limit ps columns is_vec hashes buckets → IsDistinct eq (keys_of qs) → length qs ≤ length ps → as_much ≡ columns → (is_vec ≡ false → after ≡ map hash (keys_of qs))
+        → IsKept eq hash limit qs as_much is_vec after buckets
+    kept_retained ps qs columns as_much is_vec hashes after buckets kept distinct fewer same stored =
+        subst (λ n. IsKept eq hash limit qs n is_vec after buckets) (sym same)
+        (record { distinct = distinct; fits = omega (arith, kept.fits); backed = kept.backed; hashed = stored; series = kept.series })
+
     -- no pairs and no hashes
     pub kept_none : (ps : List (K × V)) (columns : ℕ) (is_vec : Bool) (hashes : List ℕ) (buckets : ℕ) → ps ≡ [] → hashes ≡ []
         → capacity_in limit columns is_vec buckets ≤ columns → (is_vec ≡ false → IsTableCapacity (capacity_of buckets)) → IsKept eq hash limit ps columns is_vec hashes buckets

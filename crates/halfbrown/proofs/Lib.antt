@@ -1,9 +1,14 @@
 pub mod CallerLemmas
+pub mod Clones
+pub mod CollectedLaws
+pub mod Collections
+pub mod Drains
 pub mod Entries
 pub mod EntryReplacements
 pub mod Full
 pub mod Indices
 pub mod InsertLemmas
+pub mod Iterators
 pub mod Kept
 pub mod Lookups
 pub mod MapLaws
@@ -13,8 +18,12 @@ pub mod RawEntries
 pub mod RawFinds
 pub mod Rekeyed
 pub mod Replacements
+pub mod Retained
+pub mod Reversed
 pub mod RunLaws
 pub mod RunLemmas
+pub mod SamePairs
+pub mod SearchesCosts
 pub mod SwapOut
 pub mod Vacancies
 pub mod VacancyProp

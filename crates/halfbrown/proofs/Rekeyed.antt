@@ -1,10 +1,13 @@
 -- Pairs of which one has another key, equal to its own.
-use Rattle.std.proofs.Common.{◌≡◌, ℕ, zero, suc, ◌<◌, Bool, true, false, List, [], ◌∷◌, length, map, set, get_or, slice_get, Some, refl, sym, ap, subst, ◌∙◌, arith}
+use Rattle.std.proofs.Common.{◌≡◌, ℕ, zero, suc, ◌<◌, Bool, true, false, cond, List, [], ◌∷◌, length, map, set, get_or, slice_get, Option, Some, IfSome, refl, sym, ap, subst, ◌∙◌, arith}
 use Rattle.std.proofs.lemmas.Option.{same_Some}
 use Rattle.std.specs.Cmp.{IsEquivalence}
 use Rattle.std.specs.List.{AllByRecursion, IsDistinct}
 use Rattle.std.specs.Map.{keys_of, values_of}
+use Rattle.std.specs.Option.{option_map}
 use Rattle.half_store.specs.Pairs.{set_key, swap_out}
+use Rattle.halfbrown.specs.Pairs.{value_of, pair_of}
+use Rattle.halfbrown.specs.Updates.{HasKeyReplaced}
 use Rattle.halfbrown.proofs.Written.{swap_out-set}
 
 module _ {K V : Type 0} where
@@ -71,3 +74,60 @@ IsDistinct-set {K = K} eq laws old new same (k ∷ ks) zero at distinct =
 IsDistinct-set eq laws old new same (k ∷ ks) (suc i) at distinct =
     let over : eq k old ≡ false → eq k new ≡ false = λ apart. laws.symm k new ∙ sym (laws.congr old new k same) ∙ laws.symm old k ∙ apart in
     (all-set (λ y. eq k y ≡ false) ks i old new at over distinct.0, IsDistinct-set eq laws old new same ks i at distinct.1)
+
+-- what holds of each element holds of this one
+all-at : {A : Type 0} (P : A → Type 0) (xs : List A) (i : ℕ) (x : A) → slice_get xs i ≡ Some x → AllByRecursion P xs → P x
+all-at P [] i x at all = cc
+all-at P (y ∷ ys) zero x at all = subst P (same_Some y x at) all.0
+all-at P (y ∷ ys) (suc i) x at all = all-at P ys i x at all.1
+
+-- a key that equals the one that is there
+pub equal_at : {K : Type 0} (eq : K → K → Bool) → IsEquivalence eq → (old new : K) {at : Option K} → at ≡ Some old → IfSome at (λ k. eq new k ≡ true) → eq old new ≡ true
+equal_at eq laws old new is same = laws.symm old new ∙ subst (λ k. IfSome k (λ k. eq new k ≡ true)) is same
+
+module _ {K : Type 0} (eq : K → K → Bool) (laws : IsEquivalence eq) (old new : K) (same : eq old new ≡ true) where
+  -- no key is equal to one of the two alone
+  alike : (q : K) → eq q new ≡ eq q old
+  alike q = laws.symm q new ∙ sym (laws.congr old new q same) ∙ laws.symm old q
+
+module _ {K V : Type 0} (eq : K → K → Bool) (laws : IsEquivalence eq) (old new : K) (same : eq old new ≡ true) where
+  -- each key keeps its value
+  value_of-set_key : (ps : List (K × V)) (i : ℕ) → slice_get (keys_of ps) i ≡ Some old → (q : K) → value_of eq (set_key ps i new) q ≡ value_of eq ps q
+  value_of-set_key [] i at q = refl
+  value_of-set_key (p ∷ ps) zero at q =
+      ap (λ b. cond b (Some p.1) (value_of eq ps q)) (alike eq laws old new same q ∙ ap (eq q) (sym (same_Some p.0 old at)))
+  value_of-set_key (p ∷ ps) (suc i) at q = ap (cond (eq q p.0) (Some p.1)) (value_of-set_key ps i at q)
+
+  -- each other key keeps its pair
+  pair_of-set_key : (ps : List (K × V)) (i : ℕ) → slice_get (keys_of ps) i ≡ Some old → (q : K) → eq new q ≡ false → pair_of eq (set_key ps i new) q ≡ pair_of eq ps q
+  pair_of-set_key [] i at q other = refl
+  pair_of-set_key (p ∷ ps) zero at q other =
+      let apart : eq q new ≡ false = laws.symm q new ∙ other in
+      let apart_old : eq q p.0 ≡ false = ap (eq q) (same_Some p.0 old at) ∙ sym (alike eq laws old new same q) ∙ apart in
+      ap (λ b. cond b (Some (new, p.1)) (pair_of eq ps q)) apart ∙ sym (ap (λ b. cond b (Some p) (pair_of eq ps q)) apart_old)
+  pair_of-set_key (p ∷ ps) (suc i) at q other = ap (cond (eq q p.0) (Some p)) (pair_of-set_key ps i at q other)
+
+  -- the pair of the key is the key itself with the value that was there
+  pair_of-set_key_same : (ps : List (K × V)) (i : ℕ) → slice_get (keys_of ps) i ≡ Some old → IsDistinct eq (keys_of ps)
+      → pair_of eq (set_key ps i new) new ≡ option_map (λ v. (new, v)) (value_of eq ps new)
+  unfolding IsDistinct
+  pair_of-set_key_same [] i at distinct = cc
+  pair_of-set_key_same (p ∷ ps) zero at distinct =
+      let held : eq new p.0 ≡ true = ap (eq new) (same_Some p.0 old at) ∙ sym (alike eq laws old new same new) ∙ laws.refl new in
+      ap (λ b. cond b (Some (new, p.1)) (pair_of eq ps new)) (laws.refl new)
+      ∙ sym (ap (λ b. option_map (λ v. (new, v)) (cond b (Some p.1) (value_of eq ps new))) held)
+  pair_of-set_key_same (p ∷ ps) (suc i) at distinct =
+      let apart : eq new p.0 ≡ false = laws.symm new p.0 ∙ alike eq laws old new same p.0 ∙ all-at (λ y. eq p.0 y ≡ false) (keys_of ps) i old at distinct.0 in
+      ap (λ b. cond b (Some p) (pair_of eq (set_key ps i new) new)) apart
+      ∙ pair_of-set_key_same ps i at distinct.1
+      ∙ sym (ap (λ b. option_map (λ v. (new, v)) (cond b (Some p.1) (value_of eq ps new))) apart)
+
+  -- what callers read off the pairs
+  pub has_key_replaced : (ps : List (K × V)) (i : ℕ) → slice_get (keys_of ps) i ≡ Some old → IsDistinct eq (keys_of ps) → HasKeyReplaced eq ps new (set_key ps i new)
+  has_key_replaced ps i at distinct = record {
+    pair = pair_of-set_key_same ps i at distinct;
+    values = value_of-set_key ps i at;
+    others = pair_of-set_key ps i at;
+    len = length-set_key ps i new;
+    order = values_of-set_key ps i new;
+  }

@@ -43,7 +43,8 @@ was_vec v full true after = first_true v (not full) after
 was_vec v full false after = after
 
 -- an insertion hashes nothing where a vector is left
-asked_nothing : (limit : ℕ) (v full granted : Bool) → v ≡ true → (granted ≡ true → (v && not full) ≡ true)
+-- an insertion that leaves a vector has hashed nothing
+pub asked_nothing : (limit : ℕ) (v full granted : Bool) → v ≡ true → (granted ≡ true → (v && not full) ≡ true)
     → (if full && not granted then 0 else ((if full then limit else 0) + search_asked (v && not full))) ≡ 0
 asked_nothing limit true false granted form stays = refl
 asked_nothing limit true true false form stays = refl

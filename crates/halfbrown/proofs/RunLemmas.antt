@@ -13,12 +13,18 @@ costs_are : (a b c d e v w x y z : ℕ) → a ≡ v → b ≡ w → c ≡ x → 
     → ◌≡◌ {A = Cost} (record { asked = a; compared = between b c; looked = between d e }) (record { asked = v; compared = between w x; looked = between y z })
 costs_are a b c d e v w x y z p q r s t = λ i. record { asked = p i; compared = between (q i) (r i); looked = between (s i) (t i) }
 
-none_more : (more : Cost) → more ≡ add_costs no_cost more
+pub none_more : (more : Cost) → more ≡ add_costs no_cost more
 none_more more =
     costs_are more.asked more.compared.least more.compared.most more.looked.least more.looked.most (0 + more.asked) (0 + more.compared.least) (0 + more.compared.most) (0 + more.looked.least) (0 + more.looked.most)
     (omega arith) (omega arith) (omega arith) (omega arith) (omega arith)
 
-costs_assoc : (a b c : Cost) → add_costs a (add_costs b c) ≡ add_costs (add_costs a b) c
+-- nothing more
+pub more_none : (more : Cost) → more ≡ add_costs more no_cost
+more_none more =
+    costs_are more.asked more.compared.least more.compared.most more.looked.least more.looked.most (more.asked + 0) (more.compared.least + 0) (more.compared.most + 0) (more.looked.least + 0) (more.looked.most + 0)
+    (omega arith) (omega arith) (omega arith) (omega arith) (omega arith)
+
+pub costs_assoc : (a b c : Cost) → add_costs a (add_costs b c) ≡ add_costs (add_costs a b) c
 costs_assoc a b c =
     costs_are (a.asked + (b.asked + c.asked)) (a.compared.least + (b.compared.least + c.compared.least)) (a.compared.most + (b.compared.most + c.compared.most))
     (a.looked.least + (b.looked.least + c.looked.least)) (a.looked.most + (b.looked.most + c.looked.most))
@@ -26,7 +32,7 @@ costs_assoc a b c =
     (a.looked.least + b.looked.least + c.looked.least) (a.looked.most + b.looked.most + c.looked.most)
     (omega arith) (omega arith) (omega arith) (omega arith) (omega arith)
 
-spent_none : (w : Work) → GrewBy no_cost w w
+pub spent_none : (w : Work) → GrewBy no_cost w w
 spent_none w = record {
   asked = omega arith;
   compared = record { least = omega arith; most = omega arith };

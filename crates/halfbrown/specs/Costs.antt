@@ -1,5 +1,5 @@
 -- What the calls cost: how often a key is hashed, how many keys are compared, and how many buckets are read.
-use Rattle.std.specs.Prelude.{◌≡◌, ℕ, ◌+◌, ◌-◌, ◌≤◌, Bool, true, false, not, ◌&&◌, List, length, map, count_by, ◌==◌, nat_lt, if◌then◌else◌}
+use Rattle.std.specs.Prelude.{◌≡◌, ℕ, ◌+◌, ◌-◌, ◌≤◌, Bool, true, false, not, ◌&&◌, List, [], ◌∷◌, length, map, count_by, ◌==◌, nat_lt, if◌then◌else◌}
 use Rattle.std.specs.Hash.{HashWrites}
 use Rattle.std.specs.declared.hash.Hasher as hasher
 use Rattle.std.specs.declared.hash.BuildHasher as builder
@@ -143,6 +143,11 @@ module _ {K V S : Type 0} (eq : K → K → Bool) (hash : S → K → ℕ) where
   -- what one search for k in the map cost, by the tally before it and after
   abbrev pub SearchCosts : State K V S → K → Work → Work → Type 0
   SearchCosts m k before after = SearchCostsBy (eq k) hash (hash m.builder k) m before after
+
+  -- what searches in the map for these keys, one after another, cost, by the tally before the first and after the last
+  unfoldable pub SearchesCost : State K V S → List K → Work → Work → Type 0
+  SearchesCost m [] before after = after ≡ before
+  SearchesCost m (k ∷ ks) before after = (between : Work) × SearchCosts m k before between × SearchesCost m ks between after
 
 module _ {K V S : Type 0} (limit : ℕ) where
   -- how often a granted switching call hashes for its switch: once for each pair of a full vector

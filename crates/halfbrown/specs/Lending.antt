@@ -1,10 +1,11 @@
 -- What a map ends as, once a value of it that was lent to be written comes back.
-use Rattle.std.specs.Prelude.{ℕ, Bool, Option}
-use Rattle.std.specs.Borrow.{Fml, RattleType, MutBor, Lends, LendsIf}
+use Rattle.std.specs.Prelude.{◌≡◌, ℕ, Bool, Option, ⊤}
+use Rattle.std.specs.Borrow.{Fml, GName, RattleType, MutBor, Array, Lends, LendsIf, follows, follows_so}
 use Rattle.std.specs.HashMap.Lent.{HashMembers}
+use mathlib.Core.Option.{none}
 use Rattle.std.specs.declared.hash.Hasher as hasher
 use Rattle.std.specs.declared.hash.BuildHasher as builder
-use Rattle.half_store.specs.Pairs.{set_value}
+use Rattle.half_store.specs.Pairs.{set_value, set_values}
 use Rattle.halfbrown.specs.declared.limit.Limit as limits
 use Rattle.halfbrown.specs.Pairs.{set_by}
 use Rattle.halfbrown.specs.State.{State, with_pairs}
@@ -23,3 +24,11 @@ module _ (K V S L H : RattleType) (key : HashMembers K.Denot) (build : builder.G
     -- the pair whose key passes the test has the last value written through the reference, and where none is held the map stays as it is
     abbrev pub LendsValueBy : (K.Denot → Bool) → Option (MutBor V.Denot) → Fml
     LendsValueBy test r = LendsIf map_row V m r (λ w. with_pairs m.now (set_by test m.now.pairs w)) m.now
+
+    -- the pairs have the values that were left behind the loan of this name, and their keys
+    abbrev pub LendsValues : GName → Fml
+    LendsValues name = follows map_row (Array V 0) m.ghost_name name (λ vs. with_pairs m.now (set_values m.now.pairs vs))
+
+    -- the map stays as it is
+    abbrev pub Rests : Fml
+    Rests = follows_so map_row map_row m.ghost_name none (λ _ _. ⊤) (λ n. n ≡ m.now)

@@ -1,9 +1,15 @@
+pub mod Clone
+pub mod Collection
 pub mod Costs
+pub mod Drain
 pub mod Entry
 pub mod EntryLending
+pub mod Equality
+pub mod EqualityLaws
 pub mod Form
 pub mod Growth
 pub mod Insertion
+pub mod Iter
 pub mod Layout
 pub mod Lending
 pub mod Lookup

@@ -1,6 +1,15 @@
 -- What callers read off a changed list of pairs: which key has which value.
 use Rattle.std.specs.Prelude.{◌≡◌, ◌+◌, Bool, true, false, List, length, Some, None, if◌then◌else◌}
-use Rattle.halfbrown.specs.Pairs.{value_of, holds, value_by, holds_by}
+use Rattle.std.specs.Map.{keys_of, values_of}
+use Rattle.std.specs.Option.{option_map}
+use Rattle.halfbrown.specs.Pairs.{value_of, pair_of, holds, value_by, holds_by}
+
+-- after these values are written into the pairs: each pair has its key, and where there is one for each pair, its value of them; there
+-- are as many pairs
+pub record HasValues {K V : Type 0} (old : List (K × V)) (vs : List V) (new : List (K × V)) : Type 0 where
+  pub keys : keys_of new ≡ keys_of old
+  pub values : length vs ≡ length old → values_of new ≡ vs
+  pub len : length new ≡ length old
 
 module _ {K V : Type 0} (eq : K → K → Bool) where
   -- after the pair (k, v) is put: k is held with the value v, as are its equals; each other key has what it had; there is one pair more
@@ -34,3 +43,12 @@ module _ {K V : Type 0} (eq : K → K → Bool) where
   -- held
   abbrev pub HasRemoved : List (K × V) → K → List (K × V) → Type 0
   HasRemoved old k new = HasRemovedBy (eq k) old new
+
+  -- after the stored key that equals k is replaced by k: the pair of k is k with the value that it had; each key has the value that it had;
+  -- each other key has the pair that it had; there are as many pairs, and their values are in the same order
+  pub record HasKeyReplaced (old : List (K × V)) (k : K) (new : List (K × V)) : Type 0 where
+    pub pair : pair_of eq new k ≡ option_map (λ v. (k, v)) (value_of eq old k)
+    pub values : (q : K) → value_of eq new q ≡ value_of eq old q
+    pub others : (q : K) → eq k q ≡ false → pair_of eq new q ≡ pair_of eq old q
+    pub len : length new ≡ length old
+    pub order : values_of new ≡ values_of old

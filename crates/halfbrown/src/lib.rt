@@ -28,19 +28,24 @@
 //! ```
 #![tactic(auto)]
 
+mod drain;
 mod entry;
 mod equivalent;
+mod iter;
 mod limit;
+mod macros;
 mod map;
 mod raw_entry;
 mod refused;
 pub mod run;
 
+pub use drain::{Drain, LimitedDrain};
 pub use entry::{
     Entry, LimitedEntry, LimitedOccupiedEntry, LimitedVacantEntry, OccupiedEntry, VacantEntry,
 };
 pub use equivalent::Equivalent;
 pub use half_store::{Refusal, Tally};
+pub use iter::{IntoIter, Iter, IterMut, Keys, Values, ValuesMut};
 pub use limit::{Limit, UpTo};
 pub use map::{DefaultHashBuilder, HashMap, LimitedHashMap, SizedHashMap, laws};
 pub use raw_entry::{

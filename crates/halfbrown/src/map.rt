@@ -4,17 +4,25 @@ ghost use Rattle.halfbrown.specs.State.{IsState, WithPairs};
 
 mod add;
 mod at;
+mod clone;
+mod collect;
+mod debug;
+mod equality;
 mod find;
 mod form;
 mod get;
 mod growth;
 mod insert;
+mod into_iter;
+mod iter;
 pub mod laws;
 pub(crate) mod lookup;
 mod make;
 mod prepare;
 mod remove;
 mod replace;
+mod retain;
+mod reverse;
 mod switch;
 
 use crate::{Limit, UpTo};

@@ -1,6 +1,6 @@
 //! What a scenario does once memory may be refused: one call of the map, which is printed with what came back.
 
-use crate::report::print_hashes;
+use crate::report::{print_hashes, print_state};
 use halfbrown::{Entry, RawEntryMut, Refused, RefusedKey};
 use std::io;
 use test_support::counts::{Counted, Counts};
@@ -18,6 +18,7 @@ pub(crate) enum Act {
     UnusedRawEntry,
     Reserve(usize),
     ShrinkToFit,
+    Clone,
 }
 
 impl Act {
@@ -38,6 +39,7 @@ impl Act {
             Act::UnusedRawEntry => unused_raw_entry(rt, map, counts),
             Act::Reserve(additional) => reserve(rt, map, counts, additional),
             Act::ShrinkToFit => shrink_to_fit(rt, map, counts),
+            Act::Clone => clone(rt, map, counts),
         }
     }
 }
@@ -204,4 +206,25 @@ fn shrink_to_fit<'a, const N: usize>(
     counts.take();
     map.shrink_to_fit();
     print_hashes(rt, counts)
+}
+
+// The copy is printed where there is one.
+fn clone<'a, const N: usize>(
+    rt: &impl Print,
+    map: &Counted<'a, N>,
+    counts: &'a Counts,
+) -> io::Result<()> {
+    print!(rt; "clone: ")?;
+    counts.take();
+    match map.clone() {
+        Ok(copy) => {
+            print!(rt; "granted")?;
+            print_hashes(rt, counts)?;
+            print_state(rt, &copy, counts)
+        }
+        Err(why) => {
+            print!(rt; "refused for {why:?}")?;
+            print_hashes(rt, counts)
+        }
+    }
 }

@@ -1,9 +1,11 @@
 //! The scenarios: each makes a map with ample memory, and then does what takes more.
+ghost use Rattle.std.specs.Prelude.{◌-◌};
+ghost use Rattle.std.specs.Iterator.{at_most};
 
 use crate::act::Act;
 use crate::report::{print_begin, print_hashes, print_made, print_state};
 use halfbrown::run::run;
-use halfbrown::{Command, DefaultHashBuilder, HashMap, Refusal, SizedHashMap};
+use halfbrown::{Command, DefaultHashBuilder, HashMap, Refusal, SizedHashMap, hashmap};
 use std::alloc::AllocError;
 use std::io;
 use std::io::Error;
@@ -46,6 +48,12 @@ pub(crate) fn play(rt: &(impl Print + AllocGlobal), name: &str) -> io::Result<()
         "table-reserve" => twice::<0>(rt, 0, 3, Act::Reserve(4)),
         "vector-shrink" => twice::<32>(rt, 16, 5, Act::ShrinkToFit),
         "table-shrink" => twice::<5>(rt, 24, 6, Act::ShrinkToFit),
+        "vector-clone" => twice::<5>(rt, 5, 4, Act::Clone),
+        "table-clone" => twice::<0>(rt, 6, 4, Act::Clone),
+        "vector-collected" => collect::<5>(rt, true),
+        "table-collected" => collect::<2>(rt, true),
+        "collected-without-a-hint" => collect::<2>(rt, false),
+        "written-pairs" => write_pairs(rt),
         "vector-made" => make::<5>(rt, 5),
         "table-made" => make::<5>(rt, 6),
         "made-with-default-builder" => make_with_default_builder(rt),
@@ -121,6 +129,64 @@ fn make_vector_at_limit(rt: &(impl Print + AllocGlobal)) -> io::Result<()> {
     print_begin(rt)?;
     for _ in 0..2 {
         print_made(rt, Default32::vec_with_capacity(rt.alloc(), 128))?;
+    }
+    Ok(())
+}
+
+/// The pairs (at, at), (at + 1, at + 1), .. below `end`.
+#[derive(Drop)]
+struct Items {
+    at: u64,
+    end: u64,
+    has_hint: bool,
+}
+
+impl Iterator for Items {
+    type Item = (u64, u64);
+
+    ghost remaining = { λ s. at_most (s.end - s.at) };
+
+    fn next(&mut self) -> Option<(u64, u64)> {
+        let at = self.at;
+        if at >= self.end {
+            return None;
+        }
+        self.at = at + 1;
+        Some((at, at))
+    }
+
+    fn size_hint(&self) -> (usize, Option<usize>) {
+        if !self.has_hint {
+            return (0, None);
+        }
+        let left = self.end.saturating_sub(self.at) as usize;
+        (left, Some(left))
+    }
+}
+
+// A map of four items, collected twice.
+fn collect<const N: usize>(rt: &(impl Print + AllocGlobal), has_hint: bool) -> io::Result<()> {
+    print_begin(rt)?;
+    for _ in 0..2 {
+        let items = Items {
+            at: 1,
+            end: 5,
+            has_hint,
+        };
+        let collected = SizedHashMap::<u64, u64, DefaultHashBuilder, N>::from_iter(
+            rt.alloc(),
+            items,
+        );
+        print_made(rt, collected)?;
+    }
+    Ok(())
+}
+
+// A map of two written pairs, made twice.
+fn write_pairs(rt: &(impl Print + AllocGlobal)) -> io::Result<()> {
+    print_begin(rt)?;
+    for _ in 0..2 {
+        print_made(rt, hashmap! {in rt.alloc(); 1u64 => 10, 2 => 20})?;
     }
     Ok(())
 }

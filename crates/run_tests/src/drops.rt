@@ -4,7 +4,9 @@ ghost use Rattle.std.specs.Hash as fed;
 ghost use Rattle.std.specs.Cmp.Rules.{comparing, hashing};
 ghost use Rattle.std.proofs.Common.{rules};
 
-use crate::{drops_of_calls, drops_of_entries, drops_of_raw_entries};
+use crate::{
+    drops_of_calls, drops_of_drain, drops_of_entries, drops_of_raw_entries, drops_of_retain,
+};
 use halfbrown::{DefaultHashBuilder, Refusal, SizedHashMap};
 use std::alloc::Global;
 use std::cell::Cell;
@@ -17,6 +19,13 @@ use test_support::small_maps::{HELD, On};
 pub(crate) struct Key<'a> {
     id: u64,
     dropped: &'a Cell<u64>,
+}
+
+impl Key<'_> {
+    /// What is compared of it.
+    pub(crate) fn id(&self) -> u64 {
+        self.id
+    }
 }
 
 impl Drop for Key<'_> {
@@ -81,7 +90,9 @@ impl Drops {
     }
 
     /// A key that is counted here.
-    pub(crate) fn key(&self, id: u64) -> Key<'_> {
+    pub(crate) fn key(&self, id: u64) -> Key<'_>
+        ensures { result.id ≡ id }
+    {
         Key {
             id,
             dropped: &self.keys,
@@ -96,7 +107,9 @@ impl Drops {
     }
 
     /// A key to search for, which is not counted among the keys.
-    pub(crate) fn sought(&self, id: u64) -> Key<'_> {
+    pub(crate) fn sought(&self, id: u64) -> Key<'_>
+        ensures { result.id ≡ id }
+    {
         Key {
             id,
             dropped: &self.sought,
@@ -123,6 +136,8 @@ pub(crate) enum Call {
     OfMap(drops_of_calls::Call),
     OfEntry(drops_of_entries::Call, u64),
     OfRawEntry(drops_of_raw_entries::Call, u64),
+    OfDrain(u64),
+    OfRetain(drops_of_retain::Call),
 }
 
 /// What a call returned.
@@ -148,8 +163,8 @@ fn dropped_by(alloc: Global, call: Call, on: On) -> Result<Dropped, Fail> {
     }
 }
 
-// A map of this limit and this capacity, with the held keys.
-fn held_by<const N: usize>(
+/// A map of this limit and this capacity, with the held keys.
+pub(crate) fn held_by<const N: usize>(
     alloc: Global,
     drops: &Drops,
     capacity: usize,
@@ -191,6 +206,8 @@ fn returned_by<'a, const N: usize>(
         Call::OfMap(call) => drops_of_calls::returned_by(map, drops, call),
         Call::OfEntry(call, id) => drops_of_entries::returned_by(map, drops, call, id),
         Call::OfRawEntry(call, id) => drops_of_raw_entries::returned_by(map, drops, call, id),
+        Call::OfDrain(asked) => Ok(Returned::Pair(drops_of_drain::last_of(map, asked))),
+        Call::OfRetain(call) => Ok(drops_of_retain::returned_by(map, drops, call)),
     }
 }
 

@@ -14,6 +14,7 @@ pub(crate) enum Call {
     Insert,
     OrInsert,
     OrInsertEntry,
+    OrInsertWith,
     AndModify,
     Write,
     InsertValue,
@@ -38,7 +39,7 @@ pub(crate) enum Addition {
 type Case = (Call, u64, (u64, u64), (u64, u64), (u64, u64));
 
 // A key that is only searched for is not counted.
-const RAW_ENTRIES: [Case; 21] = [
+const RAW_ENTRIES: [Case; 23] = [
     (Call::Drop, 8, (0, 0), (0, 0), (3, 3)),
     (Call::Drop, 32, (0, 0), (0, 0), (3, 3)),
     (Call::Insert, 8, (1, 1), (0, 0), (3, 3)),
@@ -47,7 +48,10 @@ const RAW_ENTRIES: [Case; 21] = [
     (Call::OrInsert, 32, (0, 0), (0, 0), (4, 4)),
     (Call::OrInsertEntry, 8, (1, 1), (0, 0), (3, 3)),
     (Call::OrInsertEntry, 32, (0, 0), (0, 0), (4, 4)),
-    // The closure has the key, and makes the value only where it is called.
+    // The closure makes the pair only where it is called.
+    (Call::OrInsertWith, 8, (0, 0), (0, 0), (3, 3)),
+    (Call::OrInsertWith, 32, (0, 0), (0, 0), (4, 4)),
+    // The closure makes the value only where it is called.
     (Call::AndModify, 8, (0, 1), (0, 0), (3, 3)),
     (Call::AndModify, 32, (0, 0), (0, 0), (3, 3)),
     (Call::Write, 8, (0, 1), (0, 0), (3, 3)),
@@ -73,6 +77,10 @@ pub(crate) fn returned_by<'a, const N: usize>(
     Ok(match call {
         Call::Drop | Call::AndModify | Call::Write => {
             use_entry(map, drops, call, id)?;
+            Returned::Nothing
+        }
+        Call::OrInsertWith => {
+            insert_made(map, drops, id)?;
             Returned::Nothing
         }
         Call::Insert | Call::OrInsert | Call::OrInsertEntry => {
@@ -127,6 +135,17 @@ fn insert<'a, const N: usize>(
             entry.or_insert(key, drops.value());
         }
     }
+    Ok(())
+}
+
+// Adds a pair that is made only where none is found.
+fn insert_made<'a, const N: usize>(
+    map: &mut Dropping<'a, N>,
+    drops: &'a Drops,
+    id: u64,
+) -> Result<(), Refusal> {
+    let entry = map.raw_entry_mut()?.from_key(&drops.sought(id));
+    entry.or_insert_with(|| (drops.key(id), drops.value()));
     Ok(())
 }
 

@@ -213,6 +213,24 @@ impl Expected {
         Ok(())
     }
 
+    /// Keeps the pairs that `f` accepts, in their order, with the values that it left.
+    pub(crate) fn retain<F: FnMut(Name, &mut u64) -> bool>(
+        &mut self,
+        mut f: F,
+    ) -> Result<(), AllocError>
+        requires { F.IsAlwaysCallable f }
+    {
+        let mut kept = Vec::new(*self.pairs.allocator());
+        for (key, value) in self.pairs.as_slice() {
+            let mut value = *value;
+            if f(*key, &mut value) {
+                kept.push((*key, value))?;
+            }
+        }
+        self.pairs = kept;
+        Ok(())
+    }
+
     fn insert(&mut self, key: Name, value: u64) -> Result<(Reply<Name, u64>, Work), AllocError> {
         let switch = self.switch_if_full();
         let found = self.index_of(key);

@@ -6,9 +6,17 @@ mod drops;
 #[cfg(test)]
 mod drops_of_calls;
 #[cfg(test)]
+mod drops_of_copies;
+#[cfg(test)]
+mod drops_of_drain;
+#[cfg(test)]
 mod drops_of_entries;
 #[cfg(test)]
+mod drops_of_iterators;
+#[cfg(test)]
 mod drops_of_raw_entries;
+#[cfg(test)]
+mod drops_of_retain;
 #[cfg(test)]
 mod expected;
 #[cfg(test)]
@@ -17,5 +25,9 @@ mod long_runs;
 mod long_runs_of_entries;
 #[cfg(test)]
 mod long_runs_of_raw_entries;
+#[cfg(test)]
+mod long_runs_of_retain;
+#[cfg(test)]
+mod long_runs_of_whole_maps;
 #[cfg(test)]
 mod names;

@@ -17,7 +17,7 @@ const KEYS: u64 = 60;
 
 // The commands, made by a linear congruence. Each key is marked by the number of its command. Some reserve for more
 // pairs than there can be.
-fn commands(alloc: Global) -> Result<Vec<Command<Name, u64>>, AllocError> {
+pub(crate) fn commands(alloc: Global) -> Result<Vec<Command<Name, u64>>, AllocError> {
     let mut commands = Vec::new(alloc);
     let mut state = 1u64;
     for number in 0..COMMANDS {
@@ -61,7 +61,7 @@ fn replies_to<'a, const N: usize>(
 }
 
 // One command: the reply, the work, the form and the capacity.
-fn assert_command<'a, const N: usize>(
+pub(crate) fn assert_command<'a, const N: usize>(
     alloc: Global,
     map: &mut Counted<'a, N>,
     counts: &'a Counts,

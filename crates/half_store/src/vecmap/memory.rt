@@ -1,10 +1,11 @@
 //! The capacity of the two columns: making it, and giving it back.
 ghost use Rattle.std.specs.Prelude.{◌≡◌, ◌^◌, ◌<◌, ◌≤◌, ◌⊎◌, max, min, [], length, IsOk, IfOk, OnOk, OnErr, IfErr};
+ghost use Rattle.std.specs.List.{AllZip};
 ghost use Rattle.half_store.specs.Refusal.{refusal_of};
 
 use super::VecMap;
 use crate::Refusal;
-use crate::column::{reserve_in_all, shrink_column};
+use crate::column::{clone_all, reserve_in_all, shrink_column};
 use crate::refusal::check_size;
 use std::alloc::{AllocError, Global};
 
@@ -30,6 +31,28 @@ impl<K, V> VecMap<K, V> {
                 Err(refused)
             }
         }
+    }
+
+    /// Clones of the pairs, in order, with exactly this capacity. Both columns get their memory before anything is cloned.
+    ///
+    /// ```
+    /// let copy = ages.clone_with_capacity(5)?; // the same two ages, and capacity 5
+    /// ```
+    pub fn clone_with_capacity(&self, capacity: usize) -> Result<VecMap<K, V>, AllocError>
+    where
+        K: Clone,
+        V: Clone,
+        requires { length self.now.pairs ≤ capacity }
+        ensures pairs { IfOk result (λ m. AllZip (λ p q. K.is_clone p.0 q.0 × V.is_clone p.1 q.1)
+            self.now.pairs m.pairs) }
+        ensures capacity { IfOk result (λ m. m.capacity ≡ capacity) }
+    {
+        let alloc = *self.keys.allocator();
+        let keys = Vec::with_capacity(alloc, capacity)?;
+        let values = Vec::with_capacity(alloc, capacity)?;
+        let keys = clone_all(self.keys.as_slice(), keys)?;
+        let values = clone_all(self.values.as_slice(), values)?;
+        Ok(VecMap { keys, values })
     }
 
     /// How many pairs fit before more memory is needed: the smaller capacity of the two columns.

@@ -1,10 +1,15 @@
 //! Three keys of four buckets whose home is the last bucket, so that a probe wraps around.
-ghost use Rattle.std.specs.Prelude.{◌≡◌, [], ◌∷◌, OnOk, IfOk, None, Some};
+ghost use Rattle.std.specs.Prelude.{◌≡◌, [], ◌∷◌, OnOk, IfOk, IfSome, None, Some, true, false};
+ghost use Rattle.std.specs.Option.{option_map};
+ghost use Rattle.half_store.specs.Probe.{looked_more};
+ghost use Rattle.halfbrown.specs.Costs.{key_hash, probe_length, InsertCosts};
+ghost use Rattle.halfbrown.specs.Pairs.{pair_of, holds, take_out};
 ghost use Rattle.half_tests.specs.Tables.{IsTable, AtMost, more_work, twins};
 
 use super::{Numbers, table_of};
-use halfbrown::{Refusal, Tally};
+use halfbrown::{Limit, LimitedEntry, LimitedHashMap, Refusal, Tally};
 use std::alloc::Global;
+use std::hash::{BuildHasher, Hash};
 use test_support::builders::Rule;
 use test_support::counts::Counts;
 
@@ -75,4 +80,49 @@ pub fn an_insertion_that_grows(
         Ok(before) => Ok((before, map.len(), map.capacity())),
         Err(refused) => Err(refused.why),
     }
+}
+
+/// Hands the value of a held key of a table to a closure that returns none, and returns the key of the vacant entry that is
+/// left.
+fn lose<K: Eq + Hash + Drop, V: Drop, S: BuildHasher, L: Limit>(
+    map: &mut LimitedHashMap<K, V, S, L>,
+    key: K,
+    search: &mut Tally,
+    replacement: &mut Tally,
+) -> Result<Option<K>, Refusal>
+    requires table { map.old.is_vec ≡ false }
+    requires held { holds K.eq map.old.pairs key ≡ true }
+    ensures key { IfOk result (λ key_left. key_left ≡ option_map (λ pair. pair.0) (pair_of K.eq map.old.pairs key)) }
+    ensures search { OnOk result (InsertCosts L.LIMIT K.eq (key_hash S.BuildHasher S.Hasher.Hasher K.hash_input)
+        map.old key true search.old search.new) }
+    ensures replacement { IfOk result (λ key_left. IfSome key_left (λ stored. replacement.new
+        ≡ looked_more replacement.old (probe_length
+        (key_hash S.BuildHasher S.Hasher.Hasher K.hash_input map.old.builder) false map.old.capacity
+        (take_out K.eq map.old.pairs key) stored))) }
+{
+    match map.entry_counted(key, search)? {
+        LimitedEntry::Occupied(entry) => {
+            match entry.replace_entry_with_counted(|_, _| None, replacement) {
+                LimitedEntry::Vacant(left) => Ok(Some(left.into_key())),
+                LimitedEntry::Occupied(_left) => Ok(None),
+            }
+        }
+        LimitedEntry::Vacant(_vacant) => Ok(None),
+    }
+}
+
+/// The entry of 3 is found by a search of at most three buckets. It loses its pair: key 7 has bucket 3 then and key 11 bucket
+/// 0, and the probe of the vacant entry reads buckets 3, 0 and 1.
+pub fn a_lost_pair(
+    alloc: Global,
+    counts: &Counts,
+    search: &mut Tally,
+    replacement: &mut Tally,
+) -> Result<Option<u64>, Refusal>
+    ensures key { IfOk result (λ key. key ≡ Some 3) }
+    ensures search { OnOk result (AtMost 1 3 search.old search.new) }
+    ensures replacement { OnOk result (replacement.new ≡ looked_more replacement.old 3) }
+{
+    let mut map = crowded(alloc, counts)?;
+    lose(&mut map, 3, search, replacement)
 }

@@ -1,6 +1,6 @@
 //! What the worked maps return when they run, and how many hashes that takes with those of their making.
 
-use super::{Numbers, alike, apart, crowded, emptied, one_hash, shorter, vectors};
+use super::{Numbers, alike, apart, crowded, emptied, one_hash, retained, shorter, vectors};
 use halfbrown::{Refusal, Tally};
 use std::fmt::Debug;
 use std::test::Fail;
@@ -31,7 +31,19 @@ fn three_keys_of_one_home(rt: HostRuntime) -> Result<(), Fail> {
     expect(&counts, hit, Some(11), 5, "key 11 after the removal")?;
     let grown = crowded::an_insertion_that_grows(rt.alloc(), &counts, &mut tally)?;
     expect(&counts, grown, (None, 4, 6), 4, "key 15 is new")?;
+    let lost = crowded::a_lost_pair(rt.alloc(), &counts, &mut tally, &mut Tally::new())?;
+    expect(&counts, lost, Some(3), 4, "the pair of key 3 is lost")?;
     Ok(())
+}
+
+#[test]
+fn one_key_of_a_crowd(rt: HostRuntime) -> Result<(), Fail> {
+    let counts = Counts::new();
+    let mut tally = Tally::new();
+    let miss = retained::a_miss_beside_the_first(rt.alloc(), &counts, &mut tally)?;
+    expect(&counts, miss, None, 4, "key 11 was rejected")?;
+    let hit = retained::a_hit_of_the_last(rt.alloc(), &counts, &mut tally)?;
+    expect(&counts, hit, Some(11), 4, "key 11 was accepted")
 }
 
 #[test]

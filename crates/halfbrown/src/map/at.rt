@@ -4,6 +4,7 @@ ghost use Rattle.std.specs.Borrow.{sem};
 ghost use Rattle.std.specs.Map.{keys_of, values_of};
 ghost use Rattle.half_store.specs.Pairs.{set_key};
 ghost use Rattle.halfbrown.specs.State.{IsState, WithPairs};
+ghost use Rattle.halfbrown.specs.Updates.{HasKeyReplaced};
 
 use super::LimitedHashMap;
 use crate::Limit;
@@ -57,6 +58,7 @@ impl<K: Eq + Hash, V, S: BuildHasher, L: Limit> LimitedHashMap<K, V, S, L> {
         requires equal { IfSome (slice_get (keys_of self.old.pairs) index) (λ k. K.eq key k ≡ true) }
         ensures old { slice_get (keys_of self.old.pairs) index ≡ Some result }
         ensures after { WithPairs self.old (set_key self.old.pairs index key) self.new }
+        ensures replaced { HasKeyReplaced K.eq self.old.pairs key self.new.pairs }
         ensures state { IsState K.eq L.LIMIT self.new }
     {
         self.columns.replace_key(index, key)

@@ -1,5 +1,7 @@
 //! The form of a map: a vector, or a table over the same columns.
-ghost use Rattle.std.specs.Prelude.{◌≡◌, ◌<◌, ◌≤◌, ◌↔◌, ◌⊎◌, ◌^◌, ◌∷◌, ◌++◌, true, false, not, max, [], length, slice_get, Some, Err, IsOk, OnOk, OnErr};
+ghost use Rattle.std.specs.Prelude.{◌≡◌, ℕ, ◌<◌, ◌≤◌, ◌↔◌, ◌⊎◌, ◌^◌, ◌∷◌, ◌++◌, true, false, not, max, map, [], length, reverse, slice_get, Some, Err, IsOk, IfOk, IfErr, OnOk, OnErr};
+ghost use Rattle.std.specs.Map.{keys_of};
+ghost use Rattle.std.specs.Map.Calls.{CalledAtPair, TakesPair, CallableOnEachPair, RetainsPairs};
 ghost use Rattle.std.specs.Option.{option_copied};
 ghost use Rattle.half_store.specs.Capacity.{capacity_of, capacity_for, buckets_of, buckets_for};
 ghost use Rattle.half_store.specs.Pairs.{swap_out};
@@ -12,7 +14,7 @@ ghost use Rattle.halfbrown.specs.Preparation.{IsProbedVacancy, filled};
 
 use super::lookup::Vacancy;
 use half_store::table::Table;
-use half_store::{Refusal, Tally};
+use half_store::{Refusal, Tally, VecMap};
 use std::marker::Model;
 
 /// A vector, which has no index, or a table, which has one.
@@ -74,6 +76,17 @@ impl Form {
         }
     }
 
+    /// The same form, with the same stored hashes in as many buckets.
+    pub(crate) fn copy(&self) -> Result<Form, Refusal>
+        ensures ok { IfOk result (λ f. f ≡ self.now) }
+        ensures err { IfErr result (λ why. why ≡ Refusal.Memory) }
+    {
+        match &self.table {
+            Some(table) => Ok(Form::from_table(table.copy()?)),
+            None => Ok(Form::vector()),
+        }
+    }
+
     /// Makes the capacity of a table enough for so many pairs in all.
     pub(crate) fn reserve(&mut self, needed: usize) -> Result<(), Refusal>
         requires { self.old.is_vec ≡ false }
@@ -104,6 +117,30 @@ impl Form {
         }
     }
 
+    /// Keeps the pairs that `f` accepts, in the columns and in the table over them.
+    #[inline(always)]
+    pub(crate) fn retain<K: Drop, V: Drop, F: FnMut(&K, &mut V) -> bool>(
+        &mut self,
+        columns: &mut VecMap<K, V>,
+        f: F,
+    )
+        requires len { self.old.is_vec ≡ false → length self.old.hashes ≡ length columns.old.pairs }
+        requires callable { CallableOnEachPair (CalledAtPair F.FnMut) (TakesPair F.FnMut) f columns.old.pairs }
+        ensures kept { RetainsPairs (CalledAtPair F.FnMut) f columns.old.pairs columns.new.pairs }
+        ensures len { length columns.new.pairs ≤ length columns.old.pairs }
+        ensures columns { columns.new.capacity ≡ columns.old.capacity }
+        ensures form { self.new.is_vec ≡ self.old.is_vec }
+        ensures buckets { self.new.buckets ≡ self.old.buckets }
+        ensures hashes { self.old.is_vec ≡ false → (hash : K → ℕ)
+            → self.old.hashes ≡ map hash (keys_of columns.old.pairs)
+            → self.new.hashes ≡ map hash (keys_of columns.new.pairs) }
+    {
+        match &mut self.table {
+            Some(table) => table.retain(columns, f),
+            None => columns.retain(f),
+        }
+    }
+
     /// Removes all stored hashes. A vector stores none.
     pub(crate) fn clear(&mut self)
         ensures form { self.new.is_vec ≡ self.old.is_vec }
@@ -112,6 +149,17 @@ impl Form {
     {
         if let Some(table) = &mut self.table {
             table.clear();
+        }
+    }
+
+    /// Turns the order of the pairs of a table round. A vector stores no hashes.
+    pub(crate) fn reverse(&mut self)
+        ensures form { self.new.is_vec ≡ self.old.is_vec }
+        ensures buckets { self.new.buckets ≡ self.old.buckets }
+        ensures hashes { self.new.hashes ≡ reverse self.old.hashes }
+    {
+        if let Some(table) = &mut self.table {
+            table.reverse();
         }
     }
 

@@ -1,5 +1,6 @@
-//! What holds of every search of a map. These functions do nothing: the laws are their contracts.
+//! What holds of every search of a map, and of equality. These functions do nothing: the laws are their contracts.
 ghost use Rattle.halfbrown.specs.Costs.{key_hash};
+ghost use Rattle.halfbrown.specs.EqualityLaws.{ReflexiveLaw, SymmetricLaw, TransitiveLaw, ValuesLaw, OrderLaw};
 ghost use Rattle.halfbrown.specs.MapLaws.{HistoryLaw, InsertionHistoryLaw, CommandCostLaw, CommandHashesLaw, CommandBucketsLaw};
 ghost use Rattle.halfbrown.specs.MapLaws.{CrowdedSearchLaw, CrowdedInsertionLaw, CrowdedGrowthLaw, CrowdedUncheckedLaw, CrowdedProbeLaw};
 
@@ -28,4 +29,14 @@ pub fn crowding_of_a_search<K: Eq + Hash, V, S: BuildHasher, L: Limit>()
     ensures growth { CrowdedGrowthLaw V L.LIMIT K.eq (key_hash S.BuildHasher S.Hasher.Hasher K.hash_input) }
     ensures unchecked { CrowdedUncheckedLaw V L.LIMIT K.eq (key_hash S.BuildHasher S.Hasher.Hasher K.hash_input) }
     ensures probe { CrowdedProbeLaw V (key_hash S.BuildHasher S.Hasher.Hasher K.hash_input) }
+{}
+
+/// Whether maps hold the same pairs is an equivalence, where the equality of their values is one. So it is across limits,
+/// builders and forms, none of which decides it, nor does the order of the pairs: what decides it is the value of each key.
+pub fn equality<K: Eq + Hash, V: PartialEq>()
+    ensures reflexive { ReflexiveLaw K.eq V.eq }
+    ensures symmetric { SymmetricLaw K.eq V.eq }
+    ensures transitive { TransitiveLaw K.eq V.eq }
+    ensures values { ValuesLaw K.eq V.eq }
+    ensures order { OrderLaw K.eq V.eq }
 {}

@@ -7,7 +7,7 @@ ghost use Rattle.std.specs.Map.Iter.{deref_pair};
 ghost use Rattle.std.specs.Option.{option_map};
 ghost use Rattle.halfbrown.specs.Costs.{key_hash, SearchCostsBy, HashedSearchCostsBy};
 ghost use Rattle.halfbrown.specs.Match.{FindsMatch, FindingCosts};
-ghost use Rattle.halfbrown.specs.Pairs.{pair_by};
+ghost use Rattle.halfbrown.specs.Pairs.{pair_by, value_by};
 ghost use Rattle.halfbrown.specs.RawEntryBuilder.{map_in};
 
 use super::LimitedRawEntryBuilder;
@@ -24,7 +24,8 @@ impl<'a, K: Eq + Hash, V, S: BuildHasher, L: Limit> LimitedRawEntryBuilder<'a, K
     /// ```
     #[inline(always)]
     pub fn from_key<Q: Equivalent<K>>(self, key: Q) -> Option<(&'a K, &'a V)>
-        ensures { option_map deref_pair result ≡ pair_by (Q.equivalent key) (map_in self.entry).pairs }
+        ensures pair { option_map deref_pair result ≡ pair_by (Q.equivalent key) (map_in self.entry).pairs }
+        ensures value { option_map (λ pair. pair.1.now) result ≡ value_by (Q.equivalent key) (map_in self.entry).pairs }
     {
         self.from_key_counted(key, &mut Tally::new())
     }
@@ -41,6 +42,7 @@ impl<'a, K: Eq + Hash, V, S: BuildHasher, L: Limit> LimitedRawEntryBuilder<'a, K
         tally: &mut Tally,
     ) -> Option<(&'a K, &'a V)>
         ensures pair { option_map deref_pair result ≡ pair_by (Q.equivalent key) (map_in self.entry).pairs }
+        ensures value { option_map (λ pair. pair.1.now) result ≡ value_by (Q.equivalent key) (map_in self.entry).pairs }
         ensures cost { SearchCostsBy (Q.equivalent key) (key_hash S.BuildHasher S.Hasher.Hasher K.hash_input)
             (key_hash S.BuildHasher S.Hasher.Hasher Q.hash_input (map_in self.entry).builder key) (map_in self.entry)
             tally.old tally.new }
@@ -64,7 +66,8 @@ impl<'a, K: Eq + Hash, V, S: BuildHasher, L: Limit> LimitedRawEntryBuilder<'a, K
         key: Q,
     ) -> Option<(&'a K, &'a V)>
         requires { hash ≡ key_hash S.BuildHasher S.Hasher.Hasher Q.hash_input (map_in self).builder key }
-        ensures { option_map deref_pair result ≡ pair_by (Q.equivalent key) (map_in self.entry).pairs }
+        ensures pair { option_map deref_pair result ≡ pair_by (Q.equivalent key) (map_in self.entry).pairs }
+        ensures value { option_map (λ pair. pair.1.now) result ≡ value_by (Q.equivalent key) (map_in self.entry).pairs }
     {
         self.from_key_hashed_nocheck_counted(hash, key, &mut Tally::new())
     }
@@ -86,6 +89,7 @@ impl<'a, K: Eq + Hash, V, S: BuildHasher, L: Limit> LimitedRawEntryBuilder<'a, K
     ) -> Option<(&'a K, &'a V)>
         requires { hash ≡ key_hash S.BuildHasher S.Hasher.Hasher Q.hash_input (map_in self).builder key }
         ensures pair { option_map deref_pair result ≡ pair_by (Q.equivalent key) (map_in self.entry).pairs }
+        ensures value { option_map (λ pair. pair.1.now) result ≡ value_by (Q.equivalent key) (map_in self.entry).pairs }
         ensures cost { HashedSearchCostsBy (Q.equivalent key) (key_hash S.BuildHasher S.Hasher.Hasher K.hash_input)
             (key_hash S.BuildHasher S.Hasher.Hasher Q.hash_input (map_in self.entry).builder key) (map_in self.entry)
             tally.old tally.new }

@@ -4,6 +4,7 @@ ghost use Rattle.std.specs.Borrow.{sem};
 ghost use Rattle.halfbrown.specs.RawEntry.{Occupied, entry_key, entry_pair, entry_value, map_of, pairs_without, HasNewKey, IsWritten};
 ghost use Rattle.halfbrown.specs.RawEntryLending.{RawEntryLends, RawOccupiedLends, RawOccupiedRests, with_entry_value};
 ghost use Rattle.halfbrown.specs.State.{IsState, WithPairs};
+ghost use Rattle.halfbrown.specs.Updates.{HasKeyReplaced};
 
 use super::LimitedRawOccupiedEntryMut;
 use crate::Limit;
@@ -156,6 +157,8 @@ impl<'a, K: Eq + Hash, V, S: BuildHasher, L: Limit> LimitedRawOccupiedEntryMut<'
         requires { IfSome (entry_key (Occupied self.old)) (λ k. K.eq key k ≡ true) }
         ensures old { entry_key (Occupied self.old) ≡ Some result }
         ensures new { HasNewKey self.old key self.new }
+        ensures replaced { HasKeyReplaced K.eq (map_of (Occupied self.old)).pairs key
+            (map_of (Occupied self.new)).pairs }
         ensures state { IsState K.eq L.LIMIT (map_of (Occupied self.new)) }
     {
         let index = self.index;

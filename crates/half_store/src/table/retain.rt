@@ -1,0 +1,44 @@
+//! Keeping the pairs that a closure accepts, in the columns and in the index over them.
+ghost use Rattle.std.specs.Prelude.{◌≡◌, ℕ, ◌≤◌, length, map};
+ghost use Rattle.std.specs.Map.{keys_of};
+ghost use Rattle.std.specs.Map.Calls.{CalledAtPair, TakesPair, CallableOnEachPair, RetainsPairs};
+
+use super::Table;
+use super::rehash::rehash;
+use crate::VecMap;
+
+impl Table {
+    /// Calls `f` at each of these pairs, whose index this is, and keeps those that it accepts, as `VecMap::retain` does. The
+    /// buckets stay, and no memory is taken.
+    ///
+    /// ```
+    /// table.retain(&mut ages, |_, age| *age < 40); // one pair is left, and one hash
+    /// ```
+    pub fn retain<K: Drop, V: Drop, F: FnMut(&K, &mut V) -> bool>(
+        &mut self,
+        pairs: &mut VecMap<K, V>,
+        f: F,
+    )
+        requires len { length self.old.hashes ≡ length pairs.old.pairs }
+        requires callable { CallableOnEachPair (CalledAtPair F.FnMut) (TakesPair F.FnMut) f pairs.old.pairs }
+        ensures kept { RetainsPairs (CalledAtPair F.FnMut) f pairs.old.pairs pairs.new.pairs }
+        ensures len { length pairs.new.pairs ≤ length pairs.old.pairs }
+        ensures capacity { pairs.new.capacity ≡ pairs.old.capacity }
+        ensures hashes { (hash : K → ℕ) → self.old.hashes ≡ map hash (keys_of pairs.old.pairs)
+            → self.new.hashes ≡ map hash (keys_of pairs.new.pairs) }
+        ensures buckets { self.new.buckets ≡ self.old.buckets }
+    {
+        pairs.retain_with(self.hashes.as_mut_slice(), f);
+        if pairs.len() == self.hashes.len() {
+            return;
+        }
+        self.hashes.truncate(pairs.len());
+        self.bucket_of.truncate(pairs.len());
+        self.buckets.fill(0);
+        rehash(
+            self.buckets.as_mut_slice(),
+            self.hashes.as_slice(),
+            self.bucket_of.as_mut_slice(),
+        );
+    }
+}

@@ -1,0 +1,56 @@
+//! What callers conclude from the equality of maps, proved from its public contracts alone.
+ghost use Rattle.std.specs.Prelude.{◌≡◌, ◌+◌, true, false, nat_eq, length, IsTrue};
+ghost use Rattle.halfbrown.specs.Equality.{same_pairs, same_value};
+ghost use Rattle.halfbrown.specs.Pairs.{value_of};
+
+use halfbrown::{Limit, LimitedHashMap, Tally, laws};
+use std::hash::{BuildHasher, Hash};
+
+/// Whether a map still says what it said when a copy was made, which may be of another form: each key has an equal value, or
+/// none in both.
+pub fn unchanged_since<K: Eq + Hash, V: PartialEq, S: BuildHasher, L: Limit, M: Limit>(
+    copy: &LimitedHashMap<K, V, S, M>,
+    map: &LimitedHashMap<K, V, S, L>,
+) -> bool
+    ensures values { IsTrue result → (key : K) → IsTrue (same_value K.eq V.eq map.now.pairs copy.now.pairs key) }
+    ensures len { IsTrue result → length map.now.pairs ≡ length copy.now.pairs }
+{
+    map.same_pairs(copy)
+}
+
+/// Whether two maps give each name the same age.
+pub fn same_ages<S: BuildHasher, T: BuildHasher, L: Limit, M: Limit>(
+    ours: &LimitedHashMap<u64, u32, S, L>,
+    theirs: &LimitedHashMap<u64, u32, T, M>,
+) -> bool
+    ensures { IsTrue result → (name : _) → value_of nat_eq ours.now.pairs name ≡ value_of nat_eq theirs.now.pairs name }
+{
+    ours.same_pairs(theirs)
+}
+
+/// Whether three maps are the same: it is enough to compare the first two and the last two.
+pub fn all_same<K: Eq + Hash, V: PartialEq, S: BuildHasher, L: Limit>(
+    first: &LimitedHashMap<K, V, S, L>,
+    second: &LimitedHashMap<K, V, S, L>,
+    third: &LimitedHashMap<K, V, S, L>,
+) -> bool
+    ensures same { IsTrue result → IsTrue (same_pairs K.eq V.eq first.now.pairs third.now.pairs) }
+    ensures back { IsTrue result → IsTrue (same_pairs K.eq V.eq third.now.pairs first.now.pairs) }
+{
+    laws::equality::<K, V>();
+    *first == *second && *second == *third
+}
+
+/// Whether a map is the one that was stored, and counts the work. A stored vector is searched without a hash.
+pub fn is_stored<K: Eq + Hash, V: PartialEq, S: BuildHasher, L: Limit, M: Limit>(
+    map: &LimitedHashMap<K, V, S, L>,
+    stored: &LimitedHashMap<K, V, S, M>,
+    tally: &mut Tally,
+) -> bool
+    ensures same { result ≡ same_pairs K.eq V.eq map.now.pairs stored.now.pairs }
+    ensures in_a_vector { stored.now.is_vec ≡ true → tally.new.asked ≡ tally.old.asked }
+    ensures in_a_table { stored.now.is_vec ≡ false → IsTrue result
+        → tally.new.asked ≡ tally.old.asked + length map.now.pairs }
+{
+    map.same_pairs_counted(stored, tally)
+}

@@ -1,0 +1,108 @@
+//! What callers build on iteration, proved from its public contracts alone: sums, counts and lists of what is held, and values
+//! that are all written.
+ghost use Rattle.std.specs.Prelude.{◌≡◌, ◌+◌, ◌/◌, ◌^◌, ◌<◌, ◌≤◌, ◌==◌, count_by, map, min, sum, IfOk, MatchOption};
+ghost use Rattle.std.specs.Map.{keys_of, values_of};
+
+use halfbrown::{Limit, LimitedHashMap};
+use std::alloc::{AllocError, Global};
+use std::hash::{BuildHasher, Hash};
+
+/// The sum of all amounts.
+pub fn total<K: Eq + Hash, S: BuildHasher, L: Limit>(ledger: &LimitedHashMap<K, u64, S, L>) -> u64
+    requires { sum (values_of ledger.now.pairs) < 2 ^ 64 }
+    ensures { result ≡ sum (values_of ledger.now.pairs) }
+{
+    ledger.values().sum()
+}
+
+/// The same, in a loop over the pairs.
+pub fn total_by_pairs<K: Eq + Hash, S: BuildHasher, L: Limit>(
+    ledger: &LimitedHashMap<K, u64, S, L>,
+) -> u64
+    requires { sum (values_of ledger.now.pairs) < 2 ^ 64 }
+    ensures { result ≡ sum (values_of ledger.now.pairs) }
+{
+    let mut total = 0;
+    for (_, amount) in ledger {
+        total += *amount;
+    }
+    total
+}
+
+/// How many voted for the candidate.
+pub fn votes_for<K: Eq + Hash, S: BuildHasher, L: Limit>(
+    votes: &LimitedHashMap<K, u64, S, L>,
+    candidate: u64,
+) -> usize
+    ensures { result ≡ count_by (λ vote. vote == candidate) (values_of votes.now.pairs) }
+{
+    votes.iter().filter(|(_, vote)| **vote == candidate).count()
+}
+
+/// The keys, in their order.
+pub fn listed<S: BuildHasher, L: Limit>(
+    alloc: Global,
+    map: &LimitedHashMap<u64, u64, S, L>,
+) -> Result<Vec<u64>, AllocError>
+    ensures { IfOk result (λ list. list.items ≡ keys_of map.now.pairs) }
+{
+    map.keys().copied().collect(alloc)
+}
+
+/// The pairs, in their order.
+pub fn collected<K: Eq + Hash + Drop, V: Drop, S: BuildHasher + Drop, L: Limit>(
+    alloc: Global,
+    map: LimitedHashMap<K, V, S, L>,
+) -> Result<Vec<(K, V)>, AllocError>
+    ensures { IfOk result (λ list. list.items ≡ map.pairs) }
+{
+    map.into_iter().collect(alloc)
+}
+
+/// Lowers each value above the most to it.
+pub fn cap_all<K: Eq + Hash, S: BuildHasher, L: Limit>(
+    stock: &mut LimitedHashMap<K, u64, S, L>,
+    most: u64,
+)
+    ensures values { values_of stock.new.pairs ≡ map (λ n. min n most) (values_of stock.old.pairs) }
+    ensures keys { keys_of stock.new.pairs ≡ keys_of stock.old.pairs }
+    ensures capacity { stock.new.capacity ≡ stock.old.capacity }
+{
+    cap(stock.values_slice_mut(), most);
+}
+
+fn cap(values: &mut [u64], most: u64)
+    ensures { values.new ≡ map (λ n. min n most) values.old }
+{
+    for value in values {
+        *value = (*value).min(most);
+    }
+}
+
+/// Sets each value to zero.
+pub fn reset_all<K: Eq + Hash, S: BuildHasher, L: Limit>(stock: &mut LimitedHashMap<K, u64, S, L>)
+    ensures keys { keys_of stock.new.pairs ≡ keys_of stock.old.pairs }
+    ensures form { stock.new.is_vec ≡ stock.old.is_vec }
+    ensures capacity { stock.new.capacity ≡ stock.old.capacity }
+    ensures builder { stock.new.builder ≡ stock.old.builder }
+{
+    for value in stock.values_mut() {
+        *value = 0;
+    }
+    for (_, value) in stock.iter_mut() {
+        *value = 0;
+    }
+}
+
+/// Reads all of a map that might be written.
+pub fn read_all<K: Eq + Hash, S: BuildHasher, L: Limit>(
+    stock: &mut LimitedHashMap<K, u64, S, L>,
+) -> u64
+    ensures { stock.new ≡ stock.old }
+{
+    let mut last = 0;
+    for (_, value) in &mut *stock {
+        last = *value;
+    }
+    last
+}

@@ -1,0 +1,35 @@
+//! What callers build on `retain`, proved from its public contract alone: a stock from which what is sold out goes, and prices
+//! that are halved.
+ghost use Rattle.std.specs.Prelude.{◌≡◌, ◌/◌, nat_le, filter, map};
+
+use halfbrown::{Limit, LimitedHashMap};
+use std::hash::{BuildHasher, Hash};
+
+/// Keeps the goods of which there are so many at least, in their order.
+pub fn keep_from<K: Eq + Hash + Drop, S: BuildHasher, L: Limit>(
+    stock: &mut LimitedHashMap<K, u64, S, L>,
+    least: u64,
+)
+    ensures kept { stock.new.pairs ≡ filter (λ pair. nat_le least pair.1) stock.old.pairs }
+    ensures form { stock.new.is_vec ≡ stock.old.is_vec }
+    ensures capacity { stock.new.capacity ≡ stock.old.capacity }
+{
+    stock.retain(
+        |_, count: &mut u64| -> bool
+            ensures { (result ≡ nat_le least count.old) × (count.new ≡ count.old) }
+        { least <= *count },
+    );
+}
+
+/// Halves each price.
+pub fn halve_all<K: Eq + Hash + Drop, S: BuildHasher, L: Limit>(
+    prices: &mut LimitedHashMap<K, u64, S, L>,
+)
+    ensures halved { prices.new.pairs ≡ map (λ pair. (pair.0, pair.1 / 2)) prices.old.pairs }
+    ensures form { prices.new.is_vec ≡ prices.old.is_vec }
+{
+    prices.retain(|_, price| {
+        *price /= 2;
+        true
+    });
+}

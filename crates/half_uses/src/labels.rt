@@ -1,0 +1,148 @@
+//! Sets of labels, in the order in which they were added.
+ghost use Rattle.std.specs.Prelude.{◌≡◌, ◌↔◌, ◌||◌, [], true, not, length, All, IsTrue, IfOk, OnOk, OnErr};
+ghost use Rattle.half_uses.specs.Labels.{has, with_label, with_labels};
+
+use halfbrown::{DefaultHashBuilder, HashMap, Refusal, Refused};
+use std::alloc::Global;
+use std::hash::Hash;
+use std::marker::Model;
+
+/// A set of labels. Up to 32 are searched by `==`, and nothing is hashed.
+#[derive(Drop)]
+pub struct Labels<T: Eq + Hash> {
+    labels: HashMap<T, (), DefaultHashBuilder>,
+}
+
+impl<T: Eq + Hash> Model for Labels<T> {
+    ghost use Rattle.std.specs.Prelude.{List};
+    ghost use Rattle.std.specs.Map.{keys_of};
+
+    ghost Value = { List T };
+
+    ghost view = { λ l. keys_of l.labels.pairs };
+}
+
+impl<T: Eq + Hash> Labels<T> {
+    /// No labels. It takes no memory.
+    pub fn new(alloc: Global) -> Labels<T>
+        ensures { result ≡ [] }
+    {
+        Labels {
+            labels: HashMap::new(alloc),
+        }
+    }
+
+    /// How many labels there are.
+    pub fn len(&self) -> usize
+        ensures { result ≡ length self.now }
+    {
+        self.labels.len()
+    }
+
+    /// Whether a label, or one equal to it, is in the set.
+    pub fn has(&self, label: &T) -> bool
+        ensures { result ≡ has T.eq self.now label.now }
+    {
+        self.labels.contains_key(label)
+    }
+
+    /// Adds a label, and returns whether it is new. One that is in the set already changes nothing. On error nothing changes.
+    pub fn add(&mut self, label: T) -> Result<bool, Refusal>
+    where
+        T: Drop,
+        ensures is_new { IfOk result (λ is_new. is_new ≡ not (has T.eq self.old label)) }
+        ensures after { OnOk result (self.new ≡ with_label T.eq self.old label) }
+        ensures err { OnErr result (self.new ≡ self.old) }
+    {
+        if self.labels.contains_key(&label) {
+            return Ok(false);
+        }
+        self.labels.insert_nocheck(label, ())?;
+        Ok(true)
+    }
+
+    /// Adds all labels of another set. On error some may have been added, and none is lost.
+    pub fn add_all(&mut self, other: &Labels<T>) -> Result<(), Refusal>
+    where
+        T: Copy,
+        ensures after { OnOk result (self.new ≡ with_labels T.eq self.old other.now) }
+        ensures members { OnOk result ((label : T) → has T.eq self.new label
+            ≡ (has T.eq self.old label || has T.eq other.now label)) }
+        ensures kept { (label : T) → has T.eq self.old label ≡ true → has T.eq self.new label ≡ true }
+    {
+        self.add_each(other)
+    }
+
+    // Adds the labels of another set, one after another.
+    fn add_each(&mut self, other: &Labels<T>) -> Result<(), Refusal>
+    where
+        T: Copy,
+        ensures after { OnOk result (self.new ≡ with_labels T.eq self.old other.now) }
+        ensures kept { OnErr result ((label : T) → has T.eq self.old label ≡ true → has T.eq self.new label ≡ true) }
+    {
+        for label in other.labels.keys() {
+            self.add(*label)?;
+        }
+        Ok(())
+    }
+
+    /// Whether each label of this set is in the other.
+    pub fn is_subset(&self, other: &Labels<T>) -> bool
+        ensures { IsTrue result ↔ All (λ label. IsTrue (has T.eq other.now label)) self.now }
+    {
+        self.labels.keys().all(|label| other.has(label))
+    }
+
+    /// Whether both sets have the same labels, in any order.
+    pub fn is_same(&self, other: &Labels<T>) -> bool
+        ensures { IsTrue result ↔ ((label : T) → has T.eq self.now label ≡ has T.eq other.now label) }
+    {
+        self.labels.same_pairs(&other.labels)
+    }
+}
+
+#[cfg(test)]
+mod tests {
+    use super::*;
+    use std::test::Fail;
+    use test_support::asserts::{assert_same, assert_true};
+
+    fn labels_of(alloc: Global, names: &[u64]) -> Result<Labels<u64>, Fail> {
+        let mut labels = Labels::new(alloc);
+        for name in names {
+            labels.add(*name)?;
+        }
+        Ok(labels)
+    }
+
+    #[test]
+    fn a_union_has_the_labels_of_both(rt: HostRuntime) -> Result<(), Fail> {
+        let mut labels = labels_of(rt.alloc(), &[1, 2, 3])?;
+        let others = labels_of(rt.alloc(), &[3, 4, 1])?;
+        assert_true(!labels.is_subset(&others), "2 is not there")?;
+        labels.add_all(&others)?;
+        assert_same(labels.len(), 4, "1 to 4")?;
+        assert_true(others.is_subset(&labels), "all of them are there")?;
+        assert_true(labels.has(&2), "and those before")
+    }
+
+    #[test]
+    fn sets_are_the_same_in_any_order(rt: HostRuntime) -> Result<(), Fail> {
+        let mut labels = labels_of(rt.alloc(), &[1, 2, 3])?;
+        let others = labels_of(rt.alloc(), &[3, 1, 2, 1])?;
+        assert_true(labels.is_same(&others), "three labels")?;
+        assert_true(labels.add(4)?, "4 is new")?;
+        assert_true(!labels.add(4)?, "and then is not")?;
+        assert_true(!labels.is_same(&others), "one more")
+    }
+
+    #[test]
+    fn many_labels(rt: HostRuntime) -> Result<(), Fail> {
+        let mut labels = labels_of(rt.alloc(), &[])?;
+        for label in 0..100 {
+            labels.add(label % 50)?;
+        }
+        assert_same(labels.len(), 50, "each once")?;
+        assert_true(!labels.has(&50), "not added")
+    }
+}

@@ -1,0 +1,155 @@
+//! Names in scopes within one another, as a compiler keeps them.
+ghost use Rattle.std.specs.Prelude.{◌≡◌, [], ◌∷◌, drop, length, IfOk, OnOk, OnErr, IfErr, Some, false, IsTrue, IsFalse};
+ghost use Rattle.std.specs.Option.{option_copied};
+ghost use Rattle.half_uses.specs.Scopes.{innermost_first, meaning, meaning_here, declared};
+
+use halfbrown::{DefaultHashBuilder, Refused, SizedHashMap};
+use std::alloc::{AllocError, Global};
+use std::hash::Hash;
+use std::marker::Model;
+use std::mem::replace;
+
+/// The names of one scope. Most scopes have few: these are searched by `==`, and nothing is hashed.
+type Scope<N, M> = SizedHashMap<N, M, DefaultHashBuilder, 8>;
+
+/// A chain of scopes: an innermost one, and those around it. A name means what the innermost scope that declares it says.
+#[derive(Drop)]
+pub struct Scopes<N: Eq + Hash, M> {
+    innermost: Scope<N, M>,
+    // the outermost first
+    outer: Vec<Scope<N, M>>,
+    alloc: Global,
+}
+
+impl<N: Eq + Hash, M> Model for Scopes<N, M> {
+    ghost use Rattle.std.specs.Prelude.{List, ◌∷◌};
+    ghost use Rattle.half_uses.specs.Scopes.{innermost_first};
+
+    ghost Value = { List (List (N × M)) };
+
+    ghost view = { λ s. s.innermost.pairs ∷ innermost_first s.outer.items };
+}
+
+impl<N: Eq + Hash, M> Scopes<N, M> {
+    /// One scope, with no names.
+    pub fn new(alloc: Global) -> Scopes<N, M>
+        ensures { result ≡ [] ∷ [] }
+    {
+        Scopes {
+            innermost: Scope::new(alloc),
+            outer: Vec::new(alloc),
+            alloc,
+        }
+    }
+
+    /// Enters a new scope within the innermost. On error nothing changes.
+    pub fn enter(&mut self) -> Result<(), AllocError>
+        ensures entered { OnOk result (self.new ≡ [] ∷ self.old) }
+        ensures err { OnErr result (self.new ≡ self.old) }
+    {
+        self.outer.reserve(1)?;
+        let left = replace(&mut self.innermost, Scope::new(self.alloc));
+        self.outer.push_reserved(left);
+        Ok(())
+    }
+
+    /// Leaves the innermost scope, and forgets its names. The outermost is never left: it returns false there.
+    pub fn leave(&mut self) -> bool
+    where
+        N: Drop,
+        M: Drop,
+        ensures left { IsTrue result → self.new ≡ drop 1 self.old }
+        ensures outermost { IsFalse result → (self.new ≡ self.old) × (length self.old ≡ 1) }
+    {
+        match self.outer.pop() {
+            Some(scope) => {
+                self.innermost = scope;
+                true
+            }
+            None => false,
+        }
+    }
+
+    /// Gives a name its meaning in the innermost scope, and returns the meaning that it had there. On error nothing changes.
+    pub fn declare(&mut self, name: N, new_meaning: M) -> Result<Option<M>, Refused<N, M>>
+    where
+        N: Drop,
+        ensures before { IfOk result (λ old. old ≡ meaning_here N.eq self.old name) }
+        ensures after { OnOk result (self.new ≡ declared N.eq self.old name new_meaning) }
+        ensures means { OnOk result (meaning N.eq self.new name ≡ Some new_meaning) }
+        ensures others { OnOk result ((other : N) → N.eq name other ≡ false
+            → meaning N.eq self.new other ≡ meaning N.eq self.old other) }
+        ensures err { OnErr result (self.new ≡ self.old) }
+        ensures handed_back { IfErr result (λ refused. (refused.key ≡ name) × (refused.value ≡ new_meaning)) }
+    {
+        self.innermost.insert(name, new_meaning)
+    }
+
+    /// What a name means: what the innermost scope that declares it says.
+    pub fn resolve(&self, name: &N) -> Option<&M>
+        ensures { option_copied result ≡ meaning N.eq self.now name.now }
+    {
+        match self.innermost.get(name) {
+            Some(found) => Some(found),
+            None => resolve_in(self.outer.as_slice(), name),
+        }
+    }
+}
+
+// What a name means in these scopes, of which the last is the innermost.
+fn resolve_in<'a, N: Eq + Hash, M>(scopes: &'a [Scope<N, M>], name: &N) -> Option<&'a M>
+    ensures { option_copied result ≡ meaning N.eq (innermost_first scopes.now) name.now }
+{
+    let (innermost, outer) = scopes.split_last()?;
+    match innermost.get(name) {
+        Some(found) => Some(found),
+        None => resolve_in(outer, name),
+    }
+}
+
+#[cfg(test)]
+mod tests {
+    use super::*;
+    use std::test::Fail;
+    use test_support::asserts::{assert_same, assert_true};
+
+    #[test]
+    fn an_inner_scope_hides_the_outer_until_it_is_left(rt: HostRuntime) -> Result<(), Fail> {
+        let mut scopes = Scopes::<&str, u64>::new(rt.alloc());
+        scopes.declare("x", 1)?;
+        scopes.declare("y", 2)?;
+        scopes.enter()?;
+        scopes.declare("x", 10)?;
+        scopes.enter()?;
+        assert_same(scopes.resolve(&"x").copied(), Some(10), "the inner x")?;
+        assert_same(scopes.resolve(&"y").copied(), Some(2), "through two scopes")?;
+        assert_same(scopes.resolve(&"z").copied(), None, "declared nowhere")?;
+        assert_same(scopes.declare("x", 100)?, None, "new in this scope")?;
+        assert_same(scopes.declare("x", 101)?, Some(100), "declared again")?;
+        assert_true(scopes.leave(), "back in the second scope")?;
+        assert_same(scopes.resolve(&"x").copied(), Some(10), "as before")?;
+        assert_true(scopes.leave(), "back in the first")?;
+        assert_same(scopes.resolve(&"x").copied(), Some(1), "the outer x")?;
+        assert_true(!scopes.leave(), "the outermost is not left")?;
+        assert_same(
+            scopes.resolve(&"y").copied(),
+            Some(2),
+            "and keeps its names",
+        )
+    }
+
+    #[test]
+    fn a_scope_of_many_names(rt: HostRuntime) -> Result<(), Fail> {
+        let mut scopes = Scopes::<u64, u64>::new(rt.alloc());
+        for depth in 0..5 {
+            for name in 0..20 {
+                scopes.declare(100 * depth + name, depth)?;
+            }
+            scopes.declare(7, 1000 + depth)?;
+            scopes.enter()?;
+        }
+        assert_same(scopes.resolve(&419).copied(), Some(4), "in the fifth scope")?;
+        assert_same(scopes.resolve(&19).copied(), Some(0), "in the first")?;
+        assert_same(scopes.resolve(&7).copied(), Some(1004), "in each")
+    }
+}

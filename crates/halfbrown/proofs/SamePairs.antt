@@ -1,0 +1,127 @@
+-- When two lists of pairs of distinct keys are equal as maps: they are of one length, and the right holds each pair of the left.
+use Rattle.std.proofs.Common.{◌≡◌, ℕ, ◌≤◌, Bool, true, false, true≢false, cond, List, [], ◌∷◌, length, get_or, slice_get, Option, None, Some, is_some, inl, inr, refl, sym, ap, ◌∙◌, arith}
+use Rattle.std.specs.Bool.{Decides, one_answer}
+use Rattle.std.specs.Cmp.{IsEquivalence}
+use Rattle.std.specs.HashMap.Eq.{lookup_congr}
+use Rattle.std.specs.List.{AllByRecursion, IsDistinct, list_all}
+use Rattle.std.specs.Map.{keys_of, lookup}
+use Rattle.std.specs.Option.{option_eq, option_map_or}
+use Rattle.std.proofs.lemmas.Bool.{cases_Bool}
+use Rattle.std.proofs.lemmas.List.Sums.{AllPass-from_list_all, list_all-from_AllPass}
+use Rattle.std.proofs.lemmas.Map.Entries.{place_from_lookup, lookup_from_place, length-keys_of}
+use Rattle.std.proofs.lemmas.Map.Keys.{IsDistinct-cons}
+use Rattle.std.proofs.lemmas.Map.Made.{is_some-lookup}
+use Rattle.std.proofs.lemmas.Map.Steps.{length-le_from_keys}
+use Rattle.std.proofs.lemmas.Option.{slice_get-get_or, slice_get_within, get_or_from_slice_get}
+use Rattle.halfbrown.specs.Equality.{same_value, same_pairs, holds_pair}
+use Rattle.halfbrown.specs.EqualityLaws.{OrderLaw, equal_has_same, same_pairs-Decides}
+use Rattle.halfbrown.specs.Pairs.{value_of}
+use Rattle.halfbrown.proofs.CallerLemmas.{lookup_permuted}
+
+module _ {V : Type 0} (value_eq : V → V → Bool) where
+  some_right : (a b : Option V) → option_eq value_eq a b ≡ true → is_some a ≡ true → is_some b ≡ true
+  some_right None b same some = absurd (true≢false (sym some))
+  some_right (Some v) None same some = same
+  some_right (Some v) (Some w) same some = refl
+
+  some_left : (a b : Option V) → option_eq value_eq a b ≡ true → is_some b ≡ true → is_some a ≡ true
+  some_left None None same some = some
+  some_left None (Some w) same some = same
+  some_left (Some v) b same some = refl
+
+  some_is_held : (v : V) (b : Option V) → option_eq value_eq (Some v) b ≡ option_map_or (value_eq v) b false
+  some_is_held v None = refl
+  some_is_held v (Some w) = refl
+
+module _ {K V : Type 0} (eq : K → K → Bool) where
+  -- no held key is equal to one that has no value
+  apart_from_none : (k : K) (ps : List (K × V)) → lookup (eq k) ps ≡ None → AllByRecursion (λ q. eq k q ≡ false) (keys_of ps)
+  apart_from_none k [] none = tt
+  apart_from_none k (p ∷ ps) none =
+      elim (cases_Bool (eq k p.0)) [
+        | inl same ↦ absurd (true≢false (ap is_some (ap (λ b. cond b (Some p.1) (lookup (eq k) ps)) (sym same) ∙ none)))
+        | inr other ↦ (other, apart_from_none k ps (ap (λ b. cond b (Some p.1) (lookup (eq k) ps)) (sym other) ∙ none))
+      ]
+
+module _ {K V : Type 0} (eq : K → K → Bool) (value_eq : V → V → Bool) (laws : IsEquivalence eq) (left right : List (K × V)) where
+  -- each key of one list has a value in the other, so it is at most as long
+  length_most : (ps qs : List (K × V)) → IsDistinct eq (keys_of ps) → ((k : K) → is_some (value_of eq ps k) ≡ true → is_some (value_of eq qs k) ≡ true) → length ps ≤ length qs
+  length_most ps qs distinct has =
+      let most = length-le_from_keys laws (keys_of ps) qs distinct (λ k held. has k (is_some-lookup (eq k) ps ∙ held)) in
+      omega (arith, most, length-keys_of ps)
+
+  module _ (left_distinct : IsDistinct eq (keys_of left)) where
+    -- a pair of the left is held on the right exactly where its key has the same value in both
+    held_by_value : (i : ℕ) (p : K × V) → slice_get left i ≡ Some p → same_value eq value_eq left right p.0 ≡ holds_pair eq value_eq right p
+    held_by_value i p at =
+        ap (λ v. option_eq value_eq v (value_of eq right p.0)) (lookup_from_place laws left i p.0 p.1 left_distinct at) ∙ some_is_held value_eq p.1 (value_of eq right p.0)
+
+    all_held : same_pairs eq value_eq left right ≡ true → list_all (holds_pair eq value_eq right) left ≡ true
+    all_held same =
+        list_all-from_AllPass (holds_pair eq value_eq right) left (λ i d within.
+        sym (held_by_value i (get_or left i d) (slice_get-get_or left i d within)) ∙ (same_pairs-Decides eq value_eq laws left right).0 same (get_or left i d).0)
+
+    -- what is held on the left has the same value on the right
+    same_of_held : list_all (holds_pair eq value_eq right) left ≡ true → (k : K) (v : V) → value_of eq left k ≡ Some v → same_value eq value_eq left right k ≡ true
+    same_of_held all k v found =
+        let at = place_from_lookup (eq k) left v found in
+        let p : K × V = (at.1, v) in
+        equal_has_same eq value_eq laws left right k at.1 at.3 ∙ held_by_value at.0 p at.2
+        ∙ ap (holds_pair eq value_eq right) (sym (get_or_from_slice_get left at.0 p p at.2))
+        ∙ AllPass-from_list_all (holds_pair eq value_eq right) left all at.0 p (slice_get_within left at.0 p at.2)
+
+    has_of_held : list_all (holds_pair eq value_eq right) left ≡ true → (k : K) (found : Option V) → value_of eq left k ≡ found → is_some found ≡ true → is_some (value_of eq right k) ≡ true
+    has_of_held all k None is some = absurd (true≢false (sym some))
+    has_of_held all k (Some v) is some = some_right value_eq (value_of eq left k) (value_of eq right k) (same_of_held all k v is) (ap is_some is)
+
+    -- where the lengths agree, the right has no key beside those
+    none_of_none : length left ≡ length right → list_all (holds_pair eq value_eq right) left ≡ true → (k : K) → value_of eq left k ≡ None
+        → (found : Option V) → value_of eq right k ≡ found → option_eq value_eq None found ≡ true
+    none_of_none lengths all k none None is = refl
+    none_of_none lengths all k none (Some w) is =
+        let more : List (K × V) = (k, w) ∷ left in
+        let distinct : IsDistinct eq (keys_of more) = IsDistinct-cons eq k (keys_of left) (apart_from_none eq k left none) left_distinct in
+        let has : (q : K) → is_some (value_of eq more q) ≡ true → is_some (value_of eq right q) ≡ true
+        = λ q some. elim (cases_Bool (eq q k)) [
+          | inl same ↦ ap is_some (lookup_congr eq laws.congr right q k same ∙ is)
+          | inr other ↦ has_of_held all q (value_of eq left q) refl (ap (λ b. is_some (cond b (Some w) (value_of eq left q))) (sym other) ∙ some)
+        ] in
+        absurd (omega (arith, length_most more right distinct has, lengths))
+
+    same_by : length left ≡ length right → list_all (holds_pair eq value_eq right) left ≡ true → (k : K) (found : Option V) → value_of eq left k ≡ found → same_value eq value_eq left right k ≡ true
+    same_by lengths all k None is = ap (λ v. option_eq value_eq v (value_of eq right k)) is ∙ none_of_none lengths all k is (value_of eq right k) refl
+    same_by lengths all k (Some v) is = same_of_held all k v is
+
+    module _ (right_distinct : IsDistinct eq (keys_of right)) where
+      same_lengths : same_pairs eq value_eq left right ≡ true → length left ≡ length right
+      same_lengths same =
+          let each = (same_pairs-Decides eq value_eq laws left right).0 same in
+          let least = length_most left right left_distinct (λ k. some_right value_eq (value_of eq left k) (value_of eq right k) (each k)) in
+          let most = length_most right left right_distinct (λ k. some_left value_eq (value_of eq left k) (value_of eq right k) (each k)) in
+          omega arith
+
+      pub same_pairs-by_pairs : Decides (same_pairs eq value_eq left right) ((length left ≡ length right) × (list_all (holds_pair eq value_eq right) left ≡ true))
+      same_pairs-by_pairs = (
+        λ same. (same_lengths same, all_held same),
+        λ both. (same_pairs-Decides eq value_eq laws left right).1 (λ k. same_by both.0 both.1 k (value_of eq left k) refl),
+      )
+
+      pub unequal_lengths : (length left ≡ length right → ⊥) → false ≡ same_pairs eq value_eq left right
+      unequal_lengths differ =
+          elim (cases_Bool (same_pairs eq value_eq left right)) [
+            | inl same ↦ absurd (differ (same_lengths same))
+            | inr other ↦ sym other
+          ]
+
+      pub all_is_same : length left ≡ length right → list_all (holds_pair eq value_eq right) left ≡ same_pairs eq value_eq left right
+      all_is_same lengths =
+          one_answer (list_all (holds_pair eq value_eq right) left) (same_pairs eq value_eq left right) (λ all. (lengths, all), λ both. both.1) same_pairs-by_pairs
+
+module _ {K V : Type 0} (eq : K → K → Bool) (value_eq : V → V → Bool) (laws : IsEquivalence eq) where
+  pub order_law : OrderLaw eq value_eq
+  order_law pairs reordered other distinct permuted =
+      let same = λ (k : K). ap (λ v. option_eq value_eq v (value_of eq other k)) (lookup_permuted eq laws pairs reordered distinct permuted k) in
+      one_answer (same_pairs eq value_eq reordered other) (same_pairs eq value_eq pairs other) (same_pairs-Decides eq value_eq laws reordered other) (
+        λ as_pairs k. same k ∙ (same_pairs-Decides eq value_eq laws pairs other).0 as_pairs k,
+        λ each. (same_pairs-Decides eq value_eq laws pairs other).1 (λ k. sym (same k) ∙ each k),
+      )

@@ -1,0 +1,15 @@
+-- The pairs so far are held: all are where the rest is, and the searches for the rest go on from here.
+use Rattle.std.proofs.Common.{◌≡◌, drop}
+use Rattle.std.specs.List.{list_all}
+use Rattle.half_store.specs.Work.{Work}
+use Rattle.halfbrown.specs.Costs.{key_hash, SearchesCost}
+use Rattle.halfbrown.specs.Equality.{holds_pair, keys_while_same}
+use Rattle.halfbrown.proofs.map.LimitedHashMap.is_held_by.Given as goal
+
+abbrev pub invariant-loop-index : goal.invariant-loop-index
+invariant-loop-index g l = record {
+  held : list_all (holds_pair g.K.PartialEq.eq g.V.PartialEq.eq l.other.pairs) l.self.pairs ≡ list_all (holds_pair g.K.PartialEq.eq g.V.PartialEq.eq l.other.pairs) (drop l.index l.self.pairs);
+  cost : (after : Work)
+      → SearchesCost g.K.PartialEq.eq (key_hash g.S2.BuildHasher g.S2.Hasher.Hasher g.K.Hash.hash_input) l.other (keys_while_same g.K.PartialEq.eq g.V.PartialEq.eq (drop l.index l.self.pairs) l.other.pairs) l.tally after
+      → SearchesCost g.K.PartialEq.eq (key_hash g.S2.BuildHasher g.S2.Hasher.Hasher g.K.Hash.hash_input) l.other (keys_while_same g.K.PartialEq.eq g.V.PartialEq.eq l.self.pairs l.other.pairs) l.initial.tally after;
+}

@@ -1,0 +1,87 @@
+-- What becomes of items that are collected into a map.
+use Rattle.std.specs.Prelude.{◌≡◌, ℕ, nat_le, Bool, true, false, not, List, [], ◌∷◌, ◌++◌, ◌⊎◌, Option, filter, reverse}
+use Rattle.std.specs.Iterator.{Yields}
+use Rattle.std.specs.Map.{keys_of}
+use Rattle.half_store.specs.declared.refusal.Refusal.{Refusal}
+use Rattle.halfbrown.specs.Costs.{Cost, no_cost, add_costs, insert_cost}
+use Rattle.halfbrown.specs.Growth.{making_needs, insert_needs, HasCapacityMade, IsGrantable, IsRefusal}
+use Rattle.halfbrown.specs.Insertion.{Puts}
+use Rattle.halfbrown.specs.Pairs.{put, value_of}
+use Rattle.halfbrown.specs.State.{State, IsState}
+
+-- of each class of equal keys the first, in order
+abbrev pub first_keys : {K : Type 0} → (K → K → Bool) → List K → List K
+first_keys eq [] = []
+first_keys eq (k ∷ ks) = k ∷ filter (λ q. not (eq k q)) (first_keys eq ks)
+
+module _ {K V : Type 0} (eq : K → K → Bool) where
+  -- the pairs once these items are put, one after another
+  abbrev pub put_all : List (K × V) → List (K × V) → List (K × V)
+  put_all pairs [] = pairs
+  put_all pairs (p ∷ items) = put_all (put eq pairs p.0 p.1) items
+
+  -- for each class of equal keys one pair, with the first key and the last value, in the order in which the keys first come
+  abbrev pub collected : List (K × V) → List (K × V)
+  collected items = put_all [] items
+
+  -- the value of the last item whose key equals k
+  abbrev pub last_value_of : List (K × V) → K → Option V
+  last_value_of items k = value_of eq (reverse items) k
+
+-- the calls of an iterator gave these items, and there may be more
+abbrev pub Gives : {I X : Type 0} → (I → Option X → I → Type 0) → I → List X → Type 0
+Gives {I} steps it items = (left : I) × Yields steps it items left
+
+-- these items are the first of a list
+abbrev pub AreFirst : {X : Type 0} → List X → List X → Type 0
+AreFirst {X} all items = (left : List X) × (all ≡ items ++ left)
+
+module _ {K V S : Type 0} (limit : ℕ) (eq : K → K → Bool) (hash : S → K → ℕ) where
+  -- from old to new the items are inserted, granted, one after another, and the cost is the sum of the insertions' costs
+  abbrev pub Inserts : State K V S → List (K × V) → State K V S → Cost → Type 0
+  Inserts old [] new cost = (new ≡ old) × (cost ≡ no_cost)
+  Inserts old (p ∷ items) new cost =
+      (next : State K V S) × (rest : Cost) × Puts limit eq old p.0 p.1 (insert_needs limit eq old p.0) next × IsState eq limit next
+      × Inserts next items new rest × (cost ≡ add_costs (insert_cost limit eq hash old p.0 true) rest)
+
+  -- items of which `given` holds, and an insertion of the last one that was refused, once those before it were inserted: what was spent counts
+  -- the refused one too
+  pub record IsRefusedInsertion (given : List (K × V) → Type 0) (old : State K V S) (why : Refusal) (new : State K V S) (cost : Cost) : Type 0 where
+    pub before : List (K × V)
+    pub key : K
+    pub value : V
+    pub were_given : given (before ++ (key, value) ∷ [])
+    pub spent : Cost
+    pub inserted : Inserts old before new spent
+    pub refused : IsRefusal (insert_needs limit eq new key) why
+    pub cost_is : cost ≡ add_costs spent (insert_cost limit eq hash new key false)
+
+  module _ (is_default : S → Type 0) (needed : ℕ) where
+    -- an empty map with capacity for so many pairs, and the default builder of its type
+    pub record IsMade (m : State K V S) : Type 0 where
+      pub form : m.is_vec ≡ nat_le needed limit
+      pub pairs : m.pairs ≡ []
+      pub capacity : HasCapacityMade needed m
+      pub builder : is_default m.builder
+      pub grantable : IsGrantable (making_needs needed)
+
+    -- a map of these items: it was made with capacity for so many pairs, and the items were inserted one after another, at this cost
+    pub record IsCollection (items : List (K × V)) (m : State K V S) (cost : Cost) : Type 0 where
+      pub pairs : m.pairs ≡ collected eq items
+      pub keys : keys_of m.pairs ≡ first_keys eq (keys_of items)
+      pub values : (k : K) → value_of eq m.pairs k ≡ last_value_of eq items k
+      pub builder : is_default m.builder
+      pub made : State K V S
+      pub is_made : IsMade made
+      pub inserted : Inserts made items m cost
+
+    -- a map that was made with capacity for so many pairs, and then an insertion that was refused
+    pub record IsRefusedItem (given : List (K × V) → Type 0) (why : Refusal) (cost : Cost) : Type 0 where
+      pub made : State K V S
+      pub is_made : IsMade made
+      pub reached : State K V S
+      pub insertion : IsRefusedInsertion given made why reached cost
+
+    -- why items of which `given` holds were not collected: the capacity to begin with was refused, or an insertion
+    abbrev pub IsRefusedCollection : (List (K × V) → Type 0) → Refusal → Cost → Type 0
+    IsRefusedCollection given why cost = (IsRefusal (making_needs needed) why × (cost ≡ no_cost)) ⊎ IsRefusedItem given why cost

@@ -1,0 +1,104 @@
+//! What `drain` returns: the pairs of a map, taken out of it in order.
+ghost use Rattle.std.specs.Prelude.{◌≡◌, ◌^◌, ◌<◌, [], length, Some, IfSome};
+ghost use Rattle.std.specs.Iterator.{at_most, UpTo as IsUpTo};
+ghost use Rattle.std.specs.Iterator.Runs.{YieldsInOrder};
+ghost use Rattle.std.specs.Iterator.SizeHint.{IsWithinCount};
+ghost use Rattle.halfbrown.specs.Drain.{rest, lender, map_after, Steps, KeepsAlong};
+ghost use Rattle.halfbrown.specs.State.{IsState, WithPairs};
+
+use crate::{Limit, LimitedHashMap, UpTo};
+use std::hash::{BuildHasher, Hash};
+use std::iter::FusedIterator;
+
+/// The pairs that `drain` takes out of a map that stores up to `N` pairs in a vector.
+///
+/// ```
+/// fn count(pairs: Drain<'_, u64, u32, 32, DefaultHashBuilder>) -> usize {
+///     pairs.len()
+/// }
+/// ```
+pub type Drain<'a, K, V, const N: usize, S> = LimitedDrain<'a, K, V, S, UpTo<N>>;
+
+/// The pairs that `LimitedHashMap::drain` takes out of a map, in order. It says how many are left, and stays at its end.
+/// Once it is dropped the map holds no pair.
+///
+/// ```
+/// for pair in map.drain() {
+///     pairs.push(pair)?;
+/// }
+/// ```
+pub struct LimitedDrain<'a, K: Eq + Hash, V, S: BuildHasher, L: Limit> {
+    // the map, with the pairs that are still to come, last first
+    map: &'a mut LimitedHashMap<K, V, S, L>,
+}
+
+impl<'a, K: Eq + Hash + Drop, V: Drop, S: BuildHasher, L: Limit> Drop
+    for LimitedDrain<'a, K, V, S, L> {
+    fn drop(self)
+        ensures after { WithPairs (map_after self.entry) [] self.exit.0.now }
+        ensures state { IsState K.eq L.LIMIT self.exit.0.now }
+    {
+        let LimitedDrain { map } = self;
+        map.clear();
+    }
+}
+
+impl<K: Eq + Hash, V, S: BuildHasher, L: Limit> LimitedHashMap<K, V, S, L> {
+    /// Takes all pairs out and returns them, in order. Once what it returns is dropped, also before its end, the map holds
+    /// no pair: those that were not taken from it are dropped too. The form, the capacity and the builder stay.
+    ///
+    /// It needs no memory, and nothing is hashed or compared. The order of the pairs is turned round first, and in a table
+    /// what stands in each bucket; so each step removes the last pair.
+    ///
+    /// ```
+    /// let mut pairs = ages.drain();
+    /// let first = pairs.next(); // 1 and 36
+    /// drop(pairs); // and with it the other pairs
+    /// let count = ages.len(); // 0
+    /// ```
+    pub fn drain(&mut self) -> LimitedDrain<'_, K, V, S, L>
+        ensures pairs { rest result ≡ self.old.pairs }
+        ensures small { length (rest result) < 2 ^ 63 }
+        ensures same_map { lender result ≡ self.entry.ghost_name }
+        ensures after { WithPairs self.old [] (map_after result) }
+        ensures runs { YieldsInOrder (Steps {K = K} {V = V} {S = S} {L = L} {H = S.Hasher}) rest }
+        ensures keeps { KeepsAlong result }
+    {
+        self.reverse();
+        LimitedDrain { map: self }
+    }
+}
+
+impl<'a, K: Eq + Hash + Drop, V: Drop, S: BuildHasher, L: Limit> Iterator
+    for LimitedDrain<'a, K, V, S, L> {
+    type Item = (K, V);
+
+    ghost next_gives = { Steps };
+
+    ghost remaining = { λ s. at_most (length (rest s)) };
+
+    #[inline]
+    fn next(&mut self) -> Option<(K, V)> {
+        let last = self.map.len().checked_sub(1)?;
+        Some(self.map.take_at(last))
+    }
+
+    fn size_hint(&self) -> (usize, Option<usize>)
+        ensures lower { IsWithinCount result.0 (at_most (length (rest self.now))) }
+        ensures upper { IfSome result.1 (IsUpTo (at_most (length (rest self.now)))) }
+        ensures exact { result ≡ (length (rest self.now), Some (length (rest self.now))) }
+    {
+        let len = self.map.len();
+        (len, Some(len))
+    }
+}
+
+impl<'a, K: Eq + Hash + Drop, V: Drop, S: BuildHasher, L: Limit> ExactSizeIterator
+    for LimitedDrain<'a, K, V, S, L> {
+    fn len(&self) -> usize {
+        self.map.len()
+    }
+}
+
+impl<'a, K: Eq + Hash + Drop, V: Drop, S: BuildHasher, L: Limit> FusedIterator
+    for LimitedDrain<'a, K, V, S, L> {}

@@ -1,0 +1,14 @@
+//! The iterators of a map. Each goes from the first pair to the last, in both forms.
+mod into_iter;
+mod iter;
+mod iter_mut;
+mod keys;
+mod values;
+mod values_mut;
+
+pub use into_iter::IntoIter;
+pub use iter::Iter;
+pub use iter_mut::IterMut;
+pub use keys::Keys;
+pub use values::Values;
+pub use values_mut::ValuesMut;

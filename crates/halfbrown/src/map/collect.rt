@@ -1,0 +1,183 @@
+//! Maps made from items.
+ghost use Rattle.std.specs.Prelude.{◌≡◌, ◌⊎◌, ℕ, true, List, IfOk, IfErr, OnOk};
+ghost use Rattle.std.specs.Iterator.{IsFinite, Drains};
+ghost use Rattle.std.specs.Iterator.SizeHint.{IsWithinCount};
+ghost use Rattle.halfbrown.specs.Collection.{Gives, AreFirst, Inserts, IsCollection, IsRefusedCollection, IsRefusedInsertion};
+ghost use Rattle.halfbrown.specs.Costs.{key_hash, Cost, GrewBy};
+ghost use Rattle.halfbrown.specs.State.{IsState};
+
+use super::LimitedHashMap;
+use crate::Limit;
+use half_store::{Refusal, Tally};
+use std::alloc::{AllocError, Global};
+use std::hash::{BuildHasher, Hash};
+
+impl<K: Eq + Hash + Drop, V: Drop, S: BuildHasher + Default + Drop, L: Limit> LimitedHashMap<
+    K,
+    V,
+    S,
+    L,
+> {
+    /// A map of these items, with the builder type's own default.
+    ///
+    /// It is made with capacity for as many pairs as the items' lower size hint says, and is a table where that is more than
+    /// the limit. Then each item is inserted, in order: of equal keys the first stays, with the last value.
+    ///
+    /// The items must end. Fails as `with_capacity` and `insert` do, and then drops what was collected and the rest.
+    ///
+    /// ```
+    /// let ages = Ages::from_iter(alloc, [(1, 36), (2, 41), (1, 37)])?; // 1 is 37, and then 2 is 41
+    /// ```
+    pub fn from_iter<I: IntoIterator<Item = (K, V)>>(
+        alloc: Global,
+        items: I,
+    ) -> Result<Self, Refusal>
+        requires { (it : I.IntoIter) → I.into_iter_gives items it
+            → I.IntoIter.can_next it × IsFinite (I.IntoIter.remaining it) }
+        // The iterator gave all its items, and its size hint was this number.
+        ensures collected { IfOk result (λ m. (it : I.IntoIter) × (gave : List (K × V)) × (hint : ℕ) × (cost : Cost)
+            × I.into_iter_gives items it × Drains I.IntoIter.next_gives it gave
+            × IsWithinCount hint (I.IntoIter.remaining it)
+            × IsCollection L.LIMIT K.eq (key_hash S.BuildHasher S.Hasher.Hasher K.hash_input) S.is_default hint gave
+            m cost) }
+        ensures refused { IfErr result (λ why. (it : I.IntoIter) × (hint : ℕ) × (cost : Cost)
+            × I.into_iter_gives items it × IsWithinCount hint (I.IntoIter.remaining it)
+            × IsRefusedCollection L.LIMIT K.eq (key_hash S.BuildHasher S.Hasher.Hasher K.hash_input) S.is_default hint
+            (Gives I.IntoIter.next_gives it) why cost) }
+        ensures state { IfOk result (IsState K.eq L.LIMIT) }
+    {
+        LimitedHashMap::from_iter_counted(alloc, items, &mut Tally::new())
+    }
+
+    /// `from_iter`, with its work counted: that of the insertions.
+    ///
+    /// ```
+    /// let mut tally = Tally::new();
+    /// let ages = Ages::from_iter_counted(alloc, [(1, 36), (2, 41)], &mut tally)?; // one comparison
+    /// ```
+    pub fn from_iter_counted<I: IntoIterator<Item = (K, V)>>(
+        alloc: Global,
+        items: I,
+        tally: &mut Tally,
+    ) -> Result<Self, Refusal>
+        requires { (it : I.IntoIter) → I.into_iter_gives items it
+            → I.IntoIter.can_next it × IsFinite (I.IntoIter.remaining it) }
+        ensures collected { IfOk result (λ m. (it : I.IntoIter) × (gave : List (K × V)) × (hint : ℕ) × (cost : Cost)
+            × I.into_iter_gives items it × Drains I.IntoIter.next_gives it gave
+            × IsWithinCount hint (I.IntoIter.remaining it)
+            × IsCollection L.LIMIT K.eq (key_hash S.BuildHasher S.Hasher.Hasher K.hash_input) S.is_default hint gave
+            m cost × GrewBy cost tally.old tally.new) }
+        ensures refused { IfErr result (λ why. (it : I.IntoIter) × (hint : ℕ) × (cost : Cost)
+            × I.into_iter_gives items it × IsWithinCount hint (I.IntoIter.remaining it)
+            × IsRefusedCollection L.LIMIT K.eq (key_hash S.BuildHasher S.Hasher.Hasher K.hash_input) S.is_default hint
+            (Gives I.IntoIter.next_gives it) why cost × GrewBy cost tally.old tally.new) }
+        // A vector has hashed nothing.
+        ensures nothing_hashed { IfOk result (λ m. m.is_vec ≡ true → tally.new.asked ≡ tally.old.asked) }
+        ensures state { IfOk result (IsState K.eq L.LIMIT) }
+    {
+        let items = items.into_iter();
+        let hint = items.size_hint().0;
+        LimitedHashMap::collect(alloc, hint, items, tally)
+    }
+
+    /// A map of these pairs, with the builder type's own default: `from_iter` of the array, which `hashmap!` calls.
+    ///
+    /// ```
+    /// let ages = Ages::from_array(alloc, [(1, 36), (2, 41)])?; // two ages
+    /// ```
+    pub fn from_array<const N: usize>(alloc: Global, pairs: [(K, V); N]) -> Result<Self, Refusal>
+        ensures collected { IfOk result (λ m. (cost : Cost)
+            × IsCollection L.LIMIT K.eq (key_hash S.BuildHasher S.Hasher.Hasher K.hash_input) S.is_default N pairs
+            m cost) }
+        ensures refused { IfErr result (λ why. (why ≡ Refusal.Memory) ⊎ ((cost : Cost)
+            × IsRefusedCollection L.LIMIT K.eq (key_hash S.BuildHasher S.Hasher.Hasher K.hash_input) S.is_default N
+            (AreFirst pairs) why cost)) }
+        ensures state { IfOk result (IsState K.eq L.LIMIT) }
+    {
+        // A vector is gone over whatever the size of a pair is.
+        let Ok(pairs) = Vec::from_array(alloc, pairs) else {
+            return Err(Refusal::Memory);
+        };
+        LimitedHashMap::collect(alloc, N, pairs.into_iter(), &mut Tally::new())
+    }
+
+    // A map made with this capacity, and the items inserted.
+    fn collect<I: Iterator<Item = (K, V)>>(
+        alloc: Global,
+        capacity: usize,
+        items: I,
+        tally: &mut Tally,
+    ) -> Result<Self, Refusal>
+        requires can { I.can_next items }
+        requires ends { IsFinite (I.remaining items) }
+        ensures collected { IfOk result (λ m. (gave : List (K × V)) × (cost : Cost) × Drains I.next_gives items gave
+            × IsCollection L.LIMIT K.eq (key_hash S.BuildHasher S.Hasher.Hasher K.hash_input) S.is_default capacity
+            gave m cost × GrewBy cost tally.old tally.new) }
+        ensures refused { IfErr result (λ why. (cost : Cost)
+            × IsRefusedCollection L.LIMIT K.eq (key_hash S.BuildHasher S.Hasher.Hasher K.hash_input) S.is_default
+            capacity (Gives I.next_gives items) why cost × GrewBy cost tally.old tally.new) }
+        ensures nothing_hashed { IfOk result (λ m. m.is_vec ≡ true → tally.new.asked ≡ tally.old.asked) }
+        ensures state { IfOk result (IsState K.eq L.LIMIT) }
+    {
+        let mut map = LimitedHashMap::with_capacity_and_hasher(alloc, capacity, S::default())?;
+        map.insert_all(items, tally)?;
+        Ok(map)
+    }
+}
+
+impl<K: Eq + Hash + Drop, V: Drop, S: BuildHasher, L: Limit> LimitedHashMap<K, V, S, L> {
+    // Inserts the items, in order. On error those before the refused one stay.
+    fn insert_all<I: Iterator<Item = (K, V)>>(
+        &mut self,
+        items: I,
+        tally: &mut Tally,
+    ) -> Result<(), Refusal>
+        requires can { I.can_next items }
+        requires ends { IsFinite (I.remaining items) }
+        ensures ok { OnOk result ((gave : List (K × V)) × (cost : Cost) × Drains I.next_gives items gave
+            × Inserts L.LIMIT K.eq (key_hash S.BuildHasher S.Hasher.Hasher K.hash_input) self.old gave self.new cost
+            × GrewBy cost tally.old tally.new) }
+        ensures err { IfErr result (λ why. (cost : Cost)
+            × IsRefusedInsertion L.LIMIT K.eq (key_hash S.BuildHasher S.Hasher.Hasher K.hash_input)
+            (Gives I.next_gives items) self.old why self.new cost × GrewBy cost tally.old tally.new) }
+    {
+        for (key, value) in items {
+            self.insert_counted(key, value, tally)?;
+        }
+        Ok(())
+    }
+}
+
+// Beside the inherent call, for `collect` and the like.
+impl<K: Eq + Hash + Drop, V: Drop, S: BuildHasher + Default + Drop, L: Limit> FromIterator<(K, V)>
+    for LimitedHashMap<K, V, S, L> {
+    type Alloc = Global;
+
+    ghost from_iter_gives = { λ items m. (hint : ℕ) × (cost : Cost)
+        × IsCollection L.LIMIT K.eq (key_hash S.BuildHasher S.Hasher.Hasher K.hash_input) S.is_default hint items
+        m cost };
+
+    fn from_iter<I: IntoIterator<Item = (K, V)>>(
+        alloc: Global,
+        items: I,
+    ) -> Result<Self, AllocError> {
+        match LimitedHashMap::from_iter(alloc, items) {
+            Ok(map) => Ok(map),
+            Err(_) => Err(AllocError),
+        }
+    }
+}
+
+// On error the items before the refused one stay.
+impl<K: Eq + Hash + Drop, V: Drop, S: BuildHasher, L: Limit> Extend<(K, V)>
+    for LimitedHashMap<K, V, S, L> {
+    ghost extend_gives = { λ old items new. (cost : Cost)
+        × Inserts L.LIMIT K.eq (key_hash S.BuildHasher S.Hasher.Hasher K.hash_input) old items new cost };
+
+    fn extend<I: IntoIterator<Item = (K, V)>>(&mut self, items: I) -> Result<(), AllocError> {
+        match self.insert_all(items.into_iter(), &mut Tally::new()) {
+            Ok(()) => Ok(()),
+            Err(_) => Err(AllocError),
+        }
+    }
+}

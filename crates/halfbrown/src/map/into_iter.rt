@@ -1,0 +1,77 @@
+//! A map in a `for` loop, lent or by value.
+ghost use Rattle.std.specs.Prelude.{◌≡◌, ◌^◌, ◌<◌, length};
+ghost use Rattle.std.specs.Borrow.{sem};
+ghost use Rattle.std.specs.Map.Iter.{GivesInOrder, ShowsValuesInOrder};
+ghost use Rattle.halfbrown.specs.State.{IsState};
+
+use super::LimitedHashMap;
+use crate::Limit;
+use crate::iter::{IntoIter, Iter};
+use std::hash::{BuildHasher, Hash};
+use std::iter::IntoIterator;
+
+impl<'a, K: Eq + Hash, V, S: BuildHasher, L: Limit> IntoIterator
+    for &'a LimitedHashMap<K, V, S, L> {
+    ghost use Rattle.halfbrown.specs.Iter.{pairs_left, ShowsPairsInOrder, ShowsPairValuesInOrder};
+
+    type Item = (&'a K, &'a V);
+
+    type IntoIter = Iter<'a, K, V>;
+
+    ghost into_iter_gives = { λ map it. (pairs_left it ≡ map.now.pairs) × (length map.now.pairs < 2 ^ 63)
+        × ShowsPairsInOrder K V × ShowsPairValuesInOrder K V × IsState K.eq L.LIMIT map.now };
+
+    #[inline(always)]
+    fn into_iter(self) -> Iter<'a, K, V> {
+        self.iter()
+    }
+}
+
+impl<'a, K: Eq + Hash, V, S: BuildHasher, L: Limit> IntoIterator
+    for &'a mut LimitedHashMap<K, V, S, L> {
+    ghost use Rattle.halfbrown.specs.Iter.{pairs_left, ShowsPairsInOrder, ShowsPairValuesInOrder};
+    ghost use Rattle.halfbrown.specs.Lending.{Rests};
+
+    type Item = (&'a K, &'a V);
+
+    type IntoIter = Iter<'a, K, V>;
+
+    ghost into_iter_gives = { λ map it. (pairs_left it ≡ map.now.pairs) × (length map.now.pairs < 2 ^ 63)
+        × ShowsPairsInOrder K V × ShowsPairValuesInOrder K V × IsState K.eq L.LIMIT map.now };
+
+    // The values can be read alone, as upstream has it. `iter_mut` lends them to be written.
+    #[inline(always)]
+    fn into_iter(self) -> Iter<'a, K, V>
+        ensures* rests { sem 𝓛 (Rests K.row V.row S.row L.row S.Hasher.row K.Hash S.BuildHasher S.Hasher.Hasher L.Limit
+            self.entry) }
+        ensures into_iter_gives { (pairs_left result ≡ self.old.pairs) × (length self.old.pairs < 2 ^ 63)
+            × ShowsPairsInOrder K V × ShowsPairValuesInOrder K V × IsState K.eq L.LIMIT self.old }
+    {
+        (&*self).into_iter()
+    }
+}
+
+impl<K: Eq + Hash + Drop, V: Drop, S: BuildHasher + Drop, L: Limit> IntoIterator
+    for LimitedHashMap<K, V, S, L> {
+    type Item = (K, V);
+
+    type IntoIter = IntoIter<K, V>;
+
+    ghost into_iter_gives = { λ map it. (it ≡ map.pairs) × (length map.pairs < 2 ^ 63) × GivesInOrder (K × V)
+        × ShowsValuesInOrder (λ (pair : K × V). pair) × IsState K.eq L.LIMIT map };
+
+    // The builder and the table are dropped at once: the iterator has the two columns alone.
+    fn into_iter(self) -> IntoIter<K, V> {
+        let LimitedHashMap {
+            columns,
+            form,
+            builder,
+            alloc: _,
+            limit: _,
+        } = self;
+        drop(form);
+        drop(builder);
+        let (keys, values) = columns.into_columns();
+        IntoIter::new(keys, values)
+    }
+}

@@ -1,0 +1,36 @@
+//! Keeping the pairs that a closure accepts.
+ghost use Rattle.std.specs.Prelude.{◌≡◌, ◌≤◌, length};
+ghost use Rattle.std.specs.Map.Calls.{CalledAtPair, TakesPair, CallableOnEachPair, RetainsPairs};
+ghost use Rattle.halfbrown.specs.State.{IsState};
+
+use super::LimitedHashMap;
+use crate::Limit;
+use std::hash::{BuildHasher, Hash};
+
+impl<K: Eq + Hash, V, S: BuildHasher, L: Limit> LimitedHashMap<K, V, S, L> {
+    /// Keeps the pairs that `f` accepts. It is called at each pair once, from first to last, and may change the value; the
+    /// pairs that it accepts stay in their order, with the values that it left.
+    ///
+    /// The form, the capacity and the builder stay. No memory is taken, nothing is hashed and no keys are compared.
+    ///
+    /// ```
+    /// ages.retain(|_, age| {
+    ///     *age = age.saturating_add(1);
+    ///     *age < 40
+    /// }); // those who are below 40 in a year, with their ages then
+    /// ```
+    pub fn retain<F: FnMut(&K, &mut V) -> bool>(&mut self, f: F)
+    where
+        K: Drop,
+        V: Drop,
+        requires { CallableOnEachPair (CalledAtPair F.FnMut) (TakesPair F.FnMut) f self.old.pairs }
+        ensures kept { RetainsPairs (CalledAtPair F.FnMut) f self.old.pairs self.new.pairs }
+        ensures len { length self.new.pairs ≤ length self.old.pairs }
+        ensures form { self.new.is_vec ≡ self.old.is_vec }
+        ensures capacity { self.new.capacity ≡ self.old.capacity }
+        ensures builder { self.new.builder ≡ self.old.builder }
+        ensures state { IsState K.eq L.LIMIT self.new }
+    {
+        self.form.retain(&mut self.columns, f);
+    }
+}
