@@ -1,7 +1,7 @@
 # make run < FILE   proves and builds halfmap, where something has changed, and runs it on the lines of FILE
 # make try < FILE   runs halfmap on the lines of FILE at once, with nothing proved
 # make test         proves everything from nothing, tries the core edits, and runs every test and program
-# make edits        tries the other edits that the prover must refuse, several at a time
+# make edits        tries the other edits that the prover must refuse
 # make bench        proves and builds half_bench and halfmap, where something has changed, and prints the tables of docs/SPEED.md
 # make fmt          lays out the files of every crate
 

@@ -4,15 +4,17 @@ few of crates/NAME/must-fail, one after another.
 
     tests/edits.py [WORD..]    tries all of them, or those whose NAME/FILE has one of the words
 
-The crates are proved first, where out/ does not have that yet. Then several edits are tried at a time, each in a copy of the
-repository with that out/, as many as there are processors and memory for. An edit is tried on the function that it changes,
-which takes the least time, and where that is still proved, on the whole crate.
-
-An edit passes where the prover says what it could not prove. It fails where it cannot be applied, where it does not reach the
-prover, where only a proof file lost a name, and where the crate is still proved. Each edit has a line, and the last line is
+The crates are proved first, where out/ does not have that yet. Then several checks run at a time, each in a copy of the
+repository with that out/, as many as there are processors and memory for. A check tries several edits, each of which changes
+other functions: a caller is proved by the contracts of what it calls, so that no edit shows in another's function. An edit
+passes there where the prover names a goal of a function that it changes. Every other one is tried once more, alone, and
+passes where the prover says what it could not prove. It fails where it cannot be applied, where it does not reach the prover,
+where only a proof file lost a name, and where the crate is still proved. Each edit has a line, and the last line is
 "N passed, M failed".
 """
 
+import collections
+import math
 import os
 import pathlib
 import queue
@@ -31,95 +33,163 @@ CRATES = ("halfbrown", "half_store", "halfmap", "half_tests", "half_uses", "test
 # What a check of one job takes at most.
 MEMORY = 2_000_000_000
 # Where antt cannot read a text, or a proof misses a name, nothing is said of a contract.
-PLACED = re.compile(r"(?:note: )?(?:\./)?(src|specs|proofs)/\S+:\d+:\d+: ?(?:error: (`[^`]*`: )?)?(.*)")
-NO_NAME = re.compile(r"has no field|is not in scope|has no `|was not admitted|is no name")
+PLACED = re.compile(r"(?:note: )?(?:\./)?((?:src|specs|proofs)/\S+?):(\d+):\d+: ?(?:error: (`[^`]*`: )?)?(.*)")
+NO_NAME = re.compile(r"has no field|is not in scope|has no `|was not admitted|was rejected, was not checked|is no name")
+# How many edits are tried in one check.
+BATCH = 16
+FUNCTION = re.compile(r"( *)(?:pub(?:\([^)]*\))? )?(?:const |unsafe )*fn (\w+)")
+IMPL = re.compile(r"(?:[\w:]*?(\w+)(?:<.*>)?\s+for )?(&\S* )?(mut )?(\w+)(?:<.*>)?", re.S)
 
 
-def read_edit(path, crate):
-    """Returns the changed texts by their file, and the place of the first change. Raises ValueError where it cannot be applied."""
-    file, old, texts, first = None, None, {}, None
-    for line in path.read_text().splitlines():
-        if line.startswith("file: "):
-            file = crate / line[6:].strip()
-        elif line.startswith("old: "):
-            old = line[5:]
-        elif line.startswith("new:"):
-            if not file or not old or not file.is_file():
-                raise ValueError("its lines name no file and no old text before a new one")
-            text = texts.get(file) or file.read_text()
-            if text.count(old) != 1:
-                raise ValueError(f"{file.relative_to(crate)} has an old text {text.count(old)} times, and not once")
-            first = first or (file, text.index(old))
-            texts[file] = text.replace(old, line[4:].removeprefix(" "))
-            old = None
-    if not texts:
-        raise ValueError("it has no old and new text")
-    return texts, first
+class Edit:
+    """An edit of a crate: a change of its code."""
+
+    def __init__(self, path):
+        self.path, self.crate = path, path.parent.name
+        self.name = f"{self.crate}/{path.stem}"
+
+    def apply(self, texts, crate):
+        """Puts the edit into these texts by their file, which are read where they are not there yet, and returns each changed
+        place as its file and line. Raises ValueError, and changes nothing, where it cannot be applied."""
+        file, old, changed, places = None, None, {}, []
+        for line in self.path.read_text().splitlines():
+            if line.startswith("file: "):
+                file = crate / line[6:].strip()
+            elif line.startswith("old: "):
+                old = line[5:]
+            elif line.startswith("new:"):
+                if not file or not old or not file.is_file():
+                    raise ValueError("its lines name no file and no old text before a new one")
+                text = changed.get(file) or texts.get(file) or file.read_text()
+                if text.count(old) != 1:
+                    raise ValueError(f"{file.relative_to(crate)} has an old text {text.count(old)} times, and not once")
+                new = line[4:].removeprefix(" ")
+                same = len(os.path.commonprefix([old, new]))
+                places.append((file, text[: text.index(old) + same].count("\n")))
+                changed[file] = text.replace(old, new)
+                old = None
+        if not changed:
+            raise ValueError("it has no old and new text")
+        texts.update(changed)
+        return places
 
 
-def changed_function(file, at):
-    """Returns the name of the function at this place of the file, or None. In an impl it begins with the type's, and a trait's
-    comes after that."""
-    if file.suffix != ".rt":
+class Function:
+    """A function of a source file: its first and last line, and the words that the name has that a check prints."""
+
+    def __init__(self, file, lines, at):
+        """The function around this line of the file. Raises ValueError where there is none."""
+        tops = [number for number in range(at + 1) if FUNCTION.match(lines[number])]
+        if file.suffix != ".rt" or not tops:
+            raise ValueError("it changes no function")
+        self.file, self.first = file, tops[-1]
+        indent, self.name = FUNCTION.match(lines[self.first]).groups()
+        ends = (number for number in range(self.first, len(lines)) if re.match(rf"{indent}}}|{indent}\S.*{{.*}}$", lines[number]))
+        self.last = next(ends, len(lines))
+        if at > self.last:
+            raise ValueError("it changes no function")
+        headers = re.findall(r"^impl\b(?:<[^{}]*?>)? ([^{}]*?) \{", "\n".join(lines[: self.first]), re.M) if indent else []
+        parts = IMPL.fullmatch(headers[-1]) if headers else None
+        trait, lent, mutably, kind = parts.groups(default="") if parts else ("", "", "", "")
+        self.kind, self.trait = f"{'Ref' if lent else ''}{'Mut' if mutably else ''}{kind}", "" if trait == "Drop" else trait
+        self.module = file.parent.parent.name if file.stem in ("lib", "main") else file.stem
+
+    def is_called(self, printed):
+        """Returns whether a check calls the function so."""
+        *above, name = printed.split("::")
+        wanted = rf"{self.kind}(\+.*)?{self.trait and self.trait + '.*'}" if self.kind else self.module
+        return name == self.name and bool(re.fullmatch(wanted, above[-1]))
+
+    def is_around(self, place):
+        """Returns whether this place of a source file, its path and line, is in the function."""
+        path, line = place
+        return self.file.as_posix().endswith(f"/{path}") and self.first <= line - 1 <= self.last
+
+
+def functions_of(places, texts):
+    """Returns the functions at these places of the texts. Raises ValueError where one is in no function."""
+    return [Function(file, texts[file].split("\n"), at) for file, at in places]
+
+
+def in_proofs(path):
+    return path.startswith("proofs/")
+
+
+class Said:
+    """What a check printed."""
+
+    def __init__(self, printed):
+        # A message may go on in indented lines.
+        self.lines = re.sub(r"\n {2,}", " ", printed).splitlines()
+        placed = [(line, *PLACED.fullmatch(line).groups()) for line in self.lines if PLACED.fullmatch(line)]
+        errors = [it for it in placed if ": error" in it[0]]
+        unread = [line for line, path, _, name, text in errors if not in_proofs(path) and (not name or NO_NAME.search(text))]
+        ended = re.search(r"^logic=(not-)?proved", printed, re.M)
+        self.unread = unread[0] if unread else None if ended else (self.lines or ["nothing was said"])[-1]
+        self.is_proved = bool(ended) and not ended[1]
+        self.told = [it for it in placed if it in errors or it[0].startswith("note: ")]
+        self.goals = [it for it in self.told if not in_proofs(it[1]) or not NO_NAME.search(it[4])]
+        self.unproved = [line for line in self.lines if re.match("fn .*: no", line)]
+
+    def judge(self):
+        """Returns whether the prover refused the crate, and why; or None where it is proved."""
+        if self.unread:
+            return False, f"it does not reach the prover: {self.unread}"
+        if self.is_proved:
+            return None
+        if not self.goals and self.told:
+            return False, f"only a proof file lost a name: {self.told[0][0]}"
+        first = self.goals[0][0] if self.goals else (self.unproved or self.lines)[0]
+        return True, first.removeprefix("note: ")
+
+    def goal_of(self, functions):
+        """Returns what names a goal of one of these functions that is not proved, or None. That a function calls one that is
+        not proved is no goal of its own."""
+        for function in functions:
+            for line, path, number, _, _ in self.goals:
+                if function.is_around((path, int(number))):
+                    return line.removeprefix("note: ")
+            for line in self.unproved:
+                printed = line.split()[1].rstrip(":")
+                if not function.is_called(printed):
+                    continue
+                if "did not prove" in line:
+                    return line
+                folder = f"proofs/{printed.split('::', 1)[1].replace('::', '/')}/"
+                for told, path, _, _, _ in self.goals:
+                    if path.startswith(folder) and ": error" in told:
+                        return told
         return None
-    above = file.read_text()[: at + 1]
-    functions = re.findall(r"^( *)(?:pub(?:\([^)]*\))? )?(?:const |unsafe )*fn (\w+)", above, re.M)
-    headers = re.findall(r"^impl\b(?:<[^{}]*?>)? ([^{}]*?) \{", above, re.M)
-    if not functions:
-        return None
-    indent, name = functions[-1]
-    parts = re.fullmatch(r"(?:[\w:]*?(\w+)(?:<.*>)?\s+for )?(&\S* )?(mut )?(\w+)(?:<.*>)?", headers[-1], re.S) if headers else None
-    if not indent or not parts:
-        return name
-    trait, lent, mutably, kind = parts.groups(default="")
-    return f"{'Ref' if lent else ''}{'Mut' if mutably else ''}{kind}{trait}::{name}"
-
-
-def judge(said):
-    """Returns whether the prover refused the crate, and why, by what a check printed; or None where it is proved."""
-    # A message may go on in indented lines.
-    lines = re.sub(r"\n {2,}", " ", said).splitlines()
-    placed = [(line, *PLACED.fullmatch(line).groups()) for line in lines if PLACED.fullmatch(line)]
-    for line, part, name, text in placed:
-        if ": error" in line and part != "proofs" and (not name or NO_NAME.search(text)):
-            return False, f"it does not reach the prover: {line}"
-    ended = re.search(r"^logic=(not-)?proved|^only=(\d+) proved=(\d+)$", said, re.M)
-    if not ended:
-        return False, f"it does not reach the prover: {lines[-1] if lines else 'nothing was said'}"
-    if ended[0] == "logic=proved" or (ended[2] and ended[2] == ended[3]):
-        return None
-    told = [it for it in placed if ": error" in it[0] or it[0].startswith("note: ")]
-    goals = [line for line, part, _, text in told if part != "proofs" or not NO_NAME.search(text)]
-    if not goals and told:
-        return False, f"only a proof file lost a name: {told[0][0]}"
-    unproved = [it for it in lines if re.match("fn .*: no", it)]
-    return True, (goals or unproved or lines)[0].removeprefix("note: ")
 
 
 class Lane(threading.Thread):
-    """Tries edits in a copy of the repository of its own, as long as there are some and the run is not stopped."""
+    """Tries edits in a copy of the repository of its own, until each has an answer or the run is stopped."""
 
-    def __init__(self, folder, edits, tell):
+    def __init__(self, folder, tries, answers):
         super().__init__(daemon=True)
-        self.folder, self.edits, self.tell = folder, edits, tell
+        self.folder, self.tries, self.answers = folder, tries, answers
         self.running, self.is_stopped = None, False
 
     def run(self):
         for name in ("HANDLES", "crates.txt"):
             shutil.copy(TOP / name, self.folder)
         shutil.copytree(TOP / "crates", self.folder / "crates", ignore=shutil.ignore_patterns("must-fail"))
-        while not self.is_stopped:
+        while not self.is_stopped and not self.answers.are_all():
             try:
-                edit = self.edits.get_nowait()
+                edits = self.tries.get(timeout=1)
             except queue.Empty:
-                return
+                continue
             began = time.monotonic()
             try:
-                passes, why = self.attempt(edit)
+                found = self.attempt(edits)
             except (OSError, ValueError) as error:
-                passes, why = False, f"it cannot be applied: {error}"
-            if not self.is_stopped:
-                self.tell(edit, passes, why, time.monotonic() - began)
+                found = [(False, f"it cannot be applied: {error}")] if len(edits) == 1 else [None] * len(edits)
+            seconds = (time.monotonic() - began) / len(edits)
+            for edit, it in zip(edits, [] if self.is_stopped else found):
+                if it:
+                    self.answers.tell(edit, *it, seconds)
+                else:
+                    self.tries.put([edit])
 
     def stop(self):
         self.is_stopped = True
@@ -127,28 +197,84 @@ class Lane(threading.Thread):
             self.running.terminate()
         self.join()
 
-    def attempt(self, edit):
-        crate = self.folder / "crates" / edit.parent.name
-        texts, (file, at) = read_edit(edit, crate)
-        function = changed_function(file, at)
+    def attempt(self, edits):
+        """Returns whether each of these edits of one crate passes, and why; or None for one that has to be tried alone."""
+        crate, texts = self.folder / "crates" / edits[0].crate, {}
+        places = [edit.apply(texts, crate) for edit in edits]
         before = {it: it.read_text() for it in texts}
         try:
             for it, text in texts.items():
                 it.write_text(text)
-            judged = self.check(crate, "--only", function) if function else None
-            if not self.is_stopped and (judged is None or not judged[0]):
-                judged = self.check(crate)
-            return judged or (False, "the crate is still proved")
+            said = self.check(crate)
+            if len(edits) == 1:
+                return [said.judge() or (False, "the crate is still proved")]
+            goals = [said.goal_of(functions_of(it, texts)) if not said.unread else None for it in places]
+            return [(True, it) if it else None for it in goals]
         finally:
             for it, text in before.items():
                 it.write_text(text)
 
-    def check(self, crate, *flags):
-        words = ["rt", "check", "--jobs", "1", *flags]
+    def check(self, crate):
         how = {"stdin": subprocess.DEVNULL, "stdout": subprocess.PIPE, "stderr": subprocess.STDOUT}
-        self.running = subprocess.Popen(words, cwd=crate, errors="replace", **how)
+        self.running = subprocess.Popen(["rt", "check", "--jobs", "1"], cwd=crate, errors="replace", **how)
         said, _ = self.running.communicate()
-        return judge(said)
+        return Said(said)
+
+
+class Answers:
+    """What was found of each edit. Each is printed as it comes."""
+
+    def __init__(self, wanted):
+        self.wanted, self.passed, self.failed, self.lock = wanted, 0, 0, threading.Lock()
+
+    def are_all(self):
+        return self.passed + self.failed == self.wanted
+
+    def tell(self, edit, passes, why, seconds):
+        with self.lock:
+            self.passed, self.failed = self.passed + passes, self.failed + (not passes)
+            print(f"{edit.name}: {'refused' if passes else 'FAILED'}, {seconds:.0f} s: {why[:180]}", flush=True)
+
+
+class Batch:
+    """Edits of one crate that are tried in one check: each is in functions that no other one changes."""
+
+    def __init__(self):
+        self.edits, self.functions, self.texts = [], set(), {}
+
+    def takes(self, edit, functions, crate):
+        """Returns whether the edit can be tried beside the others, and adds it if so."""
+        if self.functions & functions:
+            return False
+        try:
+            edit.apply(self.texts, crate)
+        except ValueError:
+            return False
+        self.edits.append(edit)
+        self.functions |= functions
+        return True
+
+
+def in_batches(edits, crate):
+    """Returns the edits of a crate in lists that can be tried in one check."""
+    alone, together = [], []
+    for edit in edits:
+        try:
+            texts = {}
+            together.append((edit, {(it.file, it.first) for it in functions_of(edit.apply(texts, crate), texts)}))
+        except (OSError, ValueError):
+            alone.append([edit])
+    times = collections.Counter(it for _, functions in together for it in functions)
+
+    def most(changed):
+        """How many edits change the same function, at most, by an edit and the functions that it changes."""
+        return max(times[it] for it in changed[1])
+
+    batches = [Batch() for _ in range(max([math.ceil(len(together) / BATCH), *map(most, together)]))]
+    for edit, functions in sorted(together, key=most, reverse=True):
+        if not any(it.takes(edit, functions, crate) for it in sorted(batches, key=lambda it: len(it.edits))):
+            alone.append([edit])
+    return [it.edits for it in batches if it.edits] + alone
 
 
 def at_once():
@@ -176,29 +302,26 @@ def prove(crate):
 
 
 def main(words):
-    found = [edit for crate in CRATES for edit in sorted((TOP / "tests/edits" / crate).glob("*.edit"))]
-    others = {it for it in (TOP / "tests/edits").rglob("*") if it.is_file()} - {*found}
-    chosen = [it for it in found if not words or any(word in f"{it.parent.name}/{it.name}" for word in words)]
-    for crate in ("half_store", "halfbrown", "halfmap", "test_support", "half_tests"):
-        if any(it.parent.name == crate for it in chosen):
+    found = [Edit(path) for crate in CRATES for path in sorted((TOP / "tests/edits" / crate).glob("*.edit"))]
+    others = {it for it in (TOP / "tests/edits").rglob("*") if it.is_file()} - {it.path for it in found}
+    chosen = [it for it in found if not words or any(word in f"{it.crate}/{it.path.name}" for word in words)]
+    # Those above stand on those below.
+    for crate in ("half_store", "halfbrown", "halfmap", "test_support", "half_tests", "half_uses"):
+        if any(it.crate == crate for it in chosen):
             prove(crate)
-    edits, lock, results = queue.SimpleQueue(), threading.Lock(), []
-    for it in chosen:
-        edits.put(it)
-
-    def tell(edit, passes, why, seconds):
-        with lock:
-            results.append(passes)
-            said = "refused" if passes else "FAILED"
-            print(f"{edit.parent.name}/{edit.stem}: {said}, {seconds:.0f} s: {why[:180]}", flush=True)
-
+    batches = []
+    for crate in CRATES:
+        batches += in_batches([it for it in chosen if it.crate == crate], TOP / "crates" / crate)
+    tries, answers = queue.SimpleQueue(), Answers(len(chosen))
+    for it in batches:
+        tries.put(it)
     began = time.monotonic()
     with tempfile.TemporaryDirectory(prefix="edits-", ignore_cleanup_errors=True) as folder:
         lanes = []
-        for number in range(min(at_once(), len(chosen))):
+        for number in range(min(at_once(), len(batches))):
             copy = pathlib.Path(folder, str(number))
             copy.mkdir()
-            lanes.append(Lane(copy, edits, tell))
+            lanes.append(Lane(copy, tries, answers))
             lanes[-1].start()
         try:
             for lane in lanes:
@@ -209,11 +332,10 @@ def main(words):
                 lane.stop()
     for it in others:
         print(f"{it.relative_to(TOP)}: no edit of a crate")
-    missing = len(chosen) - len(results)
-    failed = results.count(False) + len(others) + missing
-    print(f"{len(chosen)} edits, {len(lanes)} at a time: {(time.monotonic() - began) / 60:.1f} minutes")
-    print(f"{results.count(True)} passed, {failed} failed")
-    return 1 if failed or not results else 0
+    failed = len(chosen) - answers.passed + len(others)
+    print(f"{len(chosen)} edits, {len(lanes)} checks at a time: {(time.monotonic() - began) / 60:.1f} minutes")
+    print(f"{answers.passed} passed, {failed} failed")
+    return 1 if failed or not chosen else 0
 
 
 if __name__ == "__main__":
