@@ -28,13 +28,14 @@ import threading
 import time
 
 TOP = pathlib.Path(__file__).resolve().parent.parent
-# The crates, the longest checks first.
-CRATES = ("halfbrown", "half_store", "halfmap", "half_tests", "half_uses", "test_support")
+# The crates, each after those that it stands on.
+CRATES = ("half_store", "halfbrown", "halfmap", "test_support", "half_tests", "half_uses")
 # What a check of one job takes at most.
 MEMORY = 2_000_000_000
 # Where antt cannot read a text, or a proof misses a name, nothing is said of a contract.
 PLACED = re.compile(r"(?:note: )?(?:\./)?((?:src|specs|proofs)/\S+?):(\d+):\d+: ?(?:error: (`[^`]*`: )?)?(.*)")
-NO_NAME = re.compile(r"has no field|is not in scope|has no `|was not admitted|was rejected, was not checked|is no name")
+NO_NAME = re.compile(r"has no field|is not in scope|has no `|was not admitted|is no name")
+UNCHECKED = "was rejected, was not checked"
 # How many edits are tried in one check.
 BATCH = 16
 FUNCTION = re.compile(r"( *)(?:pub(?:\([^)]*\))? )?(?:const |unsafe )*fn (\w+)")
@@ -73,42 +74,46 @@ class Edit:
         texts.update(changed)
         return places
 
+    def functions(self, crate, names):
+        """Returns the functions that it changes, whose names are among these, or none where it changes something else too."""
+        try:
+            texts = {}
+            places = self.apply(texts, crate)
+            return [Function(file, texts[file].split("\n"), at, names) for file, at in places]
+        except ValueError:
+            return []
+
 
 class Function:
-    """A function of a source file: its first and last line, and the words that the name has that a check prints."""
+    """A function of a source file: its first and last line, and its name as a check prints it."""
 
-    def __init__(self, file, lines, at):
-        """The function around this line of the file. Raises ValueError where there is none."""
+    def __init__(self, file, lines, at, names):
+        """The function around this line of the file, whose name is among these. Raises ValueError where there is none, or where
+        more than one name may be meant."""
         tops = [number for number in range(at + 1) if FUNCTION.match(lines[number])]
         if file.suffix != ".rt" or not tops:
-            raise ValueError("it changes no function")
+            raise ValueError("no function is changed")
         self.file, self.first = file, tops[-1]
-        indent, self.name = FUNCTION.match(lines[self.first]).groups()
-        ends = (number for number in range(self.first, len(lines)) if re.match(rf"{indent}}}|{indent}\S.*{{.*}}$", lines[number]))
-        self.last = next(ends, len(lines))
-        if at > self.last:
-            raise ValueError("it changes no function")
+        indent, name = FUNCTION.match(lines[self.first]).groups()
+        end = re.compile(rf"{indent}}}|{indent}\S.*{{.*}}$")
+        self.last = next((number for number in range(self.first, len(lines)) if end.match(lines[number])), len(lines))
         headers = re.findall(r"^impl\b(?:<[^{}]*?>)? ([^{}]*?) \{", "\n".join(lines[: self.first]), re.M) if indent else []
         parts = IMPL.fullmatch(headers[-1]) if headers else None
-        trait, lent, mutably, kind = parts.groups(default="") if parts else ("", "", "", "")
-        self.kind, self.trait = f"{'Ref' if lent else ''}{'Mut' if mutably else ''}{kind}", "" if trait == "Drop" else trait
-        self.module = file.parent.parent.name if file.stem in ("lib", "main") else file.stem
+        if parts:
+            trait, lent, mutably, kind = parts.groups(default="")
+            # The name of an impl is made of these, and of what the type and the trait are given.
+            above = f"{'Ref' if lent else ''}{'Mut' if mutably else ''}{kind}" + r"(\+.*)?"
+            above += f"{trait}.*" if trait not in ("", "Drop") else ""
+        else:
+            above = file.parent.parent.name if file.stem in ("lib", "main") else file.stem
+        called = [it for it in names if re.search(rf"(?:^|::){above}::{name}$", it)]
+        if at > self.last or len(called) != 1:
+            raise ValueError("no function is changed that one name is for")
+        self.name = called[0]
 
-    def is_called(self, printed):
-        """Returns whether a check calls the function so."""
-        *above, name = printed.split("::")
-        wanted = rf"{self.kind}(\+.*)?{self.trait and self.trait + '.*'}" if self.kind else self.module
-        return name == self.name and bool(re.fullmatch(wanted, above[-1]))
-
-    def is_around(self, place):
-        """Returns whether this place of a source file, its path and line, is in the function."""
-        path, line = place
-        return self.file.as_posix().endswith(f"/{path}") and self.first <= line - 1 <= self.last
-
-
-def functions_of(places, texts):
-    """Returns the functions at these places of the texts. Raises ValueError where one is in no function."""
-    return [Function(file, texts[file].split("\n"), at) for file, at in places]
+    def is_around(self, place, line):
+        """Returns whether this line of a source file is in the function."""
+        return self.file.as_posix().endswith(f"/{place}") and self.first <= line - 1 <= self.last
 
 
 def in_proofs(path):
@@ -124,9 +129,9 @@ class Said:
         placed = [(line, *PLACED.fullmatch(line).groups()) for line in self.lines if PLACED.fullmatch(line)]
         errors = [it for it in placed if ": error" in it[0]]
         unread = [line for line, path, _, name, text in errors if not in_proofs(path) and (not name or NO_NAME.search(text))]
-        ended = re.search(r"^logic=(not-)?proved", printed, re.M)
+        ended = re.search(r"^logic=(not-)?proved|^only=(\d+) proved=(\d+)$", printed, re.M)
         self.unread = unread[0] if unread else None if ended else (self.lines or ["nothing was said"])[-1]
-        self.is_proved = bool(ended) and not ended[1]
+        self.is_proved = bool(ended) and not ended[1] and ended[2] == ended[3]
         self.told = [it for it in placed if it in errors or it[0].startswith("note: ")]
         self.goals = [it for it in self.told if not in_proofs(it[1]) or not NO_NAME.search(it[4])]
         self.unproved = [line for line in self.lines if re.match("fn .*: no", line)]
@@ -146,28 +151,24 @@ class Said:
         """Returns what names a goal of one of these functions that is not proved, or None. That a function calls one that is
         not proved is no goal of its own."""
         for function in functions:
+            folder = f"proofs/{function.name.split('::', 1)[1].replace('::', '/')}/"
             for line, path, number, _, _ in self.goals:
-                if function.is_around((path, int(number))):
+                if function.is_around(path, int(number)):
                     return line.removeprefix("note: ")
-            for line in self.unproved:
-                printed = line.split()[1].rstrip(":")
-                if not function.is_called(printed):
-                    continue
-                if "did not prove" in line:
+                if path.startswith(folder) and ": error" in line and UNCHECKED not in line:
                     return line
-                folder = f"proofs/{printed.split('::', 1)[1].replace('::', '/')}/"
-                for told, path, _, _, _ in self.goals:
-                    if path.startswith(folder) and ": error" in told:
-                        return told
+            for line in self.unproved:
+                if line.startswith(f"fn {function.name}: ") and "did not prove" in line:
+                    return line
         return None
 
 
 class Lane(threading.Thread):
     """Tries edits in a copy of the repository of its own, until each has an answer or the run is stopped."""
 
-    def __init__(self, folder, tries, answers):
+    def __init__(self, folder, names, tries, answers):
         super().__init__(daemon=True)
-        self.folder, self.tries, self.answers = folder, tries, answers
+        self.folder, self.names, self.tries, self.answers = folder, names, tries, answers
         self.running, self.is_stopped = None, False
 
     def run(self):
@@ -200,23 +201,29 @@ class Lane(threading.Thread):
     def attempt(self, edits):
         """Returns whether each of these edits of one crate passes, and why; or None for one that has to be tried alone."""
         crate, texts = self.folder / "crates" / edits[0].crate, {}
-        places = [edit.apply(texts, crate) for edit in edits]
+        functions = [edit.functions(crate, self.names[edit.crate]) for edit in edits]
+        for edit in edits:
+            edit.apply(texts, crate)
         before = {it: it.read_text() for it in texts}
         try:
             for it, text in texts.items():
                 it.write_text(text)
-            said = self.check(crate)
-            if len(edits) == 1:
-                return [said.judge() or (False, "the crate is still proved")]
-            goals = [said.goal_of(functions_of(it, texts)) if not said.unread else None for it in places]
-            return [(True, it) if it else None for it in goals]
+            # The callers of what is changed cost time, and seldom say more.
+            said = self.check(crate, [f"--only={it.name}" for changed in functions for it in changed])
+            if len(edits) > 1:
+                goals = [None if said.unread else said.goal_of(it) for it in functions]
+                return [(True, it) if it else None for it in goals]
+            found = said.judge()
+            if not found or not found[0]:
+                found = self.check(crate).judge()
+            return [found or (False, "the crate is still proved")]
         finally:
             for it, text in before.items():
                 it.write_text(text)
 
-    def check(self, crate):
+    def check(self, crate, flags=()):
         how = {"stdin": subprocess.DEVNULL, "stdout": subprocess.PIPE, "stderr": subprocess.STDOUT}
-        self.running = subprocess.Popen(["rt", "check", "--jobs", "1"], cwd=crate, errors="replace", **how)
+        self.running = subprocess.Popen(["rt", "check", "--jobs", "1", *flags], cwd=crate, errors="replace", **how)
         said, _ = self.running.communicate()
         return Said(said)
 
@@ -255,24 +262,17 @@ class Batch:
         return True
 
 
-def in_batches(edits, crate):
-    """Returns the edits of a crate in lists that can be tried in one check."""
-    alone, together = [], []
-    for edit in edits:
-        try:
-            texts = {}
-            together.append((edit, {(it.file, it.first) for it in functions_of(edit.apply(texts, crate), texts)}))
-        except (OSError, ValueError):
-            alone.append([edit])
-    times = collections.Counter(it for _, functions in together for it in functions)
-
-    def most(changed):
-        """How many edits change the same function, at most, by an edit and the functions that it changes."""
-        return max(times[it] for it in changed[1])
-
-    batches = [Batch() for _ in range(max([math.ceil(len(together) / BATCH), *map(most, together)]))]
-    for edit, functions in sorted(together, key=most, reverse=True):
-        if not any(it.takes(edit, functions, crate) for it in sorted(batches, key=lambda it: len(it.edits))):
+def in_batches(edits, crate, names):
+    """Returns the edits of a crate, whose functions have these names, in lists that can be tried in one check."""
+    changed = {edit: {it.name for it in edit.functions(crate, names)} for edit in edits}
+    times = collections.Counter(name for edit in edits for name in changed[edit])
+    # How many edits change the same function, at most.
+    most = {edit: max((times[name] for name in changed[edit]), default=0) for edit in edits}
+    together = sorted((edit for edit in edits if changed[edit]), key=most.get, reverse=True)
+    alone = [[edit] for edit in edits if not changed[edit]]
+    batches = [Batch() for _ in range(max([math.ceil(len(together) / BATCH), *most.values()]))]
+    for edit in together:
+        if not any(it.takes(edit, changed[edit], crate) for it in sorted(batches, key=lambda it: len(it.edits))):
             alone.append([edit])
     return [it.edits for it in batches if it.edits] + alone
 
@@ -289,16 +289,19 @@ def at_once():
 
 
 def prove(crate):
-    """Proves a crate where out/ does not have that yet, and builds what the crates above it read."""
-    began = time.monotonic()
+    """Proves a crate where out/ does not have that yet, builds what the crates above it read, and returns the names of its
+    functions."""
+    began, said = time.monotonic(), ""
     is_program = (TOP / "crates" / crate / "src/main.rt").is_file()
-    words = ["rt", "check" if is_program else "lib"]
-    ran = subprocess.run(words, cwd=TOP / "crates" / crate, capture_output=True, text=True)
-    if ran.returncode:
-        print(ran.stdout, ran.stderr, f"{crate} is not proved", sep="\n")
-        print("0 passed, 1 failed")
-        sys.exit(1)
+    for word in ("check",) if is_program else ("lib", "check"):
+        ran = subprocess.run(["rt", word], cwd=TOP / "crates" / crate, capture_output=True, text=True)
+        said += ran.stdout
+        if ran.returncode:
+            print(said, ran.stderr, f"{crate} is not proved", sep="\n")
+            print("0 passed, 1 failed")
+            sys.exit(1)
     print(f"{crate}: proved, {time.monotonic() - began:.0f} s", flush=True)
+    return re.findall(r"^fn (\S+): proved$", said, re.M)
 
 
 def main(words):
@@ -306,12 +309,10 @@ def main(words):
     others = {it for it in (TOP / "tests/edits").rglob("*") if it.is_file()} - {it.path for it in found}
     chosen = [it for it in found if not words or any(word in f"{it.crate}/{it.path.name}" for word in words)]
     # Those above stand on those below.
-    for crate in ("half_store", "halfbrown", "halfmap", "test_support", "half_tests", "half_uses"):
-        if any(it.crate == crate for it in chosen):
-            prove(crate)
+    names = {crate: prove(crate) for crate in CRATES if any(it.crate == crate for it in chosen)}
     batches = []
-    for crate in CRATES:
-        batches += in_batches([it for it in chosen if it.crate == crate], TOP / "crates" / crate)
+    for crate in names:
+        batches += in_batches([it for it in chosen if it.crate == crate], TOP / "crates" / crate, names[crate])
     tries, answers = queue.SimpleQueue(), Answers(len(chosen))
     for it in batches:
         tries.put(it)
@@ -321,7 +322,7 @@ def main(words):
         for number in range(min(at_once(), len(batches))):
             copy = pathlib.Path(folder, str(number))
             copy.mkdir()
-            lanes.append(Lane(copy, tries, answers))
+            lanes.append(Lane(copy, names, tries, answers))
             lanes[-1].start()
         try:
             for lane in lanes:
