@@ -3,6 +3,9 @@
 #![tactic(auto)]
 
 mod act;
+mod collection;
+mod long_run;
+mod maps;
 mod report;
 mod scenario;
 
