@@ -8,6 +8,7 @@ mod long_run;
 mod maps;
 mod report;
 mod scenario;
+mod texts;
 
 use std::env::args;
 use std::io;

@@ -46,9 +46,9 @@ fn listed<const N: usize>(map: &Counted<'_, N>, id: u64) -> Option<u64> {
 }
 
 /// Prints the form, the length and the capacity.
-fn print_capacity<K: Eq + Hash, S: BuildHasher, L: Limit>(
+pub(crate) fn print_capacity<K: Eq + Hash, V, S: BuildHasher, L: Limit>(
     rt: &impl Print,
-    map: &LimitedHashMap<K, u64, S, L>,
+    map: &LimitedHashMap<K, V, S, L>,
 ) -> io::Result<()> {
     let form = if map.is_vec() { "vector" } else { "table" };
     let (len, capacity) = (map.len(), map.capacity());

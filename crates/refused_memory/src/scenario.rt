@@ -8,6 +8,7 @@ use crate::collection::{
 use crate::long_run::play_long_run;
 use crate::maps::filled;
 use crate::report::{print_begin, print_hashes, print_state};
+use crate::texts::clone_texts;
 use halfbrown::run::run;
 use halfbrown::{Command, Reply};
 use std::io;
@@ -21,9 +22,7 @@ pub(crate) fn play(rt: &(impl Print + AllocGlobal), name: &str) -> io::Result<()
         "long-run" => play_long_run(rt, 0, true),
         "long-run-of-a-table" => play_long_run(rt, 24, false),
         "run" => play_run(rt),
-        "vector-run" => twice::<32>(rt, 4, 4, RUN),
         "run-of-a-switch" => twice::<5>(rt, 0, 5, RUN),
-        "table-run" => twice::<0>(rt, 0, 3, RUN),
         _ => play_insertion(rt, name),
     }
 }
@@ -105,6 +104,8 @@ fn play_capacity(rt: &(impl Print + AllocGlobal), name: &str) -> io::Result<()> 
         "empty-table-shrink" => twice::<5>(rt, 24, 0, Act::ShrinkToFit),
         "vector-clone" => twice::<5>(rt, 5, 4, Act::Clone),
         "table-clone" => twice::<0>(rt, 6, 4, Act::Clone),
+        "vector-clone-of-texts" => clone_texts::<5>(rt),
+        "table-clone-of-texts" => clone_texts::<0>(rt),
         "vector-collected" => collect::<5>(rt, true),
         "table-collected" => collect::<2>(rt, true),
         "collected-without-a-hint" => collect::<2>(rt, false),
@@ -117,7 +118,7 @@ fn play_capacity(rt: &(impl Print + AllocGlobal), name: &str) -> io::Result<()> 
         "vector-made" => make::<5>(rt, 5),
         "table-made" => make::<5>(rt, 6),
         "vector-made-with-default-builder" => make_by_default(rt, 32),
-        "made-with-default-builder" => make_by_default(rt, 33),
+        "table-made-with-default-builder" => make_by_default(rt, 33),
         "vector-made-below-limit" => make_vector(rt, 10),
         "vector-made-at-limit" => make_vector(rt, 128),
         _ => Err(Error::other("no scenario has this name")),
