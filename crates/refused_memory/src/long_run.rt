@@ -1,5 +1,4 @@
 //! A long run of mixed calls by a fixed rule. Each is printed with what came back and with the state after it.
-
 ghost use Rattle.std.specs.Prelude.{◌≤◌};
 
 use crate::act::Act;
