@@ -1,14 +1,14 @@
 #!/usr/bin/env python3
-"""Refuses memory to the proved programs refused_memory and halfmap, request by request, and compares what they write with
-tests/refused_memory/scenarios.txt.
+"""Refuses memory to the proved programs refused_memory and halfmap, and compares what they write.
 
-In each scenario the request to refuse counts up from the first, until a run meets no refusal. A library that is preloaded,
-tests/refused_memory/refuse.c, refuses it.
+In each scenario of tests/refused_memory/scenarios.txt the request to refuse counts up from the first, until a run meets no
+refusal, and what is written has to be what stands there. In the long runs requests are refused by a rule, and the replies and
+pairs have to be those of a plain list that skips the calls that were refused: tests/refused_memory/plain_list.py is the list. A
+library that is preloaded, tests/refused_memory/refuse.c, refuses.
 
 The last line is "N passed, M failed".
 """
 
-import difflib
 import os
 import pathlib
 import re
@@ -18,10 +18,37 @@ import tempfile
 
 TESTS = pathlib.Path(__file__).resolve().parent / "refused_memory"
 CRATES = TESTS.parent.parent / "crates"
-BEGIN = "from here on memory may be refused"
+sys.dont_write_bytecode = True
+sys.path.insert(0, str(TESTS))
+from plain_list import BEGIN, CALLS, REFUSABLE_COMMANDS, Fault, difference, follow  # noqa: E402
+
 # No scenario makes as many requests.
 MANY = 100
 SECONDS = 20
+# The long runs: the scenario, and the form of the map at first.
+LONG_RUNS = [("long-run", "vector"), ("long-run-of-a-table", "table")]
+# Their rules: a name, what refuse.c is told, how many calls are refused at least, and how often a vector switches at least. A
+# switch makes five requests, so that none is granted where each third is refused.
+RULES = [
+    ("no request refused", {}, 0, 20),
+    ("each third request refused", {"REFUSE_EACH": "3"}, 400, 0),
+    ("each seventh request refused", {"REFUSE_EACH": "7"}, 200, 20),
+    ("requests 20 to 200 refused", {"REFUSE_FROM": "20", "REFUSE_TO": "200"}, 150, 20),
+]
+
+
+def play(name, given, library, refuse):
+    """Runs refused_memory on a scenario, or halfmap on the given lines. Returns the lines that it wrote, and how many requests
+    were refused."""
+    program = "halfmap" if given else "refused_memory"
+    words = [CRATES / program / "out" / program, *([] if given else [name])]
+    environment = {**os.environ, "LD_PRELOAD": library, **refuse}
+    if not given:
+        environment["REFUSE_AFTER"] = BEGIN
+    text = "".join(f"{line}\n" for line in given)
+    ran = subprocess.run(words, input=text, capture_output=True, text=True, env=environment, timeout=SECONDS)
+    status = [f"status {ran.returncode}"] if ran.returncode else []
+    return ran.stdout.splitlines() + status, ran.stderr.count("refused\n")
 
 
 class Scenario:
@@ -29,20 +56,6 @@ class Scenario:
 
     def __init__(self, name):
         self.name, self.given, self.granted, self.ends = name, [], [], []
-
-    def play(self, library, request):
-        """Runs the scenario with a request refused. Returns the lines that it wrote, and whether it met the refusal."""
-        program = "halfmap" if self.given else "refused_memory"
-        words = [CRATES / program / "out" / program, *([] if self.given else [self.name])]
-        environment = {**os.environ, "LD_PRELOAD": library, "REFUSE": str(request)}
-        if not self.given:
-            environment["REFUSE_AFTER"] = BEGIN
-        given = "".join(f"{line}\n" for line in self.given)
-        ran = subprocess.run(
-            words, input=given, capture_output=True, text=True, env=environment, timeout=SECONDS
-        )
-        status = [f"status {ran.returncode}"] if ran.returncode else []
-        return ran.stdout.splitlines() + status, bool(ran.stderr)
 
 
 def read_table(path):
@@ -66,17 +79,12 @@ def read_table(path):
     return scenarios
 
 
-def difference(expected, found):
-    lines = difflib.unified_diff(expected, found, "expected", "found", lineterm="", n=9)
-    return "\n".join(f"    {line}" for line in lines)
-
-
 def refuse_each(scenario, library):
     """Refuses each request in turn. Returns how many runs ended as the table says, and the faults."""
     passed, faults, at, met = 0, [], 0, [0] * len(scenario.ends)
     for request in range(1, MANY):
-        found, is_refused = scenario.play(library, request)
-        if not is_refused:
+        found, refusals = play(scenario.name, scenario.given, library, {"REFUSE": str(request)})
+        if not refusals:
             break
         # The ends come in the order of the requests.
         later = [it for it in range(at, len(scenario.ends)) if scenario.ends[it][2] == found]
@@ -97,24 +105,48 @@ def refuse_each(scenario, library):
     return passed, faults
 
 
+def play_long_runs(library):
+    """Plays the long runs by each rule. Returns how many passed, and the faults."""
+    passed, faults, refused = 0, [], set()
+    for name, form in LONG_RUNS:
+        for rule, refuse, least, least_switches in RULES:
+            lines, requests = play(name, [], library, refuse)
+            try:
+                counts, switches = follow(lines, form)
+                times = sum(counts[call] for call in CALLS)
+                if times < least or (times > 0) != (requests > 0):
+                    raise Fault(f"{times} calls were refused, and not {least} or more")
+                if form == "vector" and switches < least_switches:
+                    raise Fault(f"{switches} switches, and not {least_switches} or more")
+                print(f"{name}, {rule}: {requests} requests and {times} calls were refused, {switches} switches")
+                refused.update(counts)
+                passed += 1
+            except Fault as fault:
+                faults.append(f"{name}, {rule}: {fault}")
+    never = [call for call, (_, may_be_refused) in CALLS.items() if may_be_refused and call not in refused]
+    never += [command for command in REFUSABLE_COMMANDS if command not in refused]
+    if never:
+        faults.append(f"never refused in a long run: {', '.join(never)}")
+    return passed + (not never), faults
+
+
 def main():
     for program in ("refused_memory", "halfmap"):
         if not (CRATES / program / "out" / program).is_file():
             print(f"{program} is not built: rt ci builds it, and so does rt run in crates/{program}")
             print("0 passed, 1 failed")
             return 1
-    scenarios = read_table(TESTS / "scenarios.txt")
     passed = failed = 0
     with tempfile.TemporaryDirectory() as folder:
         library = f"{folder}/refuse.so"
         words = ["cc", "-O2", "-Wall", "-Wextra", "-shared", "-fPIC", "-o", library]
         subprocess.run([*words, TESTS / "refuse.c"], check=True)
-        for scenario in scenarios:
-            well, faults = refuse_each(scenario, library)
+        parts = [(f"{scenario.name}, ", *refuse_each(scenario, library)) for scenario in read_table(TESTS / "scenarios.txt")]
+        for name, well, faults in [*parts, ("", *play_long_runs(library))]:
             passed += well
             failed += len(faults)
             for fault in faults:
-                print(f"{scenario.name}, {fault}")
+                print(f"{name}{fault}")
     print(f"{passed} passed, {failed} failed")
     return 1 if failed or not passed else 0
 

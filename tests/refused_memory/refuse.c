@@ -1,8 +1,8 @@
 // Refuses memory to a program that it is preloaded into.
 //
-// Its requests are counted: all of them, or, where REFUSE_AFTER is a line, those after it has written this line. The request
-// whose number REFUSE gives returns NULL. A line on standard error tells of each refusal. The programs of this repository
-// allocate by malloc and realloc alone.
+// Its requests are counted: all of them, or, where REFUSE_AFTER is a line, those after it has written this line. These return
+// NULL: the request whose number is REFUSE, each whose number REFUSE_EACH divides, and those from REFUSE_FROM to REFUSE_TO. A
+// line on standard error tells of each refusal. The programs of this repository allocate by malloc and realloc alone.
 #include <errno.h>
 #include <stdlib.h>
 #include <string.h>
@@ -15,12 +15,23 @@ extern void *__libc_realloc(void *block, size_t size);
 static int is_after;
 static long requests;
 
+// The number that a variable of the environment gives, or 0.
+static long number(const char *name) {
+    const char *text = getenv(name);
+    return text == NULL ? 0 : atol(text);
+}
+
+static int is_chosen(void) {
+    long each = number("REFUSE_EACH");
+    return requests == number("REFUSE") || (each > 0 && requests % each == 0)
+        || (number("REFUSE_FROM") <= requests && requests <= number("REFUSE_TO"));
+}
+
 static int is_refused(void) {
-    const char *which = getenv("REFUSE");
-    if (which == NULL || (getenv("REFUSE_AFTER") != NULL && !is_after))
+    if (getenv("REFUSE_AFTER") != NULL && !is_after)
         return 0;
     requests++;
-    if (atol(which) != requests)
+    if (!is_chosen())
         return 0;
     syscall(SYS_write, STDERR_FILENO, "refused\n", 8);
     errno = ENOMEM;

@@ -1,230 +1,93 @@
 //! What a scenario does once memory may be refused: one call of the map, which is printed with what came back.
 
-use crate::report::{print_hashes, print_state};
-use halfbrown::{Entry, RawEntryMut, Refused, RefusedKey};
+mod additions;
+mod capacity;
+mod entries;
+pub(crate) mod plain;
+mod raw_entries;
+
+use crate::collection::print_collected;
+use plain::Plain;
 use std::io;
 use test_support::counts::{Counted, Counts};
-use test_support::keys::Key;
 
-/// A call that may take memory.
+/// A call that may take memory. Those that are given pairs take a key and a value of each.
 #[derive(Clone, Copy)]
 pub(crate) enum Act {
     Insert(u64, u64),
     InsertNocheck(u64, u64),
+    Extend([(u64, u64); 3]),
+    Run([(u64, u64); 3]),
     OrInsert(u64, u64),
+    WriteByEntry(u64, u64),
+    RemoveByEntry(u64),
     UnusedEntry(u64),
     RawOrInsert(u64, u64),
+    RawOrInsertHashed(u64, u64),
+    RawInsert(u64, u64),
+    RemoveByRawEntry(u64),
     RawEntry(u64),
     UnusedRawEntry,
     Reserve(usize),
     ShrinkToFit,
     Clone,
+    BecomeClone,
+    BecomeNew,
+    BecomeMade(usize),
+    /// The pairs (1, 1), (2, 2), .. below this one are collected, and the map stays as it is.
+    FromIter(u64),
+    /// One that takes none.
+    Plain(Plain),
 }
 
 impl Act {
     /// Makes the call, and prints what came back and how many hashes it took.
     pub(crate) fn perform<'a, const N: usize>(
         self,
+        rt: &(impl Print + AllocGlobal),
+        map: &mut Counted<'a, N>,
+        counts: &'a Counts,
+    ) -> io::Result<()> {
+        match self {
+            Act::Insert(key, value) => additions::insert(rt, map, counts, key, value),
+            Act::InsertNocheck(key, value) => {
+                additions::insert_nocheck(rt, map, counts, key, value)
+            }
+            Act::Extend(pairs) => additions::extend(rt, map, counts, pairs),
+            Act::Run(pairs) => additions::run_commands(rt, map, counts, pairs),
+            Act::Reserve(additional) => capacity::reserve(rt, map, counts, additional),
+            Act::ShrinkToFit => capacity::shrink_to_fit(rt, map, counts),
+            Act::Clone => capacity::clone(rt, map, counts),
+            Act::BecomeClone => capacity::become_clone(rt, map, counts),
+            Act::BecomeNew => capacity::become_new(rt, map, counts),
+            Act::BecomeMade(capacity) => capacity::become_made(rt, map, counts, capacity),
+            Act::FromIter(end) => print_collected::<N>(rt, end),
+            Act::Plain(plain) => plain.perform(rt, map, counts),
+            _ => self.perform_by_entry(rt, map, counts),
+        }
+    }
+
+    // The calls by entries and raw entries, and nothing for another.
+    fn perform_by_entry<'a, const N: usize>(
+        self,
         rt: &impl Print,
         map: &mut Counted<'a, N>,
         counts: &'a Counts,
     ) -> io::Result<()> {
         match self {
-            Act::Insert(key, value) => insert(rt, map, counts, key, value),
-            Act::InsertNocheck(key, value) => insert_nocheck(rt, map, counts, key, value),
-            Act::OrInsert(key, value) => or_insert(rt, map, counts, key, value),
-            Act::UnusedEntry(key) => unused_entry(rt, map, counts, key),
-            Act::RawOrInsert(key, value) => raw_or_insert(rt, map, counts, key, value),
-            Act::RawEntry(key) => raw_entry(rt, map, counts, key),
-            Act::UnusedRawEntry => unused_raw_entry(rt, map, counts),
-            Act::Reserve(additional) => reserve(rt, map, counts, additional),
-            Act::ShrinkToFit => shrink_to_fit(rt, map, counts),
-            Act::Clone => clone(rt, map, counts),
-        }
-    }
-}
-
-fn insert<'a, const N: usize>(
-    rt: &impl Print,
-    map: &mut Counted<'a, N>,
-    counts: &'a Counts,
-    key: u64,
-    value: u64,
-) -> io::Result<()> {
-    print!(rt; "insert {key}={value}: ")?;
-    counts.take();
-    match map.insert(counts.key(key), value) {
-        Ok(None) => print!(rt; "a new key")?,
-        Ok(Some(old)) => print!(rt; "old value {old}")?,
-        Err(refused) => print_refused(rt, &refused)?,
-    }
-    print_hashes(rt, counts)
-}
-
-// Only where the key is not held.
-fn insert_nocheck<'a, const N: usize>(
-    rt: &impl Print,
-    map: &mut Counted<'a, N>,
-    counts: &'a Counts,
-    key: u64,
-    value: u64,
-) -> io::Result<()> {
-    print!(rt; "insert_nocheck {key}={value}: ")?;
-    let key = counts.key(key);
-    if map.contains_key(&key) {
-        return println!(rt; "not called, since the key is held");
-    }
-    counts.take();
-    match map.insert_nocheck(key, value) {
-        Ok(()) => print!(rt; "a new key")?,
-        Err(refused) => print_refused(rt, &refused)?,
-    }
-    print_hashes(rt, counts)
-}
-
-fn or_insert<'a, const N: usize>(
-    rt: &impl Print,
-    map: &mut Counted<'a, N>,
-    counts: &'a Counts,
-    key: u64,
-    value: u64,
-) -> io::Result<()> {
-    print!(rt; "entry {key}, or_insert {value}: ")?;
-    counts.take();
-    match map.entry(counts.key(key)) {
-        Ok(entry) => {
-            let value = entry.or_insert(value);
-            print!(rt; "value {value}")?
-        }
-        Err(refused) => print_refused_key(rt, &refused)?,
-    }
-    print_hashes(rt, counts)
-}
-
-fn unused_entry<'a, const N: usize>(
-    rt: &impl Print,
-    map: &mut Counted<'a, N>,
-    counts: &'a Counts,
-    key: u64,
-) -> io::Result<()> {
-    print!(rt; "entry {key}: ")?;
-    counts.take();
-    match map.entry(counts.key(key)) {
-        Ok(Entry::Occupied(entry)) => print!(rt; "held with value {}", entry.get())?,
-        Ok(Entry::Vacant(_)) => print!(rt; "vacant")?,
-        Err(refused) => print_refused_key(rt, &refused)?,
-    }
-    print_hashes(rt, counts)
-}
-
-fn raw_or_insert<'a, const N: usize>(
-    rt: &impl Print,
-    map: &mut Counted<'a, N>,
-    counts: &'a Counts,
-    key: u64,
-    value: u64,
-) -> io::Result<()> {
-    print!(rt; "raw entry {key}, or_insert {value}: ")?;
-    let key = counts.key(key);
-    counts.take();
-    match map.raw_entry_mut() {
-        Ok(builder) => {
-            let (_, value) = builder.from_key(&key).or_insert(key, value);
-            print!(rt; "value {value}")?
-        }
-        Err(why) => print!(rt; "refused for {why:?}")?,
-    }
-    print_hashes(rt, counts)
-}
-
-// The entry is found and left.
-fn raw_entry<'a, const N: usize>(
-    rt: &impl Print,
-    map: &mut Counted<'a, N>,
-    counts: &'a Counts,
-    key: u64,
-) -> io::Result<()> {
-    print!(rt; "raw entry {key}: ")?;
-    let key = counts.key(key);
-    counts.take();
-    match map.raw_entry_mut() {
-        Ok(builder) => match builder.from_key(&key) {
-            RawEntryMut::Occupied(entry) => print!(rt; "held with value {}", entry.get())?,
-            RawEntryMut::Vacant(_vacant) => print!(rt; "vacant")?,
-        },
-        Err(why) => print!(rt; "refused for {why:?}")?,
-    }
-    print_hashes(rt, counts)
-}
-
-// Nothing is searched.
-fn unused_raw_entry<'a, const N: usize>(
-    rt: &impl Print,
-    map: &mut Counted<'a, N>,
-    counts: &'a Counts,
-) -> io::Result<()> {
-    print!(rt; "raw_entry_mut: ")?;
-    counts.take();
-    match map.raw_entry_mut() {
-        Ok(_builder) => print!(rt; "granted")?,
-        Err(why) => print!(rt; "refused for {why:?}")?,
-    }
-    print_hashes(rt, counts)
-}
-
-fn print_refused_key<'a>(rt: &impl Print, refused: &RefusedKey<Key<'a>>) -> io::Result<()> {
-    let RefusedKey { key, why } = refused;
-    print!(rt; "refused for {why:?}, {} returned", key.id)
-}
-
-fn print_refused<'a>(rt: &impl Print, refused: &Refused<Key<'a>, u64>) -> io::Result<()> {
-    let Refused { key, value, why } = refused;
-    print!(rt; "refused for {why:?}, {}={value} returned", key.id)
-}
-
-fn reserve<'a, const N: usize>(
-    rt: &impl Print,
-    map: &mut Counted<'a, N>,
-    counts: &'a Counts,
-    additional: usize,
-) -> io::Result<()> {
-    print!(rt; "reserve {additional}: ")?;
-    counts.take();
-    match map.reserve(additional) {
-        Ok(()) => print!(rt; "granted")?,
-        Err(why) => print!(rt; "refused for {why:?}")?,
-    }
-    print_hashes(rt, counts)
-}
-
-fn shrink_to_fit<'a, const N: usize>(
-    rt: &impl Print,
-    map: &mut Counted<'a, N>,
-    counts: &'a Counts,
-) -> io::Result<()> {
-    print!(rt; "shrink_to_fit: returned")?;
-    counts.take();
-    map.shrink_to_fit();
-    print_hashes(rt, counts)
-}
-
-// The copy is printed where there is one.
-fn clone<'a, const N: usize>(
-    rt: &impl Print,
-    map: &Counted<'a, N>,
-    counts: &'a Counts,
-) -> io::Result<()> {
-    print!(rt; "clone: ")?;
-    counts.take();
-    match map.clone() {
-        Ok(copy) => {
-            print!(rt; "granted")?;
-            print_hashes(rt, counts)?;
-            print_state(rt, &copy, counts)
-        }
-        Err(why) => {
-            print!(rt; "refused for {why:?}")?;
-            print_hashes(rt, counts)
+            Act::OrInsert(key, value) => entries::or_insert(rt, map, counts, key, value),
+            Act::WriteByEntry(key, value) => entries::write(rt, map, counts, key, value),
+            Act::RemoveByEntry(key) => entries::remove(rt, map, counts, key),
+            Act::UnusedEntry(key) => entries::leave(rt, map, counts, key),
+            Act::RawOrInsert(key, value) => raw_entries::or_insert(rt, map, counts, key, value),
+            Act::RawOrInsertHashed(key, value) => {
+                raw_entries::or_insert_hashed(rt, map, counts, key, value)
+            }
+            Act::RawInsert(key, value) => raw_entries::insert(rt, map, counts, key, value),
+            Act::RemoveByRawEntry(key) => raw_entries::remove(rt, map, counts, key),
+            Act::RawEntry(key) => raw_entries::leave(rt, map, counts, key),
+            Act::UnusedRawEntry => raw_entries::leave_unsearched(rt, map, counts),
+            _ => Ok(()),
         }
     }
 }

@@ -3,8 +3,12 @@
 #![tactic(auto)]
 
 mod act;
+mod collection;
+mod long_run;
+mod maps;
 mod report;
 mod scenario;
+mod texts;
 
 use std::env::args;
 use std::io;

@@ -1,21 +1,36 @@
 //! The scenarios: each makes a map with ample memory, and then does what takes more.
-ghost use Rattle.std.specs.Prelude.{◌-◌};
-ghost use Rattle.std.specs.Iterator.{at_most};
 
 use crate::act::Act;
-use crate::report::{print_begin, print_hashes, print_made, print_state};
+use crate::collection::{
+    collect, collect_by_trait, make, make_by_default, make_of_array, make_vector, write_none,
+    write_pairs,
+};
+use crate::long_run::play_long_run;
+use crate::maps::filled;
+use crate::report::{print_begin, print_hashes, print_state};
+use crate::texts::clone_texts;
 use halfbrown::run::run;
-use halfbrown::{Command, DefaultHashBuilder, HashMap, Refusal, SizedHashMap, hashmap};
-use std::alloc::AllocError;
+use halfbrown::{Command, Reply};
 use std::io;
 use std::io::Error;
-use test_support::builders::Rule;
-use test_support::counts::{Counted, Counts};
-
-type Default32 = HashMap<u64, u64, DefaultHashBuilder>;
+use test_support::counts::Counts;
+use test_support::keys::Key;
 
 /// Plays the scenario of this name.
 pub(crate) fn play(rt: &(impl Print + AllocGlobal), name: &str) -> io::Result<()> {
+    match name {
+        "long-run" => play_long_run(rt, 0, true),
+        "long-run-of-a-table" => play_long_run(rt, 24, false),
+        "run" => play_run(rt),
+        "run-of-a-switch" => twice::<5>(rt, 0, 5, RUN),
+        _ => play_insertion(rt, name),
+    }
+}
+
+const RUN: Act = Act::Run([(5, 50), (6, 60), (7, 70)]);
+
+// Insertions by a call of the map.
+fn play_insertion(rt: &(impl Print + AllocGlobal), name: &str) -> io::Result<()> {
     match name {
         "first-pair" => twice::<5>(rt, 0, 0, Act::Insert(1, 10)),
         "vector-growth" => twice::<32>(rt, 4, 4, Act::Insert(5, 50)),
@@ -24,41 +39,88 @@ pub(crate) fn play(rt: &(impl Print + AllocGlobal), name: &str) -> io::Result<()
         "first-pair-of-a-table" => twice::<0>(rt, 0, 0, Act::Insert(1, 10)),
         "table-growth" => twice::<0>(rt, 0, 3, Act::Insert(4, 4)),
         "overwrite-in-a-full-table" => twice::<0>(rt, 0, 3, Act::Insert(2, 20)),
+        "unchecked-first-pair" => twice::<5>(rt, 0, 0, Act::InsertNocheck(1, 10)),
+        "unchecked-vector-growth" => twice::<32>(rt, 4, 4, Act::InsertNocheck(5, 50)),
         "unchecked-switch" => twice::<5>(rt, 0, 5, Act::InsertNocheck(6, 6)),
+        "unchecked-first-pair-of-a-table" => twice::<0>(rt, 0, 0, Act::InsertNocheck(1, 10)),
         "unchecked-table-growth" => twice::<0>(rt, 0, 3, Act::InsertNocheck(4, 4)),
+        "first-pairs-by-extend" => twice::<5>(rt, 0, 0, Act::Extend([(2, 20), (1, 10), (2, 21)])),
+        "vector-growth-by-extend" => twice::<32>(
+            rt,
+            4,
+            4,
+            Act::Extend([(2, 20), (5, 50), (6, 60)]),
+        ),
+        "switch-by-extend" => twice::<5>(rt, 5, 4, Act::Extend([(5, 50), (6, 60), (7, 70)])),
+        "table-growth-by-extend" => twice::<0>(rt, 0, 3, Act::Extend([(2, 20), (4, 40), (5, 50)])),
+        _ => play_entry(rt, name),
+    }
+}
+
+// Entries.
+fn play_entry(rt: &(impl Print + AllocGlobal), name: &str) -> io::Result<()> {
+    match name {
         "entry-of-the-first-pair" => twice::<5>(rt, 0, 0, Act::OrInsert(1, 10)),
         "entry-vector-growth" => twice::<32>(rt, 4, 4, Act::OrInsert(5, 50)),
+        "unused-entry-vector-growth" => twice::<32>(rt, 4, 4, Act::UnusedEntry(5)),
         "entry-switch" => twice::<5>(rt, 0, 5, Act::OrInsert(6, 6)),
         "unused-entry-switch" => twice::<5>(rt, 0, 5, Act::UnusedEntry(3)),
+        "entry-of-the-first-pair-of-a-table" => twice::<0>(rt, 0, 0, Act::OrInsert(1, 10)),
         "entry-table-growth" => twice::<0>(rt, 0, 3, Act::OrInsert(4, 4)),
         "unused-entry-table-growth" => twice::<0>(rt, 0, 3, Act::UnusedEntry(4)),
         "entry-in-a-full-table" => twice::<0>(rt, 0, 3, Act::OrInsert(2, 20)),
         "entry-in-a-full-column" => twice::<32>(rt, 4, 4, Act::OrInsert(2, 20)),
+        _ => play_raw_entry(rt, name),
+    }
+}
+
+// Raw entries.
+fn play_raw_entry(rt: &(impl Print + AllocGlobal), name: &str) -> io::Result<()> {
+    match name {
         "raw-entry-of-the-first-pair" => twice::<5>(rt, 0, 0, Act::RawOrInsert(1, 10)),
         "raw-entry-vector-growth" => twice::<32>(rt, 4, 4, Act::RawOrInsert(5, 50)),
         "raw-entry-switch" => twice::<5>(rt, 0, 5, Act::RawOrInsert(6, 6)),
         "held-raw-entry-switch" => twice::<5>(rt, 0, 5, Act::RawEntry(3)),
         "unused-raw-entry-switch" => twice::<5>(rt, 0, 5, Act::UnusedRawEntry),
+        "raw-entry-of-the-first-pair-of-a-table" => twice::<0>(rt, 0, 0, Act::RawOrInsert(1, 10)),
         "raw-entry-table-growth" => twice::<0>(rt, 0, 3, Act::RawOrInsert(4, 4)),
         "held-raw-entry-table-growth" => twice::<0>(rt, 0, 3, Act::RawEntry(2)),
         "unused-raw-entry-vector-growth" => twice::<32>(rt, 4, 4, Act::UnusedRawEntry),
         "raw-entry-with-capacity" => twice::<32>(rt, 6, 4, Act::RawOrInsert(5, 50)),
         "raw-entry-in-a-table-with-capacity" => twice::<0>(rt, 6, 3, Act::RawOrInsert(4, 4)),
+        _ => play_capacity(rt, name),
+    }
+}
+
+// Capacity, copies and maps that are made.
+fn play_capacity(rt: &(impl Print + AllocGlobal), name: &str) -> io::Result<()> {
+    match name {
         "vector-reserve" => twice::<32>(rt, 4, 4, Act::Reserve(5)),
+        "vector-reserve-past-the-limit" => twice::<5>(rt, 3, 3, Act::Reserve(20)),
         "table-reserve" => twice::<0>(rt, 0, 3, Act::Reserve(4)),
         "vector-shrink" => twice::<32>(rt, 16, 5, Act::ShrinkToFit),
         "table-shrink" => twice::<5>(rt, 24, 6, Act::ShrinkToFit),
+        "empty-vector-shrink" => twice::<32>(rt, 16, 0, Act::ShrinkToFit),
+        "empty-table-shrink" => twice::<5>(rt, 24, 0, Act::ShrinkToFit),
         "vector-clone" => twice::<5>(rt, 5, 4, Act::Clone),
         "table-clone" => twice::<0>(rt, 6, 4, Act::Clone),
+        "vector-clone-of-texts" => clone_texts::<5>(rt),
+        "table-clone-of-texts" => clone_texts::<0>(rt),
         "vector-collected" => collect::<5>(rt, true),
         "table-collected" => collect::<2>(rt, true),
         "collected-without-a-hint" => collect::<2>(rt, false),
+        "vector-collected-by-the-trait" => collect_by_trait::<5>(rt),
+        "table-collected-by-the-trait" => collect_by_trait::<2>(rt),
+        "vector-of-an-array" => make_of_array::<5>(rt),
+        "table-of-an-array" => make_of_array::<2>(rt),
         "written-pairs" => write_pairs(rt),
+        "no-written-pairs" => write_none(rt),
         "vector-made" => make::<5>(rt, 5),
         "table-made" => make::<5>(rt, 6),
-        "made-with-default-builder" => make_with_default_builder(rt),
-        "vector-made-at-limit" => make_vector_at_limit(rt),
-        "run" => play_run(rt),
+        "vector-made-with-default-builder" => make_by_default(rt, 32),
+        "table-made-with-default-builder" => make_by_default(rt, 33),
+        "vector-made-below-limit" => make_vector(rt, 10),
+        "vector-made-at-limit" => make_vector(rt, 128),
         _ => Err(Error::other("no scenario has this name")),
     }
 }
@@ -80,118 +142,7 @@ fn twice<const N: usize>(
     print_state(rt, &map, &counts)
 }
 
-fn filled<'a, const N: usize>(
-    rt: &impl AllocGlobal,
-    counts: &'a Counts,
-    capacity: usize,
-    held: u64,
-) -> io::Result<Counted<'a, N>> {
-    let Ok(mut map) = made::<N>(rt, counts, capacity) else {
-        return Err(Error::from(AllocError));
-    };
-    for id in 1..=held {
-        if map.insert(counts.key(id), id).is_err() {
-            return Err(Error::from(AllocError));
-        }
-    }
-    Ok(map)
-}
-
-fn made<'a, const N: usize>(
-    rt: &impl AllocGlobal,
-    counts: &'a Counts,
-    capacity: usize,
-) -> Result<Counted<'a, N>, Refusal> {
-    SizedHashMap::with_capacity_and_hasher(rt.alloc(), capacity, counts.builder(Rule::Plain))
-}
-
-// A map for so many pairs, made twice.
-fn make<const N: usize>(rt: &(impl Print + AllocGlobal), capacity: usize) -> io::Result<()> {
-    let counts = Counts::new();
-    print_begin(rt)?;
-    for _ in 0..2 {
-        print_made(rt, made::<N>(rt, &counts, capacity))?;
-    }
-    Ok(())
-}
-
-// A map for 33 pairs with the default builder, made twice.
-fn make_with_default_builder(rt: &(impl Print + AllocGlobal)) -> io::Result<()> {
-    print_begin(rt)?;
-    for _ in 0..2 {
-        print_made(rt, Default32::with_capacity(rt.alloc(), 33))?;
-    }
-    Ok(())
-}
-
-// A vector for more pairs than the limit allows, made twice.
-fn make_vector_at_limit(rt: &(impl Print + AllocGlobal)) -> io::Result<()> {
-    print_begin(rt)?;
-    for _ in 0..2 {
-        print_made(rt, Default32::vec_with_capacity(rt.alloc(), 128))?;
-    }
-    Ok(())
-}
-
-/// The pairs (at, at), (at + 1, at + 1), .. below `end`.
-#[derive(Drop)]
-struct Items {
-    at: u64,
-    end: u64,
-    has_hint: bool,
-}
-
-impl Iterator for Items {
-    type Item = (u64, u64);
-
-    ghost remaining = { λ s. at_most (s.end - s.at) };
-
-    fn next(&mut self) -> Option<(u64, u64)> {
-        let at = self.at;
-        if at >= self.end {
-            return None;
-        }
-        self.at = at + 1;
-        Some((at, at))
-    }
-
-    fn size_hint(&self) -> (usize, Option<usize>) {
-        if !self.has_hint {
-            return (0, None);
-        }
-        let left = self.end.saturating_sub(self.at) as usize;
-        (left, Some(left))
-    }
-}
-
-// A map of four items, collected twice.
-fn collect<const N: usize>(rt: &(impl Print + AllocGlobal), has_hint: bool) -> io::Result<()> {
-    print_begin(rt)?;
-    for _ in 0..2 {
-        let items = Items {
-            at: 1,
-            end: 5,
-            has_hint,
-        };
-        let collected = SizedHashMap::<u64, u64, DefaultHashBuilder, N>::from_iter(
-            rt.alloc(),
-            items,
-        );
-        print_made(rt, collected)?;
-    }
-    Ok(())
-}
-
-// A map of two written pairs, made twice.
-fn write_pairs(rt: &(impl Print + AllocGlobal)) -> io::Result<()> {
-    print_begin(rt)?;
-    for _ in 0..2 {
-        print_made(rt, hashmap! {in rt.alloc(); 1u64 => 10, 2 => 20})?;
-    }
-    Ok(())
-}
-
-// A run in which the insertion that switches a full vector of five is tried twice.
+// A run in which the insertion that switches a full vector of five is tried twice. Commands that come back are run again.
 fn play_run(rt: &(impl Print + AllocGlobal)) -> io::Result<()> {
     let counts = Counts::new();
     let mut map = filled::<5>(rt, &counts, 0, 5)?;
@@ -201,9 +152,21 @@ fn play_run(rt: &(impl Print + AllocGlobal)) -> io::Result<()> {
     print_begin(rt)?;
     counts.take();
     match run(rt.alloc(), &mut map, commands) {
-        Ok(replies) => print!(rt; "run: replies {replies:?}")?,
-        Err(commands) => print!(rt; "run: commands {commands:?} returned")?,
+        Ok(replies) => print_replies(rt, replies)?,
+        Err(commands) => {
+            print!(rt; "run: commands {commands:?} returned")?;
+            print_hashes(rt, &counts)?;
+            print_state(rt, &map, &counts)?;
+            counts.take();
+            if let Ok(replies) = run(rt.alloc(), &mut map, commands) {
+                print_replies(rt, replies)?;
+            }
+        }
     }
     print_hashes(rt, &counts)?;
     print_state(rt, &map, &counts)
+}
+
+fn print_replies(rt: &impl Print, replies: Vec<Reply<Key<'_>, u64>>) -> io::Result<()> {
+    print!(rt; "run: replies {replies:?}")
 }
