@@ -7,6 +7,7 @@ cd "$(dirname "$0")/.." || exit 1
 part "proofs, core edits and tests" rt ci
 part "refused memory" tests/refused_memory.py
 part "answers at once" tests/answers_at_once.py
+part "hostile input" tests/hostile_input.py
 part "must not compile" tests/must_not_compile.sh
 part "README" tests/readme.sh
 part "examples" tests/examples.py

@@ -1,6 +1,6 @@
-//! What callers build on the map, proved from its public contracts alone: scopes of names, a set of labels, and a cache
-//! whose look-ups are counted.
-ghost use Rattle.std.specs.Prelude.{◌≡◌, ◌+◌, Some, true, false, not, nat_eq, OnOk, IfOk, IfErr};
+//! What callers build on the map, proved from its public contracts alone: scopes of names, a set of labels, a cache whose
+//! look-ups are counted, and a map under random hashes.
+ghost use Rattle.std.specs.Prelude.{◌≡◌, ◌+◌, Some, true, false, not, nat_eq, [], OnOk, IfOk, IfErr};
 ghost use Rattle.std.specs.Option.{option_copied};
 ghost use Rattle.std.specs.String.{string_bytes};
 ghost use Rattle.halfbrown.specs.Costs.{key_hash, SearchCosts};
@@ -8,8 +8,11 @@ ghost use Rattle.halfbrown.specs.Growth.{insert_needs, unchecked_needs};
 ghost use Rattle.halfbrown.specs.Insertion.{HandsBack};
 ghost use Rattle.halfbrown.specs.Pairs.{value_of, holds, put};
 
-use halfbrown::{Limit, LimitedHashMap, Refusal, Refused, Tally};
-use std::hash::{BuildHasher, Hash};
+use halfbrown::{HashMap, Limit, LimitedHashMap, Refusal, Refused, Tally};
+use std::alloc::Global;
+use std::hash::{BuildHasher, Hash, RandomState};
+use std::io;
+use std::random::RandomSource;
 
 /// Gives a name its meaning in a scope, and returns the meaning that it had there. On error nothing changes.
 pub fn declare<N: Eq + Hash + Drop, M, S: BuildHasher, L: Limit>(
@@ -138,11 +141,21 @@ pub fn stored<K: Eq + Hash + Copy, S: BuildHasher, L: Limit>(
     Ok(counts[&key])
 }
 
+/// Ages by names that others choose, who cannot know how the names are hashed.
+pub fn ages_by_names_of_others<R: RandomSource>(
+    rt: &R,
+    alloc: Global,
+) -> io::Result<HashMap<String, u32, RandomState>>
+    ensures pairs { IfOk result (λ ages. ages.pairs ≡ []) }
+    ensures form { IfOk result (λ ages. ages.is_vec ≡ true) }
+{
+    Ok(HashMap::with_hasher(alloc, RandomState::new(rt)?))
+}
+
 #[cfg(test)]
 mod tests {
     use super::*;
-    use halfbrown::{DefaultHashBuilder, HashMap, SizedHashMap};
-    use std::alloc::Global;
+    use halfbrown::{DefaultHashBuilder, SizedHashMap};
     use std::test::Fail;
     use test_support::asserts::{assert_same, assert_same_at, assert_true, assert_true_at};
     use test_support::builders::{Counting, Rule};
@@ -209,6 +222,21 @@ mod tests {
         let stored = labels.remove_entry(&again).map(|pair| pair.0.name());
         assert_same(stored, Some((3, 1)), "the label that was added first")?;
         assert_true(!has_label(&labels, &again), "it is gone")
+    }
+
+    #[test]
+    fn names_of_others_are_hashed_at_random(rt: HostRuntime) -> Result<(), Fail> {
+        let alloc = rt.alloc();
+        let mut ages = ages_by_names_of_others(&rt, alloc)?;
+        for age in 0..40u32 {
+            ages.insert(format!(in alloc; "{age}")?, age)?;
+        }
+        assert_true(ages.is_map(), "more than a vector holds")?;
+        for name in ["0", "17", "39"] {
+            let age = ages.get(name).copied();
+            assert_same_at(name, age, name.parse().ok(), "the age")?;
+        }
+        assert_same(ages.get("40").copied(), None, "not held")
     }
 
     #[test]

@@ -10,7 +10,7 @@ use std::io::{BufRead, BufReader, BufWriter, ErrorKind, Read, Write};
 
 // No request is longer than `i`, two numbers of 20 digits, two spaces and a line end of two bytes. Of a longer line no more
 // is kept than shows that it is longer.
-const KEPT_BYTES: usize = 46;
+pub(crate) const KEPT_BYTES: usize = 46;
 
 /// Stores the next line with its end, or the first bytes of one that is too long for a request, in place of the last line.
 /// False where the input has ended. On an error the bytes that were taken are stored in the same way.

@@ -8,7 +8,7 @@ ghost use Rattle.halfmap.specs.Reading.{IsOut};
 ghost use Rattle.halfmap.specs.Session.{Serves, ServesFromEmpty, WritesAnswer, HashBuilder};
 
 use crate::answer::{Answer, Numbers, perform};
-use crate::lines::read_line;
+use crate::lines::{KEPT_BYTES, read_line};
 use crate::request::parse;
 use std::alloc::Global;
 use std::io;
@@ -56,7 +56,7 @@ fn answer_lines<R: Read, W: Write + Drop>(
     ensures { OnOk result (Serves (unread R.remaining reader.old) map.old map.new
         (written W.contents writer.old) (written W.contents writer.new)) }
 {
-    let mut line = Vec::new(alloc);
+    let mut line = Vec::with_capacity(alloc, KEPT_BYTES).ok().ok_or(Stopped)?;
     for _ in 0..u64::MAX {
         write_before_waiting(reader, writer)?;
         if !read_line(reader, &mut line, writer)? {
