@@ -3,6 +3,7 @@
 use crate::answer::reason;
 use crate::call::Items;
 use crate::maps::{Maps, form_name};
+use crate::pairs::print_gap;
 use crate::words::Name;
 use halfbrown::{DefaultHashBuilder, Limit, LimitedHashMap, Refusal, SizedHashMap};
 use std::alloc::{AllocError, Global};
@@ -64,10 +65,10 @@ fn print_collected<const N: usize>(
     print_one(rt, &made)?;
     if let Ok(map) = made {
         print!(rt; " [")?;
-        let mut gap = "";
+        let mut is_first = true;
         for (key, value) in &map {
-            print!(rt; "{gap}{key:?}={value}")?;
-            gap = " ";
+            print_gap(rt, &mut is_first)?;
+            print!(rt; "{key:?}={value}")?;
         }
         print!(rt; "]")?;
     }

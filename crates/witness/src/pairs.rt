@@ -1,6 +1,6 @@
 //! The calls on a map as a whole.
 
-use crate::answer::{Answer, reason};
+use crate::answer::Answer;
 use crate::call::Whole;
 use crate::made::print_made;
 use crate::maps::Maps;
@@ -87,33 +87,40 @@ fn print_state<'a, const N: usize>(rt: &impl Print, maps: &Maps<'a, N>) -> io::R
     print!(rt; "rule={}", crate::script::rule_name(map.hasher().rule))
 }
 
-/// Prints the pairs, in order.
-pub(crate) fn print_pairs<const N: usize>(rt: &impl Print, map: &Counted<'_, N>) -> io::Result<()> {
+/// Prints what stands between two elements of a list.
+pub(crate) fn print_gap(rt: &impl Print, is_first: &mut bool) -> io::Result<()> {
+    if std::mem::replace(is_first, false) {
+        return Ok(());
+    }
+    print!(rt; " ")
+}
+
+fn print_pairs<const N: usize>(rt: &impl Print, map: &Counted<'_, N>) -> io::Result<()> {
     print!(rt; "[")?;
-    let mut gap = "";
+    let mut is_first = true;
     for (key, value) in map.iter() {
-        print!(rt; "{gap}{key:?}={value}")?;
-        gap = " ";
+        print_gap(rt, &mut is_first)?;
+        print!(rt; "{key:?}={value}")?;
     }
     print!(rt; "]")
 }
 
 fn print_keys<const N: usize>(rt: &impl Print, map: &Counted<'_, N>) -> io::Result<()> {
     print!(rt; "[")?;
-    let mut gap = "";
+    let mut is_first = true;
     for key in map.keys() {
-        print!(rt; "{gap}{key:?}")?;
-        gap = " ";
+        print_gap(rt, &mut is_first)?;
+        print!(rt; "{key:?}")?;
     }
     print!(rt; "]")
 }
 
 fn print_values<const N: usize>(rt: &impl Print, map: &Counted<'_, N>) -> io::Result<()> {
     print!(rt; "[")?;
-    let mut gap = "";
+    let mut is_first = true;
     for value in map.values() {
-        print!(rt; "{gap}{value}")?;
-        gap = " ";
+        print_gap(rt, &mut is_first)?;
+        print!(rt; "{value}")?;
     }
     print!(rt; "]")
 }
@@ -123,10 +130,10 @@ fn print_taken<'a, const N: usize>(rt: &impl Print, maps: &mut Maps<'a, N>) -> i
     let empty = maps.empty();
     let taken = std::mem::replace(&mut maps.a, empty);
     print!(rt; "[")?;
-    let mut gap = "";
+    let mut is_first = true;
     for (key, value) in taken {
-        print!(rt; "{gap}{key:?}={value}")?;
-        gap = " ";
+        print_gap(rt, &mut is_first)?;
+        print!(rt; "{key:?}={value}")?;
     }
     print!(rt; "]")
 }
@@ -137,10 +144,10 @@ fn print_drained<const N: usize>(
     taken: usize,
 ) -> io::Result<()> {
     print!(rt; "[")?;
-    let mut gap = "";
+    let mut is_first = true;
     for (key, value) in map.drain().take(taken) {
-        print!(rt; "{gap}{key:?}={value}")?;
-        gap = " ";
+        print_gap(rt, &mut is_first)?;
+        print!(rt; "{key:?}={value}")?;
     }
     print!(rt; "]")
 }

@@ -44,7 +44,7 @@ fn insert<K: Eq + Hash + Copy, S: BuildHasher, L: Limit>(
         }
         OfWholeRaw::OrInsertWith(value) => {
             let made = || -> (K, u64)
-                ensures { result ≡ (key.entry, value.entry) }
+                ensures { result ≡ (key, value) }
             { (key, value) };
             let (stored, lent) = entry.or_insert_with(made);
             Answer::Pair(*stored, *lent)
