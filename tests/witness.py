@@ -202,8 +202,11 @@ def report(lines, found, wanted):
 def main():
     count = int(sys.argv[1]) if len(sys.argv) > 1 else 200
     seed = sys.argv[2] if len(sys.argv) > 2 else "1"
-    from witness_model import answers
-
+    try:
+        from witness_model import answers
+    except ImportError as error:
+        print(f"the model is not there: {error}")
+        return 0, 1
     if not PROGRAM.exists():
         print(f"{PROGRAM} is not there: `rt run` in crates/witness proves and builds it")
         return 0, 1
