@@ -79,7 +79,7 @@ def finds(lines, printed, ended):
     if at is None:
         return None
     if at >= len(printed):
-        return f"it stops before line {at + 1}, `{lines[at]}`: {ended}"
+        return f"the program stops, and {len(printed)} lines of it are shown: {ended}"
     if at >= len(wanted):
         return f"it goes on after the last line: {printed[at]}"
     return f"line {at + 1}, `{lines[at]}`: the program has `{printed[at]}`, the model `{wanted[at]}`"
