@@ -20,6 +20,8 @@ mod drops_of_retain;
 #[cfg(test)]
 mod expected;
 #[cfg(test)]
+mod long_histories;
+#[cfg(test)]
 mod long_runs;
 #[cfg(test)]
 mod long_runs_of_entries;
