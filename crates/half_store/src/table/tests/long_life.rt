@@ -44,6 +44,8 @@ fn is_loaded(hashes: &[u64], buckets: usize, last: usize) -> bool {
 #[derive(Clone, Copy)]
 enum Builder {
     Plain,
+    // All hashes differ, and have few home buckets.
+    Coarse,
     Zero,
     Top,
 }
@@ -51,6 +53,7 @@ enum Builder {
 fn hash_of(builder: Builder, key: u64) -> u64 {
     match builder {
         Builder::Plain => key,
+        Builder::Coarse => key << 4,
         Builder::Zero => 0,
         Builder::Top => u64::MAX,
     }
@@ -95,7 +98,7 @@ fn add_or_remove(rt: &impl Abort, lists: &mut Lists, key: u64, hash: u64) -> Res
     Ok(())
 }
 
-// Ten thousand additions and removals.
+// A hundred thousand additions and removals.
 fn lives_long(rt: &impl Abort, alloc: Global, builder: Builder) -> Result<(), Fail> {
     let mut lists = Lists {
         table: Table::new(alloc),
@@ -103,7 +106,7 @@ fn lives_long(rt: &impl Abort, alloc: Global, builder: Builder) -> Result<(), Fa
         hashes: Vec::new(alloc),
     };
     let mut state = 1u64;
-    for _ in 0..10_000 {
+    for _ in 0..100_000 {
         state = state
             .wrapping_mul(6364136223846793005)
             .wrapping_add(1442695040888963407);
@@ -127,7 +130,7 @@ fn lives_long(rt: &impl Abort, alloc: Global, builder: Builder) -> Result<(), Fa
 
 #[test]
 fn a_long_life(rt: HostRuntime) -> Result<(), Fail> {
-    for builder in [Builder::Plain, Builder::Zero, Builder::Top] {
+    for builder in [Builder::Plain, Builder::Coarse, Builder::Zero, Builder::Top] {
         lives_long(&rt, rt.alloc(), builder)?;
     }
     Ok(())
