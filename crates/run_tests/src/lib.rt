@@ -21,6 +21,7 @@ mod drops_of_retain;
 mod expected;
 #[cfg(test)]
 mod flooding;
+#[cfg(test)]
 mod long_histories;
 #[cfg(test)]
 mod long_runs;
