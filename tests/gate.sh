@@ -6,6 +6,7 @@ cd "$(dirname "$0")/.." || exit 1
 # It proves everything from nothing and leaves the programs that the next parts run.
 part "proofs, core edits and tests" rt ci
 part "witness" tests/witness.py
+part "faults that the witness finds" tests/witness_faults.py
 part "refused memory" tests/refused_memory.py
 part "answers at once" tests/answers_at_once.py
 part "hostile input" tests/hostile_input.py

@@ -19,7 +19,7 @@ import tempfile
 import time
 from concurrent.futures import ThreadPoolExecutor
 
-from edits import TOP, read_edit
+from edits import TOP, Edit
 from witness import difference, make_script
 from witness_model import answers
 
@@ -49,10 +49,11 @@ def copy_repository(folder):
 
 def plant(folder, edit):
     """Makes the edit in the copy."""
-    crate = edit.parent.parent if edit.parent.name == "must-fail" else TOP / "crates" / edit.parent.name
-    texts, _ = read_edit(edit, crate)
+    crate = edit.parent.parent.name if edit.parent.name == "must-fail" else edit.parent.name
+    texts = {}
+    Edit(edit).apply(texts, folder / "crates" / crate)
     for file, text in texts.items():
-        (folder / "crates" / crate.name / file.relative_to(crate)).write_text(text)
+        file.write_text(text)
 
 
 def play(folder, scripts):
