@@ -301,7 +301,8 @@ def prove(crate):
             print("0 passed, 1 failed")
             sys.exit(1)
     print(f"{crate}: proved, {time.monotonic() - began:.0f} s", flush=True)
-    return re.findall(r"^fn (\S+): proved$", said, re.M)
+    # Both commands may name them.
+    return sorted({*re.findall(r"^fn (\S+): proved$", said, re.M)})
 
 
 def main(words):
