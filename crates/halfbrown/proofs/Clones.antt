@@ -54,6 +54,7 @@ module _ {K : Type 0} (eq : K → K → Bool) (laws : IsEquivalence eq) where
     backed = omega arith;
     hashed = λ form. absurd (true≢false form);
     series = kept.series;
+    exceeds = kept.exceeds;
   }
   kept_cloned hash also_hash limit ps qs columns after false hashes buckets len alike hashed capacity kept = record {
     distinct = IsDistinct-zip (keys_of ps) (keys_of qs) alike kept.distinct;
@@ -61,4 +62,5 @@ module _ {K : Type 0} (eq : K → K → Bool) (laws : IsEquivalence eq) where
     backed = omega (arith, capacity);
     hashed = λ form. kept.hashed form ∙ sym (hashed form);
     series = kept.series;
+    exceeds = kept.exceeds;
   }

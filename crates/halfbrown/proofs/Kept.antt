@@ -66,6 +66,7 @@ module _ {K V : Type 0} where
       backed = kept.backed;
       hashed = λ form. stored form ∙ ap (λ hs. hs ++ hash k ∷ []) (kept.hashed form) ∙ sym (map-append hash (keys_of ps) (k ∷ [])) ∙ ap (map hash) (sym (keys_of-push ps k v));
       series = kept.series;
+      exceeds = kept.exceeds;
     }
 
     -- other values
@@ -77,6 +78,7 @@ module _ {K V : Type 0} where
       backed = kept.backed;
       hashed = λ form. kept.hashed form ∙ ap (map hash) (sym keys);
       series = kept.series;
+      exceeds = kept.exceeds;
     }
 
     -- a pair has another key, equal to its own and of the same hash
@@ -89,6 +91,7 @@ module _ {K V : Type 0} where
       backed = kept.backed;
       hashed = λ form. kept.hashed form ∙ sym (map-set_alike hash (keys_of ps) i old new at alike) ∙ ap (map hash) (sym (keys_of-set_key ps i new));
       series = kept.series;
+      exceeds = kept.exceeds;
     }
 
     -- a pair is gone, the last one at its index
@@ -103,6 +106,7 @@ module _ {K V : Type 0} where
           backed = kept.backed;
           hashed = λ form. stored form ∙ ap (λ hs. swap_out hs i) (kept.hashed form) ∙ sym (map-swap_out hash (keys_of ps) i) ∙ ap (map hash) (sym keys);
           series = kept.series;
+          exceeds = kept.exceeds;
         }
 
     -- no more pairs, of distinct keys, with their hashes
@@ -111,29 +115,32 @@ module _ {K V : Type 0} where
         → IsKept eq hash limit qs as_much is_vec after buckets
     kept_retained ps qs columns as_much is_vec hashes after buckets kept distinct fewer same stored =
         subst (λ n. IsKept eq hash limit qs n is_vec after buckets) (sym same)
-        (record { distinct = distinct; fits = omega (arith, kept.fits); backed = kept.backed; hashed = stored; series = kept.series })
+        (record { distinct = distinct; fits = omega (arith, kept.fits); backed = kept.backed; hashed = stored; series = kept.series; exceeds = kept.exceeds })
 
     -- no pairs and no hashes
     pub kept_none : (ps : List (K × V)) (columns : ℕ) (is_vec : Bool) (hashes : List ℕ) (buckets : ℕ) → ps ≡ [] → hashes ≡ []
-        → capacity_in limit columns is_vec buckets ≤ columns → (is_vec ≡ false → IsTableCapacity (capacity_of buckets)) → IsKept eq hash limit ps columns is_vec hashes buckets
+        → capacity_in limit columns is_vec buckets ≤ columns → (is_vec ≡ false → IsTableCapacity (capacity_of buckets)) → (is_vec ≡ false → limit < capacity_of buckets)
+        → IsKept eq hash limit ps columns is_vec hashes buckets
     unfolding IsDistinct
-    kept_none ps columns is_vec hashes buckets none no_hashes backed series = record {
+    kept_none ps columns is_vec hashes buckets none no_hashes backed series exceeds = record {
       distinct = subst (λ qs. IsDistinct eq (keys_of qs)) (sym none) tt;
       fits = omega (arith, ap length none);
       backed = backed;
       hashed = λ form. no_hashes ∙ ap (λ qs. map hash (keys_of qs)) (sym none);
       series = series;
+      exceeds = exceeds;
     }
 
     -- the same pairs in a table of these hashes
     pub kept_table : (ps qs : List (K × V)) (columns : ℕ) (hashes : List ℕ) (buckets : ℕ) → IsDistinct eq (keys_of ps) → qs ≡ ps → hashes ≡ map hash (keys_of ps)
-        → length ps ≤ capacity_of buckets → capacity_of buckets ≤ columns → IsTableCapacity (capacity_of buckets) → IsKept eq hash limit qs columns false hashes buckets
-    kept_table ps qs columns hashes buckets distinct same hashed fits backed series = record {
+        → length ps ≤ capacity_of buckets → capacity_of buckets ≤ columns → IsTableCapacity (capacity_of buckets) → limit < capacity_of buckets → IsKept eq hash limit qs columns false hashes buckets
+    kept_table ps qs columns hashes buckets distinct same hashed fits backed series exceeds = record {
       distinct = subst (λ rs. IsDistinct eq (keys_of rs)) (sym same) distinct;
       fits = omega (arith, ap length same);
       backed = backed;
       hashed = λ form. hashed ∙ ap (λ rs. map hash (keys_of rs)) (sym same);
       series = λ form. series;
+      exceeds = λ form. exceeds;
     }
 
     -- the same pairs in a vector whose columns have another capacity
@@ -149,11 +156,12 @@ module _ {K V : Type 0} where
           backed = subst (λ b. capacity_in limit after b buckets ≤ after) (sym form) within;
           hashed = λ in_table. absurd (true≢false (sym form ∙ in_table));
           series = kept.series;
+          exceeds = kept.exceeds;
         }
 
     -- a vector with no pairs
     pub kept_empty_vector : (ps : List (K × V)) (columns : ℕ) → ps ≡ [] → IsKept eq hash limit ps columns true [] 0
-    kept_empty_vector ps columns none = kept_none ps columns true [] 0 none refl (omega arith) (λ form. absurd (true≢false form))
+    kept_empty_vector ps columns none = kept_none ps columns true [] 0 none refl (omega arith) (λ form. absurd (true≢false form)) (λ form. absurd (true≢false form))
 
     -- a new vector
     pub kept_vector_made : (columns : Pairs K V) (form : FormState) → form ≡ vector_form → columns.pairs ≡ [] → IsKept eq hash limit columns.pairs columns.capacity form.is_vec form.hashes form.buckets
@@ -162,10 +170,10 @@ module _ {K V : Type 0} where
 
     -- a new table
     pub kept_table_made : (columns : Pairs K V) (table : TableState) (form : FormState) → form ≡ table_form table → columns.pairs ≡ [] → table.hashes ≡ [] → capacity_of table.buckets ≤ columns.capacity
-        → IsTableCapacity (capacity_of table.buckets) → IsKept eq hash limit columns.pairs columns.capacity form.is_vec form.hashes form.buckets
-    kept_table_made columns table form made none no_hashes backed series =
+        → IsTableCapacity (capacity_of table.buckets) → limit < capacity_of table.buckets → IsKept eq hash limit columns.pairs columns.capacity form.is_vec form.hashes form.buckets
+    kept_table_made columns table form made none no_hashes backed series exceeds =
         subst (λ (f : FormState). IsKept eq hash limit columns.pairs columns.capacity f.is_vec f.hashes f.buckets) (sym made)
-        (kept_none columns.pairs columns.capacity false table.hashes table.buckets none no_hashes backed (λ table. series))
+        (kept_none columns.pairs columns.capacity false table.hashes table.buckets none no_hashes backed (λ table. series) (λ table. exceeds))
 
     -- what the fields keep is what holds of the state
     pub state_of : {S : Type 0} (columns : Pairs K V) (form : FormState) (builder : S) → IsKept eq hash limit columns.pairs columns.capacity form.is_vec form.hashes form.buckets
@@ -175,4 +183,5 @@ module _ {K V : Type 0} where
       fits = kept.fits;
       vector_capacity = capacity_within limit columns.capacity form.is_vec form.buckets;
       table_capacity = λ table. subst IsTableCapacity (table_capacity_is limit columns.capacity form.is_vec form.buckets table) (kept.series table);
+      table_exceeds = λ table. subst (λ n. limit < n) (table_capacity_is limit columns.capacity form.is_vec form.buckets table) (kept.exceeds table);
     }

@@ -25,4 +25,5 @@ kept_reversed eq hash limit laws ps columns is_vec hashes after buckets kept tur
       backed = kept.backed;
       hashed = λ form. turned ∙ ap reverse (kept.hashed form) ∙ sym (map-reverse hash (keys_of ps)) ∙ ap (map hash) (sym keys);
       series = kept.series;
+      exceeds = kept.exceeds;
     }

@@ -1,5 +1,5 @@
 -- Where a call needs more capacity, how much, and what the capacity is afterwards.
-use Rattle.std.specs.Prelude.{◌≡◌, ℕ, ◌+◌, ◌^◌, ◌<◌, ◌≤◌, ◌⊎◌, min, Bool, not, ◌&&◌, ◌==◌, nat_lt, length, Option, None, Some, IfNone, IfSome, MatchBool, MatchOption, if◌then◌else◌}
+use Rattle.std.specs.Prelude.{◌≡◌, ℕ, ◌+◌, ◌^◌, ◌<◌, ◌≤◌, ◌⊎◌, min, Bool, not, ◌&&◌, ◌||◌, ◌==◌, nat_lt, nat_le, length, Option, None, Some, IfNone, IfSome, MatchBool, MatchOption, if◌then◌else◌}
 use Rattle.half_store.specs.declared.refusal.Refusal.{Refusal}
 use Rattle.half_store.specs.Refusal.{refusal_of}
 use Rattle.half_store.specs.Capacity.{capacity_for}
@@ -24,10 +24,16 @@ total_allowed limit is_vec total = if is_vec then min total limit else total
 abbrev pub reserve_needs : {K V S : Type 0} → ℕ → State K V S → ℕ → Option ℕ
 reserve_needs limit m total = let most = total_allowed limit m.is_vec total in if nat_lt m.capacity most then Some most else None
 
--- the capacity after `shrink_to_fit`: the least that the pairs fit, or, where pairs are held and memory was refused, what it was
-abbrev pub HasCapacityShrunk : {K V S : Type 0} → State K V S → State K V S → Type 0
-HasCapacityShrunk old new =
-    (new.capacity ≡ (if new.is_vec then length old.pairs else capacity_for (length old.pairs))) ⊎ ((0 < length old.pairs) × (new.capacity ≡ old.capacity))
+-- whether the form is the vector after `shrink_to_fit`: it was, or the limit allows the pairs. This is the one call that goes back
+abbrev pub vec_shrunk : ℕ → Bool → ℕ → Bool
+vec_shrunk limit is_vec count = is_vec || nat_le count limit
+
+-- the capacity after `shrink_to_fit`: the least that the pairs fit, or, where pairs are held and memory was refused, what it was, of
+-- which a vector has no more than the limit
+abbrev pub HasCapacityShrunk : {K V S : Type 0} → ℕ → State K V S → State K V S → Type 0
+HasCapacityShrunk limit old new =
+    (new.capacity ≡ (if new.is_vec then length old.pairs else capacity_for (length old.pairs)))
+    ⊎ ((0 < length old.pairs) × (new.capacity ≡ total_allowed limit new.is_vec old.capacity))
 
 -- the capacity that a constructor for so many pairs needs
 abbrev pub making_needs : ℕ → Option ℕ
@@ -42,7 +48,7 @@ module _ {K V S : Type 0} (limit : ℕ) where
   abbrev pub is_full : State K V S → Bool
   is_full m = m.is_vec && (length m.pairs == limit)
 
-  -- whether the form is the vector after a granted switching call: one on a full vector makes a table, and no call goes back
+  -- whether the form is the vector after a granted switching call: one on a full vector makes a table
   abbrev pub stays_vec : State K V S → Bool
   stays_vec m = m.is_vec && not (is_full m)
 
@@ -76,9 +82,9 @@ module _ {K V S : Type 0} (limit : ℕ) where
     pub grantable : IsGrantable (reserve_needs limit old (length old.pairs + additional))
     pub builder : new.builder ≡ old.builder
 
--- capacity is given back
-pub record Shrinks {K V S : Type 0} (old new : State K V S) : Type 0 where
-  pub pairs : new.pairs ≡ old.pairs
-  pub form : new.is_vec ≡ old.is_vec
-  pub capacity : HasCapacityShrunk old new
-  pub builder : new.builder ≡ old.builder
+  -- capacity is given back, and so is the table where the limit allows the pairs
+  pub record Shrinks (old new : State K V S) : Type 0 where
+    pub pairs : new.pairs ≡ old.pairs
+    pub form : new.is_vec ≡ vec_shrunk limit old.is_vec (length old.pairs)
+    pub capacity : HasCapacityShrunk limit old new
+    pub builder : new.builder ≡ old.builder

@@ -1,5 +1,5 @@
 -- How the fields of a map make its state.
-use Rattle.std.specs.Prelude.{◌≡◌, ℕ, ◌≤◌, Bool, false, List, length, map, min, if◌then◌else◌}
+use Rattle.std.specs.Prelude.{◌≡◌, ℕ, ◌<◌, ◌≤◌, Bool, false, List, length, map, min, if◌then◌else◌}
 use Rattle.std.specs.List.{IsDistinct}
 use Rattle.std.specs.Map.{keys_of}
 use Rattle.half_store.specs.Capacity.{capacity_of}
@@ -22,3 +22,4 @@ pub record IsKept {K V : Type 0} (eq : K → K → Bool) (hash : K → ℕ) (lim
   pub backed : capacity_in limit columns is_vec buckets ≤ columns
   pub hashed : is_vec ≡ false → hashes ≡ map hash (keys_of pairs)
   pub series : is_vec ≡ false → IsTableCapacity (capacity_of buckets)
+  pub exceeds : is_vec ≡ false → limit < capacity_of buckets

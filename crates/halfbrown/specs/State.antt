@@ -1,5 +1,5 @@
 -- What contracts see of a map.
-use Rattle.std.specs.Prelude.{◌≡◌, ℕ, ◌≤◌, Bool, true, false, List, length}
+use Rattle.std.specs.Prelude.{◌≡◌, ℕ, ◌<◌, ◌≤◌, Bool, true, false, List, length}
 use Rattle.std.specs.List.{IsDistinct}
 use Rattle.std.specs.Map.{keys_of}
 use Rattle.half_store.specs.Capacity.{capacity_for}
@@ -44,9 +44,10 @@ abbrev pub IsTableCapacity : ℕ → Type 0
 IsTableCapacity capacity = capacity ≡ capacity_for capacity
 
 -- what holds of every map: no two held keys are equal, the pairs fit the capacity, a vector's capacity is at most the limit, and a
--- table's is one of the series
+-- table's is more than the limit and one of the series
 pub record IsState {K V S : Type 0} (eq : K → K → Bool) (limit : ℕ) (m : State K V S) : Type 0 where
   pub distinct : IsDistinct eq (keys_of m.pairs)
   pub fits : length m.pairs ≤ m.capacity
   pub vector_capacity : m.is_vec ≡ true → m.capacity ≤ limit
   pub table_capacity : m.is_vec ≡ false → IsTableCapacity m.capacity
+  pub table_exceeds : m.is_vec ≡ false → limit < m.capacity

@@ -5,7 +5,7 @@ use Rattle.halfbrown.specs.declared.run.Command.{Command}
 use Rattle.halfbrown.specs.declared.run.Command.TheVariants.{Insert, InsertNew, EntryOrInsert, RawOrInsert, Get, Remove, Clear, Reserve, Shrink, IsVec, Len}
 use Rattle.halfbrown.specs.declared.run.Reply.{Reply}
 use Rattle.halfbrown.specs.declared.run.Reply.TheVariants.{Was, Added, Present, Value, Found, Removed, Done, Form, Length, Refused}
-use Rattle.halfbrown.specs.Growth.{insert_needs, unchecked_needs, reserve_needs, IsRefusal, Reserves, Shrinks}
+use Rattle.halfbrown.specs.Growth.{vec_shrunk, insert_needs, unchecked_needs, reserve_needs, IsRefusal, Reserves, Shrinks}
 use Rattle.halfbrown.specs.Insertion.{Puts}
 use Rattle.halfbrown.specs.Pairs.{value_of, pair_of, holds, take_out}
 use Rattle.halfbrown.specs.State.{State, WithPairs}
@@ -15,18 +15,18 @@ abbrev pub value_or : {K V : Type 0} → (K → K → Bool) → List (K × V) �
 value_or eq pairs k v = unwrap_or (value_of eq pairs k) v
 
 -- the reply to a granted command: the form and the pairs in order decide it
-abbrev pub granted_reply : {K V : Type 0} → (K → K → Bool) → Bool → List (K × V) → Command K V → Reply K V
-granted_reply eq is_vec pairs (Insert k v) = Was (value_of eq pairs k)
-granted_reply eq is_vec pairs (InsertNew k v) = if holds eq pairs k then Present k v else Added
-granted_reply eq is_vec pairs (EntryOrInsert k v) = Value (value_or eq pairs k v)
-granted_reply eq is_vec pairs (RawOrInsert k v) = Value (value_or eq pairs k v)
-granted_reply eq is_vec pairs (Get k) = Found (value_of eq pairs k)
-granted_reply eq is_vec pairs (Remove k) = Removed (pair_of eq pairs k)
-granted_reply eq is_vec pairs Clear = Done
-granted_reply eq is_vec pairs (Reserve additional) = Done
-granted_reply eq is_vec pairs Shrink = Done
-granted_reply eq is_vec pairs IsVec = Form is_vec
-granted_reply eq is_vec pairs Len = Length (length pairs)
+abbrev pub granted_reply : {K V : Type 0} → ℕ → (K → K → Bool) → Bool → List (K × V) → Command K V → Reply K V
+granted_reply limit eq is_vec pairs (Insert k v) = Was (value_of eq pairs k)
+granted_reply limit eq is_vec pairs (InsertNew k v) = if holds eq pairs k then Present k v else Added
+granted_reply limit eq is_vec pairs (EntryOrInsert k v) = Value (value_or eq pairs k v)
+granted_reply limit eq is_vec pairs (RawOrInsert k v) = Value (value_or eq pairs k v)
+granted_reply limit eq is_vec pairs (Get k) = Found (value_of eq pairs k)
+granted_reply limit eq is_vec pairs (Remove k) = Removed (pair_of eq pairs k)
+granted_reply limit eq is_vec pairs Clear = Done
+granted_reply limit eq is_vec pairs (Reserve additional) = Done
+granted_reply limit eq is_vec pairs Shrink = Form (vec_shrunk limit is_vec (length pairs))
+granted_reply limit eq is_vec pairs IsVec = Form is_vec
+granted_reply limit eq is_vec pairs Len = Length (length pairs)
 
 module _ {K V S : Type 0} (limit : ℕ) (eq : K → K → Bool) where
   -- the capacity that the command needs, where it needs more
@@ -48,14 +48,14 @@ module _ {K V S : Type 0} (limit : ℕ) (eq : K → K → Bool) where
   Leaves old (Remove k) new = WithPairs old (take_out eq old.pairs k) new
   Leaves old Clear new = WithPairs old [] new
   Leaves old (Reserve additional) new = Reserves limit old additional new
-  Leaves old Shrink new = Shrinks old new
+  Leaves old Shrink new = Shrinks limit old new
   Leaves old IsVec new = new ≡ old
   Leaves old Len new = new ≡ old
 
   -- from old, the command may have this reply and leave new: a refused command comes back, with the reason, and has changed nothing
   abbrev pub Steps : State K V S → Command K V → Reply K V → State K V S → Type 0
   Steps old command (Refused back why) new = (back ≡ command) × IsRefusal (command_needs old command) why × (new ≡ old)
-  Steps old command reply new = (reply ≡ granted_reply eq old.is_vec old.pairs command) × Leaves old command new
+  Steps old command reply new = (reply ≡ granted_reply limit eq old.is_vec old.pairs command) × Leaves old command new
 
 -- the reason, where the reply is a refusal
 abbrev pub refusal_in : {K V : Type 0} → Reply K V → Option Refusal

@@ -50,7 +50,8 @@ pub type SizedHashMap<K, V, S, const N: usize> = LimitedHashMap<K, V, S, UpTo<N>
 pub type HashMap<K, V, S> = LimitedHashMap<K, V, S, UpTo<32>>;
 
 /// A map in two forms. Up to the limit its pairs are stored in a vector and searched by `==`, and nothing is hashed. A
-/// switching call on as many pairs as the limit makes it a hash table, and no call goes back.
+/// switching call on as many pairs as the limit makes it a hash table. One call goes back: `shrink_to_fit`, where no more
+/// pairs are held than the limit.
 ///
 /// In both forms the pairs keep the order of their insertion, until a removal moves the last one to the index that
 /// became free.

@@ -3,6 +3,7 @@ ghost use Rattle.std.specs.Prelude.{◌≡◌, true, false, [], IsOk, IfOk, IfEr
 ghost use Rattle.halfbrown.specs.Costs.{Cost, GrewBy, key_hash};
 ghost use Rattle.halfbrown.specs.Run.{Runs};
 ghost use Rattle.halfbrown.specs.RunCost.{command_cost};
+ghost use Rattle.halfbrown.specs.RunLaws.{shrinks};
 ghost use Rattle.halfbrown.specs.Step.{Steps, is_refused};
 
 pub mod laws;
@@ -56,7 +57,7 @@ pub enum Reply<K, V> {
     Removed(Option<(K, V)>),
     /// It is done.
     Done,
-    /// Whether the form is the vector.
+    /// Whether the form is the vector: what `IsVec` asks, and what it is after `Shrink`.
     Form(bool),
     /// How many pairs are held.
     Length(usize),
@@ -81,7 +82,7 @@ pub fn run<K: Eq + Hash + Drop, V: Copy, S: BuildHasher, L: Limit>(
     ensures run { IfOk result (λ replies. (cost : Cost)
         × Runs L.LIMIT K.eq (key_hash S.BuildHasher S.Hasher.Hasher K.hash_input) map.old
         commands.items replies.items map.new cost) }
-    ensures stays_a_table { map.old.is_vec ≡ false → map.new.is_vec ≡ false }
+    ensures stays_a_table { shrinks commands.items ≡ false → map.old.is_vec ≡ false → map.new.is_vec ≡ false }
     ensures empty { commands.items ≡ [] → IsOk result }
     ensures returned { IfErr result (λ back. back.items ≡ commands.items) }
     ensures err { OnErr result (map.new ≡ map.old) }
@@ -107,9 +108,10 @@ pub fn run_counted<K: Eq + Hash + Drop, V: Copy, S: BuildHasher, L: Limit>(
         commands.items replies.items map.new cost × GrewBy cost tally.old tally.new) }
     ensures empty { commands.items ≡ [] → IsOk result }
 
-    // Once a table, always a table; and a run that ends with a vector has hashed nothing.
-    ensures stays_a_table { map.old.is_vec ≡ false → map.new.is_vec ≡ false }
-    ensures nothing_hashed { map.new.is_vec ≡ true → tally.new.asked ≡ tally.old.asked }
+    // Without `Shrink`: once a table, always a table; and a run that ends with a vector has hashed nothing.
+    ensures stays_a_table { shrinks commands.items ≡ false → map.old.is_vec ≡ false → map.new.is_vec ≡ false }
+    ensures nothing_hashed { shrinks commands.items ≡ false → map.new.is_vec ≡ true
+        → tally.new.asked ≡ tally.old.asked }
 
     // Where memory for the replies is refused, nothing was done.
     ensures returned { IfErr result (λ back. back.items ≡ commands.items) }
@@ -156,7 +158,7 @@ fn step<K: Eq + Hash + Drop, V: Copy, S: BuildHasher, L: Limit>(
         },
         Command::Shrink => {
             map.shrink_to_fit();
-            Reply::Done
+            Reply::Form(map.is_vec())
         }
         Command::Get(key) => Reply::Found(map.get_counted(&key, tally).copied()),
         Command::Remove(key) => Reply::Removed(map.remove_entry_counted(&key, tally)),

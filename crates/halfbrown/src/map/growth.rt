@@ -1,9 +1,10 @@
 //! Growing and shrinking the capacity.
-ghost use Rattle.std.specs.Prelude.{◌≡◌, ◌+◌, length, OnOk, OnErr, IfErr};
+ghost use Rattle.std.specs.Prelude.{◌≡◌, ◌+◌, length, nat_le, OnOk, OnErr, IfErr};
 ghost use Rattle.halfbrown.specs.Growth.{reserve_needs, IsRefusal, Reserves, Shrinks};
 ghost use Rattle.halfbrown.specs.State.{IsState};
 
 use super::LimitedHashMap;
+use super::form::Form;
 use crate::Limit;
 use half_store::Refusal;
 use half_store::capacity::capacity_for;
@@ -45,17 +46,23 @@ impl<K: Eq + Hash, V, S: BuildHasher, L: Limit> LimitedHashMap<K, V, S, L> {
         self.form.reserve(needed)
     }
 
-    /// Shrinks the capacity to the least that the pairs fit: in a table the least of its series. Where memory for that is
-    /// refused it stays; an empty map needs none, and has capacity 0 afterwards. The form stays. Nothing is hashed.
+    /// Makes a table that holds no more pairs than the limit a vector again, and shrinks the capacity to the least that the
+    /// pairs fit: in a table the least of its series. The pairs keep their order. Nothing is hashed or compared.
+    ///
+    /// Going back needs no memory, and always succeeds. Shrinking the columns of the pairs does: where that is refused they
+    /// keep theirs. An empty map needs none, and has capacity 0 afterwards.
     ///
     /// ```
     /// ages.shrink_to_fit();
+    /// let is_vector = ages.is_vec(); // true, unless more ages are held than the limit
     /// ```
     pub fn shrink_to_fit(&mut self)
-        ensures after { Shrinks self.old self.new }
+        ensures after { Shrinks L.LIMIT self.old self.new }
+        ensures vector { self.new.is_vec ≡ nat_le (length self.new.pairs) L.LIMIT }
         ensures state { IsState K.eq L.LIMIT self.new }
     {
-        if self.form.is_vec() {
+        if self.columns.len() <= L::LIMIT {
+            self.form = Form::vector();
             self.columns.shrink_to(0);
         } else {
             self.form.shrink_to_fit();

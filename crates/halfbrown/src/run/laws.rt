@@ -1,16 +1,23 @@
 //! What holds of every run, in the words of `run`'s contract. These functions do nothing: the laws are their contracts.
 ghost use Rattle.halfbrown.specs.Costs.{key_hash};
-ghost use Rattle.halfbrown.specs.RunLaws.{FormLaw, TableLaw, UnswitchedLaw, NothingHashedLaw, RepliesLaw};
+ghost use Rattle.halfbrown.specs.RunLaws.{FormLaw, UnswitchedLaw, SwitchLaw, TableLaw, NothingHashedLaw, RepliesLaw};
 
 use crate::Limit;
 use std::hash::{BuildHasher, Hash};
 
-/// A run ends with a vector exactly where it began with one and no command of it put a pair into a full one; and then
-/// it has hashed nothing. Once a table, always a table.
+/// A run ends in the form that its last change of form left: a table where that was a pair put into a full vector, a
+/// vector where it was a `Shrink` with no more pairs than the limit. Where no command changed it, it is the first one. A
+/// run that begins with a vector and puts no pair into a full one hashes nothing.
 pub fn form_of_a_run<K: Eq + Hash, V, S: BuildHasher, L: Limit>()
     ensures form { FormLaw V L.LIMIT K.eq (key_hash S.BuildHasher S.Hasher.Hasher K.hash_input) }
-    ensures stays_a_table { TableLaw V L.LIMIT K.eq (key_hash S.BuildHasher S.Hasher.Hasher K.hash_input) }
     ensures unswitched { UnswitchedLaw V L.LIMIT K.eq (key_hash S.BuildHasher S.Hasher.Hasher K.hash_input) }
+{}
+
+/// Without `Shrink` no run goes back: it ends with a vector exactly where it began with one and no command of it put a
+/// pair into a full one; and then it has hashed nothing. Once a table, always a table.
+pub fn form_without_shrink<K: Eq + Hash, V, S: BuildHasher, L: Limit>()
+    ensures switched { SwitchLaw V L.LIMIT K.eq (key_hash S.BuildHasher S.Hasher.Hasher K.hash_input) }
+    ensures stays_a_table { TableLaw V L.LIMIT K.eq (key_hash S.BuildHasher S.Hasher.Hasher K.hash_input) }
     ensures nothing_hashed { NothingHashedLaw V L.LIMIT K.eq (key_hash S.BuildHasher S.Hasher.Hasher K.hash_input) }
 {}
 

@@ -39,11 +39,11 @@ returns-clause-run g c =
     run_ended g.L.Limit.LIMIT g.K.PartialEq.eq (key_hash g.S.BuildHasher g.S.Hasher.Hasher g.K.Hash.hash_input) c.args.map.now c.args.commands.items c.loop-command.map (into_iter_items c.loop-command.left) c.loop-command.replies.items c.args.tally.now c.loop-command.tally none c.loop-command.invariant.so_far
 
 pub returns-clause-stays_a_table : goal.returns-clause-stays_a_table
-returns-clause-stays_a_table g c =
+returns-clause-stays_a_table g c none =
     let run = returns-clause-run g c in
-    table_law g.L.Limit.LIMIT g.K.PartialEq.eq (key_hash g.S.BuildHasher g.S.Hasher.Hasher g.K.Hash.hash_input) c.args.map.now c.args.commands.items c.loop-command.replies.items c.loop-command.map run.0 run.1
+    table_law g.L.Limit.LIMIT g.K.PartialEq.eq (key_hash g.S.BuildHasher g.S.Hasher.Hasher g.K.Hash.hash_input) c.args.map.now c.args.commands.items c.loop-command.replies.items c.loop-command.map run.0 run.1 none
 
 pub returns-clause-nothing_hashed : goal.returns-clause-nothing_hashed
-returns-clause-nothing_hashed g c form =
+returns-clause-nothing_hashed g c none form =
     let run = returns-clause-run g c in
-    omega (arith, run.2.asked, nothing_hashed_law g.L.Limit.LIMIT g.K.PartialEq.eq (key_hash g.S.BuildHasher g.S.Hasher.Hasher g.K.Hash.hash_input) c.args.map.now c.args.commands.items c.loop-command.replies.items c.loop-command.map run.0 run.1 form)
+    omega (arith, run.2.asked, nothing_hashed_law g.L.Limit.LIMIT g.K.PartialEq.eq (key_hash g.S.BuildHasher g.S.Hasher.Hasher g.K.Hash.hash_input) c.args.map.now c.args.commands.items c.loop-command.replies.items c.loop-command.map run.0 run.1 none form)

@@ -14,7 +14,7 @@ invariant_of-self g c =
     let columns = c.self.inside.columns in
     subst (λ cs. IsKept eq hash limit cs.pairs cs.capacity after.is_vec after.hashes after.buckets) (sym c.clear-2.ensures)
     (kept_same eq hash limit [] columns.capacity before.is_vec after.is_vec after.hashes before.buckets after.buckets c.clear.ensures.form c.clear.ensures.buckets
-    (kept_none eq hash limit [] columns.capacity before.is_vec after.hashes before.buckets refl c.clear.ensures.hashes c.self.invariant.backed c.self.invariant.series))
+    (kept_none eq hash limit [] columns.capacity before.is_vec after.hashes before.buckets refl c.clear.ensures.hashes c.self.invariant.backed c.self.invariant.series c.self.invariant.exceeds))
 
 pub returns-clause-state : goal.returns-clause-state
 returns-clause-state g c =

@@ -1,4 +1,4 @@
-use Rattle.std.proofs.Common.{◌≡◌, ◌≤◌, length, map, sym, ap, subst, ◌∙◌, arith}
+use Rattle.std.proofs.Common.{◌≡◌, ◌<◌, ◌≤◌, length, map, sym, ap, subst, ◌∙◌, arith}
 use Rattle.std.proofs.lemmas.Map.Entries.{length-keys_of}
 use Rattle.std.specs.Map.{keys_of}
 use Rattle.half_store.specs.Work.{asked_more}
@@ -40,10 +40,12 @@ invariant_of-self-2 g c =
     let stored : table.hashes ≡ map hash (keys_of c.self.inside.columns.pairs) = c.store_hashes.ensures.hashes ∙ ap (map hash) c.keys.ensures.keys ∙ ap (λ ps. map hash (keys_of ps)) c.in_ok-reserve.ensures.pairs in
     let made : capacity_in g.L.Limit.LIMIT new.capacity c.from_table.result.is_vec c.from_table.result.buckets ≡ capacity_of table.buckets = ap (λ (f : FormState). capacity_in g.L.Limit.LIMIT new.capacity f.is_vec f.buckets) c.from_table.ensures in
     let left = returns-clause-capacity_left g c in
+    let full : length c.self.inside.columns.pairs ≡ g.L.Limit.LIMIT = ap (λ m. length m.pairs) c.self.view_is ∙ full_len g.L.Limit.LIMIT c.args.self.now c.requires in
+    let exceeds : g.L.Limit.LIMIT < capacity_of table.buckets = omega (arith, made, left, full, ap length c.in_ok-reserve.ensures.pairs) in
     let backed : capacity_of table.buckets ≤ new.capacity = omega (arith, capacity, c.in_ok-reserve.ensures.ok) in
     subst (λ (f : FormState). IsKept g.K.PartialEq.eq hash g.L.Limit.LIMIT new.pairs new.capacity f.is_vec f.hashes f.buckets) (sym c.from_table.ensures)
     (kept_table g.K.PartialEq.eq hash g.L.Limit.LIMIT c.self.inside.columns.pairs new.pairs new.capacity table.hashes table.buckets
-    c.self.invariant.distinct c.in_ok-reserve.ensures.pairs stored (omega (arith, made, left, ap length c.in_ok-reserve.ensures.pairs)) backed (subst IsTableCapacity (sym capacity) c.capacity.ensures.series))
+    c.self.invariant.distinct c.in_ok-reserve.ensures.pairs stored (omega (arith, made, left, ap length c.in_ok-reserve.ensures.pairs)) backed (subst IsTableCapacity (sym capacity) c.capacity.ensures.series) exceeds)
 
 pub returns-clause-state : goal.returns-clause-state
 returns-clause-state g c =

@@ -16,6 +16,7 @@ pub invariant_of-result-2 : goal.invariant_of-result-2
 invariant_of-result-2 g c =
     kept_table_made g.K.PartialEq.eq (key_hash g.S.BuildHasher g.S.Hasher.Hasher g.K.Hash.hash_input c.args.builder) g.L.Limit.LIMIT c.in_ok-columns-2.columns c.in_ok-table.table c.from_table.result c.from_table.ensures
     c.in_ok-columns-2.ensures.pairs c.in_ok-table.ensures.hashes (omega (arith, c.in_ok-columns-2.ensures.capacity, c.capacity.ensures.value)) (subst IsTableCapacity c.capacity.ensures.value c.capacity.ensures.series)
+    (omega (arith, c.if-capacity-LIMIT.false, c.in_ok-table.ensures.capacity))
 
 pub returns-clause-state : goal.returns-clause-state
 returns-clause-state g c =

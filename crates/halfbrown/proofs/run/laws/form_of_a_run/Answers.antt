@@ -1,15 +1,9 @@
 use Rattle.halfbrown.specs.Costs.{key_hash}
-use Rattle.halfbrown.proofs.RunLaws.{form_law, table_law, unswitched_law, nothing_hashed_law}
+use Rattle.halfbrown.proofs.RunLaws.{form_law, unswitched_law}
 use Rattle.halfbrown.proofs.run.laws.form_of_a_run.Goals as goal
 
 pub returns-clause-form : goal.returns-clause-form
 returns-clause-form g c = form_law g.L.Limit.LIMIT g.K.PartialEq.eq (key_hash g.S.BuildHasher g.S.Hasher.Hasher g.K.Hash.hash_input)
-
-pub returns-clause-nothing_hashed : goal.returns-clause-nothing_hashed
-returns-clause-nothing_hashed g c = nothing_hashed_law g.L.Limit.LIMIT g.K.PartialEq.eq (key_hash g.S.BuildHasher g.S.Hasher.Hasher g.K.Hash.hash_input)
-
-pub returns-clause-stays_a_table : goal.returns-clause-stays_a_table
-returns-clause-stays_a_table g c = table_law g.L.Limit.LIMIT g.K.PartialEq.eq (key_hash g.S.BuildHasher g.S.Hasher.Hasher g.K.Hash.hash_input)
 
 pub returns-clause-unswitched : goal.returns-clause-unswitched
 returns-clause-unswitched g c = unswitched_law g.L.Limit.LIMIT g.K.PartialEq.eq (key_hash g.S.BuildHasher g.S.Hasher.Hasher g.K.Hash.hash_input)
