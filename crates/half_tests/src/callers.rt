@@ -1,6 +1,6 @@
 //! What callers build on the map, proved from its public contracts alone: scopes of names, a set of labels, a cache whose
 //! look-ups are counted, and a map under random hashes.
-ghost use Rattle.std.specs.Prelude.{◌≡◌, ◌+◌, Some, true, false, not, nat_eq, [], OnOk, IfOk, IfErr};
+ghost use Rattle.std.specs.Prelude.{◌≡◌, ◌+◌, Some, true, false, not, nat_eq, nat_le, length, [], OnOk, IfOk, IfErr};
 ghost use Rattle.std.specs.Option.{option_copied};
 ghost use Rattle.std.specs.String.{string_bytes};
 ghost use Rattle.halfbrown.specs.Costs.{key_hash, SearchCosts};
@@ -141,6 +141,14 @@ pub fn stored<K: Eq + Hash + Copy, S: BuildHasher, L: Limit>(
     Ok(counts[&key])
 }
 
+/// Removes the ages from forty on, and gives back the memory that is not needed: few ages are a vector again.
+pub fn keep_the_young<S: BuildHasher, L: Limit>(ages: &mut LimitedHashMap<u64, u32, S, L>)
+    ensures vector { ages.new.is_vec ≡ nat_le (length ages.new.pairs) L.LIMIT }
+{
+    ages.retain(|_, age| *age < 40);
+    ages.shrink_to_fit();
+}
+
 /// Ages by names that others choose, who cannot know how the names are hashed.
 pub fn ages_by_names_of_others<R: RandomSource>(
     rt: &R,
@@ -222,6 +230,23 @@ mod tests {
         let stored = labels.remove_entry(&again).map(|pair| pair.0.name());
         assert_same(stored, Some((3, 1)), "the label that was added first")?;
         assert_true(!has_label(&labels, &again), "it is gone")
+    }
+
+    #[test]
+    fn the_young_are_a_vector_where_they_are_few(rt: HostRuntime) -> Result<(), Fail> {
+        let mut ages = SizedHashMap::<u64, u32, DefaultHashBuilder, 5>::new(rt.alloc());
+        for (id, age) in [(1, 36), (2, 41), (3, 5), (4, 39), (5, 12), (6, 8)] {
+            ages.insert(id, age)?;
+        }
+        assert_true(ages.is_map(), "six ages, and the limit is five")?;
+        keep_the_young(&mut ages);
+        assert_true(ages.is_vec(), "five ages")?;
+        let mut left = ages.iter();
+        for pair in [(1, 36), (3, 5), (4, 39), (5, 12), (6, 8)] {
+            let next = left.next().map(|next| (*next.0, *next.1));
+            assert_same(next, Some(pair), "in the order of before")?;
+        }
+        assert_true(left.next().is_none(), "no more")
     }
 
     #[test]

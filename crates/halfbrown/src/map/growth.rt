@@ -54,7 +54,7 @@ impl<K: Eq + Hash, V, S: BuildHasher, L: Limit> LimitedHashMap<K, V, S, L> {
     ///
     /// ```
     /// ages.shrink_to_fit();
-    /// let is_vector = ages.is_vec(); // true, unless more ages are held than the limit
+    /// let is_vector = ages.is_vec(); // true: no more ages are held than the limit
     /// ```
     pub fn shrink_to_fit(&mut self)
         ensures after { Shrinks L.LIMIT self.old self.new }
