@@ -1,5 +1,10 @@
--- The rule for growth: how many buckets a table has, and how many pairs it may hold.
-use Rattle.std.specs.Prelude.{◌≡◌, ℕ, zero, suc, ◌+◌, ◌-◌, ◌*◌, ◌/◌, ◌^◌, ◌≤◌, ◌⊎◌, ◌==◌, nat_lt, if◌then◌else◌}
+-- The rules for growth: how many buckets a table has, how many pairs it may hold, and how far a vector grows.
+use Rattle.std.specs.Prelude.{◌≡◌, ℕ, zero, suc, ◌+◌, ◌-◌, ◌*◌, ◌/◌, ◌^◌, ◌≤◌, ◌⊎◌, ◌==◌, min, max, nat_lt, if◌then◌else◌}
+
+-- the capacity that a vector grows to where it has less than is needed: twice what it was, at least eight and what is needed, and at most
+-- the limit
+abbrev pub grown_capacity : ℕ → ℕ → ℕ → ℕ
+grown_capacity limit capacity needed = min (max (max (2 * capacity) 8) needed) limit
 
 -- the fewest buckets of a table that has any
 abbrev pub least_buckets : ℕ

@@ -40,7 +40,7 @@ module _ {K V S L H : Type 0} {e : eq.Ghosts K} {h : hash.Ghosts K} {b : builder
         let prepares = subst (λ e. Prepares limit old (insert_needs limit same old key) (map_of e)) is prepares_made in
         let removes = subst (RemovesKey same old.pairs key) is removes_made in
         let loses = lost_by entry left replaces.key replaces.answer none replaces.after in
-        let kept : (map_of entry).capacity ≡ old.capacity = subst (λ needs. HasCapacityAfter old needs (map_of entry)) (none_needed limit same old key table held) prepares.capacity in
+        let kept : (map_of entry).capacity ≡ old.capacity = subst (λ needs. HasCapacityAfter limit old needs (map_of entry)) (none_needed limit same old key table held) prepares.capacity in
         let form : (map_of entry).is_vec ≡ old.is_vec = prepares.form ∙ ap (λ is_vec. is_vec && not (is_vec && (length old.pairs == limit))) table ∙ sym table in
         record {
           pairs = loses.map.pairs ∙ removes.pairs_left;

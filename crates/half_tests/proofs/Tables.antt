@@ -6,7 +6,7 @@ use Rattle.std.proofs.lemmas.List.{map-append, length-take, get_or-take, get_or_
 use Rattle.std.proofs.lemmas.Map.Keys.{apart_from_distinct}
 use Rattle.std.specs.List.{IsDistinct}
 use Rattle.std.specs.Map.{keys_of}
-use Rattle.half_store.specs.Capacity.{capacity_of, more_buckets, buckets_for, capacity_for}
+use Rattle.half_store.specs.Capacity.{capacity_of, more_buckets, buckets_for, capacity_for, grown_capacity}
 use Rattle.half_store.proofs.CapacityLemmas.{buckets_for-least}
 use Rattle.halfbrown.specs.Growth.{is_full, stays_vec, insert_needs, HasCapacityAfter, HasCapacityMade, HasCapacityShrunk}
 use Rattle.halfbrown.specs.Pairs.{holds, put, take_out}
@@ -50,10 +50,10 @@ max_grown : (needed n : ℕ) → capacity_for (max needed n) ≤ n → capacity_
 max_grown needed n full = ap capacity_for (let fits = capacity_for-fits (max needed n) in omega arith)
 
 -- the capacity of a table after a granted call
-after_in_table : (old new : State ℕ ℕ Counting) (needs : Option ℕ) → new.is_vec ≡ false → HasCapacityAfter old needs new
+after_in_table : (old new : State ℕ ℕ Counting) (needs : Option ℕ) → new.is_vec ≡ false → HasCapacityAfter 0 old needs new
     → MatchOption needs (new.capacity ≡ old.capacity) (λ size. new.capacity ≡ capacity_for size)
 after_in_table old new needs form after =
-    subst (λ is_vec. MatchOption needs (new.capacity ≡ old.capacity) (λ size. MatchBool is_vec (size ≤ new.capacity) (new.capacity ≡ capacity_for size))) form after
+    subst (λ is_vec. MatchOption needs (new.capacity ≡ old.capacity) (λ size. MatchBool is_vec (new.capacity ≡ grown_capacity 0 old.capacity size) (new.capacity ≡ capacity_for size))) form after
 
 -- ---- one key more
 
@@ -81,7 +81,7 @@ keys_of-twins [] = refl
 keys_of-twins (k ∷ ks) = ap (λ l. k ∷ l) (keys_of-twins ks)
 
 module _ (rule : Rule) (needed : ℕ) (keys : List ℕ) (k : ℕ) (old new : State ℕ ℕ Counting) (was : IsFilled rule needed keys old) (fresh : NonePasses (eqb k) keys)
-    (pairs : new.pairs ≡ put eqb old.pairs k k) (form : new.is_vec ≡ stays_vec 0 old) (grows : HasCapacityAfter old (insert_needs 0 eqb old k) new) (builder : new.builder ≡ old.builder) where
+    (pairs : new.pairs ≡ put eqb old.pairs k k) (form : new.is_vec ≡ stays_vec 0 old) (grows : HasCapacityAfter 0 old (insert_needs 0 eqb old k) new) (builder : new.builder ≡ old.builder) where
   pairs_is : new.pairs ≡ twins (keys ++ k ∷ [])
   pairs_is =
       let absent = absent_of_none (eqb k) (twins keys) (subst (NonePasses (eqb k)) (sym (keys_of-twins keys)) fresh) in
@@ -184,7 +184,7 @@ module _ (rule : Rule) (held : List (ℕ × ℕ)) (capacity : ℕ) (k : ℕ) (ol
 
   -- after a new key was inserted
   pub table_with : (v : ℕ) → holds eqb held k ≡ false → new.pairs ≡ put eqb old.pairs k v → new.is_vec ≡ stays_vec 0 old
-      → HasCapacityAfter old (insert_needs 0 eqb old k) new → new.builder ≡ old.builder
+      → HasCapacityAfter 0 old (insert_needs 0 eqb old k) new → new.builder ≡ old.builder
       → IsTable rule (put eqb held k v) (if nat_lt (length held) capacity then capacity else capacity_for (length held + 1)) new
   table_with v absent pairs form grows builder =
       let full : is_full 0 old ≡ false = ap (λ is_vec. is_vec && (length old.pairs == 0)) table.form in

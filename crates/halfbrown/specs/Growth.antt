@@ -2,7 +2,7 @@
 use Rattle.std.specs.Prelude.{◌≡◌, ℕ, ◌+◌, ◌^◌, ◌<◌, ◌≤◌, ◌⊎◌, min, Bool, not, ◌&&◌, ◌||◌, ◌==◌, nat_lt, nat_le, length, Option, None, Some, IfNone, IfSome, MatchBool, MatchOption, if◌then◌else◌}
 use Rattle.half_store.specs.declared.refusal.Refusal.{Refusal}
 use Rattle.half_store.specs.Refusal.{refusal_of}
-use Rattle.half_store.specs.Capacity.{capacity_for}
+use Rattle.half_store.specs.Capacity.{capacity_for, grown_capacity}
 use Rattle.halfbrown.specs.State.{State}
 use Rattle.halfbrown.specs.Pairs.{holds}
 
@@ -11,10 +11,11 @@ abbrev pub addition_needs : {K V S : Type 0} → State K V S → Option ℕ
 addition_needs m = if nat_lt (length m.pairs) m.capacity then None else Some (length m.pairs + 1)
 
 -- the capacity after a granted call: where it needs no more, the same; else a table has the least of the series that is enough, and a
--- vector at least what is needed
-abbrev pub HasCapacityAfter : {K V S : Type 0} → State K V S → Option ℕ → State K V S → Type 0
-HasCapacityAfter old needs new =
-    MatchOption needs (new.capacity ≡ old.capacity) (λ n. MatchBool new.is_vec (n ≤ new.capacity) (new.capacity ≡ capacity_for n))
+-- vector what it grows to
+abbrev pub HasCapacityAfter : {K V S : Type 0} → ℕ → State K V S → Option ℕ → State K V S → Type 0
+HasCapacityAfter limit old needs new =
+    MatchOption needs (new.capacity ≡ old.capacity)
+    (λ n. MatchBool new.is_vec (new.capacity ≡ grown_capacity limit old.capacity n) (new.capacity ≡ capacity_for n))
 
 -- the capacity that a form has for so many pairs in all: a vector has no more than the limit
 abbrev pub total_allowed : ℕ → Bool → ℕ → ℕ
@@ -77,7 +78,7 @@ module _ {K V S : Type 0} (limit : ℕ) where
   pub record Reserves (old : State K V S) (additional : ℕ) (new : State K V S) : Type 0 where
     pub pairs : new.pairs ≡ old.pairs
     pub form : new.is_vec ≡ old.is_vec
-    pub capacity : HasCapacityAfter old (reserve_needs limit old (length old.pairs + additional)) new
+    pub capacity : HasCapacityAfter limit old (reserve_needs limit old (length old.pairs + additional)) new
     pub enough : total_allowed limit old.is_vec (length old.pairs + additional) ≤ new.capacity
     pub grantable : IsGrantable (reserve_needs limit old (length old.pairs + additional))
     pub builder : new.builder ≡ old.builder

@@ -10,7 +10,7 @@ module _ {K V S : Type 0} where
   pub record Puts (limit : ℕ) (eq : K → K → Bool) (old : State K V S) (k : K) (v : V) (needs : Option ℕ) (new : State K V S) : Type 0 where
     pub pairs : new.pairs ≡ put eq old.pairs k v
     pub form : new.is_vec ≡ stays_vec limit old
-    pub capacity : HasCapacityAfter old needs new
+    pub capacity : HasCapacityAfter limit old needs new
     pub grantable : IsGrantable needs
     pub builder : new.builder ≡ old.builder
 

@@ -39,7 +39,7 @@ module _ {K V S : Type 0} where
   pub record Prepares (limit : ℕ) (old : State K V S) (needs : Option ℕ) (new : State K V S) : Type 0 where
     pub pairs : new.pairs ≡ old.pairs
     pub form : new.is_vec ≡ stays_vec limit old
-    pub capacity : HasCapacityAfter old needs new
+    pub capacity : HasCapacityAfter limit old needs new
     pub grantable : IsGrantable needs
     pub builder : new.builder ≡ old.builder
 

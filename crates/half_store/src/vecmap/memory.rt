@@ -1,6 +1,7 @@
 //! The capacity of the two columns: making it, and giving it back.
 ghost use Rattle.std.specs.Prelude.{◌≡◌, ◌^◌, ◌<◌, ◌≤◌, ◌⊎◌, max, min, [], length, IsOk, IfOk, OnOk, OnErr, IfErr};
 ghost use Rattle.std.specs.List.{AllZip};
+ghost use Rattle.half_store.specs.Capacity.{grown_capacity};
 ghost use Rattle.half_store.specs.Refusal.{refusal_of};
 
 use super::VecMap;
@@ -108,9 +109,9 @@ impl<K, V> VecMap<K, V> {
         }
     }
 
-    /// Makes the capacity enough for `needed` pairs in all. Where that needs memory it grows to eight pairs at least and to
-    /// twice what it was, so that many insertions cost few growths, but never past `limit`. Where it needs none, nothing
-    /// changes.
+    /// Makes the capacity enough for `needed` pairs in all. Where that needs memory it grows to twice what it was, but at
+    /// least to eight pairs and what is needed, so that many insertions cost few growths, and never past `limit`. Where it
+    /// needs none, nothing changes.
     ///
     /// ```
     /// ages.grow(3, 32)?; // capacity 8: the least that a growth makes
@@ -120,6 +121,8 @@ impl<K, V> VecMap<K, V> {
         requires { needed ≤ limit }
         ensures pairs { self.new.pairs ≡ self.old.pairs }
         ensures ok { OnOk result (needed ≤ self.new.capacity) }
+        ensures grown { OnOk result (self.old.capacity < needed
+            → self.new.capacity ≡ grown_capacity limit self.old.capacity needed) }
         ensures keeps_capacity { self.old.capacity ≤ self.new.capacity }
         ensures within_limit { self.new.capacity ≤ max self.old.capacity limit }
         ensures unneeded { needed ≤ self.old.capacity → self.new ≡ self.old }

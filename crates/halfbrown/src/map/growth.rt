@@ -15,8 +15,9 @@ impl<K: Eq + Hash, V, S: BuildHasher, L: Limit> LimitedHashMap<K, V, S, L> {
     /// Makes the capacity enough for so many pairs more: in a table for all of them, in a vector for no more in all than the
     /// limit, since the insertion after that switches, and allocates. The capacity never falls. Nothing is hashed.
     ///
-    /// Where the capacity is not enough yet, a table gets the least of its series that is. Fails with `Size` for more than
-    /// 2^60 pairs in all, and with `Memory` where that is refused; on error nothing changes.
+    /// Where the capacity is not enough yet, a table gets the least of its series that is, and a vector twice what it had, but
+    /// at least eight and what is needed, and at most the limit. Fails with `Size` for more than 2^60 pairs in all, and with
+    /// `Memory` where that is refused; on error nothing changes.
     ///
     /// ```
     /// ages.reserve(20)?; // twenty more ages need no more memory

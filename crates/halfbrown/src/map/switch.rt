@@ -21,7 +21,7 @@ impl<K: Eq + Hash, V, S: BuildHasher, L: Limit> LimitedHashMap<K, V, S, L> {
         ensures pairs { self.new.pairs ≡ self.old.pairs }
         ensures hasher { self.new.builder ≡ self.old.builder }
         ensures form { OnOk result (self.new.is_vec ≡ stays_vec L.LIMIT self.old) }
-        ensures capacity { OnOk result (HasCapacityAfter self.old (switch_needs L.LIMIT self.old) self.new) }
+        ensures capacity { OnOk result (HasCapacityAfter L.LIMIT self.old (switch_needs L.LIMIT self.old) self.new) }
         ensures switched { OnOk result (self.new.capacity ≡ capacity_switched L.LIMIT self.old) }
         ensures same { is_full L.LIMIT self.old ≡ false → self.new ≡ self.old }
         ensures not_full { OnOk result (is_full L.LIMIT self.new ≡ false) }

@@ -84,7 +84,7 @@ returns-in-Ok-clause-returned c =
     let before = insert.old_value ∙ ap (λ ps. value_of eqb ps key) vector.pairs ∙ (each key some below).0 in
     let len = c.len.ensures.len ∙ insert.put.len ∙ ap (λ found. if found then length old.pairs else length old.pairs + 1) (present old vector key some below)
     ∙ ap length vector.pairs in
-    let grown = subst (λ needs. HasCapacityAfter old needs new) (needs_is old vector key some below) insert.ok.capacity in
+    let grown = subst (λ needs. HasCapacityAfter 5 old needs new) (needs_is old vector key some below) insert.ok.capacity in
     let form = insert.ok.form ∙ form_is old vector key some below in
     let capacity = c.capacity.ensures ∙ MatchBool-at_false _ _ form grown in
     λ i. (before i, len i, capacity i)
