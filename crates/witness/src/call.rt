@@ -1,6 +1,7 @@
 //! What a line asks for.
 
 use crate::words::Name;
+use halfbrown::Command;
 
 /// What a line asks of the map.
 #[derive(Debug, Drop)]
@@ -11,6 +12,8 @@ pub(crate) enum Call {
     Whole(Whole),
     /// A call with a list of pairs.
     Items(Items, Vec<(Name, u64)>),
+    /// A run of commands.
+    Run(Vec<Command<Name, u64>>),
 }
 
 /// A call with one key.
@@ -18,8 +21,10 @@ pub(crate) enum Call {
 pub(crate) enum Keyed {
     Basic(Basic),
     Entry(OfEntry),
+    EntryDebug,
     Search(Search),
     Raw(OfRaw),
+    RawDebug,
 }
 
 /// A basic call, with the value that is handed in.
@@ -129,6 +134,8 @@ pub(crate) enum Whole {
     Same,
     Eq,
     Debug,
+    RawEntryDebug,
+    RawEntryMutDebug,
     Make(usize),
 }
 
@@ -137,4 +144,17 @@ pub(crate) enum Whole {
 pub(crate) enum Items {
     Extend,
     FromIter,
+    FromArray,
+    Hashmap,
+}
+
+impl Items {
+    /// The most pairs that the call may have.
+    pub(crate) fn most(self) -> usize {
+        match self {
+            Items::Extend | Items::FromIter => usize::MAX,
+            Items::FromArray => 4,
+            Items::Hashmap => 3,
+        }
+    }
 }

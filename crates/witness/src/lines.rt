@@ -3,6 +3,7 @@
 use crate::call::{
     Addition, Basic, Call, Items, Keyed, OfEntry, OfOccupiedRaw, OfRaw, OfWholeRaw, Search, Whole,
 };
+use crate::commands::parse_commands;
 use crate::words::{Name, count, key_name, number};
 use std::alloc::{AllocError, Global};
 
@@ -12,6 +13,9 @@ pub(crate) fn parse(alloc: Global, line: &str) -> Result<Option<Call>, AllocErro
     match words.as_slice() {
         ["extend", rest @ ..] => with_items(alloc, Items::Extend, rest),
         ["from_iter", rest @ ..] => with_items(alloc, Items::FromIter, rest),
+        ["from_array", rest @ ..] => with_items(alloc, Items::FromArray, rest),
+        ["hashmap", rest @ ..] => with_items(alloc, Items::Hashmap, rest),
+        ["run", rest @ ..] => Ok(parse_commands(alloc, rest)?.map(Call::Run)),
         words => Ok(of_words(words)),
     }
 }
@@ -27,6 +31,9 @@ fn with_items(alloc: Global, call: Items, words: &[&str]) -> Result<Option<Call>
         };
         items.push((key, value))?;
     }
+    if items.len() > call.most() {
+        return Ok(None);
+    }
     Ok(Some(Call::Items(call, items)))
 }
 
@@ -35,6 +42,8 @@ fn of_words(words: &[&str]) -> Option<Call> {
         return Some(Call::Whole(call));
     }
     let (key, call) = match words {
+        ["entry", key, "debug"] => (key_name(key)?, Keyed::EntryDebug),
+        ["raw", key, "debug"] => (key_name(key)?, Keyed::RawDebug),
         ["entry", key, action @ ..] => (key_name(key)?, Keyed::Entry(of_entry(action)?)),
         ["raw", key, action @ ..] => (key_name(key)?, Keyed::Raw(of_raw(action)?)),
         ["raw_entry_match", hash, id] => {
@@ -162,6 +171,8 @@ fn of_whole(words: &[&str]) -> Option<Whole> {
         ["same"] => Whole::Same,
         ["eq"] => Whole::Eq,
         ["debug"] => Whole::Debug,
+        ["raw_entry_debug"] => Whole::RawEntryDebug,
+        ["raw_entry_mut_debug"] => Whole::RawEntryMutDebug,
         ["make", capacity] => Whole::Make(count(capacity)?),
         _ => return None,
     })

@@ -5,11 +5,15 @@ use crate::call::Items;
 use crate::maps::{Maps, form_name};
 use crate::pairs::print_gap;
 use crate::words::Name;
-use halfbrown::{DefaultHashBuilder, Limit, LimitedHashMap, Refusal, SizedHashMap};
+use halfbrown::{DefaultHashBuilder, Limit, LimitedHashMap, Refusal, SizedHashMap, hashmap};
 use std::alloc::{AllocError, Global};
 use std::hash::{BuildHasher, Hash};
 use std::io;
+use test_support::counts::Counts;
 use test_support::keys::Key;
+
+/// A map of limit `N` with the default builder, or why there is none.
+type Made<'a, const N: usize> = Result<SizedHashMap<Key<'a>, u64, DefaultHashBuilder, N>, Refusal>;
 
 /// Prints the empty maps that are made with this capacity.
 pub(crate) fn print_made<const N: usize>(
@@ -32,16 +36,36 @@ pub(crate) fn perform<'a, const N: usize>(
     names: &[(Name, u64)],
 ) -> io::Result<()> {
     let items = items(maps, names)?;
+    let (alloc, counts) = (maps.alloc, maps.counts);
     match call {
         Items::Extend => match maps.a.extend(items) {
             Ok(()) => print!(rt; "done"),
             Err(_) => print!(rt; "refused"),
         },
-        Items::FromIter => {
-            print_collected::<N>(rt, maps.alloc, items)?;
-            maps.counts.take();
-            Ok(())
-        }
+        Items::FromIter => print_collected::<N>(rt, counts, SizedHashMap::from_iter(alloc, items)),
+        Items::FromArray => print_collected::<N>(rt, counts, from_array(alloc, items.as_slice())),
+        Items::Hashmap => print_collected::<32>(rt, counts, by_macro(alloc, items.as_slice())),
+    }
+}
+
+// Of the first four pairs. No line has more.
+fn from_array<'a, const N: usize>(alloc: Global, items: &[(Key<'a>, u64)]) -> Made<'a, N> {
+    match items {
+        [] => SizedHashMap::from_array(alloc, []),
+        [a] => SizedHashMap::from_array(alloc, [*a]),
+        [a, b] => SizedHashMap::from_array(alloc, [*a, *b]),
+        [a, b, c] => SizedHashMap::from_array(alloc, [*a, *b, *c]),
+        [a, b, c, d, ..] => SizedHashMap::from_array(alloc, [*a, *b, *c, *d]),
+    }
+}
+
+// Of the first three pairs. No line has more.
+fn by_macro<'a>(alloc: Global, items: &[(Key<'a>, u64)]) -> Made<'a, 32> {
+    match items {
+        [] => hashmap! {in alloc;},
+        [a] => hashmap! {in alloc; a.0 => a.1},
+        [a, b] => hashmap! {in alloc; a.0 => a.1, b.0 => b.1},
+        [a, b, c, ..] => hashmap! {in alloc; a.0 => a.1, b.0 => b.1, c.0 => c.1},
     }
 }
 
@@ -56,12 +80,13 @@ fn items<'a, const N: usize>(
     Ok(items)
 }
 
+// The work of making the map is not counted.
 fn print_collected<const N: usize>(
     rt: &impl Print,
-    alloc: Global,
-    items: Vec<(Key<'_>, u64)>,
+    counts: &Counts,
+    made: Made<'_, N>,
 ) -> io::Result<()> {
-    let made = SizedHashMap::<Key<'_>, u64, DefaultHashBuilder, N>::from_iter(alloc, items);
+    counts.take();
     print_one(rt, &made)?;
     if let Ok(map) = made {
         print!(rt; " [")?;

@@ -5,6 +5,8 @@
 mod answer;
 mod basic;
 mod call;
+mod commands;
+mod debug;
 mod entries;
 mod lines;
 mod made;
@@ -12,6 +14,7 @@ mod maps;
 mod pairs;
 mod raw;
 mod raw_additions;
+mod runs;
 mod script;
 mod searches;
 mod words;

@@ -2,6 +2,7 @@
 
 use crate::answer::Answer;
 use crate::call::Whole;
+use crate::debug::print_builder_mut;
 use crate::made::print_made;
 use crate::maps::Maps;
 use std::cell::Cell;
@@ -24,6 +25,8 @@ pub(crate) fn perform<'a, const N: usize>(
         Whole::Drain(taken) => print_drained(rt, &mut maps.a, taken),
         Whole::Retain(divisor, more) => print_retained(rt, &mut maps.a, divisor, more),
         Whole::Debug => print!(rt; "{:?}", maps.a),
+        Whole::RawEntryDebug => print!(rt; "{:?}", maps.a.raw_entry()),
+        Whole::RawEntryMutDebug => print_builder_mut(rt, &mut maps.a),
         Whole::Make(capacity) => print_made::<N>(rt, maps.alloc, capacity),
         _ => print!(rt; "{}", answer(maps, call)),
     }

@@ -5,7 +5,7 @@ use crate::call::{Call, Keyed};
 use crate::lines::parse;
 use crate::maps::Maps;
 use crate::words::{Name, count};
-use crate::{basic, entries, made, pairs, raw, searches};
+use crate::{basic, debug, entries, made, pairs, raw, runs, searches};
 use halfbrown::{Refusal, SizedHashMap};
 use std::alloc::{AllocError, Global};
 use std::io;
@@ -149,6 +149,7 @@ fn answer_line<const N: usize>(
         Call::Keyed(name, call) => perform_keyed(rt, maps, name, call)?,
         Call::Whole(call) => pairs::perform(rt, maps, call)?,
         Call::Items(call, names) => made::perform(rt, maps, call, names.as_slice())?,
+        Call::Run(commands) => runs::perform(rt, maps, commands.as_slice())?,
     }
     maps.print_end(rt)
 }
@@ -167,6 +168,8 @@ fn perform_keyed<const N: usize>(
         Keyed::Entry(call) => entries::perform(map, key, call),
         Keyed::Search(search) => searches::perform(map, counts, key, search),
         Keyed::Raw(call) => raw::perform(map, counts, key, call),
+        Keyed::EntryDebug => return debug::print_entry(rt, map, key),
+        Keyed::RawDebug => return debug::print_raw_entry(rt, map, key),
     };
     print!(rt; "{answer}")
 }
