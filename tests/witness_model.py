@@ -16,6 +16,7 @@ GREATEST = 2**64 - 1
 # A call that needs capacity for more pairs than these is refused.
 MOST_PAIRS = 2**60
 LIMITS = ("0", "1", "2", "5", "32", str(GREATEST))
+HASH_MAP_LIMIT = 32
 RULES = {"plain": lambda key: key.id, "zero": lambda key: 0, "top": lambda key: GREATEST}
 
 
@@ -112,17 +113,20 @@ class Map:
     # Capacity and form.
 
     def require(self, needed):
-        """Makes the capacity enough for so many pairs. That of a vector is then known to be enough, and no more."""
+        """Makes the capacity enough for so many pairs. Of that of a vector a least and a most are then known."""
         if needed <= self.capacity.least:
             return
         check_size(needed)
-        self.capacity = Span(needed, self.limit) if self.is_vec else exactly(capacity_for(needed))
+        most = min(self.limit, MOST_PAIRS)
+        self.capacity = Span(needed, most) if self.is_vec else exactly(capacity_for(needed))
 
     def reserve(self, more):
         total = len(self.pairs) + more
         self.require(min(total, self.limit) if self.is_vec else total)
 
     def shrink_to_fit(self):
+        """A table of no more pairs than the limit becomes a vector, of the same pairs in the same order."""
+        self.is_vec = self.is_vec or len(self.pairs) <= self.limit
         self.capacity = exactly(len(self.pairs) if self.is_vec else capacity_for(len(self.pairs)))
 
     def switch_if_full(self):
@@ -237,8 +241,8 @@ def text_of(is_true):
     return "true" if is_true else "false"
 
 
-def list_of(items):
-    return f"[{' '.join(str(item) for item in items)}]"
+def list_of(items, between=" "):
+    return f"[{between.join(str(item) for item in items)}]"
 
 
 # What is done after a search: with the index of the pair that it found, or with the key that it did not find.
@@ -261,6 +265,10 @@ def pair_at(a, index, *_):
 
 def value_at(a, index, *_):
     return a.pairs[index].value
+
+
+def fields_at(a, index):
+    return f"{{ key: {a.pairs[index].key}, value: {a.pairs[index].value} }}"
 
 
 def key_at(a, index):
@@ -315,6 +323,11 @@ def append_none(a, key, value):
     return "none"
 
 
+def append_was_none(a, key, value):
+    a.append(key, value)
+    return "was none"
+
+
 def append_entry(a, key, value):
     return f"added {a.append(key, value).value}"
 
@@ -325,6 +338,10 @@ def append_raw(a, key, value):
 
 def append_value(a, key, value=0):
     return a.append(key, value).value
+
+
+def append_value_hashing(a, key, value):
+    return a.append_hashing(key, value).value
 
 
 insert = by(Map.entry, write_at, append_none)
@@ -360,6 +377,11 @@ def raw_insert_key(a, key):
         return "vacant"
     old, a.pairs[index].key = a.pairs[index].key, key
     return f"was {old}"
+
+
+def raw_entry_mut_debug(a):
+    a.make_ready()
+    return "RawEntryBuilder"
 
 
 def state(a):
@@ -406,11 +428,19 @@ def extend(a, items):
     return "done"
 
 
-def from_iter(a, items):
+def collect(limit, rule, items):
     """The map is made for as many pairs as there are items. Its builder shows in no answer."""
-    made = Map(a.limit, a.rule, len(items))
+    made = Map(limit, rule, len(items))
     extend(made, items)
     return f"{made} {list_of(made.pairs)}"
+
+
+def from_items(a, items):
+    return collect(a.limit, a.rule, items)
+
+
+def hashmap(a, items):
+    return collect(HASH_MAP_LIMIT, a.rule, items)
 
 
 def make(a, capacity):
@@ -426,6 +456,58 @@ def made_for(a, capacity):
 
 def debug(a):
     return "{" + ", ".join(f"{pair.key}: {pair.value}" for pair in a.pairs) + "}"
+
+
+# The commands of a run. Each is handed `a` and what it says, and returns its reply.
+
+
+def saying(word, call):
+    """A command that replies this word, and then what the call answers."""
+    return lambda a, *said: f"{word} {call(a, *said)}"
+
+
+def insert_new(a, key, value):
+    if a.find(key) is not None:
+        return f"present {Pair(key, value)}"
+    a.make_ready()
+    a.append_hashing(key, value)
+    return "added"
+
+
+def is_vec(a):
+    return f"form {text_of(a.is_vec)}"
+
+
+def shrink(a):
+    a.shrink_to_fit()
+    return is_vec(a)
+
+
+COMMANDS = {
+    "insert KEY V": by(Map.entry, write_at, append_was_none),
+    "insert_new KEY V": insert_new,
+    "entry_or_insert KEY V": saying("value", by(Map.entry, value_at, append_value)),
+    "raw_or_insert KEY V": saying("value", by(Map.raw_entry, value_at, append_value_hashing)),
+    "get KEY": saying("found", by(Map.find, value_at, "none")),
+    "remove KEY": saying("removed", by(Map.find, Map.take_out, "none")),
+    "clear": clear,
+    "reserve N": reserve,
+    "shrink": shrink,
+    "is_vec": is_vec,
+    "len": lambda a: f"length {len(a.pairs)}",
+}
+
+
+def reply(a, command, said):
+    """A command that is refused comes back as it was written."""
+    try:
+        return COMMANDS[command](a, *said)
+    except Refused as why:
+        return " ".join(str(word) for word in ("refused", why, first_word(command), *said))
+
+
+def run(a, commands):
+    return list_of([reply(a, command, said) for command, said in commands], "; ")
 
 
 # The calls on both maps.
@@ -482,11 +564,18 @@ CALLS = {
     "entry KEY lose": by(Map.entry, lose_at, "vacant"),
     "entry KEY lose_insert V": by(Map.entry, lose_insert_at, "vacant"),
     "entry KEY into_key": by(Map.entry, "occupied", lambda a, key: key),
+    "entry KEY debug": by(
+        Map.entry,
+        lambda a, index: f"Entry(OccupiedEntry {fields_at(a, index)})",
+        lambda a, key: f"Entry(VacantEntry({key}))",
+    ),
     "raw_entry KEY": by(Map.find, pair_at, "none"),
     "raw_entry_hashed KEY": by(Map.find_hashed, pair_at, "none"),
     "raw_entry_match HASH ID": raw_entry_match,
     "raw_hashed KEY V": by(Map.raw_entry_hashed, occupied_at, append_raw),
     "raw_match HASH KEY V": raw_match,
+    "raw_entry_debug": lambda a: "RawEntryBuilder",
+    "raw_entry_mut_debug": raw_entry_mut_debug,
     "raw KEY read": by(Map.raw_entry, occupied_at, "vacant"),
     "raw KEY or_insert V": by(Map.raw_entry, pair_at, Map.append_hashing),
     "raw KEY or_insert_with V": by(Map.raw_entry, pair_at, Map.append_hashing),
@@ -506,6 +595,11 @@ CALLS = {
     "raw KEY add_hashed V": by(Map.raw_entry, "occupied", Map.append),
     "raw KEY add_hashed_entry V": by(Map.raw_entry, "occupied", Map.append),
     "raw KEY add_with_hasher V": by(Map.raw_entry, "occupied", Map.append),
+    "raw KEY debug": by(
+        Map.raw_entry,
+        lambda a, index: f"RawEntry(RawOccupiedEntryMut {fields_at(a, index)})",
+        "RawEntry(RawVacantEntryMut)",
+    ),
     "iter": lambda a: list_of(a.pairs),
     "keys": lambda a: list_of(pair.key for pair in a.pairs),
     "values": lambda a: list_of(pair.value for pair in a.pairs),
@@ -516,12 +610,21 @@ CALLS = {
     "retain M N": retain,
     "debug": debug,
     "extend ..": extend,
-    "from_iter ..": from_iter,
+    "from_iter ..": from_items,
+    "from_array ..": from_items,
+    "hashmap ..": hashmap,
     "make N": make,
+    "run ..": run,
 }
+# A line with more items is no call.
+MOST_ITEMS = {"from_array ..": 4, "hashmap ..": 3}
 
 
 # Lines.
+
+
+def first_word(form):
+    return form.split(" ")[0]
 
 
 def name_of(words):
@@ -530,6 +633,7 @@ def name_of(words):
 
 
 FORMS = {name_of(form.split(" ")): form for form in CALLS | CALLS_OF_BOTH}
+COMMAND_FORMS = {first_word(form): form for form in COMMANDS}
 
 
 def read_number(word):
@@ -549,18 +653,43 @@ def read_items(words):
     return [(read_key(key), read_number(value)) for key, value in zip(words[::2], words[1::2])]
 
 
-def read_call(words):
-    """The form of a call, and what the words say in the place of its words in capitals."""
-    form = FORMS.get(name_of(words))
-    if form is None:
+def form_in(forms, name):
+    if name not in forms:
         raise BadLine
-    if form.endswith(".."):
-        return form, [read_items(words[1:])]
+    return forms[name]
+
+
+def read_places(form, words):
+    """What the words say in the place of the words in capitals of this form."""
     places = form.split(" ")
     if len(words) != len(places):
         raise BadLine
     read = {place: read_key if place == "KEY" else read_number for place in places if place.isupper()}
-    return form, [read[place](word) for place, word in zip(places, words) if place in read]
+    return [read[place](word) for place, word in zip(places, words) if place in read]
+
+
+def read_commands(words):
+    """The commands of COMMAND COMMAND .., each by its form and what it says."""
+    commands, start = [], 0
+    while start < len(words):
+        form = form_in(COMMAND_FORMS, words[start])
+        end = start + len(form.split(" "))
+        commands.append((form, read_places(form, words[start:end])))
+        start = end
+    return commands
+
+
+def read_call(words):
+    """The form of a call, and what its words say."""
+    form = form_in(FORMS, name_of(words))
+    if form == "run ..":
+        return form, [read_commands(words[1:])]
+    if form.endswith(".."):
+        items = read_items(words[1:])
+        if len(items) > MOST_ITEMS.get(form, len(items)):
+            raise BadLine
+        return form, [items]
+    return form, read_places(form, words)
 
 
 def answer_first(line):
