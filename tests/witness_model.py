@@ -3,7 +3,7 @@
 
     tests/witness_model.py < SCRIPT
 
-It prints one line for each line of the script. A number that the documents leave open is printed as LO..HI.
+It prints one line for each line of the script. A number of comparisons that is not determined is printed as LO..HI.
 
 The map is a list of pairs with a form, a capacity, a limit and a rule. No answer depends on buckets, so it has none.
 """
@@ -88,6 +88,11 @@ def capacity_for(needed):
     return buckets // 4 * 3
 
 
+def grown_capacity(capacity, needed, limit):
+    """What a vector grows to: twice its capacity, at least eight and what is needed, and at most the limit."""
+    return min(max(2 * capacity, 8, needed), limit)
+
+
 def check_size(needed):
     if needed > MOST_PAIRS:
         raise Refused("size")
@@ -101,7 +106,7 @@ class Map:
         self.limit, self.rule = limit, rule
         self.pairs = []
         self.is_vec = capacity <= limit
-        self.capacity = exactly(capacity if self.is_vec else capacity_for(capacity))
+        self.capacity = capacity if self.is_vec else capacity_for(capacity)
         self.work = Work()
 
     def __str__(self):
@@ -113,12 +118,11 @@ class Map:
     # Capacity and form.
 
     def require(self, needed):
-        """Makes the capacity enough for so many pairs. Of that of a vector a least and a most are then known."""
-        if needed <= self.capacity.least:
+        """Makes the capacity enough for so many pairs."""
+        if needed <= self.capacity:
             return
         check_size(needed)
-        most = min(self.limit, MOST_PAIRS)
-        self.capacity = Span(needed, most) if self.is_vec else exactly(capacity_for(needed))
+        self.capacity = grown_capacity(self.capacity, needed, self.limit) if self.is_vec else capacity_for(needed)
 
     def reserve(self, more):
         total = len(self.pairs) + more
@@ -127,13 +131,13 @@ class Map:
     def shrink_to_fit(self):
         """A table of no more pairs than the limit becomes a vector, of the same pairs in the same order."""
         self.is_vec = self.is_vec or len(self.pairs) <= self.limit
-        self.capacity = exactly(len(self.pairs) if self.is_vec else capacity_for(len(self.pairs)))
+        self.capacity = len(self.pairs) if self.is_vec else capacity_for(len(self.pairs))
 
     def switch_if_full(self):
         """A vector of as many pairs as the limit becomes a table, which hashes each key once."""
         if self.is_vec and len(self.pairs) == self.limit:
             check_size(self.limit + 1)
-            self.is_vec, self.capacity = False, exactly(capacity_for(self.limit + 1))
+            self.is_vec, self.capacity = False, capacity_for(self.limit + 1)
             self.work.hashes += self.limit
 
     # Searches. Each returns the index of the pair that it finds, or None.
@@ -217,7 +221,7 @@ class Map:
         """The capacity of a table's clone is that of the table. A vector's clone has none to spare."""
         clone = Map(self.limit, self.rule)
         clone.pairs = [dataclasses.replace(pair) for pair in self.pairs]
-        clone.is_vec, clone.capacity = self.is_vec, exactly(len(self.pairs)) if self.is_vec else self.capacity
+        clone.is_vec, clone.capacity = self.is_vec, len(self.pairs) if self.is_vec else self.capacity
         return clone
 
     def same_pairs(self, other):
