@@ -2,9 +2,9 @@
 """Refuses memory to the proved programs refused_memory and halfmap, and compares what they write.
 
 In each scenario of tests/refused_memory/scenarios.txt the request to refuse counts up from the first, until a run meets no
-refusal, and what is written has to be what stands there. In the long runs requests are refused by a rule, and the replies and
-pairs have to be those of a plain list that skips the calls that were refused: tests/refused_memory/plain_list.py is the list. A
-library that is preloaded, tests/refused_memory/refuse.c, refuses.
+refusal, and what is written has to be what stands there; in some it is two requests in a row. In the long runs requests are
+refused by a rule, and the replies and pairs have to be those of a plain list that skips the calls that were refused:
+tests/refused_memory/plain_list.py is the list. A library that is preloaded, tests/refused_memory/refuse.c, refuses.
 
 The last line is "N passed, M failed".
 """
@@ -27,12 +27,12 @@ MANY = 100
 SECONDS = 20
 # The long runs: the scenario, and the form of the map at first.
 LONG_RUNS = [("long-run", "vector"), ("long-run-of-a-table", "table")]
-# Their rules: a name, what refuse.c is told, how many calls are refused at least, and how often a vector switches at least. A
-# switch makes five requests, so that none is granted where each third is refused.
+# Their rules: a name, what refuse.c is told, how many calls are refused at least, and how often a vector switches at least, and
+# becomes one again. A switch makes five requests, so that none is granted where each third is refused.
 RULES = [
     ("no request refused", {}, 0, 20),
-    ("each third request refused", {"REFUSE_EACH": "3"}, 400, 0),
-    ("each seventh request refused", {"REFUSE_EACH": "7"}, 200, 20),
+    ("each third request refused", {"REFUSE_EACH": "3"}, 300, 0),
+    ("each seventh request refused", {"REFUSE_EACH": "7"}, 150, 20),
     ("requests 20 to 200 refused", {"REFUSE_FROM": "20", "REFUSE_TO": "200"}, 150, 20),
 ]
 
@@ -52,10 +52,16 @@ def play(name, given, library, refuse):
 
 
 class Scenario:
-    """A scenario of the table: its name, its input, what a run writes where none is refused, and how the others end."""
+    """A scenario of the table: its name, how many requests in a row are refused, its input, what a run writes where none is
+    refused, and how the others end."""
 
-    def __init__(self, name):
-        self.name, self.given, self.granted, self.ends = name, [], [], []
+    def __init__(self, title):
+        self.title = title
+        self.name, _, rule = title.partition(", ")
+        if rule not in ("", "two in a row"):
+            sys.exit(f"not understood: scenario {title}")
+        self.in_a_row = 2 if rule else 1
+        self.given, self.granted, self.ends = [], [], []
 
 
 def read_table(path):
@@ -83,7 +89,8 @@ def refuse_each(scenario, library):
     """Refuses each request in turn. Returns how many runs ended as the table says, and the faults."""
     passed, faults, at, met = 0, [], 0, [0] * len(scenario.ends)
     for request in range(1, MANY):
-        found, refusals = play(scenario.name, scenario.given, library, {"REFUSE": str(request)})
+        refuse = {"REFUSE_FROM": str(request), "REFUSE_TO": str(request + scenario.in_a_row - 1)}
+        found, refusals = play(scenario.name, scenario.given, library, refuse)
         if not refusals:
             break
         # The ends come in the order of the requests.
@@ -112,13 +119,16 @@ def play_long_runs(library):
         for rule, refuse, least, least_switches in RULES:
             lines, requests = play(name, [], library, refuse)
             try:
-                counts, switches = follow(lines, form)
+                counts, switches, returns = follow(lines, form)
                 times = sum(counts[call] for call in CALLS)
                 if times < least or (times > 0) != (requests > 0):
                     raise Fault(f"{times} calls were refused, and not {least} or more")
-                if form == "vector" and switches < least_switches:
-                    raise Fault(f"{switches} switches, and not {least_switches} or more")
-                print(f"{name}, {rule}: {requests} requests and {times} calls were refused, {switches} switches")
+                changes = f"{switches} switches, {returns} back"
+                if form == "table" and (switches or returns):
+                    raise Fault(f"no table all along: {changes}")
+                if form == "vector" and min(switches, returns) < least_switches:
+                    raise Fault(f"{changes}, and not {least_switches} or more of each")
+                print(f"{name}, {rule}: {requests} requests and {times} calls were refused, {changes}")
                 refused.update(counts)
                 passed += 1
             except Fault as fault:
@@ -141,7 +151,7 @@ def main():
         library = f"{folder}/refuse.so"
         words = ["cc", "-O2", "-Wall", "-Wextra", "-shared", "-fPIC", "-o", library]
         subprocess.run([*words, TESTS / "refuse.c"], check=True)
-        parts = [(f"{scenario.name}, ", *refuse_each(scenario, library)) for scenario in read_table(TESTS / "scenarios.txt")]
+        parts = [(f"{scenario.title}, ", *refuse_each(scenario, library)) for scenario in read_table(TESTS / "scenarios.txt")]
         for name, well, faults in [*parts, ("", *play_long_runs(library))]:
             passed += well
             failed += len(faults)

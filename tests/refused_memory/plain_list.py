@@ -8,7 +8,8 @@ import re
 BEGIN = "from here on memory may be refused"
 # How many calls a long run makes.
 CALLS_OF_A_RUN = 2000
-TABLE_CAPACITIES = (0, 3, 6, 12, 24, 48)
+# The capacities of a table: each is more than the limit.
+TABLE_CAPACITIES = (6, 12, 24, 48)
 
 
 class PlainList:
@@ -19,6 +20,8 @@ class PlainList:
 
     def __init__(self, form):
         self.pairs, self.form = [], form
+        # How often the form changed, other than by a new map.
+        self.switches = self.returns = 0
         # The state that is printed after the call.
         self.after = ""
 
@@ -51,6 +54,7 @@ class PlainList:
     def switch_if_full(self):
         if self.is_full_vector():
             self.form = "table"
+            self.switches += 1
 
     def may_refuse(self, answer, key):
         """Whether it is a refusal of a call that may need memory: of a new key, or where the form switches."""
@@ -70,13 +74,13 @@ class PlainList:
 
     def extend(self, answer, *numbers):
         items = list(zip(numbers[::2], numbers[1::2]))
-        pairs, form = self.pairs, self.form
+        pairs, form, switches = self.pairs, self.form, self.switches
         if not answer.startswith("refused"):
             self.insert_all(items)
             return "done"
         # The items before the refused one stay.
         for taken in range(len(items)):
-            self.pairs, self.form = list(pairs), form
+            self.pairs, self.form, self.switches = list(pairs), form, switches
             self.insert_all(items[:taken])
             if re.sub(r"capacity \d+", "", self.state(0)) == re.sub(r"capacity \d+", "", self.after):
                 break
@@ -96,9 +100,9 @@ class PlainList:
             (f"Get({second[0]}#1)", lambda: f"Found({option(self.value(second[0]))})"),
             ("Reserve(20)", lambda: "Done"),
             (f"Remove({third[0]}#1)", lambda: self.removed(third[0])),
-            ("Shrink", lambda: "Done"),
+            ("Shrink", self.shrunk),
             ("Len", lambda: f"Length({len(self.pairs)})"),
-            ("IsVec", lambda: f"Form({str(self.form == 'vector').lower()})"),
+            ("IsVec", self.which_form),
         ]
         if answer == "no memory for the commands":
             return answer
@@ -130,6 +134,16 @@ class PlainList:
     def removed(self, key):
         old = self.take(key)
         return "Removed(None)" if old is None else f"Removed(Some(({key}#1, {old})))"
+
+    def shrunk(self):
+        """No more pairs than the limit are a vector afterwards."""
+        if self.form == "table" and len(self.pairs) <= self.LIMIT:
+            self.form = "vector"
+            self.returns += 1
+        return self.which_form()
+
+    def which_form(self):
+        return f"Form({str(self.form == 'vector').lower()})"
 
     def or_insert(self, answer, key, value):
         if self.may_refuse(answer, key):
@@ -181,6 +195,7 @@ class PlainList:
         return "refused for Memory" if answer.startswith("refused") else "granted"
 
     def shrink_to_fit(self, _answer):
+        self.shrunk()
         return "returned"
 
     def clone(self, answer):
@@ -287,9 +302,9 @@ def capacity_of(state):
 
 
 def follow(lines, form):
-    """Goes along a long run with a plain list, up to the first fault. Returns how often each call was refused, and how often a
-    vector switched."""
-    plain, calls, refused, switches = PlainList(form), 0, collections.Counter(), 0
+    """Goes along a long run with a plain list, up to the first fault. Returns how often each call was refused, how often a
+    vector switched, and how often a table became a vector again."""
+    plain, calls, refused = PlainList(form), 0, collections.Counter()
     if len(lines) < 2:
         raise Fault(f"it writes no more than: {lines}")
     expect(1, plain.state(capacity_of(lines[0])), lines[0])
@@ -306,22 +321,21 @@ def follow(lines, form):
         if at + 1 + is_copied >= len(lines):
             raise Fault(f"it ends with: {lines[-1]}")
         plain.after = after = lines[at + 1 + is_copied]
+        switches = plain.switches
         expect(at + 1, CALLS[kind][0](plain, answer, *numbers), answer)
         if is_copied:
             expect(at + 2, plain.state(copied_capacity(before)), lines[at + 1])
         expect(at + 2 + is_copied, plain.state(capacity_of(after)), after)
-        if hashes and before.startswith("vector") and after.startswith("vector") and "hash" not in kind:
+        if hashes and before.startswith("vector") and plain.switches == switches and "hash" not in kind:
             expect(at + 1, "0", hashes[1])
         if is_refusal(answer):
             refused[kind] += 1
             refused.update(re.findall(r"Refused\((\w+)", answer))
         check_capacity(at + 2, kind, answer, before, after)
-        if before.startswith("vector") and after.startswith("table") and not kind.startswith("begin"):
-            switches += 1
         before, at, calls = after, at + 2 + is_copied, calls + 1
     if calls != CALLS_OF_A_RUN:
         raise Fault(f"{calls} calls, and not {CALLS_OF_A_RUN}")
-    return refused, switches
+    return refused, plain.switches, plain.returns
 
 
 def is_refusal(answer):
@@ -336,13 +350,17 @@ def copied_capacity(state):
 def check_capacity(line, kind, answer, before, after):
     """What a call may make of the capacity. A refusal changes nothing, but for what was done before it in the same call."""
     name, most = kind.split(" ")[0], capacity_of(before)
+    limit = PlainList.LIMIT
     form, held, capacity = re.match(r"(\w+) of (\d+), capacity (\d+)", after).groups()
     held, capacity = int(held), int(capacity)
     if is_refusal(answer) and name not in ("extend", "run"):
         expect(line, before, after)
-    may_be = capacity <= PlainList.LIMIT if form == "vector" else capacity in TABLE_CAPACITIES
+    may_be = capacity <= limit if form == "vector" else capacity in TABLE_CAPACITIES
     if name == "shrink_to_fit":
-        may_be = may_be and capacity <= most
+        # The least, or where memory is refused what it was.
+        least = held if form == "vector" else min(it for it in TABLE_CAPACITIES if it >= held)
+        kept = min(most, limit) if form == "vector" else most
+        may_be = may_be and capacity in (least, kept if held else least)
     elif not CALLS[kind][1] and name != "begin":
         may_be = may_be and capacity == most
     elif name not in ("run", "begin", "become"):

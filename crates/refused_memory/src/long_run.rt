@@ -10,15 +10,17 @@ use test_support::counts::Counts;
 
 const COMMANDS: u64 = 2_000;
 
-/// Plays the run on a map of limit 5 that is made for so many pairs. Where it `begins_anew`, new maps take its place now and
-/// then, and else it is cleared.
+const LIMIT: usize = 5;
+
+/// Plays the run on a map of limit 5 that is made for so many pairs. Where it is to `stay_a_table`, calls that could make a
+/// vector of it or put a new map in its place are left out.
 pub(crate) fn play_long_run(
     rt: &(impl Print + AllocGlobal),
     capacity: usize,
-    begins_anew: bool,
+    stay_a_table: bool,
 ) -> io::Result<()> {
     let counts = Counts::new();
-    let mut map = filled::<5>(rt, &counts, capacity, 0)?;
+    let mut map = filled::<LIMIT>(rt, &counts, capacity, 0)?;
     print_state(rt, &map, &counts)?;
     print_begin(rt)?;
     let mut draw = 1u64;
@@ -26,14 +28,26 @@ pub(crate) fn play_long_run(
         draw = draw
             .wrapping_mul(6_364_136_223_846_793_005)
             .wrapping_add(1_442_695_040_888_963_407);
-        let act = match command(draw, number) {
-            Act::BecomeNew | Act::BecomeMade(_) if !begins_anew => Act::Plain(Plain::Clear),
-            act => act,
+        let drawn = command(draw, number);
+        let act = if stay_a_table {
+            leaving_a_table(drawn, map.len())
+        } else {
+            drawn
         };
         act.perform(rt, &mut map, &counts)?;
         print_state(rt, &map, &counts)?;
     }
     Ok(())
+}
+
+// The call, or another that leaves a table of so many pairs a table. A run of commands removes one pair before it shrinks.
+fn leaving_a_table(drawn: Act, len: usize) -> Act {
+    match drawn {
+        Act::BecomeNew | Act::BecomeMade(_) => Act::Plain(Plain::Clear),
+        Act::ShrinkToFit if len <= LIMIT => Act::Clone,
+        Act::Run(pairs) if len <= LIMIT + 1 => Act::Extend(pairs),
+        act => act,
+    }
 }
 
 // The call of a draw, with this value.

@@ -19,10 +19,11 @@ use test_support::keys::Key;
 /// Plays the scenario of this name.
 pub(crate) fn play(rt: &(impl Print + AllocGlobal), name: &str) -> io::Result<()> {
     match name {
-        "long-run" => play_long_run(rt, 0, true),
-        "long-run-of-a-table" => play_long_run(rt, 24, false),
+        "long-run" => play_long_run(rt, 0, false),
+        "long-run-of-a-table" => play_long_run(rt, 24, true),
         "run" => play_run(rt),
         "run-of-a-switch" => twice::<5>(rt, 0, 5, RUN),
+        "run-that-goes-back" => twice::<5>(rt, 24, 3, RUN),
         _ => play_insertion(rt, name),
     }
 }
@@ -88,9 +89,39 @@ fn play_raw_entry(rt: &(impl Print + AllocGlobal), name: &str) -> io::Result<()>
         "unused-raw-entry-vector-growth" => twice::<32>(rt, 4, 4, Act::UnusedRawEntry),
         "raw-entry-with-capacity" => twice::<32>(rt, 6, 4, Act::RawOrInsert(5, 50)),
         "raw-entry-in-a-table-with-capacity" => twice::<0>(rt, 6, 3, Act::RawOrInsert(4, 4)),
+        _ => play_shrinking(rt, name),
+    }
+}
+
+// Shrinking, and what comes after it.
+fn play_shrinking(rt: &(impl Print + AllocGlobal), name: &str) -> io::Result<()> {
+    match name {
+        "vector-shrink" => twice::<32>(rt, 16, 5, Act::ShrinkToFit),
+        "table-shrink" => twice::<5>(rt, 24, 6, Act::ShrinkToFit),
+        "empty-vector-shrink" => twice::<32>(rt, 16, 0, Act::ShrinkToFit),
+        "empty-table-shrink" => twice::<5>(rt, 24, 0, Act::ShrinkToFit),
+        "switched-table-back" => play_all::<5>(rt, 0, 6, &[2], &BACK_TO_FIVE),
+        "table-of-five-back" => play_all::<5>(rt, 24, 5, &[], &BACK_TO_FIVE),
+        "table-of-two-back" => play_all::<5>(rt, 24, 6, &[2, 3, 4, 5], &BACK_TO_TWO),
+        "empty-table-back-at-limit-zero" => play_all::<0>(rt, 24, 0, &[], &BACK_TO_NONE),
+        "table-of-one-at-limit-zero" => twice::<0>(rt, 24, 1, Act::ShrinkToFit),
         _ => play_capacity(rt, name),
     }
 }
+
+// A table of this many pairs becomes a vector, and what is inserted makes it a table again.
+const BACK_TO_FIVE: [Act; 3] = [Act::ShrinkToFit, Act::Insert(7, 7), Act::Insert(7, 7)];
+
+const BACK_TO_TWO: [Act; 6] = [
+    Act::ShrinkToFit,
+    Act::Insert(7, 7),
+    Act::Insert(8, 8),
+    Act::Insert(9, 9),
+    Act::Insert(10, 10),
+    Act::Insert(10, 10),
+];
+
+const BACK_TO_NONE: [Act; 3] = [Act::ShrinkToFit, Act::Insert(1, 10), Act::Insert(1, 10)];
 
 // Capacity, copies and maps that are made.
 fn play_capacity(rt: &(impl Print + AllocGlobal), name: &str) -> io::Result<()> {
@@ -98,10 +129,6 @@ fn play_capacity(rt: &(impl Print + AllocGlobal), name: &str) -> io::Result<()> 
         "vector-reserve" => twice::<32>(rt, 4, 4, Act::Reserve(5)),
         "vector-reserve-past-the-limit" => twice::<5>(rt, 3, 3, Act::Reserve(20)),
         "table-reserve" => twice::<0>(rt, 0, 3, Act::Reserve(4)),
-        "vector-shrink" => twice::<32>(rt, 16, 5, Act::ShrinkToFit),
-        "table-shrink" => twice::<5>(rt, 24, 6, Act::ShrinkToFit),
-        "empty-vector-shrink" => twice::<32>(rt, 16, 0, Act::ShrinkToFit),
-        "empty-table-shrink" => twice::<5>(rt, 24, 0, Act::ShrinkToFit),
         "vector-clone" => twice::<5>(rt, 5, 4, Act::Clone),
         "table-clone" => twice::<0>(rt, 6, 4, Act::Clone),
         "vector-clone-of-texts" => clone_texts::<5>(rt),
@@ -132,14 +159,29 @@ fn twice<const N: usize>(
     held: u64,
     act: Act,
 ) -> io::Result<()> {
+    play_all::<N>(rt, capacity, held, &[], &[act, act])
+}
+
+// Makes a map for so many pairs, inserts the pairs (1, 1) to (held, held), removes some keys, and then does all of this.
+fn play_all<const N: usize>(
+    rt: &(impl Print + AllocGlobal),
+    capacity: usize,
+    held: u64,
+    removed: &[u64],
+    acts: &[Act],
+) -> io::Result<()> {
     let counts = Counts::new();
     let mut map = filled::<N>(rt, &counts, capacity, held)?;
+    for key in removed {
+        map.remove(&counts.key(*key));
+    }
     print_state(rt, &map, &counts)?;
     print_begin(rt)?;
-    act.perform(rt, &mut map, &counts)?;
-    print_state(rt, &map, &counts)?;
-    act.perform(rt, &mut map, &counts)?;
-    print_state(rt, &map, &counts)
+    for act in acts {
+        act.perform(rt, &mut map, &counts)?;
+        print_state(rt, &map, &counts)?;
+    }
+    Ok(())
 }
 
 // A run in which the insertion that switches a full vector of five is tried twice. Commands that come back are run again.
