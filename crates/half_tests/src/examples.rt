@@ -117,6 +117,8 @@ fn inserting(rt: HostRuntime) -> Result<(), Fail> {
     ages.reserve(20)?; // twenty more ages need no more memory
     assert_true(ages.capacity() >= 24, "capacity for 24")?;
     ages.shrink_to_fit();
+    let is_vector = ages.is_vec(); // true, unless more ages are held than the limit
+    assert_true(is_vector, "four of 32")?;
     assert_same(ages.capacity(), 4, "capacity for 4")?;
     Ok(())
 }
