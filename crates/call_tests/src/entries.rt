@@ -1,6 +1,7 @@
 //! Entries: worked examples, each of their calls on a held key and on an absent one, in both forms, and what they are
 //! printed as.
 
+use crate::held_maps::held;
 use halfbrown::{DefaultHashBuilder, Entry, HashMap, SizedHashMap};
 use std::alloc::Global;
 use std::fmt::Debug;
@@ -10,7 +11,7 @@ use test_support::builders::Rule;
 use test_support::calls::{Form, assert_pairs, fill};
 use test_support::counts::{Counted, Counts};
 use test_support::keys::Key;
-use test_support::small_maps::{ABSENT, HELD};
+use test_support::small_maps::{ABSENT, HELD, PASTS};
 use test_support::steps::{Step, play};
 
 #[test]
@@ -310,19 +311,24 @@ const ADDED: &[((u64, u64), u64)] = &[
     ((ABSENT, 2), NEW),
 ];
 
-// Makes the call on the entry of a key in a new map of the held keys. It hashes and compares nothing.
+// Makes the call on the entry of a key in a map of the held keys, a new one and one that was a table. It hashes and compares
+// nothing.
 fn assert_case<const N: usize>(
     alloc: Global,
     id: u64,
     (call, expected, pairs): Case,
 ) -> Result<(), Fail> {
-    let counts = Counts::new();
-    let mut map = counts.map::<N>(alloc, Rule::Plain);
-    fill(&mut map, &counts, &HELD)?;
-    let returned = returned_by(&mut map, &counts, counts.marked(id, 2), call)?;
-    assert_same_at((N, id, call), returned, expected, "what is returned")?;
-    assert_same_at((N, id, call), counts.take(), (0, 0), "the work")?;
-    assert_pairs(&map, &counts, pairs)
+    for past in &PASTS {
+        let counts = Counts::new();
+        let mut map = held::<N>(alloc, &counts, *past)?;
+        let returned = returned_by(&mut map, &counts, counts.marked(id, 2), call)?;
+        let at = (N, id, call, *past);
+        assert_same_at(at, returned, expected, "what is returned")?;
+        assert_same_at(at, counts.take(), (0, 0), "the work")?;
+        assert_same_at(at, map.is_vec(), N > 3, "the form")?;
+        assert_pairs(&map, &counts, pairs)?;
+    }
+    Ok(())
 }
 
 // The same in a vector, in a vector that the entry makes a table, and in a table.

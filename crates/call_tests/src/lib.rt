@@ -2,6 +2,8 @@
 #![tactic(auto)]
 
 #[cfg(test)]
+mod after_going_back;
+#[cfg(test)]
 mod basic_calls;
 #[cfg(test)]
 mod capacity_calls;
@@ -9,6 +11,8 @@ mod capacity_calls;
 mod entries;
 #[cfg(test)]
 mod forms_of_keys;
+#[cfg(test)]
+mod held_maps;
 #[cfg(test)]
 mod raw_additions;
 #[cfg(test)]

@@ -1,5 +1,6 @@
 //! Raw entries: worked examples, searches by a match on keys, how often closures are called, and what they are printed as.
 
+use crate::held_maps::held;
 use crate::raw_additions::{add_by_hash, add_by_vacancy};
 use halfbrown::{DefaultHashBuilder, Equivalent, HashMap, RawEntryMut, SizedHashMap};
 use std::alloc::Global;
@@ -9,10 +10,10 @@ use std::hash::BuildHasher;
 use std::test::Fail;
 use test_support::asserts::{assert_same, assert_same_at};
 use test_support::builders::Rule;
-use test_support::calls::{Form, assert_form, assert_pairs, fill};
+use test_support::calls::{Form, assert_form, assert_pairs, assert_shrink, fill};
 use test_support::counts::{Counted, Counts};
 use test_support::keys::{Id, Key};
-use test_support::small_maps::{ABSENT, HELD};
+use test_support::small_maps::{ABSENT, HELD, Past};
 use test_support::steps::{Step, play, play_made_for};
 
 #[test]
@@ -168,6 +169,41 @@ fn the_first_match_of_a_vector_has_the_entry(rt: HostRuntime) -> Result<(), Fail
     assert_entry_found(&mut map, &counts, (999, None), (Some(8), (0, 1)))?;
     assert_entry_found(&mut map, &counts, (999, Some(16)), (Some(16), (0, 2)))?;
     assert_entry_found(&mut map, &counts, (16, Some(24)), (None, (0, 2)))
+}
+
+#[test]
+fn a_hash_that_a_table_stored_means_nothing_once_it_went_back(rt: HostRuntime) -> Result<(), Fail> {
+    let counts = Counts::new();
+    let mut map = counts.map::<2>(rt.alloc(), Rule::Plain);
+    fill(&mut map, &counts, &[8, 16, 24])?;
+    assert_found(&map, &counts, (24, None), (Some(24), (0, 1)))?;
+    assert_found(&map, &counts, (999, None), (None, (0, 0)))?;
+    assert_same(map.remove(&counts.key(24)), Some(24), "one is removed")?;
+    assert_shrink(&mut map, &counts)?;
+    assert_form(&map, (Form::Vector, 2, 2))?;
+    // In order, under each hash.
+    assert_found(&map, &counts, (999, None), (Some(8), (0, 1)))?;
+    assert_found(&map, &counts, (16, None), (Some(8), (0, 1)))?;
+    assert_found(&map, &counts, (8, Some(16)), (Some(16), (0, 2)))?;
+    assert_found(&map, &counts, (24, Some(24)), (None, (0, 2)))?;
+    // The builder is asked for both hashes, and these are what is searched by.
+    drop(map.raw_entry_mut()?);
+    assert_same(counts.take(), (2, 0), "the switch")?;
+    assert_found(&map, &counts, (999, None), (None, (0, 0)))?;
+    assert_found(&map, &counts, (24, None), (None, (0, 0)))?;
+    assert_found(&map, &counts, (8, None), (Some(8), (0, 1)))?;
+    assert_found(&map, &counts, (16, None), (Some(16), (0, 1)))?;
+    assert_found(&map, &counts, (16, Some(8)), (None, (0, 1)))
+}
+
+#[test]
+fn the_first_match_of_a_vector_that_went_back_has_the_entry(rt: HostRuntime) -> Result<(), Fail> {
+    let counts = Counts::new();
+    let mut map = held::<5>(rt.alloc(), &counts, Past::Table)?;
+    assert_entry_found(&mut map, &counts, (999, None), (Some(24), (0, 1)))?;
+    assert_entry_found(&mut map, &counts, (24, Some(16)), (Some(16), (0, 3)))?;
+    assert_entry_found(&mut map, &counts, (8, Some(ABSENT)), (None, (0, 3)))?;
+    assert_same((map.is_vec(), map.len()), (true, 3), "a vector")
 }
 
 #[test]

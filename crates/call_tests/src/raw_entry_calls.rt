@@ -2,17 +2,17 @@
 //! and the pairs after it.
 ghost use Rattle.std.specs.Prelude.{◌≡◌};
 
+use crate::held_maps::held;
 use crate::raw_additions::{Addition, add_entry, add_pair, key_of, write_pair};
 use halfbrown::{RawEntryMut, Tally};
 use std::alloc::Global;
 use std::hash::BuildHasher;
 use std::test::Fail;
 use test_support::asserts::assert_same_at;
-use test_support::builders::Rule;
-use test_support::calls::{assert_pairs, fill};
+use test_support::calls::assert_pairs;
 use test_support::counts::{Counted, Counts};
 use test_support::keys::Key;
-use test_support::small_maps::{ABSENT, HELD};
+use test_support::small_maps::{ABSENT, PASTS};
 
 // A call of a raw entry.
 #[derive(Clone, Copy, Debug)]
@@ -398,21 +398,25 @@ const ADDED: &[((u64, u64), u64)] = &[
     ((ABSENT, 2), NEW),
 ];
 
-// Makes the call on the entry of a key in a new map of the held keys. It hashes so often, and compares nothing.
+// Makes the call on the entry of a key in a map of the held keys, a new one and one that was a table. It hashes so often, and
+// compares nothing.
 fn assert_case<const N: usize>(
     alloc: Global,
     id: u64,
     (call, expected, pairs): Case,
     asked: u64,
 ) -> Result<(), Fail> {
-    let counts = Counts::new();
-    let mut map = counts.map::<N>(alloc, Rule::Plain);
-    fill(&mut map, &counts, &HELD)?;
-    let returned = returned_by(&mut map, &counts, counts.marked(id, 2), call)?;
-    assert_same_at((N, id, call), returned, expected, "what is returned")?;
-    assert_same_at((N, id, call), counts.take(), (asked, 0), "the work")?;
-    assert_same_at((N, id, call), map.is_vec(), N > 3, "the form")?;
-    assert_pairs(&map, &counts, pairs)
+    for past in &PASTS {
+        let counts = Counts::new();
+        let mut map = held::<N>(alloc, &counts, *past)?;
+        let returned = returned_by(&mut map, &counts, counts.marked(id, 2), call)?;
+        let at = (N, id, call, *past);
+        assert_same_at(at, returned, expected, "what is returned")?;
+        assert_same_at(at, counts.take(), (asked, 0), "the work")?;
+        assert_same_at(at, map.is_vec(), N > 3, "the form")?;
+        assert_pairs(&map, &counts, pairs)?;
+    }
+    Ok(())
 }
 
 // The same in a vector, in a vector that the entry makes a table, and in a table. A vector hashes nothing.

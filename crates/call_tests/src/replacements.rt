@@ -1,9 +1,11 @@
 //! Values that are handed to a closure through an entry: the pair stays with its answer, or is gone.
 
 use halfbrown::{DefaultHashBuilder, Entry, HashMap, SizedHashMap, Tally};
+use std::alloc::Global;
 use std::test::Fail;
 use test_support::asserts::{assert_same, assert_same_at};
 use test_support::counts::Counts;
+use test_support::small_maps::Past;
 
 // Three numbers, each its own value.
 type Numbers<const N: usize> = SizedHashMap<u64, u64, DefaultHashBuilder, N>;
@@ -22,10 +24,24 @@ fn comparisons<const N: usize>(numbers: &Numbers<N>, number: u64) -> u64 {
     counts.take().1
 }
 
-#[test]
-fn a_replaced_pair_of_a_vector_goes_last(rt: HostRuntime) -> Result<(), Fail> {
-    let mut numbers = Numbers::<5>::new(rt.alloc());
+// A vector of the three numbers, new, or one that was a table before.
+fn vector_of_three(alloc: Global, past: Past) -> Result<Numbers<5>, Fail> {
+    let capacity = match past {
+        Past::New => 5,
+        Past::Table => 6,
+    };
+    let mut numbers = Numbers::<5>::with_capacity(alloc, capacity)?;
     fill(&mut numbers)?;
+    if let Past::Table = past {
+        assert_same(numbers.is_map(), true, "a table before")?;
+        numbers.shrink_to_fit();
+    }
+    assert_same(numbers.is_vec(), true, "a vector")?;
+    Ok(numbers)
+}
+
+fn replace_of_a_vector(alloc: Global, past: Past) -> Result<(), Fail> {
+    let mut numbers = vector_of_three(alloc, past)?;
     if let Entry::Occupied(entry) = numbers.entry(2)? {
         let left = entry.replace_entry_with(|_, value| value.checked_add(10));
         assert_same(*left.key(), 2, "the stored key")?;
@@ -35,6 +51,12 @@ fn a_replaced_pair_of_a_vector_goes_last(rt: HostRuntime) -> Result<(), Fail> {
         assert_same_at(number, comparisons(&numbers, number), index, "the order")?;
     }
     Ok(())
+}
+
+#[test]
+fn a_replaced_pair_of_a_vector_goes_last(rt: HostRuntime) -> Result<(), Fail> {
+    replace_of_a_vector(rt.alloc(), Past::New)?;
+    replace_of_a_vector(rt.alloc(), Past::Table)
 }
 
 #[test]
@@ -56,10 +78,8 @@ fn a_replaced_pair_of_a_table_stays(rt: HostRuntime) -> Result<(), Fail> {
     Ok(())
 }
 
-#[test]
-fn a_lost_pair_of_a_vector_is_inserted_last(rt: HostRuntime) -> Result<(), Fail> {
-    let mut numbers = Numbers::<5>::new(rt.alloc());
-    fill(&mut numbers)?;
+fn lose_of_a_vector(alloc: Global, past: Past) -> Result<(), Fail> {
+    let mut numbers = vector_of_three(alloc, past)?;
     if let Entry::Occupied(entry) = numbers.entry(1)? {
         if let Entry::Vacant(entry) = entry.replace_entry_with(|_, _| None) {
             assert_same(*entry.key(), 1, "the entry has the stored key")?;
@@ -71,6 +91,12 @@ fn a_lost_pair_of_a_vector_is_inserted_last(rt: HostRuntime) -> Result<(), Fail>
         assert_same_at(number, comparisons(&numbers, number), index, "the order")?;
     }
     Ok(())
+}
+
+#[test]
+fn a_lost_pair_of_a_vector_is_inserted_last(rt: HostRuntime) -> Result<(), Fail> {
+    lose_of_a_vector(rt.alloc(), Past::New)?;
+    lose_of_a_vector(rt.alloc(), Past::Table)
 }
 
 #[test]

@@ -1,17 +1,17 @@
 //! The work that each public call really does, in both forms: how often keys are hashed, and how many are compared.
 //!
 //! The costs in the contracts see what the tally counts. Here the builder and the keys count for themselves, and each call,
-//! plain and counted, does as much work as its cost says and no more.
+//! plain and counted, does as much work as its cost says and no more, also in a vector that was a table before.
 
+use crate::held_maps::held_by;
 use halfbrown::{Entry, Equivalent, Tally};
 use std::alloc::Global;
 use std::test::Fail;
 use test_support::asserts::{assert_same, assert_same_at, assert_true};
 use test_support::builders::{Counting, Rule};
-use test_support::calls::fill;
 use test_support::counts::{Counted, Counts};
 use test_support::keys::{Id, Key};
-use test_support::small_maps::{ABSENT, HELD, On};
+use test_support::small_maps::{ABSENT, HELD, On, PASTS, Past};
 
 // A call that looks a key up.
 #[derive(Clone, Copy, Debug)]
@@ -188,39 +188,30 @@ enum Call {
 // What came of a call: whether it returned what it should, and the hashes and comparisons.
 type Outcome = (bool, u64, u64);
 
-// Makes the call on a new map of the held keys.
-fn outcome_of(alloc: Global, call: Call, on: On) -> Result<Outcome, Fail> {
+// Makes the call on a map of the held keys.
+fn outcome_of(alloc: Global, call: Call, on: On, past: Past) -> Result<Outcome, Fail> {
     match on {
-        On::Vector => outcome_at::<5>(alloc, call, 5),
-        On::TightVector => outcome_at::<5>(alloc, call, 3),
-        On::FullVector => outcome_at::<3>(alloc, call, 3),
-        On::Table => outcome_at::<0>(alloc, call, 6),
-        On::TightTable => outcome_at::<0>(alloc, call, 3),
+        On::Vector => outcome_at::<5>(alloc, call, 5, past),
+        On::TightVector => outcome_at::<5>(alloc, call, 3, past),
+        On::FullVector => outcome_at::<3>(alloc, call, 3, past),
+        On::Table => outcome_at::<0>(alloc, call, 6, past),
+        On::TightTable => outcome_at::<0>(alloc, call, 3, past),
     }
 }
 
 // The same, on a map of this limit and this capacity.
-fn outcome_at<const N: usize>(alloc: Global, call: Call, capacity: usize) -> Result<Outcome, Fail> {
+fn outcome_at<const N: usize>(
+    alloc: Global,
+    call: Call,
+    capacity: usize,
+    past: Past,
+) -> Result<Outcome, Fail> {
     let counts = Counts::new();
-    let mut map = held_by::<N>(alloc, &counts, capacity)?;
+    let mut map = held_by::<N>(alloc, &counts, capacity, past)?;
     counts.take();
     let is_right = made(&mut map, &counts, call)?;
     let (asked, compared) = counts.take();
     Ok((is_right, asked, compared))
-}
-
-/// A map of this limit and this capacity, with the held keys.
-pub(crate) fn held_by<const N: usize>(
-    alloc: Global,
-    counts: &Counts,
-    capacity: usize,
-) -> Result<Counted<'_, N>, Fail> {
-    let builder = counts.builder(Rule::Plain);
-    let mut map = Counted::<'_, N>::with_capacity_and_hasher(alloc, capacity, builder)?;
-    fill(&mut map, counts, &HELD)?;
-    let actual = (map.len(), map.capacity());
-    assert_same_at(N, actual, (3, capacity), "length and capacity")?;
-    Ok(map)
 }
 
 // Whether the call returned what it should.
@@ -349,10 +340,13 @@ fn did<const N: usize>(map: &mut Counted<'_, N>, other: Other) -> bool {
     }
 }
 
-// Makes the call on a new map, and fails where something else came of it.
+// Makes the call on a new map and on one that was a table, and fails where something else came of it.
 fn assert_outcome(alloc: Global, call: Call, on: On, expected: Outcome) -> Result<(), Fail> {
-    let outcome = outcome_of(alloc, call, on)?;
-    assert_same_at((call, on), outcome, expected, "the outcome")
+    for past in &PASTS {
+        let outcome = outcome_of(alloc, call, on, *past)?;
+        assert_same_at((call, on, *past), outcome, expected, "the outcome")?;
+    }
+    Ok(())
 }
 
 #[test]

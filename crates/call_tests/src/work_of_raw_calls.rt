@@ -1,7 +1,7 @@
 //! The work that each raw search really does, plain and counted, in both forms: how often keys are hashed, and how many are
 //! compared. A match that is called counts as a comparison. The work of the calls on the entry itself stands with what they return.
 
-use crate::work_of_calls::held_by;
+use crate::held_maps::held_by;
 use halfbrown::{Equivalent, RawEntryMut, Tally};
 use std::alloc::Global;
 use std::hash::BuildHasher;
@@ -9,7 +9,7 @@ use std::test::Fail;
 use test_support::asserts::assert_same_at;
 use test_support::counts::{Counted, Counts};
 use test_support::keys::{Id, Key};
-use test_support::small_maps::{ABSENT, HELD, On};
+use test_support::small_maps::{ABSENT, HELD, On, PASTS, Past};
 
 // A search of both builders of raw entries.
 #[derive(Clone, Copy, Debug)]
@@ -119,21 +119,26 @@ enum Call {
 // What came of a call: the key that was found, and the hashes and comparisons.
 type Outcome = (Option<u64>, u64, u64);
 
-// Makes the call on a new map of the held keys.
-fn outcome_of(alloc: Global, call: Call, on: On) -> Result<Outcome, Fail> {
+// Makes the call on a map of the held keys.
+fn outcome_of(alloc: Global, call: Call, on: On, past: Past) -> Result<Outcome, Fail> {
     match on {
-        On::Vector => outcome_at::<5>(alloc, call, 5),
-        On::TightVector => outcome_at::<5>(alloc, call, 3),
-        On::FullVector => outcome_at::<3>(alloc, call, 3),
-        On::Table => outcome_at::<0>(alloc, call, 6),
-        On::TightTable => outcome_at::<0>(alloc, call, 3),
+        On::Vector => outcome_at::<5>(alloc, call, 5, past),
+        On::TightVector => outcome_at::<5>(alloc, call, 3, past),
+        On::FullVector => outcome_at::<3>(alloc, call, 3, past),
+        On::Table => outcome_at::<0>(alloc, call, 6, past),
+        On::TightTable => outcome_at::<0>(alloc, call, 3, past),
     }
 }
 
 // The same, on a map of this limit and this capacity.
-fn outcome_at<const N: usize>(alloc: Global, call: Call, capacity: usize) -> Result<Outcome, Fail> {
+fn outcome_at<const N: usize>(
+    alloc: Global,
+    call: Call,
+    capacity: usize,
+    past: Past,
+) -> Result<Outcome, Fail> {
     let counts = Counts::new();
-    let mut map = held_by::<N>(alloc, &counts, capacity)?;
+    let mut map = held_by::<N>(alloc, &counts, capacity, past)?;
     counts.take();
     let id = match call {
         Call::Searches(search, id) => found(&map, &counts, search, &counts.key(id)),
@@ -215,10 +220,13 @@ fn make<const N: usize>(map: &mut Counted<'_, N>, making: Making) -> Result<(), 
     Ok(())
 }
 
-// Makes the call on a new map, and fails where something else came of it.
+// Makes the call on a new map and on one that was a table, and fails where something else came of it.
 fn assert_outcome(alloc: Global, call: Call, on: On, expected: Outcome) -> Result<(), Fail> {
-    let outcome = outcome_of(alloc, call, on)?;
-    assert_same_at((call, on), outcome, expected, "the outcome")
+    for past in &PASTS {
+        let outcome = outcome_of(alloc, call, on, *past)?;
+        assert_same_at((call, on, *past), outcome, expected, "the outcome")?;
+    }
+    Ok(())
 }
 
 // What comes of a search for this key.

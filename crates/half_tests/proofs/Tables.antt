@@ -8,7 +8,7 @@ use Rattle.std.specs.List.{IsDistinct}
 use Rattle.std.specs.Map.{keys_of}
 use Rattle.half_store.specs.Capacity.{capacity_of, more_buckets, buckets_for, capacity_for, grown_capacity}
 use Rattle.half_store.proofs.CapacityLemmas.{buckets_for-least}
-use Rattle.halfbrown.specs.Growth.{is_full, stays_vec, insert_needs, HasCapacityAfter, HasCapacityMade, HasCapacityShrunk}
+use Rattle.halfbrown.specs.Growth.{is_full, stays_vec, insert_needs, HasCapacityAfter, HasCapacityMade}
 use Rattle.halfbrown.specs.Pairs.{holds, put, take_out}
 use Rattle.halfbrown.specs.State.{State, WithPairs}
 use Rattle.halfbrown.proofs.Indices.{NonePasses, none_at, absent_of_none}
@@ -168,10 +168,6 @@ with_by : (left : Bool) (n old new : ℕ)
 with_by true n old new after = after
 with_by false n old new after = after
 
-no_capacity : capacity_for 0 ≡ 0
-unfolding buckets_for
-no_capacity = refl
-
 module _ (rule : Rule) (held : List (ℕ × ℕ)) (capacity : ℕ) (k : ℕ) (old : State ℕ ℕ Counting) (table : IsTable rule held capacity old) (new : State ℕ ℕ Counting) where
   -- after a removal
   pub table_without : WithPairs old (take_out eqb old.pairs k) new → IsTable rule (take_out eqb held k) capacity new
@@ -203,19 +199,3 @@ module _ (rule : Rule) (held : List (ℕ × ℕ)) (capacity : ℕ) (k : ℕ) (ol
             ∙ ap (λ n. if nat_lt (length held) n then n else capacity_for (length held + 1)) table.capacity;
         builder = ap (λ b. b.rule) builder ∙ table.builder;
       }
-
-  -- after the capacity of an empty table was given back
-  pub table_shrunk : held ≡ [] → new.pairs ≡ old.pairs → new.is_vec ≡ old.is_vec → HasCapacityShrunk old new
-      → new.builder ≡ old.builder → IsTable rule [] 0 new
-  table_shrunk none pairs form shrinks builder = record {
-    form = form ∙ table.form;
-    pairs = pairs ∙ table.pairs ∙ none;
-    capacity =
-        let left : length old.pairs ≡ 0 = ap length (table.pairs ∙ none) in
-        elim shrinks [
-          | inl made ↦
-              made ∙ ap (λ is_vec. if is_vec then length old.pairs else capacity_for (length old.pairs)) (form ∙ table.form) ∙ ap capacity_for left ∙ no_capacity
-          | inr (some, kept) ↦ absurd (omega arith)
-        ];
-    builder = ap (λ b. b.rule) builder ∙ table.builder;
-  }

@@ -93,7 +93,13 @@ fn capacities(rt: HostRuntime) -> Result<(), Fail> {
     numbers.insert(1, 2)?;
     numbers.insert(3, 4)?;
     assert_true(numbers.capacity() >= 100, "capacity for a hundred")?;
+    assert_true(numbers.is_map(), "a hundred are a table")?;
     numbers.shrink_to_fit();
+    assert_same(
+        (numbers.is_vec(), numbers.len()),
+        (true, 2),
+        "two are a vector",
+    )?;
     assert_true(numbers.capacity() >= 2, "capacity for two")
 }
 

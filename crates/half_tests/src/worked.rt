@@ -12,6 +12,7 @@ pub mod retained;
 pub mod shorter;
 #[cfg(test)]
 mod tests;
+pub mod there_and_back;
 pub mod vectors;
 
 use halfbrown::{Refusal, SizedHashMap};

@@ -12,8 +12,8 @@ use std::alloc::Global;
 use std::cell::Cell;
 use std::hash::{Hash, Hasher};
 use std::test::Fail;
-use test_support::asserts::{assert_same, assert_same_at};
-use test_support::small_maps::{HELD, On};
+use test_support::asserts::assert_same_at;
+use test_support::small_maps::{HELD, On, PASTS, Past};
 
 /// A key that counts its drop.
 pub(crate) struct Key<'a> {
@@ -152,42 +152,66 @@ pub(crate) enum Returned<'a> {
 /// How many keys and values a call drops, and how many are dropped with its result, and with the map.
 pub(crate) type Dropped = ((u64, u64), (u64, u64), (u64, u64));
 
-// Makes the call on a new map of the held keys, and then drops its result and the map.
-fn dropped_by(alloc: Global, call: Call, on: On) -> Result<Dropped, Fail> {
+// Makes the call on a map of the held keys, and then drops its result and the map.
+fn dropped_by(alloc: Global, call: Call, on: On, past: Past) -> Result<Dropped, Fail> {
     match on {
-        On::Vector => dropped_at::<5>(alloc, call, 5),
-        On::TightVector => dropped_at::<5>(alloc, call, 3),
-        On::FullVector => dropped_at::<3>(alloc, call, 3),
-        On::Table => dropped_at::<0>(alloc, call, 6),
-        On::TightTable => dropped_at::<0>(alloc, call, 3),
+        On::Vector => dropped_at::<5>(alloc, call, 5, past),
+        On::TightVector => dropped_at::<5>(alloc, call, 3, past),
+        On::FullVector => dropped_at::<3>(alloc, call, 3, past),
+        On::Table => dropped_at::<0>(alloc, call, 6, past),
+        On::TightTable => dropped_at::<0>(alloc, call, 3, past),
     }
 }
 
-/// A map of this limit and this capacity, with the held keys.
+/// Inserts a pair, and returns the old value of its key.
+pub(crate) fn put<'a, const N: usize>(
+    map: &mut Dropping<'a, N>,
+    drops: &'a Drops,
+    id: u64,
+) -> Result<Option<Value<'a>>, Refusal> {
+    Ok(map.insert(drops.key(id), drops.value())?)
+}
+
+/// A map of this limit and this capacity, with the held keys. Making it drops nothing, also where it goes back to a vector.
 pub(crate) fn held_by<const N: usize>(
     alloc: Global,
     drops: &Drops,
     capacity: usize,
-) -> Result<Dropping<'_, N>, Refusal> {
+    past: Past,
+) -> Result<Dropping<'_, N>, Fail> {
+    let made_for = match past {
+        Past::New => capacity,
+        Past::Table => N.saturating_add(1),
+    };
     let builder = DefaultHashBuilder::new();
-    let mut map = Dropping::<'_, N>::with_capacity_and_hasher(alloc, capacity, builder)?;
+    let mut map = Dropping::<'_, N>::with_capacity_and_hasher(alloc, made_for, builder)?;
     for id in HELD {
-        map.insert(drops.key(id), drops.value())?;
+        put(&mut map, drops, id)?;
     }
+    if let Past::Table = past {
+        assert_same_at(N, map.is_map(), true, "a table before")?;
+        map.shrink_to_fit();
+        map.reserve(capacity.saturating_sub(3))?;
+    }
+    assert_same_at((N, past), drops.take(), (0, 0), "the held pairs")?;
+    assert_same_at(
+        (N, past),
+        (map.is_vec(), map.len(), map.capacity()),
+        (N >= 3, 3, capacity),
+        "form, length and capacity",
+    )?;
     Ok(map)
 }
 
 // The same, on a map of this limit and this capacity.
-fn dropped_at<const N: usize>(alloc: Global, call: Call, capacity: usize) -> Result<Dropped, Fail> {
+fn dropped_at<const N: usize>(
+    alloc: Global,
+    call: Call,
+    capacity: usize,
+    past: Past,
+) -> Result<Dropped, Fail> {
     let drops = Drops::new();
-    let mut map = held_by::<N>(alloc, &drops, capacity)?;
-    assert_same(drops.take(), (0, 0), "the held pairs")?;
-    assert_same_at(
-        N,
-        (map.len(), map.capacity()),
-        (3, capacity),
-        "length and capacity",
-    )?;
+    let mut map = held_by::<N>(alloc, &drops, capacity, past)?;
     let returned = returned_by(&mut map, &drops, call)?;
     let by_call = drops.take();
     drop(returned);
@@ -211,15 +235,18 @@ fn returned_by<'a, const N: usize>(
     }
 }
 
-/// Makes the call on a new map, and fails where something else is dropped.
+/// Makes the call on a new map and on one that was a table, and fails where something else is dropped.
 pub(crate) fn assert_dropped(
     alloc: Global,
     call: Call,
     on: On,
     expected: Dropped,
 ) -> Result<(), Fail> {
-    let dropped = dropped_by(alloc, call, on)?;
-    assert_same_at((call, on), dropped, expected, "what is dropped")
+    for past in &PASTS {
+        let dropped = dropped_by(alloc, call, on, *past)?;
+        assert_same_at((call, on, *past), dropped, expected, "what is dropped")?;
+    }
+    Ok(())
 }
 
 // The maps on which each is made.

@@ -6,6 +6,7 @@ use std::alloc::Global;
 use std::hash::{BuildHasher, Hash};
 use std::test::Fail;
 use test_support::asserts::assert_same_at;
+use test_support::small_maps::{PASTS, Past};
 
 // The iterator over the map once this many pairs are taken, and dropped.
 fn after<K: Eq + Hash + Drop, V: Drop, S: BuildHasher + Drop, L: Limit>(
@@ -33,10 +34,14 @@ fn seen<K: Eq + Hash, V, S: BuildHasher, L: Limit>(
     ]
 }
 
-fn assert_dropped_once<const N: usize>(alloc: Global, capacity: usize) -> Result<(), Fail> {
+fn assert_dropped_once<const N: usize>(
+    alloc: Global,
+    capacity: usize,
+    past: Past,
+) -> Result<(), Fail> {
     for (taken, left) in [(0, 3), (1, 2), (2, 1), (3, 0), (4, 0)] {
         let drops = Drops::new();
-        let mut map: Dropping<'_, N> = held_by::<N>(alloc, &drops, capacity)?;
+        let mut map: Dropping<'_, N> = held_by::<N>(alloc, &drops, capacity, past)?;
         assert_same_at(
             (N, taken),
             seen(&mut map),
@@ -70,7 +75,10 @@ fn assert_dropped_once<const N: usize>(alloc: Global, capacity: usize) -> Result
 
 #[test]
 fn each_pair_is_dropped_once_by_an_iterator(rt: HostRuntime) -> Result<(), Fail> {
-    assert_dropped_once::<5>(rt.alloc(), 5)?;
-    assert_dropped_once::<3>(rt.alloc(), 3)?;
-    assert_dropped_once::<0>(rt.alloc(), 6)
+    for past in &PASTS {
+        assert_dropped_once::<5>(rt.alloc(), 5, *past)?;
+        assert_dropped_once::<3>(rt.alloc(), 3, *past)?;
+        assert_dropped_once::<0>(rt.alloc(), 6, *past)?;
+    }
+    Ok(())
 }

@@ -110,7 +110,7 @@ impl Expected {
     /// The capacities that the map may have after this command, by the one that it has before.
     ///
     /// Where no more is needed it stays. Else a table has the least of its series, and a vector at least what is needed and
-    /// at most the limit. Shrunk, it is exactly what the pairs need.
+    /// at most the limit. Shrunk, it is exactly what the pairs need in the form that they have then.
     pub(crate) fn capacities_after(
         &self,
         command: Command<Name, u64>,
@@ -121,7 +121,7 @@ impl Expected {
             Command::InsertNew(key, _) if self.index_of(key).is_none() => self.addition_needs(),
             Command::RawOrInsert(_, _) => self.addition_needs(),
             Command::Reserve(additional) => self.reserve_needs(additional),
-            Command::Shrink => return Capacities::exactly(self.least_capacity()),
+            Command::Shrink => return Capacities::exactly(self.shrunk_capacity()),
             _ => 0,
         };
         self.capacities_for(needed, before)
@@ -162,7 +162,7 @@ impl Expected {
                 (Reply::Done, Work::NONE)
             }
             Command::Reserve(additional) => (self.reserve(additional), Work::NONE),
-            Command::Shrink => (Reply::Done, Work::NONE),
+            Command::Shrink => (Reply::Form(self.shrink()), Work::NONE),
             Command::IsVec => (Reply::Form(self.is_vec), Work::NONE),
             Command::Len => (Reply::Length(self.pairs.len()), Work::NONE),
         })
@@ -357,9 +357,20 @@ impl Expected {
         }
     }
 
-    // The least capacity for the pairs: in a vector just that, in a table the least of its series.
-    fn least_capacity(&self) -> usize {
-        if self.is_vec {
+    // Whether the limit allows the pairs. So it does in a vector.
+    fn is_within_limit(&self) -> bool {
+        self.pairs.len() <= self.limit
+    }
+
+    // A table of no more pairs than the limit goes back to a vector. Returns whether it is one then.
+    fn shrink(&mut self) -> bool {
+        self.is_vec = self.is_within_limit();
+        self.is_vec
+    }
+
+    // The capacity once it is shrunk: that of the pairs in a vector, and in a table the least of its series.
+    fn shrunk_capacity(&self) -> usize {
+        if self.is_within_limit() {
             self.pairs.len()
         } else {
             table_capacity_for(self.pairs.len())

@@ -18,9 +18,13 @@ mod drops_of_raw_entries;
 #[cfg(test)]
 mod drops_of_retain;
 #[cfg(test)]
+mod drops_there_and_back;
+#[cfg(test)]
 mod expected;
 #[cfg(test)]
 mod flooding;
+#[cfg(test)]
+mod forms;
 #[cfg(test)]
 mod long_histories;
 #[cfg(test)]
@@ -34,4 +38,8 @@ mod long_runs_of_retain;
 #[cfg(test)]
 mod long_runs_of_whole_maps;
 #[cfg(test)]
+mod long_runs_there_and_back;
+#[cfg(test)]
 mod names;
+#[cfg(test)]
+mod tides;

@@ -1,6 +1,7 @@
 //! A thousand commands by a fixed rule: the replies are those of a plain list, and the work is what the costs say.
 
 use crate::expected::{Expected, Work};
+use crate::forms::Changes;
 use crate::names::{Name, with_counting_key, with_names};
 use halfbrown::run::run;
 use halfbrown::{Command, Reply};
@@ -85,20 +86,30 @@ pub(crate) fn assert_command<'a, const N: usize>(
     )
 }
 
-// Command by command.
-fn replies_one_by_one<const N: usize>(alloc: Global, rule: Rule) -> Result<(), Fail> {
+/// Command by command on an empty map. Returns how often the map changed its form.
+pub(crate) fn replies_one_by_one<const N: usize>(
+    alloc: Global,
+    rule: Rule,
+    commands: &[Command<Name, u64>],
+) -> Result<Changes, Fail> {
     let counts = Counts::new();
     let mut map = counts.map::<N>(alloc, rule);
     let mut expected = Expected::new(alloc, N, rule);
-    for command in &commands(alloc)? {
+    let mut changes = Changes::NONE;
+    for command in commands {
+        let was_vec = map.is_vec();
         assert_command(alloc, &mut map, &counts, &mut expected, *command)?;
+        changes.count(was_vec, map.is_vec());
     }
-    assert_true_at((N, rule), map.is_map(), "the switch is reached")
+    Ok(changes)
 }
 
-// All commands at once: the replies, and the work as a sum.
-fn replies_all_at_once<const N: usize>(alloc: Global, rule: Rule) -> Result<(), Fail> {
-    let commands = commands(alloc)?;
+/// All commands at once: the replies, the form at the end, and the work as a sum.
+pub(crate) fn replies_all_at_once<const N: usize>(
+    alloc: Global,
+    rule: Rule,
+    commands: Vec<Command<Name, u64>>,
+) -> Result<(), Fail> {
     let mut expected = Expected::new(alloc, N, rule);
     let mut wanted = Vec::new(alloc);
     let mut work = Work::NONE;
@@ -117,6 +128,12 @@ fn replies_all_at_once<const N: usize>(alloc: Global, rule: Rule) -> Result<(), 
         wanted.as_slice(),
         "the replies",
     )?;
+    assert_same_at(
+        (N, rule),
+        map.is_vec(),
+        expected.is_vec(),
+        "the form at the end",
+    )?;
     assert_true_at(
         (N, rule, spent, work),
         work.allows(spent.0, spent.1),
@@ -127,8 +144,10 @@ fn replies_all_at_once<const N: usize>(alloc: Global, rule: Rule) -> Result<(), 
 
 // Both, at one limit.
 fn replies_as_a_list<const N: usize>(alloc: Global, rule: Rule) -> Result<(), Fail> {
-    replies_one_by_one::<N>(alloc, rule)?;
-    replies_all_at_once::<N>(alloc, rule)
+    let commands = commands(alloc)?;
+    let changes = replies_one_by_one::<N>(alloc, rule, commands.as_slice())?;
+    changes.assert_some((N, rule))?;
+    replies_all_at_once::<N>(alloc, rule, commands)
 }
 
 #[test]

@@ -2,7 +2,9 @@
 //! the pairs of that list, in a vector in its order.
 
 use crate::expected::{Expected, Work};
+use crate::forms::Changes;
 use crate::names::Name;
+use crate::tides::Tides;
 use halfbrown::{Command, Entry};
 use std::alloc::{AllocError, Global};
 use std::test::Fail;
@@ -25,6 +27,8 @@ enum Call {
     AddOneOrInsert(u64),
     Insert(u64),
     Remove,
+    // That of the map, and of no entry.
+    Shrink,
 }
 
 // The key and the value that a call returns, or that are read through the entry.
@@ -50,14 +54,48 @@ fn calls(alloc: Global) -> Result<Vec<(Name, Call)>, AllocError> {
     Ok(calls)
 }
 
+// How many calls there are in floods and ebbs, and how often each way a map has to change its form by them.
+const CALLS_IN_TIDES: u64 = 2_000;
+
+const TIMES: u64 = 20;
+
+// The same in floods and ebbs, with calls that shrink.
+fn calls_in_tides(alloc: Global, limit: usize) -> Result<Vec<(Name, Call)>, AllocError> {
+    let mut calls = Vec::new(alloc);
+    let mut tides = Tides::at(limit);
+    for _ in 0..CALLS_IN_TIDES {
+        let draw = tides.draw();
+        let number = draw.number;
+        let call = match draw.choice {
+            0..=15 => Call::Drop,
+            16..=31 => Call::OrInsert(number),
+            32..=47 => Call::AddOneOrInsert(number),
+            48..=55 => Call::Insert(number),
+            56..=215 if !draw.is_flood => Call::Remove,
+            56..=95 => Call::OrInsert(number),
+            96..=135 => Call::AddOneOrInsert(number),
+            136..=191 => Call::Insert(number),
+            192..=215 => Call::Remove,
+            _ => Call::Shrink,
+        };
+        calls.push(((draw.id, number), call))?;
+    }
+    Ok(calls)
+}
+
 // What the call returns of the map.
 fn answer_of<'a, const N: usize>(
     map: &mut Counted<'a, N>,
     key: Key<'a>,
     call: Call,
 ) -> Result<Answer, Fail> {
+    if let Call::Shrink = call {
+        map.shrink_to_fit();
+        return Ok((None, None));
+    }
     let entry = map.entry(key)?;
     Ok(match call {
+        Call::Shrink => (None, None),
         Call::Drop => (Some(entry.key().name()), None),
         Call::OrInsert(value) => (None, Some(*entry.or_insert(value))),
         Call::AddOneOrInsert(value) => {
@@ -84,6 +122,10 @@ fn expected_answer(
     key: Name,
     call: Call,
 ) -> Result<(Answer, Work), AllocError> {
+    if let Call::Shrink = call {
+        let (_reply, work) = expected.reply_to(Command::Shrink)?;
+        return Ok(((None, None), work));
+    }
     let (held, work) = expected.entry(key);
     let answer = match held {
         Some((index, pair)) => answer_of_held(expected, index, pair, call),
@@ -99,6 +141,7 @@ fn answer_of_held(
     call: Call,
 ) -> Answer {
     match call {
+        Call::Shrink => (None, None),
         Call::Drop => (Some(key), None),
         Call::OrInsert(_) => (None, Some(value)),
         Call::AddOneOrInsert(_) => {
@@ -118,6 +161,7 @@ fn answer_of_held(
 
 fn answer_of_absent(expected: &mut Expected, key: Name, call: Call) -> Result<Answer, AllocError> {
     Ok(match call {
+        Call::Shrink => (None, None),
         Call::Drop | Call::Remove => (Some(key), None),
         Call::OrInsert(value) | Call::AddOneOrInsert(value) | Call::Insert(value) => {
             expected.push(key, value)?;
@@ -135,7 +179,11 @@ fn assert_call<'a, const N: usize>(
 ) -> Result<(), Fail> {
     let at = (N, map.hasher().rule, (key, call));
     // An entry needs the capacity of an insertion.
-    let capacities = expected.capacities_after(Command::Insert(key, 0), map.capacity());
+    let command = match call {
+        Call::Shrink => Command::Shrink,
+        _ => Command::Insert(key, 0),
+    };
+    let capacities = expected.capacities_after(command, map.capacity());
     let (wanted, work) = expected_answer(expected, key, call)?;
     counts.take();
     let answer = answer_of(map, counts.marked(key.0, key.1), call)?;
@@ -152,14 +200,32 @@ fn assert_call<'a, const N: usize>(
     assert_pairs(map, counts, expected.pairs())
 }
 
-fn answers_as_a_list<const N: usize>(alloc: Global, rule: Rule) -> Result<(), Fail> {
+// Call by call on an empty map. Returns how often the map changed its form.
+fn answers_one_by_one<const N: usize>(
+    alloc: Global,
+    rule: Rule,
+    calls: &[(Name, Call)],
+) -> Result<Changes, Fail> {
     let counts = Counts::new();
     let mut map = counts.map::<N>(alloc, rule);
     let mut expected = Expected::new(alloc, N, rule);
-    for call in &calls(alloc)? {
+    let mut changes = Changes::NONE;
+    for call in calls {
+        let was_vec = map.is_vec();
         assert_call(&mut map, &counts, &mut expected, *call)?;
+        changes.count(was_vec, map.is_vec());
     }
-    assert_true_at((N, rule), map.is_map(), "the switch is reached")
+    Ok(changes)
+}
+
+fn answers_as_a_list<const N: usize>(alloc: Global, rule: Rule) -> Result<(), Fail> {
+    let changes = answers_one_by_one::<N>(alloc, rule, calls(alloc)?.as_slice())?;
+    changes.assert_some((N, rule))
+}
+
+fn answers_there_and_back<const N: usize>(alloc: Global, rule: Rule) -> Result<(), Fail> {
+    let changes = answers_one_by_one::<N>(alloc, rule, calls_in_tides(alloc, N)?.as_slice())?;
+    changes.assert_at_least(TIMES, (N, rule))
 }
 
 #[test]
@@ -170,6 +236,18 @@ fn entries_answer_as_a_list(rt: HostRuntime) -> Result<(), Fail> {
         answers_as_a_list::<2>(rt.alloc(), rule)?;
         answers_as_a_list::<5>(rt.alloc(), rule)?;
         answers_as_a_list::<32>(rt.alloc(), rule)?;
+    }
+    Ok(())
+}
+
+#[test]
+fn entries_of_a_map_that_goes_there_and_back_answer_as_a_list(rt: HostRuntime) -> Result<(), Fail> {
+    for rule in [Rule::Plain, Rule::Zero, Rule::Top] {
+        answers_there_and_back::<0>(rt.alloc(), rule)?;
+        answers_there_and_back::<1>(rt.alloc(), rule)?;
+        answers_there_and_back::<2>(rt.alloc(), rule)?;
+        answers_there_and_back::<5>(rt.alloc(), rule)?;
+        answers_there_and_back::<32>(rt.alloc(), rule)?;
     }
     Ok(())
 }

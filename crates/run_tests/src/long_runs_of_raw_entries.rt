@@ -2,7 +2,9 @@
 //! the pairs of that list, in a vector in its order.
 
 use crate::expected::{Expected, Work};
+use crate::forms::Changes;
 use crate::names::Name;
+use crate::tides::{Draw, Tides};
 use halfbrown::{
     Command, Equivalent, Limit, LimitedHashMap, LimitedRawEntryMut, RawEntryMut, Refusal,
 };
@@ -31,6 +33,8 @@ enum Call {
     InsertKey,
     WriteByHash(u64),
     Remove,
+    // That of the map, and of no entry.
+    Shrink,
 }
 
 // The key and the value that a call returns, or that are read through what it returns.
@@ -61,6 +65,50 @@ fn calls(alloc: Global) -> Result<Vec<(Name, Call)>, AllocError> {
     Ok(calls)
 }
 
+// How many calls there are in floods and ebbs, and how often each way a map has to change its form by them.
+const CALLS_IN_TIDES: u64 = 2_000;
+
+const TIMES: u64 = 20;
+
+// The same in floods and ebbs, with calls that shrink.
+fn calls_in_tides(alloc: Global, limit: usize) -> Result<Vec<(Name, Call)>, AllocError> {
+    let mut calls = Vec::new(alloc);
+    let mut tides = Tides::at(limit);
+    for _ in 0..CALLS_IN_TIDES {
+        let draw = tides.draw();
+        calls.push(((draw.id, draw.number), call_of(draw)))?;
+    }
+    Ok(calls)
+}
+
+fn call_of(draw: Draw) -> Call {
+    let number = draw.number;
+    if draw.is_flood {
+        return match draw.choice {
+            0..=15 => Call::Look,
+            16..=23 => Call::Drop,
+            24..=63 => Call::Insert(number),
+            64..=119 => Call::OrInsert(number),
+            120..=175 => Call::InsertHashed(number),
+            176..=191 => Call::InsertKey,
+            192..=199 => Call::WriteByHash(number),
+            200..=223 => Call::Remove,
+            _ => Call::Shrink,
+        };
+    }
+    match draw.choice {
+        0..=15 => Call::Look,
+        16..=19 => Call::Drop,
+        20..=23 => Call::Insert(number),
+        24..=31 => Call::OrInsert(number),
+        32..=39 => Call::InsertHashed(number),
+        40..=47 => Call::InsertKey,
+        48..=55 => Call::WriteByHash(number),
+        56..=215 => Call::Remove,
+        _ => Call::Shrink,
+    }
+}
+
 // What the call returns of the map.
 fn answer_of<'a, const N: usize>(
     map: &mut Counted<'a, N>,
@@ -79,6 +127,10 @@ fn answer_of<'a, const N: usize>(
         Call::InsertKey => rekeyed(map, key),
         Call::WriteByHash(value) => written_by_hash(map, key, value),
         Call::Remove => removed(map, key),
+        Call::Shrink => {
+            map.shrink_to_fit();
+            Ok(NOTHING)
+        }
     }
 }
 
@@ -173,12 +225,16 @@ fn removed<'a, const N: usize>(map: &mut Counted<'a, N>, key: Key<'a>) -> Result
     })
 }
 
-// What it must return, and the work: that of the switch, of the search and of the call on the entry.
+// What it must return, and the work: that of the switch, of the search and of the call on the entry. To shrink is no work.
 fn expected_answer(
     expected: &mut Expected,
     key: Name,
     call: Call,
 ) -> Result<(Answer, Work), AllocError> {
+    if let Call::Shrink = call {
+        let (_reply, work) = expected.reply_to(Command::Shrink)?;
+        return Ok((NOTHING, work));
+    }
     let switch = match call {
         Call::Look => Work::NONE,
         _ => expected.switch_if_full(),
@@ -206,7 +262,7 @@ fn answer_of_held(
 ) -> (Answer, Work) {
     let pair = (Some(held), Some(value));
     match call {
-        Call::Drop => (NOTHING, Work::NONE),
+        Call::Drop | Call::Shrink => (NOTHING, Work::NONE),
         Call::Look | Call::OrInsert(_) | Call::InsertHashed(_) => (pair, Work::NONE),
         Call::Insert(new) => {
             expected.write(index, new);
@@ -256,6 +312,7 @@ fn assert_call<'a, const N: usize>(
     let at = (N, map.hasher().rule, (key, call));
     let capacities = match call {
         Call::Look => expected.capacities_after(Command::Get(key), map.capacity()),
+        Call::Shrink => expected.capacities_after(Command::Shrink, map.capacity()),
         _ => expected.capacities_for_one_more(map.capacity()),
     };
     let (wanted, work) = expected_answer(expected, key, call)?;
@@ -274,14 +331,32 @@ fn assert_call<'a, const N: usize>(
     assert_pairs(map, counts, expected.pairs())
 }
 
-fn answers_as_a_list<const N: usize>(alloc: Global, rule: Rule) -> Result<(), Fail> {
+// Call by call on an empty map. Returns how often the map changed its form.
+fn answers_one_by_one<const N: usize>(
+    alloc: Global,
+    rule: Rule,
+    calls: &[(Name, Call)],
+) -> Result<Changes, Fail> {
     let counts = Counts::new();
     let mut map = counts.map::<N>(alloc, rule);
     let mut expected = Expected::new(alloc, N, rule);
-    for call in &calls(alloc)? {
+    let mut changes = Changes::NONE;
+    for call in calls {
+        let was_vec = map.is_vec();
         assert_call(&mut map, &counts, &mut expected, *call)?;
+        changes.count(was_vec, map.is_vec());
     }
-    assert_true_at((N, rule), map.is_map(), "the switch is reached")
+    Ok(changes)
+}
+
+fn answers_as_a_list<const N: usize>(alloc: Global, rule: Rule) -> Result<(), Fail> {
+    let changes = answers_one_by_one::<N>(alloc, rule, calls(alloc)?.as_slice())?;
+    changes.assert_some((N, rule))
+}
+
+fn answers_there_and_back<const N: usize>(alloc: Global, rule: Rule) -> Result<(), Fail> {
+    let changes = answers_one_by_one::<N>(alloc, rule, calls_in_tides(alloc, N)?.as_slice())?;
+    changes.assert_at_least(TIMES, (N, rule))
 }
 
 #[test]
@@ -292,6 +367,20 @@ fn raw_entries_answer_as_a_list(rt: HostRuntime) -> Result<(), Fail> {
         answers_as_a_list::<2>(rt.alloc(), rule)?;
         answers_as_a_list::<5>(rt.alloc(), rule)?;
         answers_as_a_list::<32>(rt.alloc(), rule)?;
+    }
+    Ok(())
+}
+
+#[test]
+fn raw_entries_of_a_map_that_goes_there_and_back_answer_as_a_list(
+    rt: HostRuntime,
+) -> Result<(), Fail> {
+    for rule in [Rule::Plain, Rule::Zero, Rule::Top] {
+        answers_there_and_back::<0>(rt.alloc(), rule)?;
+        answers_there_and_back::<1>(rt.alloc(), rule)?;
+        answers_there_and_back::<2>(rt.alloc(), rule)?;
+        answers_there_and_back::<5>(rt.alloc(), rule)?;
+        answers_there_and_back::<32>(rt.alloc(), rule)?;
     }
     Ok(())
 }

@@ -1,9 +1,12 @@
-//! The commands of the long run, and after each of them all pairs of the map at once: iterators, a clone and a comparison say
+//! The commands of the long runs, and after each of them all pairs of the map at once: iterators, a clone and a comparison say
 //! what a plain list does, in its order.
 
 use crate::expected::Expected;
+use crate::forms::Changes;
 use crate::long_runs::{assert_command, commands};
+use crate::long_runs_there_and_back::commands_in_tides;
 use crate::names::Name;
+use halfbrown::Command;
 use std::alloc::Global;
 use std::test::Fail;
 use test_support::asserts::{assert_same_at, assert_true_at};
@@ -12,6 +15,11 @@ use test_support::counts::{Counted, Counts};
 
 // How many commands there are between two comparisons with a map that is built anew.
 const PERIOD: usize = 20;
+
+// How many commands there are in floods and ebbs, and how often each way a map has to change its form by them.
+const COMMANDS_IN_TIDES: u64 = 1_000;
+
+const TIMES: u64 = 5;
 
 // The iterators that lend give the list, in its order, and nothing is hashed or compared.
 fn assert_lent<const N: usize>(
@@ -79,20 +87,37 @@ fn assert_compared<const N: usize>(
     assert_true_at(N, !other.same_pairs(map), "from the other side")
 }
 
-fn walked_as_a_list<const N: usize>(alloc: Global, rule: Rule) -> Result<(), Fail> {
+// Command by command on an empty map. Returns how often the map changed its form.
+fn walked_one_by_one<const N: usize>(
+    alloc: Global,
+    rule: Rule,
+    commands: &[Command<Name, u64>],
+) -> Result<Changes, Fail> {
     let counts = Counts::new();
     let mut map = counts.map::<N>(alloc, rule);
     let mut expected = Expected::new(alloc, N, rule);
-    for (number, command) in commands(alloc)?.iter().enumerate() {
+    let mut changes = Changes::NONE;
+    for (number, command) in commands.iter().enumerate() {
+        let was_vec = map.is_vec();
         assert_command(alloc, &mut map, &counts, &mut expected, *command)?;
         assert_lent(alloc, &map, &counts, expected.pairs())?;
         assert_cloned(alloc, &map, &counts, expected.pairs())?;
         if number % PERIOD == 0 {
             assert_compared(alloc, &map, &counts, expected.pairs())?;
         }
+        changes.count(was_vec, map.is_vec());
         counts.take();
     }
-    Ok(())
+    Ok(changes)
+}
+
+// The long run, and one in floods and ebbs.
+fn walked_as_a_list<const N: usize>(alloc: Global, rule: Rule) -> Result<(), Fail> {
+    let changes = walked_one_by_one::<N>(alloc, rule, commands(alloc)?.as_slice())?;
+    changes.assert_some((N, rule))?;
+    let commands = commands_in_tides(alloc, N, COMMANDS_IN_TIDES)?;
+    let changes = walked_one_by_one::<N>(alloc, rule, commands.as_slice())?;
+    changes.assert_at_least(TIMES, (N, rule))
 }
 
 #[test]

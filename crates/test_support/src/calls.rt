@@ -153,14 +153,23 @@ pub fn assert_reserve<'a, const N: usize>(
     )
 }
 
-/// Shrinks the capacity, without work.
+/// Shrinks the capacity, without work. Afterwards the map holds as many pairs, and is a vector exactly where the limit allows
+/// them.
 pub fn assert_shrink<'a, const N: usize>(
     map: &mut Counted<'a, N>,
     counts: &Counts,
 ) -> Result<(), Fail> {
+    let len = map.len();
     counts.take();
     map.shrink_to_fit();
-    assert_same(counts.take(), (0, 0), "shrink_to_fit: the work")
+    assert_same(counts.take(), (0, 0), "shrink_to_fit: the work")?;
+    assert_same(map.len(), len, "shrink_to_fit: the length")?;
+    let form = if len <= N {
+        Form::Vector
+    } else {
+        Form::Table
+    };
+    assert_has_form(map, form)
 }
 
 /// The form of a map.

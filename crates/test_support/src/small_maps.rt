@@ -21,3 +21,15 @@ pub enum On {
     /// A table at limit 0, of capacity 3: it grows at a new key.
     TightTable,
 }
+
+/// What a map of the held keys was before.
+#[derive(Clone, Copy, Debug)]
+pub enum Past {
+    /// It was made for no more pairs than the limit, where the limit allows the held keys.
+    New,
+    /// It was made a table, which `shrink_to_fit` made a vector, where the limit allows the held keys.
+    Table,
+}
+
+/// Both.
+pub const PASTS: [Past; 2] = [Past::New, Past::Table];

@@ -35,7 +35,7 @@ pub enum Step {
     Remove(u64, Outcome),
     /// Reserves for so many pairs more, without work.
     Reserve(usize, Result<(), Refusal>),
-    /// Shrinks the capacity, without work.
+    /// Shrinks the capacity, without work: a vector is left exactly where the limit allows the pairs.
     Shrink,
     /// The form is this one.
     HasForm(Form),

@@ -2,6 +2,8 @@
 #![tactic(auto)]
 
 #[cfg(test)]
+mod after_going_back;
+#[cfg(test)]
 mod collections;
 #[cfg(test)]
 mod copies;

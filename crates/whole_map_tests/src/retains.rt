@@ -178,8 +178,9 @@ fn a_map_without_memory_has_nothing_to_ask_of(rt: HostRuntime) -> Result<(), Fai
     fill(&mut map, &counts, [1].as_slice())?;
     map.clear();
     map.shrink_to_fit();
+    // A table that holds no pair goes back to a vector.
     assert_same(keep_counted(&mut map, &counts, &|_| true)?, 0, "no call")?;
-    assert_form(&map, (Form::Table, 0, 0))
+    assert_form(&map, (Form::Vector, 0, 0))
 }
 
 #[test]

@@ -1,6 +1,7 @@
-//! Tables that hold no key: a probe reads one bucket, and none where there are no buckets.
+//! A table that holds no key, where a probe reads one bucket; and the vector that `shrink_to_fit` leaves of one, which has no
+//! memory.
 ghost use Rattle.std.specs.Prelude.{◌≡◌, [], OnOk, IfOk, None};
-ghost use Rattle.half_tests.specs.Tables.{IsTable, more_work};
+ghost use Rattle.half_tests.specs.Tables.{IsTable, IsVector, more_work};
 
 use super::{Numbers, table_of};
 use halfbrown::{Refusal, Tally};
@@ -30,9 +31,10 @@ pub fn a_miss(
     Ok(map.get_counted(&key, tally).copied())
 }
 
-/// A table that held key 1, and whose memory was given back: it has no buckets.
+/// A table that held key 1, and whose memory was given back: no pair is no more than the limit of none, so it is a vector.
 pub fn shrunk(alloc: Global, counts: &Counts) -> Result<Numbers<'_>, Refusal>
-    ensures { IfOk result (IsTable Rule.Plain [] 0) }
+    ensures vector { IfOk result (IsVector Rule.Plain []) }
+    ensures capacity { IfOk result (λ map. map.capacity ≡ 0) }
 {
     let mut map = table_of(alloc, counts, Rule::Plain, 0, &[1])?;
     map.remove(&1);
@@ -40,7 +42,7 @@ pub fn shrunk(alloc: Global, counts: &Counts) -> Result<Numbers<'_>, Refusal>
     Ok(map)
 }
 
-/// A search for any key hashes it, and reads nothing.
+/// A search for any key hashes, compares and reads nothing.
 pub fn a_miss_without_buckets(
     alloc: Global,
     counts: &Counts,
@@ -48,13 +50,14 @@ pub fn a_miss_without_buckets(
     tally: &mut Tally,
 ) -> Result<Option<u64>, Refusal>
     ensures found { IfOk result (λ found. found ≡ None) }
-    ensures work { OnOk result (tally.new ≡ more_work 1 0 0 tally.old) }
+    ensures work { OnOk result (tally.new ≡ more_work 0 0 0 tally.old) }
 {
     let map = shrunk(alloc, counts)?;
     Ok(map.get_counted(&key, tally).copied())
 }
 
-/// An insertion of any key has nothing to search. The table gets four buckets, and the insertion probe reads one of them.
+/// An insertion of any key makes a table of it. The switch has no key to hash. The search hashes the key, and reads one of the
+/// four buckets.
 pub fn an_insertion_without_buckets(
     alloc: Global,
     counts: &Counts,

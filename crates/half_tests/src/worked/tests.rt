@@ -1,7 +1,11 @@
 //! What the worked maps return when they run, and how many hashes that takes with those of their making.
 
-use super::{Numbers, alike, apart, crowded, emptied, one_hash, retained, shorter, vectors};
+use super::vectors::Few;
+use super::{
+    Numbers, alike, apart, crowded, emptied, one_hash, retained, shorter, there_and_back, vectors,
+};
 use halfbrown::{Refusal, Tally};
+use std::alloc::Global;
 use std::fmt::Debug;
 use std::test::Fail;
 use test_support::asserts::{assert_same, assert_same_at, assert_true};
@@ -109,18 +113,79 @@ fn two_tables_alike(rt: HostRuntime) -> Result<(), Fail> {
 }
 
 #[test]
-fn tables_of_no_key(rt: HostRuntime) -> Result<(), Fail> {
+fn maps_of_no_key(rt: HostRuntime) -> Result<(), Fail> {
     let counts = Counts::new();
     let mut tally = Tally::new();
     for key in [0, 1, u64::MAX] {
         let miss = emptied::a_miss(rt.alloc(), &counts, key, &mut tally)?;
         expect(&counts, miss, None, 1, "in four buckets")?;
         let miss = emptied::a_miss_without_buckets(rt.alloc(), &counts, key, &mut tally)?;
-        expect(&counts, miss, None, 3, "without buckets")?;
+        // Key 1 was hashed when it was inserted, and when it was removed.
+        expect(&counts, miss, None, 2, "without buckets")?;
         let made = emptied::an_insertion_without_buckets(rt.alloc(), &counts, key, &mut tally)?;
         expect(&counts, made, (None, 1, 3), 3, "the first key again")?;
     }
-    Ok(())
+    let map = emptied::shrunk(rt.alloc(), &counts)?;
+    assert_same(
+        (map.is_vec(), map.len(), map.capacity()),
+        (true, 0, 0),
+        "a vector of no pair",
+    )
+}
+
+// The form, the capacity and the pairs in order, where keys have themselves as their values.
+fn expect_few(
+    alloc: Global,
+    map: &Few<'_>,
+    is_vec: bool,
+    capacity: usize,
+    keys: &[u64],
+) -> Result<(), Fail> {
+    assert_same((map.is_vec(), map.is_map()), (is_vec, !is_vec), "the form")?;
+    assert_same(
+        (map.len(), map.capacity()),
+        (keys.len(), capacity),
+        "the length and the capacity",
+    )?;
+    let pairs = map
+        .iter()
+        .map(|(key, value)| (*key, *value))
+        .collect::<Vec<(u64, u64)>>(alloc)?;
+    let wanted = keys
+        .iter()
+        .map(|key| (*key, *key))
+        .collect::<Vec<(u64, u64)>>(alloc)?;
+    assert_same(pairs.as_slice(), wanted.as_slice(), "the pairs in order")
+}
+
+#[test]
+fn there_and_back_at_five(rt: HostRuntime) -> Result<(), Fail> {
+    let alloc = rt.alloc();
+    let counts = Counts::new();
+    let mut tally = Tally::new();
+    let six = there_and_back::six(alloc, &counts)?;
+    expect_few(alloc, &six, false, 6, &[1, 2, 3, 4, 5, 6])?;
+    assert_same(counts.take().0, 6, "five for the switch, and the sixth")?;
+    let shrunk = there_and_back::six_shrunk(alloc, &counts)?;
+    expect_few(alloc, &shrunk, false, 6, &[1, 2, 3, 4, 5, 6])?;
+    assert_same(counts.take().0, 6, "it hashes nothing to stay")?;
+    let five = there_and_back::five_again(alloc, &counts, &mut tally)?;
+    expect_few(alloc, &five, true, 5, &[1, 2, 3, 4, 5])?;
+    assert_same(
+        counts.take().0,
+        7,
+        "one for the removal, and none to go back",
+    )?;
+    let hit = there_and_back::a_hit_of_the_last(alloc, &counts, &mut tally)?;
+    expect(&counts, hit, Some(5), 7, "key 5 of the vector")?;
+    let again = there_and_back::a_sixth_key_again(alloc, &counts, &mut tally)?;
+    expect(
+        &counts,
+        again,
+        (None, 6, 6),
+        13,
+        "six more for the sixth key",
+    )
 }
 
 #[test]
@@ -157,6 +222,5 @@ fn capacities_of_worked_tables(rt: HostRuntime) -> Result<(), Fail> {
     expect_table(apart::every_other(alloc, &counts), 12)?;
     expect_table(alike::after_a_removal(alloc, &counts), 6)?;
     expect_table(alike::never_held_another(alloc, &counts), 6)?;
-    expect_table(emptied::empty(alloc, &counts), 3)?;
-    expect_table(emptied::shrunk(alloc, &counts), 0)
+    expect_table(emptied::empty(alloc, &counts), 3)
 }

@@ -1,10 +1,6 @@
 use Rattle.std.proofs.Common.{refl}
-use Rattle.std.specs.Hash.{le_bytes}
-use Rattle.half_store.specs.Reach.{probe_distance, bucket_after, load, loaded_within, loaded_run, reach}
-use Rattle.half_tests.proofs.Searches.{missing}
+use Rattle.half_tests.proofs.Vectors.{missing_in_order}
 use Rattle.half_tests.proofs.worked.emptied.a_miss_without_buckets.Goals as goal
 
 pub returns-clause-work : goal.returns-clause-work
-unfolding le_bytes probe_distance bucket_after load loaded_within loaded_run reach
-returns-clause-work c =
-    missing _ _ _ c.args.key c.in_ok-map.map c.in_ok-map.ensures _ _ c.get_counted.ensures.cost refl
+returns-clause-work c = missing_in_order _ _ c.args.key c.in_ok-map.map c.in_ok-map.ensures.vector refl _ _ c.get_counted.ensures.cost
