@@ -101,7 +101,7 @@ module _ (limit : ℕ) (rule : Rule) (held : List (ℕ × ℕ)) (k : ℕ) (m : S
 
   -- it is a table then, whose capacity is enough for one pair more than the limit
   pub table_of_full : (length held == limit) ≡ true → (v : ℕ) (new : State ℕ ℕ Counting) → new.pairs ≡ put eqb m.pairs k v
-      → new.is_vec ≡ stays_vec limit m → HasCapacityAfter m (insert_needs limit eqb m k) new → new.builder ≡ m.builder
+      → new.is_vec ≡ stays_vec limit m → HasCapacityAfter limit m (insert_needs limit eqb m k) new → new.builder ≡ m.builder
       → IsTable rule (put eqb held k v) (capacity_for (limit + 1)) new
   table_of_full full v new pairs form grows builder =
       let is_full_now : is_full limit m ≡ true = (λ i. vector.form i && (length (vector.pairs i) == limit)) ∙ full in
@@ -111,6 +111,6 @@ module _ (limit : ℕ) (rule : Rule) (held : List (ℕ × ℕ)) (k : ℕ) (m : S
       record {
         form = table;
         pairs = pairs ∙ ap (λ ps. put eqb ps k v) vector.pairs;
-        capacity = MatchBool-at_false _ _ table (subst (λ size. HasCapacityAfter m size new) needs grows);
+        capacity = MatchBool-at_false _ _ table (subst (λ size. HasCapacityAfter limit m size new) needs grows);
         builder = ap (λ b. b.rule) builder ∙ vector.builder;
       }
