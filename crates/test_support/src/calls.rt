@@ -164,11 +164,7 @@ pub fn assert_shrink<'a, const N: usize>(
     map.shrink_to_fit();
     assert_same(counts.take(), (0, 0), "shrink_to_fit: the work")?;
     assert_same(map.len(), len, "shrink_to_fit: the length")?;
-    let form = if len <= N {
-        Form::Vector
-    } else {
-        Form::Table
-    };
+    let form = if len <= N { Form::Vector } else { Form::Table };
     assert_has_form(map, form)
 }
 
