@@ -1,13 +1,14 @@
-//! Worked examples of the calls that grow and shrink the capacity, of insertion without a search, and of a run of all nine
-//! commands.
+//! Worked examples of the calls that grow and shrink the capacity, of insertion without a search, and of runs of all commands.
 
 use halfbrown::run::run;
 use halfbrown::{Command, DefaultHashBuilder, HashMap, Refusal, Reply, SizedHashMap};
+use std::alloc::Global;
 use std::test::Fail;
 use test_support::asserts::{assert_same, assert_true};
 use test_support::builders::Rule;
 use test_support::calls::Form;
 use test_support::counts::Counts;
+use test_support::keys::Key;
 use test_support::steps::{Step, play, play_made_for};
 
 type Unlimited = SizedHashMap<u64, u64, DefaultHashBuilder, { usize::MAX }>;
@@ -222,10 +223,10 @@ fn an_overwrite_at_limit_one_makes_a_table(rt: HostRuntime) -> Result<(), Fail> 
 fn a_run_of_all_commands_switches_at_an_entry(rt: HostRuntime) -> Result<(), Fail> {
     let counts = Counts::new();
     let key = |id| counts.key(id);
-    let mut map = counts.map::<2>(rt.alloc(), Rule::Plain);
     let commands = vec![in rt.alloc();
         Command::Insert(key(8), 1),
         Command::InsertNew(key(16), 2),
+        Command::IsVec,
         Command::InsertNew(key(8), 9),
         Command::IsVec,
         Command::EntryOrInsert(key(8), 7),
@@ -240,12 +241,10 @@ fn a_run_of_all_commands_switches_at_an_entry(rt: HostRuntime) -> Result<(), Fai
         Command::Len,
         Command::IsVec,
     ]?;
-    let replies = run(rt.alloc(), &mut map, commands)
-        .ok()
-        .ok_or("no memory for the replies")?;
     let wanted = [
         Reply::Was(None),
         Reply::Added,
+        Reply::Form(true),
         Reply::Present(key(8), 9),
         Reply::Form(true),
         Reply::Value(1),
@@ -260,11 +259,62 @@ fn a_run_of_all_commands_switches_at_an_entry(rt: HostRuntime) -> Result<(), Fai
         Reply::Length(0),
         Reply::Form(true),
     ];
-    assert_same(
-        counts.take().0,
-        7,
-        "three for the entry and its switch, two for a new pair through a raw entry, one each for a look-up and a removal",
-    )?;
-    assert_same(replies.as_slice(), wanted.as_slice(), "the replies")?;
-    Ok(())
+    // Three hashes for the entry and its switch, two for a new pair through a raw entry, one each for a look-up and a removal.
+    assert_runs(rt.alloc(), &counts, commands, &wanted, 7)
+}
+
+#[test]
+fn a_run_switches_at_a_new_pair_and_goes_back(rt: HostRuntime) -> Result<(), Fail> {
+    let counts = Counts::new();
+    let key = |id| counts.key(id);
+    let commands = vec![in rt.alloc();
+        Command::Insert(key(8), 1),
+        Command::InsertNew(key(16), 2),
+        Command::InsertNew(key(8), 9),
+        Command::IsVec,
+        Command::InsertNew(key(24), 3),
+        Command::IsVec,
+        Command::Get(key(24)),
+        Command::Remove(key(16)),
+        Command::Len,
+        Command::Reserve(20),
+        Command::Shrink,
+        Command::Clear,
+        Command::Len,
+        Command::IsVec,
+    ]?;
+    let wanted = [
+        Reply::Was(None),
+        Reply::Added,
+        Reply::Present(key(8), 9),
+        Reply::Form(true),
+        Reply::Added,
+        Reply::Form(false),
+        Reply::Found(Some(3)),
+        Reply::Removed(Some((key(16), 2))),
+        Reply::Length(2),
+        Reply::Done,
+        Reply::Form(true),
+        Reply::Done,
+        Reply::Length(0),
+        Reply::Form(true),
+    ];
+    // Three hashes for the new pair and its switch, one each for a look-up and a removal.
+    assert_runs(rt.alloc(), &counts, commands, &wanted, 5)
+}
+
+// A run on an empty map of limit 2 has these replies, and hashes so often.
+fn assert_runs<'a>(
+    alloc: Global,
+    counts: &'a Counts,
+    commands: Vec<Command<Key<'a>, u64>>,
+    replies: &[Reply<Key<'a>, u64>],
+    hashes: u64,
+) -> Result<(), Fail> {
+    let mut map = counts.map::<2>(alloc, Rule::Plain);
+    let ran = run(alloc, &mut map, commands)
+        .ok()
+        .ok_or("no memory for the replies")?;
+    assert_same(counts.take().0, hashes, "the hashes")?;
+    assert_same(ran.as_slice(), replies, "the replies")
 }
