@@ -50,8 +50,8 @@ impl<K: Eq + Hash, V, S: BuildHasher, L: Limit> LimitedHashMap<K, V, S, L> {
     /// Makes a table that holds no more pairs than the limit a vector again, and shrinks the capacity to the least that the
     /// pairs fit: in a table the least of its series. The pairs keep their order. Nothing is hashed or compared.
     ///
-    /// Going back needs no memory, and always succeeds. Shrinking the columns of the pairs does: where that is refused they
-    /// keep theirs. An empty map needs none, and has capacity 0 afterwards.
+    /// Going back needs no memory, and always succeeds. Smaller columns and a smaller table need some: where it is refused they
+    /// stay as they are. An empty map needs none, and has capacity 0 afterwards.
     ///
     /// ```
     /// ages.shrink_to_fit();
