@@ -31,7 +31,7 @@ pub fn a_miss(
     Ok(map.get_counted(&key, tally).copied())
 }
 
-/// A table that held key 1, and whose memory was given back: no pair is no more than the limit of none, so it is a vector.
+/// A table that held key 1, and whose memory was given back. It holds no pair, which the limit 0 allows: so it is a vector.
 pub fn shrunk(alloc: Global, counts: &Counts) -> Result<Numbers<'_>, Refusal>
     ensures vector { IfOk result (IsVector Rule.Plain []) }
     ensures capacity { IfOk result (λ map. map.capacity ≡ 0) }
