@@ -1,12 +1,13 @@
 # make run < FILE   proves and builds halfmap, where something has changed, and runs it on the lines of FILE
 # make try < FILE   runs halfmap on the lines of FILE at once, with nothing proved
-# make test         proves everything from nothing, tries the core edits, and runs every test and program
-# make edits        tries the other edits that the prover must refuse
-# make witness      plays N scripts of calls (N=200, SEED=1) on the proved program witness, and compares each line with a model
+# make test         proves what users run, where something has changed, and runs every test
+# make edits        puts one fault after another into the code: the prover, or a test, has to find each
+# make scripts      plays the scripts of tests/scripts on the proved program witness and on a model (WORD=.. picks some)
+# make witness      plays N scripts at random (N=200, SEED=1) on both, and compares each line
 # make bench        proves and builds half_bench and halfmap, where something has changed, and prints the tables of docs/SPEED.md
 # make fmt          lays out the files of every crate
 
-.PHONY: help run try test edits witness bench fmt
+.PHONY: help run try test edits scripts witness bench fmt
 
 help:
 	@sed -n 's/^# //p' Makefile
@@ -24,8 +25,12 @@ test:
 edits:
 	@tests/edits.py
 
+scripts:
+	@$(MAKE) --no-print-directory -s -f tests/proofs.mk witness
+	@tests/scripts.py $(WORD)
+
 witness:
-	@cd crates/witness && rt run <stdin >/dev/null
+	@$(MAKE) --no-print-directory -s -f tests/proofs.mk witness
 	@tests/witness.py $(or $(N),200) $(or $(SEED),1)
 
 bench:

@@ -1,16 +1,20 @@
 #!/usr/bin/env python3
-"""Tries the edits of tests/edits/NAME, which the prover must refuse. They are those that `rt ci` does not try: it tries the
-few of crates/NAME/must-fail, one after another.
+"""Tries the edits of tests/edits/NAME: small changes of the code of the crate NAME, each of which puts one fault in.
 
     tests/edits.py [WORD..]    tries all of them, or those whose NAME/FILE has one of the words
+
+An edit is named for its fault. It has lines `file: PATH`, `old: TEXT`, which stands once in that file, and `new: TEXT`; `#`
+begins a comment. The prover has to refuse it: contracts that let a fault through are too weak. Where no contract can, a line
+`found by: scripts/FILE` names the script of tests/scripts which shows the fault, and the comment says why no contract does.
 
 The crates are proved first, where out/ does not have that yet. Then several checks run at a time, each in a copy of the
 repository with that out/, as many as there are processors and memory for. A check tries several edits, each of which changes
 other functions: a caller is proved by the contracts of what it calls, so that no edit shows in another's function. An edit
 passes there where the prover names a goal of a function that it changes. Every other one is tried once more, alone, and
 passes where the prover says what it could not prove. It fails where it cannot be applied, where it does not reach the prover,
-where only a proof file lost a name, and where the crate is still proved. Each edit has a line, and the last line is
-"N passed, M failed".
+where only a proof file lost a name, and where the crate is still proved. An edit that a script finds is planted in a copy, in
+which nothing is proved (tests/planted.py), and passes where the script fails there. Each edit has a line, and the last line
+is "N passed, M failed".
 """
 
 import collections
@@ -26,6 +30,8 @@ import sys
 import tempfile
 import threading
 import time
+
+import planted
 
 TOP = pathlib.Path(__file__).resolve().parent.parent
 # The crates, each after those that it stands on.
@@ -48,6 +54,9 @@ class Edit:
     def __init__(self, path):
         self.path, self.crate = path, path.parent.name
         self.name = f"{self.crate}/{path.stem}"
+        found_by = re.search(r"^found by: scripts/(\S+)$", path.read_text(), re.M)
+        # The script that finds it, where no contract can refuse it.
+        self.script = TOP / "tests/scripts" / found_by[1] if found_by else None
 
     def apply(self, texts, crate):
         """Puts the edit into these texts by their file, which are read where they are not there yet, and returns each changed
@@ -177,7 +186,7 @@ class Lane(threading.Thread):
     def run(self):
         for name in ("HANDLES", "crates.txt"):
             shutil.copy(TOP / name, self.folder)
-        shutil.copytree(TOP / "crates", self.folder / "crates", ignore=shutil.ignore_patterns("must-fail"))
+        shutil.copytree(TOP / "crates", self.folder / "crates")
         while not self.is_stopped and not self.answers.are_all():
             try:
                 edits = self.tries.get(timeout=1)
@@ -185,7 +194,7 @@ class Lane(threading.Thread):
                 continue
             began = time.monotonic()
             try:
-                found = self.attempt(edits)
+                found = [planted.attempt(edits[0])] if edits[0].script else self.attempt(edits)
             except (OSError, ValueError) as error:
                 found = [(False, f"it cannot be applied: {error}")] if len(edits) == 1 else [None] * len(edits)
             seconds = (time.monotonic() - began) / len(edits)
@@ -243,7 +252,8 @@ class Answers:
     def tell(self, edit, passes, why, seconds):
         with self.lock:
             self.passed, self.failed = self.passed + passes, self.failed + (not passes)
-            print(f"{edit.name}: {'refused' if passes else 'FAILED'}, {seconds:.0f} s: {why[:180]}", flush=True)
+            how = "FAILED" if not passes else "found" if edit.script else "refused"
+            print(f"{edit.name}: {how}, {seconds:.0f} s: {why[:180]}", flush=True)
 
 
 class Batch:
@@ -312,11 +322,12 @@ def main(words):
     found = [Edit(path) for crate in CRATES for path in sorted((TOP / "tests/edits" / crate).glob("*.edit"))]
     others = {it for it in (TOP / "tests/edits").rglob("*") if it.is_file()} - {it.path for it in found}
     chosen = [it for it in found if not words or any(word in f"{it.crate}/{it.path.name}" for word in words)]
+    refused = [it for it in chosen if not it.script]
     # Those above stand on those below.
-    names = {crate: prove(crate) for crate in CRATES if any(it.crate == crate for it in chosen)}
-    batches = []
+    names = {crate: prove(crate) for crate in CRATES if any(it.crate == crate for it in refused)}
+    batches = [[it] for it in chosen if it.script]
     for crate in names:
-        batches += in_batches([it for it in chosen if it.crate == crate], TOP / "crates" / crate, names[crate])
+        batches += in_batches([it for it in refused if it.crate == crate], TOP / "crates" / crate, names[crate])
     tries, answers = queue.SimpleQueue(), Answers(len(chosen))
     for it in batches:
         tries.put(it)

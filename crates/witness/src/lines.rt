@@ -1,23 +1,74 @@
 //! Reads what a line asks for.
 
-use crate::call::{
-    Addition, Basic, Call, Items, Keyed, OfEntry, OfOccupiedRaw, OfRaw, OfWholeRaw, Search, Whole,
-};
+use crate::call::{Call, Inspection, Items, Keyed, Line, Maker, Manner, PlainCall, Whole};
 use crate::commands::parse_commands;
-use crate::words::{Name, count, key_name, number};
+use crate::entry_lines::{of_entry, of_raw};
+use crate::search_lines::of_key;
+use crate::shown::parse_shown;
+use crate::walk_steps::parse_walk;
+use crate::whole::parse_same;
+use crate::words::{count, key_name, number};
 use std::alloc::{AllocError, Global};
 
 /// Reads a line. None where it is no call.
-pub(crate) fn parse(alloc: Global, line: &str) -> Result<Option<Call>, AllocError> {
+pub(crate) fn parse(alloc: Global, line: &str) -> Result<Option<Line>, AllocError> {
+    let (is_refused, rest) = after_word(line, "refused ");
+    let (is_counted, rest) = after_word(rest, "counted ");
+    let Some(call) = parse_call(alloc, rest)? else {
+        return Ok(None);
+    };
+    if is_counted && !call.may_be_counted() {
+        return Ok(None);
+    }
+    let manner = Manner {
+        is_refused,
+        is_counted,
+    };
+    Ok(Some(Line { call, manner }))
+}
+
+// Whether the line begins so, and the rest of it.
+fn after_word<'a>(line: &'a str, word: &str) -> (bool, &'a str) {
+    match line.strip_prefix(word) {
+        Some(rest) => (true, rest),
+        None => (false, line),
+    }
+}
+
+fn parse_call(alloc: Global, line: &str) -> Result<Option<Call>, AllocError> {
     let words: Vec<&str> = line.split(" ").collect(alloc)?;
     match words.as_slice() {
         ["extend", rest @ ..] => with_items(alloc, Items::Extend, rest),
         ["from_iter", rest @ ..] => with_items(alloc, Items::FromIter, rest),
         ["from_array", rest @ ..] => with_items(alloc, Items::FromArray, rest),
         ["hashmap", rest @ ..] => with_items(alloc, Items::Hashmap, rest),
-        ["run", rest @ ..] => Ok(parse_commands(alloc, rest)?.map(Call::Run)),
+        ["collect", rest @ ..] => with_items(alloc, Items::Collect, rest),
+        ["from_iter_hint", low, rest @ ..] => match count(low) {
+            Some(low) => with_items(alloc, Items::FromIterHint(low), rest),
+            None => Ok(None),
+        },
+        ["made", maker, rest @ ..] => match Maker::of_word(maker) {
+            Some(maker) => with_items(alloc, Items::Made(maker), rest),
+            None => Ok(None),
+        },
+        ["walk", rest @ ..] => of_walk(alloc, rest),
+        ["run", rest @ ..] => of_run(alloc, rest),
         words => Ok(of_words(words)),
     }
+}
+
+fn of_walk(alloc: Global, words: &[&str]) -> Result<Option<Call>, AllocError> {
+    Ok(match parse_walk(alloc, words)? {
+        Some(walk) => Some(Call::Inspection(Inspection::Walk(walk))),
+        None => None,
+    })
+}
+
+fn of_run(alloc: Global, words: &[&str]) -> Result<Option<Call>, AllocError> {
+    Ok(match parse_commands(alloc, words)? {
+        Some(commands) => Some(Call::Plain(PlainCall::Run(commands))),
+        None => None,
+    })
 }
 
 fn with_items(alloc: Global, call: Items, words: &[&str]) -> Result<Option<Call>, AllocError> {
@@ -41,114 +92,26 @@ fn of_words(words: &[&str]) -> Option<Call> {
     if let Some(call) = of_whole(words) {
         return Some(Call::Whole(call));
     }
-    let (key, call) = match words {
-        ["entry", key, "debug"] => (key_name(key)?, Keyed::EntryDebug),
-        ["raw", key, "debug"] => (key_name(key)?, Keyed::RawDebug),
-        ["entry", key, action @ ..] => (key_name(key)?, Keyed::Entry(of_entry(action)?)),
-        ["raw", key, action @ ..] => (key_name(key)?, Keyed::Raw(of_raw(action)?)),
-        ["raw_entry_match", hash, id] => {
-            let key = Name {
-                id: number(id)?,
-                mark: 1,
-            };
-            (key, Keyed::Search(Search::FromHash(number(hash)?)))
-        }
-        ["raw_match", hash, key, value] => {
-            let search = Search::InsertMatched(number(hash)?, number(value)?);
-            (key_name(key)?, Keyed::Search(search))
-        }
-        [call, key, values @ ..] => (key_name(key)?, of_key(call, values)?),
-        _ => return None,
-    };
-    Some(Call::Keyed(key, call))
-}
-
-// A call whose key comes first.
-fn of_key(call: &str, values: &[&str]) -> Option<Keyed> {
-    let basic = match values {
-        [] => match call {
-            "get" => Basic::Get,
-            "get_key_value" => Basic::GetKeyValue,
-            "contains_key" => Basic::ContainsKey,
-            "index" => Basic::Index,
-            "remove" => Basic::Remove,
-            "remove_entry" => Basic::RemoveEntry,
-            "raw_entry" => return Some(Keyed::Search(Search::FromKey)),
-            "raw_entry_hashed" => return Some(Keyed::Search(Search::FromKeyHashed)),
-            _ => return None,
-        },
-        [value] => {
-            let value = number(value)?;
-            match call {
-                "insert" => Basic::Insert(value),
-                "insert_nocheck" => Basic::InsertNocheck(value),
-                "get_mut" => Basic::GetMut(value),
-                "raw_hashed" => return Some(Keyed::Search(Search::InsertHashed(value))),
-                _ => return None,
-            }
-        }
-        _ => return None,
-    };
-    Some(Keyed::Basic(basic))
-}
-
-fn of_entry(words: &[&str]) -> Option<OfEntry> {
-    Some(match words {
-        ["read"] => OfEntry::Read,
-        ["key"] => OfEntry::Key,
-        ["or_insert", value] => OfEntry::OrInsert(number(value)?),
-        ["or_insert_with", value] => OfEntry::OrInsertWith(number(value)?),
-        ["or_default"] => OfEntry::OrDefault,
-        ["and_modify", more, value] => OfEntry::AndModify(number(more)?, number(value)?),
-        ["insert", value] => OfEntry::Insert(number(value)?),
-        ["get_mut", more] => OfEntry::GetMut(number(more)?),
-        ["into_mut", more] => OfEntry::IntoMut(number(more)?),
-        ["remove"] => OfEntry::Remove,
-        ["remove_entry"] => OfEntry::RemoveEntry,
-        ["replace", more] => OfEntry::Replace(number(more)?),
-        ["lose"] => OfEntry::Lose,
-        ["lose_insert", value] => OfEntry::LoseInsert(number(value)?),
-        ["into_key"] => OfEntry::IntoKey,
-        _ => return None,
-    })
-}
-
-fn of_raw(words: &[&str]) -> Option<OfRaw> {
-    if let Some(call) = of_occupied_raw(words) {
-        return Some(OfRaw::Occupied(call));
+    if let Some(call) = parse_shown(words) {
+        return Some(Call::Inspection(Inspection::Shown(call)));
     }
-    let [call, number_word] = words else {
-        return None;
-    };
-    let value = number(number_word)?;
-    Some(match *call {
-        "or_insert" => OfRaw::Whole(OfWholeRaw::OrInsert(value)),
-        "or_insert_with" => OfRaw::Whole(OfWholeRaw::OrInsertWith(value)),
-        "or_insert_entry" => OfRaw::Whole(OfWholeRaw::OrInsertEntry(value)),
-        "and_modify" => OfRaw::Whole(OfWholeRaw::AndModify(value)),
-        "insert" => OfRaw::Whole(OfWholeRaw::Insert(value)),
-        "add" => OfRaw::Add(Addition::Insert, value),
-        "add_entry" => OfRaw::Add(Addition::InsertEntry, value),
-        "add_hashed" => OfRaw::Add(Addition::Hashed, value),
-        "add_hashed_entry" => OfRaw::Add(Addition::HashedEntry, value),
-        "add_with_hasher" => OfRaw::Add(Addition::WithHasher, value),
+    if let Some(call) = parse_same(words) {
+        return Some(Call::Inspection(Inspection::Same(call)));
+    }
+    Some(Call::Keyed(match words {
+        ["pairs"] => return Some(Call::Inspection(Inspection::Pairs)),
+        ["error", "insert", key, value] => Keyed::InsertError(key_name(key)?, number(value)?),
+        ["error", "entry", key] => Keyed::EntryError(key_name(key)?),
+        ["entry", key, "or_default"] => {
+            return Some(Call::Plain(PlainCall::OrDefault(key_name(key)?)));
+        }
+        ["entry", key, "debug"] => Keyed::EntryDebug(key_name(key)?),
+        ["raw", key, "debug"] => Keyed::RawDebug(key_name(key)?),
+        ["entry", key, action @ ..] => of_entry(key_name(key)?, action)?,
+        ["raw", key, action @ ..] => of_raw(key_name(key)?, action)?,
+        [call, rest @ ..] => of_key(call, rest)?,
         _ => return None,
-    })
-}
-
-fn of_occupied_raw(words: &[&str]) -> Option<OfOccupiedRaw> {
-    Some(match words {
-        ["read"] => OfOccupiedRaw::Read,
-        ["write", value] => OfOccupiedRaw::Write(number(value)?),
-        ["get_mut", more] => OfOccupiedRaw::GetMut(number(more)?),
-        ["into_mut", more] => OfOccupiedRaw::IntoMut(number(more)?),
-        ["into_key_value", more] => OfOccupiedRaw::IntoKeyValue(number(more)?),
-        ["into_key"] => OfOccupiedRaw::IntoKey,
-        ["insert_key"] => OfOccupiedRaw::InsertKey,
-        ["remove"] => OfOccupiedRaw::Remove,
-        ["remove_entry"] => OfOccupiedRaw::RemoveEntry,
-        _ => return None,
-    })
+    }))
 }
 
 fn of_whole(words: &[&str]) -> Option<Whole> {
@@ -166,12 +129,14 @@ fn of_whole(words: &[&str]) -> Option<Whole> {
         ["into_iter"] => Whole::IntoIter,
         ["drain", taken] => Whole::Drain(count(taken)?),
         ["retain", divisor, more] => Whole::Retain(number(divisor)?, number(more)?),
+        ["drop"] => Whole::Drop,
         ["clone"] => Whole::Clone,
         ["swap"] => Whole::Swap,
         ["same"] => Whole::Same,
         ["eq"] => Whole::Eq,
         ["debug"] => Whole::Debug,
         ["raw_entry_debug"] => Whole::RawEntryDebug,
+        ["raw_entry_mut"] => Whole::RawEntryMut,
         ["raw_entry_mut_debug"] => Whole::RawEntryMutDebug,
         ["make", capacity] => Whole::Make(count(capacity)?),
         _ => return None,

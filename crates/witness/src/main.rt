@@ -3,20 +3,39 @@
 #![tactic(auto)]
 
 mod answer;
-mod basic;
 mod call;
 mod commands;
+mod counts;
 mod debug;
 mod entries;
+mod entries_with;
+mod entry_lines;
+mod first;
+mod insertions;
+mod inspect;
+mod keyed;
+mod keys;
+mod kinds;
 mod lines;
+mod lists;
 mod made;
 mod maps;
+mod matches;
 mod pairs;
 mod raw;
-mod raw_additions;
+mod raw_with;
+mod replacements;
 mod runs;
 mod script;
+mod search_lines;
 mod searches;
+mod shown;
+mod values;
+mod walk;
+mod walk_items;
+mod walk_steps;
+mod walk_writing;
+mod whole;
 mod words;
 
 use std::io;

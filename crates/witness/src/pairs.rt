@@ -1,53 +1,76 @@
 //! The calls on a map as a whole.
 
 use crate::answer::Answer;
-use crate::call::Whole;
+use crate::call::{Manner, Whole};
+use crate::counts::Counts;
 use crate::debug::print_builder_mut;
+use crate::first::rule_name;
+use crate::kinds::{Named, Number, OfNumber, add_to};
+use crate::lists::{print_drained, print_keys, print_pairs, print_taken, print_values};
 use crate::made::print_made;
-use crate::maps::Maps;
-use std::cell::Cell;
+use crate::maps::{Counted, Maps, mark};
+use halfbrown::Tally;
+use std::fmt::Debug;
 use std::io;
-use test_support::counts::Counted;
-use test_support::keys::Key;
 
 /// Makes the call on the first map, and prints the answer.
-pub(crate) fn perform<'a, const N: usize>(
+pub(crate) fn perform<'a, V: OfNumber<'a> + Clone + PartialEq + Debug + Drop, const N: usize>(
     rt: &impl Print,
-    maps: &mut Maps<'a, N>,
+    maps: &mut Maps<'a, V, N>,
     call: Whole,
+    manner: Manner,
 ) -> io::Result<()> {
+    mark(rt, manner.is_refused)?;
     match call {
         Whole::State => print_state(rt, maps),
         Whole::Iter => print_pairs(rt, &maps.a),
         Whole::Keys => print_keys(rt, &maps.a),
         Whole::Values => print_values(rt, &maps.a),
-        Whole::IntoIter => print_taken(rt, maps),
+        Whole::IntoIter => {
+            let taken = take(maps);
+            print_taken(rt, taken)
+        }
         Whole::Drain(taken) => print_drained(rt, &mut maps.a, taken),
-        Whole::Retain(divisor, more) => print_retained(rt, &mut maps.a, divisor, more),
         Whole::Debug => print!(rt; "{:?}", maps.a),
         Whole::RawEntryDebug => print!(rt; "{:?}", maps.a.raw_entry()),
         Whole::RawEntryMutDebug => print_builder_mut(rt, &mut maps.a),
         Whole::Make(capacity) => print_made::<N>(rt, maps.alloc, capacity),
-        _ => print!(rt; "{}", answer(maps, call)),
+        Whole::Retain(divisor, more) => {
+            retain(&mut maps.a, maps.counts, divisor, more);
+            print!(rt; "called {}", maps.counts.calls())
+        }
+        _ => print!(rt; "{}", answer(maps, call, manner.is_counted)),
     }
 }
 
 // The calls that print no list.
-fn answer<'a, const N: usize>(maps: &mut Maps<'a, N>, call: Whole) -> Answer<Key<'a>> {
+fn answer<'a, V: OfNumber<'a> + Clone + PartialEq + Drop, const N: usize>(
+    maps: &mut Maps<'a, V, N>,
+    call: Whole,
+    is_counted: bool,
+) -> Answer {
     match call {
         Whole::Clear => maps.a.clear(),
         Whole::Reserve(more) => return Answer::of_done(maps.a.reserve(more)),
         Whole::ShrinkToFit => maps.a.shrink_to_fit(),
+        Whole::Drop => drop(take(maps)),
         Whole::Clone => return clone(maps),
         Whole::Swap => std::mem::swap(&mut maps.a, &mut maps.b),
-        Whole::Same => return Answer::Truth(maps.a.same_pairs(&maps.b)),
+        Whole::Same => return Answer::Truth(same(maps, is_counted)),
         Whole::Eq => return Answer::Truth(maps.a == maps.b),
+        Whole::RawEntryMut => return raw_entry_mut(&mut maps.a, is_counted),
         _ => add_to_values(&mut maps.a, call),
     }
     Answer::Done
 }
 
-fn clone<'a, const N: usize>(maps: &mut Maps<'a, N>) -> Answer<Key<'a>> {
+// The first map, which is a new one afterwards.
+fn take<'a, V, const N: usize>(maps: &mut Maps<'a, V, N>) -> Counted<'a, V, N> {
+    let empty = maps.empty();
+    std::mem::replace(&mut maps.a, empty)
+}
+
+fn clone<'a, V: Clone + Drop, const N: usize>(maps: &mut Maps<'a, V, N>) -> Answer {
     match maps.a.clone() {
         Ok(copy) => {
             maps.b = copy;
@@ -57,29 +80,65 @@ fn clone<'a, const N: usize>(maps: &mut Maps<'a, N>) -> Answer<Key<'a>> {
     }
 }
 
+fn same<V: PartialEq, const N: usize>(maps: &Maps<'_, V, N>, is_counted: bool) -> bool {
+    if is_counted {
+        maps.a.same_pairs_counted(&maps.b, &mut Tally::new())
+    } else {
+        maps.a.same_pairs(&maps.b)
+    }
+}
+
+// Raw entries that are dropped unused.
+fn raw_entry_mut<V, const N: usize>(map: &mut Counted<'_, V, N>, is_counted: bool) -> Answer {
+    let entries = if is_counted {
+        map.raw_entry_mut_counted(&mut Tally::new())
+    } else {
+        map.raw_entry_mut()
+    };
+    match entries {
+        Ok(_unused) => Answer::Done,
+        Err(why) => Answer::Refused(why),
+    }
+}
+
 // Adds a number to each value.
-fn add_to_values<const N: usize>(map: &mut Counted<'_, N>, call: Whole) {
+fn add_to_values<V: Number, const N: usize>(map: &mut Counted<'_, V, N>, call: Whole) {
     match call {
         Whole::IterMut(more) => {
             for (_, value) in map.iter_mut() {
-                *value = value.wrapping_add(more);
+                add_to(value, more);
             }
         }
         Whole::ValuesMut(more) => {
             for value in map.values_mut() {
-                *value = value.wrapping_add(more);
+                add_to(value, more);
             }
         }
         Whole::ValuesSliceMut(more) => {
             for value in map.values_slice_mut() {
-                *value = value.wrapping_add(more);
+                add_to(value, more);
             }
         }
         _ => {}
     }
 }
 
-fn print_state<'a, const N: usize>(rt: &impl Print, maps: &Maps<'a, N>) -> io::Result<()> {
+// Adds a number to each value, and drops the pairs whose id and value add up to a multiple of the divisor.
+fn retain<V: Number + Drop, const N: usize>(
+    map: &mut Counted<'_, V, N>,
+    counts: &Counts,
+    divisor: u64,
+    more: u64,
+) {
+    map.retain(|key, value| {
+        counts.count_call();
+        add_to(value, more);
+        let sum = key.name().id.wrapping_add(value.number());
+        sum.checked_rem(divisor) != Some(0)
+    });
+}
+
+fn print_state<V, const N: usize>(rt: &impl Print, maps: &Maps<'_, V, N>) -> io::Result<()> {
     let map = &maps.a;
     print!(rt;
         "is_empty={} is_vec={} is_map={} ",
@@ -87,86 +146,5 @@ fn print_state<'a, const N: usize>(rt: &impl Print, maps: &Maps<'a, N>) -> io::R
         map.is_vec(),
         map.is_map()
     )?;
-    print!(rt; "rule={}", crate::script::rule_name(map.hasher().rule))
-}
-
-/// Prints what stands between two elements of a list.
-pub(crate) fn print_gap(rt: &impl Print, is_first: &mut bool) -> io::Result<()> {
-    if std::mem::replace(is_first, false) {
-        return Ok(());
-    }
-    print!(rt; " ")
-}
-
-fn print_pairs<const N: usize>(rt: &impl Print, map: &Counted<'_, N>) -> io::Result<()> {
-    print!(rt; "[")?;
-    let mut is_first = true;
-    for (key, value) in map.iter() {
-        print_gap(rt, &mut is_first)?;
-        print!(rt; "{key:?}={value}")?;
-    }
-    print!(rt; "]")
-}
-
-fn print_keys<const N: usize>(rt: &impl Print, map: &Counted<'_, N>) -> io::Result<()> {
-    print!(rt; "[")?;
-    let mut is_first = true;
-    for key in map.keys() {
-        print_gap(rt, &mut is_first)?;
-        print!(rt; "{key:?}")?;
-    }
-    print!(rt; "]")
-}
-
-fn print_values<const N: usize>(rt: &impl Print, map: &Counted<'_, N>) -> io::Result<()> {
-    print!(rt; "[")?;
-    let mut is_first = true;
-    for value in map.values() {
-        print_gap(rt, &mut is_first)?;
-        print!(rt; "{value}")?;
-    }
-    print!(rt; "]")
-}
-
-// The pairs by value. The first map is a new one afterwards.
-fn print_taken<'a, const N: usize>(rt: &impl Print, maps: &mut Maps<'a, N>) -> io::Result<()> {
-    let empty = maps.empty();
-    let taken = std::mem::replace(&mut maps.a, empty);
-    print!(rt; "[")?;
-    let mut is_first = true;
-    for (key, value) in taken {
-        print_gap(rt, &mut is_first)?;
-        print!(rt; "{key:?}={value}")?;
-    }
-    print!(rt; "]")
-}
-
-fn print_drained<const N: usize>(
-    rt: &impl Print,
-    map: &mut Counted<'_, N>,
-    taken: usize,
-) -> io::Result<()> {
-    print!(rt; "[")?;
-    let mut is_first = true;
-    for (key, value) in map.drain().take(taken) {
-        print_gap(rt, &mut is_first)?;
-        print!(rt; "{key:?}={value}")?;
-    }
-    print!(rt; "]")
-}
-
-// Adds a number to each value, and drops the pairs whose id and value add up to a multiple of the divisor.
-fn print_retained<const N: usize>(
-    rt: &impl Print,
-    map: &mut Counted<'_, N>,
-    divisor: u64,
-    more: u64,
-) -> io::Result<()> {
-    let called = Cell::new(0u64);
-    map.retain(|key, value| {
-        called.set(called.get().saturating_add(1));
-        *value = value.wrapping_add(more);
-        key.id.wrapping_add(*value).checked_rem(divisor) != Some(0)
-    });
-    print!(rt; "called {}", called.get())
+    print!(rt; "rule={}", rule_name(map.hasher().rule))
 }

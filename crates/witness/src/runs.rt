@@ -1,22 +1,50 @@
-//! A run of commands on the first map, and its replies.
+//! The calls on maps whose values are plain numbers alone: a run of commands, and `or_default`.
 
-use crate::answer::reason;
-use crate::maps::Maps;
+use crate::answer::{Answer, reason};
+use crate::call::{Manner, PlainCall};
+use crate::entries_with::or_default;
+use crate::keys::Key;
+use crate::kinds::Named;
+use crate::maps::{Maps, mark};
 use crate::words::Name;
-use halfbrown::run::run;
-use halfbrown::{Command, Reply};
+use halfbrown::run::{run, run_counted};
+use halfbrown::{Command, Reply, Tally};
 use std::alloc::AllocError;
 use std::io;
-use test_support::keys::Key;
 
-/// Runs the commands, and prints the replies.
-pub(crate) fn perform<'a, const N: usize>(
+/// Makes the call, and prints the answer.
+pub(crate) fn perform<const N: usize>(
     rt: &impl Print,
-    maps: &mut Maps<'a, N>,
+    maps: &mut Maps<'_, u64, N>,
+    call: PlainCall,
+    manner: Manner,
+) -> io::Result<()> {
+    match call {
+        PlainCall::Run(commands) => perform_run(rt, maps, commands.as_slice(), manner),
+        PlainCall::OrDefault(name) => {
+            mark(rt, manner.is_refused)?;
+            let key = maps.key(name);
+            let answered = or_default(&mut maps.a, key, manner.is_counted);
+            print!(rt; "{}", Answer::or_refused_key(answered))
+        }
+    }
+}
+
+// Runs the commands, and prints the replies.
+fn perform_run<'a, const N: usize>(
+    rt: &impl Print,
+    maps: &mut Maps<'a, u64, N>,
     commands: &[Command<Name, u64>],
+    manner: Manner,
 ) -> io::Result<()> {
     let commands = with_keys(maps, commands)?;
-    let Ok(replies) = run(maps.alloc, &mut maps.a, commands) else {
+    mark(rt, manner.is_refused)?;
+    let ran = if manner.is_counted {
+        run_counted(maps.alloc, &mut maps.a, commands, &mut Tally::new())
+    } else {
+        run(maps.alloc, &mut maps.a, commands)
+    };
+    let Ok(replies) = ran else {
         return print!(rt; "refused memory");
     };
     print!(rt; "[")?;
@@ -31,7 +59,7 @@ pub(crate) fn perform<'a, const N: usize>(
 }
 
 fn with_keys<'a, const N: usize>(
-    maps: &Maps<'a, N>,
+    maps: &Maps<'a, u64, N>,
     commands: &[Command<Name, u64>],
 ) -> Result<Vec<Command<Key<'a>, u64>>, AllocError> {
     let mut keyed = Vec::new(maps.alloc);
@@ -42,7 +70,7 @@ fn with_keys<'a, const N: usize>(
 }
 
 fn with_key<'a, const N: usize>(
-    maps: &Maps<'a, N>,
+    maps: &Maps<'a, u64, N>,
     command: Command<Name, u64>,
 ) -> Command<Key<'a>, u64> {
     match command {
@@ -60,16 +88,16 @@ fn with_key<'a, const N: usize>(
     }
 }
 
-fn print_reply(rt: &impl Print, reply: Reply<Key<'_>, u64>) -> io::Result<()> {
+fn print_reply<K: Named + Drop>(rt: &impl Print, reply: Reply<K, u64>) -> io::Result<()> {
     match reply {
         Reply::Was(Some(old)) => print!(rt; "was {old}"),
         Reply::Was(None) => print!(rt; "was none"),
         Reply::Added => print!(rt; "added"),
-        Reply::Present(key, value) => print!(rt; "present {key:?}={value}"),
+        Reply::Present(key, value) => print!(rt; "present {}={value}", key.name()),
         Reply::Value(value) => print!(rt; "value {value}"),
         Reply::Found(Some(value)) => print!(rt; "found {value}"),
         Reply::Found(None) => print!(rt; "found none"),
-        Reply::Removed(Some((key, value))) => print!(rt; "removed {key:?}={value}"),
+        Reply::Removed(Some((key, value))) => print!(rt; "removed {}={value}", key.name()),
         Reply::Removed(None) => print!(rt; "removed none"),
         Reply::Done => print!(rt; "done"),
         Reply::Form(is_vec) => print!(rt; "form {is_vec}"),
@@ -82,14 +110,16 @@ fn print_reply(rt: &impl Print, reply: Reply<Key<'_>, u64>) -> io::Result<()> {
 }
 
 // A command as it is written.
-fn print_command(rt: &impl Print, command: Command<Key<'_>, u64>) -> io::Result<()> {
+fn print_command<K: Named + Drop>(rt: &impl Print, command: Command<K, u64>) -> io::Result<()> {
     match command {
-        Command::Insert(key, value) => print!(rt; "insert {key:?} {value}"),
-        Command::InsertNew(key, value) => print!(rt; "insert_new {key:?} {value}"),
-        Command::EntryOrInsert(key, value) => print!(rt; "entry_or_insert {key:?} {value}"),
-        Command::RawOrInsert(key, value) => print!(rt; "raw_or_insert {key:?} {value}"),
-        Command::Get(key) => print!(rt; "get {key:?}"),
-        Command::Remove(key) => print!(rt; "remove {key:?}"),
+        Command::Insert(key, value) => print!(rt; "insert {} {value}", key.name()),
+        Command::InsertNew(key, value) => print!(rt; "insert_new {} {value}", key.name()),
+        Command::EntryOrInsert(key, value) => {
+            print!(rt; "entry_or_insert {} {value}", key.name())
+        }
+        Command::RawOrInsert(key, value) => print!(rt; "raw_or_insert {} {value}", key.name()),
+        Command::Get(key) => print!(rt; "get {}", key.name()),
+        Command::Remove(key) => print!(rt; "remove {}", key.name()),
         Command::Clear => print!(rt; "clear"),
         Command::Reserve(more) => print!(rt; "reserve {more}"),
         Command::Shrink => print!(rt; "shrink"),

@@ -1,24 +1,16 @@
 //! A script: the line that makes the maps, and the calls after it.
 
 use crate::answer::reason;
-use crate::call::{Call, Keyed};
+use crate::call::{Call, Line};
+use crate::counts::Counts;
+use crate::first::{First, parse_first};
 use crate::lines::parse;
-use crate::maps::Maps;
-use crate::words::{Name, count};
-use crate::{basic, debug, entries, made, pairs, raw, runs, searches};
+use crate::maps::{Counted, Maps};
+use crate::values::Owned;
+use crate::{inspect, keyed, made, pairs, runs};
 use halfbrown::{Refusal, SizedHashMap};
 use std::alloc::{AllocError, Global};
 use std::io;
-use test_support::builders::Rule;
-use test_support::counts::{Counted, Counts};
-
-/// What a first line asks for.
-#[derive(Clone, Copy, Debug)]
-struct First {
-    limit: usize,
-    rule: Rule,
-    capacity: Option<usize>,
-}
 
 /// Plays the script, and prints a line for each of its lines.
 pub(crate) fn play(rt: &(impl Print + AllocGlobal), text: &str) -> io::Result<()> {
@@ -31,55 +23,14 @@ pub(crate) fn play(rt: &(impl Print + AllocGlobal), text: &str) -> io::Result<()
                     return Ok(());
                 }
             }
-            None => println!(rt; "bad line")?,
+            None => print_bad(rt)?,
         }
     }
     Ok(())
 }
 
-// Reads a first line. None where it is none.
-fn parse_first(alloc: Global, line: &str) -> Result<Option<First>, AllocError> {
-    let words: Vec<&str> = line.split(" ").collect(alloc)?;
-    Ok(match words.as_slice() {
-        ["map", limit, rule] => first_of(limit, rule, None),
-        ["map", limit, rule, capacity] => match count(capacity) {
-            Some(capacity) => first_of(limit, rule, Some(capacity)),
-            None => None,
-        },
-        _ => None,
-    })
-}
-
-fn first_of(limit: &str, rule: &str, capacity: Option<usize>) -> Option<First> {
-    let limit = match limit {
-        "0" => 0,
-        "1" => 1,
-        "2" => 2,
-        "5" => 5,
-        "32" => 32,
-        "18446744073709551615" => usize::MAX,
-        _ => return None,
-    };
-    let rule = match rule {
-        "plain" => Rule::Plain,
-        "zero" => Rule::Zero,
-        "top" => Rule::Top,
-        _ => return None,
-    };
-    Some(First {
-        limit,
-        rule,
-        capacity,
-    })
-}
-
-/// The word for a rule.
-pub(crate) fn rule_name(rule: Rule) -> &'static str {
-    match rule {
-        Rule::Plain => "plain",
-        Rule::Zero => "zero",
-        Rule::Top => "top",
-    }
+fn print_bad(rt: &impl Print) -> io::Result<()> {
+    println!(rt; "bad line")
 }
 
 // Plays the lines after a first one. False where its capacity was refused.
@@ -88,8 +39,13 @@ fn begin(rt: &(impl Print + AllocGlobal), first: First, rest: &[&str]) -> io::Re
         0 => begin_limited::<0>(rt, first, rest),
         1 => begin_limited::<1>(rt, first, rest),
         2 => begin_limited::<2>(rt, first, rest),
+        3 => begin_limited::<3>(rt, first, rest),
+        4 => begin_limited::<4>(rt, first, rest),
         5 => begin_limited::<5>(rt, first, rest),
+        8 => begin_limited::<8>(rt, first, rest),
         32 => begin_limited::<32>(rt, first, rest),
+        64 => begin_limited::<64>(rt, first, rest),
+        1152921504606846976 => begin_limited::<1152921504606846976>(rt, first, rest),
         _ => begin_limited::<18446744073709551615>(rt, first, rest),
     }
 }
@@ -99,77 +55,133 @@ fn begin_limited<const N: usize>(
     first: First,
     rest: &[&str],
 ) -> io::Result<bool> {
+    if first.is_owning {
+        begin_owning::<N>(rt, first, rest)
+    } else {
+        begin_plain::<N>(rt, first, rest)
+    }
+}
+
+fn begin_plain<const N: usize>(
+    rt: &(impl Print + AllocGlobal),
+    first: First,
+    rest: &[&str],
+) -> io::Result<bool> {
     let counts = Counts::new();
-    let a = match make::<N>(rt.alloc(), &counts, first) {
+    let Some(mut maps) = make::<u64, N>(rt, &counts, first)? else {
+        return Ok(false);
+    };
+    for line in rest {
+        answer_plain(rt, &mut maps, line)?;
+    }
+    Ok(true)
+}
+
+fn begin_owning<const N: usize>(
+    rt: &(impl Print + AllocGlobal),
+    first: First,
+    rest: &[&str],
+) -> io::Result<bool> {
+    let counts = Counts::new();
+    let Some(mut maps) = make::<Owned<'_>, N>(rt, &counts, first)? else {
+        return Ok(false);
+    };
+    for line in rest {
+        answer_owning(rt, &mut maps, line)?;
+    }
+    Ok(true)
+}
+
+// Answers a first line. None where its capacity was refused.
+fn make<'a, V: Drop, const N: usize>(
+    rt: &(impl Print + AllocGlobal),
+    counts: &'a Counts,
+    first: First,
+) -> io::Result<Option<Maps<'a, V, N>>> {
+    let a = match make_map(rt.alloc(), counts, first) {
         Ok(map) => map,
         Err(why) => {
             println!(rt; "refused {}", reason(why))?;
-            return Ok(false);
+            return Ok(None);
         }
     };
-    let mut maps = Maps {
+    let maps = Maps {
         a,
-        b: counts.map::<N>(rt.alloc(), first.rule),
-        counts: &counts,
+        b: SizedHashMap::with_hasher(rt.alloc(), counts.builder(first.rule)),
+        counts,
         rule: first.rule,
         alloc: rt.alloc(),
     };
     print!(rt; "made")?;
     maps.print_end(rt)?;
-    for line in rest {
-        answer_line(rt, &mut maps, line)?;
-    }
-    Ok(true)
+    println!(rt)?;
+    Ok(Some(maps))
 }
 
-fn make<const N: usize>(
+fn make_map<'a, V, const N: usize>(
     alloc: Global,
-    counts: &Counts,
+    counts: &'a Counts,
     first: First,
-) -> Result<Counted<'_, N>, Refusal> {
+) -> Result<Counted<'a, V, N>, Refusal> {
+    let builder = counts.builder(first.rule);
     match first.capacity {
-        Some(capacity) => {
-            let builder = counts.builder(first.rule);
-            SizedHashMap::with_capacity_and_hasher(alloc, capacity, builder)
-        }
-        None => Ok(counts.map::<N>(alloc, first.rule)),
+        Some(capacity) => SizedHashMap::with_capacity_and_hasher(alloc, capacity, builder),
+        None => Ok(SizedHashMap::with_hasher(alloc, builder)),
     }
 }
 
-fn answer_line<const N: usize>(
+// Answers a line where values are plain numbers.
+fn answer_plain<const N: usize>(
     rt: &impl Print,
-    maps: &mut Maps<'_, N>,
-    line: &str,
+    maps: &mut Maps<'_, u64, N>,
+    text: &str,
 ) -> io::Result<()> {
-    let Some(call) = parse(maps.alloc, line)? else {
-        return println!(rt; "bad line");
+    let Some(Line { call, manner }) = parse(maps.alloc, text)? else {
+        return print_bad(rt);
     };
-    maps.counts.take();
+    let hands_in_a_closure = call.hands_in_a_closure();
+    maps.counts.begin();
     match call {
-        Call::Keyed(name, call) => perform_keyed(rt, maps, name, call)?,
-        Call::Whole(call) => pairs::perform(rt, maps, call)?,
-        Call::Items(call, names) => made::perform(rt, maps, call, names.as_slice())?,
-        Call::Run(commands) => runs::perform(rt, maps, commands.as_slice())?,
+        Call::Keyed(call) => keyed::perform(rt, maps, call, manner)?,
+        Call::Whole(call) => pairs::perform(rt, maps, call, manner)?,
+        Call::Items(call, names) => made::perform(rt, maps, call, names.as_slice(), manner)?,
+        Call::Inspection(call) => inspect::perform(rt, maps, call, manner)?,
+        Call::Plain(call) => runs::perform(rt, maps, call, manner)?,
     }
-    maps.print_end(rt)
+    print_end(rt, maps, hands_in_a_closure)
 }
 
-fn perform_keyed<const N: usize>(
+// Answers a line where values count their drops.
+fn answer_owning<'a, const N: usize>(
     rt: &impl Print,
-    maps: &mut Maps<'_, N>,
-    name: Name,
-    call: Keyed,
+    maps: &mut Maps<'a, Owned<'a>, N>,
+    text: &str,
 ) -> io::Result<()> {
-    let key = maps.key(name);
-    let counts = maps.counts;
-    let map = &mut maps.a;
-    let answer = match call {
-        Keyed::Basic(call) => basic::perform(map, counts, key, call),
-        Keyed::Entry(call) => entries::perform(map, key, call),
-        Keyed::Search(search) => searches::perform(map, counts, key, search),
-        Keyed::Raw(call) => raw::perform(map, counts, key, call),
-        Keyed::EntryDebug => return debug::print_entry(rt, map, key),
-        Keyed::RawDebug => return debug::print_raw_entry(rt, map, key),
+    let Some(Line { call, manner }) = parse(maps.alloc, text)? else {
+        return print_bad(rt);
     };
-    print!(rt; "{answer}")
+    let hands_in_a_closure = call.hands_in_a_closure();
+    maps.counts.begin();
+    match call {
+        Call::Keyed(call) => keyed::perform(rt, maps, call, manner)?,
+        Call::Whole(call) => pairs::perform(rt, maps, call, manner)?,
+        Call::Items(call, names) => made::perform(rt, maps, call, names.as_slice(), manner)?,
+        Call::Inspection(call) => inspect::perform(rt, maps, call, manner)?,
+        Call::Plain(_call) => return print_bad(rt),
+    }
+    print_end(rt, maps, hands_in_a_closure)
+}
+
+// Ends the line of a call.
+fn print_end<V, const N: usize>(
+    rt: &impl Print,
+    maps: &Maps<'_, V, N>,
+    hands_in_a_closure: bool,
+) -> io::Result<()> {
+    maps.print_end(rt)?;
+    if hands_in_a_closure {
+        let calls = maps.counts.calls();
+        print!(rt; " | called {calls}")?;
+    }
+    println!(rt)
 }

@@ -1,13 +1,39 @@
 //! Numbers and keys, as a script writes them.
 
+use std::fmt;
+
 /// The most digits that a number is written with.
 const MOST_DIGITS: usize = 20;
 
 /// A key as it is written. Those of one id are equal, and the mark tells them apart.
-#[derive(Clone, Copy, Debug)]
+#[derive(Clone, Copy)]
 pub(crate) struct Name {
     pub id: u64,
     pub mark: u64,
+}
+
+impl fmt::Display for Name {
+    fn fmt<W: fmt::Write>(&self, f: &mut fmt::Formatter<W>) -> fmt::Result {
+        write!(f, "{}#{}", self.id, self.mark)
+    }
+}
+
+/// What a key is looked up by.
+#[derive(Clone, Copy)]
+pub(crate) enum Form {
+    /// A key.
+    Key(Name),
+    /// The number of a key.
+    Id(u64),
+}
+
+/// The keys that a match accepts.
+#[derive(Clone, Copy)]
+pub(crate) enum Which {
+    Any,
+    None,
+    /// The key of this number.
+    Id(u64),
 }
 
 /// The number that a word writes.
@@ -30,4 +56,21 @@ pub(crate) fn key_name(word: &str) -> Option<Name> {
         None => (number(word)?, 1),
     };
     Some(Name { id, mark })
+}
+
+/// What a word looks up by: a key, or `@` and a number.
+pub(crate) fn parse_form(word: &str) -> Option<Form> {
+    match word.strip_prefix("@") {
+        Some(id) => Some(Form::Id(number(id)?)),
+        None => Some(Form::Key(key_name(word)?)),
+    }
+}
+
+/// The keys that a word lets a match accept.
+pub(crate) fn parse_which(word: &str) -> Option<Which> {
+    match word {
+        "any" => Some(Which::Any),
+        "none" => Some(Which::None),
+        _ => Some(Which::Id(number(word)?)),
+    }
 }

@@ -1,0 +1,113 @@
+//! Keys that are equal by their number alone, and count how often they are compared and dropped, and a form that stands for one.
+ghost use Rattle.std.specs.Prelude.{◌≡◌, ◌==◌};
+ghost use Rattle.std.specs.Hash as fed;
+ghost use Rattle.std.specs.Cmp.Rules.{comparing, hashing};
+ghost use Rattle.std.proofs.Common.{rules, ap};
+ghost use Rattle.std.proofs.lemmas.Bool.{eqb-true};
+ghost use Rattle.std.specs.Cmp.{nat_eq_equiv};
+
+use crate::counts::Counts;
+use crate::kinds::Named;
+use crate::words::Name;
+use halfbrown::Equivalent;
+use std::alloc::AllocError;
+use std::fmt;
+use std::hash::{Hash, Hasher};
+
+/// A key written `id#mark`. Keys of one id are equal, and the mark tells them apart.
+pub(crate) struct Key<'a> {
+    id: u64,
+    mark: u64,
+    counts: &'a Counts,
+}
+
+impl<'a> Key<'a> {
+    /// The key that is written so. It counts here each comparison that it is the left side of, and its drop.
+    pub(crate) fn new(name: Name, counts: &'a Counts) -> Key<'a> {
+        Key {
+            id: name.id,
+            mark: name.mark,
+            counts,
+        }
+    }
+}
+
+impl Named for Key<'_> {
+    fn name(&self) -> Name {
+        Name {
+            id: self.id,
+            mark: self.mark,
+        }
+    }
+}
+
+impl Drop for Key<'_> {
+    fn drop(self) {
+        self.counts.count_dropped_key();
+        let Key {
+            id: _,
+            mark: _,
+            counts: _,
+        } = self;
+    }
+}
+
+impl Clone for Key<'_> {
+    ghost is_clone = { λ a b. b.id ≡ a.id };
+
+    fn clone(&self) -> Result<Self, AllocError> {
+        Ok(Key {
+            id: self.id,
+            mark: self.mark,
+            counts: self.counts,
+        })
+    }
+}
+
+impl PartialEq for Key<'_> {
+    ghost eq = { λ a b. a.id == b.id };
+
+    ghost laws = { Prim.search (comparing, rules) };
+
+    fn eq(&self, other: &Self) -> bool {
+        self.counts.count_comparison();
+        self.id == other.id
+    }
+}
+
+impl Eq for Key<'_> {
+    ghost laws = { Prim.search (comparing, rules) };
+}
+
+impl Hash for Key<'_> {
+    ghost hash_input = { λ key. fed.u64 key.id };
+
+    ghost respects_eq = { Prim.search (hashing, rules) };
+
+    fn hash<H: Hasher>(&self, state: &mut H) {
+        self.id.hash(state);
+    }
+}
+
+impl fmt::Debug for Key<'_> {
+    fn fmt<W: fmt::Write>(&self, f: &mut fmt::Formatter<W>) -> fmt::Result {
+        write!(f, "{}", self.name())
+    }
+}
+
+/// The number of a key, by which one is looked up. It is no key, but compared as one, and counted so.
+#[derive(Clone, Copy, PartialEq, Eq, Hash)]
+pub(crate) struct Id(pub u64);
+
+impl<'a> Equivalent<Key<'a>> for Id {
+    ghost equivalent = { λ form key. form.0 == key.id };
+
+    ghost hashes_alike = { λ form key same. ap fed.u64 (eqb-true form.0 key.id same) };
+
+    ghost stands_for_equals = { λ form key other. nat_eq_equiv.congr form.0 key.id other.id };
+
+    fn equivalent(&self, key: &Key<'a>) -> bool {
+        key.counts.count_comparison();
+        self.0 == key.id
+    }
+}

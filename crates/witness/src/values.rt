@@ -1,0 +1,68 @@
+//! Values that are numbers and count their drops.
+ghost use Rattle.std.specs.Prelude.{◌≡◌, ◌==◌};
+ghost use Rattle.std.specs.Cmp.Rules.{comparing};
+ghost use Rattle.std.proofs.Common.{rules};
+
+use crate::counts::Counts;
+use crate::kinds::{Number, OfNumber};
+use std::alloc::AllocError;
+use std::fmt;
+
+/// A number that counts its drop.
+pub(crate) struct Owned<'a> {
+    number: u64,
+    counts: &'a Counts,
+}
+
+impl Number for Owned<'_> {
+    fn number(&self) -> u64 {
+        self.number
+    }
+
+    fn set(&mut self, number: u64) {
+        self.number = number;
+    }
+}
+
+impl<'a> OfNumber<'a> for Owned<'a> {
+    fn of_number(number: u64, counts: &'a Counts) -> Owned<'a> {
+        Owned { number, counts }
+    }
+}
+
+impl Drop for Owned<'_> {
+    fn drop(self) {
+        self.counts.count_dropped_value();
+        let Owned {
+            number: _,
+            counts: _,
+        } = self;
+    }
+}
+
+impl Clone for Owned<'_> {
+    ghost is_clone = { λ a b. b.number ≡ a.number };
+
+    fn clone(&self) -> Result<Self, AllocError> {
+        Ok(Owned {
+            number: self.number,
+            counts: self.counts,
+        })
+    }
+}
+
+impl PartialEq for Owned<'_> {
+    ghost eq = { λ a b. a.number == b.number };
+
+    ghost laws = { Prim.search (comparing, rules) };
+
+    fn eq(&self, other: &Self) -> bool {
+        self.number == other.number
+    }
+}
+
+impl fmt::Debug for Owned<'_> {
+    fn fmt<W: fmt::Write>(&self, f: &mut fmt::Formatter<W>) -> fmt::Result {
+        write!(f, "{}", self.number)
+    }
+}

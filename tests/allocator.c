@@ -1,0 +1,102 @@
+// Counts the requests for memory of a program that it is preloaded into, and refuses them.
+//
+// The program marks each call by a write of no bytes to standard output, right before it, and one that may be refused
+// memory by two. From the mark to the end of the line that it writes then, its requests are counted, and the line gets
+// one field more, ` | requests N`. Of the requests of a call that was marked twice these return NULL: all, or, where
+// REFUSE_FROM is set, those from REFUSE_FROM to REFUSE_TO, counted from 1 in the call.
+//
+// With REFUSE_UNMARKED nothing is marked: all requests of the program are counted, from its start, those from
+// REFUSE_FROM to REFUSE_TO return NULL, and a line on standard error tells of each.
+//
+// A request is a `malloc`, a `calloc`, or a `realloc` to a size above 0.
+#include <errno.h>
+#include <stdio.h>
+#include <stdlib.h>
+#include <string.h>
+#include <sys/syscall.h>
+#include <unistd.h>
+
+extern void *__libc_malloc(size_t size);
+extern void *__libc_calloc(size_t count, size_t size);
+extern void *__libc_realloc(void *block, size_t size);
+
+// How often the call was marked whose line is not yet written to its end, and the requests since.
+static int marks;
+static long requests;
+// Whether the last thing that was written was a mark.
+static int is_right_after_mark;
+
+// The number that a variable of the environment gives, or another one.
+static long number(const char *name, long otherwise) {
+    const char *text = getenv(name);
+    return text == NULL ? otherwise : atol(text);
+}
+
+static int is_chosen(void) {
+    long first = number("REFUSE_FROM", 1);
+    return first <= requests && requests <= number("REFUSE_TO", requests);
+}
+
+static int is_refused(void) {
+    int is_unmarked = getenv("REFUSE_UNMARKED") != NULL;
+    is_right_after_mark = 0;
+    if (marks == 0 && !is_unmarked)
+        return 0;
+    requests++;
+    if (!(is_unmarked || marks > 1) || !is_chosen())
+        return 0;
+    if (is_unmarked)
+        syscall(SYS_write, STDERR_FILENO, "refused\n", 8);
+    errno = ENOMEM;
+    return 1;
+}
+
+void *malloc(size_t size) {
+    return is_refused() ? NULL : __libc_malloc(size);
+}
+
+void *calloc(size_t count, size_t size) {
+    return is_refused() ? NULL : __libc_calloc(count, size);
+}
+
+void *realloc(void *block, size_t size) {
+    return size > 0 && is_refused() ? NULL : __libc_realloc(block, size);
+}
+
+static void mark(void) {
+    marks = is_right_after_mark ? marks + 1 : 1;
+    requests = 0;
+    is_right_after_mark = 1;
+}
+
+static int write_all(const char *bytes, size_t size) {
+    while (size > 0) {
+        ssize_t written = syscall(SYS_write, STDOUT_FILENO, bytes, size);
+        if (written < 0)
+            return 0;
+        bytes += written;
+        size -= written;
+    }
+    return 1;
+}
+
+// Writes bytes that have the end of the line of the marked call, with the number of its requests before that end.
+static ssize_t write_with_requests(const char *bytes, size_t size, const char *end) {
+    char field[40];
+    int length = snprintf(field, sizeof field, " | requests %ld", requests);
+    marks = 0;
+    int is_written = write_all(bytes, end - bytes) && write_all(field, length) && write_all(end, bytes + size - end);
+    return is_written ? (ssize_t)size : -1;
+}
+
+ssize_t write(int file, const void *bytes, size_t size) {
+    if (file != STDOUT_FILENO || getenv("REFUSE_UNMARKED") != NULL)
+        return syscall(SYS_write, file, bytes, size);
+    if (size == 0) {
+        mark();
+        return 0;
+    }
+    is_right_after_mark = 0;
+    const char *end = marks > 0 ? memchr(bytes, '\n', size) : NULL;
+    return end == NULL ? syscall(SYS_write, file, bytes, size) : write_with_requests(bytes, size, end);
+}

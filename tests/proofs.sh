@@ -1,0 +1,21 @@
+#!/bin/sh
+# Proves what users run, and proves and runs the tests: each crate once, as soon as what it stands on is proved, several at a
+# time. What earlier runs have proved is kept in out/.
+#
+# The last line is "N passed, M failed", by crates.
+set -u
+cd "$(dirname "$0")/.." || exit 1
+. tests/part.sh
+
+crates="half_store halfbrown halfmap witness half_uses half_tests"
+# More at a time gain nothing: each takes all processors that it finds.
+make --no-print-directory -k -j2 -f tests/proofs.mk $crates 2>&1 | tee "$work/said"
+for crate in $crates; do
+    if grep -qE "^make.*(: $crate\] Error|'$crate' not remade)" "$work/said"; then
+        fail "$crate: not proved"
+    else
+        passed=$((passed + 1))
+    fi
+done
+
+sum
