@@ -35,7 +35,7 @@ import planted
 
 TOP = pathlib.Path(__file__).resolve().parent.parent
 # The crates, each after those that it stands on.
-CRATES = ("half_store", "halfbrown", "halfmap", "test_support", "half_tests", "half_uses")
+CRATES = ("half_store", "halfbrown", "halfmap", "test_support", "half_uses", "half_tests")
 # What a check of one job takes at most.
 MEMORY = 2_000_000_000
 # Where antt cannot read a text, or a proof misses a name, nothing is said of a contract.

@@ -1,14 +1,10 @@
 //! The storage of a map in two forms: pairs in two columns, a hash table over their entry indices, and a tally of the work.
 #![tactic(auto)]
 
-#[cfg(test)]
-mod asserts;
 pub mod capacity;
 mod column;
 mod count;
 pub mod counting;
-#[cfg(test)]
-mod examples;
 pub mod refusal;
 pub mod table;
 pub mod tally;

@@ -18,8 +18,6 @@ pub mod probe;
 mod rehash;
 mod retain;
 mod reverse;
-#[cfg(test)]
-mod tests;
 
 use crate::Tally;
 use crate::capacity::capacity_of;

@@ -20,10 +20,10 @@ pub fn birthday(alloc: Global) -> Result<u32, Refused<u64, u32>>
 mod tests {
     use super::*;
     use std::test::Fail;
+    use test_support::asserts::assert_same;
 
     #[test]
     fn ada_is_37(rt: HostRuntime) -> Result<(), Fail> {
-        assert_eq!(rt; birthday(rt.alloc())?, 37, "the last value");
-        Ok(())
+        assert_same(birthday(rt.alloc())?, 37, "the last value")
     }
 }

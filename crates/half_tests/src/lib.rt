@@ -1,6 +1,9 @@
-//! What callers build on the map, worked tables in numbers, and the examples of the documentation: proved, and run as tests.
+//! What callers build on the map, worked maps in numbers, the examples of the documentation, and tests of what no script can
+//! say: proved, and run as tests.
 #![tactic(auto)]
 
+#[cfg(test)]
+mod caller_tests;
 pub mod callers;
 pub mod copy_callers;
 #[cfg(test)]
@@ -15,6 +18,8 @@ mod equality_examples;
 #[cfg(test)]
 mod examples;
 pub mod first_example;
+#[cfg(test)]
+mod forms_of_keys;
 pub mod iter_callers;
 #[cfg(test)]
 mod iter_examples;
@@ -24,4 +29,12 @@ mod raw_examples;
 pub mod retain_callers;
 #[cfg(test)]
 mod rust_tests;
+#[cfg(test)]
+mod store_examples;
+#[cfg(test)]
+mod table_tests;
+#[cfg(test)]
+mod texts;
+#[cfg(test)]
+mod uses;
 pub mod worked;

@@ -10,8 +10,6 @@ pub mod emptied;
 pub mod one_hash;
 pub mod retained;
 pub mod shorter;
-#[cfg(test)]
-mod tests;
 pub mod there_and_back;
 pub mod vectors;
 
