@@ -11,14 +11,15 @@ and the calls.
 import sys
 
 from model.basics import RULES, BadLine, Pair, Refused, Work
-from model.lines import CALLS, LIMITS, read_call, read_number
+from model.lines import CALLS, LIMITS, OWNING_LIMITS, read_call, read_number
 from model.map import Maps
 
 
 def answer_first(line):
     """The maps that a first line makes, and its answer."""
     words = line.split(" ")
-    if len(words) not in (3, 4) or words[0] not in ("map", "owning") or words[1] not in LIMITS or words[2] not in RULES:
+    limits = {"map": LIMITS, "owning": OWNING_LIMITS}
+    if len(words) not in (3, 4) or words[1] not in limits.get(words[0], ()) or words[2] not in RULES:
         raise BadLine
     capacity = read_number(words[3]) if len(words) == 4 else 0
     try:

@@ -1,7 +1,7 @@
 """Scripts of calls that are made at random, in the language of docs/WITNESS.md."""
 
 from model.basics import GREATEST, MOST_PAIRS, RULES, Key, capacity_for
-from model.lines import COUNTED, LIMITS, OTHER_LIMITS, name_of
+from model.lines import COUNTED, LIMITS, OTHER_LIMITS, OWNING_LIMITS, name_of
 from model.walk import KINDS as WALKS
 from model.walk import STEPS, STEPS_OF_SOME
 
@@ -155,7 +155,7 @@ class Script:
     def __init__(self, chance, limit, may_refuse):
         self.chance, self.limit, self.may_refuse = chance, limit, may_refuse
         self.rule = chance.choice(RULES_OFTEN)
-        self.is_owning = chance.random() < 0.35
+        self.is_owning = str(limit) in OWNING_LIMITS and chance.random() < 0.45
         self.keys = Keys(chance, limit)
         self.lines = []
 

@@ -10,6 +10,8 @@ from model.runs import COMMANDS, run
 from model.walk import read_walk, walk
 
 LIMITS = ("0", "1", "2", "3", "4", "5", "8", "32", "64", str(2**60), str(GREATEST))
+# Those of maps whose values count their drops.
+OWNING_LIMITS = ("0", "1", "2", "3", "5", "32", str(GREATEST))
 OTHER_LIMITS = ("0", "5", str(GREATEST))
 PLAIN_MAKERS = ("new", "default", "with_hasher")
 MAKERS_FOR = ("with_capacity", "with_capacity_and_hasher", "vec_with_capacity")

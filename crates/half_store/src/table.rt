@@ -10,7 +10,7 @@ ghost use Rattle.half_store.specs.Capacity.{capacity_of, IsBucketCount, capacity
 ghost use Rattle.half_store.specs.Probe.{IfFound, OnMissing, IfVacant, looked_more, after_missing, AddsFinding};
 ghost use Rattle.half_store.specs.Table.{contents_of, with_hash_in, IsVacancyIn, no_buckets};
 
-pub(crate) mod buckets;
+pub mod buckets;
 mod deletion;
 pub mod laws;
 mod memory;
@@ -241,9 +241,13 @@ impl Table {
         self.bucket_of.clear();
     }
 
-    // The buckets, as a probe reads them.
+    /// The buckets, as a probe reads them.
+    ///
+    /// ```
+    /// let buckets = table.hashed_buckets();
+    /// ```
     #[inline(always)]
-    fn hashed_buckets(&self) -> HashedBuckets<'_>
+    pub fn hashed_buckets(&self) -> HashedBuckets<'_>
         ensures whole { WithinHashes result.hashes.now result.buckets.now }
         ensures shown { Shows (slots_by result.hashes.now result.buckets.now) (entries_by result.buckets.now) self.now }
     {

@@ -8,6 +8,8 @@ pub mod callers;
 pub mod copy_callers;
 #[cfg(test)]
 mod copy_examples;
+#[cfg(test)]
+mod counted_reads;
 pub mod drain_callers;
 #[cfg(test)]
 mod drain_examples;

@@ -120,5 +120,3 @@ fn without<'a>(end: &[u8], text: &'a [u8]) -> &'a [u8]
     }
 }
 
-#[cfg(test)]
-mod tests;

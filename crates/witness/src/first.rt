@@ -33,13 +33,17 @@ fn of_words(words: &[&str]) -> Option<First> {
     };
     Some(First {
         is_owning,
-        limit: limit_of(limit)?,
+        limit: if is_owning {
+            owning_limit_of(limit)?
+        } else {
+            limit_of(limit)?
+        },
         rule: rule_of(rule)?,
         capacity,
     })
 }
 
-/// The limits of which there are maps.
+// The limits of maps whose values are plain numbers.
 fn limit_of(word: &str) -> Option<usize> {
     Some(match word {
         "0" => 0,
@@ -55,6 +59,14 @@ fn limit_of(word: &str) -> Option<usize> {
         "18446744073709551615" => 18446744073709551615,
         _ => return None,
     })
+}
+
+// The limits of maps whose values count their drops. They are fewer, since each takes time to compile.
+fn owning_limit_of(word: &str) -> Option<usize> {
+    match word {
+        "0" | "1" | "2" | "3" | "5" | "32" | "18446744073709551615" => limit_of(word),
+        _ => None,
+    }
 }
 
 /// The rule of this name.

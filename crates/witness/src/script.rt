@@ -36,29 +36,35 @@ fn print_bad(rt: &impl Print) -> io::Result<()> {
 // Plays the lines after a first one. False where its capacity was refused.
 fn begin(rt: &(impl Print + AllocGlobal), first: First, rest: &[&str]) -> io::Result<bool> {
     match first.limit {
-        0 => begin_limited::<0>(rt, first, rest),
-        1 => begin_limited::<1>(rt, first, rest),
-        2 => begin_limited::<2>(rt, first, rest),
-        3 => begin_limited::<3>(rt, first, rest),
-        4 => begin_limited::<4>(rt, first, rest),
-        5 => begin_limited::<5>(rt, first, rest),
-        8 => begin_limited::<8>(rt, first, rest),
-        32 => begin_limited::<32>(rt, first, rest),
-        64 => begin_limited::<64>(rt, first, rest),
-        1152921504606846976 => begin_limited::<1152921504606846976>(rt, first, rest),
-        _ => begin_limited::<18446744073709551615>(rt, first, rest),
+        _ if first.is_owning => begin_owning_limited(rt, first, rest),
+        0 => begin_plain::<0>(rt, first, rest),
+        1 => begin_plain::<1>(rt, first, rest),
+        2 => begin_plain::<2>(rt, first, rest),
+        3 => begin_plain::<3>(rt, first, rest),
+        4 => begin_plain::<4>(rt, first, rest),
+        5 => begin_plain::<5>(rt, first, rest),
+        8 => begin_plain::<8>(rt, first, rest),
+        32 => begin_plain::<32>(rt, first, rest),
+        64 => begin_plain::<64>(rt, first, rest),
+        1152921504606846976 => begin_plain::<1152921504606846976>(rt, first, rest),
+        _ => begin_plain::<18446744073709551615>(rt, first, rest),
     }
 }
 
-fn begin_limited<const N: usize>(
+// There are fewer limits of maps whose values count their drops.
+fn begin_owning_limited(
     rt: &(impl Print + AllocGlobal),
     first: First,
     rest: &[&str],
 ) -> io::Result<bool> {
-    if first.is_owning {
-        begin_owning::<N>(rt, first, rest)
-    } else {
-        begin_plain::<N>(rt, first, rest)
+    match first.limit {
+        0 => begin_owning::<0>(rt, first, rest),
+        1 => begin_owning::<1>(rt, first, rest),
+        2 => begin_owning::<2>(rt, first, rest),
+        3 => begin_owning::<3>(rt, first, rest),
+        5 => begin_owning::<5>(rt, first, rest),
+        32 => begin_owning::<32>(rt, first, rest),
+        _ => begin_owning::<18446744073709551615>(rt, first, rest),
     }
 }
 

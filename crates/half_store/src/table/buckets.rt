@@ -3,8 +3,9 @@ ghost use Rattle.std.specs.Prelude.{◌≡◌, ◌≢◌, ℕ, ◌<◌, List, Op
 ghost use Rattle.half_store.specs.Slots.{slot_at};
 ghost use Rattle.half_store.specs.Buckets.{slots_by, entries_by, WithinHashes};
 
-/// Buckets that tell their stored hashes and their entry indices.
-pub(crate) trait Buckets {
+/// Buckets that tell their stored hashes and their entry indices. Probes read them through this trait alone, so that buckets
+/// which count their reads show how often that is.
+pub trait Buckets {
     // the hash stored for each bucket
     ghost slots: { Self → List (Option ℕ) };
 
@@ -33,9 +34,11 @@ pub(crate) trait Buckets {
 
 /// The buckets of a table, and the stored hashes that they lead to.
 #[derive(Clone, Copy)]
-pub(crate) struct HashedBuckets<'a> {
-    pub(crate) buckets: &'a [usize],
-    pub(crate) hashes: &'a [u64],
+pub struct HashedBuckets<'a> {
+    /// For each bucket 0, or one more than the entry index of its pair.
+    pub buckets: &'a [usize],
+    /// The hashes by entry index.
+    pub hashes: &'a [u64],
 }
 
 impl Buckets for HashedBuckets<'_> {

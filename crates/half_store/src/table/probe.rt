@@ -46,7 +46,7 @@ pub(crate) fn next(bucket: usize, count: usize) -> usize
 ///
 /// `matches` is called with the entry indices of those pairs alone whose whole hash is equal.
 #[inline(always)]
-pub(crate) fn search<P: Buckets, F: Fn(usize) -> bool>(
+pub fn search<P: Buckets, F: Fn(usize) -> bool>(
     buckets: &P,
     hash: u64,
     matches: &F,
@@ -92,7 +92,7 @@ pub(crate) fn search<P: Buckets, F: Fn(usize) -> bool>(
 
 /// Probes up from the home bucket to the first empty bucket.
 #[inline(always)]
-pub(crate) fn first_empty<P: Buckets>(buckets: &P, hash: u64, tally: &mut Tally) -> usize
+pub fn first_empty<P: Buckets>(buckets: &P, hash: u64, tally: &mut Tally) -> usize
     requires whole { P.is_whole buckets.now }
     requires count { IsBucketCount (length (P.slots buckets.now)) }
     requires vacant { SomeVacant (P.slots buckets.now) }
