@@ -76,6 +76,13 @@ def from_items(a, items):
     return collect(a, a.limit, len(items), items)
 
 
+def from_array(a, items):
+    """Asks for memory for the array first, also of no pairs."""
+    if not a.work.has_memory:
+        raise Refused("memory")
+    return from_items(a, items)
+
+
 def from_iter_hint(a, hint, items):
     return collect(a, a.limit, hint, items)
 
@@ -190,7 +197,7 @@ PAIR_CALLS = {
     "debug_iter_pretty": of_a(debug_iter_pretty),
     "extend ITEMS": of_a(extend),
     "from_iter ITEMS": of_a(from_items),
-    "from_array ITEMS": of_a(from_items),
+    "from_array ITEMS": of_a(from_array),
     "hashmap ITEMS": of_a(hashmap),
     "from_iter_hint N ITEMS": of_a(from_iter_hint),
     "collect ITEMS": of_a(from_items),
