@@ -1,5 +1,5 @@
-//! The tests and the examples of the Rust crate: where each is, with its meaning kept, and here those whose keys or values are
-//! texts or characters.
+//! The tests and the examples of the Rust crate: where each is, with its meaning kept. Here are those whose keys or values are
+//! texts or characters, which scripts have not.
 //!
 //! | test of the Rust crate | is |
 //! |---|---|
@@ -11,8 +11,9 @@
 //!
 //! | example of the call | is |
 //! |---|---|
-//! | `new`, `with_capacity`, `vec_with_capacity`, `with_hasher`, `with_capacity_and_hasher`, `hasher` | `examples::making`; `made` in scripts |
-//! | `capacity`, `reserve`, `shrink_to_fit` | `examples::inserting`; `tests/scripts/capacity_calls.txt`; `try_reserve` is what `reserve` does |
+//! | `new`, `with_capacity`, `vec_with_capacity` | `examples::making`; `made` in scripts |
+//! | `with_hasher`, `with_capacity_and_hasher`, `hasher` | `examples::{making, what_a_map_says_of_itself}`; `made` in scripts |
+//! | `capacity`, `reserve`, `shrink_to_fit` | `tests/scripts/capacity_calls.txt`; `try_reserve` is what `reserve` does |
 //! | `keys`, `values`, `values_mut`, `iter`, `iter_mut` | `going_over_three` |
 //! | `len`, `is_empty`, `drain`, `clear` | `counting_and_emptying` |
 //! | `retain` | `examples::keeping_some`; `retain` in scripts |
@@ -175,18 +176,20 @@ fn held_ponies(rt: HostRuntime) -> Result<(), Fail> {
     assert_true(!map.contains_key(PONIES), "gone again")
 }
 
+// The keys have an owner: a caller whose key type holds a reference gets no proof of `replace_entry_with`.
 #[test]
 fn a_lost_pair_is_gone(rt: HostRuntime) -> Result<(), Fail> {
-    let mut map = Ponies::new(rt.alloc());
-    map.insert(PONIES, 42)?;
-    if let Entry::Occupied(entry) = map.entry(PONIES)? {
+    let alloc = rt.alloc();
+    let mut map = HashMap::<String, u64, DefaultHashBuilder>::new(alloc);
+    map.insert(String::from_str(alloc, PONIES)?, 42)?;
+    if let Entry::Occupied(entry) = map.entry(String::from_str(alloc, PONIES)?)? {
         let left = entry.replace_entry_with(|_, value| value.checked_add(1));
-        assert_same(*left.key(), PONIES, "the key stays")?;
+        assert_same(left.key().as_str(), PONIES, "the key stays")?;
     }
     assert_same(map.get(PONIES).copied(), Some(43), "one more")?;
-    if let Entry::Occupied(entry) = map.entry(PONIES)? {
+    if let Entry::Occupied(entry) = map.entry(String::from_str(alloc, PONIES)?)? {
         let left = entry.replace_entry_with(|_, _| None);
-        assert_same(*left.key(), PONIES, "the entry has the key")?;
+        assert_same(left.key().as_str(), PONIES, "the entry has the key")?;
     }
     assert_true(!map.contains_key(PONIES), "it is gone")
 }

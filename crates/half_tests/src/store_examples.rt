@@ -1,11 +1,25 @@
 //! The examples of the documentation of `half_store`, word for word, each with what it comes to.
 
+ghost use Rattle.std.specs.Prelude.{◌≡◌, ◌∷◌, [], IfOk};
+
 use half_store::capacity::{buckets_for, capacity_for, capacity_of};
 use half_store::refusal::check_size;
 use half_store::{Probe, Refusal, Table, Tally, VecMap, counting};
+use std::alloc::Global;
 use std::hash::{BuildHasher, BuildHasherDefault, FoldHasher};
 use std::test::Fail;
 use test_support::asserts::{assert_same, assert_true};
+
+// A map in which 1 is 36 years old, and 2 is 41.
+fn two_ages(alloc: Global) -> Result<VecMap<u64, u32>, Refusal>
+    ensures pairs { IfOk result (λ ages. ages.pairs ≡ (1, 36) ∷ (2, 41) ∷ []) }
+    ensures capacity { IfOk result (λ ages. ages.capacity ≡ 2) }
+{
+    let mut ages: VecMap<u64, u32> = VecMap::with_capacity(alloc, 2)?;
+    ages.push(1, 36);
+    ages.push(2, 41);
+    Ok(ages)
+}
 
 #[test]
 fn columns(rt: HostRuntime) -> Result<(), Fail> {
@@ -29,6 +43,13 @@ fn columns(rt: HostRuntime) -> Result<(), Fail> {
     assert_same(*copy.value_at(1), 41, "the second value of the copy")?;
     let pair = ages.pair_at(1); // 2 and 41
     assert_true(*pair.0 == 2 && *pair.1 == 41, "the second pair")?;
+    Ok(())
+}
+
+#[test]
+fn columns_written(rt: HostRuntime) -> Result<(), Fail> {
+    let mut tally = Tally::new();
+    let mut ages = two_ages(rt.alloc())?;
     *ages.value_at_mut(1) = 42;
     let before = ages.replace_value(1, 43); // 42
     assert_same(before, 42, "the value before")?;
@@ -38,6 +59,12 @@ fn columns(rt: HostRuntime) -> Result<(), Fail> {
     assert_same(*ages.value_at(1), 44, "the value that was written")?;
     let before = ages.replace_key(1, 2); // 2
     assert_same(before, 2, "the key before")?;
+    Ok(())
+}
+
+#[test]
+fn columns_reordered(rt: HostRuntime) -> Result<(), Fail> {
+    let mut ages = two_ages(rt.alloc())?;
     let removed = ages.replace_with(0, |_, age| age.checked_sub(1)); // none, unless the age was 0
     assert_same(removed, None, "the age is one less")?;
     assert_same(*ages.value_at(0), 35, "one less")?;
@@ -47,6 +74,14 @@ fn columns(rt: HostRuntime) -> Result<(), Fail> {
     ages.reverse();
     let pair = ages.swap_remove(0); // 1 and 36; the pair of 2 has index 0 now
     assert_same(pair, (1, 36), "the first pair")?;
+    Ok(())
+}
+
+#[test]
+fn columns_grown_and_shrunk(rt: HostRuntime) -> Result<(), Fail> {
+    let mut ages = two_ages(rt.alloc())?;
+    ages.swap_remove(0);
+    ages.replace_value(0, 44);
     ages.grow(3, 32)?; // capacity 8: the least that a growth makes
     assert_same(ages.capacity(), 8, "grown")?;
     ages.reserve(10)?; // capacity 10
