@@ -244,7 +244,7 @@ impl Table {
     /// The buckets, as a probe reads them.
     ///
     /// ```
-    /// let buckets = table.hashed_buckets();
+    /// let buckets = table.hashed_buckets(); // four, and the hashes 7 and 11
     /// ```
     #[inline(always)]
     pub fn hashed_buckets(&self) -> HashedBuckets<'_>

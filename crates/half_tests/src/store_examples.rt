@@ -130,6 +130,8 @@ fn a_table(rt: HostRuntime) -> Result<(), Fail> {
     assert_same(count, 2, "the pairs")?;
     let is_empty = table.is_empty(); // false
     assert_true(!is_empty, "two pairs")?;
+    let buckets = table.hashed_buckets(); // four, and the hashes 7 and 11
+    assert_same(buckets.hashes.len(), 2, "a hash for each pair")?;
     let capacity = table.capacity(); // 3
     assert_same(capacity, 3, "the capacity")?;
     let found = table.find(11, &|_| true, &mut tally); // entry index 1

@@ -119,4 +119,3 @@ fn without<'a>(end: &[u8], text: &'a [u8]) -> &'a [u8]
         None => text,
     }
 }
-
