@@ -6,6 +6,7 @@
 An edit is named for its fault. It has lines `file: PATH`, `old: TEXT`, which stands once in that file, and `new: TEXT`; `#`
 begins a comment. The prover has to refuse it: contracts that let a fault through are too weak. Where no contract can, a line
 `found by: scripts/FILE` names the script of tests/scripts which shows the fault, and the comment says why no contract does.
+An edit with `also found by: scripts/FILE` is tried in both ways, which shows that scripts find what the prover refuses.
 
 The crates are proved first, where out/ does not have that yet. Then several checks run at a time, each in a copy of the
 repository with that out/, as many as there are processors and memory for. A check tries several edits, each of which changes
@@ -54,9 +55,17 @@ class Edit:
     def __init__(self, path):
         self.path, self.crate = path, path.parent.name
         self.name = f"{self.crate}/{path.stem}"
-        found_by = re.search(r"^found by: scripts/(\S+)$", path.read_text(), re.M)
-        # The script that finds it, where no contract can refuse it.
-        self.script = TOP / "tests/scripts" / found_by[1] if found_by else None
+        # The script by which it is tried, or none, where the prover has to refuse it.
+        self.script = None
+
+    def ways(self):
+        """The edit in each way in which it is tried."""
+        found_by = re.search(r"^(also )?found by: scripts/(\S+)$", self.path.read_text(), re.M)
+        if not found_by:
+            return [self]
+        played = Edit(self.path)
+        played.script = TOP / "tests/scripts" / found_by[2]
+        return [self, played] if found_by[1] else [played]
 
     def apply(self, texts, crate):
         """Puts the edit into these texts by their file, which are read where they are not there yet, and returns each changed
@@ -319,7 +328,8 @@ def prove(crate):
 
 
 def main(words):
-    found = [Edit(path) for crate in CRATES for path in sorted((TOP / "tests/edits" / crate).glob("*.edit"))]
+    paths = [path for crate in CRATES for path in sorted((TOP / "tests/edits" / crate).glob("*.edit"))]
+    found = [way for path in paths for way in Edit(path).ways()]
     others = {it for it in (TOP / "tests/edits").rglob("*") if it.is_file()} - {it.path for it in found}
     chosen = [it for it in found if not words or any(word in f"{it.crate}/{it.path.name}" for word in words)]
     refused = [it for it in chosen if not it.script]

@@ -33,6 +33,15 @@ def copy_sources(folder, crates):
                 shutil.copytree(TOP / "crates" / name / part, folder / "crates" / name / part)
 
 
+def leave_limits(folder, parts):
+    """Leaves of the limits of the program those alone that the script has: each takes seconds to compile."""
+    words = {"map": "plain", "owning": "owning"}
+    used = {(words[kind], limit) for kind, limit, *_ in (part.lines[0].split(" ") for part in parts) if kind in words}
+    file = folder / "crates" / PROGRAM / "src/script.rt"
+    arm = re.compile(r"^ +(\d+) => begin_(plain|owning)::<\1>\(rt, first, rest\),\n", re.M)
+    file.write_text(arm.sub(lambda it: it[0] if (it[2], it[1]) in used else "", file.read_text()))
+
+
 def plant(edit, folder):
     texts = {}
     edit.apply(texts, folder / "crates" / edit.crate)
@@ -63,9 +72,10 @@ def attempt(edit):
     """Returns whether the script of this edit finds it, and what it shows."""
     with tempfile.TemporaryDirectory(prefix="planted-") as folder:
         folder = pathlib.Path(folder)
-        copy_sources(folder, crates_of(PROGRAM))
-        plant(edit, folder)
         parts = scripts.parts_of(edit.script)
+        copy_sources(folder, crates_of(PROGRAM))
+        leave_limits(folder, parts)
+        plant(edit, folder)
         for part, (printed, ended) in zip(parts, play(folder, [part.lines for part in parts])):
             faults = part.faults(printed)
             if faults:
