@@ -1,5 +1,5 @@
 //! Lines in, answers out.
-ghost use Rattle.std.specs.Prelude.{OnOk, IfOk};
+ghost use Rattle.std.specs.Prelude.{[], Some, OnOk, IfOk};
 ghost use Rattle.std.specs.Io.Buffered.{reader_remaining as unread, reader_buffer, writer_contents as written, writer_buffer};
 ghost use Rattle.std.specs.Io.KnownBytes.{Keeps};
 ghost use Rattle.halfmap.specs.Answer.{AnswersLine};
@@ -44,6 +44,14 @@ pub fn serve<R: Read + Drop, W: Write + Drop>(
         Ok(writer) => Ok(writer),
         Err(_) => Err(Stopped),
     }
+}
+
+/// Answers the lines of a text in memory. What is read and written is known there, so the contract says all of it.
+pub fn serve_text(alloc: Global, text: &[u8]) -> Result<Vec<u8>, Stopped>
+    ensures { IfOk result (λ answers.
+        ServesFromEmpty HashBuilder (Some text.now) (Some []) (Some answers.items)) }
+{
+    serve(alloc, text, Vec::new(alloc))
 }
 
 // Answers each line of the reader by the map, until the input ends.
