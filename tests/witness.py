@@ -5,9 +5,11 @@
 
 The scripts are made by tests/witness_scripts.py, in the language of docs/WITNESS.md. All requests of `refused` calls
 are refused, by tests/allocator.c. Where a script differs, lines are taken out as long as it still differs, and the
-shortest one is printed with both answers. The last line is "N passed, M failed".
+shortest one is printed with both answers. The scripts together have to meet what is rare as often as REACHED says. The
+last line is "N passed, M failed".
 """
 
+import collections
 import functools
 import os
 import random
@@ -23,6 +25,9 @@ from witness_scripts import make_script
 
 # A script that differs is tried in so many shorter forms at most.
 MOST_TRIES = 3000
+# How often a script meets each of these at least, on average: a vector becomes a table, and a table a vector; a call is refused
+# memory; the whole state is compared.
+REACHED = {"switches": 5, "returns": 2, "refusals": 2, "whole states": 5}
 # So many scripts that differ are made short and printed.
 MOST_SHOWN = 3
 
@@ -73,17 +78,34 @@ def script_of(seed, index):
     return make_script(random.Random(f"{seed} {index}"), may_refuse=True)
 
 
+def reached(lines, wanted):
+    """How often the lines meet each of REACHED."""
+    met, form = collections.Counter(lines=len(lines)), None
+    for line, answer in zip(lines, wanted):
+        answer, *fields = answer.split(" | ")
+        before, form = form, fields[1].split(" ")[0] if fields else None
+        word = line.split(" ")[0]
+        if word not in ("swap", "drop", "into_iter", "walk"):
+            met["switches"] += (before, form) == ("vec", "map")
+            met["returns"] += (before, form) == ("map", "vec")
+        met["refusals"] += word == "refused" and "refused" in answer
+        met["whole states"] += word == "pairs"
+    return met
+
+
 def try_script(seed, player, index):
-    """Whether a script differs, and how many lines it has."""
+    """Whether a script differs, and what it meets."""
     lines = script_of(seed, index)
-    return differs(lines, player), len(lines)
+    wanted = answers(lines)
+    return difference(player(lines), wanted) is not None, reached(lines, wanted)
 
 
 def try_scripts(count, seed, player):
-    """Plays the scripts side by side. Returns how many lines they have, and which differ."""
+    """Plays the scripts side by side. Returns what they meet, and which differ."""
     with ProcessPoolExecutor(os.cpu_count()) as pool:
         tried = list(pool.map(functools.partial(try_script, seed, player), range(count), chunksize=4))
-    return sum(calls for _, calls in tried), [index for index, (is_other, _) in enumerate(tried) if is_other]
+    met = sum((it for _, it in tried), collections.Counter())
+    return met, [index for index, (is_other, _) in enumerate(tried) if is_other]
 
 
 def main():
@@ -95,15 +117,18 @@ def main():
     began = time.monotonic()
     with tempfile.TemporaryDirectory() as folder:
         player = functools.partial(play, library=compile_allocator(folder))
-        calls, failed = try_scripts(count, seed, player)
-        print(f"{calls} lines in {time.monotonic() - began:.1f} s")
+        met, failed = try_scripts(count, seed, player)
+        print(f"{', '.join(f'{met[it]} {it}' for it in ('lines', *REACHED))} in {time.monotonic() - began:.1f} s")
+        missed = [it for it, least in REACHED.items() if met[it] < least * count]
+        if missed:
+            print(f"too few: {', '.join(missed)}")
         for index in failed:
             print(f"script {index} of seed {seed} differs")
         for index in failed[:MOST_SHOWN]:
             print(f"script {index} of seed {seed}, made short:")
             lines = shortest(script_of(seed, index), player)
             report(lines, player(lines), answers(lines))
-    return count - len(failed), len(failed)
+    return count - len(failed) + (not missed), len(failed) + bool(missed)
 
 
 if __name__ == "__main__":
