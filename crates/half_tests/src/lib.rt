@@ -28,6 +28,8 @@ mod iter_examples;
 pub mod raw_callers;
 #[cfg(test)]
 mod raw_examples;
+#[cfg(test)]
+mod refused_clones;
 pub mod retain_callers;
 #[cfg(test)]
 mod rust_tests;
