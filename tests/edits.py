@@ -92,14 +92,21 @@ class Edit:
         texts.update(changed)
         return places
 
-    def functions(self, crate, names):
-        """Returns the functions that it changes, whose names are among these, or none where it changes something else too."""
+    def functions(self, crate, names, all_places=True):
+        """Returns the functions that it changes, whose names are among these. Where it changes something else too, as the header
+        of an impl, there is none, or, where not all places matter, there are those that it does change."""
         try:
-            texts = {}
+            texts, found = {}, []
             places = self.apply(texts, crate)
-            return [Function(file, texts[file].split("\n"), at, names) for file, at in places]
         except ValueError:
             return []
+        for file, at in places:
+            try:
+                found.append(Function(file, texts[file].split("\n"), at, names))
+            except ValueError:
+                if all_places:
+                    return []
+        return found
 
 
 class Function:
@@ -222,7 +229,8 @@ class Lane(threading.Thread):
     def attempt(self, edits):
         """Returns whether each of these edits of one crate passes, and why; or None for one that has to be tried alone."""
         crate, texts = self.folder / "crates" / edits[0].crate, {}
-        functions = [edit.functions(crate, self.names[edit.crate]) for edit in edits]
+        # What an edit that is tried alone changes beside functions shows in them too, or in the whole crate.
+        functions = [edit.functions(crate, self.names[edit.crate], len(edits) > 1) for edit in edits]
         for edit in edits:
             edit.apply(texts, crate)
         before = {it: it.read_text() for it in texts}
