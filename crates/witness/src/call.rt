@@ -283,10 +283,13 @@ impl Call {
 impl Maker {
     /// The maker that a word writes.
     pub(crate) fn of_word(word: &str) -> Option<Maker> {
-        let Some((name, capacity)) = word.split_once(":") else {
-            return Maker::without_capacity(word);
-        };
-        let capacity = count(capacity)?;
+        match word.split_once(":") {
+            Some((name, capacity)) => Maker::with_capacity(name, count(capacity)?),
+            None => Maker::without_capacity(word),
+        }
+    }
+
+    fn with_capacity(name: &str, capacity: usize) -> Option<Maker> {
         Some(match name {
             "with_capacity" => Maker::WithCapacity(capacity),
             "with_capacity_and_hasher" => Maker::WithCapacityAndHasher(capacity),

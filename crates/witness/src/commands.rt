@@ -27,15 +27,33 @@ pub(crate) fn parse_commands(
 }
 
 fn first_command(words: &[&str]) -> Option<Command<Name, u64>> {
-    Some(match words {
-        ["clear", ..] => Command::Clear,
-        ["shrink", ..] => Command::Shrink,
-        ["is_vec", ..] => Command::IsVec,
-        ["len", ..] => Command::Len,
-        ["reserve", more, ..] => Command::Reserve(count(more)?),
-        ["get", key, ..] => Command::Get(key_name(key)?),
-        ["remove", key, ..] => Command::Remove(key_name(key)?),
-        [call, key, value, ..] => with_pair(call, key_name(key)?, number(value)?)?,
+    let (call, operands) = words.split_first()?;
+    if let Some(command) = alone(call) {
+        return Some(command);
+    }
+    let (first, rest) = operands.split_first()?;
+    if let Some(command) = with_operand(call, first) {
+        return Some(command);
+    }
+    let value = rest.first()?;
+    with_pair(call, key_name(first)?, number(value)?)
+}
+
+fn alone(call: &str) -> Option<Command<Name, u64>> {
+    Some(match call {
+        "clear" => Command::Clear,
+        "shrink" => Command::Shrink,
+        "is_vec" => Command::IsVec,
+        "len" => Command::Len,
+        _ => return None,
+    })
+}
+
+fn with_operand(call: &str, operand: &str) -> Option<Command<Name, u64>> {
+    Some(match call {
+        "reserve" => Command::Reserve(count(operand)?),
+        "get" => Command::Get(key_name(operand)?),
+        "remove" => Command::Remove(key_name(operand)?),
         _ => return None,
     })
 }

@@ -19,6 +19,7 @@ pub(crate) fn of_entry(key: Name, words: &[&str]) -> Option<Keyed> {
         ["lose"] => OfEntry::Lose,
         ["handed"] => OfEntry::Handed,
         ["into_key"] => OfEntry::IntoKey,
+        ["debug"] => return Some(Keyed::EntryDebug(key)),
         _ => return None,
     };
     Some(Keyed::Entry(key, call))
@@ -38,23 +39,43 @@ fn of_entry_with(words: &[&str]) -> Option<(OfEntryWith, u64)> {
 
 /// Reads a call of the raw entry of this key.
 pub(crate) fn of_raw(key: Name, words: &[&str]) -> Option<Keyed> {
-    let call = match words {
-        ["handed"] => OfRaw::Handed,
-        ["and_modify", more] => OfRaw::AndModify(number(more)?),
-        ["read"] => OfRaw::Found(OfFound::Read),
-        ["get_mut", more] => OfRaw::Found(OfFound::GetMut(number(more)?)),
-        ["value_mut", more] => OfRaw::Found(OfFound::ValueMut(number(more)?)),
-        ["key_mut"] => OfRaw::Found(OfFound::KeyMut),
-        ["insert_key"] => OfRaw::Found(OfFound::InsertKey),
-        ["into_mut", more] => OfRaw::Lend(Lent::IntoMut(number(more)?)),
-        ["into_key_value", more] => OfRaw::Lend(Lent::IntoKeyValue(number(more)?)),
-        ["into_key"] => OfRaw::Lend(Lent::IntoKey),
-        ["remove"] => OfRaw::Remove,
-        ["remove_entry"] => OfRaw::RemoveEntry,
-        [call, value] => return Some(Keyed::RawWith(key, number(value)?, of_raw_with(call)?)),
+    match words {
+        ["debug"] => Some(Keyed::RawDebug(key)),
+        [call] => Some(Keyed::Raw(key, of_raw_alone(call)?)),
+        [call, operand] => {
+            let number = number(operand)?;
+            match of_raw_more(call, number) {
+                Some(call) => Some(Keyed::Raw(key, call)),
+                None => Some(Keyed::RawWith(key, number, of_raw_with(call)?)),
+            }
+        }
+        _ => None,
+    }
+}
+
+fn of_raw_alone(call: &str) -> Option<OfRaw> {
+    Some(match call {
+        "handed" => OfRaw::Handed,
+        "read" => OfRaw::Found(OfFound::Read),
+        "key_mut" => OfRaw::Found(OfFound::KeyMut),
+        "insert_key" => OfRaw::Found(OfFound::InsertKey),
+        "into_key" => OfRaw::Lend(Lent::IntoKey),
+        "remove" => OfRaw::Remove,
+        "remove_entry" => OfRaw::RemoveEntry,
         _ => return None,
-    };
-    Some(Keyed::Raw(key, call))
+    })
+}
+
+// The calls that add a number to the value.
+fn of_raw_more(call: &str, more: u64) -> Option<OfRaw> {
+    Some(match call {
+        "and_modify" => OfRaw::AndModify(more),
+        "get_mut" => OfRaw::Found(OfFound::GetMut(more)),
+        "value_mut" => OfRaw::Found(OfFound::ValueMut(more)),
+        "into_mut" => OfRaw::Lend(Lent::IntoMut(more)),
+        "into_key_value" => OfRaw::Lend(Lent::IntoKeyValue(more)),
+        _ => return None,
+    })
 }
 
 fn of_raw_with(call: &str) -> Option<OfRawWith> {

@@ -38,23 +38,38 @@ fn after_word<'a>(line: &'a str, word: &str) -> (bool, &'a str) {
 fn parse_call(alloc: Global, line: &str) -> Result<Option<Call>, AllocError> {
     let words: Vec<&str> = line.split(" ").collect(alloc)?;
     match words.as_slice() {
-        ["extend", rest @ ..] => with_items(alloc, Items::Extend, rest),
-        ["from_iter", rest @ ..] => with_items(alloc, Items::FromIter, rest),
-        ["from_array", rest @ ..] => with_items(alloc, Items::FromArray, rest),
-        ["hashmap", rest @ ..] => with_items(alloc, Items::Hashmap, rest),
-        ["collect", rest @ ..] => with_items(alloc, Items::Collect, rest),
-        ["from_iter_hint", low, rest @ ..] => match count(low) {
-            Some(low) => with_items(alloc, Items::FromIterHint(low), rest),
-            None => Ok(None),
-        },
-        ["made", maker, rest @ ..] => match Maker::of_word(maker) {
-            Some(maker) => with_items(alloc, Items::Made(maker), rest),
-            None => Ok(None),
-        },
         ["walk", rest @ ..] => of_walk(alloc, rest),
         ["run", rest @ ..] => of_run(alloc, rest),
-        words => Ok(of_words(words)),
+        [call, rest @ ..] => match first_of_items(call, rest) {
+            Some((call, items)) => with_items(alloc, call, items),
+            None => Ok(of_words(call, rest)),
+        },
+        [] => Ok(None),
     }
+}
+
+// A call with a list of pairs, and the words of the list.
+fn first_of_items<'a, 'b>(call: &str, words: &'a [&'b str]) -> Option<(Items, &'a [&'b str])> {
+    let items = match call {
+        "extend" => Items::Extend,
+        "from_iter" => Items::FromIter,
+        "from_array" => Items::FromArray,
+        "hashmap" => Items::Hashmap,
+        "collect" => Items::Collect,
+        _ => return first_with_operand(call, words),
+    };
+    Some((items, words))
+}
+
+// The same where a word stands before the list.
+fn first_with_operand<'a, 'b>(call: &str, words: &'a [&'b str]) -> Option<(Items, &'a [&'b str])> {
+    let (operand, rest) = words.split_first()?;
+    let items = match call {
+        "from_iter_hint" => Items::FromIterHint(count(operand)?),
+        "made" => Items::Made(Maker::of_word(operand)?),
+        _ => return None,
+    };
+    Some((items, rest))
 }
 
 fn of_walk(alloc: Global, words: &[&str]) -> Result<Option<Call>, AllocError> {
@@ -88,57 +103,98 @@ fn with_items(alloc: Global, call: Items, words: &[&str]) -> Result<Option<Call>
     Ok(Some(Call::Items(call, items)))
 }
 
-fn of_words(words: &[&str]) -> Option<Call> {
-    if let Some(call) = of_whole(words) {
-        return Some(Call::Whole(call));
+fn of_words(call: &str, rest: &[&str]) -> Option<Call> {
+    if let Some(whole) = of_whole(call, rest) {
+        return Some(Call::Whole(whole));
     }
-    if let Some(call) = parse_shown(words) {
-        return Some(Call::Inspection(Inspection::Shown(call)));
+    if let Some(inspection) = of_inspection(call, rest) {
+        return Some(Call::Inspection(inspection));
     }
-    if let Some(call) = parse_same(words) {
-        return Some(Call::Inspection(Inspection::Same(call)));
-    }
-    Some(Call::Keyed(match words {
-        ["pairs"] => return Some(Call::Inspection(Inspection::Pairs)),
-        ["error", "insert", key, value] => Keyed::InsertError(key_name(key)?, number(value)?),
-        ["error", "entry", key] => Keyed::EntryError(key_name(key)?),
-        ["entry", key, "or_default"] => {
-            return Some(Call::Plain(PlainCall::OrDefault(key_name(key)?)));
+    match rest {
+        [key, "or_default"] if call == "entry" => {
+            Some(Call::Plain(PlainCall::OrDefault(key_name(key)?)))
         }
-        ["entry", key, "debug"] => Keyed::EntryDebug(key_name(key)?),
-        ["raw", key, "debug"] => Keyed::RawDebug(key_name(key)?),
-        ["entry", key, action @ ..] => of_entry(key_name(key)?, action)?,
-        ["raw", key, action @ ..] => of_raw(key_name(key)?, action)?,
-        [call, rest @ ..] => of_key(call, rest)?,
-        _ => return None,
-    }))
+        rest => Some(Call::Keyed(of_keyed(call, rest)?)),
+    }
 }
 
-fn of_whole(words: &[&str]) -> Option<Whole> {
-    Some(match words {
-        ["clear"] => Whole::Clear,
-        ["reserve", more] => Whole::Reserve(count(more)?),
-        ["shrink_to_fit"] => Whole::ShrinkToFit,
-        ["state"] => Whole::State,
-        ["iter"] => Whole::Iter,
-        ["keys"] => Whole::Keys,
-        ["values"] => Whole::Values,
-        ["iter_mut", more] => Whole::IterMut(number(more)?),
-        ["values_mut", more] => Whole::ValuesMut(number(more)?),
-        ["values_slice_mut", more] => Whole::ValuesSliceMut(number(more)?),
-        ["into_iter"] => Whole::IntoIter,
-        ["drain", taken] => Whole::Drain(count(taken)?),
-        ["retain", divisor, more] => Whole::Retain(number(divisor)?, number(more)?),
-        ["drop"] => Whole::Drop,
-        ["clone"] => Whole::Clone,
-        ["swap"] => Whole::Swap,
-        ["same"] => Whole::Same,
-        ["eq"] => Whole::Eq,
-        ["debug"] => Whole::Debug,
-        ["raw_entry_debug"] => Whole::RawEntryDebug,
-        ["raw_entry_mut"] => Whole::RawEntryMut,
-        ["raw_entry_mut_debug"] => Whole::RawEntryMutDebug,
-        ["make", capacity] => Whole::Make(count(capacity)?),
+fn of_inspection(call: &str, rest: &[&str]) -> Option<Inspection> {
+    if let Some(shown) = parse_shown(call, rest) {
+        return Some(Inspection::Shown(shown));
+    }
+    if let Some(same) = parse_same(call, rest) {
+        return Some(Inspection::Same(same));
+    }
+    match (call, rest) {
+        ("pairs", []) => Some(Inspection::Pairs),
+        _ => None,
+    }
+}
+
+fn of_keyed(call: &str, rest: &[&str]) -> Option<Keyed> {
+    match call {
+        "error" => of_error(rest),
+        "entry" => {
+            let (key, action) = rest.split_first()?;
+            of_entry(key_name(key)?, action)
+        }
+        "raw" => {
+            let (key, action) = rest.split_first()?;
+            of_raw(key_name(key)?, action)
+        }
+        call => of_key(call, rest),
+    }
+}
+
+fn of_error(words: &[&str]) -> Option<Keyed> {
+    match words {
+        ["insert", key, value] => Some(Keyed::InsertError(key_name(key)?, number(value)?)),
+        ["entry", key] => Some(Keyed::EntryError(key_name(key)?)),
+        _ => None,
+    }
+}
+
+fn of_whole(call: &str, rest: &[&str]) -> Option<Whole> {
+    match rest {
+        [] => of_one_word(call),
+        [operand] => of_operand(call, operand),
+        [divisor, more] if call == "retain" => {
+            Some(Whole::Retain(number(divisor)?, number(more)?))
+        }
+        _ => None,
+    }
+}
+
+fn of_one_word(call: &str) -> Option<Whole> {
+    Some(match call {
+        "clear" => Whole::Clear,
+        "shrink_to_fit" => Whole::ShrinkToFit,
+        "state" => Whole::State,
+        "iter" => Whole::Iter,
+        "keys" => Whole::Keys,
+        "values" => Whole::Values,
+        "into_iter" => Whole::IntoIter,
+        "drop" => Whole::Drop,
+        "clone" => Whole::Clone,
+        "swap" => Whole::Swap,
+        "same" => Whole::Same,
+        "eq" => Whole::Eq,
+        "debug" => Whole::Debug,
+        "raw_entry_debug" => Whole::RawEntryDebug,
+        "raw_entry_mut" => Whole::RawEntryMut,
+        "raw_entry_mut_debug" => Whole::RawEntryMutDebug,
+        _ => return None,
+    })
+}
+
+fn of_operand(call: &str, operand: &str) -> Option<Whole> {
+    Some(match call {
+        "reserve" => Whole::Reserve(count(operand)?),
+        "iter_mut" => Whole::IterMut(number(operand)?),
+        "values_mut" => Whole::ValuesMut(number(operand)?),
+        "values_slice_mut" => Whole::ValuesSliceMut(number(operand)?),
+        "drain" => Whole::Drain(count(operand)?),
+        "make" => Whole::Make(count(operand)?),
         _ => return None,
     })
 }

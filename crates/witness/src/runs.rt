@@ -49,7 +49,7 @@ fn perform_run<'a, const N: usize>(
     };
     print!(rt; "[")?;
     let mut is_first = true;
-    for reply in replies {
+    for reply in replies.as_slice() {
         if !std::mem::replace(&mut is_first, false) {
             print!(rt; "; ")?;
         }
@@ -88,7 +88,7 @@ fn with_key<'a, const N: usize>(
     }
 }
 
-fn print_reply<K: Named + Drop>(rt: &impl Print, reply: Reply<K, u64>) -> io::Result<()> {
+fn print_reply<K: Named>(rt: &impl Print, reply: &Reply<K, u64>) -> io::Result<()> {
     match reply {
         Reply::Was(Some(old)) => print!(rt; "was {old}"),
         Reply::Was(None) => print!(rt; "was none"),
@@ -103,14 +103,14 @@ fn print_reply<K: Named + Drop>(rt: &impl Print, reply: Reply<K, u64>) -> io::Re
         Reply::Form(is_vec) => print!(rt; "form {is_vec}"),
         Reply::Length(len) => print!(rt; "length {len}"),
         Reply::Refused(command, why) => {
-            print!(rt; "refused {} ", reason(why))?;
+            print!(rt; "refused {} ", reason(*why))?;
             print_command(rt, command)
         }
     }
 }
 
 // A command as it is written.
-fn print_command<K: Named + Drop>(rt: &impl Print, command: Command<K, u64>) -> io::Result<()> {
+fn print_command<K: Named>(rt: &impl Print, command: &Command<K, u64>) -> io::Result<()> {
     match command {
         Command::Insert(key, value) => print!(rt; "insert {} {value}", key.name()),
         Command::InsertNew(key, value) => print!(rt; "insert_new {} {value}", key.name()),

@@ -1,15 +1,17 @@
 //! A script: the line that makes the maps, and the calls after it.
 
 use crate::answer::reason;
-use crate::call::{Call, Line};
+use crate::call::{Call, Line, Manner};
 use crate::counts::Counts;
 use crate::first::{First, parse_first};
+use crate::kinds::OfNumber;
 use crate::lines::parse;
 use crate::maps::{Counted, Maps};
 use crate::values::Owned;
 use crate::{inspect, keyed, made, pairs, runs};
 use halfbrown::{Refusal, SizedHashMap};
 use std::alloc::{AllocError, Global};
+use std::fmt::Debug;
 use std::io;
 
 /// Plays the script, and prints a line for each of its lines.
@@ -145,16 +147,14 @@ fn answer_plain<const N: usize>(
     let Some(Line { call, manner }) = parse(maps.alloc, text)? else {
         return print_bad(rt);
     };
-    let hands_in_a_closure = call.hands_in_a_closure();
-    maps.counts.begin();
     match call {
-        Call::Keyed(call) => keyed::perform(rt, maps, call, manner)?,
-        Call::Whole(call) => pairs::perform(rt, maps, call, manner)?,
-        Call::Items(call, names) => made::perform(rt, maps, call, names.as_slice(), manner)?,
-        Call::Inspection(call) => inspect::perform(rt, maps, call, manner)?,
-        Call::Plain(call) => runs::perform(rt, maps, call, manner)?,
+        Call::Plain(call) => {
+            maps.counts.begin();
+            runs::perform(rt, maps, call, manner)?;
+            print_end(rt, maps, false)
+        }
+        call => answer(rt, maps, call, manner),
     }
-    print_end(rt, maps, hands_in_a_closure)
 }
 
 // Answers a line where values count their drops.
@@ -166,6 +166,16 @@ fn answer_owning<'a, const N: usize>(
     let Some(Line { call, manner }) = parse(maps.alloc, text)? else {
         return print_bad(rt);
     };
+    answer(rt, maps, call, manner)
+}
+
+// Makes a call that takes values of any type, and prints the answer.
+fn answer<'a, V: OfNumber<'a> + Clone + PartialEq + Debug + Drop, const N: usize>(
+    rt: &impl Print,
+    maps: &mut Maps<'a, V, N>,
+    call: Call,
+    manner: Manner,
+) -> io::Result<()> {
     let hands_in_a_closure = call.hands_in_a_closure();
     maps.counts.begin();
     match call {

@@ -17,12 +17,12 @@ pub(crate) enum Shown {
 }
 
 /// Reads what is printed.
-pub(crate) fn parse_shown(words: &[&str]) -> Option<Shown> {
-    Some(match words {
-        ["debug_pretty"] => Shown::DebugPretty,
-        ["debug_iter"] => Shown::DebugIter,
-        ["debug_iter_pretty"] => Shown::DebugIterPretty,
-        ["error", "reserve", more] => Shown::ReserveError(count(more)?),
+pub(crate) fn parse_shown(call: &str, words: &[&str]) -> Option<Shown> {
+    Some(match (call, words) {
+        ("debug_pretty", []) => Shown::DebugPretty,
+        ("debug_iter", []) => Shown::DebugIter,
+        ("debug_iter_pretty", []) => Shown::DebugIterPretty,
+        ("error", ["reserve", more]) => Shown::ReserveError(count(more)?),
         _ => return None,
     })
 }

@@ -29,13 +29,16 @@ enum OtherLimit {
 }
 
 /// Reads a comparison.
-pub(crate) fn parse_same(words: &[&str]) -> Option<Same> {
-    let (is_from, limit, rule) = match words {
-        ["same_as", limit, rule] => (false, *limit, *rule),
-        ["same_from", limit, rule] => (true, *limit, *rule),
+pub(crate) fn parse_same(call: &str, words: &[&str]) -> Option<Same> {
+    let is_from = match call {
+        "same_as" => false,
+        "same_from" => true,
         _ => return None,
     };
-    let limit = match limit {
+    let [limit, rule] = words else {
+        return None;
+    };
+    let limit = match *limit {
         "0" => OtherLimit::Zero,
         "5" => OtherLimit::Five,
         "18446744073709551615" => OtherLimit::Most,
