@@ -39,6 +39,12 @@ module _ {K V : Type 0} where
   key_of-pair (p ∷ ps) zero = refl
   key_of-pair (p ∷ ps) (suc i) = key_of-pair ps i
 
+  -- the value of a pair
+  pub value_of-pair : (ps : List (K × V)) (i : ℕ) → slice_get (values_of ps) i ≡ option_map (λ (p : K × V). p.1) (slice_get ps i)
+  value_of-pair [] i = refl
+  value_of-pair (p ∷ ps) zero = refl
+  value_of-pair (p ∷ ps) (suc i) = value_of-pair ps i
+
   pub value-last : (ps : List (K × V)) (k : K) (v : V) → slice_get (values_of (ps ++ (k, v) ∷ [])) (length ps) ≡ Some v
   value-last [] k v = refl
   value-last (p ∷ ps) k v = value-last ps k v

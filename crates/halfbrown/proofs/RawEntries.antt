@@ -1,9 +1,11 @@
 -- What a raw entry is once its pair is written, added or given another key.
 use Rattle.std.proofs.Common.{◌≡◌, ℕ, zero, suc, ◌<◌, List, [], ◌∷◌, ◌++◌, length, slice_get, None, Some, unwrap_or, refl, sym, ap, subst, ◌∙◌, arith}
 use Rattle.std.proofs.lemmas.Map.Entries.{length-keys_of, length-values_of}
+use Rattle.std.proofs.lemmas.Option.{same_Some}
 use Rattle.std.specs.Borrow.{MutBor}
 use Rattle.std.specs.Coded.{le_prop}
 use Rattle.std.specs.Map.{keys_of, values_of}
+use Rattle.std.specs.Option.{option_map}
 use Rattle.std.specs.declared.cmp.PartialEq as eq
 use Rattle.std.specs.declared.hash.Hash as hash
 use Rattle.std.specs.declared.hash.Hasher as hasher
@@ -17,11 +19,18 @@ use Rattle.halfbrown.specs.Entry as entries
 use Rattle.halfbrown.specs.RawEntry.{Occupied, Vacant, entry_key, entry_value, map_of, with_value, pairs_with, pairs_with_key, IsWritten, HasNewKey, PutsPair}
 use Rattle.halfbrown.specs.RawEntryLending.{with_entry_value}
 use Rattle.halfbrown.specs.State.{State, with_pairs, WithPairs}
-use Rattle.halfbrown.proofs.Entries.{set_value-last, value-last}
+use Rattle.halfbrown.proofs.Entries.{key_of-pair, value_of-pair, set_value-last, value-last}
 use Rattle.halfbrown.proofs.EntryReplacements.{swap_out-last}
 use Rattle.halfbrown.proofs.Kept.{keys_of-set_value, length-set_value}
 use Rattle.halfbrown.proofs.Rekeyed.{length-set_key, values_of-set_key, key-set_key, swap_out-set_key}
 use Rattle.halfbrown.proofs.Written.{set_value-twice, value-set_value, swap_out-set_value}
+
+-- the key and the value of a pair that is lent are those of its entry
+pub lent_key : {K V : Type 0} (ps : List (K × V)) (i : ℕ) (k key : K) (v : V) → slice_get ps i ≡ Some (k, v) → slice_get (keys_of ps) i ≡ Some key → k ≡ key
+lent_key ps i k key v at is = same_Some k key (sym (ap (option_map (λ (p : _ × _). p.0)) at) ∙ sym (key_of-pair ps i) ∙ is)
+
+pub lent_value : {K V : Type 0} (ps : List (K × V)) (i : ℕ) (k : K) (v value : V) → slice_get ps i ≡ Some (k, v) → slice_get (values_of ps) i ≡ Some value → v ≡ value
+lent_value ps i k v value at is = same_Some v value (sym (ap (option_map (λ (p : _ × _). p.1)) at) ∙ sym (value_of-pair ps i) ∙ is)
 
 -- an element within is there
 some_at : {X : Type 0} (xs : List X) (i : ℕ) (d : X) → i < length xs → slice_get xs i ≡ Some (unwrap_or (slice_get xs i) d)

@@ -1,0 +1,19 @@
+use Rattle.halfbrown.proofs.run.step.Goals as goal
+
+pub returns-in-InsertNew-clause-step : goal.returns-in-InsertNew-clause-step
+returns-in-InsertNew-clause-step g c = rw c.in-InsertNew.is c.insert_new.ensures.step
+
+pub returns-in-InsertNew-clause-cost : goal.returns-in-InsertNew-clause-cost
+returns-in-InsertNew-clause-cost g c = rw c.in-InsertNew.is c.insert_new.ensures.cost
+
+pub returns-in-EntryOrInsert-clause-step : goal.returns-in-EntryOrInsert-clause-step
+returns-in-EntryOrInsert-clause-step g c = rw c.in-EntryOrInsert.is c.entry_or_insert.ensures.step
+
+pub returns-in-EntryOrInsert-clause-cost : goal.returns-in-EntryOrInsert-clause-cost
+returns-in-EntryOrInsert-clause-cost g c = rw c.in-EntryOrInsert.is c.entry_or_insert.ensures.cost
+
+pub returns-in-RawOrInsert-clause-step : goal.returns-in-RawOrInsert-clause-step
+returns-in-RawOrInsert-clause-step g c = rw c.in-RawOrInsert.is c.raw_or_insert.ensures.step
+
+pub returns-in-RawOrInsert-clause-cost : goal.returns-in-RawOrInsert-clause-cost
+returns-in-RawOrInsert-clause-cost g c = rw c.in-RawOrInsert.is c.raw_or_insert.ensures.cost
