@@ -2,6 +2,7 @@
 """Tries the edits of tests/edits/NAME: small changes of the code of the crate NAME, each of which puts one fault in.
 
     tests/edits.py [WORD..]    tries all of them, or those whose NAME/FILE has one of the words
+    tests/edits.py --turn      tries those of what has changed since all were last tried, and a third of the others by turns
 
 An edit is named for its fault. It has lines `file: PATH`, `old: TEXT`, which stands once in that file, and `new: TEXT`; `#`
 begins a comment. The prover has to refuse it: contracts that let a fault through are too weak. Where no contract can, a line
@@ -33,6 +34,7 @@ import threading
 import time
 
 import planted
+import turns
 
 TOP = pathlib.Path(__file__).resolve().parent.parent
 # The crates, each after those that it stands on.
@@ -338,8 +340,12 @@ def prove(crate):
 def main(words):
     paths = [path for crate in CRATES for path in sorted((TOP / "tests/edits" / crate).glob("*.edit"))]
     found = [way for path in paths for way in Edit(path).ways()]
-    others = {it for it in (TOP / "tests/edits").rglob("*") if it.is_file()} - {it.path for it in found}
-    chosen = [it for it in found if not words or any(word in f"{it.crate}/{it.path.name}" for word in words)]
+    others = {it for it in (TOP / "tests/edits").rglob("*") if it.is_file()} - {it.path for it in found} - {turns.TRIED}
+    if words == ["--turn"]:
+        chosen, why = turns.this_turn(found)
+        print(why, flush=True)
+    else:
+        chosen = [it for it in found if not words or any(word in f"{it.crate}/{it.path.name}" for word in words)]
     refused = [it for it in chosen if not it.script]
     # Those above stand on those below.
     names = {crate: prove(crate) for crate in CRATES if any(it.crate == crate for it in refused)}
@@ -369,6 +375,8 @@ def main(words):
     failed = len(chosen) - answers.passed + len(others)
     print(f"{len(chosen)} edits, {len(lanes)} checks at a time: {(time.monotonic() - began) / 60:.1f} minutes")
     print(f"{answers.passed} passed, {failed} failed")
+    if not words and not failed:
+        turns.note_all_tried()
     return 1 if failed or not chosen else 0
 
 
