@@ -16,6 +16,7 @@ pub mod Restored
 pub mod RetainLemmas
 pub mod SlotsLemmas
 pub mod StepLemmas
+pub mod Stores
 pub mod TableLaws
 pub mod TableLemmas
 pub mod WorkLemmas

@@ -6,6 +6,7 @@ use Rattle.std.specs.List.{swap, zip}
 use Rattle.std.specs.Map.Calls.{CallableOnEachPair, RetainsPairs}
 use Rattle.half_store.specs.Pairs.{set_value}
 use Rattle.half_store.proofs.Zip.{get_or_within, get_or-zip, zip-set}
+use Rattle.half_store.proofs.Stores.{length-set_value}
 
 module _ {X : Type 0} where
   pub drop-begins : (xs : List X) (i : ℕ) (x : X) → i < length xs → x ≡ get_or xs i x → drop i xs ≡ x ∷ drop (i + 1) xs
@@ -75,11 +76,6 @@ module _ {K V : Type 0} where
   get_or-set_value [] i p v within read = absurd (omega arith)
   get_or-set_value (q ∷ ps) zero p v within read = λ j. ((read j).0, v)
   get_or-set_value (q ∷ ps) (suc i) p v within read = get_or-set_value ps i p v (omega arith) read
-
-  length-set_value : (ps : List (K × V)) (i : ℕ) (v : V) → length (set_value ps i v) ≡ length ps
-  length-set_value [] i v = refl
-  length-set_value (p ∷ ps) zero v = refl
-  length-set_value (p ∷ ps) (suc i) v = ap suc (length-set_value ps i v)
 
   -- a swap in each column is one in the list of pairs
   pub zip-swap : (ks : List K) (vs : List V) (i j : ℕ) → length vs ≡ length ks → zip (swap ks i j) (swap vs i j) ≡ swap (zip ks vs) i j

@@ -7,7 +7,10 @@ pub mod Probe
 pub mod Reach
 pub mod Refusal
 pub mod Replaced
+pub mod Search
 pub mod Slots
+pub mod Store
+pub mod StoreLending
 pub mod Table
 pub mod TableLaws
 pub mod TableLayout

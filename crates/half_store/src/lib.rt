@@ -1,4 +1,4 @@
-//! The storage of a map in two forms: pairs in two columns, a hash table over their entry indices, and a tally of the work.
+//! The storage of a map in two forms: pairs in two columns, an index over them where there is one, and a tally of the work.
 #![tactic(auto)]
 
 pub mod capacity;
@@ -6,11 +6,14 @@ mod column;
 mod count;
 pub mod counting;
 pub mod refusal;
+pub mod store;
 pub mod table;
 pub mod tally;
 pub mod vecmap;
 
 pub use refusal::Refusal;
+pub use store::Store;
+pub use store::lookup::{Lookup, Vacancy};
 pub use table::Table;
 pub use table::probe::Probe;
 pub use tally::Tally;

@@ -1,8 +1,9 @@
 -- Where a call needs more capacity, how much, and what the capacity is afterwards.
-use Rattle.std.specs.Prelude.{◌≡◌, ℕ, ◌+◌, ◌^◌, ◌<◌, ◌≤◌, ◌⊎◌, min, Bool, not, ◌&&◌, ◌||◌, ◌==◌, nat_lt, nat_le, length, Option, None, Some, IfNone, IfSome, MatchBool, MatchOption, if◌then◌else◌}
+use Rattle.std.specs.Prelude.{◌≡◌, ℕ, ◌+◌, ◌^◌, ◌<◌, ◌≤◌, ◌⊎◌, Bool, not, ◌&&◌, ◌||◌, ◌==◌, nat_lt, nat_le, length, Option, None, Some, IfNone, IfSome, MatchBool, MatchOption, if◌then◌else◌}
 use Rattle.half_store.specs.declared.refusal.Refusal.{Refusal}
 use Rattle.half_store.specs.Refusal.{refusal_of}
 use Rattle.half_store.specs.Capacity.{capacity_for, grown_capacity}
+use Rattle.half_store.specs.Store.{allowed}
 use Rattle.halfbrown.specs.State.{State}
 use Rattle.halfbrown.specs.Pairs.{holds}
 
@@ -17,13 +18,9 @@ HasCapacityAfter limit old needs new =
     MatchOption needs (new.capacity ≡ old.capacity)
     (λ n. MatchBool new.is_vec (new.capacity ≡ grown_capacity limit old.capacity n) (new.capacity ≡ capacity_for n))
 
--- the capacity that a form has for so many pairs in all: a vector has no more than the limit
-abbrev pub total_allowed : ℕ → Bool → ℕ → ℕ
-total_allowed limit is_vec total = if is_vec then min total limit else total
-
 -- the capacity that a reservation for so many pairs in all needs, where there is less
 abbrev pub reserve_needs : {K V S : Type 0} → ℕ → State K V S → ℕ → Option ℕ
-reserve_needs limit m total = let most = total_allowed limit m.is_vec total in if nat_lt m.capacity most then Some most else None
+reserve_needs limit m total = let most = allowed limit m.is_vec total in if nat_lt m.capacity most then Some most else None
 
 -- whether the form is the vector after `shrink_to_fit`: it was, or the limit allows the pairs. This is the one call that goes back
 abbrev pub vec_shrunk : ℕ → Bool → ℕ → Bool
@@ -34,7 +31,7 @@ vec_shrunk limit is_vec count = is_vec || nat_le count limit
 abbrev pub HasCapacityShrunk : {K V S : Type 0} → ℕ → State K V S → State K V S → Type 0
 HasCapacityShrunk limit old new =
     (new.capacity ≡ (if new.is_vec then length old.pairs else capacity_for (length old.pairs)))
-    ⊎ ((0 < length old.pairs) × (new.capacity ≡ total_allowed limit new.is_vec old.capacity))
+    ⊎ ((0 < length old.pairs) × (new.capacity ≡ allowed limit new.is_vec old.capacity))
 
 -- the capacity that a constructor for so many pairs needs
 abbrev pub making_needs : ℕ → Option ℕ
@@ -79,7 +76,7 @@ module _ {K V S : Type 0} (limit : ℕ) where
     pub pairs : new.pairs ≡ old.pairs
     pub form : new.is_vec ≡ old.is_vec
     pub capacity : HasCapacityAfter limit old (reserve_needs limit old (length old.pairs + additional)) new
-    pub enough : total_allowed limit old.is_vec (length old.pairs + additional) ≤ new.capacity
+    pub enough : allowed limit old.is_vec (length old.pairs + additional) ≤ new.capacity
     pub grantable : IsGrantable (reserve_needs limit old (length old.pairs + additional))
     pub builder : new.builder ≡ old.builder
 

@@ -6,7 +6,6 @@ pub mod Entry
 pub mod EntryLending
 pub mod Equality
 pub mod EqualityLaws
-pub mod Form
 pub mod Growth
 pub mod Insertion
 pub mod Iter

@@ -2,16 +2,13 @@
 use Rattle.std.specs.Prelude.{◌≡◌, ℕ, ◌+◌, ◌-◌, ◌≤◌, ◌<◌, Bool, true, false, List, length, slice_get, Option, None, Some, is_some, if◌then◌else◌}
 use Rattle.std.specs.Map.{keys_of}
 use Rattle.std.specs.Option.{option_and_then}
+use Rattle.half_store.specs.Search.{ReturnsAt}
+use Rattle.half_store.specs.Store.{IsVacancy}
 use Rattle.half_store.specs.Work.{Work, first_match_cost}
-use Rattle.halfbrown.specs.declared.map.lookup.Lookup.{Lookup}
-use Rattle.halfbrown.specs.declared.map.lookup.Lookup.TheVariants.{Found, Missing}
+use Rattle.half_store.specs.declared.store.lookup.Lookup.{Lookup}
+use Rattle.half_store.specs.declared.store.lookup.Lookup.TheVariants.{Found, Missing}
 use Rattle.halfbrown.specs.Costs.{Range, Cost, exactly, between, GrewBy, NoHomeIsShared, candidates_by, probe_length_by}
-use Rattle.halfbrown.specs.Lookup.{IsVacancy, is_unprobed}
 use Rattle.halfbrown.specs.State.{State, contents_of}
-
--- the match returned this of the key at this index
-abbrev pub ReturnsAt : {K : Type 0} → (K → Bool → Type 0) → List K → ℕ → Bool → Type 0
-ReturnsAt {K} returns keys index answer = (k : K) → slice_get keys index ≡ Some k → returns k answer
 
 module _ {K V S : Type 0} (returns : K → Bool → Type 0) (hash : S → K → ℕ) (sought : ℕ) (m : State K V S) where
   -- the match accepts the key at this index: in a vector it is the first that it accepts, in a table it is one of this hash
@@ -25,20 +22,15 @@ module _ {K V S : Type 0} (returns : K → Bool → Type 0) (hash : S → K → 
   pub record HasNoMatch : Type 0 where
     pub refused : (index : ℕ) (k : K) → slice_get (keys_of m.pairs) index ≡ Some k → (m.is_vec ≡ false → hash m.builder k ≡ sought) → returns k false
 
-  -- a search by the match found this index, or none, and here a pair of the hash may be added: its bucket is known unless there are no buckets
+  -- a search by the match found this index, or none, and where there is capacity a pair of the hash may be added here
   abbrev pub Matches : Lookup → Type 0
   Matches (Found index) = IsMatch index
-  Matches (Missing vacancy) = HasNoMatch × IsVacancy m.is_vec (contents_of m) sought vacancy × (is_unprobed vacancy ≡ true → m.capacity ≡ 0)
+  Matches (Missing vacancy) = HasNoMatch × (0 < m.capacity → IsVacancy m.is_vec (contents_of m) sought vacancy)
 
   -- the search returned this pair, or none
   abbrev pub FindsMatch : Option (K × V) → Type 0
   FindsMatch None = HasNoMatch
   FindsMatch (Some pair) = (index : ℕ) × (slice_get m.pairs index ≡ Some pair) × IsMatch index
-
--- the index that was found
-abbrev pub found_index : Lookup → Option ℕ
-found_index (Found index) = Some index
-found_index (Missing vacancy) = None
 
 module _ {K V S : Type 0} (hash : S → K → ℕ) (sought : ℕ) (m : State K V S) where
   -- the comparisons of a search that found this index, or none: in a vector exactly those in order; in a table exactly all candidates where

@@ -1,38 +1,24 @@
 -- Capacity for one pair more: what each call that adds a pair makes first, and what adding the pair there leaves.
-use Rattle.std.specs.Prelude.{◌≡◌, ℕ, ◌+◌, ◌<◌, nat_lt, Bool, false, [], ◌∷◌, ◌++◌, length, Option, None, Some, if◌then◌else◌}
+use Rattle.std.specs.Prelude.{◌≡◌, ℕ, ◌+◌, ◌<◌, nat_lt, Bool, [], ◌∷◌, ◌++◌, length, Option, if◌then◌else◌}
 use Rattle.half_store.specs.Capacity.{capacity_for}
-use Rattle.half_store.specs.Table.{Contents, with_hash_in}
+use Rattle.half_store.specs.Store.{IsVacancy, filled}
+use Rattle.half_store.specs.declared.store.lookup.Lookup.{Lookup}
+use Rattle.half_store.specs.declared.store.lookup.Lookup.TheVariants.{Found, Missing}
+use Rattle.half_store.specs.declared.store.lookup.Vacancy.{Vacancy}
 use Rattle.halfbrown.specs.Costs.{probe_length_by}
 use Rattle.halfbrown.specs.Growth.{stays_vec, IsGrantable, HasCapacityAfter}
-use Rattle.halfbrown.specs.Lookup.{IsIndexOf, IsAbsent, IsVacancy, is_unprobed}
+use Rattle.halfbrown.specs.Lookup.{IsIndexOf, IsAbsent}
 use Rattle.halfbrown.specs.State.{State, state, contents_of}
-use Rattle.halfbrown.specs.declared.map.lookup.Lookup.{Lookup}
-use Rattle.halfbrown.specs.declared.map.lookup.Lookup.TheVariants.{Found, Missing}
-use Rattle.halfbrown.specs.declared.map.lookup.Vacancy.{Vacancy}
-use Rattle.halfbrown.specs.declared.map.lookup.Vacancy.TheVariants.{InVector, InTable}
-
--- a pair of this hash may be added here, and no bucket is left to be probed for
-pub record IsProbedVacancy (is_vec : Bool) (contents : Contents) (hash : ℕ) (vacancy : Vacancy) : Type 0 where
-  pub vacant : IsVacancy is_vec contents hash vacancy
-  pub probed : is_unprobed vacancy ≡ false
-
--- what the buckets contain once a pair is added here
-abbrev pub filled : Contents → Vacancy → Contents
-filled contents InVector = contents
-filled contents (InTable stored None) = contents
-filled contents (InTable stored (Some bucket)) = with_hash_in contents stored bucket
 
 module _ {K V S : Type 0} where
   -- the map with one pair more, which is added here
   abbrev pub pushed : State K V S → K → V → Vacancy → State K V S
-  pushed m k v vacancy = state m.is_vec (m.pairs ++ (k, v) ∷ []) m.capacity m.builder (filled (contents_of m) vacancy)
+  pushed m k v vacancy = state m.is_vec (m.pairs ++ (k, v) ∷ []) m.capacity m.builder (filled m.is_vec (contents_of m) vacancy)
 
-  -- the buckets that making capacity for a pair of this hash reads: those of an insertion probe where the bucket is not known, and anew where
-  -- the table grows first
-  abbrev pub preparation_looks : (K → ℕ) → State K V S → ℕ → Bool → Bool → ℕ
-  preparation_looks hash m h is_unprobed granted =
-      if nat_lt (length m.pairs) m.capacity then (if is_unprobed then probe_length_by hash m.is_vec m.capacity m.pairs h else 0)
-      else (if granted then probe_length_by hash m.is_vec (capacity_for (length m.pairs + 1)) m.pairs h else 0)
+  -- the buckets that making capacity for a pair of this hash reads, whose vacancy is known: where the table grows, those of an insertion probe
+  abbrev pub growth_looks : (K → ℕ) → State K V S → ℕ → Bool → ℕ
+  growth_looks hash m h granted =
+      if nat_lt (length m.pairs) m.capacity then 0 else (if granted then probe_length_by hash m.is_vec (capacity_for (length m.pairs + 1)) m.pairs h else 0)
 
   -- a granted call that makes capacity for an insertion, and needed this much capacity for it: the same pairs, and a full vector has become a
   -- table
@@ -48,7 +34,7 @@ module _ {K V S : Type 0} where
     pub record HasVacancyFor (m : State K V S) (k : K) (vacancy : Vacancy) : Type 0 where
       pub absent : IsAbsent (eq k) m.pairs
       pub capacity : length m.pairs < m.capacity
-      pub probed : IsProbedVacancy m.is_vec (contents_of m) (hash m.builder k) vacancy
+      pub vacant : IsVacancy m.is_vec (contents_of m) (hash m.builder k) vacancy
 
     -- all is ready for an insertion of k: its index is found, or a vacancy for its pair
     abbrev pub IsReadyFor : State K V S → K → Lookup → Type 0

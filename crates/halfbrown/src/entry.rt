@@ -1,8 +1,8 @@
 //! The entry of one key: the pair that is held for it, or a vacancy for the pair that is not.
 ghost use Rattle.std.specs.Prelude.{◌≡◌, ◌<◌, false, length};
+ghost use Rattle.half_store.specs.Store.{IsVacancy};
 ghost use Rattle.halfbrown.specs.Costs.{key_hash};
 ghost use Rattle.halfbrown.specs.Pairs.{holds};
-ghost use Rattle.halfbrown.specs.Preparation.{IsProbedVacancy};
 ghost use Rattle.halfbrown.specs.State.{contents_of};
 
 mod debug;
@@ -12,8 +12,8 @@ mod occupied;
 mod replace;
 mod vacant;
 
-use crate::map::lookup::Vacancy;
 use crate::{Limit, LimitedHashMap, UpTo};
+use half_store::Vacancy;
 use std::hash::{BuildHasher, Hash};
 
 /// The entry of a key in a map that stores up to `N` pairs in a vector.
@@ -85,6 +85,6 @@ pub struct LimitedVacantEntry<'a, K: Eq + Hash, V, S: BuildHasher, L: Limit> {
     vacancy: Vacancy,
     ghost capacity_left: { length map.now.pairs < map.now.capacity },
     ghost absent: { holds K.eq map.now.pairs key ≡ false },
-    ghost probed: { ∥ IsProbedVacancy map.now.is_vec (contents_of map.now)
+    ghost vacant: { ∥ IsVacancy map.now.is_vec (contents_of map.now)
         (key_hash S.BuildHasher S.Hasher.Hasher K.hash_input map.now.builder key) vacancy ∥₁ },
 }

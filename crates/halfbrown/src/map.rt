@@ -9,14 +9,12 @@ mod collect;
 mod debug;
 mod equality;
 mod find;
-mod form;
 mod get;
 mod growth;
 mod insert;
 mod into_iter;
 mod iter;
 pub mod laws;
-pub(crate) mod lookup;
 mod make;
 mod prepare;
 mod remove;
@@ -26,9 +24,7 @@ mod reverse;
 mod switch;
 
 use crate::{Limit, UpTo};
-use form::Form;
-use half_store::VecMap;
-use std::alloc::Global;
+use half_store::Store;
 use std::hash::{BuildHasher, BuildHasherDefault, FoldHasher, Hash};
 use std::marker::{Model, PhantomData};
 
@@ -70,10 +66,8 @@ pub type HashMap<K, V, S> = LimitedHashMap<K, V, S, UpTo<32>>;
 /// let age = ages.get(&1).copied(); // 36
 /// ```
 pub struct LimitedHashMap<K: Eq + Hash, V, S: BuildHasher, L: Limit> {
-    columns: VecMap<K, V>,
-    form: Form,
+    store: Store<K, V>,
     builder: S,
-    alloc: Global,
     limit: PhantomData<L>,
 }
 
@@ -86,10 +80,10 @@ impl<K: Eq + Hash, V, S: BuildHasher, L: Limit> Model for LimitedHashMap<K, V, S
 
     ghost coded = { state_code K.code V.code S.code };
 
-    ghost view = { λ m. state_in L.LIMIT m.columns m.form m.builder };
+    ghost view = { λ m. state_in L.LIMIT m.store m.builder };
 
     ghost invariant = { λ m. IsKept K.eq (key_hash S.BuildHasher S.Hasher.Hasher K.hash_input m.builder) L.LIMIT
-        m.columns.pairs m.columns.capacity m.form.is_vec m.form.hashes m.form.buckets };
+        m.store };
 }
 
 // Written out, since the limit is a type that no value of the map holds.
@@ -97,14 +91,11 @@ impl<K: Eq + Hash + Drop, V: Drop, S: BuildHasher + Drop, L: Limit> Drop
     for LimitedHashMap<K, V, S, L> {
     fn drop(self) {
         let LimitedHashMap {
-            columns,
-            form,
+            store,
             builder,
-            alloc: _,
             limit: _,
         } = self;
-        drop(columns);
-        drop(form);
+        drop(store);
         drop(builder);
     }
 }
@@ -121,7 +112,7 @@ impl<K: Eq + Hash, V, S: BuildHasher, L: Limit> LimitedHashMap<K, V, S, L> {
         ensures small { result < 2 ^ 63 }
         ensures state { IsState K.eq L.LIMIT self.now }
     {
-        self.columns.len()
+        self.store.len()
     }
 
     /// Whether no pair is held.
@@ -158,7 +149,7 @@ impl<K: Eq + Hash, V, S: BuildHasher, L: Limit> LimitedHashMap<K, V, S, L> {
         ensures form { result ≡ self.now.is_vec }
         ensures state { IsState K.eq L.LIMIT self.now }
     {
-        self.form.is_vec()
+        self.store.is_vec()
     }
 
     /// Whether the form is the table.
@@ -170,7 +161,7 @@ impl<K: Eq + Hash, V, S: BuildHasher, L: Limit> LimitedHashMap<K, V, S, L> {
     pub fn is_map(&self) -> bool
         ensures { IsTrue result ↔ (self.now.is_vec ≡ false) }
     {
-        !self.form.is_vec()
+        !self.store.is_vec()
     }
 
     /// How many pairs fit before more memory is needed. In a vector it is at most the limit.
@@ -182,11 +173,7 @@ impl<K: Eq + Hash, V, S: BuildHasher, L: Limit> LimitedHashMap<K, V, S, L> {
     pub fn capacity(&self) -> usize
         ensures { result ≡ self.now.capacity }
     {
-        if self.form.is_vec() {
-            self.columns.capacity().min(L::LIMIT)
-        } else {
-            self.form.capacity()
-        }
+        self.store.capacity(L::LIMIT)
     }
 
     /// Removes all pairs. The form, the capacity and the builder stay. Nothing is hashed.
@@ -202,7 +189,6 @@ impl<K: Eq + Hash, V, S: BuildHasher, L: Limit> LimitedHashMap<K, V, S, L> {
         ensures after { WithPairs self.old [] self.new }
         ensures state { IsState K.eq L.LIMIT self.new }
     {
-        self.form.clear();
-        self.columns.clear();
+        self.store.clear();
     }
 }

@@ -26,6 +26,7 @@ impl Table {
         ensures capacity { pairs.new.capacity ≡ pairs.old.capacity }
         ensures hashes { (hash : K → ℕ) → self.old.hashes ≡ map hash (keys_of pairs.old.pairs)
             → self.new.hashes ≡ map hash (keys_of pairs.new.pairs) }
+        ensures even { length self.new.hashes ≡ length pairs.new.pairs }
         ensures buckets { self.new.buckets ≡ self.old.buckets }
     {
         pairs.retain_with(self.hashes.as_mut_slice(), f);

@@ -4,9 +4,15 @@ ghost use Rattle.std.specs.Borrow.{sem};
 ghost use Rattle.std.specs.Map.{keys_of, values_of};
 
 use super::VecMap;
+use std::alloc::Global;
 
 impl<K, V> VecMap<K, V> {
     ghost use Rattle.half_store.specs.Lending.{LendsValues};
+
+    // Where its memory is from.
+    pub(crate) fn allocator(&self) -> Global {
+        *self.keys.allocator()
+    }
 
     /// The keys, in order.
     ///

@@ -9,9 +9,8 @@ ghost use Rattle.halfbrown.specs.Preparation.{Prepares};
 ghost use Rattle.halfbrown.specs.State.{IsState};
 
 use super::{LimitedEntry, LimitedOccupiedEntry, LimitedVacantEntry};
-use crate::map::lookup::Lookup;
 use crate::{Limit, LimitedHashMap, RefusedKey};
-use half_store::Tally;
+use half_store::{Lookup, Tally};
 use std::hash::{BuildHasher, Hash};
 
 impl<K: Eq + Hash, V, S: BuildHasher, L: Limit> LimitedHashMap<K, V, S, L> {

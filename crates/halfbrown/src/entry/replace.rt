@@ -58,8 +58,8 @@ impl<'a, K: Eq + Hash, V, S: BuildHasher, L: Limit> LimitedOccupiedEntry<'a, K, 
         let index = self.index;
         let map = self.map;
         match map.replace_at(index, f) {
-            Some((key, vacancy)) => {
-                let vacancy = map.probed(vacancy, tally);
+            Some((key, hash)) => {
+                let vacancy = map.vacancy_for(hash, tally);
                 LimitedEntry::Vacant(LimitedVacantEntry { map, key, vacancy })
             }
             None => {

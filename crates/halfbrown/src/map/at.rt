@@ -19,7 +19,7 @@ impl<K: Eq + Hash, V, S: BuildHasher, L: Limit> LimitedHashMap<K, V, S, L> {
         requires { index < length self.now.pairs }
         ensures { slice_get (keys_of self.now.pairs) index ≡ Some result.now }
     {
-        &self.columns.keys()[index]
+        self.store.key_at(index)
     }
 
     /// The value of the pair at this index.
@@ -28,7 +28,7 @@ impl<K: Eq + Hash, V, S: BuildHasher, L: Limit> LimitedHashMap<K, V, S, L> {
         requires { index < length self.now.pairs }
         ensures { slice_get (values_of self.now.pairs) index ≡ Some result.now }
     {
-        self.columns.value_at(index)
+        self.store.value_at(index)
     }
 
     /// The stored key of the pair at this index, and its value.
@@ -37,7 +37,7 @@ impl<K: Eq + Hash, V, S: BuildHasher, L: Limit> LimitedHashMap<K, V, S, L> {
         requires { index < length self.now.pairs }
         ensures { slice_get self.now.pairs index ≡ Some (result.0.now, result.1.now) }
     {
-        self.columns.pair_at(index)
+        self.store.pair_at(index)
     }
 
     /// The stored key of the pair at this index, and its value, to be written.
@@ -48,7 +48,7 @@ impl<K: Eq + Hash, V, S: BuildHasher, L: Limit> LimitedHashMap<K, V, S, L> {
             S.Hasher.Hasher L.Limit self.entry index result.1) }
         ensures pair { slice_get self.old.pairs index ≡ Some (result.0.now, result.1.now) }
     {
-        self.columns.pair_at_mut(index)
+        self.store.pair_at_mut(index)
     }
 
     /// Replaces the stored key of the pair at this index by an equal one, and returns the old one.
@@ -61,6 +61,6 @@ impl<K: Eq + Hash, V, S: BuildHasher, L: Limit> LimitedHashMap<K, V, S, L> {
         ensures replaced { HasKeyReplaced K.eq self.old.pairs key self.new.pairs }
         ensures state { IsState K.eq L.LIMIT self.new }
     {
-        self.columns.replace_key(index, key)
+        self.store.set_key(index, key)
     }
 }

@@ -41,18 +41,10 @@ impl<K: Eq + Hash, V, S: BuildHasher, L: Limit> LimitedHashMap<K, V, S, L> {
         ensures state { IfOk result (IsState K.eq L.LIMIT) }
     {
         let builder = self.builder.clone()?;
-        let form = self.form.copy()?;
-        let capacity = if self.form.is_vec() {
-            self.columns.len()
-        } else {
-            self.form.capacity()
-        };
-        let columns = self.columns.clone_with_capacity(capacity)?;
+        let store = self.store.clone()?;
         Ok(LimitedHashMap {
-            columns,
-            form,
+            store,
             builder,
-            alloc: self.alloc,
             limit: PhantomData,
         })
     }

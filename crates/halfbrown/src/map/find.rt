@@ -3,17 +3,16 @@ ghost use Rattle.std.specs.Prelude.{◌≡◌, ◌<◌, ℕ, Some, false, slice_
 ghost use Rattle.std.specs.Borrow.{Bor};
 ghost use Rattle.std.specs.Fn.{FnReturnsAt};
 ghost use Rattle.std.specs.Map.{keys_of};
+ghost use Rattle.half_store.specs.Search.{found_index};
 ghost use Rattle.half_store.specs.Work.{asked_more};
 ghost use Rattle.halfbrown.specs.Costs.{key_hash, search_asked, SearchCostsBy, HashedSearchCostsBy};
 ghost use Rattle.halfbrown.specs.Lookup.{LooksUp};
-ghost use Rattle.halfbrown.specs.Match.{Matches, MatchCosts, ReturnsAt, found_index};
+ghost use Rattle.halfbrown.specs.Match.{Matches, MatchCosts};
 ghost use Rattle.halfbrown.specs.State.{IsState};
 
 use super::LimitedHashMap;
-use super::lookup::{Lookup, Vacancy};
 use crate::{Equivalent, Limit};
-use half_store::table::probe::Probe;
-use half_store::{Tally, counting};
+use half_store::{Lookup, Tally, counting};
 use std::hash::{BuildHasher, Hash};
 
 impl<K: Eq + Hash, V, S: BuildHasher, L: Limit> LimitedHashMap<K, V, S, L> {
@@ -37,7 +36,7 @@ impl<K: Eq + Hash, V, S: BuildHasher, L: Limit> LimitedHashMap<K, V, S, L> {
             → result ≡ key_hash S.BuildHasher S.Hasher.Hasher Q.hash_input self.now.builder key.now }
         ensures work { tally.new ≡ asked_more (search_asked self.now.is_vec) tally.old }
     {
-        if self.form.is_vec() {
+        if self.store.is_vec() {
             return 0;
         }
         counting::hash_one(&self.builder, key, tally)
@@ -81,30 +80,6 @@ impl<K: Eq + Hash, V, S: BuildHasher, L: Limit> LimitedHashMap<K, V, S, L> {
             (found_index result) tally.old tally.new }
         ensures state { IsState K.eq L.LIMIT self.now }
     {
-        // A test for each form, since a closure with one call is inlined there.
-        // It comes before the keys are read, so that LLVM can join it to the test before the hash.
-        let Some(table) = self.form.table() else {
-            let keys = self.columns.keys();
-            let matches_at = |index: usize| -> bool
-                requires within { index < length keys.now }
-                requires callable { (key : Bor K) → slice_get keys.now index ≡ Some key.now → F.pre matches.now key }
-                ensures { ReturnsAt (FnReturnsAt F.Fn matches.entry.now) keys.entry.now index result }
-            { matches(&keys[index]) };
-            return match self.columns.find(&matches_at, tally) {
-                Some(index) => Lookup::Found(index),
-                None => Lookup::Missing(Vacancy::InVector),
-            };
-        };
-        let keys = self.columns.keys();
-        let matches_at = |index: usize| -> bool
-            requires within { index < length keys.now }
-            requires callable { (key : Bor K) → slice_get keys.now index ≡ Some key.now → F.pre matches.now key }
-            ensures { ReturnsAt (FnReturnsAt F.Fn matches.entry.now) keys.entry.now index result }
-        { matches(&keys[index]) };
-        match table.find(hash, &matches_at, tally) {
-            Probe::Found(index) => Lookup::Found(index),
-            Probe::Vacant(bucket) => Lookup::Missing(Vacancy::InTable(hash, Some(bucket))),
-            Probe::NoBuckets => Lookup::Missing(Vacancy::InTable(hash, None)),
-        }
+        self.store.find(hash, matches, tally)
     }
 }

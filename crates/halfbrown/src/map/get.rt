@@ -9,9 +9,8 @@ ghost use Rattle.halfbrown.specs.Pairs.{value_by, holds_by, pair_by};
 ghost use Rattle.halfbrown.specs.State.{IsState};
 
 use super::LimitedHashMap;
-use super::lookup::Lookup;
 use crate::{Equivalent, Limit};
-use half_store::Tally;
+use half_store::{Lookup, Tally};
 use std::hash::{BuildHasher, Hash};
 use std::ops::Index;
 
@@ -44,7 +43,7 @@ impl<K: Eq + Hash, V, S: BuildHasher, L: Limit> LimitedHashMap<K, V, S, L> {
         ensures state { IsState K.eq L.LIMIT self.now }
     {
         match self.find(key, tally) {
-            Lookup::Found(index) => Some(self.columns.value_at(index)),
+            Lookup::Found(index) => Some(self.store.value_at(index)),
             Lookup::Missing(_) => None,
         }
     }
@@ -78,7 +77,7 @@ impl<K: Eq + Hash, V, S: BuildHasher, L: Limit> LimitedHashMap<K, V, S, L> {
         ensures state { IsState K.eq L.LIMIT self.now }
     {
         match self.find(key, tally) {
-            Lookup::Found(index) => Some(self.columns.pair_at(index)),
+            Lookup::Found(index) => Some(self.store.pair_at(index)),
             Lookup::Missing(_) => None,
         }
     }
@@ -168,7 +167,7 @@ impl<K: Eq + Hash, V, S: BuildHasher, L: Limit> LimitedHashMap<K, V, S, L> {
             (key_hash S.BuildHasher S.Hasher.Hasher Q.hash_input self.now.builder key) self.now tally.old tally.new }
     {
         match self.find(key, tally) {
-            Lookup::Found(index) => self.columns.value_at(index),
+            Lookup::Found(index) => self.store.value_at(index),
             Lookup::Missing(_) => unreachable!(),
         }
     }
@@ -181,7 +180,7 @@ impl<K: Eq + Hash, V, S: BuildHasher, L: Limit> LimitedHashMap<K, V, S, L> {
             S.Hasher.Hasher L.Limit self.entry index result) }
         ensures value { slice_get (values_of self.old.pairs) index ≡ Some result.now }
     {
-        self.columns.value_at_mut(index)
+        self.store.value_at_mut(index)
     }
 }
 

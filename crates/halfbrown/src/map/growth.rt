@@ -4,11 +4,8 @@ ghost use Rattle.halfbrown.specs.Growth.{reserve_needs, IsRefusal, Reserves, Shr
 ghost use Rattle.halfbrown.specs.State.{IsState};
 
 use super::LimitedHashMap;
-use super::form::Form;
 use crate::Limit;
 use half_store::Refusal;
-use half_store::capacity::capacity_for;
-use half_store::refusal::check_size;
 use std::hash::{BuildHasher, Hash};
 
 impl<K: Eq + Hash, V, S: BuildHasher, L: Limit> LimitedHashMap<K, V, S, L> {
@@ -30,21 +27,7 @@ impl<K: Eq + Hash, V, S: BuildHasher, L: Limit> LimitedHashMap<K, V, S, L> {
         ensures err { OnErr result (self.new ≡ self.old) }
         ensures state { IsState K.eq L.LIMIT self.new }
     {
-        let len = self.columns.len();
-        if self.form.is_vec() {
-            let needed = len.saturating_add(additional).min(L::LIMIT);
-            return self.columns.grow(needed, L::LIMIT);
-        }
-        if additional <= self.form.capacity() - len {
-            return Ok(());
-        }
-        let Some(needed) = len.checked_add(additional) else {
-            return Err(Refusal::Size);
-        };
-        // The columns may have more capacity than the table, which decides: so they grow first.
-        check_size(needed)?;
-        self.columns.reserve(capacity_for(needed))?;
-        self.form.reserve(needed)
+        self.store.reserve(additional, L::LIMIT)
     }
 
     /// Makes a table that holds no more pairs than the limit a vector again, and shrinks the capacity to the least that the
@@ -62,12 +45,6 @@ impl<K: Eq + Hash, V, S: BuildHasher, L: Limit> LimitedHashMap<K, V, S, L> {
         ensures vector { self.new.is_vec ≡ nat_le (length self.new.pairs) L.LIMIT }
         ensures state { IsState K.eq L.LIMIT self.new }
     {
-        if self.columns.len() <= L::LIMIT {
-            self.form = Form::vector();
-            self.columns.shrink_to(0);
-        } else {
-            self.form.shrink_to_fit();
-            self.columns.shrink_to(self.form.capacity());
-        }
+        self.store.shrink_to_fit(L::LIMIT);
     }
 }

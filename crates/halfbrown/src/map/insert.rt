@@ -8,9 +8,8 @@ ghost use Rattle.halfbrown.specs.State.{IsState};
 ghost use Rattle.halfbrown.specs.Updates.{HasPut};
 
 use super::LimitedHashMap;
-use super::lookup::Lookup;
 use crate::{Limit, Refused};
-use half_store::Tally;
+use half_store::{Lookup, Tally};
 use std::hash::{BuildHasher, Hash};
 
 impl<K: Eq + Hash, V, S: BuildHasher, L: Limit> LimitedHashMap<K, V, S, L> {

@@ -60,18 +60,15 @@ impl<K: Eq + Hash + Drop, V: Drop, S: BuildHasher + Drop, L: Limit> IntoIterator
     ghost into_iter_gives = { λ map it. (it ≡ map.pairs) × (length map.pairs < 2 ^ 63) × GivesInOrder (K × V)
         × ShowsValuesInOrder (λ (pair : K × V). pair) × IsState K.eq L.LIMIT map };
 
-    // The builder and the table are dropped at once: the iterator has the two columns alone.
+    // The builder and the index are dropped at once: the iterator has the two columns alone.
     fn into_iter(self) -> IntoIter<K, V> {
         let LimitedHashMap {
-            columns,
-            form,
+            store,
             builder,
-            alloc: _,
             limit: _,
         } = self;
-        drop(form);
         drop(builder);
-        let (keys, values) = columns.into_columns();
+        let (keys, values) = store.into_columns();
         IntoIter::new(keys, values)
     }
 }

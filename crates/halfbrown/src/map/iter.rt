@@ -45,7 +45,7 @@ impl<K: Eq + Hash, V, S: BuildHasher, L: Limit> LimitedHashMap<K, V, S, L> {
         ensures values_run { ShowsPairValuesInOrder K V }
         ensures state { IsState K.eq L.LIMIT self.now }
     {
-        Iter::new(self.columns.keys(), self.columns.values())
+        Iter::new(self.store.keys(), self.store.values())
     }
 
     /// The keys, in order.
@@ -60,7 +60,7 @@ impl<K: Eq + Hash, V, S: BuildHasher, L: Limit> LimitedHashMap<K, V, S, L> {
         ensures runs { ShowsKeysInOrder K V }
         ensures state { IsState K.eq L.LIMIT self.now }
     {
-        Keys::new(self.columns.keys())
+        Keys::new(self.store.keys())
     }
 
     /// The values, in order.
@@ -75,7 +75,7 @@ impl<K: Eq + Hash, V, S: BuildHasher, L: Limit> LimitedHashMap<K, V, S, L> {
         ensures runs { ShowsValuesInOrder K V }
         ensures state { IsState K.eq L.LIMIT self.now }
     {
-        Values::new(self.columns.values())
+        Values::new(self.store.values())
     }
 
     /// The pairs, each as `(&K, &mut V)`, in order. The keys cannot be written.
@@ -96,7 +96,7 @@ impl<K: Eq + Hash, V, S: BuildHasher, L: Limit> LimitedHashMap<K, V, S, L> {
         ensures written { (vs : List V) → HasValues self.old.pairs vs (set_values self.old.pairs vs) }
         ensures state { (vs : List V) → IsState K.eq L.LIMIT (with_pairs self.old (set_values self.old.pairs vs)) }
     {
-        let (keys, values) = self.columns.columns_mut();
+        let (keys, values) = self.store.columns_mut();
         IterMut::new(keys, values)
     }
 
@@ -117,7 +117,7 @@ impl<K: Eq + Hash, V, S: BuildHasher, L: Limit> LimitedHashMap<K, V, S, L> {
         ensures written { (vs : List V) → HasValues self.old.pairs vs (set_values self.old.pairs vs) }
         ensures state { (vs : List V) → IsState K.eq L.LIMIT (with_pairs self.old (set_values self.old.pairs vs)) }
     {
-        ValuesMut::new(self.columns.values_mut())
+        ValuesMut::new(self.store.values_mut())
     }
 
     /// The values, in order, as a slice to be written. What a proof knows of the slice at the end it knows of the map, where
@@ -135,6 +135,6 @@ impl<K: Eq + Hash, V, S: BuildHasher, L: Limit> LimitedHashMap<K, V, S, L> {
         ensures written { (vs : List V) → HasValues self.old.pairs vs (set_values self.old.pairs vs) }
         ensures state { (vs : List V) → IsState K.eq L.LIMIT (with_pairs self.old (set_values self.old.pairs vs)) }
     {
-        self.columns.values_mut()
+        self.store.values_mut()
     }
 }

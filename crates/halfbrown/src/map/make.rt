@@ -3,12 +3,9 @@ ghost use Rattle.std.specs.Prelude.{◌≡◌, true, [], min, nat_le, IfOk, IfEr
 ghost use Rattle.halfbrown.specs.Growth.{making_needs, HasCapacityMade, IsRefusal, IsGrantable};
 ghost use Rattle.halfbrown.specs.State.{IsState};
 
-use super::form::Form;
 use super::{DefaultHashBuilder, LimitedHashMap};
 use crate::Limit;
-use half_store::refusal::check_size;
-use half_store::table::Table;
-use half_store::{Refusal, VecMap};
+use half_store::{Refusal, Store};
 use std::alloc::Global;
 use std::hash::{BuildHasher, BuildHasherDefault, Hash};
 use std::marker::PhantomData;
@@ -84,10 +81,8 @@ impl<K: Eq + Hash, V, S: BuildHasher, L: Limit> LimitedHashMap<K, V, S, L> {
         ensures state { IsState K.eq L.LIMIT result }
     {
         LimitedHashMap {
-            columns: VecMap::new(alloc),
-            form: Form::vector(),
+            store: Store::new(alloc),
             builder,
-            alloc,
             limit: PhantomData,
         }
     }
@@ -131,24 +126,9 @@ impl<K: Eq + Hash, V, S: BuildHasher, L: Limit> LimitedHashMap<K, V, S, L> {
         ensures refused { IfErr result (IsRefusal (making_needs capacity)) }
         ensures state { IfOk result (IsState K.eq L.LIMIT) }
     {
-        check_size(capacity)?;
-        if capacity <= L::LIMIT {
-            let columns = VecMap::with_capacity(alloc, capacity)?;
-            return Ok(LimitedHashMap {
-                columns,
-                form: Form::vector(),
-                builder,
-                alloc,
-                limit: PhantomData,
-            });
-        }
-        let table = Table::with_capacity(alloc, capacity)?;
-        let columns = VecMap::with_capacity(alloc, table.capacity())?;
         Ok(LimitedHashMap {
-            columns,
-            form: Form::from_table(table),
+            store: Store::with_capacity(alloc, capacity, L::LIMIT)?,
             builder,
-            alloc,
             limit: PhantomData,
         })
     }

@@ -1,18 +1,17 @@
 //! What an insertion does before it writes: the switch, the search, and capacity for one pair more.
 ghost use Rattle.std.specs.Prelude.{◌≡◌, ◌<◌, true, false, length, OnOk, OnErr, IfOk, IfErr, is_ok, if◌then◌else◌};
 ghost use Rattle.half_store.specs.Probe.{looked_more};
+ghost use Rattle.half_store.specs.Store.{IsVacancy};
 ghost use Rattle.half_store.specs.Work.{asked_more};
 ghost use Rattle.halfbrown.specs.Costs.{key_hash, probe_length_by, switch_asked, unchecked_cost, GrewBy, InsertCosts};
 ghost use Rattle.halfbrown.specs.Growth.{is_full, addition_needs, insert_needs, unchecked_needs, IsRefusal};
-ghost use Rattle.halfbrown.specs.Lookup.{IsVacancy, stored_hash, is_unprobed};
 ghost use Rattle.halfbrown.specs.Pairs.{holds};
-ghost use Rattle.halfbrown.specs.Preparation.{IsProbedVacancy, IsReadyFor, HasVacancyFor, Prepares, preparation_looks};
+ghost use Rattle.halfbrown.specs.Preparation.{IsReadyFor, HasVacancyFor, Prepares, growth_looks};
 ghost use Rattle.halfbrown.specs.State.{IsState, contents_of};
 
 use super::LimitedHashMap;
-use super::lookup::{Lookup, Vacancy};
 use crate::Limit;
-use half_store::{Refusal, Tally, counting};
+use half_store::{Lookup, Refusal, Tally, Vacancy};
 use std::hash::{BuildHasher, Hash};
 
 impl<K: Eq + Hash, V, S: BuildHasher, L: Limit> LimitedHashMap<K, V, S, L> {
@@ -31,12 +30,12 @@ impl<K: Eq + Hash, V, S: BuildHasher, L: Limit> LimitedHashMap<K, V, S, L> {
         self.switch_if_full(tally)?;
         match self.find(key, tally) {
             Lookup::Found(index) => Ok(Lookup::Found(index)),
-            Lookup::Missing(vacancy) => Ok(Lookup::Missing(self.make_capacity(vacancy, tally)?)),
+            Lookup::Missing(vacancy) => Ok(Lookup::Missing(self.make_capacity_at(vacancy, tally)?)),
         }
     }
 
-    /// Switches a full map and makes capacity for the pair of a key that is not held. In a table the key is hashed; nothing is
-    /// searched.
+    /// Switches a full map and makes capacity for the pair of a key that is not held. In a table the key is hashed, and a vacancy
+    /// probed for; nothing is searched.
     #[inline(always)]
     pub(crate) fn prepare_new(&mut self, key: &K, tally: &mut Tally) -> Result<Vacancy, Refusal>
         requires { holds K.eq self.old.pairs key.now ≡ false }
@@ -51,9 +50,9 @@ impl<K: Eq + Hash, V, S: BuildHasher, L: Limit> LimitedHashMap<K, V, S, L> {
         ensures state { IsState K.eq L.LIMIT self.new }
     {
         self.switch_if_full(tally)?;
-        let vacancy = self.unprobed_for(self.hash_to_store(key, tally));
-        let probed = self.make_capacity(vacancy, tally)?;
-        Ok(probed)
+        let hash = self.hash_to_store(key, tally);
+        self.make_capacity()?;
+        Ok(self.vacancy_for(hash, tally))
     }
 
     /// Switches a full map and makes capacity for one pair more, whatever its key. Nothing is searched.
@@ -68,10 +67,7 @@ impl<K: Eq + Hash, V, S: BuildHasher, L: Limit> LimitedHashMap<K, V, S, L> {
         ensures state { IsState K.eq L.LIMIT self.new }
     {
         self.switch_if_full(tally)?;
-        if self.len() < self.capacity() {
-            return Ok(());
-        }
-        self.reserve(1)
+        self.make_capacity()
     }
 
     /// Where a pair of a key that is not held may be added, under the key's hash: the capacity must be enough for it. In a table
@@ -79,66 +75,50 @@ impl<K: Eq + Hash, V, S: BuildHasher, L: Limit> LimitedHashMap<K, V, S, L> {
     #[inline(always)]
     pub(crate) fn vacancy_for(&self, hash: u64, tally: &mut Tally) -> Vacancy
         requires capacity { length self.now.pairs < self.now.capacity }
-        ensures probed { IsProbedVacancy self.now.is_vec (contents_of self.now) hash result }
+        ensures vacant { IsVacancy self.now.is_vec (contents_of self.now) hash result }
         ensures work { tally.new ≡ looked_more tally.old (probe_length_by
             (key_hash S.BuildHasher S.Hasher.Hasher K.hash_input self.now.builder)
             self.now.is_vec self.now.capacity self.now.pairs hash) }
     {
-        self.probed(self.unprobed_for(hash), tally)
+        self.store.vacancy_for(hash, tally)
     }
 
-    // The same, with its bucket still to be probed for.
+    // Makes the capacity enough for one pair more.
     #[inline(always)]
-    fn unprobed_for(&self, hash: u64) -> Vacancy
-        ensures vacant { IsVacancy self.now.is_vec (contents_of self.now) hash result }
-        ensures unprobed { self.now.is_vec ≡ false → is_unprobed result ≡ true }
-    {
-        if self.form.is_vec() {
-            return Vacancy::InVector;
-        }
-        Vacancy::InTable(hash, None)
-    }
-
-    // Makes the capacity enough for one pair more, and returns the vacancy, whose bucket is probed for
-    // where it is not known, and anew where the table grew.
-    #[inline(always)]
-    fn make_capacity(&mut self, vacancy: Vacancy, tally: &mut Tally) -> Result<Vacancy, Refusal>
+    fn make_capacity(&mut self) -> Result<(), Refusal>
         requires not_full { is_full L.LIMIT self.old ≡ false }
-        requires vacant { IsVacancy self.old.is_vec (contents_of self.old) (stored_hash vacancy) vacancy }
         ensures ok { OnOk result (Prepares L.LIMIT self.old (addition_needs self.old) self.new) }
         ensures capacity { OnOk result (length self.new.pairs < self.new.capacity) }
-        ensures probed { IfOk result (IsProbedVacancy self.new.is_vec (contents_of self.new) (stored_hash vacancy)) }
         ensures refused { IfErr result (IsRefusal (addition_needs self.old)) }
         ensures err { OnErr result (self.new ≡ self.old) }
-        ensures work { tally.new ≡ looked_more tally.old
-            (preparation_looks (key_hash S.BuildHasher S.Hasher.Hasher K.hash_input self.old.builder)
-            self.old (stored_hash vacancy) (is_unprobed vacancy) (is_ok result)) }
         ensures state { IsState K.eq L.LIMIT self.new }
     {
         if self.len() < self.capacity() {
-            return Ok(self.probed(vacancy, tally));
+            return Ok(());
         }
-        self.reserve(1)?;
-        Ok(self.probed(vacancy.unprobed(), tally))
+        self.reserve(1)
     }
 
-    // The same vacancy with its bucket known. Where it was not, it is probed for.
+    // The same, and returns the vacancy, whose bucket is probed for anew where the table grew.
     #[inline(always)]
-    pub(crate) fn probed(&self, vacancy: Vacancy, tally: &mut Tally) -> Vacancy
-        requires capacity { length self.now.pairs < self.now.capacity }
-        requires vacant { IsVacancy self.now.is_vec (contents_of self.now) (stored_hash vacancy) vacancy }
-        ensures probed { IsProbedVacancy self.now.is_vec (contents_of self.now) (stored_hash vacancy) result }
-        ensures work { tally.new ≡ looked_more tally.old (if is_unprobed vacancy then probe_length_by
-            (key_hash S.BuildHasher S.Hasher.Hasher K.hash_input self.now.builder)
-            self.now.is_vec self.now.capacity self.now.pairs (stored_hash vacancy) else 0) }
+    fn make_capacity_at(&mut self, vacancy: Vacancy, tally: &mut Tally) -> Result<Vacancy, Refusal>
+        requires not_full { is_full L.LIMIT self.old ≡ false }
+        requires vacant { 0 < self.old.capacity
+            → IsVacancy self.old.is_vec (contents_of self.old) vacancy.hash vacancy }
+        ensures ok { OnOk result (Prepares L.LIMIT self.old (addition_needs self.old) self.new) }
+        ensures capacity { OnOk result (length self.new.pairs < self.new.capacity) }
+        ensures vacant { IfOk result (IsVacancy self.new.is_vec (contents_of self.new) vacancy.hash) }
+        ensures refused { IfErr result (IsRefusal (addition_needs self.old)) }
+        ensures err { OnErr result (self.new ≡ self.old) }
+        ensures work { tally.new ≡ looked_more tally.old
+            (growth_looks (key_hash S.BuildHasher S.Hasher.Hasher K.hash_input self.old.builder)
+            self.old vacancy.hash (is_ok result)) }
+        ensures state { IsState K.eq L.LIMIT self.new }
     {
-        let Vacancy::InTable(hash, bucket) = vacancy else {
-            return vacancy;
-        };
-        let bucket = match bucket {
-            Some(bucket) => bucket,
-            None => self.form.insertion_probe(hash, tally),
-        };
-        Vacancy::InTable(hash, Some(bucket))
+        if self.len() < self.capacity() {
+            return Ok(vacancy);
+        }
+        self.reserve(1)?;
+        Ok(self.vacancy_for(vacancy.hash, tally))
     }
 }

@@ -8,9 +8,8 @@ ghost use Rattle.halfbrown.specs.State.{IsState, WithPairs};
 ghost use Rattle.halfbrown.specs.Updates.{HasRemovedBy};
 
 use super::LimitedHashMap;
-use super::lookup::Lookup;
 use crate::{Equivalent, Limit};
-use half_store::Tally;
+use half_store::{Lookup, Tally};
 use std::hash::{BuildHasher, Hash};
 
 impl<K: Eq + Hash, V, S: BuildHasher, L: Limit> LimitedHashMap<K, V, S, L> {
@@ -101,7 +100,6 @@ impl<K: Eq + Hash, V, S: BuildHasher, L: Limit> LimitedHashMap<K, V, S, L> {
         ensures after { WithPairs self.old (swap_out self.old.pairs index) self.new }
         ensures state { IsState K.eq L.LIMIT self.new }
     {
-        self.form.remove(index);
-        self.columns.swap_remove(index)
+        self.store.swap_remove(index)
     }
 }

@@ -1,45 +1,40 @@
 //! A value that is handed to a closure, and what becomes of its pair.
-ghost use Rattle.std.specs.Prelude.{◌≡◌, ◌<◌, true, false, not, [], ◌∷◌, ◌++◌, Some, IfSome, OnSome, length, slice_get};
+ghost use Rattle.std.specs.Prelude.{◌≡◌, ◌<◌, true, false, [], ◌∷◌, ◌++◌, Some, IfSome, OnSome, length, slice_get};
 ghost use Rattle.std.specs.Borrow.{Bor};
 ghost use Rattle.std.specs.Option.{option_map};
 ghost use Rattle.half_store.specs.Pairs.{swap_out};
 ghost use Rattle.half_store.specs.Replaced.{Replaces};
 ghost use Rattle.halfbrown.specs.Costs.{key_hash};
-ghost use Rattle.halfbrown.specs.Lookup.{IsVacancy, is_unprobed};
 ghost use Rattle.halfbrown.specs.Pairs.{holds};
-ghost use Rattle.halfbrown.specs.State.{IsState, WithPairs, contents_of};
+ghost use Rattle.halfbrown.specs.State.{IsState, WithPairs};
 
 use super::LimitedHashMap;
-use super::lookup::Vacancy;
 use crate::Limit;
+use half_store::Vacancy;
 use std::hash::{BuildHasher, Hash};
 
 impl<K: Eq + Hash, V, S: BuildHasher, L: Limit> LimitedHashMap<K, V, S, L> {
     /// Hands the value of the pair at this index to `f`, with its key. Where `f` returns none the pair is removed, and
-    /// its key returned with a vacancy for it, which is still to be probed for.
+    /// its key returned with its hash, at which a vector does not look.
     #[inline]
     pub(crate) fn replace_at<F: FnOnce(&K, V) -> Option<V>>(
         &mut self,
         index: usize,
         f: F,
-    ) -> Option<(K, Vacancy)>
+    ) -> Option<(K, u64)>
         requires within { index < length self.old.pairs }
         requires callable { (key : Bor K) (value : V) → slice_get self.old.pairs index ≡ Some (key.now, value)
             → F.pre f key value }
         ensures replaces { Replaces (F.post f) self.old.pairs index self.new.pairs
             (option_map (λ removed. removed.0) result) }
         ensures after { WithPairs self.old self.new.pairs self.new }
-        ensures vacant { IfSome result (λ removed. IsVacancy self.new.is_vec (contents_of self.new)
-            (key_hash S.BuildHasher S.Hasher.Hasher K.hash_input self.new.builder removed.0) removed.1) }
+        ensures hash { IfSome result (λ removed. self.new.is_vec ≡ false
+            → removed.1 ≡ key_hash S.BuildHasher S.Hasher.Hasher K.hash_input self.new.builder removed.0) }
         ensures absent { IfSome result (λ removed. holds K.eq self.new.pairs removed.0 ≡ false) }
         ensures capacity_left { OnSome result (length self.new.pairs < self.new.capacity) }
-        ensures unprobed { IfSome result (λ removed. is_unprobed removed.1 ≡ not self.new.is_vec) }
         ensures state { IsState K.eq L.LIMIT self.new }
     {
-        match self.columns.replace_with(index, f) {
-            Some(key) => Some((key, self.form.remove(index))),
-            None => None,
-        }
+        self.store.replace_with(index, f)
     }
 
     /// Moves the pair at this index of a vector to the end: the pair that was last takes its index. Returns its new index.
@@ -54,7 +49,7 @@ impl<K: Eq + Hash, V, S: BuildHasher, L: Limit> LimitedHashMap<K, V, S, L> {
     {
         let last = self.len() - 1;
         let (key, value) = self.take_at(index);
-        self.push(key, value, Vacancy::InVector);
+        self.push(key, value, Vacancy { hash: 0, bucket: 0 });
         last
     }
 }

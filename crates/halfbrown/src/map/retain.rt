@@ -31,6 +31,6 @@ impl<K: Eq + Hash, V, S: BuildHasher, L: Limit> LimitedHashMap<K, V, S, L> {
         ensures builder { self.new.builder ≡ self.old.builder }
         ensures state { IsState K.eq L.LIMIT self.new }
     {
-        self.form.retain(&mut self.columns, f);
+        self.store.retain(f);
     }
 }

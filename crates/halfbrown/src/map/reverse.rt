@@ -12,7 +12,6 @@ impl<K: Eq + Hash, V, S: BuildHasher, L: Limit> LimitedHashMap<K, V, S, L> {
         ensures after { WithPairs self.old (reverse self.old.pairs) self.new }
         ensures small { length self.old.pairs < 2 ^ 63 }
     {
-        self.form.reverse();
-        self.columns.reverse();
+        self.store.reverse();
     }
 }

@@ -8,10 +8,8 @@ ghost use Rattle.halfbrown.specs.Growth.{is_full, stays_vec, IsRefusal, IsGranta
 ghost use Rattle.halfbrown.specs.State.{IsState};
 
 use super::LimitedHashMap;
-use super::form::Form;
 use crate::Limit;
-use half_store::table::Table;
-use half_store::{Refusal, Tally, counting};
+use half_store::{Refusal, Table, Tally, counting};
 use std::hash::{BuildHasher, Hash};
 
 impl<K: Eq + Hash, V, S: BuildHasher, L: Limit> LimitedHashMap<K, V, S, L> {
@@ -34,7 +32,7 @@ impl<K: Eq + Hash, V, S: BuildHasher, L: Limit> LimitedHashMap<K, V, S, L> {
             else tally.old) }
         ensures state { IsState K.eq L.LIMIT self.new }
     {
-        if !self.form.is_vec() || self.columns.len() < L::LIMIT {
+        if !self.store.is_vec() || self.store.len() < L::LIMIT {
             return Ok(());
         }
         self.switch(tally)
@@ -55,12 +53,10 @@ impl<K: Eq + Hash, V, S: BuildHasher, L: Limit> LimitedHashMap<K, V, S, L> {
         ensures work { tally.new ≡ (if is_ok result then asked_more L.LIMIT tally.old else tally.old) }
         ensures state { IsState K.eq L.LIMIT self.new }
     {
-        let _ = &self.columns; // opens the invariant for the prover, and does nothing
         let needed = L::LIMIT.saturating_add(1);
-        let mut table = Table::with_capacity(self.alloc, needed)?;
-        self.columns.reserve(table.capacity())?;
-        store_hashes(&self.builder, self.columns.keys(), &mut table, tally);
-        self.form = Form::from_table(table);
+        let mut index = self.store.new_index(needed)?;
+        store_hashes(&self.builder, self.store.keys(), &mut index, tally);
+        self.store.switch_to(index);
         Ok(())
     }
 }

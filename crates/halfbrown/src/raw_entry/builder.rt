@@ -11,9 +11,8 @@ ghost use Rattle.halfbrown.specs.Pairs.{pair_by, value_by};
 ghost use Rattle.halfbrown.specs.RawEntryBuilder.{map_in};
 
 use super::LimitedRawEntryBuilder;
-use crate::map::lookup::Lookup;
 use crate::{Equivalent, Limit};
-use half_store::Tally;
+use half_store::{Lookup, Tally};
 use std::hash::{BuildHasher, Hash};
 
 impl<'a, K: Eq + Hash, V, S: BuildHasher, L: Limit> LimitedRawEntryBuilder<'a, K, V, S, L> {

@@ -13,9 +13,8 @@ use super::{
     LimitedRawEntryBuilderMut, LimitedRawEntryMut, LimitedRawOccupiedEntryMut,
     LimitedRawVacantEntryMut, Prepared,
 };
-use crate::map::lookup::Lookup;
 use crate::{Equivalent, Limit};
-use half_store::Tally;
+use half_store::{Lookup, Tally};
 use std::hash::{BuildHasher, Hash};
 
 impl<'a, K: Eq + Hash, V, S: BuildHasher, L: Limit> LimitedRawEntryBuilderMut<'a, K, V, S, L> {

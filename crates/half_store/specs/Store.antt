@@ -1,0 +1,75 @@
+-- What contracts see of a store.
+use Rattle.std.specs.Prelude.{◌≡◌, ℕ, ◌≤◌, Bool, true, false, List, [], ◌∷◌, ◌++◌, length, min, Option, None, Some, if◌then◌else◌}
+use Rattle.half_store.specs.declared.store.lookup.Vacancy.{Vacancy}
+use Rattle.half_store.specs.Capacity.{capacity_of}
+use Rattle.half_store.specs.Pairs.{Pairs}
+use Rattle.half_store.specs.Table.{TableState, Contents, contents_of, no_contents, contents_code, with_hash_in, IsVacancyIn}
+use base.Stored.{Coded, coded×, coded_list, coded_ℕ, coded_bool, coded_via}
+
+-- the form, the pairs in order, and how many fit; the stored hashes by entry index and what the buckets contain, of which a vector has none
+pub record StoreState (K V : Type 0) : Type 0 where
+  pub is_vec : Bool
+  pub pairs : List (K × V)
+  pub capacity : ℕ
+  pub hashes : List ℕ
+  pub contents : Contents
+
+module _ {K V : Type 0} where
+  -- a vector of these columns
+  abbrev pub vector_of : Pairs K V → StoreState K V
+  vector_of columns = record { is_vec = true; pairs = columns.pairs; capacity = columns.capacity; hashes = []; contents = no_contents }
+
+  -- a table of these columns and this index, which decides how many pairs fit
+  abbrev pub table_of : Pairs K V → TableState → StoreState K V
+  table_of columns t = record { is_vec = false; pairs = columns.pairs; capacity = capacity_of t.buckets; hashes = t.hashes; contents = contents_of t }
+
+  -- columns without an index are a vector
+  abbrev pub store_of : Pairs K V → Option TableState → StoreState K V
+  store_of columns None = vector_of columns
+  store_of columns (Some t) = table_of columns t
+
+  -- an index has a hash for each pair, and no more capacity than the columns
+  pub record IsIndexOfColumns (columns : Pairs K V) (t : TableState) : Type 0 where
+    pub len : length t.hashes ≡ length columns.pairs
+    pub backed : capacity_of t.buckets ≤ columns.capacity
+
+  -- what is always true of the columns and the index
+  abbrev pub IsStore : Pairs K V → Option TableState → Type 0
+  IsStore columns None = Unit {0}
+  IsStore columns (Some t) = IsIndexOfColumns columns t
+
+  -- the form and the capacity stay
+  pub record KeepsForm (old new : StoreState K V) : Type 0 where
+    pub form : new.is_vec ≡ old.is_vec
+    pub capacity : new.capacity ≡ old.capacity
+
+  -- the store with these pairs, all else the same
+  abbrev pub with_pairs : StoreState K V → List (K × V) → StoreState K V
+  with_pairs s ps = record s { pairs = ps }
+
+-- as many of `capacity` pairs as a form may hold: a vector no more than the limit
+abbrev pub allowed : ℕ → Bool → ℕ → ℕ
+allowed limit is_vec capacity = if is_vec then min capacity limit else capacity
+
+-- a pair of this hash may be added here: in a table at the empty bucket where an insertion probe for it ends; a vector looks at neither
+abbrev pub IsVacancy : Bool → Contents → ℕ → Vacancy → Type 0
+IsVacancy is_vec contents hash vacancy = is_vec ≡ false → (vacancy.hash ≡ hash) × IsVacancyIn contents hash vacancy.bucket
+
+-- what the buckets contain once a pair is added here
+abbrev pub filled : Bool → Contents → Vacancy → Contents
+filled is_vec contents vacancy = if is_vec then contents else with_hash_in contents vacancy.hash vacancy.bucket
+
+-- the store with one pair more, which is added here
+abbrev pub pushed : {K V : Type 0} → StoreState K V → K → V → Vacancy → StoreState K V
+pushed s k v vacancy = record {
+  is_vec = s.is_vec;
+  pairs = s.pairs ++ (k, v) ∷ [];
+  capacity = s.capacity;
+  hashes = if s.is_vec then s.hashes else s.hashes ++ vacancy.hash ∷ [];
+  contents = filled s.is_vec s.contents vacancy;
+}
+
+abbrev pub store_code : {K V : Type 0} → Coded K → Coded V → Coded (StoreState K V)
+store_code k v = coded_via (coded× coded_bool (coded× (coded_list (coded× k v)) (coded× coded_ℕ (coded× (coded_list coded_ℕ) contents_code))))
+    (λ s. (s.is_vec, (s.pairs, (s.capacity, (s.hashes, s.contents)))))
+    (λ a b e i. record { is_vec = (e i).0; pairs = (e i).1.0; capacity = (e i).1.1.0; hashes = (e i).1.1.1.0; contents = (e i).1.1.1.1 })

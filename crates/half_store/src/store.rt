@@ -1,0 +1,128 @@
+//! Pairs in two forms over the same two columns: a vector, which is searched from first to last, or a table, which has an
+//! index.
+ghost use Rattle.std.specs.Prelude.{◌≡◌, ◌^◌, ◌<◌, [], length, reverse};
+ghost use Rattle.half_store.specs.Store.{vector_of, allowed, KeepsForm};
+
+mod at;
+mod change;
+mod columns;
+mod find;
+pub mod lookup;
+mod memory;
+mod switch;
+
+use crate::{Table, VecMap};
+use std::alloc::Global;
+use std::marker::Model;
+
+/// Pairs in order, in one of two forms. Which hash a pair has is told by those who add it, and what a search compares.
+#[derive(Drop)]
+pub struct Store<K, V> {
+    columns: VecMap<K, V>,
+    // by hash; a vector has none
+    index: Option<Table>,
+}
+
+impl<K, V> Model for Store<K, V> {
+    ghost use Rattle.half_store.specs.Store.{StoreState, store_of, store_code, IsStore};
+
+    ghost Value = { StoreState K V };
+
+    ghost coded = { store_code K.code V.code };
+
+    ghost view = { λ s. store_of s.columns s.index };
+
+    ghost invariant = { λ s. IsStore s.columns s.index };
+}
+
+impl<K, V> Store<K, V> {
+    /// A vector with no pairs. It takes no memory.
+    ///
+    /// ```
+    /// let mut ages: Store<u64, u32> = Store::new(alloc);
+    /// ```
+    pub fn new(alloc: Global) -> Store<K, V>
+        ensures { result ≡ vector_of (record { pairs = []; capacity = 0 }) }
+    {
+        Store {
+            columns: VecMap::new(alloc),
+            index: None,
+        }
+    }
+
+    /// How many pairs are held.
+    ///
+    /// ```
+    /// let count = ages.len(); // 2
+    /// ```
+    #[inline(always)]
+    pub fn len(&self) -> usize
+        ensures len { result ≡ length self.now.pairs }
+        ensures small { result < 2 ^ 63 }
+    {
+        self.columns.len()
+    }
+
+    /// Whether the form is the vector.
+    ///
+    /// ```
+    /// let is_vector = ages.is_vec(); // true
+    /// ```
+    #[inline(always)]
+    pub fn is_vec(&self) -> bool
+        ensures { result ≡ self.now.is_vec }
+    {
+        self.index.is_none()
+    }
+
+    /// How many pairs fit before more memory is needed; in a vector no more than the limit.
+    ///
+    /// ```
+    /// let capacity = ages.capacity(5); // 5: there is memory for eight
+    /// ```
+    #[inline(always)]
+    pub fn capacity(&self, limit: usize) -> usize
+        ensures { result ≡ allowed limit self.now.is_vec self.now.capacity }
+    {
+        match &self.index {
+            Some(table) => table.capacity(),
+            None => self.columns.capacity().min(limit),
+        }
+    }
+
+    /// Removes all pairs. The form and the capacity stay.
+    ///
+    /// ```
+    /// ages.clear();
+    /// ```
+    pub fn clear(&mut self)
+    where
+        K: Drop,
+        V: Drop,
+        ensures pairs { self.new.pairs ≡ [] }
+        ensures hashes { self.new.hashes ≡ [] }
+        ensures form { KeepsForm self.old self.new }
+    {
+        if let Some(table) = &mut self.index {
+            table.clear();
+        }
+        self.columns.clear();
+    }
+
+    /// Puts the pairs in the opposite order.
+    ///
+    /// ```
+    /// ages.reverse();
+    /// ```
+    pub fn reverse(&mut self)
+        ensures pairs { self.new.pairs ≡ reverse self.old.pairs }
+        ensures hashes { self.new.hashes ≡ reverse self.old.hashes }
+        ensures form { KeepsForm self.old self.new }
+        ensures small { length self.old.pairs < 2 ^ 63 }
+    {
+        if let Some(table) = &mut self.index {
+            table.reverse();
+        }
+        self.columns.reverse();
+    }
+}

@@ -1,0 +1,105 @@
+//! Adding and removing pairs.
+ghost use Rattle.std.specs.Prelude.{◌≡◌, ℕ, ◌<◌, ◌≤◌, false, Some, None, IfSome, IfNone, length, map, slice_get};
+ghost use Rattle.std.specs.Borrow.{Bor};
+ghost use Rattle.std.specs.Map.{keys_of};
+ghost use Rattle.std.specs.Map.Calls.{CalledAtPair, TakesPair, CallableOnEachPair, RetainsPairs};
+ghost use Rattle.std.specs.Option.{option_map};
+ghost use Rattle.half_store.specs.Pairs.{swap_out};
+ghost use Rattle.half_store.specs.Replaced.{Replaces};
+ghost use Rattle.half_store.specs.Store.{pushed, IsVacancy, KeepsForm};
+
+use super::Store;
+use super::lookup::Vacancy;
+
+impl<K, V> Store<K, V> {
+    /// Adds a pair at the end, at a vacancy for its hash. The capacity must be enough for it. It reads no bucket.
+    ///
+    /// ```
+    /// ages.push(1, 36, vacancy);
+    /// ```
+    #[inline(always)]
+    pub fn push(&mut self, key: K, value: V, vacancy: Vacancy)
+        requires capacity { length self.old.pairs < self.old.capacity }
+        requires vacant { IsVacancy self.old.is_vec self.old.contents vacancy.hash vacancy }
+        ensures { self.new ≡ pushed self.old key value vacancy }
+    {
+        if let Some(table) = &mut self.index {
+            table.add_at(vacancy.hash, vacancy.bucket);
+        }
+        self.columns.push(key, value);
+    }
+
+    /// Removes the pair at this index. The last pair takes its index.
+    ///
+    /// ```
+    /// let pair = ages.swap_remove(0); // 1 and 36; the pair of 2 has index 0 now
+    /// ```
+    #[inline(always)]
+    pub fn swap_remove(&mut self, index: usize) -> (K, V)
+        requires { index < length self.old.pairs }
+        ensures removed { slice_get self.old.pairs index ≡ Some result }
+        ensures pairs { self.new.pairs ≡ swap_out self.old.pairs index }
+        ensures hashes { self.old.is_vec ≡ false → self.new.hashes ≡ swap_out self.old.hashes index }
+        ensures form { KeepsForm self.old self.new }
+    {
+        if let Some(table) = &mut self.index {
+            table.remove(index);
+        }
+        self.columns.swap_remove(index)
+    }
+
+    /// Hands the value of the pair at this index to `f`, with its key. Where `f` returns a value the pair has that one, and
+    /// else it is removed, and its key returned with its hash, which is 0 in a vector: the last pair takes its index.
+    ///
+    /// ```
+    /// let removed = ages.replace_with(0, |_, age| age.checked_sub(1)); // none, unless the age was 0
+    /// ```
+    #[inline]
+    pub fn replace_with<F: FnOnce(&K, V) -> Option<V>>(
+        &mut self,
+        index: usize,
+        f: F,
+    ) -> Option<(K, u64)>
+        requires within { index < length self.old.pairs }
+        requires callable { (key : Bor K) (value : V) → slice_get self.old.pairs index ≡ Some (key.now, value)
+            → F.pre f key value }
+        ensures replaces { Replaces (F.post f) self.old.pairs index self.new.pairs
+            (option_map (λ removed. removed.0) result) }
+        ensures hash { IfSome result (λ removed. self.old.is_vec ≡ false
+            → slice_get self.old.hashes index ≡ Some removed.1) }
+        ensures hashes { IfSome result (λ _. self.old.is_vec ≡ false
+            → self.new.hashes ≡ swap_out self.old.hashes index) }
+        ensures kept { IfNone result (self.new.hashes ≡ self.old.hashes) }
+        ensures form { KeepsForm self.old self.new }
+    {
+        let key = self.columns.replace_with(index, f)?;
+        let hash = match &mut self.index {
+            Some(table) => table.remove(index),
+            None => 0,
+        };
+        Some((key, hash))
+    }
+
+    /// Calls `f` at each pair, in order, and keeps those that it accepts, in their order, with the values that it left.
+    ///
+    /// ```
+    /// ages.retain(|_, age| *age < 40); // the pair of 2 is gone, whose age is 44
+    /// ```
+    pub fn retain<F: FnMut(&K, &mut V) -> bool>(&mut self, f: F)
+    where
+        K: Drop,
+        V: Drop,
+        requires { CallableOnEachPair (CalledAtPair F.FnMut) (TakesPair F.FnMut) f self.old.pairs }
+        ensures kept { RetainsPairs (CalledAtPair F.FnMut) f self.old.pairs self.new.pairs }
+        ensures len { length self.new.pairs ≤ length self.old.pairs }
+        ensures hashes { self.old.is_vec ≡ false → (hash : K → ℕ)
+            → self.old.hashes ≡ map hash (keys_of self.old.pairs)
+            → self.new.hashes ≡ map hash (keys_of self.new.pairs) }
+        ensures form { KeepsForm self.old self.new }
+    {
+        match &mut self.index {
+            Some(table) => table.retain(&mut self.columns, f),
+            None => self.columns.retain(f),
+        }
+    }
+}

@@ -1,0 +1,157 @@
+//! The capacity of a store: making it, and giving it back. On error nothing changes.
+ghost use Rattle.std.specs.Prelude.{◌≡◌, ◌+◌, ◌^◌, ◌<◌, ◌≤◌, ◌⊎◌, ◌||◌, false, [], length, nat_le, IsOk, IfOk, OnOk, OnErr, IfErr, if◌then◌else◌};
+ghost use Rattle.std.specs.List.{AllZip};
+ghost use Rattle.half_store.specs.Capacity.{capacity_for, grown_capacity};
+ghost use Rattle.half_store.specs.Refusal.{refusal_of};
+ghost use Rattle.half_store.specs.Store.{allowed};
+
+use super::Store;
+use crate::capacity::capacity_for;
+use crate::refusal::check_size;
+use crate::{Refusal, Table, VecMap};
+use std::alloc::Global;
+
+impl<K, V> Store<K, V> {
+    /// No pairs, with capacity for so many: a vector with exactly this capacity where the limit allows them, else a table.
+    ///
+    /// ```
+    /// let mut ages: Store<u64, u32> = Store::with_capacity(alloc, 2, 32)?; // a vector
+    /// ```
+    pub fn with_capacity(
+        alloc: Global,
+        capacity: usize,
+        limit: usize,
+    ) -> Result<Store<K, V>, Refusal>
+        ensures form { IfOk result (λ s. s.is_vec ≡ nat_le capacity limit) }
+        ensures pairs { IfOk result (λ s. s.pairs ≡ []) }
+        ensures hashes { IfOk result (λ s. s.hashes ≡ []) }
+        ensures capacity { IfOk result (λ s. s.capacity ≡ (if s.is_vec then capacity else capacity_for capacity)) }
+        ensures series { IfOk result (λ s. s.is_vec ≡ false → s.capacity ≡ capacity_for s.capacity) }
+        ensures exceeds { IfOk result (λ s. s.is_vec ≡ false → limit < s.capacity) }
+        ensures granted { OnOk result (capacity ≤ 2 ^ 60) }
+        ensures refused { IfErr result (λ why. why ≡ refusal_of capacity) }
+        ensures none { capacity ≡ 0 → IsOk result }
+    {
+        check_size(capacity)?;
+        if capacity <= limit {
+            return Ok(Store {
+                columns: VecMap::with_capacity(alloc, capacity)?,
+                index: None,
+            });
+        }
+        let table = Table::with_capacity(alloc, capacity)?;
+        Ok(Store {
+            columns: VecMap::with_capacity(alloc, table.capacity())?,
+            index: Some(table),
+        })
+    }
+
+    /// Makes the capacity enough for so many pairs more, in a vector for no more in all than the limit.
+    ///
+    /// Where it is not enough yet, a table gets the least of its series that is, and a vector grows as `VecMap::grow` says.
+    ///
+    /// ```
+    /// ages.reserve(20, 32)?; // capacity 22
+    /// ```
+    #[inline(never)]
+    pub fn reserve(&mut self, additional: usize, limit: usize) -> Result<(), Refusal>
+        ensures pairs { self.new.pairs ≡ self.old.pairs }
+        ensures form { self.new.is_vec ≡ self.old.is_vec }
+        ensures hashes { self.new.hashes ≡ self.old.hashes }
+        ensures enough { OnOk result (allowed limit self.old.is_vec (length self.old.pairs + additional)
+            ≤ allowed limit self.old.is_vec self.new.capacity) }
+        ensures unneeded { OnOk result (allowed limit self.old.is_vec (length self.old.pairs + additional)
+            ≤ allowed limit self.old.is_vec self.old.capacity → self.new ≡ self.old) }
+        ensures grown { OnOk result (allowed limit self.old.is_vec self.old.capacity
+            < allowed limit self.old.is_vec (length self.old.pairs + additional)
+            → self.new.capacity ≡ (if self.old.is_vec
+                then grown_capacity limit self.old.capacity (allowed limit self.old.is_vec (length self.old.pairs + additional))
+                else capacity_for (allowed limit self.old.is_vec (length self.old.pairs + additional)))) }
+        ensures more { self.old.capacity ≤ self.new.capacity }
+        ensures series { self.new.is_vec ≡ false → self.new.capacity ≡ capacity_for self.new.capacity }
+        ensures granted { OnOk result (allowed limit self.old.is_vec self.old.capacity
+            < allowed limit self.old.is_vec (length self.old.pairs + additional)
+            → allowed limit self.old.is_vec (length self.old.pairs + additional) ≤ 2 ^ 60) }
+        ensures refused { IfErr result (λ why. (allowed limit self.old.is_vec self.old.capacity
+            < allowed limit self.old.is_vec (length self.old.pairs + additional))
+            × (why ≡ refusal_of (allowed limit self.old.is_vec (length self.old.pairs + additional)))) }
+        ensures err { OnErr result (self.new ≡ self.old) }
+    {
+        let len = self.columns.len();
+        let Some(table) = &mut self.index else {
+            let needed = len.saturating_add(additional).min(limit);
+            return self.columns.grow(needed, limit);
+        };
+        if additional <= table.capacity() - len {
+            return Ok(());
+        }
+        let Some(needed) = len.checked_add(additional) else {
+            return Err(Refusal::Size);
+        };
+        // The columns may have more capacity than the table, which decides: so they grow first.
+        check_size(needed)?;
+        self.columns.reserve(capacity_for(needed))?;
+        table.reserve(needed)
+    }
+
+    /// Makes a table of no more pairs than the limit a vector, and shrinks the capacity to the least that the pairs fit.
+    /// Where memory is refused it stays; going back needs none, nor does a store with no pairs.
+    ///
+    /// ```
+    /// ages.shrink_to_fit(32); // a vector with capacity 2
+    /// ```
+    pub fn shrink_to_fit(&mut self, limit: usize)
+        requires { self.old.is_vec ≡ false → limit < self.old.capacity }
+        ensures pairs { self.new.pairs ≡ self.old.pairs }
+        ensures form { self.new.is_vec ≡ (self.old.is_vec || nat_le (length self.old.pairs) limit) }
+        ensures hashes { self.new.is_vec ≡ false → self.new.hashes ≡ self.old.hashes }
+        ensures capacity { (self.new.capacity ≡ (if self.new.is_vec then length self.old.pairs
+                else capacity_for (length self.old.pairs)))
+            ⊎ ((0 < length self.old.pairs)
+                × (allowed limit self.new.is_vec self.new.capacity ≡ allowed limit self.new.is_vec self.old.capacity)) }
+        ensures series { self.new.is_vec ≡ false → self.new.capacity ≡ capacity_for self.new.capacity }
+        ensures fits { self.new.is_vec ≡ false → length self.old.pairs ≤ self.new.capacity }
+    {
+        if self.columns.len() <= limit {
+            self.index = None;
+        }
+        match &mut self.index {
+            Some(table) => {
+                table.shrink_to_fit();
+                self.columns.shrink_to(table.capacity());
+            }
+            None => self.columns.shrink_to(0),
+        }
+    }
+
+    /// Clones of the pairs in the same form, with the same stored hashes. A table has the same capacity, and a vector none to
+    /// spare.
+    ///
+    /// ```
+    /// let copy = ages.clone()?;
+    /// ```
+    pub fn clone(&self) -> Result<Store<K, V>, Refusal>
+    where
+        K: Clone,
+        V: Clone,
+        ensures form { IfOk result (λ s. s.is_vec ≡ self.now.is_vec) }
+        ensures pairs { IfOk result (λ s. AllZip (λ p q. K.is_clone p.0 q.0 × V.is_clone p.1 q.1)
+            self.now.pairs s.pairs) }
+        ensures capacity { IfOk result (λ s. s.capacity
+            ≡ (if self.now.is_vec then length self.now.pairs else self.now.capacity)) }
+        ensures hashes { IfOk result (λ s. s.hashes ≡ self.now.hashes) }
+        ensures refused { IfErr result (λ why. why ≡ Refusal.Memory) }
+    {
+        let Some(table) = &self.index else {
+            return Ok(Store {
+                columns: self.columns.clone_with_capacity(self.columns.len())?,
+                index: None,
+            });
+        };
+        let copy = table.copy()?;
+        Ok(Store {
+            columns: self.columns.clone_with_capacity(table.capacity())?,
+            index: Some(copy),
+        })
+    }
+}
