@@ -1,11 +1,12 @@
 -- What the fields of a clone keep.
-use Rattle.std.proofs.Common.{◌≡◌, ℕ, suc, Bool, true, false, List, [], ◌∷◌, length, map, cond, sym, refl, ◌∙◌, arith, true≢false}
+use Rattle.std.proofs.Common.{◌≡◌, ℕ, suc, ◌<◌, ◌≤◌, Bool, true, false, List, [], ◌∷◌, length, map, cond, sym, refl, ap, subst, ◌∙◌, arith}
 use Rattle.std.specs.Cmp.{IsEquivalence}
 use Rattle.std.specs.List.{AllZip, AllByRecursion, Contains, IsDistinct}
 use Rattle.std.specs.Map.{keys_of}
-use Rattle.half_store.specs.Capacity.{capacity_of}
+use Rattle.half_store.specs.Store.{StoreState, allowed}
 use Rattle.halfbrown.specs.Clone.{ArePairClones}
 use Rattle.halfbrown.specs.Layout.{IsKept}
+use Rattle.halfbrown.specs.State.{IsTableCapacity}
 
 -- the keys, of the pairs
 pub keys_zip : {K V : Type 0} (R : K → K → Type 0) (Q : V → V → Type 0) (ps qs : List (K × V)) → ArePairClones R Q ps qs → AllZip R (keys_of ps) (keys_of qs)
@@ -28,6 +29,10 @@ map-zip f g [] (y ∷ ys) zip = absurd zip
 map-zip f g (x ∷ xs) [] zip = absurd zip
 map-zip f g (x ∷ xs) (y ∷ ys) zip = λ i. zip.0 i ∷ map-zip f g xs ys zip.1 i
 
+clone_fits : (limit len capacity : ℕ) (is_vec : Bool) → len ≤ allowed limit is_vec capacity → len ≤ allowed limit is_vec (cond is_vec len capacity)
+clone_fits limit len capacity true fits = omega arith
+clone_fits limit len capacity false fits = fits
+
 module _ {K : Type 0} (eq : K → K → Bool) (laws : IsEquivalence eq) where
   all_apart : (k l : K) (ks ls : List K) → eq k l ≡ true → AllZip (λ x y. eq x y ≡ true) ks ls → AllByRecursion (λ y. eq k y ≡ false) ks → AllByRecursion (λ y. eq l y ≡ false) ls
   all_apart k l [] [] same zip all = tt
@@ -44,23 +49,16 @@ module _ {K : Type 0} (eq : K → K → Bool) (laws : IsEquivalence eq) where
   IsDistinct-zip (k ∷ ks) [] zip distinct = absurd zip
   IsDistinct-zip (k ∷ ks) (l ∷ ls) zip distinct = (all_apart k l ks ls zip.0 zip.1 distinct.0, IsDistinct-zip ks ls zip.1 distinct.1)
 
-  -- the fields of a clone, whose columns are as large as the form asks
-  pub kept_cloned : {V : Type 0} (hash also_hash : K → ℕ) (limit : ℕ) (ps qs : List (K × V)) (columns after : ℕ) (is_vec : Bool) (hashes : List ℕ) (buckets : ℕ)
-      → length qs ≡ length ps → AllZip (λ x y. eq x y ≡ true) (keys_of ps) (keys_of qs) → (is_vec ≡ false → map also_hash (keys_of qs) ≡ map hash (keys_of ps))
-      → after ≡ cond is_vec (length ps) (capacity_of buckets) → IsKept eq hash limit ps columns is_vec hashes buckets → IsKept eq also_hash limit qs after is_vec hashes buckets
-  kept_cloned hash also_hash limit ps qs columns after true hashes buckets len alike hashed capacity kept = record {
-    distinct = IsDistinct-zip (keys_of ps) (keys_of qs) alike kept.distinct;
-    fits = omega (arith, len, capacity, kept.fits);
-    backed = omega arith;
-    hashed = λ form. absurd (true≢false form);
-    series = kept.series;
-    exceeds = kept.exceeds;
-  }
-  kept_cloned hash also_hash limit ps qs columns after false hashes buckets len alike hashed capacity kept = record {
-    distinct = IsDistinct-zip (keys_of ps) (keys_of qs) alike kept.distinct;
-    fits = omega (arith, len, kept.fits);
-    backed = omega (arith, capacity);
-    hashed = λ form. kept.hashed form ∙ sym (hashed form);
-    series = kept.series;
-    exceeds = kept.exceeds;
-  }
+  -- the fields of a clone
+  pub kept_cloned : {V : Type 0} (hash also_hash : K → ℕ) (limit : ℕ) (old new : StoreState K V) → IsKept eq hash limit old → new.is_vec ≡ old.is_vec → length new.pairs ≡ length old.pairs
+      → AllZip (λ x y. eq x y ≡ true) (keys_of old.pairs) (keys_of new.pairs) → (old.is_vec ≡ false → map also_hash (keys_of new.pairs) ≡ map hash (keys_of old.pairs))
+      → new.capacity ≡ cond old.is_vec (length old.pairs) old.capacity → new.hashes ≡ old.hashes → IsKept eq also_hash limit new
+  kept_cloned hash also_hash limit old new kept form len alike hashed capacity hashes =
+      let table_capacity : old.is_vec ≡ false → new.capacity ≡ old.capacity = λ table. capacity ∙ ap (λ b. cond b (length old.pairs) old.capacity) table in
+      record {
+        distinct = IsDistinct-zip (keys_of old.pairs) (keys_of new.pairs) alike kept.distinct;
+        fits = subst (λ t. t) (λ i. sym len i ≤ allowed limit (sym form i) (sym capacity i)) (clone_fits limit (length old.pairs) old.capacity old.is_vec kept.fits);
+        hashed = λ table. let in_table = sym form ∙ table in hashes ∙ kept.hashed in_table ∙ sym (hashed in_table);
+        series = λ table. let in_table = sym form ∙ table in subst IsTableCapacity (sym (table_capacity in_table)) (kept.series in_table);
+        exceeds = λ table. let in_table = sym form ∙ table in subst (λ n. limit < n) (sym (table_capacity in_table)) (kept.exceeds in_table);
+      }

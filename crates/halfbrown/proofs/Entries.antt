@@ -10,6 +10,7 @@ use Rattle.std.specs.declared.hash.Hash as hash
 use Rattle.std.specs.declared.hash.Hasher as hasher
 use Rattle.std.specs.declared.hash.BuildHasher as builder
 use Rattle.half_store.specs.Pairs.{set_value, swap_out}
+use Rattle.half_store.specs.Store.{filled}
 use Rattle.half_store.specs.Table.{Contents}
 use Rattle.halfbrown.specs.declared.entry.LimitedOccupiedEntry.{LimitedOccupiedEntry}
 use Rattle.halfbrown.specs.declared.entry.LimitedVacantEntry.{LimitedVacantEntry}
@@ -20,7 +21,7 @@ use Rattle.halfbrown.specs.Growth.{insert_needs}
 use Rattle.halfbrown.specs.Insertion.{Puts}
 use Rattle.halfbrown.specs.Lookup.{IsIndexOf, IsAbsent}
 use Rattle.halfbrown.specs.Pairs.{put, take_out}
-use Rattle.halfbrown.specs.Preparation.{Prepares, filled, pushed}
+use Rattle.halfbrown.specs.Preparation.{Prepares, pushed}
 use Rattle.halfbrown.specs.State.{State, state, contents_of, with_pairs}
 use Rattle.halfbrown.specs.Updates.{HasPut, HasRemoved}
 use Rattle.halfbrown.proofs.CallerLemmas.{has_put, has_removed}
@@ -112,7 +113,7 @@ module _ {K V S L H : Type 0} {e : eq.Ghosts K} {h : hash.Ghosts K} {b : builder
     pub missing_writes : WritesPut limit same old v.key (Vacant v)
     unfolding with_value
     missing_writes = record {
-      puts = λ value. puts_at limit same laws old v.map.now v.key prepared (v.map.now.pairs ++ (v.key, value) ∷ []) (filled (contents_of v.map.now) v.vacancy) value (absent.put_is v.key value);
+      puts = λ value. puts_at limit same laws old v.map.now v.key prepared (v.map.now.pairs ++ (v.key, value) ∷ []) (filled v.map.now.is_vec (contents_of v.map.now) v.vacancy) value (absent.put_is v.key value);
       put = λ value. has_put_at limit same laws old v.map.now v.key prepared (v.map.now.pairs ++ (v.key, value) ∷ []) value (absent.put_is v.key value);
     }
 

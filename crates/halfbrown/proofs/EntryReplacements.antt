@@ -19,8 +19,7 @@ use Rattle.halfbrown.specs.Entry.{Occupied, Vacant, with_value}
 use Rattle.halfbrown.specs.Replacement.{ReplacesEntry, KeepsPair, LosesPair}
 use Rattle.halfbrown.specs.State.{State, WithPairs}
 use Rattle.halfbrown.proofs.Entries.{key_of-pair, set_value-last, value-last}
-use Rattle.halfbrown.proofs.Kept.{length-set_value}
-use Rattle.halfbrown.proofs.Replacements.{kept_value, lost_pair}
+use Rattle.half_store.proofs.Stores.{length-set_value, kept_value, lost_pair}
 use Rattle.halfbrown.proofs.Written.{set_value-twice, value-set_value, swap_out-set_value}
 
 take-front : {X : Type 0} (xs ys : List X) → take (length xs) (xs ++ ys) ≡ xs

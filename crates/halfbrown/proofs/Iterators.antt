@@ -5,15 +5,16 @@ use Rattle.std.specs.Iterator.{YieldsFirstRef}
 use Rattle.std.specs.Iterator.Runs.{YieldsMutRefsInOrder}
 use Rattle.std.specs.Map.{keys_of, values_of}
 use Rattle.std.specs.Map.Iter.{TakesFirst, ShowsValuesInOrder, GivesInOrder, LendsFirst, LendsValuesInOrder, deref_pair}
-use Rattle.half_store.specs.Pairs.{Pairs, set_values}
-use Rattle.half_store.specs.Pairs as store
-use Rattle.halfbrown.specs.Form.{FormState}
+use Rattle.half_store.proofs.Stores.{length-set_values}
+use Rattle.half_store.specs.Pairs.{set_values}
+use Rattle.half_store.specs.Store as store
+use Rattle.half_store.specs.Store.{StoreState}
 use Rattle.halfbrown.specs.Iter.{pairs_left, keys_left, values_left, IterSteps, ShowsPairsInOrder, ShowsPairValuesInOrder, ShowsKeysInOrder, values_mut_left, ValuesMutSteps}
 use Rattle.halfbrown.specs.Iter as it
 use Rattle.halfbrown.specs.Layout.{IsKept, state_in}
 use Rattle.halfbrown.specs.State.{State, IsState, with_pairs}
 use Rattle.halfbrown.specs.Updates.{HasValues}
-use Rattle.halfbrown.proofs.Kept.{kept_values, state_of}
+use Rattle.halfbrown.proofs.Kept.{kept_keys, state_of}
 
 module _ {K V : Type 0} where
   -- the columns side by side are the pairs
@@ -32,28 +33,20 @@ module _ {K V : Type 0} where
   values_of-set_values (p ∷ ps) [] even = absurd (omega arith)
   values_of-set_values (p ∷ ps) (v ∷ vs) even = ap (λ l. v ∷ l) (values_of-set_values ps vs (omega arith))
 
-  length-set_values : (ps : List (K × V)) (vs : List V) → length (set_values ps vs) ≡ length ps
-  length-set_values [] vs = refl
-  length-set_values (p ∷ ps) [] = refl
-  length-set_values (p ∷ ps) (v ∷ vs) = ap suc (length-set_values ps vs)
-
   pub has_values : (ps : List (K × V)) (vs : List V) → HasValues ps vs (set_values ps vs)
   has_values ps vs = record { keys = keys_of-set_values ps vs; values = values_of-set_values ps vs; len = length-set_values ps vs }
 
   -- the fields keep what they keep, whatever values are written
-  pub kept_written : (eq : K → K → Bool) (hash : K → ℕ) (limit : ℕ) (ps : List (K × V)) (columns : ℕ) (is_vec : Bool) (hashes : List ℕ) (buckets : ℕ)
-      → IsKept eq hash limit ps columns is_vec hashes buckets → (vs : List V) → IsKept eq hash limit (set_values ps vs) columns is_vec hashes buckets
-  kept_written eq hash limit ps columns is_vec hashes buckets kept vs =
-      kept_values eq hash limit ps (set_values ps vs) columns is_vec hashes buckets kept (keys_of-set_values ps vs) (length-set_values ps vs)
+  pub kept_written : (eq : K → K → Bool) (hash : K → ℕ) (limit : ℕ) (s : StoreState K V) → IsKept eq hash limit s → (vs : List V) → IsKept eq hash limit (store.with_pairs s (set_values s.pairs vs))
+  kept_written eq hash limit s kept vs = kept_keys eq hash limit s (set_values s.pairs vs) kept (keys_of-set_values s.pairs vs) (length-set_values s.pairs vs)
 
 -- the state of the fields once values are written
-module _ {K V S : Type 0} (eq : K → K → Bool) (hash : K → ℕ) (limit : ℕ) (columns : Pairs K V) (form : FormState) (builder : S) (map : State K V S) (is : state_in limit columns form builder ≡ map) where
-  pub written : (vs : List V) → state_in limit (store.with_pairs columns (set_values columns.pairs vs)) form builder ≡ with_pairs map (set_values map.pairs vs)
+module _ {K V S : Type 0} (eq : K → K → Bool) (hash : K → ℕ) (limit : ℕ) (s : StoreState K V) (builder : S) (map : State K V S) (is : state_in limit s builder ≡ map) where
+  pub written : (vs : List V) → state_in limit (store.with_pairs s (set_values s.pairs vs)) builder ≡ with_pairs map (set_values map.pairs vs)
   written vs = ap (λ m. with_pairs m (set_values m.pairs vs)) is
 
-  pub written_state : IsKept eq hash limit columns.pairs columns.capacity form.is_vec form.hashes form.buckets → (vs : List V) → IsState eq limit (with_pairs map (set_values map.pairs vs))
-  written_state kept vs = subst (IsState eq limit) (written vs)
-      (state_of eq hash limit (store.with_pairs columns (set_values columns.pairs vs)) form builder (kept_written eq hash limit columns.pairs columns.capacity form.is_vec form.hashes form.buckets kept vs))
+  pub written_state : IsKept eq hash limit s → (vs : List V) → IsState eq limit (with_pairs map (set_values map.pairs vs))
+  written_state kept vs = subst (IsState eq limit) (written vs) (state_of eq hash limit (store.with_pairs s (set_values s.pairs vs)) builder (kept_written eq hash limit s kept vs))
 
 module _ {X : Type 0} where
   pub gives_in_order : GivesInOrder X

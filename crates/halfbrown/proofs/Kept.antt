@@ -1,37 +1,31 @@
 -- What the fields of a map keep, from call to call.
-use Rattle.std.proofs.Common.{◌≡◌, ℕ, zero, suc, ◌<◌, ◌≤◌, Bool, true, false, List, [], ◌∷◌, ◌++◌, length, slice_get, Some, map, min, sym, refl, ap, subst, ◌∙◌, arith, true≢false}
-use Rattle.std.proofs.Math.ListN.{length-append}
+use Rattle.std.proofs.Common.{◌≡◌, ℕ, zero, suc, ◌<◌, ◌≤◌, Bool, true, false, List, [], ◌∷◌, ◌++◌, length, slice_get, Some, map, min, sym, refl, ap, subst, ◌∙◌, arith, true≢false, if◌then◌else◌}
 use Rattle.std.proofs.lemmas.List.{map-append}
+use Rattle.std.proofs.Math.ListN.{length-append}
 use Rattle.std.specs.Cmp.{IsEquivalence}
 use Rattle.std.specs.List.{IsDistinct}
 use Rattle.std.specs.Map.{keys_of}
 use Rattle.std.proofs.lemmas.Map.Entries.{length-keys_of}
 use Rattle.std.proofs.lemmas.Map.Keys.{IsDistinct-push}
-use Rattle.half_store.specs.Pairs.{Pairs, set_key, set_value, swap_out}
-use Rattle.half_store.specs.Table.{TableState, Contents}
-use Rattle.half_store.specs.Capacity.{capacity_of}
-use Rattle.halfbrown.specs.Form.{FormState, vector_form, table_form}
-use Rattle.halfbrown.specs.Layout.{IsKept, capacity_in, state_in}
-use Rattle.halfbrown.specs.Lookup.{IsAbsent, IsVacancy, stored_hash}
-use Rattle.halfbrown.specs.declared.map.lookup.Vacancy.{Vacancy}
-use Rattle.halfbrown.specs.declared.map.lookup.Vacancy.TheVariants.{InVector, InTable}
+use Rattle.half_store.proofs.Stores.{length-set_key}
+use Rattle.half_store.specs.Pairs.{set_key, set_value, swap_out}
+use Rattle.half_store.specs.Store as store
+use Rattle.half_store.specs.Store.{StoreState, KeepsForm, allowed}
+use Rattle.half_store.specs.declared.store.lookup.Vacancy.{Vacancy}
+use Rattle.halfbrown.specs.Layout.{IsKept, state_in}
+use Rattle.halfbrown.specs.Lookup.{IsAbsent}
 use Rattle.halfbrown.specs.State.{IsState, IsTableCapacity}
-use Rattle.halfbrown.proofs.Rekeyed.{keys_of-set_key, length-set_key, map-set_alike, IsDistinct-set}
+use Rattle.halfbrown.proofs.Rekeyed.{keys_of-set_key, map-set_alike, IsDistinct-set}
 use Rattle.halfbrown.proofs.SwapOut.{map-swap_out, length-swap_out, IsDistinct-swap_out}
 use Rattle.halfbrown.proofs.Indices.{none_of_index, any_of_none}
 
-capacity_within : (limit columns : ℕ) (is_vec : Bool) (buckets : ℕ) → is_vec ≡ true → capacity_in limit columns is_vec buckets ≤ limit
-capacity_within limit columns true buckets form = omega arith
-capacity_within limit columns false buckets form = absurd (true≢false (sym form))
+within_limit : (limit : ℕ) (is_vec : Bool) (capacity : ℕ) → is_vec ≡ true → allowed limit is_vec capacity ≤ limit
+within_limit limit true capacity form = omega arith
+within_limit limit false capacity form = absurd (true≢false (sym form))
 
-table_capacity_is : (limit columns : ℕ) (is_vec : Bool) (buckets : ℕ) → is_vec ≡ false → capacity_of buckets ≡ capacity_in limit columns is_vec buckets
-table_capacity_is limit columns true buckets form = absurd (true≢false form)
-table_capacity_is limit columns false buckets form = refl
-
--- the hash of a vacancy for a table is the one that it was made for
-pub stored_is : (contents : Contents) (hash : ℕ) (is_vec : Bool) (vacancy : Vacancy) → IsVacancy is_vec contents hash vacancy → is_vec ≡ false → stored_hash vacancy ≡ hash
-stored_is contents hash is_vec InVector vacant form = absurd (true≢false (sym vacant ∙ form))
-stored_is contents hash is_vec (InTable stored bucket) vacant form = vacant.1
+pub table_capacity_is : (limit : ℕ) (is_vec : Bool) (capacity : ℕ) → is_vec ≡ false → capacity ≡ allowed limit is_vec capacity
+table_capacity_is limit true capacity form = absurd (true≢false form)
+table_capacity_is limit false capacity form = refl
 
 module _ {K V : Type 0} where
   keys_of-push : (ps : List (K × V)) (k : K) (v : V) → keys_of (ps ++ (k, v) ∷ []) ≡ keys_of ps ++ k ∷ []
@@ -43,145 +37,76 @@ module _ {K V : Type 0} where
   keys_of-set_value (p ∷ ps) zero v = refl
   keys_of-set_value (p ∷ ps) (suc i) v = ap (λ l. p.0 ∷ l) (keys_of-set_value ps i v)
 
-  pub length-set_value : (ps : List (K × V)) (i : ℕ) (v : V) → length (set_value ps i v) ≡ length ps
-  length-set_value [] i v = refl
-  length-set_value (p ∷ ps) zero v = refl
-  length-set_value (p ∷ ps) (suc i) v = ap suc (length-set_value ps i v)
-
   module _ (eq : K → K → Bool) (hash : K → ℕ) (limit : ℕ) where
-    -- the form and the buckets may be written in another way
-    pub kept_same : (ps : List (K × V)) (columns : ℕ) (is_vec also_vec : Bool) (hashes : List ℕ) (buckets as_many : ℕ) → also_vec ≡ is_vec → as_many ≡ buckets
-        → IsKept eq hash limit ps columns is_vec hashes buckets → IsKept eq hash limit ps columns also_vec hashes as_many
-    kept_same ps columns is_vec also_vec hashes buckets as_many form count kept =
-        subst (λ b. IsKept eq hash limit ps columns b hashes as_many) (sym form)
-        (subst (λ n. IsKept eq hash limit ps columns is_vec hashes n) (sym count) kept)
+    -- other pairs in the same form, with their hashes
+    pub kept_as : (old new : StoreState K V) → IsKept eq hash limit old → KeepsForm old new → IsDistinct eq (keys_of new.pairs)
+        → length new.pairs ≤ allowed limit old.is_vec old.capacity → (old.is_vec ≡ false → new.hashes ≡ map hash (keys_of new.pairs)) → IsKept eq hash limit new
+    kept_as old new kept keeps distinct fits hashed = record {
+      distinct = distinct;
+      fits = subst (λ t. t) (λ i. length new.pairs ≤ allowed limit (sym keeps.form i) (sym keeps.capacity i)) fits;
+      hashed = λ table. hashed (sym keeps.form ∙ table);
+      series = λ table. subst IsTableCapacity (sym keeps.capacity) (kept.series (sym keeps.form ∙ table));
+      exceeds = λ table. subst (λ n. limit < n) (sym keeps.capacity) (kept.exceeds (sym keeps.form ∙ table));
+    }
+
+    -- the same keys
+    pub kept_keys : (s : StoreState K V) (ps : List (K × V)) → IsKept eq hash limit s → keys_of ps ≡ keys_of s.pairs → length ps ≡ length s.pairs → IsKept eq hash limit (store.with_pairs s ps)
+    kept_keys s ps kept keys len = kept_as s (store.with_pairs s ps) kept (record { form = refl; capacity = refl }) (subst (IsDistinct eq) (sym keys) kept.distinct)
+        (omega (arith, kept.fits)) (λ table. kept.hashed table ∙ ap (map hash) (sym keys))
 
     -- one more pair, whose key is not held
-    pub kept_added : IsEquivalence eq → (ps : List (K × V)) (columns : ℕ) (is_vec : Bool) (hashes after : List ℕ) (buckets : ℕ) (k : K) (v : V)
-        → IsKept eq hash limit ps columns is_vec hashes buckets → IsAbsent (eq k) ps → length ps < capacity_in limit columns is_vec buckets → (is_vec ≡ false → after ≡ hashes ++ hash k ∷ [])
-        → IsKept eq hash limit (ps ++ (k, v) ∷ []) columns is_vec after buckets
-    kept_added laws ps columns is_vec hashes after buckets k v kept absent fits stored = record {
-      distinct = subst (IsDistinct eq) (sym (keys_of-push ps k v)) (IsDistinct-push laws (keys_of ps) k kept.distinct (any_of_none (eq k) (keys_of ps) (none_of_index (eq k) (keys_of ps) absent.index)));
-      fits = omega (arith, length-append ps ((k, v) ∷ []));
-      backed = kept.backed;
-      hashed = λ form. stored form ∙ ap (λ hs. hs ++ hash k ∷ []) (kept.hashed form) ∙ sym (map-append hash (keys_of ps) (k ∷ [])) ∙ ap (map hash) (sym (keys_of-push ps k v));
-      series = kept.series;
-      exceeds = kept.exceeds;
-    }
-
-    -- other values
-    pub kept_values : (ps qs : List (K × V)) (columns : ℕ) (is_vec : Bool) (hashes : List ℕ) (buckets : ℕ) → IsKept eq hash limit ps columns is_vec hashes buckets
-        → keys_of qs ≡ keys_of ps → length qs ≡ length ps → IsKept eq hash limit qs columns is_vec hashes buckets
-    kept_values ps qs columns is_vec hashes buckets kept keys len = record {
-      distinct = subst (IsDistinct eq) (sym keys) kept.distinct;
-      fits = omega (arith, kept.fits);
-      backed = kept.backed;
-      hashed = λ form. kept.hashed form ∙ ap (map hash) (sym keys);
-      series = kept.series;
-      exceeds = kept.exceeds;
-    }
+    pub kept_pushed : IsEquivalence eq → (s : StoreState K V) (k : K) (v : V) (vacancy : Vacancy) → IsKept eq hash limit s → IsAbsent (eq k) s.pairs → length s.pairs < allowed limit s.is_vec s.capacity
+        → (s.is_vec ≡ false → vacancy.hash ≡ hash k) → IsKept eq hash limit (store.pushed s k v vacancy)
+    kept_pushed laws s k v vacancy kept absent room own =
+        let keys : keys_of (s.pairs ++ (k, v) ∷ []) ≡ keys_of s.pairs ++ k ∷ [] = keys_of-push s.pairs k v in
+        kept_as s (store.pushed s k v vacancy) kept (record { form = refl; capacity = refl })
+        (subst (IsDistinct eq) (sym keys) (IsDistinct-push laws (keys_of s.pairs) k kept.distinct (any_of_none (eq k) (keys_of s.pairs) (none_of_index (eq k) (keys_of s.pairs) absent.index))))
+        (omega (arith, length-append s.pairs ((k, v) ∷ [])))
+        (λ table. ap (λ b. if b then s.hashes else s.hashes ++ vacancy.hash ∷ []) table ∙ (λ i. kept.hashed table i ++ own table i ∷ [])
+        ∙ sym (map-append hash (keys_of s.pairs) (k ∷ [])) ∙ ap (map hash) (sym keys))
 
     -- a pair has another key, equal to its own and of the same hash
-    pub kept_key : IsEquivalence eq → (ps : List (K × V)) (columns : ℕ) (is_vec : Bool) (hashes : List ℕ) (buckets i : ℕ) (old new : K)
-        → IsKept eq hash limit ps columns is_vec hashes buckets → slice_get (keys_of ps) i ≡ Some old → eq old new ≡ true → hash old ≡ hash new
-        → IsKept eq hash limit (set_key ps i new) columns is_vec hashes buckets
-    kept_key laws ps columns is_vec hashes buckets i old new kept at same alike = record {
-      distinct = subst (IsDistinct eq) (sym (keys_of-set_key ps i new)) (IsDistinct-set eq laws old new same (keys_of ps) i at kept.distinct);
-      fits = omega (arith, length-set_key ps i new, kept.fits);
-      backed = kept.backed;
-      hashed = λ form. kept.hashed form ∙ sym (map-set_alike hash (keys_of ps) i old new at alike) ∙ ap (map hash) (sym (keys_of-set_key ps i new));
-      series = kept.series;
-      exceeds = kept.exceeds;
-    }
+    pub kept_key : IsEquivalence eq → (s : StoreState K V) (i : ℕ) (old new : K) → IsKept eq hash limit s
+        → slice_get (keys_of s.pairs) i ≡ Some old → eq old new ≡ true → hash old ≡ hash new → IsKept eq hash limit (store.with_pairs s (set_key s.pairs i new))
+    kept_key laws s i old new kept at same alike =
+        let keys = keys_of-set_key s.pairs i new in
+        kept_as s (store.with_pairs s (set_key s.pairs i new)) kept (record { form = refl; capacity = refl })
+        (subst (IsDistinct eq) (sym keys) (IsDistinct-set eq laws old new same (keys_of s.pairs) i at kept.distinct))
+        (omega (arith, length-set_key s.pairs i new, kept.fits))
+        (λ table. kept.hashed table ∙ sym (map-set_alike hash (keys_of s.pairs) i old new at alike) ∙ ap (map hash) (sym keys))
 
     -- a pair is gone, the last one at its index
-    pub kept_taken : IsEquivalence eq → (ps : List (K × V)) (columns : ℕ) (is_vec : Bool) (hashes after : List ℕ) (buckets i : ℕ)
-        → IsKept eq hash limit ps columns is_vec hashes buckets → i < length ps → (is_vec ≡ false → after ≡ swap_out hashes i)
-        → IsKept eq hash limit (swap_out ps i) columns is_vec after buckets
-    kept_taken laws ps columns is_vec hashes after buckets i kept within stored =
-        let keys : keys_of (swap_out ps i) ≡ swap_out (keys_of ps) i = map-swap_out (λ p. p.0) ps i in
-        record {
-          distinct = subst (IsDistinct eq) (sym keys) (IsDistinct-swap_out eq laws (keys_of ps) i (omega (arith, length-keys_of ps)) kept.distinct);
-          fits = omega (arith, length-swap_out ps i (omega arith), kept.fits);
-          backed = kept.backed;
-          hashed = λ form. stored form ∙ ap (λ hs. swap_out hs i) (kept.hashed form) ∙ sym (map-swap_out hash (keys_of ps) i) ∙ ap (map hash) (sym keys);
-          series = kept.series;
-          exceeds = kept.exceeds;
-        }
+    pub kept_taken : IsEquivalence eq → (old new : StoreState K V) (i : ℕ) → IsKept eq hash limit old → KeepsForm old new → i < length old.pairs
+        → new.pairs ≡ swap_out old.pairs i → (old.is_vec ≡ false → new.hashes ≡ swap_out old.hashes i) → IsKept eq hash limit new
+    kept_taken laws old new i kept keeps within pairs hashes =
+        let keys : keys_of new.pairs ≡ swap_out (keys_of old.pairs) i = ap keys_of pairs ∙ map-swap_out (λ p. p.0) old.pairs i in
+        kept_as old new kept keeps (subst (IsDistinct eq) (sym keys) (IsDistinct-swap_out eq laws (keys_of old.pairs) i (omega (arith, length-keys_of old.pairs)) kept.distinct))
+        (omega (arith, ap length pairs, length-swap_out old.pairs i (omega arith), kept.fits))
+        (λ table. hashes table ∙ ap (λ hs. swap_out hs i) (kept.hashed table) ∙ sym (map-swap_out hash (keys_of old.pairs) i) ∙ ap (map hash) (sym keys))
 
-    -- no more pairs, of distinct keys, with their hashes
-    pub kept_retained : (ps qs : List (K × V)) (columns as_much : ℕ) (is_vec : Bool) (hashes after : List ℕ) (buckets : ℕ)
-        → IsKept eq hash limit ps columns is_vec hashes buckets → IsDistinct eq (keys_of qs) → length qs ≤ length ps → as_much ≡ columns → (is_vec ≡ false → after ≡ map hash (keys_of qs))
-        → IsKept eq hash limit qs as_much is_vec after buckets
-    kept_retained ps qs columns as_much is_vec hashes after buckets kept distinct fewer same stored =
-        subst (λ n. IsKept eq hash limit qs n is_vec after buckets) (sym same)
-        (record { distinct = distinct; fits = omega (arith, kept.fits); backed = kept.backed; hashed = stored; series = kept.series; exceeds = kept.exceeds })
-
-    -- no pairs and no hashes
-    pub kept_none : (ps : List (K × V)) (columns : ℕ) (is_vec : Bool) (hashes : List ℕ) (buckets : ℕ) → ps ≡ [] → hashes ≡ []
-        → capacity_in limit columns is_vec buckets ≤ columns → (is_vec ≡ false → IsTableCapacity (capacity_of buckets)) → (is_vec ≡ false → limit < capacity_of buckets)
-        → IsKept eq hash limit ps columns is_vec hashes buckets
+    -- no pairs
+    pub kept_none : (old new : StoreState K V) → IsKept eq hash limit old → KeepsForm old new → new.pairs ≡ [] → new.hashes ≡ [] → IsKept eq hash limit new
     unfolding IsDistinct
-    kept_none ps columns is_vec hashes buckets none no_hashes backed series exceeds = record {
-      distinct = subst (λ qs. IsDistinct eq (keys_of qs)) (sym none) tt;
+    kept_none old new kept keeps none no_hashes =
+        kept_as old new kept keeps (subst (λ ps. IsDistinct eq (keys_of ps)) (sym none) tt) (omega (arith, ap length none)) (λ table. no_hashes ∙ ap (λ ps. map hash (keys_of ps)) (sym none))
+
+    -- a new store
+    pub kept_made : (s : StoreState K V) → s.pairs ≡ [] → s.hashes ≡ [] → (s.is_vec ≡ false → IsTableCapacity s.capacity) → (s.is_vec ≡ false → limit < s.capacity) → IsKept eq hash limit s
+    unfolding IsDistinct
+    kept_made s none no_hashes series exceeds = record {
+      distinct = subst (λ ps. IsDistinct eq (keys_of ps)) (sym none) tt;
       fits = omega (arith, ap length none);
-      backed = backed;
-      hashed = λ form. no_hashes ∙ ap (λ qs. map hash (keys_of qs)) (sym none);
+      hashed = λ table. no_hashes ∙ ap (λ ps. map hash (keys_of ps)) (sym none);
       series = series;
       exceeds = exceeds;
     }
 
-    -- the same pairs in a table of these hashes
-    pub kept_table : (ps qs : List (K × V)) (columns : ℕ) (hashes : List ℕ) (buckets : ℕ) → IsDistinct eq (keys_of ps) → qs ≡ ps → hashes ≡ map hash (keys_of ps)
-        → length ps ≤ capacity_of buckets → capacity_of buckets ≤ columns → IsTableCapacity (capacity_of buckets) → limit < capacity_of buckets → IsKept eq hash limit qs columns false hashes buckets
-    kept_table ps qs columns hashes buckets distinct same hashed fits backed series exceeds = record {
-      distinct = subst (λ rs. IsDistinct eq (keys_of rs)) (sym same) distinct;
-      fits = omega (arith, ap length same);
-      backed = backed;
-      hashed = λ form. hashed ∙ ap (λ rs. map hash (keys_of rs)) (sym same);
-      series = λ form. series;
-      exceeds = λ form. exceeds;
-    }
-
-    -- the same pairs in a vector whose columns have another capacity
-    pub kept_vector : (ps qs : List (K × V)) (columns after : ℕ) (is_vec : Bool) (hashes : List ℕ) (buckets : ℕ) → IsKept eq hash limit ps columns is_vec hashes buckets → is_vec ≡ true → qs ≡ ps
-        → length ps ≤ after → IsKept eq hash limit qs after is_vec hashes buckets
-    kept_vector ps qs columns after is_vec hashes buckets kept form same serves =
-        let before : length ps ≤ min columns limit = subst (λ b. length ps ≤ capacity_in limit columns b buckets) form kept.fits in
-        let more : length qs ≤ min after limit = omega (arith, ap length same) in
-        let within : min after limit ≤ after = omega arith in
-        record {
-          distinct = subst (λ rs. IsDistinct eq (keys_of rs)) (sym same) kept.distinct;
-          fits = subst (λ b. length qs ≤ capacity_in limit after b buckets) (sym form) more;
-          backed = subst (λ b. capacity_in limit after b buckets ≤ after) (sym form) within;
-          hashed = λ in_table. absurd (true≢false (sym form ∙ in_table));
-          series = kept.series;
-          exceeds = kept.exceeds;
-        }
-
-    -- a vector with no pairs
-    pub kept_empty_vector : (ps : List (K × V)) (columns : ℕ) → ps ≡ [] → IsKept eq hash limit ps columns true [] 0
-    kept_empty_vector ps columns none = kept_none ps columns true [] 0 none refl (omega arith) (λ form. absurd (true≢false form)) (λ form. absurd (true≢false form))
-
-    -- a new vector
-    pub kept_vector_made : (columns : Pairs K V) (form : FormState) → form ≡ vector_form → columns.pairs ≡ [] → IsKept eq hash limit columns.pairs columns.capacity form.is_vec form.hashes form.buckets
-    kept_vector_made columns form made none =
-        subst (λ (f : FormState). IsKept eq hash limit columns.pairs columns.capacity f.is_vec f.hashes f.buckets) (sym made) (kept_empty_vector columns.pairs columns.capacity none)
-
-    -- a new table
-    pub kept_table_made : (columns : Pairs K V) (table : TableState) (form : FormState) → form ≡ table_form table → columns.pairs ≡ [] → table.hashes ≡ [] → capacity_of table.buckets ≤ columns.capacity
-        → IsTableCapacity (capacity_of table.buckets) → limit < capacity_of table.buckets → IsKept eq hash limit columns.pairs columns.capacity form.is_vec form.hashes form.buckets
-    kept_table_made columns table form made none no_hashes backed series exceeds =
-        subst (λ (f : FormState). IsKept eq hash limit columns.pairs columns.capacity f.is_vec f.hashes f.buckets) (sym made)
-        (kept_none columns.pairs columns.capacity false table.hashes table.buckets none no_hashes backed (λ table. series) (λ table. exceeds))
-
     -- what the fields keep is what holds of the state
-    pub state_of : {S : Type 0} (columns : Pairs K V) (form : FormState) (builder : S) → IsKept eq hash limit columns.pairs columns.capacity form.is_vec form.hashes form.buckets
-        → IsState eq limit (state_in limit columns form builder)
-    state_of columns form builder kept = record {
+    pub state_of : {S : Type 0} (s : StoreState K V) (builder : S) → IsKept eq hash limit s → IsState eq limit (state_in limit s builder)
+    state_of s builder kept = record {
       distinct = kept.distinct;
       fits = kept.fits;
-      vector_capacity = capacity_within limit columns.capacity form.is_vec form.buckets;
-      table_capacity = λ table. subst IsTableCapacity (table_capacity_is limit columns.capacity form.is_vec form.buckets table) (kept.series table);
-      table_exceeds = λ table. subst (λ n. limit < n) (table_capacity_is limit columns.capacity form.is_vec form.buckets table) (kept.exceeds table);
+      vector_capacity = within_limit limit s.is_vec s.capacity;
+      table_capacity = λ table. subst IsTableCapacity (table_capacity_is limit s.is_vec s.capacity table) (kept.series table);
+      table_exceeds = λ table. subst (λ n. limit < n) (table_capacity_is limit s.is_vec s.capacity table) (kept.exceeds table);
     }

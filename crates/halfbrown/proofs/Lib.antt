@@ -26,5 +26,4 @@ pub mod SamePairs
 pub mod SearchesCosts
 pub mod SwapOut
 pub mod Vacancies
-pub mod VacancyProp
 pub mod Written

@@ -1,13 +1,13 @@
 -- What a search costs.
-use Rattle.std.proofs.Common.{◌≡◌, ℕ, ◌+◌, ◌-◌, ◌≤◌, ◌==◌, Bool, true, false, List, [], ◌∷◌, length, map, count_by, fold, cond, Option, Some, is_some, refl, ap, sym, subst, ◌∙◌, arith}
+use Rattle.std.proofs.Common.{◌≡◌, ℕ, ◌+◌, ◌-◌, ◌≤◌, ◌==◌, Bool, true, false, List, [], ◌∷◌, length, map, count_by, fold, cond, Option, None, Some, IfNone, IfSome, is_some, refl, ap, sym, subst, ◌∙◌, arith, true≢false}
 use Rattle.std.proofs.Math.ListN.{length-map}
 use Rattle.std.proofs.lemmas.Map.Entries.{length-keys_of}
 use Rattle.std.specs.Map.{keys_of}
 use Rattle.half_store.specs.Reach.{reach, HomesApart}
 use Rattle.half_store.specs.Capacity.{buckets_of}
 use Rattle.half_store.specs.Pairs.{index_of}
-use Rattle.half_store.specs.Probe.{AddsFinding}
-use Rattle.half_store.specs.Work.{Work, asked_more, first_match_cost}
+use Rattle.half_store.specs.Probe.{AddsFinding, after_missing}
+use Rattle.half_store.specs.Work.{Work, asked_more, compared_more, first_match_cost}
 use Rattle.halfbrown.specs.Costs.{Cost, GrewBy, between, exactly, candidates_by, probe_length_by, SearchCostsAsking, HashedSearchCostsBy}
 use Rattle.halfbrown.specs.Match.{MatchCosts, match_cost}
 use Rattle.halfbrown.specs.Pairs.{holds_by}
@@ -33,7 +33,11 @@ module _ {K V S : Type 0} (hash : S → K → ℕ) (sought : ℕ) (m : State K V
     probed : reach hashes buckets sought ≡ probe_length_by (hash m.builder) false m.capacity m.pairs sought
     probed = λ i. reach (is_map i) (is_count i) sought
 
-    pub found_costs : (index : ℕ) → AddsFinding hashes buckets sought before after → MatchCosts hash sought m (Some index) before after
+    short_probe : probe_length_by (hash m.builder) m.is_vec m.capacity m.pairs sought ≤ length m.pairs + 1
+    short_probe = subst (λ b. probe_length_by (hash m.builder) b m.capacity m.pairs sought ≤ length m.pairs + 1) (sym form)
+        (omega (arith, near, probed, ap length is_map, length-map (keys_of m.pairs) (hash m.builder), length-keys_of m.pairs))
+
+    found_costs : (index : ℕ) → AddsFinding hashes buckets sought before after → MatchCosts hash sought m (Some index) before after
     found_costs index adds = record {
       grew = subst (λ b. GrewBy (match_cost hash sought (state b m.pairs m.capacity m.builder (contents_of m)) (Some index)) before after) (sym form) (record {
         asked = omega (arith, adds.asked);
@@ -41,9 +45,44 @@ module _ {K V S : Type 0} (hash : S → K → ℕ) (sought : ℕ) (m : State K V
         looked = record { least = omega (arith, adds.looked_some); most = omega (arith, adds.looked_most, probed) };
       });
       looked_once = λ in_table found apart. adds.looked_once (subst (λ hs. HomesApart hs buckets) (sym is_map) (subst (λ n. HomesApart (map (hash m.builder) (keys_of m.pairs)) n) (sym is_count) apart));
-      short = subst (λ b. probe_length_by (hash m.builder) b m.capacity m.pairs sought ≤ length m.pairs + 1) (sym form)
-          (omega (arith, near, probed, ap length is_map, length-map (keys_of m.pairs) (hash m.builder), length-keys_of m.pairs));
+      short = short_probe;
     }
+
+
+    missing_costs : after ≡ after_missing hashes buckets sought before → MatchCosts hash sought m None before after
+    missing_costs spent = record {
+      grew = subst (λ b. GrewBy (match_cost hash sought (state b m.pairs m.capacity m.builder (contents_of m)) None) before after) (sym form) (record {
+        asked = omega (arith, ap (λ w. w.asked) spent);
+        compared = record { least = omega (arith, ap (λ w. w.compared) spent, counted); most = omega (arith, ap (λ w. w.compared) spent, counted) };
+        looked = record { least = omega (arith, ap (λ w. w.looked) spent, probed); most = omega (arith, ap (λ w. w.looked) spent, probed) };
+      });
+      looked_once = λ in_table found. absurd cc;
+      short = short_probe;
+    }
+
+  vector_costs : m.is_vec ≡ true → (index : Option ℕ) → after ≡ compared_more (first_match_cost index (length m.pairs)) before → MatchCosts hash sought m index before after
+  vector_costs form index spent = record {
+    grew = subst (λ b. GrewBy (match_cost hash sought (state b m.pairs m.capacity m.builder (contents_of m)) index) before after) (sym form) (record {
+      asked = omega (arith, ap (λ w. w.asked) spent);
+      compared = record { least = omega (arith, ap (λ w. w.compared) spent); most = omega (arith, ap (λ w. w.compared) spent) };
+      looked = record { least = omega (arith, ap (λ w. w.looked) spent); most = omega (arith, ap (λ w. w.looked) spent) };
+    });
+    looked_once = λ in_table. absurd (true≢false (sym form ∙ in_table));
+    short = subst (λ b. probe_length_by (hash m.builder) b m.capacity m.pairs sought ≤ length m.pairs + 1) (sym form) (omega arith);
+  }
+
+  -- what a search by a match costs, from what the store says of its work
+  pub match_costs : (is_vec : Bool) → m.is_vec ≡ is_vec → (index : Option ℕ) (hashes : List ℕ) (capacity : ℕ)
+      → (is_vec ≡ false → hashes ≡ map (hash m.builder) (keys_of m.pairs)) → (is_vec ≡ false → capacity ≡ m.capacity)
+      → (is_vec ≡ true → after ≡ compared_more (first_match_cost index (length m.pairs)) before)
+      → (is_vec ≡ false → IfSome index (λ _. AddsFinding hashes (buckets_of capacity) sought before after))
+      → (is_vec ≡ false → IfNone index (after ≡ after_missing hashes (buckets_of capacity) sought before))
+      → (is_vec ≡ false → reach hashes (buckets_of capacity) sought ≤ length hashes + 1) → MatchCosts hash sought m index before after
+  match_costs true form index hashes capacity is_map is_capacity vector found missing near = vector_costs form index (vector refl)
+  match_costs false form None hashes capacity is_map is_capacity vector found missing near =
+      missing_costs hashes (buckets_of capacity) form (is_map refl) (ap buckets_of (is_capacity refl)) (near refl) (missing refl)
+  match_costs false form (Some index) hashes capacity is_map is_capacity vector found missing near =
+      found_costs hashes (buckets_of capacity) form (is_map refl) (ap buckets_of (is_capacity refl)) (near refl) index (found refl)
 
   module _ (test : K → Bool) where
     -- the costs of a search by a match are those by a test, where the index that it found is that of the key which passes

@@ -21,8 +21,9 @@ use Rattle.halfbrown.specs.RawEntryLending.{with_entry_value}
 use Rattle.halfbrown.specs.State.{State, with_pairs, WithPairs}
 use Rattle.halfbrown.proofs.Entries.{key_of-pair, value_of-pair, set_value-last, value-last}
 use Rattle.halfbrown.proofs.EntryReplacements.{swap_out-last}
-use Rattle.halfbrown.proofs.Kept.{keys_of-set_value, length-set_value}
-use Rattle.halfbrown.proofs.Rekeyed.{length-set_key, values_of-set_key, key-set_key, swap_out-set_key}
+use Rattle.half_store.proofs.Stores.{length-set_key, length-set_value}
+use Rattle.halfbrown.proofs.Kept.{keys_of-set_value}
+use Rattle.halfbrown.proofs.Rekeyed.{values_of-set_key, key-set_key, swap_out-set_key}
 use Rattle.halfbrown.proofs.Written.{set_value-twice, value-set_value, swap_out-set_value}
 
 -- the key and the value of a pair that is lent are those of its entry

@@ -5,6 +5,7 @@ use Rattle.std.specs.Cmp.{IsEquivalence}
 use Rattle.std.specs.List.{AllByRecursion, IsDistinct}
 use Rattle.std.specs.Map.{keys_of, values_of}
 use Rattle.std.specs.Option.{option_map}
+use Rattle.half_store.proofs.Stores.{length-set_key}
 use Rattle.half_store.specs.Pairs.{set_key, swap_out}
 use Rattle.halfbrown.specs.Pairs.{value_of, pair_of}
 use Rattle.halfbrown.specs.Updates.{HasKeyReplaced}
@@ -22,12 +23,6 @@ module _ {K V : Type 0} where
   values_of-set_key [] i k = refl
   values_of-set_key (p ∷ ps) zero k = refl
   values_of-set_key (p ∷ ps) (suc i) k = ap (λ l. p.1 ∷ l) (values_of-set_key ps i k)
-
-  -- as many pairs stay
-  pub length-set_key : (ps : List (K × V)) (i : ℕ) (k : K) → length (set_key ps i k) ≡ length ps
-  length-set_key [] i k = refl
-  length-set_key (p ∷ ps) zero k = refl
-  length-set_key (p ∷ ps) (suc i) k = ap suc (length-set_key ps i k)
 
   -- the key that was written
   pub key-set_key : (ps : List (K × V)) (i : ℕ) (k : K) → i < length ps → slice_get (keys_of (set_key ps i k)) i ≡ Some k

@@ -1,17 +1,23 @@
 -- What a closure's answer makes of a pair.
-use Rattle.std.proofs.Common.{◌≡◌, ℕ, zero, suc, Bool, false, List, [], ◌∷◌, map, get_or, slice_get, Option, None, Some, is_none, if◌then◌else◌, refl, sym, ap, ◌∙◌, arith}
+use Rattle.std.proofs.Common.{◌≡◌, ℕ, zero, suc, ◌<◌, Bool, false, List, [], ◌∷◌, length, map, get_or, slice_get, Option, None, Some, IfNone, IfSome, OnSome, refl, sym, ap, subst, ◌∙◌, arith}
 use Rattle.std.proofs.lemmas.Map.Entries.{length-keys_of}
 use Rattle.std.proofs.lemmas.Option.{same_Some, slice_get_within}
 use Rattle.std.specs.Borrow.{Bor}
 use Rattle.std.specs.Cmp.{IsEquivalence}
 use Rattle.std.specs.List.{IsDistinct}
 use Rattle.std.specs.Map.{keys_of}
-use Rattle.half_store.specs.Pairs.{set_value, swap_out}
-use Rattle.half_store.specs.Replaced.{replaced, Replaces}
+use Rattle.std.specs.Option.{option_map}
+use Rattle.half_store.proofs.Stores.{length-set_value, kept_value, lost_pair}
+use Rattle.half_store.specs.Pairs.{swap_out}
+use Rattle.half_store.specs.Replaced.{Replaces}
+use Rattle.half_store.specs.Store.{StoreState, KeepsForm, allowed}
+use Rattle.halfbrown.specs.Layout.{IsKept}
 use Rattle.halfbrown.specs.Lookup.{IsIndexOf}
 use Rattle.halfbrown.specs.Pairs.{holds}
 use Rattle.halfbrown.proofs.CallerLemmas.{has_removed}
 use Rattle.halfbrown.proofs.Indices.{index_of_first, first_of_match}
+use Rattle.halfbrown.proofs.Kept.{kept_as, kept_taken, keys_of-set_value}
+use Rattle.halfbrown.proofs.SwapOut.{length-swap_out}
 
 module _ {K V : Type 0} where
   -- the stored hash of a pair is that of its key
@@ -34,20 +40,34 @@ module _ {K V : Type 0} where
   unheld_after eq laws ps distinct i k v at =
       ap (λ qs. holds eq qs k) (sym (own_index eq laws ps distinct i k v at).take_is) ∙ (has_removed eq laws ps distinct k).not_held
 
-  module _ (old : List (K × V)) (index : ℕ) (new : List (K × V)) (key : K) where
-    kept_by : (answer : Option V) → new ≡ replaced old index answer → None ≡ (if is_none answer then Some key else None) → (v : V) × (answer ≡ Some v) × (new ≡ set_value old index v)
-    kept_by None is removed = absurd cc
-    kept_by (Some v) is removed = (v, refl, is)
+module _ {K V : Type 0} (eq : K → K → Bool) (laws : IsEquivalence eq) (hash : K → ℕ) (limit : ℕ) {returns : Bor K → V → Option V → Type 0} (old new : StoreState K V) (index : ℕ) (kept : IsKept eq hash limit old)
+    (keeps : KeepsForm old new) where
+  -- the fields once the closure has answered
+  pub kept_replaced : index < length old.pairs → (result : Option (K × ℕ)) → Replaces returns old.pairs index new.pairs (option_map (λ removed. removed.0) result)
+      → IfSome result (λ _. old.is_vec ≡ false → new.hashes ≡ swap_out old.hashes index) → IfNone result (new.hashes ≡ old.hashes) → IsKept eq hash limit new
+  kept_replaced within None r lost stays =
+      let value = kept_value r in
+      let keys = ap keys_of value.2 ∙ keys_of-set_value old.pairs index value.0 in
+      kept_as eq hash limit old new kept keeps (subst (IsDistinct eq) (sym keys) kept.distinct) (omega (arith, ap length value.2, length-set_value old.pairs index value.0, kept.fits))
+      (λ table. stays ∙ kept.hashed table ∙ ap (map hash) (sym keys))
+  kept_replaced within (Some removed) r lost stays = kept_taken eq hash limit laws old new index kept keeps within (lost_pair r).1 lost
 
-    lost_by : (k : K) (answer : Option V) → new ≡ replaced old index answer → Some k ≡ (if is_none answer then Some key else None) → (answer ≡ None) × (new ≡ swap_out old index) × (key ≡ k)
-    lost_by k None is removed = (refl, is, sym (same_Some k key removed))
-    lost_by k (Some v) is removed = absurd cc
+  -- the hash that comes back with a key is its own
+  pub own_hash : (result : Option (K × ℕ)) → Replaces returns old.pairs index new.pairs (option_map (λ removed. removed.0) result)
+      → IfSome result (λ removed. old.is_vec ≡ false → slice_get old.hashes index ≡ Some removed.1) → IfSome result (λ removed. new.is_vec ≡ false → removed.1 ≡ hash removed.0)
+  own_hash None r at = tt
+  own_hash (Some removed) r at = λ table.
+      let form = sym keeps.form ∙ table in
+      same_Some _ _ (sym (at form) ∙ ap (λ hs. slice_get hs index) (kept.hashed form) ∙ hash_at hash old.pairs index r.key r.value r.pair) ∙ ap hash (lost_pair r).2
 
-  module _ {returns : Bor K → V → Option V → Type 0} {old : List (K × V)} {index : ℕ} {new : List (K × V)} where
-    -- where nothing was removed a value was returned
-    pub kept_value : (r : Replaces returns old index new None) → (v : V) × (r.answer ≡ Some v) × (new ≡ set_value old index v)
-    kept_value r = kept_by old index new r.key r.answer r.pairs r.removed_is
+  -- no equal key is held any more
+  pub absent_replaced : (result : Option (K × ℕ)) → Replaces returns old.pairs index new.pairs (option_map (λ removed. removed.0) result) → IfSome result (λ removed. holds eq new.pairs removed.0 ≡ false)
+  absent_replaced None r = tt
+  absent_replaced (Some removed) r = let lost = lost_pair r in (λ j. holds eq (lost.1 j) (sym lost.2 j)) ∙ unheld_after eq laws old.pairs kept.distinct index r.key r.value r.pair
 
-    -- where a key was removed none was
-    pub lost_pair : {k : K} (r : Replaces returns old index new (Some k)) → (r.answer ≡ None) × (new ≡ swap_out old index) × (r.key ≡ k)
-    lost_pair {k} r = lost_by old index new r.key k r.answer r.pairs r.removed_is
+  pub capacity_replaced : index < length old.pairs → (result : Option (K × ℕ)) → Replaces returns old.pairs index new.pairs (option_map (λ removed. removed.0) result)
+      → OnSome result (length new.pairs < allowed limit new.is_vec new.capacity)
+  capacity_replaced within None r = tt
+  capacity_replaced within (Some removed) r =
+      let fewer : length new.pairs < allowed limit old.is_vec old.capacity = omega (arith, ap length (lost_pair r).1, length-swap_out old.pairs index (omega arith), kept.fits) in
+      subst (λ t. t) (λ j. length new.pairs < allowed limit (sym keeps.form j) (sym keeps.capacity j)) fewer

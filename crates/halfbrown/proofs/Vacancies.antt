@@ -1,21 +1,14 @@
 -- Vacancies for a pair: for which hash they are.
-use Rattle.std.proofs.Common.{◌≡◌, ℕ, Bool, true, false, ◌&&◌, not, refl, sym, ap, ◌∙◌}
-use Rattle.half_store.specs.Table.{Contents}
-use Rattle.halfbrown.specs.declared.map.lookup.Vacancy.{Vacancy}
-use Rattle.halfbrown.specs.declared.map.lookup.Vacancy.TheVariants.{InVector, InTable}
-use Rattle.halfbrown.specs.Lookup.{IsVacancy}
-use Rattle.halfbrown.specs.Preparation.{IsProbedVacancy}
+use Rattle.std.proofs.Common.{◌≡◌, ℕ, Bool, false, subst, ◌∙◌}
+use Rattle.std.proofs.Props.{props}
+use Rattle.half_store.specs.Store.{IsVacancy}
+use Rattle.half_store.specs.Table.{Contents, IsVacancyIn}
+use Rattle.half_store.specs.declared.store.lookup.Vacancy.{Vacancy}
 
--- a form that is not full stays
-pub form_stays : (is_vec full : Bool) → full ≡ false → is_vec ≡ (is_vec && not full)
-form_stays true full e = ap not (sym e)
-form_stays false full e = refl
+-- a vacancy for one hash is one for another that is the same in a table
+pub vacancy_for : (is_vec : Bool) (contents : Contents) (hash other : ℕ) → (is_vec ≡ false → hash ≡ other) → (vacancy : Vacancy) → IsVacancy is_vec contents hash vacancy → IsVacancy is_vec contents other vacancy
+vacancy_for is_vec contents hash other same vacancy vacant = λ table. ((vacant table).0 ∙ same table, subst (λ h. IsVacancyIn contents h vacancy.bucket) (same table) (vacant table).1)
 
-module _ (is_vec : Bool) (contents : Contents) (hash other : ℕ) (same : is_vec ≡ false → hash ≡ other) where
-  pub vacancy_for : (vacancy : Vacancy) → IsVacancy is_vec contents hash vacancy → IsVacancy is_vec contents other vacancy
-  vacancy_for InVector vacant = vacant
-  vacancy_for (InTable stored bucket) vacant = (vacant.0, vacant.1 ∙ same vacant.0, vacant.2)
-
-  -- a vacancy for one hash is one for another that is the same in a table
-  pub vacancy_for_other : (vacancy : Vacancy) → IsProbedVacancy is_vec contents hash vacancy → IsProbedVacancy is_vec contents other vacancy
-  vacancy_for_other vacancy known = record { vacant = vacancy_for vacancy known.vacant; probed = known.probed }
+-- that a pair may be added here is one fact
+pub vacancy-prop : (is_vec : Bool) (contents : Contents) (hash : ℕ) (vacancy : Vacancy) → IsProp (IsVacancy is_vec contents hash vacancy)
+vacancy-prop is_vec contents hash vacancy = Prim.hlevel props

@@ -7,14 +7,14 @@ use Rattle.halfbrown.specs.Costs.{key_hash}
 use Rattle.halfbrown.specs.Preparation.{pushed}
 use Rattle.halfbrown.specs.State.{with_pairs, contents_of}
 use Rattle.halfbrown.proofs.Entries.{set_value-last, value-last, vacant_writes}
-use Rattle.halfbrown.proofs.VacancyProp.{probed_vacancy-prop}
+use Rattle.halfbrown.proofs.Vacancies.{vacancy-prop}
 use Rattle.halfbrown.proofs.entry.LimitedVacantEntry.insert.Goals as goal
 
-pub push-requires-clause-probed : goal.push-requires-clause-probed
-push-requires-clause-probed g c =
+pub push-requires-clause-vacant : goal.push-requires-clause-vacant
+push-requires-clause-vacant g c =
     let v = c.args.self in
     let m = v.map.now in
-    ∥∥₁_elim v.probed (probed_vacancy-prop m.is_vec (contents_of m) (key_hash g.S.BuildHasher g.S.Hasher.Hasher g.K.Hash.hash_input m.builder v.key) v.vacancy) (λ known. known)
+    ∥∥₁_elim v.vacant (vacancy-prop m.is_vec (contents_of m) (key_hash g.S.BuildHasher g.S.Hasher.Hasher g.K.Hash.hash_input m.builder v.key) v.vacancy) (λ known. known)
 
 pub returns : goal.returns
 returns g c =

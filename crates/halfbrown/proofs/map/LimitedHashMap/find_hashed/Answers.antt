@@ -2,7 +2,7 @@ use Rattle.std.proofs.Common.{sym, ap, ◌∙◌}
 use Rattle.half_store.specs.Hash.{hash_by}
 use Rattle.halfbrown.specs.Costs.{key_hash}
 use Rattle.halfbrown.specs.Lookup.{LooksUp}
-use Rattle.halfbrown.specs.Match.{found_index}
+use Rattle.half_store.specs.Search.{found_index}
 use Rattle.halfbrown.proofs.Lookups.{costs_by_test, costs_for_other}
 use Rattle.halfbrown.proofs.Matches.{looks_up, found_is_index, found_is_held}
 use Rattle.halfbrown.proofs.map.LimitedHashMap.find_hashed.Goals as goal

@@ -12,29 +12,26 @@ pub invariant_of-self : goal.invariant_of-self
 invariant_of-self g c =
     let eq = g.K.PartialEq.eq in
     let hash = key_hash g.S.BuildHasher g.S.Hasher.Hasher g.K.Hash.hash_input c.self.inside.builder in
-    let limit = g.L.Limit.LIMIT in
-    let columns = c.self.inside.columns in
-    let form = c.self.inside.form in
-    let old = c.replace_key.result in
+    let store = c.self.inside.store in
+    let old = c.set_key.result in
     let key = c.args.key in
-    let at = c.replace_key.ensures.old in
+    let at = c.set_key.ensures.old in
     let same : eq old key ≡ true = equal_at eq g.met.K.Eq.laws old key (ap (λ m. slice_get (keys_of m.pairs) c.args.index) (sym c.self.view_is) ∙ at) c.requires.equal in
     let alike = ap (hash_by g.S.BuildHasher g.S.Hasher.Hasher c.self.inside.builder) (g.met.K.Hash.respects_eq old key same) in
-    subst (λ cs. IsKept eq hash limit cs.pairs cs.capacity form.is_vec form.hashes form.buckets) (sym c.replace_key.ensures.after)
-    (kept_key eq hash limit g.met.K.Eq.laws columns.pairs columns.capacity form.is_vec form.hashes form.buckets c.args.index old key c.self.invariant at same alike)
+    subst (IsKept eq hash g.L.Limit.LIMIT) (sym c.set_key.ensures.after)
+    (kept_key eq hash g.L.Limit.LIMIT g.met.K.Eq.laws store c.args.index old key c.self.invariant at same alike)
 
 pub returns-clause-state : goal.returns-clause-state
-returns-clause-state g c =
-    state_of g.K.PartialEq.eq (key_hash g.S.BuildHasher g.S.Hasher.Hasher g.K.Hash.hash_input c.self.inside.builder) g.L.Limit.LIMIT c.replace_key.new.self c.self.inside.form c.self.inside.builder (invariant_of-self g c)
+returns-clause-state g c = state_of g.K.PartialEq.eq (key_hash g.S.BuildHasher g.S.Hasher.Hasher g.K.Hash.hash_input c.self.inside.builder) g.L.Limit.LIMIT c.set_key.new.self c.self.inside.builder (invariant_of-self g c)
 
 pub returns-clause-replaced : goal.returns-clause-replaced
 returns-clause-replaced g c =
     let eq = g.K.PartialEq.eq in
-    let columns = c.self.inside.columns in
-    let old = c.replace_key.result in
+    let store = c.self.inside.store in
+    let old = c.set_key.result in
     let key = c.args.key in
-    let at = c.replace_key.ensures.old in
+    let at = c.set_key.ensures.old in
     let same : eq old key ≡ true = equal_at eq g.met.K.Eq.laws old key (ap (λ m. slice_get (keys_of m.pairs) c.args.index) (sym c.self.view_is) ∙ at) c.requires.equal in
-    let replaced = has_key_replaced eq g.met.K.Eq.laws old key same columns.pairs c.args.index at c.self.invariant.distinct in
-    subst (λ m. HasKeyReplaced eq m.pairs key c.replace_key.new.self.pairs) c.self.view_is
-    (subst (λ cs. HasKeyReplaced eq columns.pairs key cs.pairs) (sym c.replace_key.ensures.after) replaced)
+    let replaced = has_key_replaced eq g.met.K.Eq.laws old key same store.pairs c.args.index at c.self.invariant.distinct in
+    subst (λ m. HasKeyReplaced eq m.pairs key c.set_key.new.self.pairs) c.self.view_is
+    (subst (λ s. HasKeyReplaced eq store.pairs key s.pairs) (sym c.set_key.ensures.after) replaced)

@@ -6,21 +6,19 @@ use Rattle.halfbrown.proofs.map.LimitedHashMap.values_slice_mut.Goals as goal
 
 pub invariant_of-self-lent : goal.invariant_of-self-lent
 invariant_of-self-lent g c =
-    let form = c.self.inside.form in
-    let columns = c.self.inside.columns in
-    kept_written g.K.PartialEq.eq (key_hash g.S.BuildHasher g.S.Hasher.Hasher g.K.Hash.hash_input c.self.inside.builder) g.L.Limit.LIMIT columns.pairs columns.capacity form.is_vec form.hashes form.buckets c.self.invariant
+    kept_written g.K.PartialEq.eq (key_hash g.S.BuildHasher g.S.Hasher.Hasher g.K.Hash.hash_input c.self.inside.builder) g.L.Limit.LIMIT c.self.inside.store c.self.invariant
 
 pub returns : goal.returns
 returns g c =
     let eq = g.K.PartialEq.eq in
     let hash = key_hash g.S.BuildHasher g.S.Hasher.Hasher g.K.Hash.hash_input c.self.inside.builder in
     let inside = c.self.inside in (
-      (refl, written eq hash g.L.Limit.LIMIT inside.columns inside.form inside.builder c.args.self.now c.self.view_is),
+      (refl, written eq hash g.L.Limit.LIMIT inside.store inside.builder c.args.self.now c.self.view_is),
       record {
         writes_back = tt;
         values = c.values_mut.ensures.values ∙ ap (λ m. values_of m.pairs) c.self.view_is;
         small = omega (arith, c.values_mut.ensures.small, ap (λ m. length m.pairs) c.self.view_is);
         written = has_values c.args.self.now.pairs;
-        state = written_state eq hash g.L.Limit.LIMIT inside.columns inside.form inside.builder c.args.self.now c.self.view_is c.self.invariant;
+        state = written_state eq hash g.L.Limit.LIMIT inside.store inside.builder c.args.self.now c.self.view_is c.self.invariant;
       },
     )

@@ -12,10 +12,10 @@ returns g c =
     let hash = key_hash g.S.BuildHasher g.S.Hasher.Hasher g.K.Hash.hash_input inside.builder in
     record {
       into_iter_gives = (
-        c.new.ensures ∙ (λ j. zip (c.into_columns-keys.ensures.keys j) (c.into_columns-keys.ensures.values j)) ∙ zip_columns inside.columns.pairs ∙ ap (λ m. m.pairs) c.self.view_is,
+        c.new.ensures ∙ (λ j. zip (c.into_columns-keys.ensures.keys j) (c.into_columns-keys.ensures.values j)) ∙ zip_columns inside.store.pairs ∙ ap (λ m. m.pairs) c.self.view_is,
         omega (arith, c.into_columns-keys.ensures.small, ap (λ m. length m.pairs) c.self.view_is),
         gives_in_order,
         shows_values_in_order g.row.K.Denot,
-        subst (IsState eq g.L.Limit.LIMIT) c.self.view_is (state_of eq hash g.L.Limit.LIMIT inside.columns inside.form inside.builder c.self.invariant),
+        subst (IsState eq g.L.Limit.LIMIT) c.self.view_is (state_of eq hash g.L.Limit.LIMIT inside.store inside.builder c.self.invariant),
       );
     }
