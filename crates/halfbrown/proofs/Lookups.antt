@@ -48,7 +48,6 @@ module _ {K V S : Type 0} (hash : S → K → ℕ) (sought : ℕ) (m : State K V
       short = short_probe;
     }
 
-
     missing_costs : after ≡ after_missing hashes buckets sought before → MatchCosts hash sought m None before after
     missing_costs spent = record {
       grew = subst (λ b. GrewBy (match_cost hash sought (state b m.pairs m.capacity m.builder (contents_of m)) None) before after) (sym form) (record {

@@ -31,7 +31,6 @@
 mod drain;
 mod entry;
 mod equivalent;
-mod iter;
 mod limit;
 mod macros;
 mod map;
@@ -44,8 +43,8 @@ pub use entry::{
     Entry, LimitedEntry, LimitedOccupiedEntry, LimitedVacantEntry, OccupiedEntry, VacantEntry,
 };
 pub use equivalent::Equivalent;
+pub use half_iter::{IntoIter, Iter, IterMut, Keys, Values, ValuesMut};
 pub use half_store::{Refusal, Tally};
-pub use iter::{IntoIter, Iter, IterMut, Keys, Values, ValuesMut};
 pub use limit::{Limit, UpTo};
 pub use map::{DefaultHashBuilder, HashMap, LimitedHashMap, SizedHashMap, laws};
 pub use raw_entry::{

@@ -6,7 +6,7 @@ ghost use Rattle.halfbrown.specs.State.{IsState};
 
 use super::LimitedHashMap;
 use crate::Limit;
-use crate::iter::{IntoIter, Iter};
+use half_iter::{IntoIter, Iter};
 use std::hash::{BuildHasher, Hash};
 use std::iter::IntoIterator;
 

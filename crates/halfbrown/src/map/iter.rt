@@ -10,7 +10,7 @@ ghost use Rattle.halfbrown.specs.Updates.{HasValues};
 
 use super::LimitedHashMap;
 use crate::Limit;
-use crate::iter::{Iter, IterMut, Keys, Values, ValuesMut};
+use half_iter::{Iter, IterMut, Keys, Values, ValuesMut};
 use std::hash::{BuildHasher, Hash};
 
 impl<K: Eq + Hash, V, S: BuildHasher, L: Limit> LimitedHashMap<K, V, S, L> {

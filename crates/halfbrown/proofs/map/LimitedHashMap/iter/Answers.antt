@@ -1,5 +1,6 @@
 use Rattle.std.proofs.Common.{◌∙◌, ap, zip}
-use Rattle.halfbrown.proofs.Iterators.{zip_columns, shows_pairs_in_order, shows_pair_values_in_order}
+use Rattle.half_iter.proofs.Runs.{shows_pairs_in_order, shows_pair_values_in_order}
+use Rattle.halfbrown.proofs.Iterators.{zip_columns}
 use Rattle.halfbrown.proofs.map.LimitedHashMap.iter.Goals as goal
 
 pub returns-clause-left : goal.returns-clause-left

@@ -1,6 +1,7 @@
 use Rattle.std.proofs.Common.{length, zip, sym, ap, ◌∙◌, arith}
 use Rattle.halfbrown.specs.Costs.{key_hash}
-use Rattle.halfbrown.proofs.Iterators.{kept_written, written, written_state, has_values, lends_values_in_order, zip_columns}
+use Rattle.half_iter.proofs.Runs.{lends_values_in_order}
+use Rattle.halfbrown.proofs.Iterators.{kept_written, written, written_state, has_values, zip_columns}
 use Rattle.halfbrown.proofs.map.LimitedHashMap.iter_mut.Goals as goal
 
 pub invariant_of-self-lent : goal.invariant_of-self-lent

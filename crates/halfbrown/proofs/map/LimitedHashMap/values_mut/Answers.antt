@@ -1,7 +1,8 @@
 use Rattle.std.proofs.Common.{length, sym, ap, ◌∙◌, arith}
 use Rattle.std.specs.Map.{values_of}
 use Rattle.halfbrown.specs.Costs.{key_hash}
-use Rattle.halfbrown.proofs.Iterators.{kept_written, written, written_state, has_values, values_lend_in_order}
+use Rattle.half_iter.proofs.Runs.{values_lend_in_order}
+use Rattle.halfbrown.proofs.Iterators.{kept_written, written, written_state, has_values}
 use Rattle.halfbrown.proofs.map.LimitedHashMap.values_mut.Goals as goal
 
 pub invariant_of-self-lent : goal.invariant_of-self-lent

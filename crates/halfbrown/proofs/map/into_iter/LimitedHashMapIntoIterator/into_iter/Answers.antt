@@ -1,7 +1,8 @@
 use Rattle.std.proofs.Common.{length, zip, ap, subst, ◌∙◌, arith}
 use Rattle.halfbrown.specs.Costs.{key_hash}
 use Rattle.halfbrown.specs.State.{IsState}
-use Rattle.halfbrown.proofs.Iterators.{zip_columns, gives_in_order, shows_values_in_order}
+use Rattle.half_iter.proofs.Runs.{gives_in_order, shows_values_in_order}
+use Rattle.halfbrown.proofs.Iterators.{zip_columns}
 use Rattle.halfbrown.proofs.Kept.{state_of}
 use Rattle.halfbrown.proofs.map.into_iter.LimitedHashMapIntoIterator.into_iter.Goals as goal
 

@@ -2,7 +2,7 @@
 ghost use Rattle.std.specs.Prelude.{◌≡◌, Some, length, IfSome, ⊤};
 ghost use Rattle.std.specs.Iterator.{at_most, UpTo, YieldsFirstRef};
 ghost use Rattle.std.specs.Iterator.SizeHint.{IsWithinCount};
-ghost use Rattle.halfbrown.specs.Iter.{keys_left};
+ghost use Rattle.half_iter.specs.Iter.{keys_left};
 
 use std::alloc::AllocError;
 use std::iter::FusedIterator;
@@ -25,7 +25,7 @@ pub struct Keys<'a, K, V> {
 impl<'a, K, V> Keys<'a, K, V> {
     /// These keys.
     #[inline(always)]
-    pub(crate) fn new(keys: &'a [K]) -> Self
+    pub fn new(keys: &'a [K]) -> Self
         ensures { keys_left result ≡ keys.now }
     {
         Keys {

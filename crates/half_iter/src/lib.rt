@@ -1,4 +1,6 @@
-//! The iterators of a map. Each goes from the first pair to the last, in both forms.
+//! The iterators of a map whose keys and values stand in two columns. Each goes from the first pair to the last.
+#![tactic(auto)]
+
 mod into_iter;
 mod iter;
 mod iter_mut;

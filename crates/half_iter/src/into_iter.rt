@@ -35,7 +35,7 @@ impl<K, V> Model for IntoIter<K, V> {
 impl<K, V> IntoIter<K, V> {
     /// The pairs of these two columns.
     #[inline(always)]
-    pub(crate) fn new(keys: Vec<K>, values: Vec<V>) -> Self
+    pub fn new(keys: Vec<K>, values: Vec<V>) -> Self
         requires { length values.items ≡ length keys.items }
         ensures { result ≡ zip keys.items values.items }
     {

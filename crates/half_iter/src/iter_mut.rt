@@ -3,7 +3,7 @@ ghost use Rattle.std.specs.Prelude.{◌≡◌, Some, length, zip, IfSome};
 ghost use Rattle.std.specs.Iterator.{at_most, UpTo};
 ghost use Rattle.std.specs.Iterator.SizeHint.{IsWithinCount};
 ghost use Rattle.std.specs.Map.Iter.{LendsFirst};
-ghost use Rattle.halfbrown.specs.Iter.{iter_mut_left, iter_mut_name, IsEven};
+ghost use Rattle.half_iter.specs.Iter.{iter_mut_left, iter_mut_name, IsEven};
 
 use std::iter::FusedIterator;
 use std::slice;
@@ -25,7 +25,7 @@ pub struct IterMut<'a, K, V> {
 impl<'a, K, V> IterMut<'a, K, V> {
     /// The pairs of these two columns.
     #[inline(always)]
-    pub(crate) fn new(keys: &'a [K], values: &'a mut [V]) -> Self
+    pub fn new(keys: &'a [K], values: &'a mut [V]) -> Self
         requires { length values.old ≡ length keys.now }
         ensures even { IsEven result }
         ensures left { iter_mut_left result ≡ zip keys.now values.old }

@@ -2,7 +2,7 @@
 ghost use Rattle.std.specs.Prelude.{◌≡◌, Some, length, IfSome};
 ghost use Rattle.std.specs.Iterator.{at_most, UpTo};
 ghost use Rattle.std.specs.Iterator.SizeHint.{IsWithinCount};
-ghost use Rattle.halfbrown.specs.Iter.{values_mut_left, values_mut_name, ValuesMutSteps};
+ghost use Rattle.half_iter.specs.Iter.{values_mut_left, values_mut_name, ValuesMutSteps};
 
 use std::iter::FusedIterator;
 use std::slice;
@@ -26,7 +26,7 @@ pub struct ValuesMut<'a, K, V> {
 impl<'a, K, V> ValuesMut<'a, K, V> {
     /// These values.
     #[inline(always)]
-    pub(crate) fn new(values: &'a mut [V]) -> Self
+    pub fn new(values: &'a mut [V]) -> Self
         ensures left { values_mut_left result ≡ values.old }
         ensures name { values_mut_name result ≡ values.entry.ghost_name }
     {

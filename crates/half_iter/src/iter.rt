@@ -24,11 +24,11 @@ pub struct Iter<'a, K, V> {
 }
 
 impl<'a, K, V> Iter<'a, K, V> {
-    ghost use Rattle.halfbrown.specs.Iter.{pairs_left};
+    ghost use Rattle.half_iter.specs.Iter.{pairs_left};
 
     /// The pairs of these two columns.
     #[inline(always)]
-    pub(crate) fn new(keys: &'a [K], values: &'a [V]) -> Self
+    pub fn new(keys: &'a [K], values: &'a [V]) -> Self
         requires { length values.now ≡ length keys.now }
         ensures { pairs_left result ≡ zip keys.now values.now }
     {
@@ -40,7 +40,7 @@ impl<'a, K, V> Iter<'a, K, V> {
 }
 
 impl<'a, K, V> Iterator for Iter<'a, K, V> {
-    ghost use Rattle.halfbrown.specs.Iter.{pairs_left, IterSteps};
+    ghost use Rattle.half_iter.specs.Iter.{pairs_left, IterSteps};
 
     type Item = (&'a K, &'a V);
 
@@ -76,7 +76,7 @@ impl<'a, K, V> FusedIterator for Iter<'a, K, V> {}
 
 impl<'a, K, V> Clone for Iter<'a, K, V> {
     ghost use Rattle.std.specs.Prelude.{⊤};
-    ghost use Rattle.halfbrown.specs.Iter.{pairs_left};
+    ghost use Rattle.half_iter.specs.Iter.{pairs_left};
 
     ghost is_clone = { λ s r. pairs_left r ≡ pairs_left s };
 

@@ -2,7 +2,7 @@
 ghost use Rattle.std.specs.Prelude.{◌≡◌, Some, length, IfSome, ⊤};
 ghost use Rattle.std.specs.Iterator.{at_most, UpTo, YieldsFirstRef};
 ghost use Rattle.std.specs.Iterator.SizeHint.{IsWithinCount};
-ghost use Rattle.halfbrown.specs.Iter.{values_left};
+ghost use Rattle.half_iter.specs.Iter.{values_left};
 
 use std::alloc::AllocError;
 use std::iter::FusedIterator;
@@ -25,7 +25,7 @@ pub struct Values<'a, K, V> {
 impl<'a, K, V> Values<'a, K, V> {
     /// These values.
     #[inline(always)]
-    pub(crate) fn new(values: &'a [V]) -> Self
+    pub fn new(values: &'a [V]) -> Self
         ensures { values_left result ≡ values.now }
     {
         Values {
