@@ -7,7 +7,7 @@ ghost use Rattle.half_store.specs.Work.{one_asked, one_compared, one_looked};
 ghost use Rattle.half_store.specs.Slots.{slot_at};
 
 use crate::Tally;
-use crate::table::buckets::Buckets;
+use crate::buckets::Buckets;
 use std::hash::{BuildHasher, Hash};
 
 /// Hashes a key: calls `hash_one` of the builder.

@@ -1,6 +1,7 @@
 //! The storage of a map in two forms: pairs in two columns, an index over them where there is one, and a tally of the work.
 #![tactic(auto)]
 
+pub mod buckets;
 pub mod capacity;
 mod column;
 mod count;

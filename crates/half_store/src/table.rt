@@ -10,7 +10,6 @@ ghost use Rattle.half_store.specs.Capacity.{capacity_of, IsBucketCount, capacity
 ghost use Rattle.half_store.specs.Probe.{IfFound, OnMissing, IfVacant, looked_more, after_missing, AddsFinding};
 ghost use Rattle.half_store.specs.Table.{contents_of, with_hash_in, IsVacancyIn, no_buckets};
 
-pub mod buckets;
 mod deletion;
 pub mod laws;
 mod memory;
@@ -20,8 +19,8 @@ mod retain;
 mod reverse;
 
 use crate::Tally;
+use crate::buckets::{Buckets, HashedBuckets};
 use crate::capacity::capacity_of;
-use buckets::{Buckets, HashedBuckets};
 use deletion::backward_shift;
 use probe::{Probe, first_empty, search};
 use std::alloc::Global;

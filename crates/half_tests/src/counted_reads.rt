@@ -1,6 +1,6 @@
 //! Buckets that count how often they are read: a probe reads as many as the tally counts, and none beside it.
 
-use half_store::table::buckets::{Buckets, HashedBuckets};
+use half_store::buckets::{Buckets, HashedBuckets};
 use half_store::table::probe::{first_empty, search};
 use half_store::{Refusal, Table, Tally};
 use std::alloc::Global;

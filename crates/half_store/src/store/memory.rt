@@ -65,8 +65,8 @@ impl<K, V> Store<K, V> {
         ensures grown { OnOk result (allowed limit self.old.is_vec self.old.capacity
             < allowed limit self.old.is_vec (length self.old.pairs + additional)
             → self.new.capacity ≡ (if self.old.is_vec
-                then grown_capacity limit self.old.capacity (allowed limit self.old.is_vec (length self.old.pairs + additional))
-                else capacity_for (allowed limit self.old.is_vec (length self.old.pairs + additional)))) }
+            then grown_capacity limit self.old.capacity (allowed limit self.old.is_vec (length self.old.pairs + additional))
+            else capacity_for (allowed limit self.old.is_vec (length self.old.pairs + additional)))) }
         ensures more { self.old.capacity ≤ self.new.capacity }
         ensures series { self.new.is_vec ≡ false → self.new.capacity ≡ capacity_for self.new.capacity }
         ensures granted { OnOk result (allowed limit self.old.is_vec self.old.capacity
@@ -106,9 +106,9 @@ impl<K, V> Store<K, V> {
         ensures form { self.new.is_vec ≡ (self.old.is_vec || nat_le (length self.old.pairs) limit) }
         ensures hashes { self.new.is_vec ≡ false → self.new.hashes ≡ self.old.hashes }
         ensures capacity { (self.new.capacity ≡ (if self.new.is_vec then length self.old.pairs
-                else capacity_for (length self.old.pairs)))
+            else capacity_for (length self.old.pairs)))
             ⊎ ((0 < length self.old.pairs)
-                × (allowed limit self.new.is_vec self.new.capacity ≡ allowed limit self.new.is_vec self.old.capacity)) }
+            × (allowed limit self.new.is_vec self.new.capacity ≡ allowed limit self.new.is_vec self.old.capacity)) }
         ensures series { self.new.is_vec ≡ false → self.new.capacity ≡ capacity_for self.new.capacity }
         ensures fits { self.new.is_vec ≡ false → length self.old.pairs ≤ self.new.capacity }
     {

@@ -7,8 +7,8 @@ ghost use Rattle.half_store.specs.Slots.{ProbeInvariant};
 ghost use Rattle.half_store.specs.Table.{hashes_at};
 ghost use Rattle.half_store.specs.TableLayout.{InStep, HasGap};
 
-use super::buckets::hash_in;
 use super::probe::{home, next};
+use crate::buckets::hash_in;
 
 /// The probe distance from one bucket up to another; the first follows the last.
 #[inline(always)]

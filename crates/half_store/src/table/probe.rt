@@ -6,8 +6,8 @@ ghost use Rattle.half_store.specs.Capacity.{IsBucketCount};
 ghost use Rattle.half_store.specs.Probe.{looked_more};
 ghost use Rattle.half_store.specs.Slots.{slot_at, stored, distance_from_home, IsVacancyFor, IsFoundAt, SomeVacant, ProbeInvariant};
 
-use super::buckets::Buckets;
 use crate::Tally;
+use crate::buckets::Buckets;
 use crate::counting::{compare, look};
 
 /// Where a probe for a pair ended.

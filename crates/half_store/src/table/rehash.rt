@@ -3,9 +3,9 @@ ghost use Rattle.std.specs.Prelude.{◌≡◌, ◌≤◌, length, replicate};
 ghost use Rattle.half_store.specs.Capacity.{capacity_of, IsBucketCount};
 ghost use Rattle.half_store.specs.TableLayout.{IsIndex};
 
-use super::buckets::HashedBuckets;
 use super::probe::first_empty;
 use crate::Tally;
+use crate::buckets::HashedBuckets;
 
 /// Puts all pairs into empty buckets, in the order of their entry indices, and notes the bucket of each.
 pub(super) fn rehash(buckets: &mut [usize], hashes: &[u64], bucket_of: &mut [usize])

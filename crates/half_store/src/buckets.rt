@@ -66,7 +66,7 @@ impl Buckets for HashedBuckets<'_> {
 
 /// The hash of the pair in a bucket, or none where it is empty.
 #[inline(always)]
-pub(super) fn hash_in(buckets: &[usize], hashes: &[u64], bucket: usize) -> Option<u64>
+pub(crate) fn hash_in(buckets: &[usize], hashes: &[u64], bucket: usize) -> Option<u64>
     requires whole { WithinHashes hashes.now buckets.now }
     requires within { bucket < length buckets.now }
     ensures { result ≡ slot_at (slots_by hashes.now buckets.now) bucket }
