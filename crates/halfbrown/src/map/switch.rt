@@ -1,4 +1,4 @@
-//! The change of form: a vector that is full becomes a table.
+//! The change of form: a full vector becomes a table.
 ghost use Rattle.std.specs.Prelude.{◌≡◌, ◌+◌, ◌≤◌, ◌<◌, true, false, [], length, map, OnOk, OnErr, IfOk, IfErr, is_ok, ◌^◌, if◌then◌else◌};
 ghost use Rattle.half_store.specs.Work.{asked_more};
 ghost use Rattle.half_store.specs.Refusal.{refusal_of};
