@@ -1,5 +1,5 @@
 #!/usr/bin/env python3
-"""The examples in the documentation of half_store and halfbrown stand, line by line, in code that the gate proves and runs.
+"""The examples in the documentation of the libraries stand, line by line, in code that the gate proves and runs.
 
 The last line is "N passed, M failed".
 """
@@ -8,7 +8,7 @@ import pathlib
 import sys
 
 CRATES = pathlib.Path(__file__).resolve().parent.parent / "crates"
-DOCUMENTED = ("half_store", "halfbrown")
+DOCUMENTED = ("half_store", "half_iter", "halfbrown")
 # A crate's examples, and the callers that are proved from the public contracts.
 PROVED = ("half_*/src/*examples.rt", "half_*/src/*callers.rt")
 

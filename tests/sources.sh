@@ -1,5 +1,5 @@
 #!/bin/sh
-# What no proof sees of the three crates, and a search of their sources does: no value is forgotten, the builder is asked in
+# What no proof sees of the libraries and the program, and a search of their sources does: no value is forgotten, the builder is asked in
 # one function alone, and a tally is begun only by the plain calls and where a line below says why.
 #
 # The last line is "N passed, M failed".
@@ -7,7 +7,7 @@ set -u
 cd "$(dirname "$0")/.." || exit 1
 . tests/part.sh
 
-sources="crates/half_store/src crates/halfbrown/src crates/halfmap/src"
+sources="crates/half_store/src crates/half_iter/src crates/halfbrown/src crates/halfmap/src"
 
 # none PATTERN MESSAGE: no line of the sources has it, but in comments.
 none() {

@@ -19,6 +19,7 @@ pub mod equality_callers;
 mod equality_examples;
 #[cfg(test)]
 mod examples;
+mod form_examples;
 pub mod first_example;
 #[cfg(test)]
 mod forms_of_keys;
