@@ -1,5 +1,5 @@
 //! The account of the work that look-ups and insertions do.
-ghost use Rattle.std.specs.Prelude.{◌≡◌, ◌+◌};
+ghost use Rattle.std.specs.Prelude.{◌≡◌};
 ghost use Rattle.half_store.specs.Work.{Work, no_work, one_asked, one_compared, one_looked};
 
 use crate::count::Count;

@@ -19,8 +19,9 @@ pub mod equality_callers;
 mod equality_examples;
 #[cfg(test)]
 mod examples;
-mod form_examples;
 pub mod first_example;
+#[cfg(test)]
+mod form_examples;
 #[cfg(test)]
 mod forms_of_keys;
 pub mod iter_callers;

@@ -1,5 +1,5 @@
 //! Backward-shift deletion: after a removal the pairs that follow move back, so that no tombstone is needed.
-ghost use Rattle.std.specs.Prelude.{◌≡◌, ◌-◌, ◌<◌, ◌≤◌, List, length, slice_set, slice_index};
+ghost use Rattle.std.specs.Prelude.{◌≡◌, ◌-◌, ◌<◌, ◌≤◌, length, slice_set, slice_index};
 ghost use Rattle.half_store.specs.Reach.{probe_distance};
 ghost use Rattle.half_store.specs.Capacity.{IsBucketCount};
 ghost use Rattle.half_store.specs.Buckets.{slots_by, entries_by, WithinHashes};

@@ -1,7 +1,6 @@
 //! Making a table, growing and shrinking it. All memory is had before anything changes.
-ghost use Rattle.std.specs.Prelude.{◌≡◌, ◌+◌, ◌^◌, ◌<◌, ◌≤◌, ◌↔◌, ◌⊎◌, [], max, length, replicate, Err, IfOk, IsOk, OnOk, OnErr, IfErr, Some, slice_get};
+ghost use Rattle.std.specs.Prelude.{◌≡◌, ◌+◌, ◌^◌, ◌<◌, ◌≤◌, ◌↔◌, ◌⊎◌, [], max, length, replicate, Err, IfOk, IsOk, OnOk, OnErr, IfErr};
 ghost use Rattle.half_store.specs.Capacity.{capacity_of, buckets_for, buckets_for_more, IsBucketCount};
-ghost use Rattle.half_store.specs.Table.{slots_of};
 
 use super::Table;
 use super::rehash::rehash;

@@ -1,5 +1,5 @@
 //! The opposite order of the pairs: the first entry index becomes the last.
-ghost use Rattle.std.specs.Prelude.{◌≡◌, ◌<◌, ◌≤◌, All, map, reverse};
+ghost use Rattle.std.specs.Prelude.{◌≡◌, ◌≤◌, All, map, reverse};
 ghost use Rattle.half_store.specs.Buckets.{mirrored};
 
 use super::Table;

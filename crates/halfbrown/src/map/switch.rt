@@ -1,5 +1,5 @@
 //! The change of form: a full vector becomes a table.
-ghost use Rattle.std.specs.Prelude.{◌≡◌, ◌+◌, ◌≤◌, ◌<◌, true, false, [], length, map, OnOk, OnErr, IfOk, IfErr, is_ok, ◌^◌, if◌then◌else◌};
+ghost use Rattle.std.specs.Prelude.{◌≡◌, ◌+◌, ◌≤◌, ◌<◌, true, false, [], length, map, OnOk, OnErr, IfErr, is_ok, ◌^◌, if◌then◌else◌};
 ghost use Rattle.half_store.specs.Work.{asked_more};
 ghost use Rattle.half_store.specs.Refusal.{refusal_of};
 ghost use Rattle.half_store.specs.Capacity.{capacity_for, capacity_of};

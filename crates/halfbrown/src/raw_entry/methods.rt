@@ -1,5 +1,5 @@
 //! The calls of a raw entry.
-ghost use Rattle.std.specs.Prelude.{◌≡◌, true, false, None, Some, IfSome, unwrap_or, if◌then◌else◌};
+ghost use Rattle.std.specs.Prelude.{◌≡◌, false, None, Some, IfSome, unwrap_or, if◌then◌else◌};
 ghost use Rattle.std.specs.Borrow.{Bor, MutBor};
 ghost use Rattle.std.specs.Option.{UnwrapsOrElse};
 ghost use Rattle.halfbrown.specs.Costs.{key_hash};
