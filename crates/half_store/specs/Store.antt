@@ -1,5 +1,5 @@
 -- What contracts see of a store.
-use Rattle.std.specs.Prelude.{◌≡◌, ℕ, ◌≤◌, Bool, true, false, List, [], ◌∷◌, ◌++◌, length, min, Option, None, Some, if◌then◌else◌}
+use Rattle.std.specs.Prelude.{◌≡◌, ℕ, ◌+◌, ◌≤◌, Bool, true, false, List, [], ◌∷◌, ◌++◌, length, min, Option, None, Some, if◌then◌else◌}
 use Rattle.half_store.specs.declared.store.lookup.Vacancy.{Vacancy}
 use Rattle.half_store.specs.Capacity.{capacity_of}
 use Rattle.half_store.specs.Pairs.{Pairs}
@@ -50,6 +50,15 @@ module _ {K V : Type 0} where
 -- as many of `capacity` pairs as a form may hold: a vector no more than the limit
 abbrev pub allowed : ℕ → Bool → ℕ → ℕ
 allowed limit is_vec capacity = if is_vec then min capacity limit else capacity
+
+module _ {K V : Type 0} (limit : ℕ) where
+  -- how many pairs fit the store
+  abbrev pub capacity_within : StoreState K V → ℕ
+  capacity_within s = allowed limit s.is_vec s.capacity
+
+  -- how many pairs in all a reservation for so many more is for
+  abbrev pub reserved : StoreState K V → ℕ → ℕ
+  reserved s additional = allowed limit s.is_vec (length s.pairs + additional)
 
 -- a pair of this hash may be added here: in a table at the empty bucket where an insertion probe for it ends; a vector looks at neither
 abbrev pub IsVacancy : Bool → Contents → ℕ → Vacancy → Type 0

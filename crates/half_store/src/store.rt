@@ -1,7 +1,7 @@
 //! Pairs in two forms over the same two columns: a vector, which is searched from first to last, or a table, which has an
 //! index.
 ghost use Rattle.std.specs.Prelude.{◌≡◌, ◌^◌, ◌<◌, [], length, reverse};
-ghost use Rattle.half_store.specs.Store.{vector_of, allowed, KeepsForm};
+ghost use Rattle.half_store.specs.Store.{vector_of, capacity_within, KeepsForm};
 
 mod at;
 mod change;
@@ -82,7 +82,7 @@ impl<K, V> Store<K, V> {
     /// ```
     #[inline(always)]
     pub fn capacity(&self, limit: usize) -> usize
-        ensures { result ≡ allowed limit self.now.is_vec self.now.capacity }
+        ensures { result ≡ capacity_within limit self.now }
     {
         match &self.index {
             Some(table) => table.capacity(),

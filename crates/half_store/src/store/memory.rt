@@ -1,9 +1,10 @@
 //! The capacity of a store: making it, and giving it back. On error nothing changes.
-ghost use Rattle.std.specs.Prelude.{◌≡◌, ◌+◌, ◌^◌, ◌<◌, ◌≤◌, ◌⊎◌, ◌||◌, false, [], length, nat_le, IsOk, IfOk, OnOk, OnErr, IfErr, if◌then◌else◌};
+ghost use Rattle.std.specs.Prelude.{◌≡◌, ◌+◌, ◌^◌, ◌<◌, ◌≤◌, ◌⊎◌, ◌||◌, false, []};
+ghost use Rattle.std.specs.Prelude.{length, nat_le, IsOk, IfOk, OnOk, OnErr, IfErr, if◌then◌else◌};
 ghost use Rattle.std.specs.List.{AllZip};
 ghost use Rattle.half_store.specs.Capacity.{capacity_for, grown_capacity};
 ghost use Rattle.half_store.specs.Refusal.{refusal_of};
-ghost use Rattle.half_store.specs.Store.{allowed};
+ghost use Rattle.half_store.specs.Store.{allowed, capacity_within, reserved};
 
 use super::Store;
 use crate::capacity::capacity_for;
@@ -58,23 +59,19 @@ impl<K, V> Store<K, V> {
         ensures pairs { self.new.pairs ≡ self.old.pairs }
         ensures form { self.new.is_vec ≡ self.old.is_vec }
         ensures hashes { self.new.hashes ≡ self.old.hashes }
-        ensures enough { OnOk result (allowed limit self.old.is_vec (length self.old.pairs + additional)
-            ≤ allowed limit self.old.is_vec self.new.capacity) }
-        ensures unneeded { OnOk result (allowed limit self.old.is_vec (length self.old.pairs + additional)
-            ≤ allowed limit self.old.is_vec self.old.capacity → self.new ≡ self.old) }
-        ensures grown { OnOk result (allowed limit self.old.is_vec self.old.capacity
-            < allowed limit self.old.is_vec (length self.old.pairs + additional)
+        ensures enough { OnOk result (reserved limit self.old additional ≤ capacity_within limit self.new) }
+        ensures unneeded { OnOk result (reserved limit self.old additional ≤ capacity_within limit self.old
+            → self.new ≡ self.old) }
+        ensures grown { OnOk result (capacity_within limit self.old < reserved limit self.old additional
             → self.new.capacity ≡ (if self.old.is_vec
-            then grown_capacity limit self.old.capacity (allowed limit self.old.is_vec (length self.old.pairs + additional))
-            else capacity_for (allowed limit self.old.is_vec (length self.old.pairs + additional)))) }
+            then grown_capacity limit self.old.capacity (reserved limit self.old additional)
+            else capacity_for (reserved limit self.old additional))) }
         ensures more { self.old.capacity ≤ self.new.capacity }
         ensures series { self.new.is_vec ≡ false → self.new.capacity ≡ capacity_for self.new.capacity }
-        ensures granted { OnOk result (allowed limit self.old.is_vec self.old.capacity
-            < allowed limit self.old.is_vec (length self.old.pairs + additional)
-            → allowed limit self.old.is_vec (length self.old.pairs + additional) ≤ 2 ^ 60) }
-        ensures refused { IfErr result (λ why. (allowed limit self.old.is_vec self.old.capacity
-            < allowed limit self.old.is_vec (length self.old.pairs + additional))
-            × (why ≡ refusal_of (allowed limit self.old.is_vec (length self.old.pairs + additional)))) }
+        ensures granted { OnOk result (capacity_within limit self.old < reserved limit self.old additional
+            → reserved limit self.old additional ≤ 2 ^ 60) }
+        ensures refused { IfErr result (λ why. (capacity_within limit self.old < reserved limit self.old additional)
+            × (why ≡ refusal_of (reserved limit self.old additional))) }
         ensures err { OnErr result (self.new ≡ self.old) }
     {
         let len = self.columns.len();

@@ -1,6 +1,7 @@
 //! Linear probing: from the home bucket of a hash upwards. A probe reads stored hashes and nothing else, and counts each
 //! bucket that it reads.
-ghost use Rattle.std.specs.Prelude.{◌≡◌, ℕ, ◌+◌, ◌<◌, ◌≤◌, ◌==◌, true, false, Some, length, count_by, slice_index, IfOk, IfErr, OnOk, OnErr};
+ghost use Rattle.std.specs.Prelude.{◌≡◌, ℕ, ◌+◌, ◌<◌, ◌≤◌, ◌==◌, true, false};
+ghost use Rattle.std.specs.Prelude.{Some, length, count_by, slice_index, IfOk, IfErr, OnOk, OnErr};
 ghost use Rattle.half_store.specs.Reach.{home, bucket_after};
 ghost use Rattle.half_store.specs.Capacity.{IsBucketCount};
 ghost use Rattle.half_store.specs.Probe.{looked_more};

@@ -4,7 +4,8 @@ ghost use Rattle.std.specs.Borrow.{Bor, MutBor};
 ghost use Rattle.std.specs.Option.{UnwrapsOrElse};
 ghost use Rattle.halfbrown.specs.Costs.{key_hash};
 ghost use Rattle.halfbrown.specs.Pairs.{holds};
-ghost use Rattle.halfbrown.specs.RawEntry.{Occupied, map_of, map_ref, is_occupied, entry_key, entry_value, entry_pair, pairs_with, pairs_without, PutsPair, ModifiesPair, after_adding};
+ghost use Rattle.halfbrown.specs.RawEntry.{Occupied, map_of, map_ref, is_occupied, entry_key, entry_value};
+ghost use Rattle.halfbrown.specs.RawEntry.{entry_pair, pairs_with, pairs_without, PutsPair, ModifiesPair, after_adding};
 ghost use Rattle.halfbrown.specs.State.{IsState, WithPairs};
 
 use super::{LimitedRawEntryMut, LimitedRawOccupiedEntryMut};
