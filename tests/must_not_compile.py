@@ -18,8 +18,9 @@ import subprocess
 import sys
 import tempfile
 
+import planted
+
 TOP = pathlib.Path(__file__).resolve().parent.parent
-LIBRARIES = ("half_store", "halfbrown")
 COMPILES = "compiles"
 ERROR = re.compile(r"^src/(\w+)\.rt:\d+:\d+: (error\[[^\]]*\])", re.M)
 ENDED = "run=ended status=0"
@@ -27,10 +28,7 @@ ENDED = "run=ended status=0"
 
 def copy_libraries(folder):
     """Copies the sources of the libraries, and names the crate that misuses them."""
-    shutil.copy(TOP / "HANDLES", folder)
-    (folder / "crates.txt").write_text("half_store:\nhalfbrown: half_store\nmisuse: halfbrown\n")
-    for name in LIBRARIES:
-        shutil.copytree(TOP / "crates" / name, folder / "crates" / name, ignore=shutil.ignore_patterns("out"))
+    planted.copy_sources(folder, planted.crates_of("halfbrown") | {"misuse": " halfbrown"})
 
 
 def put(cases, sources):

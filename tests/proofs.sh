@@ -7,7 +7,7 @@ set -u
 cd "$(dirname "$0")/.." || exit 1
 . tests/part.sh
 
-crates="half_store halfbrown halfmap witness half_uses half_tests"
+crates="half_store half_iter halfbrown halfmap witness half_uses half_tests"
 # More at a time gain nothing: each takes all processors that it finds.
 make --no-print-directory -k -j2 -f tests/proofs.mk $crates 2>&1 | tee "$work/said"
 for crate in $crates; do
