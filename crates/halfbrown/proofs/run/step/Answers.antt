@@ -11,9 +11,3 @@ returns-in-EntryOrInsert-clause-step g c = rw c.in-EntryOrInsert.is c.entry_or_i
 
 pub returns-in-EntryOrInsert-clause-cost : goal.returns-in-EntryOrInsert-clause-cost
 returns-in-EntryOrInsert-clause-cost g c = rw c.in-EntryOrInsert.is c.entry_or_insert.ensures.cost
-
-pub returns-in-RawOrInsert-clause-step : goal.returns-in-RawOrInsert-clause-step
-returns-in-RawOrInsert-clause-step g c = rw c.in-RawOrInsert.is c.raw_or_insert.ensures.step
-
-pub returns-in-RawOrInsert-clause-cost : goal.returns-in-RawOrInsert-clause-cost
-returns-in-RawOrInsert-clause-cost g c = rw c.in-RawOrInsert.is c.raw_or_insert.ensures.cost
