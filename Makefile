@@ -4,7 +4,8 @@
 # make edits        puts one fault after another into the code: the prover, or a test, has to find each
 # make scripts      plays the scripts of tests/scripts on the proved program witness and on a model (WORD=.. picks some)
 # make witness      plays N scripts at random (N=200, SEED=1) on both, and compares each line
-# make bench        proves and builds half_bench and halfmap, where something has changed, and prints the tables of docs/SPEED.md
+# make bench        proves and builds half_bench and halfmap, where something has changed, prints the tables of docs/SPEED.md
+#                   and draws its picture (ROUNDS=3 takes fewer rounds than 9; WORDS="drain u64 1000" picks rows)
 # make fmt          lays out the files of every crate
 
 .PHONY: help run try test edits scripts witness bench fmt
@@ -34,7 +35,7 @@ witness:
 	@tests/witness.py $(or $(N),200) $(or $(SEED),1)
 
 bench:
-	@tests/bench.py $(ROUNDS)
+	@tests/bench.py $(or $(ROUNDS),9) $(WORDS)
 
 fmt:
 	@for crate in crates/*/; do (cd "$$crate" && rt fmt) || exit 1; done

@@ -1,127 +1,114 @@
 #!/usr/bin/env python3
-"""What `make bench` runs: proves and builds half_bench and halfmap, where something has changed, and prints the tables of
-docs/SPEED.md: times, memory and halfmap.
+"""What `make bench` runs: proves and builds half_bench and halfmap, where something has changed, prints the figures of
+docs/SPEED.md, and draws docs/speed.svg.
 
-Its argument, as in `make bench ROUNDS=3`, is the number of rounds: 9 where there is none.
+    tests/bench.py [ROUNDS] [WORD..]                  9 rounds where none are given
+    tests/bench.py --against DIR [ROUNDS] [WORD..]    beside half_bench of another checkout, which has to be built there
+
+Words pick rows of times: names of operations, `u64`, `String` and sizes; `memory` and `halfmap` pick those tables. Where any
+is given nothing is drawn.
 """
 
+import math
 import os
 import pathlib
-import random
-import statistics
+import platform
+import re
 import subprocess
 import sys
-import tempfile
+import time
 
-CRATES = pathlib.Path(__file__).resolve().parent.parent / "crates"
-MAPS = ["limit_0", "limit_32", "std", "indexmap"]
-# So many pairs are held at once, in as many maps as that needs. One map alone would be lost in the pages of the program.
-PAIRS = 1_000_000
-SIZES = [4, 16, 33, 100, 1_000, 100_000, 1_000_000]
-LINES = 1_000_000
-HELD = 100_000
+import bench_others
+import bench_picture
+import bench_times
+
+TOP = pathlib.Path(__file__).resolve().parent.parent
+PICTURE = TOP / "docs/speed.svg"
+OTHERS = ["memory", "halfmap"]
 
 
 def build(name):
     """Proves and builds a program, and returns its path."""
     print(f"{name}: proving and building, where something has changed", file=sys.stderr)
-    ran = subprocess.run(
-        ["rt", "run"], cwd=CRATES / name, stdin=subprocess.DEVNULL, capture_output=True, text=True
-    )
+    crate = TOP / "crates" / name
+    ran = subprocess.run(["rt", "run"], cwd=crate, stdin=subprocess.DEVNULL, capture_output=True, text=True)
     if ran.returncode:
         sys.exit(f"{ran.stdout}{ran.stderr}{name}: not built")
-    return CRATES / name / "out" / name
+    return crate / "out" / name
 
 
-def print_table(heads, rows):
-    print("| " + " | ".join(heads) + " |")
-    print("|---" + "|--:" * (len(heads) - 1) + "|")
-    for row in rows:
-        print("| " + " | ".join(str(cell) for cell in row) + " |", flush=True)
+def print_times(rounds, words):
+    found = bench_times.times(build("half_bench"), rounds, words)
+    if found is None:
+        sys.exit("half_bench: no times")
+    print(f"Times of one operation in nanoseconds, and ratios, by the medians of {rounds} rounds:")
+    bench_times.print_times(found)
+    if not words:
+        bench_picture.draw(PICTURE, found)
+        print("\n![The same times as lines](speed.svg)")
 
 
-def peak_bytes(program, words):
-    """The most memory that the program had at once. It waits for the end of its input, so that this can be read."""
-    running = subprocess.Popen(
-        [program, *map(str, words)], stdin=subprocess.PIPE, stdout=subprocess.PIPE, text=True
+def print_memory():
+    print("\nMemory, in bytes a pair at the peak:\n")
+    heads = ["keys", "pairs a map", "maps", "limit 0", "limit 32", "std", "indexmap"]
+    bench_times.print_table(heads, bench_others.memory_rows(build("half_bench")))
+
+
+def print_halfmap(rounds):
+    program = build("halfmap")
+    print(f"\nhalfmap, by the median of {rounds} rounds:\n")
+    bench_times.print_table(["lines", "halfmap to sort -u"], bench_others.halfmap_rows(program, rounds))
+
+
+def print_machine(seconds):
+    model = re.search(r"^model name\s*: (.*)$", pathlib.Path("/proc/cpuinfo").read_text(), re.M)
+    version = subprocess.run(["rt", "version"], capture_output=True, text=True).stdout.strip()
+    print(
+        f"\nThis took {math.ceil(seconds / 60)} min on {len(os.sched_getaffinity(0))} processors"
+        f" ({model[1] if model else platform.machine()}) under {platform.system()} {platform.release()}, with `{version}`."
     )
-    running.stdout.readline()
-    # What os.wait4 gives would count the pages of this process too, which the child had before it became the program.
-    status = pathlib.Path(f"/proc/{running.pid}/status").read_text()
-    running.communicate()
-    if running.returncode:
-        sys.exit(f"{words}: status {running.returncode}")
-    return next(int(line.split()[1]) for line in status.splitlines() if line.startswith("VmHWM:")) * 1024
 
 
-def memory_rows(program):
-    empty = peak_bytes(program, ["memory", "std", "u64", 0, 0])
-    for keys in ["u64", "String"]:
-        for size in SIZES:
-            copies = PAIRS // size
-            peaks = [peak_bytes(program, ["memory", kind, keys, size, copies]) for kind in MAPS]
-            yield [keys, size, copies, *(round((peak - empty) / (size * copies)) for peak in peaks)]
+def print_all(rounds, words):
+    began = time.monotonic()
+    rows = [it for it in words if it not in OTHERS]
+    if rows or not words:
+        print_times(rounds, rows)
+    if "memory" in words or not words:
+        print_memory()
+    if "halfmap" in words or not words:
+        print_halfmap(rounds)
+    print_machine(time.monotonic() - began)
 
 
-def write_lines(folder, name, lines):
-    path = pathlib.Path(folder) / name
-    path.write_text("".join(f"{line}\n" for line in lines))
-    return path
-
-
-def mixed_line(chance):
-    key, value = chance.randrange(HELD), chance.randrange(HELD)
-    return chance.choice([f"i {key} {value}", f"g {key}", f"r {key}", "f"])
-
-
-def inputs(folder):
-    """The files of lines, each with what it is called."""
-    chance = random.Random(1)
-    keys = chance.sample(range(10 * LINES), LINES)
-    held = keys[:HELD]
-    insertions = [f"i {key} {number}" for number, key in enumerate(keys)]
-    look_ups = insertions[:HELD] + [f"g {chance.choice(held)}" for _ in range(LINES)]
-    mixed = [mixed_line(chance) for _ in range(LINES)]
-    return [
-        ("a million insertions of new keys", write_lines(folder, "insertions", insertions)),
-        ("a million mixed lines", write_lines(folder, "mixed", mixed)),
-        ("a million look-ups, after 100,000 insertions", write_lines(folder, "look_ups", look_ups)),
-    ]
-
-
-def processor_seconds(words, path):
-    """The processor time that a program takes to read the file as its input."""
-    environment = {**os.environ, "LC_ALL": "C"}
-    with open(path) as given:
-        running = subprocess.Popen(words, stdin=given, stdout=subprocess.DEVNULL, env=environment)
-        _, status, used = os.wait4(running.pid, 0)
-    running.returncode = os.waitstatus_to_exitcode(status)
-    if running.returncode:
-        sys.exit(f"{words}: status {running.returncode}")
-    return used.ru_utime + used.ru_stime
-
-
-def halfmap_rows(program, rounds):
-    with tempfile.TemporaryDirectory() as folder:
-        for name, path in inputs(folder):
-            ratios = [
-                processor_seconds([program], path) / processor_seconds(["sort", "-u"], path)
-                for _ in range(rounds)
-            ]
-            yield [name, f"{statistics.median(ratios):.2f}"]
+def print_against(folder, rounds, words):
+    other = pathlib.Path(folder).resolve() / "crates/half_bench/out/half_bench"
+    if not other.exists():
+        sys.exit(f"{other}: not built")
+    program = build("half_bench")
+    # Both run on one processor, so that neither has a better one.
+    os.sched_setaffinity(0, {max(os.sched_getaffinity(0))})
+    print(f"How many times as long as there, by the medians of {rounds} rounds:\n")
+    bench_times.print_against(program, other, rounds, words)
 
 
 def main():
-    rounds = int(sys.argv[1]) if len(sys.argv) > 1 else 9
-    half_bench, halfmap = build("half_bench"), build("halfmap")
-    print(f"\nTimes, by the median of {rounds} rounds:\n", flush=True)
-    if subprocess.run([half_bench, "times", str(rounds)]).returncode:
-        sys.exit("half_bench: no times")
-    print("\nMemory, in bytes a pair at the peak:\n")
-    heads = ["keys", "pairs a map", "maps", "limit 0", "limit 32", "std", "indexmap"]
-    print_table(heads, memory_rows(half_bench))
-    print(f"\nhalfmap, by the median of {rounds} rounds:\n")
-    print_table(["lines", "halfmap to sort -u"], halfmap_rows(halfmap, rounds))
+    words = sys.argv[1:]
+    other = None
+    if words[:1] == ["--against"]:
+        if len(words) < 2:
+            sys.exit(__doc__)
+        other, words = words[1], words[2:]
+    # A size is a number too, so the rounds are told by their place.
+    rounds = int(words.pop(0)) if words and words[0].isdigit() else 9
+    known = bench_times.OPERATIONS + bench_times.KEYS + ([] if other else OTHERS)
+    for word in words:
+        if word not in known and not word.isdigit():
+            sys.exit(f"{word}: not one of {' '.join(known)} and the sizes")
+    if other:
+        print_against(other, rounds, words)
+    else:
+        print_all(rounds, words)
 
 
 main()

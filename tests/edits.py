@@ -38,7 +38,7 @@ import turns
 
 TOP = pathlib.Path(__file__).resolve().parent.parent
 # The crates, each after those that it stands on.
-CRATES = ("half_store", "half_iter", "halfbrown", "halfmap", "test_support", "half_uses", "half_tests")
+CRATES = ("half_store", "half_iter", "half_equivalent", "halfbrown", "halfmap", "test_support", "half_uses", "half_tests")
 # What a check of one job takes at most.
 MEMORY = 2_000_000_000
 # Where antt cannot read a text, or a proof misses a name, nothing is said of a contract.

@@ -8,7 +8,7 @@ import pathlib
 import sys
 
 CRATES = pathlib.Path(__file__).resolve().parent.parent / "crates"
-DOCUMENTED = ("half_store", "half_iter", "halfbrown")
+DOCUMENTED = ("half_store", "half_iter", "half_equivalent", "halfbrown")
 # A crate's examples, and the callers that are proved from the public contracts.
 PROVED = ("half_*/src/*examples.rt", "half_*/src/*callers.rt")
 

@@ -7,9 +7,10 @@ set -u
 cd "$(dirname "$0")/.." || exit 1
 . tests/part.sh
 
-crates="half_store half_iter halfbrown halfmap witness half_uses half_tests"
-# More at a time gain nothing: each takes all processors that it finds.
-make --no-print-directory -k -j2 -f tests/proofs.mk $crates 2>&1 | tee "$work/said"
+crates="half_store half_iter half_equivalent halfbrown halfmap witness half_uses half_tests"
+# Each takes all processors that it finds, but not all the time, and fewer where others leave it little memory. On four
+# processors three at a time keep them busy.
+make --no-print-directory -k -j$(($(nproc) / 2 + 1)) -f tests/proofs.mk $crates 2>&1 | tee "$work/said"
 for crate in $crates; do
     if grep -qE "^make.*(: $crate\] Error|'$crate' not remade)" "$work/said"; then
         fail "$crate: not proved"

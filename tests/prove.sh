@@ -1,12 +1,16 @@
-#!/bin/sh
+#!/bin/bash
 # Proves a crate, where out/ does not have that yet: tests/prove.sh CRATE. A program is built and run on its stdin, and has to
 # print its stdout; the tests of a library are run; any other library is made ready for the crates above it. Says when the
-# proof begins and how long it took, and nothing where nothing has changed. What rt prints is shown where it fails.
+# proof begins, how far it is and how long it took, and nothing where nothing has changed. What rt prints is shown where it
+# fails.
 set -u
-cd "$(dirname "$0")/../crates/$1" || exit 1
+name=$1
+top=$(cd "$(dirname "$0")/.." && pwd) || exit 1
+cd "$top/crates/$name" || exit 1
 
 log=$(mktemp) || exit 1
 trap 'rm -f "$log" "$log.out"' EXIT
+trap 'exit 1' HUP INT TERM
 
 wanted=/dev/null
 input=/dev/null
@@ -14,9 +18,9 @@ input=/dev/null
 backend=rattle
 if [ -f src/main.rt ]; then
     command=run
-    [ "$1" = witness ] || backend=llvm
-    [ -f stdin ] && input=stdin
-    [ -f stdout ] && wanted=stdout
+    [ "$name" = witness ] || backend=llvm
+    [ -f stdin ] && input=$PWD/stdin
+    [ -f stdout ] && wanted=$PWD/stdout
 elif grep -rq '^ *#\[test\]' src; then
     command=test
 else
@@ -25,27 +29,36 @@ else
 fi
 [ -z "$backend" ] || backend="--backend $backend"
 
-# A sum of the toolchain, of how the crate is built, and of all files of it and of what it stands on.
+# The crate and what it stands on, lowest first.
 below() {
-    echo "$1"
-    for crate in $(sed -n "s/^$1://p" ../../crates.txt); do
-        [ ! -d "../$crate" ] || below "$crate"
+    for crate in $(sed -n "s/^$1://p" "$top/crates.txt"); do
+        [ ! -d "$top/crates/$crate" ] || below "$crate"
     done
+    echo "$1"
 }
+crates=$(below "$name" | awk '!seen[$0]++')
+
+# A sum of the toolchain, of how the crate is built, and of all files of it and of what it stands on.
 sum_of_files() {
     {
         rt version
         echo "$command $backend"
-        for crate in $(below "$1" | sort -u); do
+        for crate in $(printf '%s\n' $crates | sort); do
             find "../$crate" -name out -prune -o -type f -print
         done | sort | xargs sha256sum
     } | sha256sum
 }
 
-# rt keeps no note of what Rattle's own backend has built, so the sum is kept here.
+# Where the sum is that of the last proof, and what was made of it is there, nothing is to be done. rt would see that too, but
+# keeps no note of what Rattle's own backend has built, and waits for others that read the crate.
 proved=out/proved.sum
-files=$(sum_of_files "$1")
-if [ "$backend" = "--backend rattle" ] && [ "$(cat "$proved" 2>/dev/null)" = "$files" ]; then
+files=$(sum_of_files)
+case $command in
+    lib) made=out/rlib ;;
+    run) made=out/$name ;;
+    *) made=out ;;
+esac
+if [ -e "$made" ] && [ "$(cat "$proved" 2>/dev/null)" = "$files" ]; then
     exit 0
 fi
 
@@ -56,21 +69,57 @@ fail() {
     exit 1
 }
 
+# rt lets no other rt work on a crate, nor on what that stands on, until it ends. So that crates over one library are proved
+# side by side, each is proved in a copy below out/: the same files by other links, and its own out/, which comes back in the
+# end. Here the crate is held alone, and what it stands on is held so that it stays as it is.
+copy=$top/out/$name
+copied=$copy/crates/$name
+take_back() {
+    cd "$top" && [ -d "$copied/out" ] && rm -rf "crates/$name/out" && mv "$copied/out" "crates/$name/out"
+    rm -rf "$copy"
+    rmdir "$top/out" 2>/dev/null
+}
+for crate in $crates; do
+    exec {held}<"$top/crates/$crate"
+    if [ "$crate" = "$name" ]; then flock "$held"; else flock -s "$held"; fi
+done
+[ ! -d "$copy" ] || take_back # after a run that was killed
+trap 'take_back; rm -f "$log" "$log.out"' EXIT
+for crate in $crates; do
+    mkdir -p "$copy/crates/$crate/out"
+    grep "^$crate:" "$top/crates.txt" >>"$copy/crates.txt"
+    (cd "$top/crates/$crate" && cp -rl $(ls | grep -vx out) "$copy/crates/$crate/")
+    if [ "$crate" != "$name" ]; then
+        # (make -f tests/proofs.mk proves it first)
+        cp -rl "$top/crates/$crate/out/rlib" "$copy/crates/$crate/out/" || fail "$name: $crate is not proved"
+    fi
+done
+[ ! -d out ] || { rmdir "$copied/out" && mv out "$copied/out"; } || exit 1
+cd "$copied" || exit 1
+
 began=$(date +%s)
-# rt says how many processes it chooses as it begins a proof, and then how far it is.
-{ rt "$command" $backend <"$input" 2>&1 >"$log.out" || echo "status $?"; } | tee "$log" |
-    sed -u -n -e "s/^rt: chose .*/$1: proving ../p" -e "s/^so far: \([0-9]* of [0-9]* functions\).*/$1: \1/p" >&2
+# What rt says goes to standard output, but of a program to standard error, since its standard output is the program's.
+prove() {
+    if [ "$command" = run ]; then
+        rt run $backend <"$input" 2>&1 >"$log.out"
+    else
+        rt "$command" $backend </dev/null 2>&1
+    fi || echo "status $?"
+}
+prove | tee "$log" | sed -u -n \
+    -e "s/^so far: 0 of \([0-9]* functions\).*/$name: proving \1/p" \
+    -e "s/^so far: \([0-9]* of [0-9]* functions\).*/$name: \1/p" >&2
 if tail -n 1 "$log" | grep -q '^status '; then
-    cat "$log.out" >&2
-    fail "$1: not proved"
+    [ ! -f "$log.out" ] || cat "$log.out" >&2
+    fail "$name: not proved"
 fi
 if [ "$command" = run ] && ! cmp -s "$log.out" "$wanted"; then
     diff "$wanted" "$log.out" >>"$log"
-    fail "$1: it prints something else than its stdout"
+    fail "$name: it prints something else than its stdout"
 fi
 echo "$files" >"$proved"
 took=$(($(date +%s) - began))
 # Where nothing has changed it takes no time.
 if [ "$took" -gt 2 ]; then
-    echo "$1: proved in $took s" >&2
+    echo "$name: proved in $took s" >&2
 fi

@@ -7,7 +7,7 @@ set -u
 cd "$(dirname "$0")/.." || exit 1
 . tests/part.sh
 
-sources="crates/half_store/src crates/half_iter/src crates/halfbrown/src crates/halfmap/src"
+sources="crates/half_store/src crates/half_iter/src crates/half_equivalent/src crates/halfbrown/src crates/halfmap/src"
 
 # none PATTERN MESSAGE: no line of the sources has it, but in comments.
 none() {
@@ -30,7 +30,7 @@ crates/half_store/src/table/memory.rt: table.add(*hash, &mut Tally::new());
 crates/half_store/src/table/rehash.rt: let bucket = first_empty(&held, hashes[index], &mut Tally::new());
 crates/halfbrown/src/map/collect.rt: LimitedHashMap::collect(alloc, N, pairs.into_iter(), &mut Tally::new())
 crates/halfbrown/src/map/collect.rt: match self.insert_all(items.into_iter(), &mut Tally::new()) {
-crates/halfbrown/src/map/switch.rt: table.add(hash, &mut Tally::new());
+crates/halfbrown/src/map/form.rt: table.add(hash, &mut Tally::new());
 LIST
 grep -rnE 'Tally::new\(\)' $sources | grep -vE '^[^:]*:[0-9]+: *//' | grep -vE '_counted\(' |
     sed -E 's/^([^:]*):[0-9]+: */\1: /' | sort >"$work/found"

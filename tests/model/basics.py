@@ -1,4 +1,4 @@
-"""Keys, pairs, counts and capacities, by docs/WITNESS.md and docs/DEFINITIONS.md."""
+"""Keys, pairs, counts and capacities, by docs/WITNESS.md and the words of specs/ that it names."""
 
 import dataclasses
 

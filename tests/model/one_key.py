@@ -296,7 +296,7 @@ RAW_CALLS = {
     "raw KEY add_with_hasher V": by(Map.raw_entry, "occupied", Map.append),
     "raw KEY debug": by(
         Map.raw_entry,
-        lambda a, index: f"RawEntry(RawOccupiedEntryMut {fields_at(a, index)})",
+        lambda a, index: f"RawEntry(OccupiedEntry {fields_at(a, index)})",
         "RawEntry(RawVacantEntryMut)",
     ),
 }

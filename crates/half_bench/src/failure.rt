@@ -1,5 +1,5 @@
 //! What may go wrong.
-use halfbrown::Refused;
+use halfbrown::{Refusal, Refused, RefusedKey};
 use std::alloc::{AllocError, AllocFailed};
 use std::io;
 
@@ -34,8 +34,20 @@ impl<T: Drop> From<AllocFailed<T>> for Failure {
     }
 }
 
+impl From<Refusal> for Failure {
+    fn from(_error: Refusal) -> Failure {
+        Failure::Memory
+    }
+}
+
 impl<K: Drop, V: Drop> From<Refused<K, V>> for Failure {
     fn from(_error: Refused<K, V>) -> Failure {
+        Failure::Memory
+    }
+}
+
+impl<K: Drop> From<RefusedKey<K>> for Failure {
+    fn from(_error: RefusedKey<K>) -> Failure {
         Failure::Memory
     }
 }

@@ -1,35 +1,42 @@
-//! Times the map beside std's `HashMap` and `IndexMap`, and fills one map for a measurement of its memory from outside.
+//! Times the map beside std's `HashMap` and `IndexMap`, and fills maps for a measurement of their memory from outside.
 #![tactic(auto)]
 
+mod choice;
 mod failure;
+mod hashed;
 mod keys;
+mod lists;
 mod maps;
+mod memory;
+mod operation;
 mod rounds;
-mod table;
-mod times;
-mod work;
+mod rows;
+mod task;
+mod tasks;
 
 use crate::failure::Failure;
-use crate::keys::Key;
-use crate::maps::{AtLimit, InOrder, Map, OfStd, filled};
-use std::alloc::Global;
 use std::env;
 
-const USAGE: &str = "half_bench times ROUNDS
-    prints the times of the maps as ratios, each the median of so many rounds
+const USAGE: &str = "half_bench times ROUNDS [WORD..]
+    prints what each operation takes on each map in nanoseconds: the median, the lower and the upper quartile of so many
+    rounds, and the medians of the ratios to std and to indexmap. The words pick rows: names of operations, u64, String, sizes
 half_bench memory limit_0|limit_32|std|indexmap u64|String SIZE COPIES
     fills so many maps with so many pairs, prints how many maps there are, and waits for the end of its input";
 
 fn main(rt: HostRuntime) -> Result<(), Failure> {
     let words: Vec<String> = env::args(&rt)?.skip(1).collect(rt.alloc())?;
     match words.as_slice() {
-        [command, rounds] if command.as_str() == "times" => { table::print(&rt, number(rounds)?) }
+        [command, rounds, chosen @ ..] if command.as_str() == "times" => {
+            rows::print(&rt, number(rounds)?, chosen)
+        }
         [command, map, keys, size, copies] if command.as_str() == "memory" => {
-            let size = number(size)?;
-            let copies = number(copies)?;
-            let count = fill(rt.alloc(), map.as_str(), keys.as_str(), size, copies)?;
-            println!(rt; "{count}")?;
-            wait_for_end(&rt)
+            memory::hold(
+                &rt,
+                map.as_str(),
+                keys.as_str(),
+                number(size)?,
+                number(copies)?,
+            )
         }
         [] => {
             println!(rt; "{USAGE}")?;
@@ -41,44 +48,4 @@ fn main(rt: HostRuntime) -> Result<(), Failure> {
 
 fn number(word: &String) -> Result<u64, Failure> {
     word.as_str().parse().ok().ok_or(Failure::Arguments)
-}
-
-fn wait_for_end(rt: &(impl Input + AllocGlobal)) -> Result<(), Failure> {
-    for line in rt.lines(rt.alloc()) {
-        line?;
-    }
-    Ok(())
-}
-
-// Fills maps, and returns how many.
-fn fill(alloc: Global, map: &str, keys: &str, size: u64, copies: u64) -> Result<usize, Failure> {
-    match keys {
-        "u64" => fill_by_keys::<u64>(alloc, map, size, copies),
-        "String" => fill_by_keys::<String>(alloc, map, size, copies),
-        _ => Err(Failure::Arguments),
-    }
-}
-
-fn fill_by_keys<K: Key>(
-    alloc: Global,
-    map: &str,
-    size: u64,
-    copies: u64,
-) -> Result<usize, Failure> {
-    match map {
-        "limit_0" => fill_maps::<K, AtLimit<K, 0>>(alloc, size, copies),
-        "limit_32" => fill_maps::<K, AtLimit<K, 32>>(alloc, size, copies),
-        "std" => fill_maps::<K, OfStd<K>>(alloc, size, copies),
-        "indexmap" => fill_maps::<K, InOrder<K>>(alloc, size, copies),
-        _ => Err(Failure::Arguments),
-    }
-}
-
-fn fill_maps<K: Key, M: Map<K>>(alloc: Global, size: u64, copies: u64) -> Result<usize, Failure> {
-    let mut maps = Vec::new(alloc);
-    for _ in 0..copies {
-        let map: M = filled(alloc, size)?;
-        maps.push(map)?;
-    }
-    Ok(maps.len())
 }

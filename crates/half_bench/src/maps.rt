@@ -1,4 +1,8 @@
 //! The maps that are compared, behind one trait. All hash by the same builder, which is the default of each.
+mod in_order;
+mod of_std;
+mod ours;
+
 use crate::failure::Failure;
 use crate::keys::Key;
 use halfbrown::{DefaultHashBuilder, SizedHashMap};
@@ -27,87 +31,37 @@ pub(crate) trait Map<K: Key>: Drop {
 
     /// Takes out the pair of this key.
     fn take(&mut self, key: &K) -> Option<(K, u64)>;
-}
 
-impl<K: Key, const N: usize> Map<K> for AtLimit<K, N> {
-    #[inline(always)]
-    fn empty(alloc: Global) -> Self {
-        SizedHashMap::new(alloc)
-    }
+    /// Adds one to the value of this key, which is zero where it is not held, by `entry`.
+    fn count(&mut self, key: K) -> Result<(), Failure>;
 
-    #[inline(always)]
-    fn len(&self) -> usize {
-        SizedHashMap::len(self)
-    }
+    /// The value of a key whose hash is known. Where a map cannot use the hash, as the others cannot, it is a plain look-up.
+    fn value_by_hash(&self, hash: u64, key: &K) -> Option<u64>;
 
-    #[inline(always)]
-    fn insert(&mut self, key: K, value: u64) -> Result<Option<u64>, Failure> {
-        Ok(SizedHashMap::insert(self, key, value)?)
-    }
+    /// The sum of all values, by an iterator over the pairs.
+    fn sum(&self) -> u64;
 
-    #[inline(always)]
-    fn value_of(&self, key: &K) -> Option<u64> {
-        self.get(key).copied()
-    }
+    /// Adds one to each value, by `values_mut`.
+    fn raise(&mut self);
 
-    #[inline(always)]
-    fn take(&mut self, key: &K) -> Option<(K, u64)> {
-        self.remove_entry(key)
-    }
-}
+    fn copy(&self) -> Result<Self, Failure>;
 
-impl<K: Key> Map<K> for OfStd<K> {
-    #[inline(always)]
-    fn empty(alloc: Global) -> Self {
-        HashMap::new(alloc)
-    }
+    /// Keeps the pairs with even values, by `retain`.
+    fn keep_even(&mut self);
 
-    #[inline(always)]
-    fn len(&self) -> usize {
-        HashMap::len(self)
-    }
+    /// Takes all pairs out, by `drain`, and returns the sum of their values.
+    fn drained(&mut self) -> u64;
 
-    #[inline(always)]
-    fn insert(&mut self, key: K, value: u64) -> Result<Option<u64>, Failure> {
-        Ok(HashMap::insert(self, key, value)?)
-    }
+    /// A map of these pairs, by `from_iter`.
+    fn of_pairs(alloc: Global, pairs: Vec<(K, u64)>) -> Result<Self, Failure>;
 
-    #[inline(always)]
-    fn value_of(&self, key: &K) -> Option<u64> {
-        self.get(key).copied()
-    }
+    /// Inserts these pairs, by `extend`.
+    fn add_all(&mut self, pairs: Vec<(K, u64)>) -> Result<(), Failure>;
 
-    #[inline(always)]
-    fn take(&mut self, key: &K) -> Option<(K, u64)> {
-        self.remove_entry(key)
-    }
-}
+    fn is_equal(&self, other: &Self) -> bool;
 
-impl<K: Key> Map<K> for InOrder<K> {
-    #[inline(always)]
-    fn empty(alloc: Global) -> Self {
-        IndexMap::new(alloc)
-    }
-
-    #[inline(always)]
-    fn len(&self) -> usize {
-        IndexMap::len(self)
-    }
-
-    #[inline(always)]
-    fn insert(&mut self, key: K, value: u64) -> Result<Option<u64>, Failure> {
-        Ok(IndexMap::insert(self, key, value)?)
-    }
-
-    #[inline(always)]
-    fn value_of(&self, key: &K) -> Option<u64> {
-        self.get(key).copied()
-    }
-
-    #[inline(always)]
-    fn take(&mut self, key: &K) -> Option<(K, u64)> {
-        self.swap_remove_entry(key)
-    }
+    /// Takes no more memory than the pairs need, and becomes a vector again where that is allowed: `shrink_to_fit`.
+    fn shrink(&mut self);
 }
 
 /// A map of the keys of the numbers below this one, each with its number.
@@ -117,4 +71,27 @@ pub(crate) fn filled<K: Key, M: Map<K>>(alloc: Global, count: u64) -> Result<M, 
         map.insert(K::of_number(alloc, number)?, number)?;
     }
     Ok(map)
+}
+
+/// So many maps of so many pairs.
+pub(crate) fn many_filled<K: Key, M: Map<K>>(
+    alloc: Global,
+    maps: u64,
+    count: u64,
+) -> Result<Vec<M>, Failure> {
+    let mut made = Vec::new(alloc);
+    for _ in 0..maps {
+        let map: M = filled(alloc, count)?;
+        made.push(map)?;
+    }
+    Ok(made)
+}
+
+/// The sum of the values of all maps.
+pub(crate) fn sum_of<K: Key, M: Map<K>>(maps: &[M]) -> u64 {
+    let mut sum = 0u64;
+    for map in maps {
+        sum = sum.wrapping_add(map.sum());
+    }
+    sum
 }

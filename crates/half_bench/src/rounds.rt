@@ -1,59 +1,77 @@
-//! Rounds: the four maps in turn, on the same work.
+//! Rounds: the four maps in turn, with the same work.
 ghost use Rattle.std.specs.Prelude.{◌<◌};
 
 use crate::failure::Failure;
 use crate::keys::Key;
-use crate::maps::{AtLimit, InOrder, OfStd};
-use crate::times::{Operation, Times, measure};
-use crate::work::Work;
+use crate::maps::{InOrder, OfStd};
+use crate::operation::Operation;
+use crate::task::Timed;
+use crate::tasks::{measure, measure_ours};
 use std::alloc::Global;
 use std::fmt;
 use std::time::CpuClock;
 
-/// The times of the four maps.
-#[derive(Clone, Copy, Debug, Default, PartialEq, Eq)]
-pub(crate) struct Round {
-    limit_0: Times,
-    limit_32: Times,
-    std: Times,
-    indexmap: Times,
-}
-
-/// Our map, at one of its two limits.
+/// One of the maps that are compared.
 #[derive(Clone, Copy, Debug, PartialEq, Eq)]
-pub(crate) enum Ours {
+pub(crate) enum Kind {
     Limit0,
     Limit32,
-}
-
-/// What our map is compared with.
-#[derive(Clone, Copy, Debug, PartialEq, Eq)]
-pub(crate) enum Theirs {
     Std,
     IndexMap,
 }
 
-/// Hundredths of another time.
-#[derive(Clone, Copy, Debug, PartialEq, Eq, PartialOrd, Ord)]
-pub(crate) struct Ratio(u64);
+/// All maps, in the order of the rows.
+pub(crate) const KINDS: [Kind; 4] = [Kind::Limit0, Kind::Limit32, Kind::Std, Kind::IndexMap];
 
-impl fmt::Display for Ratio {
+impl fmt::Display for Kind {
+    fn fmt<W: fmt::Write>(&self, f: &mut fmt::Formatter<W>) -> fmt::Result {
+        f.write_str(match *self {
+            Kind::Limit0 => "limit_0",
+            Kind::Limit32 => "limit_32",
+            Kind::Std => "std",
+            Kind::IndexMap => "indexmap",
+        })
+    }
+}
+
+/// What the four maps took.
+#[derive(Clone, Copy, Debug, Default, PartialEq, Eq)]
+pub(crate) struct Round {
+    limit_0: Timed,
+    limit_32: Timed,
+    std: Timed,
+    indexmap: Timed,
+}
+
+/// A number with two decimals.
+#[derive(Clone, Copy, Debug, PartialEq, Eq, PartialOrd, Ord)]
+pub(crate) struct Hundredths(u64);
+
+impl fmt::Display for Hundredths {
     fn fmt<W: fmt::Write>(&self, f: &mut fmt::Formatter<W>) -> fmt::Result {
         write!(f, "{}.{:02}", self.0 / 100, self.0 % 100)
     }
 }
 
 impl Round {
-    fn ratio(&self, operation: Operation, ours: Ours, theirs: Theirs) -> Ratio {
-        let ours = match ours {
-            Ours::Limit0 => self.limit_0.of(operation),
-            Ours::Limit32 => self.limit_32.of(operation),
-        };
-        let theirs = match theirs {
-            Theirs::Std => self.std.of(operation),
-            Theirs::IndexMap => self.indexmap.of(operation),
-        };
-        Ratio(hundredths(ours, theirs.max(1)))
+    fn of(&self, kind: Kind) -> Timed {
+        match kind {
+            Kind::Limit0 => self.limit_0,
+            Kind::Limit32 => self.limit_32,
+            Kind::Std => self.std,
+            Kind::IndexMap => self.indexmap,
+        }
+    }
+
+    /// How many nanoseconds a map took for each operation.
+    pub fn nanos(&self, kind: Kind) -> Hundredths {
+        let timed = self.of(kind);
+        Hundredths(in_hundredths(timed.nanos, timed.operations.max(1)))
+    }
+
+    /// How many times as long one map took as another.
+    pub fn ratio(&self, ours: Kind, theirs: Kind) -> Hundredths {
+        Hundredths(in_hundredths(self.of(ours).nanos, self.of(theirs).nanos.max(1)))
     }
 
     fn agrees(&self) -> bool {
@@ -64,24 +82,24 @@ impl Round {
     }
 }
 
-// How many hundredths of the second time the first one is, to the nearest.
-fn hundredths(ours: u64, theirs: u64) -> u64
-    requires { 0 < theirs }
+// How many hundredths of the second number the first one is, to the nearest.
+fn in_hundredths(one: u64, other: u64) -> u64
+    requires { 0 < other }
 {
-    ours.saturating_mul(100).saturating_add(theirs / 2) / theirs
+    one.saturating_mul(100).saturating_add(other / 2) / other
 }
 
-/// So many rounds at this size. Each begins with the next map.
+/// So many rounds. Each begins with the next map.
 pub(crate) fn run<K: Key>(
     rt: &impl CpuClock,
     alloc: Global,
+    operation: Operation,
     size: u64,
     count: u64,
 ) -> Result<Vec<Round>, Failure> {
-    let work: Work<K> = Work::of_size(alloc, size)?;
     let mut rounds = Vec::new(alloc);
     for first in 0..count {
-        let round = run_one(rt, alloc, &work, first)?;
+        let round = run_one::<K>(rt, alloc, operation, size, first)?;
         if !round.agrees() {
             return Err(Failure::WrongAnswer);
         }
@@ -93,36 +111,18 @@ pub(crate) fn run<K: Key>(
 fn run_one<K: Key>(
     rt: &impl CpuClock,
     alloc: Global,
-    work: &Work<K>,
+    operation: Operation,
+    size: u64,
     first: u64,
 ) -> Result<Round, Failure> {
     let mut round = Round::default();
     for turn in 0..4 {
         match first.wrapping_add(turn) % 4 {
-            0 => round.limit_0 = measure::<K, AtLimit<K, 0>>(rt, alloc, work)?,
-            1 => round.limit_32 = measure::<K, AtLimit<K, 32>>(rt, alloc, work)?,
-            2 => round.std = measure::<K, OfStd<K>>(rt, alloc, work)?,
-            _ => round.indexmap = measure::<K, InOrder<K>>(rt, alloc, work)?,
+            0 => round.limit_0 = measure_ours::<K, 0>(rt, alloc, operation, size)?,
+            1 => round.limit_32 = measure_ours::<K, 32>(rt, alloc, operation, size)?,
+            2 => round.std = measure::<K, OfStd<K>>(rt, alloc, operation, size)?,
+            _ => round.indexmap = measure::<K, InOrder<K>>(rt, alloc, operation, size)?,
         }
     }
     Ok(round)
-}
-
-/// The median of the rounds' ratios. Of no rounds there is none.
-pub(crate) fn median(
-    alloc: Global,
-    rounds: &[Round],
-    operation: Operation,
-    ours: Ours,
-    theirs: Theirs,
-) -> Result<Ratio, Failure> {
-    let mut ratios: Vec<Ratio> = rounds
-        .iter()
-        .map(|round| round.ratio(operation, ours, theirs))
-        .collect(alloc)?;
-    ratios.sort_unstable();
-    ratios
-        .get(ratios.len() / 2)
-        .copied()
-        .ok_or(Failure::Arguments)
 }

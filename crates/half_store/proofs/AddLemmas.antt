@@ -8,7 +8,7 @@ use Rattle.half_store.specs.Reach.{home, probe_distance}
 use Rattle.half_store.specs.Capacity.{capacity_of, IsBucketCount}
 use Rattle.half_store.specs.Slots.{slot_at, stored, IsVacancyFor, ProbeInvariant}
 use Rattle.half_store.specs.Table.{hashes_at}
-use Rattle.half_store.specs.TableLayout.{InStep, IsTable}
+use Rattle.half_store.specs.TableLayout.{InStep, IsTableLayout}
 use Rattle.half_store.proofs.Circle.{distance_same}
 use Rattle.half_store.proofs.Counts.{tick, count_to-none, count_by-count_to}
 use Rattle.half_store.proofs.SlotsLemmas.{full_from, home-lt, some≢none}
@@ -149,30 +149,27 @@ ordered-add slots p h w o =
           ]);
     }
 
-pub IsTable-add : (slots : List (Option ℕ)) (entry_of bucket_of : List ℕ) (capacity p h : ℕ) → IsTable slots entry_of bucket_of capacity → IsVacancyFor slots h p → length bucket_of < capacity_of (length slots) →
-    IsTable (set slots p (Some h)) (set entry_of p (length bucket_of)) (bucket_of ++ p ∷ []) capacity
-IsTable-add slots entry_of bucket_of capacity p h t w few =
+pub IsTableLayout-add : (slots : List (Option ℕ)) (entry_of bucket_of : List ℕ) (p h : ℕ) → IsTableLayout slots entry_of bucket_of → IsVacancyFor slots h p → length bucket_of < capacity_of (length slots) →
+    IsTableLayout (set slots p (Some h)) (set entry_of p (length bucket_of)) (bucket_of ++ p ∷ [])
+IsTableLayout-add slots entry_of bucket_of p h t w few =
     let same = length-set slots p (Some h) in
     let buckets = t.buckets in
-    let reserved = t.reserved in
     record {
       buckets = subst IsBucketCount (sym same) buckets;
       within = subst (λ n. length (bucket_of ++ p ∷ []) ≤ capacity_of n) (sym same) (omega (arith, length_push bucket_of p));
-      reserved = subst (λ n. capacity_of n ≤ capacity) (sym same) reserved;
       in_step = InStep-add slots entry_of bucket_of t.in_step p h w.within w.vacant;
       ordered = ordered-add slots p h w t.ordered;
     }
 
 -- a table of empty buckets
-pub IsTable-empty : (m : ℕ) (entry_of : List ℕ) (capacity : ℕ) → IsBucketCount m → length entry_of ≡ m → capacity_of m ≤ capacity → IsTable (replicate m None) entry_of [] capacity
-IsTable-empty m entry_of capacity b long enough =
+pub IsTableLayout-empty : (m : ℕ) (entry_of : List ℕ) → IsBucketCount m → length entry_of ≡ m → IsTableLayout (replicate m None) entry_of []
+IsTableLayout-empty m entry_of b long =
     let slots : List (Option ℕ) = replicate m None in
     let same : length slots ≡ m = length-replicate m None in
     let all : (q : ℕ) → slot_at slots q ≡ None = λ q. elim (cases_lt q m) [ inl l ↦ get_or-replicate m q None None l | inr ge ↦ get_or_past slots q None (omega arith) ] in
     record {
       buckets = subst IsBucketCount (sym same) b;
       within = omega arith;
-      reserved = subst (λ n. capacity_of n ≤ capacity) (sym same) enough;
       in_step = record {
         columns = long ∙ sym same;
         stands = λ i l. absurd (omega arith);

@@ -25,9 +25,6 @@ full_by hashes (suc n) full = omega arith
 pub some_entry : (hashes buckets : List ℕ) (bucket : ℕ) → slot_at (slots_by hashes buckets) bucket ≢ None → 0 < slice_index buckets bucket
 some_entry hashes buckets bucket full = full_by hashes (slice_index buckets bucket) (λ z. full (slot_by-at hashes buckets bucket ∙ z))
 
-pub full_entry : (hashes buckets : List ℕ) (bucket : ℕ) → slot_at (slots_by hashes buckets) bucket ≢ None → slice_index buckets bucket ≡ suc (slice_index (entries_by buckets) bucket)
-full_entry hashes buckets bucket full = omega (arith, some_entry hashes buckets bucket full, entry_by-at buckets bucket)
-
 -- a bucket that is written
 pub slots_by-set : (hashes buckets : List ℕ) (bucket n : ℕ) → slots_by hashes (set buckets bucket n) ≡ set (slots_by hashes buckets) bucket (slot_by hashes n)
 slots_by-set hashes buckets bucket n = map-set (slot_by hashes) buckets bucket n

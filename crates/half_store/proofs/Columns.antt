@@ -1,10 +1,12 @@
 -- What the two columns of a `VecMap` are to its list of pairs.
 use Rattle.std.proofs.Common.{◌≡◌, ℕ, min, List, length, sym, ap, ◌∙◌}
+use Rattle.std.proofs.lemmas.Map.Made.{keys_of-zip}
+use Rattle.std.proofs.lemmas.Slice.Zip.{seconds-zip}
 use Rattle.std.specs.List.{zip, refill}
 use Rattle.std.specs.declared.vec.Vec.{Vec}
 use Rattle.std.specs.Map.{keys_of, values_of}
-use Rattle.half_store.proofs.Zip.{length-zip, keys_of-zip, values_of-zip, zip-refill}
-use Rattle.half_store.specs.Pairs.{Pairs, with_pairs, set_values}
+use Rattle.half_store.proofs.Zip.{length-zip, zip-refill}
+use Rattle.half_store.specs.Pairs.{Pairs, columns_with, set_values}
 
 module _ {K V Z : Type 0} where
   -- what is known of the columns of a map whose pairs and capacity are these
@@ -28,7 +30,7 @@ module _ {K V Z : Type 0} where
         pairs = same;
         capacity = ap (λ m. m.capacity) view;
         keys_are = sym (keys_of-zip keys.items values.items even) ∙ ap keys_of same;
-        values_are = sym (values_of-zip keys.items values.items even) ∙ ap values_of same;
+        values_are = sym (seconds-zip keys.items values.items even) ∙ ap values_of same;
         keys_length = n;
         values_length = even ∙ n;
         keys_len = keys.ok.0 ∙ n;
@@ -38,7 +40,7 @@ module _ {K V Z : Type 0} where
 module _ {K V : Type 0} where
   -- a map of these pairs with the capacity of another
   pub pairs_are : (map : Pairs K V) {ps qs : List (K × V)} {capacity : ℕ} → ps ≡ qs → capacity ≡ map.capacity
-      → ◌≡◌ {A = Pairs K V} (record { pairs = ps; capacity = capacity }) (with_pairs map qs)
+      → ◌≡◌ {A = Pairs K V} (record { pairs = ps; capacity = capacity }) (columns_with map qs)
   pairs_are map p q = λ i. record { pairs = p i; capacity = q i }
 
 module _ {K V Z : Type 0} where
@@ -46,7 +48,7 @@ module _ {K V Z : Type 0} where
   pub written : (keys : Vec K Z) (values : Vec V Z) (map : Pairs K V)
       → ◌≡◌ {A = Pairs K V} (record { pairs = zip keys.items values.items; capacity = min keys.cap values.cap }) map
       → length values.items ≡ length keys.items → (w : List V)
-      → ◌≡◌ {A = Pairs K V} (record { pairs = zip keys.items (refill values.len values.items w); capacity = min keys.cap values.cap }) (with_pairs map (set_values map.pairs w))
+      → ◌≡◌ {A = Pairs K V} (record { pairs = zip keys.items (refill values.len values.items w); capacity = min keys.cap values.cap }) (columns_with map (set_values map.pairs w))
   written keys values map view even w =
       let o = opened keys values map view even in
       pairs_are map

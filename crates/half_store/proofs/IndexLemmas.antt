@@ -6,11 +6,11 @@ use Rattle.std.proofs.lemmas.List.{length-set, length_push, length-replicate, le
 use Rattle.std.proofs.lemmas.Option.{slice_get-get_or}
 use Rattle.half_store.specs.Buckets.{slot_by, slots_by, entries_by, WithinHashes}
 use Rattle.half_store.specs.Capacity.{capacity_of, IsBucketCount}
-use Rattle.half_store.specs.Slots.{slot_at, IsVacancyFor, ProbeInvariant}
+use Rattle.half_store.specs.Slots.{slot_at, IsVacancyFor}
 use Rattle.half_store.specs.Table.{TableState, table_state, hashes_at}
-use Rattle.half_store.specs.TableLayout.{InStep, IsTable, IsIndex, HasGap, Shows}
-use Rattle.half_store.proofs.AddLemmas.{IsTable-add, IsTable-empty, hashes_at-add, index_set, index_other, slot_set}
-use Rattle.half_store.proofs.BucketLemmas.{length-slots_by, slot_by-at, entry_by-at, slots_by-set, entries_by-set, slots_by-same, slots_by-empty, whole-at, whole-from, whole-set, whole-empty}
+use Rattle.half_store.specs.TableLayout.{InStep, IsTableLayout, IsIndex, IsIndexed, IsIndexedButFor, IsBucketOf, IsTable, IsLaidOut, HasGap, Shows}
+use Rattle.half_store.proofs.AddLemmas.{IsTableLayout-add, IsTableLayout-empty, hashes_at-add, index_set, index_other, slot_set}
+use Rattle.half_store.proofs.BucketLemmas.{length-slots_by, slot_by-at, entry_by-at, some_entry, slots_by-set, entries_by-set, slots_by-same, slots_by-empty, whole-at, whole-from, whole-set, whole-empty}
 use Rattle.half_store.proofs.GapLemmas.{InStep-remove, hashes_at-remove, length-swap_remove, swap_remove-at, swap_remove-other}
 use Rattle.half_store.proofs.SlotsLemmas.{full_from, full-lt}
 use Rattle.half_store.proofs.StepLemmas.{length-hashes_at, hash_at_bucket, table_vacant}
@@ -33,8 +33,8 @@ InStep-vacant slots entry_of bucket_of s p n none =
 in_step_at : (slots slots' : List (Option ℕ)) (entry_of entry_of' bucket_of : List ℕ) → slots' ≡ slots → entry_of' ≡ entry_of → InStep slots entry_of bucket_of → InStep slots' entry_of' bucket_of
 in_step_at slots slots' entry_of entry_of' bucket_of f n s = subst (λ x. InStep x entry_of' bucket_of) (sym f) (subst (λ x. InStep slots x bucket_of) (sym n) s)
 
-table_at : (slots slots' : List (Option ℕ)) (entry_of entry_of' bucket_of : List ℕ) (capacity : ℕ) → slots' ≡ slots → entry_of' ≡ entry_of → IsTable slots entry_of bucket_of capacity → IsTable slots' entry_of' bucket_of capacity
-table_at slots slots' entry_of entry_of' bucket_of capacity f n t = subst (λ x. IsTable x entry_of' bucket_of capacity) (sym f) (subst (λ x. IsTable slots x bucket_of capacity) (sym n) t)
+table_at : (slots slots' : List (Option ℕ)) (entry_of entry_of' bucket_of : List ℕ) → slots' ≡ slots → entry_of' ≡ entry_of → IsTableLayout slots entry_of bucket_of → IsTableLayout slots' entry_of' bucket_of
+table_at slots slots' entry_of entry_of' bucket_of f n t = subst (λ x. IsTableLayout x entry_of' bucket_of) (sym f) (subst (λ x. IsTableLayout slots x bucket_of) (sym n) t)
 
 -- a stored hash that is added leaves the others
 more-by : (hashes : List ℕ) (h n : ℕ) → n ≤ length hashes → slot_by (hashes ++ h ∷ []) n ≡ slot_by hashes n
@@ -46,7 +46,7 @@ more-by hashes h (suc i) l =
 last-by : (hashes : List ℕ) (h : ℕ) → slot_by (hashes ++ h ∷ []) (suc (length hashes)) ≡ Some h
 last-by hashes h = slice_get-get_or (hashes ++ h ∷ []) (length hashes) 0 (omega (arith, length_push hashes h)) ∙ ap Some (get_or_push hashes h 0 (length hashes) refl)
 
-module _ {hashes buckets bucket_of : List ℕ} {hash_capacity entry_capacity : ℕ} (x : IsIndex hashes buckets bucket_of hash_capacity entry_capacity) where
+module _ {hashes buckets bucket_of : List ℕ} (x : IsIndex hashes buckets bucket_of) where
   abbrev slots : List (Option ℕ)
   slots = slots_by hashes buckets
 
@@ -60,33 +60,12 @@ module _ {hashes buckets bucket_of : List ℕ} {hash_capacity entry_capacity : �
   pub index-within : length hashes ≤ capacity_of (length buckets)
   index-within = subst (λ m. length hashes ≤ capacity_of m) (length-slots_by hashes buckets) (let w = x.table.within in omega (arith, index-count))
 
-  pub index-reserved : capacity_of (length buckets) ≤ entry_capacity
-  index-reserved = subst (λ m. capacity_of m ≤ entry_capacity) (length-slots_by hashes buckets) x.table.reserved
-
   pub index-shows : {t : TableState} → table_state hashes slots ≡ t → Shows slots (entries_by buckets) t
   index-shows view = record {
     bucket_of = bucket_of;
-    capacity = entry_capacity;
     table = x.table;
     view = ap (λ hs. table_state hs slots) x.column ∙ view;
   }
-
-  -- the columns with other capacities that are enough
-  pub index-capacities : (more more' : ℕ) → capacity_of (length buckets) ≤ more → capacity_of (length buckets) ≤ more' → IsIndex hashes buckets bucket_of more more'
-  index-capacities more more' enough enough' =
-      let t = x.table in
-      record {
-        whole = x.whole;
-        column = x.column;
-        reserved = enough;
-        table = record {
-          buckets = t.buckets;
-          within = t.within;
-          reserved = subst (λ m. capacity_of m ≤ more') (sym (length-slots_by hashes buckets)) enough';
-          in_step = t.in_step;
-          ordered = t.ordered;
-        };
-      }
 
   module _ (p h : ℕ) (w : IsVacancyFor slots h p) (few : length hashes < capacity_of (length buckets)) where
     abbrev hashes' : List ℕ
@@ -107,7 +86,7 @@ module _ {hashes buckets bucket_of : List ℕ} {hash_capacity entry_capacity : �
     room : length bucket_of < capacity_of (length slots)
     room = subst (λ m. length bucket_of < capacity_of m) (sym (length-slots_by hashes buckets)) (omega (arith, index-count))
 
-    pub IsIndex-add : IsIndex hashes' buckets' (bucket_of ++ p ∷ []) hash_capacity entry_capacity
+    pub IsIndex-add : IsIndex hashes' buckets' (bucket_of ++ p ∷ [])
     IsIndex-add = record {
       whole =
           whole-set hashes' buckets p (suc (length hashes)) (omega (arith, length_push hashes h))
@@ -115,8 +94,7 @@ module _ {hashes buckets bucket_of : List ℕ} {hash_capacity entry_capacity : �
       column =
           ap (λ s. hashes_at s (bucket_of ++ p ∷ [])) slots-add
           ∙ hashes_at-add slots (entries_by buckets) bucket_of x.table.in_step p h w.within w.vacant ∙ ap (λ hs. hs ++ h ∷ []) x.column;
-      reserved = subst (λ m. capacity_of m ≤ hash_capacity) (sym (length-set buckets p (suc (length hashes)))) x.reserved;
-      table = table_at _ _ _ _ (bucket_of ++ p ∷ []) entry_capacity slots-add entries-add (IsTable-add slots (entries_by buckets) bucket_of entry_capacity p h x.table w room);
+      table = table_at _ _ _ _ (bucket_of ++ p ∷ []) slots-add entries-add (IsTableLayout-add slots (entries_by buckets) bucket_of p h x.table w room);
     }
 
   -- the pair of this entry index is taken out, and the last pair gets its index
@@ -242,7 +220,7 @@ module _ {hashes buckets bucket_of : List ℕ} {hash_capacity entry_capacity : �
 
     pub gap-remove : HasGap (slots_by hashes° buckets°) bucket
     gap-remove =
-        let vacant = table_vacant slots (entries_by buckets) bucket_of entry_capacity x.table (omega (arith, remove-bucket, length-slots_by hashes buckets)) in
+        let vacant = table_vacant slots (entries_by buckets) bucket_of x.table (omega (arith, remove-bucket, length-slots_by hashes buckets)) in
         subst (λ y. HasGap y bucket) (sym slots-remove) (HasGap-remove slots (entries_by buckets) bucket_of s x.table.ordered vacant index last in_index is_last)
 
     pub length-buckets° : length buckets° ≡ length buckets
@@ -255,40 +233,93 @@ module _ {hashes buckets bucket_of : List ℕ} {hash_capacity entry_capacity : �
         (entries_by-set (set buckets last_bucket (suc index)) bucket 0 ∙ ap (λ es. set es bucket 0) (entries_by-set buckets last_bucket (suc index) ∙ ap (set (entries_by buckets) last_bucket) (omega arith)))
         (InStep-vacant (set slots bucket None) (set (entries_by buckets) last_bucket index) (swap_remove bucket_of index 0) (InStep-remove slots (entries_by buckets) bucket_of s index last in_index is_last) bucket 0 none)
 
--- what a backward shift leaves is a table's columns again
-pub IsIndex-from : (hashes buckets bucket_of : List ℕ) (hash_capacity entry_capacity : ℕ) → IsBucketCount (length buckets) → length bucket_of ≤ capacity_of (length buckets) → capacity_of (length buckets) ≤ hash_capacity → capacity_of (length buckets) ≤ entry_capacity →
-    WithinHashes hashes buckets → hashes_at (slots_by hashes buckets) bucket_of ≡ hashes → InStep (slots_by hashes buckets) (entries_by buckets) bucket_of → ProbeInvariant (slots_by hashes buckets) → IsIndex hashes buckets bucket_of hash_capacity entry_capacity
-IsIndex-from hashes buckets bucket_of hash_capacity entry_capacity count within enough enough' whole column in_step ordered =
-    let same = sym (length-slots_by hashes buckets) in
-    record {
-      whole = whole;
-      column = column;
-      reserved = enough;
-      table = record {
-        buckets = subst IsBucketCount same count;
-        within = subst (λ m. length bucket_of ≤ capacity_of m) same within;
-        reserved = subst (λ m. capacity_of m ≤ entry_capacity) same enough';
-        in_step = in_step;
-        ordered = ordered;
-      };
+    -- what the backward shift begins with
+    pub IsIndexedButFor-remove : IsIndexedButFor hashes° buckets° bucket
+    IsIndexedButFor-remove = record {
+      bucket_of = swap_remove bucket_of index 0;
+      whole = whole-remove;
+      column = column-remove;
+      within = subst (λ m. length (swap_remove bucket_of index 0) ≤ capacity_of m) (sym length-buckets°)
+          (omega (arith, length-swap_remove bucket_of index last is_last, is_last, index-count, index-within));
+      in_step = in_step-remove;
+      gap = gap-remove;
     }
 
+-- equal columns
+pub IsIndexed-as : (hashes hashes' buckets buckets' : List ℕ) → hashes' ≡ hashes → buckets' ≡ buckets → IsIndexed hashes buckets → IsIndexed hashes' buckets'
+IsIndexed-as hashes hs buckets bs h b x = subst (λ y. IsIndexed y bs) (sym h) (subst (IsIndexed hashes) (sym b) x)
+
 -- equal columns whose capacities are enough
-pub IsIndex-as : (hashes hashes' buckets buckets' bucket_of bucket_of' : List ℕ) (old old' new new' : ℕ) → hashes' ≡ hashes → buckets' ≡ buckets → bucket_of' ≡ bucket_of → capacity_of (length buckets) ≤ new → capacity_of (length buckets) ≤ new' →
-    IsIndex hashes buckets bucket_of old old' → IsIndex hashes' buckets' bucket_of' new new'
-IsIndex-as hashes hs buckets bs bucket_of po old old' new new' h b o enough enough' x =
-    subst (λ y. IsIndex y bs po new new') (sym h)
-    (subst (λ y. IsIndex hashes y po new new') (sym b)
-    (subst (λ y. IsIndex hashes buckets y new new') (sym o) (index-capacities x new new' enough enough')))
+pub IsTable-as : (hashes buckets : List ℕ) {hashes' buckets' : List ℕ} {most most' capacity : ℕ} → hashes' ≡ hashes → buckets' ≡ buckets → most' ≡ most
+    → IsIndexed hashes buckets → capacity_of (length buckets) ≤ most → capacity_of (length buckets) ≤ capacity → IsTable hashes' buckets' most' capacity
+IsTable-as hashes buckets {hashes'} {buckets'} h b m x fits enough =
+    let same = ap capacity_of (ap length b) in
+    record { indexed = IsIndexed-as hashes hashes' buckets buckets' h b x; fits = omega (arith, same, m); reserved = omega (arith, same) }
+
+-- one pair more, at a vacancy for its hash
+pub IsIndexed-add : (hashes buckets : List ℕ) (x : IsIndexed hashes buckets) (p h : ℕ) → IsVacancyFor (slots_by hashes buckets) h p → length hashes < capacity_of (length buckets)
+    → IsIndexed (hashes ++ h ∷ []) (set buckets p (suc (length hashes)))
+IsIndexed-add hashes buckets x p h w few = record { bucket_of = x.bucket_of ++ p ∷ []; index = IsIndex-add x.index p h w few }
+
+-- a bucket with an entry index and one more has that pair
+pub bucket_of_word : (hashes buckets : List ℕ) (index bucket : ℕ) → bucket < length buckets → index < length hashes → slice_index buckets bucket ≡ suc index → IsBucketOf hashes buckets index bucket
+bucket_of_word hashes buckets index bucket in_buckets in_hashes word =
+    let is : slot_at (slots_by hashes buckets) bucket ≡ Some (get_or hashes index 0) = slot_by-at hashes buckets bucket ∙ ap (slot_by hashes) word ∙ slice_get-get_or hashes index 0 in_hashes in
+    record { within = in_buckets; full = full_from _ (get_or hashes index 0) is; entry = omega (arith, entry_by-at buckets bucket, word) }
+
+-- and the pair's bucket has them
+pub word_of_bucket : (hashes buckets : List ℕ) (index bucket : ℕ) → IsBucketOf hashes buckets index bucket → slice_index buckets bucket ≡ suc index
+word_of_bucket hashes buckets index bucket at = omega (arith, entry_by-at buckets bucket, some_entry hashes buckets bucket at.full, at.entry)
+
+-- each entry index has a bucket
+pub some_bucket_of : (hashes buckets : List ℕ) (x : IsIndexed hashes buckets) (index : ℕ) → index < length hashes → IsBucketOf hashes buckets index (slice_index x.bucket_of index)
+some_bucket_of hashes buckets x index in_index =
+    let s = x.index.table.in_step in
+    let in_column : index < length x.bucket_of = omega (arith, index-count x.index) in
+    let full = s.stands index in_column in
+    record {
+      within = omega (arith, full-lt (slots_by hashes buckets) (slice_index x.bucket_of index) full, length-slots_by hashes buckets);
+      full = full;
+      entry = s.index_back index in_column;
+    }
+
+-- the pair of this entry index is removed, and the last pair gets its index
+module _ (hashes buckets : List ℕ) (x : IsIndexed hashes buckets) (index last : ℕ) (in_index : index < length hashes) (is_last : suc last ≡ length hashes) where
+  few : index < length x.bucket_of
+  few = omega (arith, index-count x.index)
+
+  end : suc last ≡ length x.bucket_of
+  end = is_last ∙ sym (index-count x.index)
+
+  pub bucket_is : (i bucket : ℕ) → IsBucketOf hashes buckets i bucket → bucket ≡ slice_index x.bucket_of i
+  bucket_is i bucket at = sym (x.index.table.in_step.bucket_back bucket at.full) ∙ ap (slice_index x.bucket_of) at.entry
+
+  pub IsIndexed-remove : (bucket last_bucket : ℕ) → IsBucketOf hashes buckets index bucket → IsBucketOf hashes buckets last last_bucket
+      → IsIndexedButFor (swap_remove hashes index 0) (set (set buckets last_bucket (suc index)) bucket 0) bucket
+  IsIndexed-remove bucket last_bucket at at_last =
+      subst (λ p. IsIndexedButFor (swap_remove hashes index 0) (set (set buckets last_bucket (suc index)) p 0) p) (sym (bucket_is index bucket at))
+      (subst (λ p. IsIndexedButFor (swap_remove hashes index 0) (set (set buckets p (suc index)) (slice_index x.bucket_of index) 0) (slice_index x.bucket_of index)) (sym (bucket_is last last_bucket at_last))
+      (IsIndexedButFor-remove x.index index last few end))
 
 -- no pair
-pub IsIndex-empty : (count hash_capacity entry_capacity : ℕ) → IsBucketCount count → capacity_of count ≤ hash_capacity → capacity_of count ≤ entry_capacity → IsIndex [] (replicate count 0) [] hash_capacity entry_capacity
-IsIndex-empty count hash_capacity entry_capacity b enough enough' =
+pub IsIndexed-empty : (count : ℕ) → IsBucketCount count → IsIndexed [] (replicate count 0)
+IsIndexed-empty count b =
     let none : Option ℕ = None in
     let long : length (entries_by (replicate count 0)) ≡ count = length-map (replicate count 0) (λ n. n - 1) ∙ length-replicate {A = ℕ} count 0 in
     record {
-      whole = whole-empty [] count;
-      column = refl;
-      reserved = subst (λ m. capacity_of m ≤ hash_capacity) (sym (length-replicate {A = ℕ} count 0)) enough;
-      table = table_at (replicate count none) (slots_by [] (replicate count 0)) (entries_by (replicate count 0)) (entries_by (replicate count 0)) [] entry_capacity (slots_by-empty [] count) refl (IsTable-empty count (entries_by (replicate count 0)) entry_capacity b long enough');
+      bucket_of = [];
+      index = record {
+        whole = whole-empty [] count;
+        column = refl;
+        table = table_at (replicate count none) (slots_by [] (replicate count 0)) (entries_by (replicate count 0)) (entries_by (replicate count 0)) [] (slots_by-empty [] count) refl (IsTableLayout-empty count (entries_by (replicate count 0)) b long);
+      };
     }
+
+-- the columns of a table, as they are lent, show it
+pub shows_lent : {hashes hs buckets bs : List ℕ} {most capacity : ℕ} {t : TableState} → IsTable hs bs most capacity → table_state hs (slots_by hs bs) ≡ t → hashes ≡ hs → bs ≡ buckets
+    → Shows (slots_by hashes buckets) (entries_by buckets) t
+shows_lent {hs = hs} {buckets = buckets} {t = t} x view h b =
+    subst (λ y. Shows (slots_by y buckets) (entries_by buckets) t) (sym h) (subst (λ y. Shows (slots_by hs y) (entries_by y) t) b (index-shows x.indexed.index view))
+
+pub laid_out : {slots : List (Option ℕ)} {entry_of : List ℕ} {t : TableState} → Shows slots entry_of t → IsLaidOut slots entry_of
+laid_out shown = record { bucket_of = shown.bucket_of; table = shown.table }

@@ -9,7 +9,7 @@ pub mod CrowdingLemmas
 pub mod DeletionLemmas
 pub mod GapLemmas
 pub mod IndexLemmas
-pub mod Mirrored
+pub mod MaskLemmas
 pub mod ProbeLemmas
 pub mod ReachLemmas
 pub mod Restored
@@ -19,5 +19,7 @@ pub mod StepLemmas
 pub mod Stores
 pub mod TableLaws
 pub mod TableLemmas
+pub mod TakenOut
+pub mod WordLemmas
 pub mod WorkLemmas
 pub mod Zip

@@ -8,7 +8,7 @@ use Rattle.std.proofs.lemmas.Option.{slice_get_within, slice_get-get_or, get_or_
 use Rattle.half_store.specs.Reach.{home, probe_distance, HomesApart}
 use Rattle.half_store.specs.Slots.{slot_at, stored, SomeVacant, ProbeInvariant}
 use Rattle.half_store.specs.Table.{hashes_at}
-use Rattle.half_store.specs.TableLayout.{InStep, IsTable}
+use Rattle.half_store.specs.TableLayout.{InStep, IsTableLayout}
 use Rattle.half_store.proofs.Circle.{distance_is, distance_self}
 use Rattle.half_store.proofs.Counts.{count_to-le, count_to-all, count_by-count_to}
 use Rattle.half_store.proofs.CapacityLemmas.{four-le_count}
@@ -115,8 +115,8 @@ module _ (slots : List (Option ℕ)) (entry_of bucket_of : List ℕ) (s : InStep
       ]
 
 -- a table with buckets has an empty one
-pub table_vacant : (slots : List (Option ℕ)) (entry_of bucket_of : List ℕ) (capacity : ℕ) → IsTable slots entry_of bucket_of capacity → 0 < length slots → SomeVacant slots
-table_vacant slots entry_of bucket_of capacity t some =
+pub table_vacant : (slots : List (Option ℕ)) (entry_of bucket_of : List ℕ) → IsTableLayout slots entry_of bucket_of → 0 < length slots → SomeVacant slots
+table_vacant slots entry_of bucket_of t some =
     let four = four-le_count (length slots) t.buckets some in
     let within = t.within in
     some_vacant slots entry_of bucket_of t.in_step (omega arith)

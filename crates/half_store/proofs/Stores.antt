@@ -3,9 +3,9 @@ use Rattle.std.proofs.Common.{◌≡◌, ℕ, zero, suc, ◌≤◌, List, [], �
 use Rattle.std.proofs.lemmas.Option.{same_Some}
 use Rattle.std.specs.Borrow.{Bor}
 use Rattle.half_store.specs.Capacity.{capacity_of}
-use Rattle.half_store.specs.Pairs.{Pairs, set_key, set_value, set_values, swap_out}
+use Rattle.half_store.specs.Pairs.{Pairs, set_key, set_value, set_values, swap_remove_at}
 use Rattle.half_store.specs.Replaced.{replaced, Replaces}
-use Rattle.half_store.specs.Store.{IsStore}
+use Rattle.half_store.specs.Store.{StoreState, IsStore, KeepsForm, vector_of, table_of, store_of}
 use Rattle.half_store.specs.Table.{TableState}
 
 module _ {K V : Type 0} where
@@ -24,6 +24,31 @@ module _ {K V : Type 0} where
   length-set_values (p ∷ ps) [] = refl
   length-set_values (p ∷ ps) (v ∷ vs) = ap suc (length-set_values ps vs)
 
+  -- a store with no index is a vector of its columns
+  pub vector_view : (columns : Pairs K V) {index : Option TableState} {s : StoreState K V} → index ≡ None → store_of columns index ≡ s → vector_of columns ≡ s
+  vector_view columns is view = ap (store_of columns) (sym is) ∙ view
+
+  -- and with one a table of both
+  pub table_view : (columns : Pairs K V) (t : TableState) {index : Option TableState} {s : StoreState K V} → index ≡ Some t → store_of columns index ≡ s → table_of columns t ≡ s
+  table_view columns t is view = ap (store_of columns) (sym is) ∙ view
+
+  -- a store has the pairs of its columns
+  pub pairs_of-store : (columns : Pairs K V) (index : Option TableState) → (store_of columns index).pairs ≡ columns.pairs
+  pairs_of-store columns None = refl
+  pairs_of-store columns (Some t) = refl
+
+  -- with the same index the form stays, and with the same capacity of the columns the capacity does
+  pub keeps_form : (index : Option TableState) (old new : Pairs K V) {s : StoreState K V} → store_of old index ≡ s → new.capacity ≡ old.capacity → KeepsForm s (store_of new index)
+  keeps_form None old new view capacity = record { form = ap (λ s. s.is_vec) view; capacity = capacity ∙ ap (λ s. s.capacity) view }
+  keeps_form (Some t) old new view capacity = record { form = ap (λ s. s.is_vec) view; capacity = ap (λ s. s.capacity) view }
+
+  -- and of a table that has another index with as many buckets both stay
+  pub table_keeps_form : (old new : Pairs K V) {t after : TableState} {index : Option TableState} {s : StoreState K V} → index ≡ Some t → store_of old index ≡ s → after.buckets ≡ t.buckets
+      → KeepsForm s (table_of new after)
+  table_keeps_form old new {t} is view buckets =
+      let was = table_view old t is view in
+      record { form = ap (λ s. s.is_vec) was; capacity = ap capacity_of buckets ∙ ap (λ s. s.capacity) was }
+
   -- as many pairs, with the same capacity, have the same index
   pub kept_store : (index : Option TableState) (old new : Pairs K V) → length new.pairs ≡ length old.pairs → new.capacity ≡ old.capacity → IsStore old index → IsStore new index
   kept_store None old new len capacity is = tt
@@ -34,7 +59,7 @@ module _ {K V : Type 0} where
     kept_by None is removed = absurd cc
     kept_by (Some v) is removed = (v, refl, is)
 
-    lost_by : (k : K) (answer : Option V) → new ≡ replaced old index answer → Some k ≡ (if is_none answer then Some key else None) → (answer ≡ None) × (new ≡ swap_out old index) × (key ≡ k)
+    lost_by : (k : K) (answer : Option V) → new ≡ replaced old index answer → Some k ≡ (if is_none answer then Some key else None) → (answer ≡ None) × (new ≡ swap_remove_at old index) × (key ≡ k)
     lost_by k None is removed = (refl, is, sym (same_Some k key removed))
     lost_by k (Some v) is removed = absurd cc
 
@@ -44,5 +69,12 @@ module _ {K V : Type 0} where
     kept_value r = kept_by old index new r.key r.answer r.pairs r.removed_is
 
     -- where a key was removed none was
-    pub lost_pair : {k : K} (r : Replaces returns old index new (Some k)) → (r.answer ≡ None) × (new ≡ swap_out old index) × (r.key ≡ k)
+    pub lost_pair : {k : K} (r : Replaces returns old index new (Some k)) → (r.answer ≡ None) × (new ≡ swap_remove_at old index) × (r.key ≡ k)
     lost_pair {k} r = lost_by old index new r.key k r.answer r.pairs r.removed_is
+
+  -- what becomes of a pair of the columns becomes of that of the store over them
+  pub replaces_in_store : {returns : Bor K → V → Option V → Type 0} {at : ℕ} {removed : Option K} (old new : Pairs K V) (was index : Option TableState) {s : StoreState K V}
+      → store_of old was ≡ s → Replaces returns old.pairs at new.pairs removed → Replaces returns s.pairs at (store_of new index).pairs removed
+  replaces_in_store {returns} {at} {removed} old new was index view r =
+      subst (λ ps. Replaces returns ps at (store_of new index).pairs removed) (sym (pairs_of-store old was) ∙ ap (λ s. s.pairs) view)
+      (subst (λ ps. Replaces returns old.pairs at ps removed) (sym (pairs_of-store new index)) r)

@@ -4,7 +4,7 @@ use Rattle.std.proofs.lemmas.Bool.{cases_lt, cases_eq, cases_Bool, lt-ltb, both_
 use Rattle.std.proofs.lemmas.List.Sorted.{sum_by-IsPermutation}
 use Rattle.std.proofs.lemmas.List.Sums.{get_or-le-sum_by}
 use Rattle.half_store.specs.Reach.{home, probe_distance, bucket_after, load, loaded_within, is_loaded, loaded_run, reach, IsLoaded}
-use Rattle.half_store.specs.TableLaws.{IsCrowded, PassesLoaded, HistoryLaw, NoBucketsLaw, NothingHeldLaw, OneBucketLaw, SharedHomeLaw, ShortLaw, OnceRoundLaw, CrowdingLaw, StopsLaw}
+use Rattle.half_store.specs.TableLaws.{IsCrowded, PassesLoaded, ReachHistoryLaw, NoBucketsLaw, NothingHeldLaw, OneBucketLaw, SharedHomeLaw, ShortLaw, OnceRoundLaw, CrowdingLaw, StopsLaw}
 use Rattle.half_store.proofs.Circle.{distance_is, distance_self, after_is, bucket_after-zero, after_next, bucket_after-lt}
 use Rattle.half_store.proofs.Counts.{tick, tick_yes}
 use Rattle.half_store.proofs.CrowdingLemmas.{load-le, loaded_from, run_leads}
@@ -28,7 +28,7 @@ loaded_run-permutation some others m zero bucket p = refl
 loaded_run-permutation some others m (suc most) bucket p =
     rw (loaded_within-permutation some others m bucket (m - 1) p, loaded_run-permutation some others m most (bucket_after m bucket 1) p) refl
 
-pub history_law : HistoryLaw
+pub history_law : ReachHistoryLaw
 history_law some others m hash p =
     elim (cases_lt 0 m) [
       | inl h ↦ reach-some some m hash h ∙ ap suc (loaded_run-permutation some others m (m - 1) (home m hash) p) ∙ sym (reach-some others m hash h)

@@ -7,7 +7,7 @@ use Rattle.half_store.specs.Reach.{home, probe_distance, reach}
 use Rattle.half_store.specs.Probe.{after_missing, AddsFinding, looked_more}
 use Rattle.half_store.specs.Slots.{slot_at, stored, IsVacancyFor, IsFoundAt, SomeVacant, distance_from_home}
 use Rattle.half_store.specs.Table.{TableState, table_state, hashes_at, slots_of}
-use Rattle.half_store.specs.TableLayout.{IsTable, Shows}
+use Rattle.half_store.specs.TableLayout.{IsTableLayout, Shows}
 use Rattle.half_store.specs.Work.{Work}
 use Rattle.half_store.proofs.Circle.{distance_self}
 use Rattle.half_store.proofs.SlotsLemmas.{full_from, full-lt}
@@ -16,12 +16,12 @@ use Rattle.half_store.proofs.ProbeLemmas.{reach_at_vacancy, reach_past_found, re
 use Rattle.half_store.proofs.ReachLemmas.{reach-none}
 use Rattle.half_store.proofs.WorkLemmas.{same_work}
 
-module _ (slots : List (Option ℕ)) (entry_of bucket_of : List ℕ) (capacity : ℕ) (t : IsTable slots entry_of bucket_of capacity) (hash : ℕ) where
+module _ (slots : List (Option ℕ)) (entry_of bucket_of : List ℕ) (t : IsTableLayout slots entry_of bucket_of) (hash : ℕ) where
   abbrev hs : List ℕ
   hs = hashes_at slots bucket_of
 
   vacant_since : (p : ℕ) → p < length slots → SomeVacant slots
-  vacant_since p in_p = table_vacant slots entry_of bucket_of capacity t (omega arith)
+  vacant_since p in_p = table_vacant slots entry_of bucket_of t (omega arith)
 
   -- what a search that found none added
   pub missing_cost : (p : ℕ) (old new : Work) → IsVacancyFor slots hash p → new.asked ≡ old.asked → new.looked ≡ old.looked + (distance_from_home slots hash p + 1) →
@@ -61,7 +61,7 @@ module _ (slots : List (Option ℕ)) (entry_of bucket_of : List ℕ) (capacity :
   short =
       elim (cases_eq (length slots) 0) [
         | inl e ↦ omega (arith, reach-none hs (length slots) hash e)
-        | inr ne ↦ reach_short slots t.ordered hs t.in_step.counted hash (table_vacant slots entry_of bucket_of capacity t (omega arith))
+        | inr ne ↦ reach_short slots t.ordered hs t.in_step.counted hash (table_vacant slots entry_of bucket_of t (omega arith))
       ]
 
 -- what callers see of the costs
@@ -69,10 +69,7 @@ module _ {slots : List (Option ℕ)} {entry_of : List ℕ} {x : TableState} (sho
   abbrev bucket_of : List ℕ
   bucket_of = shown.bucket_of
 
-  abbrev capacity : ℕ
-  capacity = shown.capacity
-
-  t : IsTable slots entry_of bucket_of capacity
+  t : IsTableLayout slots entry_of bucket_of
   t = shown.table
 
   view_is : table_state (hashes_at slots bucket_of) slots ≡ x
@@ -87,17 +84,17 @@ module _ {slots : List (Option ℕ)} {entry_of : List ℕ} {x : TableState} (sho
 
   pub missing_cost_seen : (p : ℕ) (old new : Work) → IsVacancyFor slots hash p → new.asked ≡ old.asked → new.looked ≡ old.looked + (distance_from_home slots hash p + 1) →
       new.compared ≡ old.compared + count_by (stored (λ held. held == hash)) slots → new ≡ after_missing x.hashes x.buckets hash old
-  missing_cost_seen p old new w a b c = subst (λ (y : TableState). new ≡ after_missing y.hashes y.buckets hash old) view_is (missing_cost slots entry_of bucket_of capacity t hash p old new w a b c)
+  missing_cost_seen p old new w a b c = subst (λ (y : TableState). new ≡ after_missing y.hashes y.buckets hash old) view_is (missing_cost slots entry_of bucket_of t hash p old new w a b c)
 
   pub found_cost_seen : (p : ℕ) (old new : Work) → IsFoundAt slots hash p → new.asked ≡ old.asked → new.looked ≡ old.looked + (distance_from_home slots hash p + 1) →
       old.compared + 1 ≤ new.compared → new.compared ≤ old.compared + count_by (stored (λ held. held == hash)) slots → AddsFinding x.hashes x.buckets hash old new
-  found_cost_seen p old new f a b c d = subst (λ (y : TableState). AddsFinding y.hashes y.buckets hash old new) view_is (found_cost slots entry_of bucket_of capacity t hash p old new f a b c d)
+  found_cost_seen p old new f a b c d = subst (λ (y : TableState). AddsFinding y.hashes y.buckets hash old new) view_is (found_cost slots entry_of bucket_of t hash p old new f a b c d)
 
   pub probing_cost_seen : (p : ℕ) (old new : Work) → IsVacancyFor slots hash p → new ≡ looked_more old (distance_from_home slots hash p + 1) → new ≡ looked_more old (reach x.hashes x.buckets hash)
-  probing_cost_seen p old new w e = subst (λ (y : TableState). new ≡ looked_more old (reach y.hashes y.buckets hash)) view_is (probing_cost slots entry_of bucket_of capacity t hash p old new w e)
+  probing_cost_seen p old new w e = subst (λ (y : TableState). new ≡ looked_more old (reach y.hashes y.buckets hash)) view_is (probing_cost slots entry_of bucket_of t hash p old new w e)
 
   pub short_seen : reach x.hashes x.buckets hash ≤ length x.hashes + 1
-  short_seen = subst (λ (y : TableState). reach y.hashes y.buckets hash ≤ length y.hashes + 1) view_is (short slots entry_of bucket_of capacity t hash)
+  short_seen = subst (λ (y : TableState). reach y.hashes y.buckets hash ≤ length y.hashes + 1) view_is (short slots entry_of bucket_of t hash)
 
   pub index_seen : (p : ℕ) → slot_at slots p ≡ Some hash → slice_get x.hashes (slice_index entry_of p) ≡ Some hash
   index_seen p is = subst (λ (y : TableState). slice_get y.hashes (slice_index entry_of p) ≡ Some hash) view_is (index_at_bucket slots entry_of bucket_of t.in_step p hash is)
@@ -109,7 +106,7 @@ module _ {slots : List (Option ℕ)} {entry_of : List ℕ} {x : TableState} (sho
       subst P (t.in_step.index_back index (index-lt slots entry_of bucket_of t.in_step index hash here)) (h (slice_index bucket_of index) (bucket_of_index slots entry_of bucket_of t.in_step index hash here))
 
   pub vacant_seen : 0 < x.buckets → SomeVacant slots
-  vacant_seen some = table_vacant slots entry_of bucket_of capacity t (subst (λ (y : TableState). 0 < y.buckets) (sym view_is) some)
+  vacant_seen some = table_vacant slots entry_of bucket_of t (subst (λ (y : TableState). 0 < y.buckets) (sym view_is) some)
 
   -- with no buckets a search costs nothing
   pub empty_cost_seen : (w : Work) → length slots ≡ 0 → w ≡ after_missing x.hashes x.buckets hash w

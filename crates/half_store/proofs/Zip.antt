@@ -3,8 +3,7 @@ use Rattle.std.proofs.Common.{◌≡◌, ℕ, zero, suc, ◌-◌, ◌<◌, List,
 use Rattle.std.proofs.Math.ListN.{set}
 use Rattle.std.proofs.lemmas.List.{length-reverse, reverse-append, take_all}
 use Rattle.std.specs.List.{AllZip, zip, slice_get, swap_remove, refill}
-use Rattle.std.specs.Map.{keys_of, values_of}
-use Rattle.half_store.specs.Pairs.{set_key, set_value, set_values, swap_out}
+use Rattle.half_store.specs.Pairs.{set_key, set_value, set_values, swap_remove_at}
 
 pub get_or_within : {X : Type 0} (xs : List X) (i : ℕ) (d e : X) → i < length xs → get_or xs i d ≡ get_or xs i e
 get_or_within [] i d e within = absurd (omega arith)
@@ -12,26 +11,15 @@ get_or_within (x ∷ xs) zero d e within = refl
 get_or_within (x ∷ xs) (suc i) d e within = get_or_within xs i d e (omega arith)
 
 -- a swap removal does not depend on the default
-pub swap_out_is : {X : Type 0} (xs : List X) (i : ℕ) (d : X) → swap_remove xs i d ≡ swap_out xs i
-swap_out_is [] i d = refl
-swap_out_is (x ∷ xs) i d = ap (λ y. take (length (x ∷ xs) - 1) (set (x ∷ xs) i y)) (get_or_within (x ∷ xs) (length (x ∷ xs) - 1) d x (omega arith))
+pub swap_remove_at_is : {X : Type 0} (xs : List X) (i : ℕ) (d : X) → swap_remove xs i d ≡ swap_remove_at xs i
+swap_remove_at_is [] i d = refl
+swap_remove_at_is (x ∷ xs) i d = ap (λ y. take (length (x ∷ xs) - 1) (set (x ∷ xs) i y)) (get_or_within (x ∷ xs) (length (x ∷ xs) - 1) d x (omega arith))
 
 module _ {K V : Type 0} where
   pub length-zip : (ks : List K) (vs : List V) → length vs ≡ length ks → length (zip ks vs) ≡ length ks
   length-zip [] vs even = refl
   length-zip (k ∷ ks) [] even = absurd (omega arith)
   length-zip (k ∷ ks) (v ∷ vs) even = ap suc (length-zip ks vs (omega arith))
-
-  pub keys_of-zip : (ks : List K) (vs : List V) → length vs ≡ length ks → keys_of (zip ks vs) ≡ ks
-  keys_of-zip [] vs even = refl
-  keys_of-zip (k ∷ ks) [] even = absurd (omega arith)
-  keys_of-zip (k ∷ ks) (v ∷ vs) even = ap (λ l. k ∷ l) (keys_of-zip ks vs (omega arith))
-
-  pub values_of-zip : (ks : List K) (vs : List V) → length vs ≡ length ks → values_of (zip ks vs) ≡ vs
-  values_of-zip [] [] even = refl
-  values_of-zip [] (v ∷ vs) even = absurd (omega arith)
-  values_of-zip (k ∷ ks) [] even = absurd (omega arith)
-  values_of-zip (k ∷ ks) (v ∷ vs) even = ap (λ l. v ∷ l) (values_of-zip ks vs (omega arith))
 
   pub zip_push : (ks : List K) (vs : List V) (k : K) (v : V) → length vs ≡ length ks → zip (ks ++ k ∷ []) (vs ++ v ∷ []) ≡ zip ks vs ++ (k, v) ∷ []
   zip_push [] [] k v even = refl
@@ -106,8 +94,8 @@ module _ {K V : Type 0} where
       ∙ zip-take n _ _ ∙ ap (take n) (zip-set ks vs i _ _ ∙ ap (set (zip ks vs) i) (sym (get_or-zip ks vs n k v even)))
       ∙ ap (λ m. take (m - 1) (set (zip ks vs) i (get_or (zip ks vs) (m - 1) (k, v)))) (sym (length-zip ks vs even))
 
-  pub zip-swap_out : (ks : List K) (vs : List V) (i : ℕ) (k : K) (v : V) → length vs ≡ length ks → zip (swap_remove ks i k) (swap_remove vs i v) ≡ swap_out (zip ks vs) i
-  zip-swap_out ks vs i k v even = zip-swap_remove ks vs i k v even ∙ swap_out_is (zip ks vs) i (k, v)
+  pub zip-swap_remove_at : (ks : List K) (vs : List V) (i : ℕ) (k : K) (v : V) → length vs ≡ length ks → zip (swap_remove ks i k) (swap_remove vs i v) ≡ swap_remove_at (zip ks vs) i
+  zip-swap_remove_at ks vs i k v even = zip-swap_remove ks vs i k v even ∙ swap_remove_at_is (zip ks vs) i (k, v)
 
 -- the element at a bucket, read with itself as the default
 pub slice_get_at : {X : Type 0} (xs : List X) (i : ℕ) (x : X) → i < length xs → x ≡ get_or xs i x → slice_get xs i ≡ Some x

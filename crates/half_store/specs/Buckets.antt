@@ -18,8 +18,3 @@ entries_by buckets = map (λ n. n - 1) buckets
 -- each bucket is empty, or its entry index has a stored hash
 abbrev pub WithinHashes : List ℕ → List ℕ → Type 0
 WithinHashes hashes buckets = All (λ n. n ≤ length hashes) buckets
-
--- what stands in a bucket once the order of so many entry indices is turned round
-abbrev pub mirrored : ℕ → ℕ → ℕ
-mirrored count zero = 0
-mirrored count (suc index) = count - index

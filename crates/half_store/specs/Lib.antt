@@ -14,4 +14,6 @@ pub mod StoreLending
 pub mod Table
 pub mod TableLaws
 pub mod TableLayout
+pub mod TableSearch
+pub mod Words
 pub mod Work

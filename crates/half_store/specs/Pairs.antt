@@ -10,8 +10,8 @@ pub record Pairs (K V : Type 0) : Type 0 where
 
 module _ {K V : Type 0} where
   -- these pairs, with the capacity of another list
-  abbrev pub with_pairs : Pairs K V → List (K × V) → Pairs K V
-  with_pairs old ps = record { pairs = ps; capacity = old.capacity }
+  abbrev pub columns_with : Pairs K V → List (K × V) → Pairs K V
+  columns_with old ps = record { pairs = ps; capacity = old.capacity }
 
   -- the pair at this index keeps its key and gets this value
   abbrev pub set_value : List (K × V) → ℕ → V → List (K × V)
@@ -35,9 +35,9 @@ module _ {K V : Type 0} where
   pairs_code k v = coded_via (coded× (coded_list (coded× k v)) coded_ℕ) (λ c. (c.pairs, c.capacity)) (λ a b e i. record { pairs = (e i).0; capacity = (e i).1 })
 
 -- the element at this index is gone, and the last one is in its place
-abbrev pub swap_out : {X : Type 0} → List X → ℕ → List X
-swap_out [] index = []
-swap_out (x ∷ xs) index = swap_remove (x ∷ xs) index x
+abbrev pub swap_remove_at : {X : Type 0} → List X → ℕ → List X
+swap_remove_at [] index = []
+swap_remove_at (x ∷ xs) index = swap_remove (x ∷ xs) index x
 
 -- the index of the first key that passes
 abbrev pub index_of : {K : Type 0} → (K → Bool) → List K → Option ℕ

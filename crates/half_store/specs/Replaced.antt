@@ -1,11 +1,11 @@
 -- What becomes of a pair whose value is handed to a closure.
 use Rattle.std.specs.Prelude.{◌≡◌, ℕ, List, slice_get, Option, None, Some, is_none, if◌then◌else◌}
 use Rattle.std.specs.Borrow.{Bor}
-use Rattle.half_store.specs.Pairs.{set_value, swap_out}
+use Rattle.half_store.specs.Pairs.{set_value, swap_remove_at}
 
 -- the pairs once that at this index has this value, or is gone
 abbrev pub replaced : {K V : Type 0} → List (K × V) → ℕ → Option V → List (K × V)
-replaced pairs index None = swap_out pairs index
+replaced pairs index None = swap_remove_at pairs index
 replaced pairs index (Some value) = set_value pairs index value
 
 module _ {K V : Type 0} (returns : Bor K → V → Option V → Type 0) where

@@ -1,5 +1,5 @@
 -- What a search of a store by a match on keys found, and what it costs.
-use Rattle.std.specs.Prelude.{◌≡◌, ℕ, ◌+◌, ◌<◌, ◌≤◌, Bool, true, false, List, length, slice_get, Option, None, Some}
+use Rattle.std.specs.Prelude.{◌≡◌, ℕ, ◌<◌, Bool, true, false, List, length, slice_get, Option, None, Some}
 use Rattle.std.specs.Map.{keys_of}
 use Rattle.half_store.specs.declared.store.lookup.Lookup.{Lookup}
 use Rattle.half_store.specs.declared.store.lookup.Lookup.TheVariants.{Found, Missing}

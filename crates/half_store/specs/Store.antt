@@ -1,8 +1,8 @@
 -- What contracts see of a store.
-use Rattle.std.specs.Prelude.{◌≡◌, ℕ, ◌+◌, ◌≤◌, Bool, true, false, List, [], ◌∷◌, ◌++◌, length, min, Option, None, Some, if◌then◌else◌}
+use Rattle.std.specs.Prelude.{◌≡◌, ℕ, ◌+◌, ◌≤◌, Bool, true, false, List, [], ◌∷◌, ◌++◌, length, reverse, min, Option, None, Some, if◌then◌else◌}
 use Rattle.half_store.specs.declared.store.lookup.Vacancy.{Vacancy}
 use Rattle.half_store.specs.Capacity.{capacity_of}
-use Rattle.half_store.specs.Pairs.{Pairs}
+use Rattle.half_store.specs.Pairs.{Pairs, columns_with}
 use Rattle.half_store.specs.Table.{TableState, Contents, contents_of, no_contents, contents_code, with_hash_in, IsVacancyIn}
 use base.Stored.{Coded, coded×, coded_list, coded_ℕ, coded_bool, coded_via}
 
@@ -37,6 +37,15 @@ module _ {K V : Type 0} where
   abbrev pub IsStore : Pairs K V → Option TableState → Type 0
   IsStore columns None = Unit {0}
   IsStore columns (Some t) = IsIndexOfColumns columns t
+
+  -- what is left of a store whose pairs are taken out, in columns that lie last first
+  abbrev pub drained_of : Pairs K V → Option TableState → StoreState K V
+  drained_of columns index = store_of (columns_with columns (reverse columns.pairs)) index
+
+  -- of an index that the pairs had it is still true that it has no more capacity than the columns
+  abbrev pub IsDrained : Pairs K V → Option TableState → Type 0
+  IsDrained columns None = Unit {0}
+  IsDrained columns (Some t) = capacity_of t.buckets ≤ columns.capacity
 
   -- the form and the capacity stay
   pub record KeepsForm (old new : StoreState K V) : Type 0 where

@@ -19,8 +19,8 @@ pub record PassesLoaded (hashes : List ℕ) (buckets hash passed : ℕ) : Type 0
   pub ended : ¬ IsLoaded hashes buckets (bucket_after buckets (home buckets hash) passed)
 
 -- a probe reads equally many buckets whatever the order of the held hashes
-abbrev pub HistoryLaw : Type 0
-HistoryLaw = (some others : List ℕ) (buckets hash : ℕ) → IsPermutation some others
+abbrev pub ReachHistoryLaw : Type 0
+ReachHistoryLaw = (some others : List ℕ) (buckets hash : ℕ) → IsPermutation some others
     → reach some buckets hash ≡ reach others buckets hash
 
 -- where there are no buckets, a probe reads none

@@ -14,11 +14,10 @@ pub record InStep (slots : List (Option ℕ)) (entry_of bucket_of : List ℕ) : 
   pub bucket_back : (bucket : ℕ) → slot_at slots bucket ≢ None → slice_index bucket_of (slice_index entry_of bucket) ≡ bucket
   pub counted : (test : ℕ → Bool) → count_by test (hashes_at slots bucket_of) ≡ count_by (stored test) slots
 
--- what is always true of a table's columns
-pub record IsTable (slots : List (Option ℕ)) (entry_of bucket_of : List ℕ) (capacity : ℕ) : Type 0 where
+-- what is always true of a table's buckets
+pub record IsTableLayout (slots : List (Option ℕ)) (entry_of bucket_of : List ℕ) : Type 0 where
   pub buckets : IsBucketCount (length slots)
   pub within : length bucket_of ≤ capacity_of (length slots)
-  pub reserved : capacity_of (length slots) ≤ capacity
   pub in_step : InStep slots entry_of bucket_of
   pub ordered : ProbeInvariant slots
 
@@ -30,16 +29,45 @@ pub record HasGap (slots : List (Option ℕ)) (gap : ℕ) : Type 0 where
   pub others : (bucket vacant hash : ℕ) → slot_at slots bucket ≡ Some hash → vacant < length slots → slot_at slots vacant ≡ None → vacant ≢ gap →
       distance_from_home slots hash bucket < distance_from_home slots hash vacant
 
--- what is always true of the three columns of a table, two of which have these capacities
-pub record IsIndex (hashes buckets bucket_of : List ℕ) (hash_capacity entry_capacity : ℕ) : Type 0 where
+-- the buckets lead to the stored hashes, and this is the bucket of each entry index
+pub record IsIndex (hashes buckets bucket_of : List ℕ) : Type 0 where
   pub whole : WithinHashes hashes buckets
   pub column : hashes_at (slots_by hashes buckets) bucket_of ≡ hashes
-  pub reserved : capacity_of (length buckets) ≤ hash_capacity
-  pub table : IsTable (slots_by hashes buckets) (entries_by buckets) bucket_of entry_capacity
+  pub table : IsTableLayout (slots_by hashes buckets) (entries_by buckets) bucket_of
+
+-- the buckets lead to the stored hashes; which bucket an entry index has is told by them alone
+pub record IsIndexed (hashes buckets : List ℕ) : Type 0 where
+  pub bucket_of : List ℕ
+  pub index : IsIndex hashes buckets bucket_of
+
+-- the same but for one bucket that was emptied, and whose pair has no stored hash any more
+pub record IsIndexedButFor (hashes buckets : List ℕ) (emptied : ℕ) : Type 0 where
+  pub bucket_of : List ℕ
+  pub whole : WithinHashes hashes buckets
+  pub column : hashes_at (slots_by hashes buckets) bucket_of ≡ hashes
+  pub within : length bucket_of ≤ capacity_of (length buckets)
+  pub in_step : InStep (slots_by hashes buckets) (entries_by buckets) bucket_of
+  pub gap : HasGap (slots_by hashes buckets) emptied
+
+-- the pair of this entry index is in this bucket
+pub record IsBucketOf (hashes buckets : List ℕ) (index bucket : ℕ) : Type 0 where
+  pub within : bucket < length buckets
+  pub full : slot_at (slots_by hashes buckets) bucket ≢ None
+  pub entry : slice_index (entries_by buckets) bucket ≡ index
+
+-- what is always true of a table's columns: words up to `most` fit its buckets, and the column of the hashes has this capacity
+pub record IsTable (hashes buckets : List ℕ) (most capacity : ℕ) : Type 0 where
+  pub indexed : IsIndexed hashes buckets
+  pub fits : capacity_of (length buckets) ≤ most
+  pub reserved : capacity_of (length buckets) ≤ capacity
+
+-- what a probe needs to know of the buckets
+pub record IsLaidOut (slots : List (Option ℕ)) (entry_of : List ℕ) : Type 0 where
+  pub bucket_of : List ℕ
+  pub table : IsTableLayout slots entry_of bucket_of
 
 -- the buckets of a table, as a probe reads them
 pub record Shows (slots : List (Option ℕ)) (entry_of : List ℕ) (t : TableState) : Type 0 where
   pub bucket_of : List ℕ
-  pub capacity : ℕ
-  pub table : IsTable slots entry_of bucket_of capacity
+  pub table : IsTableLayout slots entry_of bucket_of
   pub view : table_state (hashes_at slots bucket_of) slots ≡ t

@@ -3,6 +3,8 @@ ghost use Rattle.std.specs.Prelude.{◌≡◌, ◌≢◌, ℕ, ◌<◌, List, Op
 ghost use Rattle.half_store.specs.Slots.{slot_at};
 ghost use Rattle.half_store.specs.Buckets.{slots_by, entries_by, WithinHashes};
 
+use crate::words::Words;
+
 /// Buckets that tell their stored hashes and their entry indices. Probes read them through this trait alone, so that buckets
 /// which count their reads show how often that is.
 pub trait Buckets {
@@ -34,23 +36,23 @@ pub trait Buckets {
 
 /// The buckets of a table, and the stored hashes that they lead to.
 #[derive(Clone, Copy)]
-pub struct HashedBuckets<'a> {
+pub struct HashedBuckets<'a, B> {
     /// For each bucket 0, or one more than the entry index of its pair.
-    pub buckets: &'a [usize],
+    pub buckets: &'a B,
     /// The hashes by entry index.
     pub hashes: &'a [u64],
 }
 
-impl Buckets for HashedBuckets<'_> {
-    ghost slots = { λ s. slots_by s.hashes.now s.buckets.now };
+impl<B: Words> Buckets for HashedBuckets<'_, B> {
+    ghost slots = { λ s. slots_by s.hashes.now (B.words s.buckets.now) };
 
-    ghost entry_of = { λ s. entries_by s.buckets.now };
+    ghost entry_of = { λ s. entries_by (B.words s.buckets.now) };
 
-    ghost is_whole = { λ s. WithinHashes s.hashes.now s.buckets.now };
+    ghost is_whole = { λ s. WithinHashes s.hashes.now (B.words s.buckets.now) };
 
     #[inline(always)]
     fn count(&self) -> usize {
-        self.buckets.len()
+        self.buckets.count()
     }
 
     #[inline(always)]
@@ -60,18 +62,18 @@ impl Buckets for HashedBuckets<'_> {
 
     #[inline(always)]
     fn entry_at(&self, bucket: usize) -> usize {
-        self.buckets[bucket] - 1
+        self.buckets.word_at(bucket) - 1
     }
 }
 
 /// The hash of the pair in a bucket, or none where it is empty.
 #[inline(always)]
-pub(crate) fn hash_in(buckets: &[usize], hashes: &[u64], bucket: usize) -> Option<u64>
-    requires whole { WithinHashes hashes.now buckets.now }
-    requires within { bucket < length buckets.now }
-    ensures { result ≡ slot_at (slots_by hashes.now buckets.now) bucket }
+pub(crate) fn hash_in<B: Words>(buckets: &B, hashes: &[u64], bucket: usize) -> Option<u64>
+    requires whole { WithinHashes hashes.now (B.words buckets.now) }
+    requires within { bucket < length (B.words buckets.now) }
+    ensures { result ≡ slot_at (slots_by hashes.now (B.words buckets.now)) bucket }
 {
-    match buckets[bucket] {
+    match buckets.word_at(bucket) {
         0 => None,
         full => Some(hashes[full - 1]),
     }

@@ -11,9 +11,11 @@ pub mod store;
 pub mod table;
 pub mod tally;
 pub mod vecmap;
+pub mod words;
 
 pub use refusal::Refusal;
 pub use store::Store;
+pub use store::drain::{Drained, IntoStore};
 pub use store::lookup::{Lookup, Vacancy};
 pub use table::Table;
 pub use table::probe::Probe;

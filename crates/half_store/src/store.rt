@@ -1,11 +1,12 @@
 //! Pairs in two forms over the same two columns: a vector, which is searched from first to last, or a table, which has an
 //! index.
-ghost use Rattle.std.specs.Prelude.{◌≡◌, ◌^◌, ◌<◌, [], length, reverse};
+ghost use Rattle.std.specs.Prelude.{◌≡◌, ◌^◌, ◌<◌, [], length};
 ghost use Rattle.half_store.specs.Store.{vector_of, capacity_within, KeepsForm};
 
 mod at;
 mod change;
 mod columns;
+pub mod drain;
 mod find;
 pub mod lookup;
 mod memory;
@@ -107,22 +108,5 @@ impl<K, V> Store<K, V> {
             table.clear();
         }
         self.columns.clear();
-    }
-
-    /// Puts the pairs in the opposite order.
-    ///
-    /// ```
-    /// ages.reverse();
-    /// ```
-    pub fn reverse(&mut self)
-        ensures pairs { self.new.pairs ≡ reverse self.old.pairs }
-        ensures hashes { self.new.hashes ≡ reverse self.old.hashes }
-        ensures form { KeepsForm self.old self.new }
-        ensures small { length self.old.pairs < 2 ^ 63 }
-    {
-        if let Some(table) = &mut self.index {
-            table.reverse();
-        }
-        self.columns.reverse();
     }
 }

@@ -7,22 +7,25 @@ ghost use Rattle.std.specs.Prelude.{◌≡◌, ℕ, ◌+◌, ◌^◌, ◌<◌, �
 ghost use Rattle.std.specs.List.{swap_remove};
 ghost use Rattle.half_store.specs.Reach.{reach};
 ghost use Rattle.half_store.specs.Capacity.{capacity_of, IsBucketCount, capacity_for, buckets_of};
-ghost use Rattle.half_store.specs.Probe.{IfFound, OnMissing, IfVacant, looked_more, after_missing, AddsFinding};
+ghost use Rattle.half_store.specs.Probe.{looked_more};
 ghost use Rattle.half_store.specs.Table.{contents_of, with_hash_in, IsVacancyIn, no_buckets};
+ghost use Rattle.half_store.specs.TableSearch.{FindsInTable};
 
 mod deletion;
+mod find;
 pub mod laws;
 mod memory;
 pub mod probe;
 mod rehash;
 mod retain;
-mod reverse;
 
 use crate::Tally;
-use crate::buckets::{Buckets, HashedBuckets};
+use crate::buckets::HashedBuckets;
 use crate::capacity::capacity_of;
-use deletion::backward_shift;
-use probe::{Probe, first_empty, search};
+use crate::words::{WordArray, Words};
+use deletion::remove_in;
+use find::{find_in, probe_in};
+use probe::Probe;
 use std::alloc::Global;
 use std::marker::Model;
 
@@ -33,31 +36,31 @@ use std::marker::Model;
 #[derive(Drop)]
 pub struct Table {
     // 0 for an empty bucket, else the entry index and one more
-    buckets: Vec<usize>,
+    buckets: WordArray,
     // by entry index
     hashes: Vec<u64>,
-    bucket_of: Vec<usize>,
 }
 
 impl Model for Table {
     ghost use Rattle.std.specs.Prelude.{vec_capacity};
     ghost use Rattle.half_store.specs.Buckets.{slots_by};
     ghost use Rattle.half_store.specs.Table.{TableState, table_state, table_state_code};
-    ghost use Rattle.half_store.specs.TableLayout.{IsIndex};
+    ghost use Rattle.half_store.specs.TableLayout.{IsTable};
+    ghost use Rattle.half_store.specs.Words.{words_of, most_of};
 
     ghost Value = { TableState };
 
     ghost coded = { table_state_code };
 
-    ghost view = { λ t. table_state t.hashes.items (slots_by t.hashes.items t.buckets.items) };
+    ghost view = { λ t. table_state t.hashes.items (slots_by t.hashes.items (words_of t.buckets)) };
 
-    ghost invariant = { λ t. IsIndex t.hashes.items t.buckets.items t.bucket_of.items (vec_capacity t.hashes)
-        (vec_capacity t.bucket_of) };
+    ghost invariant = { λ t. IsTable t.hashes.items (words_of t.buckets) (most_of t.buckets) (vec_capacity t.hashes) };
 }
 
 impl Table {
     ghost use Rattle.half_store.specs.Buckets.{slots_by, entries_by, WithinHashes};
     ghost use Rattle.half_store.specs.TableLayout.{Shows};
+    ghost use Rattle.half_store.specs.Words.{words_of};
 
     /// A table with no buckets. It takes no memory.
     ///
@@ -68,9 +71,8 @@ impl Table {
         ensures { result ≡ no_buckets }
     {
         Table {
-            buckets: Vec::new(alloc),
+            buckets: WordArray::new(alloc),
             hashes: Vec::new(alloc),
-            bucket_of: Vec::new(alloc),
         }
     }
 
@@ -112,7 +114,7 @@ impl Table {
         ensures series { result ≡ capacity_for result }
         ensures buckets { self.now.buckets ≡ buckets_of result }
     {
-        capacity_of(self.buckets.len())
+        capacity_of(self.buckets.count())
     }
 
     /// Searches for a pair of this hash that `matches` accepts. `matches` is called with entry indices of that hash alone.
@@ -125,26 +127,16 @@ impl Table {
     #[inline(always)]
     pub fn find<F: Fn(usize) -> bool>(&self, hash: u64, matches: &F, tally: &mut Tally) -> Probe
         requires { (index : ℕ) → slice_get self.now.hashes index ≡ Some hash → F.pre matches.now index }
-        ensures found { IfFound result (λ index. slice_get self.now.hashes index ≡ Some hash) }
-        ensures accepted { IfFound result (λ index. F.post matches.now index true) }
-        ensures refused { OnMissing result ((index : ℕ) → slice_get self.now.hashes index ≡ Some hash
-            → F.post matches.now index false) }
-        ensures vacancy { IfVacant result (IsVacancyIn (contents_of self.now) hash) }
-        ensures no_buckets { result ≡ Probe.NoBuckets ↔ (self.now.buckets ≡ 0) }
-        ensures missing_cost { OnMissing result (tally.new ≡ after_missing self.now.hashes self.now.buckets hash
-            tally.old) }
-        ensures found_cost { IfFound result (λ _. AddsFinding self.now.hashes self.now.buckets hash tally.old
-            tally.new) }
-        ensures short { reach self.now.hashes self.now.buckets hash ≤ length self.now.hashes + 1 }
-        ensures buckets { self.now.buckets ≡ buckets_of (capacity_of self.now.buckets) }
+        ensures { FindsInTable (F.post matches.now) self.now hash result tally.old tally.new }
     {
-        let buckets = self.hashed_buckets();
-        if buckets.count() == 0 {
-            return Probe::NoBuckets;
-        }
-        match search(&buckets, hash, matches, tally) {
-            Ok(bucket) => Probe::Found(buckets.entry_at(bucket)),
-            Err(bucket) => Probe::Vacant(bucket),
+        let hashes = self.hashes.as_slice();
+        match &self.buckets {
+            WordArray::FourBytes(buckets) => {
+                find_in(&HashedBuckets { buckets, hashes }, hash, matches, tally)
+            }
+            WordArray::EightBytes(buckets) => {
+                find_in(&HashedBuckets { buckets, hashes }, hash, matches, tally)
+            }
         }
     }
 
@@ -160,7 +152,15 @@ impl Table {
         ensures cost { tally.new ≡ looked_more tally.old (reach self.now.hashes self.now.buckets hash) }
         ensures buckets { self.now.buckets ≡ buckets_of (capacity_of self.now.buckets) }
     {
-        first_empty(&self.hashed_buckets(), hash, tally)
+        let hashes = self.hashes.as_slice();
+        match &self.buckets {
+            WordArray::FourBytes(buckets) => {
+                probe_in(&HashedBuckets { buckets, hashes }, hash, tally)
+            }
+            WordArray::EightBytes(buckets) => {
+                probe_in(&HashedBuckets { buckets, hashes }, hash, tally)
+            }
+        }
     }
 
     /// Adds a pair of this hash in the empty bucket at which a probe for it ended. It reads no bucket.
@@ -176,9 +176,9 @@ impl Table {
         ensures buckets { self.new.buckets ≡ self.old.buckets }
         ensures contents { contents_of self.new ≡ with_hash_in (contents_of self.old) hash bucket }
     {
-        self.buckets[bucket] = self.len() + 1;
+        let word = self.len() + 1;
+        self.buckets.set_word(bucket, word);
         self.hashes.push_reserved(hash);
-        self.bucket_of.push_reserved(bucket);
     }
 
     /// Adds a pair of this hash. It reads exactly `reach` buckets.
@@ -211,19 +211,10 @@ impl Table {
         ensures hashes { self.new.hashes ≡ swap_remove self.old.hashes index 0 }
         ensures buckets { self.new.buckets ≡ self.old.buckets }
     {
-        let last = self.len() - 1;
-        let last_bucket = self.bucket_of[last];
-        self.buckets[last_bucket] = index + 1;
-        let bucket = self.bucket_of.swap_remove(index);
-        self.buckets[bucket] = 0;
-        let hash = self.hashes.swap_remove(index);
-        backward_shift(
-            self.buckets.as_mut_slice(),
-            self.hashes.as_slice(),
-            self.bucket_of.as_mut_slice(),
-            bucket,
-        );
-        hash
+        match &mut self.buckets {
+            WordArray::FourBytes(buckets) => remove_in(buckets, &mut self.hashes, index),
+            WordArray::EightBytes(buckets) => remove_in(buckets, &mut self.hashes, index),
+        }
     }
 
     /// Removes all pairs. The capacity stays.
@@ -235,9 +226,8 @@ impl Table {
         ensures hashes { self.new.hashes ≡ [] }
         ensures buckets { self.new.buckets ≡ self.old.buckets }
     {
-        self.buckets.fill(0);
+        self.buckets.clear();
         self.hashes.clear();
-        self.bucket_of.clear();
     }
 
     /// The buckets, as a probe reads them.
@@ -246,12 +236,13 @@ impl Table {
     /// let buckets = table.hashed_buckets(); // four, and the hashes 7 and 11
     /// ```
     #[inline(always)]
-    pub fn hashed_buckets(&self) -> HashedBuckets<'_>
-        ensures whole { WithinHashes result.hashes.now result.buckets.now }
-        ensures shown { Shows (slots_by result.hashes.now result.buckets.now) (entries_by result.buckets.now) self.now }
+    pub fn hashed_buckets(&self) -> HashedBuckets<'_, WordArray>
+        ensures whole { WithinHashes result.hashes.now (words_of result.buckets.now) }
+        ensures shown { Shows (slots_by result.hashes.now (words_of result.buckets.now))
+            (entries_by (words_of result.buckets.now)) self.now }
     {
         HashedBuckets {
-            buckets: self.buckets.as_slice(),
+            buckets: &self.buckets,
             hashes: self.hashes.as_slice(),
         }
     }

@@ -2,7 +2,7 @@
 ghost use Rattle.std.specs.Prelude.{◌≡◌, ℕ, ◌^◌, ◌<◌, ◌≤◌, true, false, [], ◌∷◌, ◌++◌, length, reverse, slice_get, IfSome, IfNone};
 ghost use Rattle.std.specs.Borrow.{sem};
 ghost use Rattle.std.specs.Map.{keys_of, values_of};
-ghost use Rattle.half_store.specs.Pairs.{with_pairs, set_key, set_value, swap_out};
+ghost use Rattle.half_store.specs.Pairs.{columns_with, set_key, set_value, swap_remove_at};
 ghost use Rattle.half_store.specs.Work.{compared_more, first_match_cost};
 
 mod columns;
@@ -41,7 +41,7 @@ impl<K, V> Model for VecMap<K, V> {
 }
 
 impl<K, V> VecMap<K, V> {
-    ghost use Rattle.half_store.specs.Lending.{LendsValue};
+    ghost use Rattle.half_store.specs.Lending.{ColumnsLendValue};
 
     /// No pairs, and no memory taken.
     ///
@@ -106,7 +106,7 @@ impl<K, V> VecMap<K, V> {
     #[inline(always)]
     pub fn value_at_mut(&mut self, index: usize) -> &mut V
         requires { index < length self.old.pairs }
-        ensures* writes_back { sem 𝓛 (LendsValue K.row V.row self.entry index result) }
+        ensures* writes_back { sem 𝓛 (ColumnsLendValue K.row V.row self.entry index result) }
         ensures value { slice_get (values_of self.old.pairs) index ≡ Some result.now }
     {
         &mut self.values[index]
@@ -121,7 +121,7 @@ impl<K, V> VecMap<K, V> {
     pub fn replace_value(&mut self, index: usize, value: V) -> V
         requires { index < length self.old.pairs }
         ensures old { slice_get (values_of self.old.pairs) index ≡ Some result }
-        ensures after { self.new ≡ with_pairs self.old (set_value self.old.pairs index value) }
+        ensures after { self.new ≡ columns_with self.old (set_value self.old.pairs index value) }
     {
         replace(&mut self.values[index], value)
     }
@@ -134,7 +134,7 @@ impl<K, V> VecMap<K, V> {
     #[inline(always)]
     pub fn pair_at_mut(&mut self, index: usize) -> (&K, &mut V)
         requires { index < length self.old.pairs }
-        ensures* writes_back { sem 𝓛 (LendsValue K.row V.row self.entry index result.1) }
+        ensures* writes_back { sem 𝓛 (ColumnsLendValue K.row V.row self.entry index result.1) }
         ensures pair { slice_get self.old.pairs index ≡ Some (result.0.now, result.1.now) }
     {
         (&self.keys[index], &mut self.values[index])
@@ -149,7 +149,7 @@ impl<K, V> VecMap<K, V> {
     pub fn replace_key(&mut self, index: usize, key: K) -> K
         requires { index < length self.old.pairs }
         ensures old { slice_get (keys_of self.old.pairs) index ≡ Some result }
-        ensures after { self.new ≡ with_pairs self.old (set_key self.old.pairs index key) }
+        ensures after { self.new ≡ columns_with self.old (set_key self.old.pairs index key) }
     {
         replace(&mut self.keys[index], key)
     }
@@ -163,7 +163,7 @@ impl<K, V> VecMap<K, V> {
     #[inline(always)]
     pub fn push(&mut self, key: K, value: V)
         requires { length self.old.pairs < self.old.capacity }
-        ensures { self.new ≡ with_pairs self.old (self.old.pairs ++ (key, value) ∷ []) }
+        ensures { self.new ≡ columns_with self.old (self.old.pairs ++ (key, value) ∷ []) }
     {
         self.keys.push_reserved(key);
         self.values.push_reserved(value);
@@ -178,7 +178,7 @@ impl<K, V> VecMap<K, V> {
     pub fn swap_remove(&mut self, index: usize) -> (K, V)
         requires { index < length self.old.pairs }
         ensures taken { slice_get self.old.pairs index ≡ Some result }
-        ensures after { self.new ≡ with_pairs self.old (swap_out self.old.pairs index) }
+        ensures after { self.new ≡ columns_with self.old (swap_remove_at self.old.pairs index) }
     {
         (self.keys.swap_remove(index), self.values.swap_remove(index))
     }
@@ -189,7 +189,7 @@ impl<K, V> VecMap<K, V> {
     /// ages.reverse();
     /// ```
     pub fn reverse(&mut self)
-        ensures after { self.new ≡ with_pairs self.old (reverse self.old.pairs) }
+        ensures after { self.new ≡ columns_with self.old (reverse self.old.pairs) }
         ensures small { length self.old.pairs < 2 ^ 63 }
     {
         self.keys.reverse();
@@ -205,7 +205,7 @@ impl<K, V> VecMap<K, V> {
     where
         K: Drop,
         V: Drop,
-        ensures { self.new ≡ with_pairs self.old [] }
+        ensures { self.new ≡ columns_with self.old [] }
     {
         self.keys.clear();
         self.values.clear();

@@ -8,7 +8,7 @@ use Rattle.std.specs.List.{IsDistinct}
 use Rattle.std.specs.Map.{keys_of}
 use Rattle.half_store.specs.Capacity.{capacity_of, more_buckets, buckets_for, capacity_for, grown_capacity}
 use Rattle.half_store.proofs.CapacityLemmas.{buckets_for-least}
-use Rattle.halfbrown.specs.Growth.{is_full, stays_vec, insert_needs, HasCapacityAfter, HasCapacityMade}
+use Rattle.halfbrown.specs.Growth.{is_full, is_vec_after, insert_needs, HasCapacityAfter, HasCapacityMade}
 use Rattle.halfbrown.specs.Pairs.{holds, put, take_out}
 use Rattle.halfbrown.specs.State.{State, WithPairs}
 use Rattle.halfbrown.proofs.Indices.{NonePasses, none_at, absent_of_none}
@@ -81,7 +81,7 @@ keys_of-twins [] = refl
 keys_of-twins (k ∷ ks) = ap (λ l. k ∷ l) (keys_of-twins ks)
 
 module _ (rule : Rule) (needed : ℕ) (keys : List ℕ) (k : ℕ) (old new : State ℕ ℕ Counting) (was : IsFilled rule needed keys old) (fresh : NonePasses (eqb k) keys)
-    (pairs : new.pairs ≡ put eqb old.pairs k k) (form : new.is_vec ≡ stays_vec 0 old) (grows : HasCapacityAfter 0 old (insert_needs 0 eqb old k) new) (builder : new.builder ≡ old.builder) where
+    (pairs : new.pairs ≡ put eqb old.pairs k k) (form : new.is_vec ≡ is_vec_after 0 old) (grows : HasCapacityAfter 0 old (insert_needs 0 eqb old k) new) (builder : new.builder ≡ old.builder) where
   pairs_is : new.pairs ≡ twins (keys ++ k ∷ [])
   pairs_is =
       let absent = absent_of_none (eqb k) (twins keys) (subst (NonePasses (eqb k)) (sym (keys_of-twins keys)) fresh) in
@@ -179,7 +179,7 @@ module _ (rule : Rule) (held : List (ℕ × ℕ)) (capacity : ℕ) (k : ℕ) (ol
   }
 
   -- after a new key was inserted
-  pub table_with : (v : ℕ) → holds eqb held k ≡ false → new.pairs ≡ put eqb old.pairs k v → new.is_vec ≡ stays_vec 0 old
+  pub table_with : (v : ℕ) → holds eqb held k ≡ false → new.pairs ≡ put eqb old.pairs k v → new.is_vec ≡ is_vec_after 0 old
       → HasCapacityAfter 0 old (insert_needs 0 eqb old k) new → new.builder ≡ old.builder
       → IsTable rule (put eqb held k v) (if nat_lt (length held) capacity then capacity else capacity_for (length held + 1)) new
   table_with v absent pairs form grows builder =

@@ -10,7 +10,7 @@ use Rattle.half_store.specs.Pairs.{index_of}
 use Rattle.half_store.specs.Work.{Work, first_match_cost}
 use Rattle.half_store.specs.Capacity.{capacity_for}
 use Rattle.halfbrown.specs.Costs.{SearchCosts, InsertCosts, insert_cost, Cost, GrewBy, exactly, comparisons_in_order, search_cost_of}
-use Rattle.halfbrown.specs.Growth.{is_full, stays_vec, addition_needs, insert_needs, HasCapacityAfter}
+use Rattle.halfbrown.specs.Growth.{is_full, is_vec_after, addition_needs, insert_needs, HasCapacityAfter}
 use Rattle.halfbrown.specs.Pairs.{value_of, holds, put}
 use Rattle.halfbrown.specs.State.{State, state, contents_of}
 use Rattle.halfbrown.proofs.Indices.{NonePasses, IsFirst, first_of_match, index_of-first, index_of_first, absent_of_none}
@@ -28,7 +28,7 @@ stays_by is_vec len form below = ap (λ v. v && not (v && (len == 5))) form ∙ 
 -- a new key is put last, where the limit of five allows it
 pub vector_with : (rule : Rule) (keys : List ℕ) (k : ℕ) (old new : State ℕ ℕ Counting) → IsVector rule (twins keys) old
     → NonePasses (eqb k) keys → length keys < 5
-    → new.pairs ≡ put eqb old.pairs k k → new.is_vec ≡ stays_vec 5 old → new.builder ≡ old.builder
+    → new.pairs ≡ put eqb old.pairs k k → new.is_vec ≡ is_vec_after 5 old → new.builder ≡ old.builder
     → IsVector rule (twins (keys ++ k ∷ [])) new
 vector_with rule keys k old new vector fresh below pairs form builder =
     let absent = absent_of_none (eqb k) (twins keys) (subst (NonePasses (eqb k)) (sym (keys_of-twins keys)) fresh) in
@@ -101,7 +101,7 @@ module _ (limit : ℕ) (rule : Rule) (held : List (ℕ × ℕ)) (k : ℕ) (m : S
 
   -- it is a table then, whose capacity is enough for one pair more than the limit
   pub table_of_full : (length held == limit) ≡ true → (v : ℕ) (new : State ℕ ℕ Counting) → new.pairs ≡ put eqb m.pairs k v
-      → new.is_vec ≡ stays_vec limit m → HasCapacityAfter limit m (insert_needs limit eqb m k) new → new.builder ≡ m.builder
+      → new.is_vec ≡ is_vec_after limit m → HasCapacityAfter limit m (insert_needs limit eqb m k) new → new.builder ≡ m.builder
       → IsTable rule (put eqb held k v) (capacity_for (limit + 1)) new
   table_of_full full v new pairs form grows builder =
       let is_full_now : is_full limit m ≡ true = (λ i. vector.form i && (length (vector.pairs i) == limit)) ∙ full in

@@ -4,7 +4,7 @@ ghost use Rattle.std.specs.Prelude.{◌≡◌, ◌+◌, Some, true, false, not, 
 ghost use Rattle.std.specs.Option.{option_copied};
 ghost use Rattle.std.specs.String.{string_bytes};
 ghost use Rattle.halfbrown.specs.Costs.{key_hash, SearchCosts};
-ghost use Rattle.halfbrown.specs.Growth.{insert_needs, unchecked_needs};
+ghost use Rattle.halfbrown.specs.Growth.{insert_needs, new_key_needs};
 ghost use Rattle.halfbrown.specs.Insertion.{HandsBack};
 ghost use Rattle.halfbrown.specs.Pairs.{value_of, holds, put};
 
@@ -23,7 +23,7 @@ pub fn declare<N: Eq + Hash + Drop, M, S: BuildHasher, L: Limit>(
     ensures before { IfOk result (λ old. old ≡ value_of N.eq scope.old.pairs name) }
     ensures declared { OnOk result (scope.new.pairs ≡ put N.eq scope.old.pairs name meaning) }
     ensures means { OnOk result (value_of N.eq scope.new.pairs name ≡ Some meaning) }
-    ensures err { IfErr result (HandsBack scope.old name meaning (insert_needs L.LIMIT N.eq scope.old name)
+    ensures returned { IfErr result (HandsBack scope.old name meaning (insert_needs L.LIMIT N.eq scope.old name)
         scope.new) }
 {
     scope.insert(name, meaning)
@@ -77,7 +77,7 @@ pub fn add_label<K: Eq + Hash + Drop, S: BuildHasher, L: Limit>(
     ensures others { OnOk result ((other : K) → K.eq label other ≡ false
         → holds K.eq labels.new.pairs other ≡ holds K.eq labels.old.pairs other) }
     ensures again { holds K.eq labels.old.pairs label ≡ true → labels.new ≡ labels.old }
-    ensures err { IfErr result (HandsBack labels.old label tt (unchecked_needs L.LIMIT labels.old) labels.new) }
+    ensures returned { IfErr result (HandsBack labels.old label tt (new_key_needs L.LIMIT labels.old) labels.new) }
 {
     if labels.contains_key(&label) {
         return Ok(false);

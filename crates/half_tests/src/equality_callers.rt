@@ -15,6 +15,10 @@ pub fn unchanged_since<K: Eq + Hash, V: PartialEq, S: BuildHasher, L: Limit, M: 
     ensures values { IsTrue result → (key : K) → IsTrue (same_value K.eq V.eq map.now.pairs copy.now.pairs key) }
     ensures len { IsTrue result → length map.now.pairs ≡ length copy.now.pairs }
 {
+    laws::equality::<K, V>();
+    // These tell the prover what holds of every map, and do nothing.
+    let _ = map.len();
+    let _ = copy.len();
     map.same_pairs(copy)
 }
 
@@ -25,6 +29,7 @@ pub fn same_ages<S: BuildHasher, T: BuildHasher, L: Limit, M: Limit>(
 ) -> bool
     ensures { IsTrue result → (name : _) → value_of nat_eq ours.now.pairs name ≡ value_of nat_eq theirs.now.pairs name }
 {
+    laws::equality::<u64, u32>();
     ours.same_pairs(theirs)
 }
 
@@ -52,5 +57,9 @@ pub fn is_stored<K: Eq + Hash, V: PartialEq, S: BuildHasher, L: Limit, M: Limit>
     ensures in_a_table { stored.now.is_vec ≡ false → IsTrue result
         → tally.new.asked ≡ tally.old.asked + length map.now.pairs }
 {
+    laws::cost_of_equality::<K, V, S>();
+    // These tell the prover what holds of every map, and do nothing.
+    let _ = map.len();
+    let _ = stored.len();
     map.same_pairs_counted(stored, tally)
 }

@@ -2,7 +2,7 @@
 
 ghost use Rattle.std.specs.Prelude.{◌≡◌, ◌∷◌, [], true, IfOk};
 
-use half_store::{Lookup, Refusal, Store, Tally};
+use half_store::{IntoStore, Lookup, Refusal, Store, Tally};
 use std::alloc::Global;
 use std::test::Fail;
 use test_support::asserts::{assert_same, assert_true};
@@ -99,9 +99,34 @@ fn a_vector_made_a_table(rt: HostRuntime) -> Result<(), Fail> {
     assert_true(!copy.is_vec() && copy.len() == 2, "a copy of the table")?;
     ages.shrink_to_fit(32); // a vector with capacity 2
     assert_true(ages.is_vec() && ages.capacity(32) == 2, "a vector again")?;
-    ages.reverse();
-    ages.reverse();
     let pair = ages.swap_remove(0); // 1 and 36; the pair of 2 has index 0 now
     assert_same(pair, (1, 36), "the first pair")?;
+    Ok(())
+}
+
+fn emptied<D: IntoStore<u64, u32>>(drained: D) -> Store<u64, u32> {
+    drained.into_store()
+}
+
+#[test]
+fn a_table_drained(rt: HostRuntime) -> Result<(), Fail> {
+    let mut tally = Tally::new();
+    let mut ages = two_ages(rt.alloc())?;
+    let mut index = ages.new_index(33)?;
+    index.add(7, &mut tally);
+    index.add(11, &mut tally);
+    ages.switch_to(index);
+    let mut drained = ages.drain();
+    assert_true(ages.len() == 0 && ages.capacity(32) == 0, "nothing is left")?;
+    let count = drained.len(); // 2
+    assert_same(count, 2, "the pairs that come")?;
+    let first = drained.pop_front(); // 1 and 36
+    assert_same(first, Some((1, 36)), "the first pair")?;
+    ages = drained.into_store();
+    assert_true(
+        ages.len() == 0 && ages.capacity(32) == 48,
+        "the table again",
+    )?;
+    assert_true(!emptied(ages.drain()).is_vec(), "and once more")?;
     Ok(())
 }

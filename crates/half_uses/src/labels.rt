@@ -2,7 +2,7 @@
 ghost use Rattle.std.specs.Prelude.{◌≡◌, ◌↔◌, ◌||◌, [], true, not, length, All, IsTrue, IfOk, OnOk, OnErr};
 ghost use Rattle.half_uses.specs.Labels.{has, with_label, with_labels};
 
-use halfbrown::{DefaultHashBuilder, HashMap, Refusal, Refused};
+use halfbrown::{DefaultHashBuilder, HashMap, Refusal, Refused, laws};
 use std::alloc::Global;
 use std::hash::Hash;
 use std::marker::Model;
@@ -97,6 +97,7 @@ impl<T: Eq + Hash> Labels<T> {
     pub fn is_same(&self, other: &Labels<T>) -> bool
         ensures { IsTrue result ↔ ((label : T) → has T.eq self.now label ≡ has T.eq other.now label) }
     {
+        laws::equality::<T, ()>();
         self.labels.same_pairs(&other.labels)
     }
 }

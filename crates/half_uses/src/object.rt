@@ -1,7 +1,8 @@
 //! Objects of a document: members by name, in the order of the document.
+ghost use Rattle.std.specs.Map.{lookup};
 ghost use Rattle.std.specs.Prelude.{◌≡◌, ◌↔◌, not, [], filter, length, IfOk, OnOk, OnErr, IfErr, IsTrue};
 ghost use Rattle.std.specs.Option.{option_copied};
-ghost use Rattle.halfbrown.specs.Pairs.{value_of, value_by, holds_by, put};
+ghost use Rattle.halfbrown.specs.Pairs.{value_of, holds_by, put};
 ghost use Rattle.halfbrown.specs.Equality.{same_pairs};
 ghost use Rattle.halfbrown.specs.Iter.{pairs_left};
 
@@ -57,7 +58,7 @@ impl<N: Eq + Hash, V> Object<N, V> {
 
     /// The value of a member. A text finds the member of that name, whatever texts the names are.
     pub fn get<Q: Equivalent<N>>(&self, name: Q) -> Option<&V>
-        ensures { option_copied result ≡ value_by (Q.equivalent name) self.now }
+        ensures { option_copied result ≡ lookup (Q.equivalent name) self.now }
     {
         self.members.get(name)
     }

@@ -11,11 +11,11 @@ use Rattle.std.proofs.lemmas.Map.Entries.{place_from_lookup, none_past_head, len
 use Rattle.std.proofs.lemmas.Map.Keys.{IsDistinct-IsPermutation}
 use Rattle.std.proofs.lemmas.Map.Views.{lookup-from_Contains}
 use Rattle.std.proofs.lemmas.Option.{slice_get_within, get_or_from_slice_get}
-use Rattle.half_store.specs.Pairs.{index_of, swap_out}
-use Rattle.halfbrown.specs.Pairs.{value_of, holds, put, take_out, value_by, set_by, take_out_by}
+use Rattle.half_store.specs.Pairs.{index_of, swap_remove_at}
+use Rattle.halfbrown.specs.Pairs.{value_of, holds, put, take_out, set_by, take_out_by}
 use Rattle.halfbrown.specs.Updates.{HasPut, HasRemoved, HasRemovedBy}
 use Rattle.halfbrown.proofs.Indices.{IsFirst, first_of_index, first_passes, first_within, index_found, absent_of_index}
-use Rattle.halfbrown.proofs.SwapOut.{IsPermutation-swap_out, length-swap_out}
+use Rattle.halfbrown.proofs.SwapOut.{IsPermutation-swap_remove_at, length-swap_remove_at}
 
 put_over : {V : Type 0} (b : Bool) (v w : V) (other : Option V) → cond b (Some v) other ≡ cond b (Some v) (cond b (Some w) other)
 put_over true v w other = refl
@@ -64,7 +64,7 @@ module _ {K V : Type 0} (eq : K → K → Bool) where
       → length (take_out eq ps k) + cond (holds eq ps k) 1 0 ≡ length ps
   len_taken_by ps k (Some i) is =
       let at = index_found (eq k) ps i is in
-      rw (at.held) (ap (λ l. length l + 1) at.take_is ∙ length-swap_out ps i (omega arith))
+      rw (at.held) (ap (λ l. length l + 1) at.take_is ∙ length-swap_remove_at ps i (omega arith))
   len_taken_by ps k None is =
       let absent = absent_of_index (eq k) ps is in
       let unheld : holds eq ps k ≡ false = ap is_some absent.value in
@@ -153,12 +153,12 @@ module _ {K V : Type 0} (eq : K → K → Bool) (laws : IsEquivalence eq) where
     same : eq k removed.0 ≡ true
     order : IsPermutation ps (removed ∷ left)
 
-  split_first : (ps : List (K × V)) (k : K) (i : ℕ) → IsFirst (eq k) (keys_of ps) i → IsSplit ps k (swap_out ps i)
+  split_first : (ps : List (K × V)) (k : K) (i : ℕ) → IsFirst (eq k) (keys_of ps) i → IsSplit ps k (swap_remove_at ps i)
   split_first [] k i first = absurd first
   split_first (p ∷ ps) k i first = record {
     removed = get_or (p ∷ ps) i p;
     same = ap (eq k) (sym (get_or-map (λ p. p.0) (p ∷ ps) i p)) ∙ first_passes (eq k) (keys_of (p ∷ ps)) i p.0 first;
-    order = IsPermutation-swap_out (p ∷ ps) i p (omega (arith, first_within (eq k) (keys_of (p ∷ ps)) i first, length-keys_of (p ∷ ps)));
+    order = IsPermutation-swap_remove_at (p ∷ ps) i p (omega (arith, first_within (eq k) (keys_of (p ∷ ps)) i first, length-keys_of (p ∷ ps)));
   }
 
   module _ (ps : List (K × V)) (distinct : IsDistinct eq (keys_of ps)) (k : K) where
@@ -178,7 +178,7 @@ module _ {K V : Type 0} (eq : K → K → Bool) (laws : IsEquivalence eq) where
     taken_by : (index : Option ℕ) → index ≡ index_of (eq k) (keys_of ps) → (q : K) → value_of eq (take_out eq ps k) q ≡ cond (eq k q) None (value_of eq ps q)
     taken_by (Some i) is q =
         let left = split_first ps k i (first_of_index (eq k) (keys_of ps) i (sym is)) in
-        ap (λ l. value_of eq l q) (index_found (eq k) ps i is).take_is ∙ split_by (swap_out ps i) left q (eq k q) refl
+        ap (λ l. value_of eq l q) (index_found (eq k) ps i is).take_is ∙ split_by (swap_remove_at ps i) left q (eq k q) refl
     taken_by None is q =
         let absent = absent_of_index (eq k) ps is in
         ap (λ l. value_of eq l q) absent.take_is ∙ absent_by absent.value q (eq k q) refl
@@ -225,7 +225,7 @@ module _ {K V : Type 0} (eq : K → K → Bool) (laws : IsEquivalence eq) where
         subst (HasRemovedBy eq test ps) (sym absent.take_is) (record {
           not_held = absent.held;
           no_value = absent.value;
-          equals = λ q passes. ap (λ t. value_by t ps) (sym (test_is q passes)) ∙ absent.value;
+          equals = λ q passes. ap (λ t. lookup t ps) (sym (test_is q passes)) ∙ absent.value;
           others = λ q fails. refl;
           len = ap (λ b. cond b (length ps + 1) (length ps)) (sym absent.held);
         })

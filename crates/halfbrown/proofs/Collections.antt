@@ -7,7 +7,7 @@ use Rattle.std.specs.Vec.Iter.{into_iter_items, into_iter_steps}
 use Rattle.std.specs.declared.vec.IntoIter.{IntoIter}
 use Rattle.half_store.specs.Work.{Work}
 use Rattle.half_store.specs.declared.refusal.Refusal.{Refusal}
-use Rattle.halfbrown.specs.Collection.{put_all, Inserts, IsMade, IsCollection, IsRefusedInsertion, IsRefusedCollection}
+use Rattle.halfbrown.specs.Collection.{put_all, InsertsAll, IsMade, IsCollection, IsRefusedInsertion, IsRefusedCollection}
 use Rattle.halfbrown.specs.Costs.{Cost, GrewBy, no_cost, add_costs, insert_cost}
 use Rattle.halfbrown.specs.Growth.{is_full, insert_needs, IsRefusal}
 use Rattle.halfbrown.specs.Insertion.{Puts}
@@ -33,9 +33,9 @@ yields_front steps s (z ∷ xs) x u y = let front = yields_front steps y.0 xs x 
 
 module _ {K V S : Type 0} (limit : ℕ) (eq : K → K → Bool) (hash : S → K → ℕ) where
   -- one item more
-  pub inserts_more : (old middle new : State K V S) (items : List (K × V)) (k : K) (v : V) (cost : Cost) → Inserts limit eq hash old items middle cost
+  pub inserts_more : (old middle new : State K V S) (items : List (K × V)) (k : K) (v : V) (cost : Cost) → InsertsAll limit eq hash old items middle cost
       → Puts limit eq middle k v (insert_needs limit eq middle k) new → IsState eq limit new
-      → Inserts limit eq hash old (items ++ (k, v) ∷ []) new (add_costs cost (insert_cost limit eq hash middle k true))
+      → InsertsAll limit eq hash old (items ++ (k, v) ∷ []) new (add_costs cost (insert_cost limit eq hash middle k true))
   inserts_more old middle new [] k v cost so_far puts state =
       let last = insert_cost limit eq hash old k true in (
         new,
@@ -60,7 +60,7 @@ module _ {K V S : Type 0} (limit : ℕ) (eq : K → K → Bool) (hash : S → K 
   -- what was inserted so far
   pub record InsertsSoFar (old : State K V S) (items : List (K × V)) (now : State K V S) (before after : Work) : Type 0 where
     pub cost : Cost
-    pub inserted : Inserts limit eq hash old items now cost
+    pub inserted : InsertsAll limit eq hash old items now cost
     pub spent : GrewBy cost before after
 
   pub no_item : (old : State K V S) (before : Work) → InsertsSoFar old [] old before before
@@ -88,7 +88,7 @@ module _ {K V S : Type 0} (limit : ℕ) (eq : K → K → Bool) (hash : S → K 
           value = v;
           were_given = was_given;
           spent = so_far.cost;
-          inserted = subst (λ m. Inserts limit eq hash old items m so_far.cost) (sym same) so_far.inserted;
+          inserted = subst (λ m. InsertsAll limit eq hash old items m so_far.cost) (sym same) so_far.inserted;
           refused = subst (λ m. IsRefusal (insert_needs limit eq m k) why) (sym same) refused;
           cost_is = ap (λ m. add_costs so_far.cost (insert_cost limit eq hash m k false)) (sym same);
         },
@@ -97,20 +97,20 @@ module _ {K V S : Type 0} (limit : ℕ) (eq : K → K → Bool) (hash : S → K 
 
   -- ---- what follows of the insertions
 
-  pub inserts_pairs : (old new : State K V S) (items : List (K × V)) (cost : Cost) → Inserts limit eq hash old items new cost → new.pairs ≡ put_all eq old.pairs items
+  pub inserts_pairs : (old new : State K V S) (items : List (K × V)) (cost : Cost) → InsertsAll limit eq hash old items new cost → new.pairs ≡ put_all eq old.pairs items
   inserts_pairs old new [] cost inserts = ap (λ m. m.pairs) inserts.0
   inserts_pairs old new (p ∷ items) cost inserts = inserts_pairs inserts.0 new items inserts.1 inserts.4 ∙ ap (λ ps. put_all eq ps items) inserts.2.pairs
 
-  pub inserts_builder : (old new : State K V S) (items : List (K × V)) (cost : Cost) → Inserts limit eq hash old items new cost → new.builder ≡ old.builder
+  pub inserts_builder : (old new : State K V S) (items : List (K × V)) (cost : Cost) → InsertsAll limit eq hash old items new cost → new.builder ≡ old.builder
   inserts_builder old new [] cost inserts = ap (λ m. m.builder) inserts.0
   inserts_builder old new (p ∷ items) cost inserts = inserts_builder inserts.0 new items inserts.1 inserts.4 ∙ inserts.2.builder
 
-  pub inserts_state : (old new : State K V S) (items : List (K × V)) (cost : Cost) → Inserts limit eq hash old items new cost → IsState eq limit old → IsState eq limit new
+  pub inserts_state : (old new : State K V S) (items : List (K × V)) (cost : Cost) → InsertsAll limit eq hash old items new cost → IsState eq limit old → IsState eq limit new
   inserts_state old new [] cost inserts state = subst (IsState eq limit) (sym inserts.0) state
   inserts_state old new (p ∷ items) cost inserts state = inserts_state inserts.0 new items inserts.1 inserts.4 inserts.3
 
   -- insertions that leave a vector have hashed nothing
-  pub inserts_asked : (old new : State K V S) (items : List (K × V)) (cost : Cost) → Inserts limit eq hash old items new cost → new.is_vec ≡ true → (old.is_vec ≡ true) × (cost.asked ≡ 0)
+  pub inserts_asked : (old new : State K V S) (items : List (K × V)) (cost : Cost) → InsertsAll limit eq hash old items new cost → new.is_vec ≡ true → (old.is_vec ≡ true) × (cost.asked ≡ 0)
   inserts_asked old new [] cost inserts form = (sym (ap (λ m. m.is_vec) inserts.0) ∙ form, ap (λ c. c.asked) inserts.1)
   inserts_asked old new (p ∷ items) cost inserts form =
       let rest = inserts_asked inserts.0 new items inserts.1 inserts.4 form in
@@ -121,7 +121,7 @@ module _ {K V S : Type 0} (limit : ℕ) (eq : K → K → Bool) (hash : S → K 
   -- ---- collections
 
   module _ (laws : IsEquivalence eq) (is_default : S → Type 0) (needed : ℕ) where
-    pub collection_of : (made new : State K V S) (items : List (K × V)) (cost : Cost) → IsMade limit eq hash is_default needed made → Inserts limit eq hash made items new cost
+    pub collection_of : (made new : State K V S) (items : List (K × V)) (cost : Cost) → IsMade limit eq hash is_default needed made → InsertsAll limit eq hash made items new cost
         → IsCollection limit eq hash is_default needed items new cost
     collection_of made new items cost is_made inserts =
         let pairs = inserts_pairs made new items cost inserts ∙ ap (λ ps. put_all eq ps items) is_made.pairs in

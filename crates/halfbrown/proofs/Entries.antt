@@ -1,5 +1,6 @@
 -- What an entry of a key is, and what is written and removed through it.
-use Rattle.std.proofs.Common.{◌≡◌, ℕ, zero, suc, ◌<◌, Bool, List, [], ◌∷◌, ◌++◌, length, slice_get, Some, refl, sym, ap, subst, ◌∙◌, true≢false}
+use Rattle.std.proofs.Common.{◌≡◌, ℕ, zero, suc, ◌<◌, Bool, List, [], ◌∷◌, ◌++◌, length, slice_get, Some, refl, sym, ap, subst, ◌∙◌, true≢false, arith}
+use Rattle.std.specs.Borrow.{MutBor}
 use Rattle.std.specs.Coded.{le_prop}
 use Rattle.std.specs.Cmp.{IsEquivalence}
 use Rattle.std.specs.List.{IsDistinct}
@@ -9,24 +10,26 @@ use Rattle.std.specs.declared.cmp.PartialEq as eq
 use Rattle.std.specs.declared.hash.Hash as hash
 use Rattle.std.specs.declared.hash.Hasher as hasher
 use Rattle.std.specs.declared.hash.BuildHasher as builder
-use Rattle.half_store.specs.Pairs.{set_value, swap_out}
+use Rattle.half_store.specs.Pairs.{set_value, swap_remove_at}
 use Rattle.half_store.specs.Store.{filled}
 use Rattle.half_store.specs.Table.{Contents}
 use Rattle.halfbrown.specs.declared.entry.LimitedOccupiedEntry.{LimitedOccupiedEntry}
 use Rattle.halfbrown.specs.declared.entry.LimitedVacantEntry.{LimitedVacantEntry}
 use Rattle.halfbrown.specs.declared.limit.Limit as limits
-use Rattle.halfbrown.specs.Entry.{Occupied, Vacant, with_value, IsEntryOf, WritesPut, RemovesKey, IsWritten}
+use Rattle.halfbrown.specs.Entry.{Occupied, Vacant, with_value, pairs_with_key, IsEntryOf, PutsThroughEntry, RemovesKey, IsWritten, HasNewKey}
 use Rattle.halfbrown.specs.EntryLending.{with_entry_value}
 use Rattle.halfbrown.specs.Growth.{insert_needs}
 use Rattle.halfbrown.specs.Insertion.{Puts}
 use Rattle.halfbrown.specs.Lookup.{IsIndexOf, IsAbsent}
 use Rattle.halfbrown.specs.Pairs.{put, take_out}
 use Rattle.halfbrown.specs.Preparation.{Prepares, pushed}
-use Rattle.halfbrown.specs.State.{State, state, contents_of, with_pairs}
+use Rattle.halfbrown.specs.State.{State, state, contents_of, with_pairs, WithPairs}
 use Rattle.halfbrown.specs.Updates.{HasPut, HasRemoved}
 use Rattle.halfbrown.proofs.CallerLemmas.{has_put, has_removed}
+use Rattle.half_store.proofs.Stores.{length-set_key}
 use Rattle.halfbrown.proofs.Kept.{keys_of-set_value}
-use Rattle.halfbrown.proofs.Written.{set_value-twice, value-set_value, swap_out-set_value}
+use Rattle.halfbrown.proofs.Rekeyed.{values_of-set_key, key-set_key, swap_remove_at-set_key}
+use Rattle.halfbrown.proofs.Written.{set_value-twice, value-set_value, swap_remove_at-set_value}
 
 module _ {K V : Type 0} where
   -- the pair that was just appended
@@ -86,7 +89,7 @@ module _ {K V S L H : Type 0} {e : eq.Ghosts K} {h : hash.Ghosts K} {b : builder
       new_key = λ vacant. absurd (true≢false vacant);
     })
 
-    pub found_writes : WritesPut limit same old k (Occupied o)
+    pub found_writes : PutsThroughEntry limit same old k (Occupied o)
     unfolding with_value
     found_writes = record {
       puts = λ v. puts_at limit same laws old o.map.now k prepared (set_value o.map.now.pairs o.index v) (contents_of o.map.now) v (at.put_is k v);
@@ -95,8 +98,8 @@ module _ {K V S L H : Type 0} {e : eq.Ghosts K} {h : hash.Ghosts K} {b : builder
 
     pub found_removes : IsDistinct same (keys_of o.map.now.pairs) → RemovesKey same old.pairs k (Occupied o)
     found_removes distinct = record {
-      pairs_left = sym (taken_is limit same laws old o.map.now k prepared (swap_out o.map.now.pairs o.index) at.take_is);
-      removed = has_removed_at limit same laws old o.map.now k prepared (swap_out o.map.now.pairs o.index) distinct at.take_is;
+      pairs_left = sym (taken_is limit same laws old o.map.now k prepared (swap_remove_at o.map.now.pairs o.index) at.take_is);
+      removed = has_removed_at limit same laws old o.map.now k prepared (swap_remove_at o.map.now.pairs o.index) distinct at.take_is;
     }
 
   -- of a key that is not held
@@ -110,7 +113,7 @@ module _ {K V S L H : Type 0} {e : eq.Ghosts K} {h : hash.Ghosts K} {b : builder
       new_key = λ vacant. refl;
     })
 
-    pub missing_writes : WritesPut limit same old v.key (Vacant v)
+    pub missing_writes : PutsThroughEntry limit same old v.key (Vacant v)
     unfolding with_value
     missing_writes = record {
       puts = λ value. puts_at limit same laws old v.map.now v.key prepared (v.map.now.pairs ++ (v.key, value) ∷ []) (filled v.map.now.is_vec (contents_of v.map.now) v.vacancy) value (absent.put_is v.key value);
@@ -139,15 +142,36 @@ module _ {K V S L H : Type 0} {e : eq.Ghosts K} {h : hash.Ghosts K} {b : builder
   unfolding with_value
   lent_within value = (with_entry_value o value).within
 
-  pub written_entry : (value : V) → IsWritten (Occupied o) value (Occupied (with_entry_value o value))
+  -- the entry where its map has this value, however it was shown that its index is within
+  pub written_as : (value left : V) (within : o.index < length (with_value (Occupied o) left).pairs) → left ≡ value
+      → IsWritten (Occupied o) value (Occupied (record { map = record o.map { now = with_value (Occupied o) left }; index = o.index; within = within }))
   unfolding with_value
-  written_entry value = record {
+  written_as value left within is = record {
     same_map = refl;
-    map = refl;
-    value_is = value-set_value o.map.now.pairs o.index value o.within;
-    key = ap (λ ks. slice_get ks o.index) (keys_of-set_value o.map.now.pairs o.index value);
-    writes = λ v. ap (with_pairs o.map.now) (set_value-twice o.map.now.pairs o.index value v);
-    pairs_left = swap_out-set_value o.map.now.pairs o.index value;
+    map = ap (λ v. with_pairs o.map.now (set_value o.map.now.pairs o.index v)) is;
+    value_is = value-set_value o.map.now.pairs o.index left o.within ∙ ap Some is;
+    key = ap (λ ks. slice_get ks o.index) (keys_of-set_value o.map.now.pairs o.index left);
+    writes = λ v. ap (with_pairs o.map.now) (set_value-twice o.map.now.pairs o.index left v);
+    pairs_left = swap_remove_at-set_value o.map.now.pairs o.index left;
+  }
+
+  -- the entry with this value is the same one, written
+  pub written_entry : (value : V) → IsWritten (Occupied o) value (Occupied (with_entry_value o value))
+  written_entry value = written_as value value (with_entry_value o value).within refl
+
+  -- the index is within where the map has the pairs with another key
+  pub rekeyed_within : (key : K) (m : State K V S) → WithPairs o.map.now (pairs_with_key o key) m → o.index < length m.pairs
+  rekeyed_within key m after = omega (arith, ap length after.pairs, length-set_key o.map.now.pairs o.index key, o.within)
+
+  -- the entry where its map has the pairs with another key
+  pub rekeyed_entry : (key : K) (map : MutBor (State K V S)) (within : o.index < length map.now.pairs) → map.ghost_name ≡ o.map.ghost_name → WithPairs o.map.now (pairs_with_key o key) map.now
+      → HasNewKey o key (record { map = map; index = o.index; within = within })
+  rekeyed_entry key map within same after = record {
+    same_map = same;
+    map = after;
+    key_is = ap (λ ps. slice_get (keys_of ps) o.index) after.pairs ∙ key-set_key o.map.now.pairs o.index key o.within;
+    value = ap (λ ps. slice_get (values_of ps) o.index) after.pairs ∙ ap (λ vs. slice_get vs o.index) (values_of-set_key o.map.now.pairs o.index key);
+    pairs_left = ap (λ ps. swap_remove_at ps o.index) after.pairs ∙ swap_remove_at-set_key o.map.now.pairs o.index key;
   }
 
 module _ {K V S L H : Type 0} {e : eq.Ghosts K} {h : hash.Ghosts K} {b : builder.Ghosts S H} {w : hasher.Ghosts H} {l : limits.Ghosts L} (v : LimitedVacantEntry K V S L H e h b w l) where

@@ -1,5 +1,5 @@
 -- What an entry is after its value was handed to a closure.
-use Rattle.std.proofs.Common.{◌≡◌, ℕ, zero, suc, ◌-◌, ◌<◌, true, false, List, [], ◌∷◌, ◌++◌, length, take, set, slice_get, Option, None, Some, MatchOption, if◌then◌else◌, refl, sym, ap, subst, ◌∙◌, arith}
+use Rattle.std.proofs.Common.{◌≡◌, ℕ, zero, suc, ◌-◌, ◌<◌, Bool, true, false, List, [], ◌∷◌, ◌++◌, length, take, set, slice_get, Option, None, Some, MatchOption, if◌then◌else◌, refl, sym, ap, subst, ◌∙◌, arith}
 use Rattle.std.proofs.Math.ListN.{length-append}
 use Rattle.std.proofs.lemmas.List.{take-set-le}
 use Rattle.std.proofs.lemmas.Option.{same_Some}
@@ -10,17 +10,17 @@ use Rattle.std.specs.declared.cmp.PartialEq as eq
 use Rattle.std.specs.declared.hash.Hash as hash
 use Rattle.std.specs.declared.hash.Hasher as hasher
 use Rattle.std.specs.declared.hash.BuildHasher as builder
-use Rattle.half_store.specs.Pairs.{set_value, swap_out}
+use Rattle.half_store.specs.Pairs.{set_value, swap_remove_at}
 use Rattle.half_store.specs.Replaced.{Replaces}
 use Rattle.halfbrown.specs.declared.entry.LimitedOccupiedEntry.{LimitedOccupiedEntry}
 use Rattle.halfbrown.specs.declared.entry.LimitedVacantEntry.{LimitedVacantEntry}
 use Rattle.halfbrown.specs.declared.limit.Limit as limits
 use Rattle.halfbrown.specs.Entry.{Occupied, Vacant, with_value}
-use Rattle.halfbrown.specs.Replacement.{ReplacesEntry, KeepsPair, LosesPair}
+use Rattle.halfbrown.specs.Replacement.{ReplacesEntry, KeepsPair, LosesPair, MovesLast}
 use Rattle.halfbrown.specs.State.{State, WithPairs}
 use Rattle.halfbrown.proofs.Entries.{key_of-pair, set_value-last, value-last}
 use Rattle.half_store.proofs.Stores.{length-set_value, kept_value, lost_pair}
-use Rattle.halfbrown.proofs.Written.{set_value-twice, value-set_value, swap_out-set_value}
+use Rattle.halfbrown.proofs.Written.{set_value-twice, value-set_value, swap_remove_at-set_value}
 
 take-front : {X : Type 0} (xs ys : List X) → take (length xs) (xs ++ ys) ≡ xs
 take-front [] ys = refl
@@ -30,9 +30,9 @@ front_of : {X : Type 0} (xs : List X) (x y : X) (n : ℕ) → n ≡ length xs �
 front_of xs x y n is = take-set-le n (xs ++ x ∷ []) (length xs) y (omega arith) ∙ ap (λ m. take m (xs ++ x ∷ [])) is ∙ take-front xs (x ∷ [])
 
 -- the last element that is taken out leaves the others as they are
-pub swap_out-last : {X : Type 0} (xs : List X) (x : X) → swap_out (xs ++ x ∷ []) (length xs) ≡ xs
-swap_out-last [] x = front_of [] x x (length (x ∷ []) - 1) (omega arith)
-swap_out-last (y ∷ ys) x = front_of (y ∷ ys) x _ (length (y ∷ ys ++ x ∷ []) - 1) (omega (arith, length-append ys (x ∷ [])))
+pub swap_remove_at-last : {X : Type 0} (xs : List X) (x : X) → swap_remove_at (xs ++ x ∷ []) (length xs) ≡ xs
+swap_remove_at-last [] x = front_of [] x x (length (x ∷ []) - 1) (omega arith)
+swap_remove_at-last (y ∷ ys) x = front_of (y ∷ ys) x _ (length (y ∷ ys ++ x ∷ []) - 1) (omega (arith, length-append ys (x ∷ [])))
 
 module _ {K V : Type 0} where
   pair-set_value : (ps : List (K × V)) (i : ℕ) (k : K) (u v : V) → slice_get ps i ≡ Some (k, u) → slice_get (set_value ps i v) i ≡ Some (k, v)
@@ -73,7 +73,7 @@ module _ {K V S L H : Type 0} {e : eq.Ghosts K} {h : hash.Ghosts K} {b : builder
 
     module _ (after : WithPairs o.map.now n.pairs n) where
       -- in a table the pair keeps its index
-      pub keeps_in_table : (map : MutBor (State K V S)) (same : map.now ≡ n) (within : o.index < length map.now.pairs) → n.is_vec ≡ false
+      keeps_in_table : (map : MutBor (State K V S)) (same : map.now ≡ n) (within : o.index < length map.now.pairs) → n.is_vec ≡ false
           → ReplacesEntry returns (Occupied o) (Occupied (record { map = map; index = o.index; within = within }))
       unfolding with_value
       keeps_in_table map same within table =
@@ -88,18 +88,18 @@ module _ {K V S L H : Type 0} {e : eq.Ghosts K} {h : hash.Ghosts K} {b : builder
             key_is = key_of-pair map.now.pairs o.index ∙ ap (option_map (λ (p : K × V). p.0)) pair_is;
             value_is = ap (λ qs. slice_get (values_of qs) o.index) now ∙ value-set_value ps o.index v o.within;
             map = record {
-              pairs = now ∙ ap (λ b. if b then swap_out ps o.index ++ (r.key, v) ∷ [] else set_value ps o.index v) (sym form);
+              pairs = now ∙ ap (λ b. if b then swap_remove_at ps o.index ++ (r.key, v) ∷ [] else set_value ps o.index v) (sym form);
               form = ap (λ m. m.is_vec) same ∙ after.form;
               capacity = ap (λ m. m.capacity) same ∙ after.capacity;
               builder = ap (λ m. m.builder) same ∙ after.builder;
             };
             writes = λ u. record {
-              pairs = ap (λ qs. set_value qs o.index u) now ∙ set_value-twice ps o.index v u ∙ ap (λ b. if b then swap_out ps o.index ++ (r.key, u) ∷ [] else set_value ps o.index u) (sym form);
+              pairs = ap (λ qs. set_value qs o.index u) now ∙ set_value-twice ps o.index v u ∙ ap (λ b. if b then swap_remove_at ps o.index ++ (r.key, u) ∷ [] else set_value ps o.index u) (sym form);
               form = ap (λ m. m.is_vec) same ∙ after.form;
               capacity = ap (λ m. m.capacity) same ∙ after.capacity;
               builder = ap (λ m. m.builder) same ∙ after.builder;
             };
-            pairs_left = ap (λ qs. swap_out qs o.index) now ∙ swap_out-set_value ps o.index v;
+            pairs_left = ap (λ qs. swap_remove_at qs o.index) now ∙ swap_remove_at-set_value ps o.index v;
           } in
           record {
             key = r.key;
@@ -111,18 +111,15 @@ module _ {K V S L H : Type 0} {e : eq.Ghosts K} {h : hash.Ghosts K} {b : builder
           }
 
       -- in a vector the pair goes last
-      module _ (map : MutBor (State K V S)) (pair : K × V) (at : slice_get n.pairs o.index ≡ Some pair) (moved : WithPairs n (swap_out n.pairs o.index ++ pair ∷ []) map.now) (index : ℕ) (last : index ≡ length (swap_out n.pairs o.index)) where
-        pub moved_within : index < length map.now.pairs
-        moved_within = omega (arith, ap length moved.pairs, length-append (swap_out n.pairs o.index) (pair ∷ []))
-
-        pub keeps_in_vector : (within : index < length map.now.pairs) → n.is_vec ≡ true → ReplacesEntry returns (Occupied o) (Occupied (record { map = map; index = index; within = within }))
+      module _ (map : MutBor (State K V S)) (pair : K × V) (at : slice_get n.pairs o.index ≡ Some pair) (moved : WithPairs n (swap_remove_at n.pairs o.index ++ pair ∷ []) map.now) (index : ℕ) (last : index ≡ length (swap_remove_at n.pairs o.index)) where
+        keeps_in_vector : (within : index < length map.now.pairs) → n.is_vec ≡ true → ReplacesEntry returns (Occupied o) (Occupied (record { map = map; index = index; within = within }))
         unfolding with_value
         keeps_in_vector within vector =
             let kept = kept_value r in
             let ps = o.map.now.pairs in
             let v = kept.0 in
-            let front = swap_out ps o.index in
-            let left : swap_out n.pairs o.index ≡ front = ap (λ qs. swap_out qs o.index) kept.2 ∙ swap_out-set_value ps o.index v in
+            let front = swap_remove_at ps o.index in
+            let left : swap_remove_at n.pairs o.index ≡ front = ap (λ qs. swap_remove_at qs o.index) kept.2 ∙ swap_remove_at-set_value ps o.index v in
             let pair_is : pair ≡ (r.key, v) = same_Some pair (r.key, v) (sym at ∙ ap (λ qs. slice_get qs o.index) kept.2 ∙ pair-set_value ps o.index r.key r.value v r.pair) in
             let now : map.now.pairs ≡ front ++ (r.key, v) ∷ [] = moved.pairs ∙ (λ j. left j ++ pair_is j ∷ []) in
             let end : index ≡ length front = last ∙ ap length left in
@@ -144,7 +141,7 @@ module _ {K V S L H : Type 0} {e : eq.Ghosts K} {h : hash.Ghosts K} {b : builder
                 capacity = moved.capacity ∙ after.capacity;
                 builder = moved.builder ∙ after.builder;
               };
-              pairs_left = (λ j. swap_out (now j) (end j)) ∙ swap_out-last front (r.key, v);
+              pairs_left = (λ j. swap_remove_at (now j) (end j)) ∙ swap_remove_at-last front (r.key, v);
             } in
             record {
               key = r.key;
@@ -154,3 +151,25 @@ module _ {K V S L H : Type 0} {e : eq.Ghosts K} {h : hash.Ghosts K} {b : builder
               answered = r.answered;
               after = subst (λ answer. MatchOption answer (LosesPair (Occupied o) r.key (Occupied (record { map = map; index = index; within = within }))) (λ value. KeepsPair (Occupied o) r.key value (Occupied (record { map = map; index = index; within = within })))) (sym kept.1) keep;
             }
+
+      -- whatever the form, where the pair has settled at this index
+      module _ (m : State K V S) (index : ℕ) (vector : n.is_vec ≡ true → MovesLast n o.index index m) (table : n.is_vec ≡ false → (m ≡ n) × (index ≡ o.index)) where
+        within_by : (is_vec : Bool) → n.is_vec ≡ is_vec → index < length m.pairs
+        within_by true form =
+            let moves = vector form in
+            omega (arith, ap length moves.moved.2.pairs, length-append (swap_remove_at n.pairs o.index) (moves.moved.0 ∷ []), moves.last_is)
+        within_by false form = let stays = table form in omega (arith, still_within, ap (λ (old : State K V S). length old.pairs) stays.0, stays.1)
+
+        pub settled_within : index < length m.pairs
+        settled_within = within_by n.is_vec refl
+
+      module _ (map : MutBor (State K V S)) (index : ℕ) (vector : n.is_vec ≡ true → MovesLast n o.index index map.now) (table : n.is_vec ≡ false → (map.now ≡ n) × (index ≡ o.index)) where
+        keeps_by : (is_vec : Bool) → n.is_vec ≡ is_vec → (within : index < length map.now.pairs) → ReplacesEntry returns (Occupied o) (Occupied (record { map = map; index = index; within = within }))
+        keeps_by true form within = let moves = vector form in keeps_in_vector map moves.moved.0 moves.moved.1 moves.moved.2 index moves.last_is within form
+        keeps_by false form within =
+            let stays = table form in
+            subst (λ i. (inside : i < length map.now.pairs) → ReplacesEntry returns (Occupied o) (Occupied (record { map = map; index = i; within = inside }))) (sym stays.1)
+            (λ inside. keeps_in_table map stays.0 inside form) within
+
+        pub keeps : (within : index < length map.now.pairs) → ReplacesEntry returns (Occupied o) (Occupied (record { map = map; index = index; within = within }))
+        keeps within = keeps_by n.is_vec refl within

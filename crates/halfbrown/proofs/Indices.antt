@@ -7,7 +7,7 @@ use Rattle.std.proofs.Math.ListN.{length-map, get_or-map}
 use Rattle.std.proofs.lemmas.Option.{slice_get-get_or}
 use Rattle.std.proofs.lemmas.Map.Entries.{length-keys_of}
 use Rattle.std.proofs.lemmas.Map.Keys.{apart_from_distinct}
-use Rattle.half_store.specs.Pairs.{index_of, set_value, swap_out}
+use Rattle.half_store.specs.Pairs.{index_of, set_value, swap_remove_at}
 use Rattle.halfbrown.specs.Pairs.{holds_by, set_by}
 use Rattle.halfbrown.specs.Lookup.{IsIndexOf, IsAbsent}
 
@@ -98,15 +98,15 @@ module _ {K : Type 0} (test : K → Bool) where
     lookup_none [] n = refl
     lookup_none (p ∷ ps) n = ap (λ b. cond b (Some p.1) (lookup test ps)) n.0 ∙ lookup_none ps n.1
 
-    value_by : (p : K × V) (ps : List (K × V)) (b : Bool) → option_map (λ q. q.1) (lookup_entry test ps) ≡ lookup test ps
+    value_behind : (p : K × V) (ps : List (K × V)) (b : Bool) → option_map (λ q. q.1) (lookup_entry test ps) ≡ lookup test ps
         → option_map (λ q. q.1) (cond b (Some p) (lookup_entry test ps)) ≡ cond b (Some p.1) (lookup test ps)
-    value_by p ps true more = refl
-    value_by p ps false more = more
+    value_behind p ps true more = refl
+    value_behind p ps false more = more
 
     -- the value of the first pair that passes
     pub value_of_entry : (ps : List (K × V)) → option_map (λ q. q.1) (lookup_entry test ps) ≡ lookup test ps
     value_of_entry [] = refl
-    value_of_entry (p ∷ ps) = value_by p ps (test p.0) (value_of_entry ps)
+    value_of_entry (p ∷ ps) = value_behind p ps (test p.0) (value_of_entry ps)
 
     entry_none : (ps : List (K × V)) → NonePasses (keys_of ps) → lookup_entry test ps ≡ None
     entry_none [] n = refl
@@ -127,7 +127,7 @@ module _ {K V : Type 0} (test : K → Bool) where
     pair = entry_first test ps i f;
     set_is = λ v. set_first ps i v f;
     put_is = λ k v. ap (λ b. cond b (set_by test ps v) (ps ++ (k, v) ∷ [])) (held_first test ps i f) ∙ set_first ps i v f;
-    take_is = ap (λ n. option_map_or (swap_out ps) n ps) (index_of-first test (keys_of ps) i f);
+    take_is = ap (λ n. option_map_or (swap_remove_at ps) n ps) (index_of-first test (keys_of ps) i f);
   }
 
   pub absent_of_none : (ps : List (K × V)) → NonePasses test (keys_of ps) → IsAbsent test ps
@@ -137,7 +137,7 @@ module _ {K V : Type 0} (test : K → Bool) where
     value = lookup_none test ps n;
     pair = entry_none test ps n;
     put_is = λ k v. ap (λ m. cond (is_some m) (set_by test ps v) (ps ++ (k, v) ∷ [])) (lookup_none test ps n);
-    take_is = ap (λ m. option_map_or (swap_out ps) m ps) (index_of-none test (keys_of ps) n);
+    take_is = ap (λ m. option_map_or (swap_remove_at ps) m ps) (index_of-none test (keys_of ps) n);
   }
 
   unheld_by : (p : K × V) (ps : List (K × V)) (b : Bool) → test p.0 ≡ b → (is_some (lookup test ps) ≡ false → NonePasses test (keys_of ps))

@@ -1,5 +1,5 @@
 -- What the fields of a map keep, from call to call.
-use Rattle.std.proofs.Common.{◌≡◌, ℕ, zero, suc, ◌<◌, ◌≤◌, Bool, true, false, List, [], ◌∷◌, ◌++◌, length, slice_get, Some, map, min, sym, refl, ap, subst, ◌∙◌, arith, true≢false, if◌then◌else◌}
+use Rattle.std.proofs.Common.{◌≡◌, ◌≢◌, ℕ, zero, suc, ◌<◌, ◌≤◌, Bool, true, false, List, [], ◌∷◌, ◌++◌, length, slice_get, Some, map, sym, refl, ap, subst, ◌∙◌, arith, true≢false, if◌then◌else◌}
 use Rattle.std.proofs.lemmas.List.{map-append}
 use Rattle.std.proofs.Math.ListN.{length-append}
 use Rattle.std.specs.Cmp.{IsEquivalence}
@@ -8,7 +8,7 @@ use Rattle.std.specs.Map.{keys_of}
 use Rattle.std.proofs.lemmas.Map.Entries.{length-keys_of}
 use Rattle.std.proofs.lemmas.Map.Keys.{IsDistinct-push}
 use Rattle.half_store.proofs.Stores.{length-set_key}
-use Rattle.half_store.specs.Pairs.{set_key, set_value, swap_out}
+use Rattle.half_store.specs.Pairs.{set_key, set_value, swap_remove_at}
 use Rattle.half_store.specs.Store as store
 use Rattle.half_store.specs.Store.{StoreState, KeepsForm, allowed}
 use Rattle.half_store.specs.declared.store.lookup.Vacancy.{Vacancy}
@@ -16,7 +16,7 @@ use Rattle.halfbrown.specs.Layout.{IsKept, state_in}
 use Rattle.halfbrown.specs.Lookup.{IsAbsent}
 use Rattle.halfbrown.specs.State.{IsState, IsTableCapacity}
 use Rattle.halfbrown.proofs.Rekeyed.{keys_of-set_key, map-set_alike, IsDistinct-set}
-use Rattle.halfbrown.proofs.SwapOut.{map-swap_out, length-swap_out, IsDistinct-swap_out}
+use Rattle.halfbrown.proofs.SwapOut.{map-swap_remove_at, length-swap_remove_at, IsDistinct-swap_remove_at}
 use Rattle.halfbrown.proofs.Indices.{none_of_index, any_of_none}
 
 within_limit : (limit : ℕ) (is_vec : Bool) (capacity : ℕ) → is_vec ≡ true → allowed limit is_vec capacity ≤ limit
@@ -77,12 +77,12 @@ module _ {K V : Type 0} where
 
     -- a pair is gone, the last one at its index
     pub kept_taken : IsEquivalence eq → (old new : StoreState K V) (i : ℕ) → IsKept eq hash limit old → KeepsForm old new → i < length old.pairs
-        → new.pairs ≡ swap_out old.pairs i → (old.is_vec ≡ false → new.hashes ≡ swap_out old.hashes i) → IsKept eq hash limit new
+        → new.pairs ≡ swap_remove_at old.pairs i → (old.is_vec ≡ false → new.hashes ≡ swap_remove_at old.hashes i) → IsKept eq hash limit new
     kept_taken laws old new i kept keeps within pairs hashes =
-        let keys : keys_of new.pairs ≡ swap_out (keys_of old.pairs) i = ap keys_of pairs ∙ map-swap_out (λ p. p.0) old.pairs i in
-        kept_as old new kept keeps (subst (IsDistinct eq) (sym keys) (IsDistinct-swap_out eq laws (keys_of old.pairs) i (omega (arith, length-keys_of old.pairs)) kept.distinct))
-        (omega (arith, ap length pairs, length-swap_out old.pairs i (omega arith), kept.fits))
-        (λ table. hashes table ∙ ap (λ hs. swap_out hs i) (kept.hashed table) ∙ sym (map-swap_out hash (keys_of old.pairs) i) ∙ ap (map hash) (sym keys))
+        let keys : keys_of new.pairs ≡ swap_remove_at (keys_of old.pairs) i = ap keys_of pairs ∙ map-swap_remove_at (λ p. p.0) old.pairs i in
+        kept_as old new kept keeps (subst (IsDistinct eq) (sym keys) (IsDistinct-swap_remove_at eq laws (keys_of old.pairs) i (omega (arith, length-keys_of old.pairs)) kept.distinct))
+        (omega (arith, ap length pairs, length-swap_remove_at old.pairs i (omega arith), kept.fits))
+        (λ table. hashes table ∙ ap (λ hs. swap_remove_at hs i) (kept.hashed table) ∙ sym (map-swap_remove_at hash (keys_of old.pairs) i) ∙ ap (map hash) (sym keys))
 
     -- no pairs
     pub kept_none : (old new : StoreState K V) → IsKept eq hash limit old → KeepsForm old new → new.pairs ≡ [] → new.hashes ≡ [] → IsKept eq hash limit new
@@ -100,6 +100,12 @@ module _ {K V : Type 0} where
       series = series;
       exceeds = exceeds;
     }
+
+    -- a vector without memory
+    pub kept_empty : (s : StoreState K V) → s ≡ store.vector_of (record { pairs = []; capacity = 0 }) → IsKept eq hash limit s
+    kept_empty s is =
+        let no_table : s.is_vec ≢ false = λ table. true≢false (sym (ap (λ s. s.is_vec) is) ∙ table) in
+        kept_made s (ap (λ s. s.pairs) is) (ap (λ s. s.hashes) is) (λ table. absurd (no_table table)) (λ table. absurd (no_table table))
 
     -- what the fields keep is what holds of the state
     pub state_of : {S : Type 0} (s : StoreState K V) (builder : S) → IsKept eq hash limit s → IsState eq limit (state_in limit s builder)

@@ -8,6 +8,7 @@ pub mod EntryReplacements
 pub mod Full
 pub mod Indices
 pub mod InsertLemmas
+pub mod Insertions
 pub mod Iterators
 pub mod Kept
 pub mod Lookups
@@ -17,9 +18,9 @@ pub mod RawCosts
 pub mod RawEntries
 pub mod RawFinds
 pub mod Rekeyed
+pub mod Removals
 pub mod Replacements
 pub mod Retained
-pub mod Reversed
 pub mod RunLaws
 pub mod RunLemmas
 pub mod SamePairs

@@ -15,9 +15,9 @@ use Rattle.half_store.proofs.CapacityLemmas.{four-le_count, buckets_for-least, b
 use Rattle.half_store.proofs.TableLaws.{history_law as reach_history, crowding_law}
 use Rattle.halfbrown.specs.declared.run.Command.{Command}
 use Rattle.halfbrown.specs.declared.run.Command.TheVariants.{Insert, InsertNew, EntryOrInsert, RawOrInsert, Get, Remove, Clear, Reserve, Shrink, IsVec, Len}
-use Rattle.halfbrown.specs.Costs.{Range, Cost, GrewBy, GrewWithin, exactly, between, add_ranges, no_cost, search_asked, candidates, probe_length, comparisons_in_order, search_compares, search_looks, search_cost_of, insert_cost, raw_insert_cost, unchecked_cost, insertion_probe_looks, is_switch_refused, capacity_switched, capacity_grown, addition_grows, SearchCosts, InsertCosts}
+use Rattle.halfbrown.specs.Costs.{Range, Cost, GrewBy, GrewWithin, exactly, between, add_ranges, no_cost, search_asked, candidates, probe_length, comparisons_in_order, search_compares, search_looks, search_cost_of, insert_cost, raw_insert_cost, new_key_cost, insertion_probe_looks, is_switch_refused, capacity_switched, capacity_grown, addition_grows, SearchCosts, InsertCosts}
 use Rattle.halfbrown.specs.MapLaws.{HoldSamePairs, GrewExactlyBy, HistoryLaw, InsertionHistoryLaw, CrowdedSearchLaw, CrowdedInsertionLaw, CrowdedProbeLaw, CrowdedGrowthLaw, CrowdedUncheckedLaw, CommandCostLaw, CommandHashesLaw, CommandBucketsLaw, finds_in_vector}
-use Rattle.halfbrown.specs.Growth.{is_full, stays_vec}
+use Rattle.halfbrown.specs.Growth.{is_full, is_vec_after}
 use Rattle.halfbrown.specs.Pairs.{holds}
 use Rattle.halfbrown.specs.RunCost.{command_cost}
 use Rattle.halfbrown.specs.State.{State, state, contents_of, IsState, IsTableCapacity}
@@ -117,7 +117,7 @@ module _ {K V S : Type 0} (hash : S → K → ℕ) where
         let most = looks_most (holds eq m.pairs k) probe in
         crowded_probe_law m.builder m.capacity m.pairs k passed (state.table_capacity form) state.fits (omega (arith, grew.most, most))
 
-    module _ (m : State K V S) (s : IsState eq limit m) (stays : stays_vec limit m ≡ false) where
+    module _ (m : State K V S) (s : IsState eq limit m) (stays : is_vec_after limit m ≡ false) where
       -- once the form has changed, the capacity is that of a table that the pairs fit
       switched : IsTableCapacity (capacity_switched limit m) × (length m.pairs ≤ capacity_switched limit m)
       switched =
@@ -158,8 +158,8 @@ module _ {K V S : Type 0} (hash : S → K → ℕ) where
     pub crowded_unchecked_law : CrowdedUncheckedLaw V limit eq hash
     crowded_unchecked_law m k granted before after passed s grew l =
         let probe : Bool → ℕ = λ b. probe_length (hash m.builder) b (capacity_grown limit m) m.pairs k in
-        let most : after.looked ≤ before.looked + probe (stays_vec limit m) = unchecked_most granted (probe (stays_vec limit m)) before.looked after.looked grew.looked in
-        elim (cases_Bool (stays_vec limit m)) [
+        let most : after.looked ≤ before.looked + probe (is_vec_after limit m) = unchecked_most granted (probe (is_vec_after limit m)) before.looked after.looked grew.looked in
+        elim (cases_Bool (is_vec_after limit m)) [
           | inl vector ↦ absurd (omega (arith, most, ap probe vector))
           | inr stays ↦
               let more = grown m s stays in
@@ -169,9 +169,9 @@ module _ {K V S : Type 0} (hash : S → K → ℕ) where
     pub crowded_insertion_law : CrowdedInsertionLaw V limit eq hash
     crowded_insertion_law m k granted before after passed s none costs l =
         let looks : Bool → Range = λ b. search_looks eq (hash m.builder) b (capacity_switched limit m) m.pairs k in
-        let read : after.looked ≤ before.looked + (looks (stays_vec limit m)).most =
-        insertion_most (is_switch_refused limit m granted) _ (looks (stays_vec limit m)) (insertion_probe_looks limit eq hash m k) before.looked after.looked none costs.grew.looked in
-        elim (cases_Bool (stays_vec limit m)) [
+        let read : after.looked ≤ before.looked + (looks (is_vec_after limit m)).most =
+        insertion_most (is_switch_refused limit m granted) _ (looks (is_vec_after limit m)) (insertion_probe_looks limit eq hash m k) before.looked after.looked none costs.grew.looked in
+        elim (cases_Bool (is_vec_after limit m)) [
           | inl vector ↦ absurd (omega (arith, read, ap (λ b. (looks b).most) vector))
           | inr stays ↦
               let is = switched m s stays in
@@ -208,7 +208,7 @@ module _ {K V S : Type 0} (hash : S → K → ℕ) where
     insertion_exactly : (limit : ℕ) (m : State K V S) (k : K) (granted : Bool) (before after : Work) → holds eq m.pairs k ≡ false → InsertCosts limit eq hash m k granted before after
         → GrewExactlyBy (least_work (insert_cost limit eq hash m k granted)) before after
     insertion_exactly limit m k granted before after unheld costs =
-        let stays : Bool = stays_vec limit m in
+        let stays : Bool = is_vec_after limit m in
         let probe : ℕ = if granted && not (holds eq m.pairs k) && addition_grows limit m then insertion_probe_looks limit eq hash m k else 0 in
         grew_exactly (insert_cost limit eq hash m k granted) before after
         (exact_unless_refused (is_switch_refused limit m granted) (search_compares eq (hash m.builder) stays m.pairs k) (compares-exact (hash m.builder) m.pairs k unheld stays))
@@ -290,7 +290,7 @@ module _ {K V S : Type 0} (hash : S → K → ℕ) where
           raw-compared none = λ i. if granted then searched-alike none i else exactly 0
 
           -- an insertion without a search, where the key is not held
-          added-same : (if holds eq xs k then no_cost else unchecked_cost limit eq hash first k granted) ≡ (if holds eq ys k then no_cost else unchecked_cost limit eq hash second k granted)
+          added-same : (if holds eq xs k then no_cost else new_key_cost limit eq hash first k granted) ≡ (if holds eq ys k then no_cost else new_key_cost limit eq hash second k granted)
           added-same = simp (long, held k, looked k)
 
       hashes-same : (command : Command K V) (refused : Bool) → (command_cost limit eq hash first command refused).asked ≡ (command_cost limit eq hash second command refused).asked
@@ -358,7 +358,7 @@ module _ {K V S : Type 0} (hash : S → K → ℕ) where
 
       insertions-alike : (k : K) (granted : Bool) → holds eq a.pairs k ≡ false → insert_cost limit eq hash a k granted ≡ insert_cost limit eq hash b k granted
       insertions-alike k granted unheld = ap (λ m. insert_cost limit eq hash m k granted) alike
-          ∙ insert-same b.is_vec a.pairs b.pairs b.capacity b.builder (contents_of a) (contents_of b) same.pairs k granted (never_found (stays_vec limit moved) k unheld)
+          ∙ insert-same b.is_vec a.pairs b.pairs b.capacity b.builder (contents_of a) (contents_of b) same.pairs k granted (never_found (is_vec_after limit moved) k unheld)
 
     pub history_law : HistoryLaw V eq hash
     history_law a b k a_before a_after b_before b_after same unheld a_costs b_costs = (

@@ -1,10 +1,10 @@
 -- What an insertion through a raw entry costs: its switch, one search, and for a new key one hash and one insertion probe.
-use Rattle.std.proofs.Common.{◌≡◌, ℕ, ◌+◌, ◌<◌, ◌≤◌, Bool, true, false, not, nat_lt, length, Option, None, Some, MatchBool, MatchOption, cond, if◌then◌else◌, refl, sym, ap, subst, ◌∙◌, arith}
+use Rattle.std.proofs.Common.{◌≡◌, ℕ, ◌+◌, ◌<◌, Bool, true, false, not, nat_lt, length, Option, None, Some, MatchBool, MatchOption, cond, if◌then◌else◌, refl, sym, ap, subst, ◌∙◌, arith}
 use Rattle.std.proofs.lemmas.Bool.Decides.{nat_tests}
 use Rattle.half_store.specs.Capacity.{capacity_for, grown_capacity}
 use Rattle.half_store.specs.Work.{Work, asked_more}
 use Rattle.halfbrown.specs.Costs.{Cost, GrewBy, add_ranges, exactly, insertion_probe_looks, search_asked, search_compares, search_looks, probe_length, switch_asked, capacity_grown, raw_insert_cost, SearchCostsBy}
-use Rattle.halfbrown.specs.Growth.{is_full, stays_vec, unchecked_needs}
+use Rattle.halfbrown.specs.Growth.{is_full, is_vec_after, new_key_needs}
 use Rattle.halfbrown.specs.Pairs.{holds}
 use Rattle.halfbrown.specs.Preparation.{Prepares}
 use Rattle.halfbrown.specs.RawEntry.{after_adding}
@@ -25,23 +25,23 @@ in_table : (grown : ℕ → ℕ) (needs : Option ℕ) (is_vec : Bool) (new capac
 in_table grown None is_vec new capacity form has = has
 in_table grown (Some n) is_vec new capacity form has = subst (λ b. MatchBool b (new ≡ grown n) (new ≡ capacity_for n)) form has
 
-module _ {K V S : Type 0} (limit : ℕ) (old m : State K V S) (prepared : Prepares limit old (unchecked_needs limit old) m) (left : length m.pairs < m.capacity) where
+module _ {K V S : Type 0} (limit : ℕ) (old m : State K V S) (prepared : Prepares limit old (new_key_needs limit old) m) (left : length m.pairs < m.capacity) where
   full_fits : m.is_vec ≡ false → is_full limit old ≡ true → nat_lt (length old.pairs) (capacity_for (limit + 1)) ≡ true
   full_fits form full =
       let has : m.capacity ≡ capacity_for (limit + 1) =
       subst (λ b. MatchOption (if b then Some (limit + 1) else (if nat_lt (length old.pairs) old.capacity then None else Some (length old.pairs + 1))) (m.capacity ≡ old.capacity) (λ n. m.capacity ≡ capacity_for n)) full
-      (in_table (grown_capacity limit old.capacity) (unchecked_needs limit old) m.is_vec m.capacity old.capacity form prepared.capacity) in
+      (in_table (grown_capacity limit old.capacity) (new_key_needs limit old) m.is_vec m.capacity old.capacity form prepared.capacity) in
       less_is_true (length old.pairs) (capacity_for (limit + 1)) (omega (arith, left, has, ap length prepared.pairs))
 
   -- the capacity of a table that is ready for one pair more
   pub capacity_ready : m.is_vec ≡ false → m.capacity ≡ capacity_grown limit old
   capacity_ready form = capacity_by (is_full limit old) (nat_lt (length old.pairs) old.capacity) limit (length old.pairs) old.capacity m.capacity
-      (in_table (grown_capacity limit old.capacity) (unchecked_needs limit old) m.is_vec m.capacity old.capacity form prepared.capacity) (full_fits form) refl
+      (in_table (grown_capacity limit old.capacity) (new_key_needs limit old) m.is_vec m.capacity old.capacity form prepared.capacity) (full_fits form) refl
 
-module _ {K V S : Type 0} (limit : ℕ) (eq : K → K → Bool) (hash : S → K → ℕ) (old m : State K V S) (k : K) (prepared : Prepares limit old (unchecked_needs limit old) m) (left : length m.pairs < m.capacity)
+module _ {K V S : Type 0} (limit : ℕ) (eq : K → K → Bool) (hash : S → K → ℕ) (old m : State K V S) (k : K) (prepared : Prepares limit old (new_key_needs limit old) m) (left : length m.pairs < m.capacity)
     (before between searched after : Work) (spent : between ≡ asked_more (switch_asked limit old) before) (search : SearchCostsBy (eq k) hash (hash m.builder k) m between searched) where
   abbrev stays : Bool
-  stays = stays_vec limit old
+  stays = is_vec_after limit old
 
   looks_by : (is_vec : Bool) → (is_vec ≡ false → m.capacity ≡ capacity_grown limit old) → search_looks eq (hash old.builder) is_vec m.capacity old.pairs k ≡ search_looks eq (hash old.builder) is_vec (capacity_grown limit old) old.pairs k
   looks_by true same = refl

@@ -3,24 +3,26 @@ use Rattle.std.proofs.Common.{◌≡◌, ℕ, zero, suc, ◌+◌, ◌<◌, Bool,
 use Rattle.std.specs.Cmp.{IsEquivalence}
 use Rattle.std.specs.List.{IsDistinct}
 use Rattle.std.proofs.lemmas.Option.{get_or_from_slice_get, slice_get_within}
-use Rattle.std.specs.Map.{keys_of}
+use Rattle.std.specs.Map.{keys_of, lookup}
 use Rattle.std.specs.Option.{option_map}
 use Rattle.std.specs.declared.cmp.PartialEq as eq
 use Rattle.std.specs.declared.hash.Hash as hash
 use Rattle.std.specs.declared.hash.Hasher as hasher
 use Rattle.std.specs.declared.hash.BuildHasher as builder
 use Rattle.half_store.specs.Pairs.{set_value}
+use Rattle.halfbrown.specs.declared.entry.LimitedOccupiedEntry.{LimitedOccupiedEntry}
 use Rattle.halfbrown.specs.declared.limit.Limit as limits
-use Rattle.halfbrown.specs.declared.raw_entry.LimitedRawOccupiedEntryMut.{LimitedRawOccupiedEntryMut}
 use Rattle.halfbrown.specs.declared.raw_entry.LimitedRawVacantEntryMut.{LimitedRawVacantEntryMut}
 use Rattle.halfbrown.specs.Entry as entries
 use Rattle.halfbrown.specs.Lookup.{IsIndexOf, IsAbsent}
-use Rattle.halfbrown.specs.Pairs.{put_by, holds, holds_by, value_by}
-use Rattle.halfbrown.specs.RawEntry.{Occupied, Vacant, AddsPair, FindsEntry, PutsPair}
+use Rattle.halfbrown.specs.Match.{IsMatch, FindsMatch}
+use Rattle.halfbrown.specs.Pairs.{put_by, holds, holds_by}
+use Rattle.halfbrown.specs.RawEntry.{Occupied, Vacant, AddsThroughRawEntry, FindsEntry, PutsThroughRawEntry}
 use Rattle.halfbrown.specs.State.{State}
 use Rattle.halfbrown.specs.Updates.{HasPut, HasSetBy, HasRemovedBy}
 use Rattle.halfbrown.proofs.CallerLemmas.{has_put, has_removed_by}
 use Rattle.halfbrown.proofs.Entries.{key_of-pair}
+use Rattle.halfbrown.proofs.RawEntries.{some_is_not_none}
 use Rattle.halfbrown.proofs.Indices.{IsFirst, absent_of_unheld, first_matched, first_of_index, first_passes, index_of_first}
 
 module _ {K : Type 0} (same : K → K → Bool) (laws : IsEquivalence same) (test : K → Bool) (one_class : (k other : K) → test k ≡ true → test other ≡ same k other) where
@@ -46,7 +48,7 @@ module _ {K : Type 0} (same : K → K → Bool) (laws : IsEquivalence same) (tes
     set_of_put : holds_by test ps ≡ true → HasPut same ps k v qs → HasSetBy same test ps v qs
     set_of_put held put = record {
       held = ap (λ (t : K → Bool). holds_by t qs) (sym same_test) ∙ put.held;
-      value = ap (λ (t : K → Bool). value_by t qs) (sym same_test) ∙ put.value;
+      value = ap (λ (t : K → Bool). lookup t qs) (sym same_test) ∙ put.value;
       equals = λ q e. put.equals q (sym (one_class k q passes) ∙ e);
       others = λ q e. put.others q (sym (one_class k q passes) ∙ e);
       len = put.len ∙ ap (λ b. cond b (length ps) (length ps + 1)) (ap (λ (t : K → Bool). holds_by t ps) same_test ∙ held);
@@ -60,7 +62,7 @@ module _ {K : Type 0} (same : K → K → Bool) (laws : IsEquivalence same) (tes
 
   module _ {V S L H : Type 0} {e : eq.Ghosts K} {h : hash.Ghosts K} {b : builder.Ghosts S H} {w : hasher.Ghosts H} {l : limits.Ghosts L} (m : State K V S) where
     -- where a search of the map found the key
-    pub found_entry : (o : LimitedRawOccupiedEntryMut K V S L H e h b w l) → m ≡ o.map.now → IsDistinct same (keys_of o.map.now.pairs) → IsIndexOf test o.map.now.pairs o.index → FindsEntry same test m (Occupied o)
+    pub found_entry : (o : LimitedOccupiedEntry K V S L H e h b w l) → m ≡ o.map.now → IsDistinct same (keys_of o.map.now.pairs) → IsIndexOf test o.map.now.pairs o.index → FindsEntry same test m (Occupied o)
     unfolding entries.with_value
     found_entry o is distinct at = subst (λ n. FindsEntry same test n (Occupied o)) (sym is) (record {
       map = refl;
@@ -94,8 +96,8 @@ module _ {K : Type 0} (same : K → K → Bool) (laws : IsEquivalence same) (tes
 
 module _ {K V S L H : Type 0} {e : eq.Ghosts K} {h : hash.Ghosts K} {b : builder.Ghosts S H} {w : hasher.Ghosts H} {l : limits.Ghosts L} (same : K → K → Bool) (laws : IsEquivalence same) where
   -- where the key was not held its pair is put
-  pub adds_pair : (v : LimitedRawVacantEntryMut K V S L H e h b w l) (key : K) (value : V) (result : LimitedRawOccupiedEntryMut K V S L H e h b w l) → holds same v.map.now.pairs key ≡ false
-      → PutsPair (Vacant v) key value result → AddsPair same v.map.now.pairs key value result
+  pub adds_pair : (v : LimitedRawVacantEntryMut K V S L H e h b w l) (key : K) (value : V) (result : LimitedOccupiedEntry K V S L H e h b w l) → holds same v.map.now.pairs key ≡ false
+      → PutsThroughRawEntry (Vacant v) key value result → AddsThroughRawEntry same v.map.now.pairs key value result
   adds_pair v key value result unheld puts =
       let absent = absent_of_unheld (same key) v.map.now.pairs unheld in
       record {
@@ -103,7 +105,7 @@ module _ {K V S L H : Type 0} {e : eq.Ghosts K} {h : hash.Ghosts K} {b : builder
         written = λ written. subst (HasPut same v.map.now.pairs key written) (absent.put_is key written ∙ sym (puts.writes written).pairs) (has_put same laws v.map.now.pairs key written);
       }
 
-  found_at : (m : State K V S) (o : LimitedRawOccupiedEntryMut K V S L H e h b w l) → m ≡ o.map.now → IsDistinct same (keys_of o.map.now.pairs)
+  found_at : (m : State K V S) (o : LimitedOccupiedEntry K V S L H e h b w l) → m ≡ o.map.now → IsDistinct same (keys_of o.map.now.pairs)
       → (found : Option (K × V)) → slice_get o.map.now.pairs o.index ≡ found → IfSome found (λ pair. FindsEntry same (same pair.0) m (Occupied o))
   found_at m o is distinct None at = tt
   found_at m o is distinct (Some pair) at =
@@ -115,6 +117,15 @@ module _ {K V S L H : Type 0} {e : eq.Ghosts K} {h : hash.Ghosts K} {b : builder
       (λ d. sym (laws.refl pair.0) ∙ ap (same pair.0) (sym (get_or_from_slice_get (keys_of pairs) o.index pair.0 d key)))))
 
   -- the entry of a pair that a match found is that of the pair's key
-  pub found_by_match : (m : State K V S) (o : LimitedRawOccupiedEntryMut K V S L H e h b w l) → m ≡ o.map.now → IsDistinct same (keys_of o.map.now.pairs)
+  pub found_by_match : (m : State K V S) (o : LimitedOccupiedEntry K V S L H e h b w l) → m ≡ o.map.now → IsDistinct same (keys_of o.map.now.pairs)
       → IfSome (slice_get o.map.now.pairs o.index) (λ pair. FindsEntry same (same pair.0) m (Occupied o))
   found_by_match m o is distinct = found_at m o is distinct (slice_get o.map.now.pairs o.index) refl
+
+module _ {K V S : Type 0} (returns : K → Bool → Type 0) (hash_of : S → K → ℕ) (sought : ℕ) where
+  match_at : (m : State K V S) (index : ℕ) (found : Option (K × V)) → slice_get m.pairs index ≡ found → IsMatch returns hash_of sought m index → FindsMatch returns hash_of sought m found
+  match_at m index None at is = absurd (some_is_not_none m.pairs index is.within at)
+  match_at m index (Some pair) at is = (index, at, is)
+
+  -- the pair at the index that a match found, in the map that was ready
+  pub found_match : (ready m : State K V S) (index : ℕ) → ready ≡ m → IsMatch returns hash_of sought m index → FindsMatch returns hash_of sought ready (slice_get m.pairs index)
+  found_match ready m index is at = subst (λ n. FindsMatch returns hash_of sought n (slice_get m.pairs index)) (sym is) (match_at m index (slice_get m.pairs index) refl at)

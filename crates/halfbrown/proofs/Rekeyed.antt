@@ -6,10 +6,10 @@ use Rattle.std.specs.List.{AllByRecursion, IsDistinct}
 use Rattle.std.specs.Map.{keys_of, values_of}
 use Rattle.std.specs.Option.{option_map}
 use Rattle.half_store.proofs.Stores.{length-set_key}
-use Rattle.half_store.specs.Pairs.{set_key, swap_out}
+use Rattle.half_store.specs.Pairs.{set_key, swap_remove_at}
 use Rattle.halfbrown.specs.Pairs.{value_of, pair_of}
 use Rattle.halfbrown.specs.Updates.{HasKeyReplaced}
-use Rattle.halfbrown.proofs.Written.{swap_out-set}
+use Rattle.halfbrown.proofs.Written.{swap_remove_at-set}
 
 module _ {K V : Type 0} where
   -- only this key changes
@@ -37,9 +37,9 @@ module _ {K V : Type 0} where
   set_key-set (p ∷ ps) (suc i) k d = ap (λ l. p ∷ l) (set_key-set ps i k d)
 
   -- a pair that is taken out may have another key
-  pub swap_out-set_key : (ps : List (K × V)) (i : ℕ) (k : K) → swap_out (set_key ps i k) i ≡ swap_out ps i
-  swap_out-set_key [] i k = refl
-  swap_out-set_key (p ∷ ps) i k = ap (λ l. swap_out l i) (set_key-set (p ∷ ps) i k p) ∙ swap_out-set (p ∷ ps) i (k, (get_or (p ∷ ps) i p).1)
+  pub swap_remove_at-set_key : (ps : List (K × V)) (i : ℕ) (k : K) → swap_remove_at (set_key ps i k) i ≡ swap_remove_at ps i
+  swap_remove_at-set_key [] i k = refl
+  swap_remove_at-set_key (p ∷ ps) i k = ap (λ l. swap_remove_at l i) (set_key-set (p ∷ ps) i k p) ∙ swap_remove_at-set (p ∷ ps) i (k, (get_or (p ∷ ps) i p).1)
 
 -- an element is replaced by one that f cannot tell from it
 pub map-set_alike : {A B : Type 0} (f : A → B) (xs : List A) (i : ℕ) (old new : A) → slice_get xs i ≡ Some old → f old ≡ f new → map f (set xs i new) ≡ map f xs

@@ -1,5 +1,5 @@
 -- What a closure's answer makes of a pair.
-use Rattle.std.proofs.Common.{◌≡◌, ℕ, zero, suc, ◌<◌, Bool, false, List, [], ◌∷◌, length, map, get_or, slice_get, Option, None, Some, IfNone, IfSome, OnSome, refl, sym, ap, subst, ◌∙◌, arith}
+use Rattle.std.proofs.Common.{◌≡◌, ℕ, zero, suc, ◌<◌, Bool, false, List, [], ◌∷◌, length, map, get_or, slice_get, Option, None, Some, IfNone, IfSome, OnSome, sym, ap, subst, ◌∙◌, arith}
 use Rattle.std.proofs.lemmas.Map.Entries.{length-keys_of}
 use Rattle.std.proofs.lemmas.Option.{same_Some, slice_get_within}
 use Rattle.std.specs.Borrow.{Bor}
@@ -8,7 +8,7 @@ use Rattle.std.specs.List.{IsDistinct}
 use Rattle.std.specs.Map.{keys_of}
 use Rattle.std.specs.Option.{option_map}
 use Rattle.half_store.proofs.Stores.{length-set_value, kept_value, lost_pair}
-use Rattle.half_store.specs.Pairs.{swap_out}
+use Rattle.half_store.specs.Pairs.{swap_remove_at}
 use Rattle.half_store.specs.Replaced.{Replaces}
 use Rattle.half_store.specs.Store.{StoreState, KeepsForm, allowed}
 use Rattle.halfbrown.specs.Layout.{IsKept}
@@ -17,7 +17,7 @@ use Rattle.halfbrown.specs.Pairs.{holds}
 use Rattle.halfbrown.proofs.CallerLemmas.{has_removed}
 use Rattle.halfbrown.proofs.Indices.{index_of_first, first_of_match}
 use Rattle.halfbrown.proofs.Kept.{kept_as, kept_taken, keys_of-set_value}
-use Rattle.halfbrown.proofs.SwapOut.{length-swap_out}
+use Rattle.halfbrown.proofs.SwapOut.{length-swap_remove_at}
 
 module _ {K V : Type 0} where
   -- the stored hash of a pair is that of its key
@@ -36,7 +36,7 @@ module _ {K V : Type 0} where
   own_index eq laws ps distinct i k v at =
       index_of_first (eq k) ps i (first_of_match (eq k) eq (laws.congr k) (keys_of ps) i k distinct (omega (arith, slice_get_within ps i (k, v) at, length-keys_of ps)) (ap (eq k) (key_there ps i k k v at) ∙ laws.refl k))
 
-  pub unheld_after : (eq : K → K → Bool) → IsEquivalence eq → (ps : List (K × V)) → IsDistinct eq (keys_of ps) → (i : ℕ) (k : K) (v : V) → slice_get ps i ≡ Some (k, v) → holds eq (swap_out ps i) k ≡ false
+  pub unheld_after : (eq : K → K → Bool) → IsEquivalence eq → (ps : List (K × V)) → IsDistinct eq (keys_of ps) → (i : ℕ) (k : K) (v : V) → slice_get ps i ≡ Some (k, v) → holds eq (swap_remove_at ps i) k ≡ false
   unheld_after eq laws ps distinct i k v at =
       ap (λ qs. holds eq qs k) (sym (own_index eq laws ps distinct i k v at).take_is) ∙ (has_removed eq laws ps distinct k).not_held
 
@@ -44,7 +44,7 @@ module _ {K V : Type 0} (eq : K → K → Bool) (laws : IsEquivalence eq) (hash 
     (keeps : KeepsForm old new) where
   -- the fields once the closure has answered
   pub kept_replaced : index < length old.pairs → (result : Option (K × ℕ)) → Replaces returns old.pairs index new.pairs (option_map (λ removed. removed.0) result)
-      → IfSome result (λ _. old.is_vec ≡ false → new.hashes ≡ swap_out old.hashes index) → IfNone result (new.hashes ≡ old.hashes) → IsKept eq hash limit new
+      → IfSome result (λ _. old.is_vec ≡ false → new.hashes ≡ swap_remove_at old.hashes index) → IfNone result (new.hashes ≡ old.hashes) → IsKept eq hash limit new
   kept_replaced within None r lost stays =
       let value = kept_value r in
       let keys = ap keys_of value.2 ∙ keys_of-set_value old.pairs index value.0 in
@@ -69,5 +69,5 @@ module _ {K V : Type 0} (eq : K → K → Bool) (laws : IsEquivalence eq) (hash 
       → OnSome result (length new.pairs < allowed limit new.is_vec new.capacity)
   capacity_replaced within None r = tt
   capacity_replaced within (Some removed) r =
-      let fewer : length new.pairs < allowed limit old.is_vec old.capacity = omega (arith, ap length (lost_pair r).1, length-swap_out old.pairs index (omega arith), kept.fits) in
+      let fewer : length new.pairs < allowed limit old.is_vec old.capacity = omega (arith, ap length (lost_pair r).1, length-swap_remove_at old.pairs index (omega arith), kept.fits) in
       subst (λ t. t) (λ j. length new.pairs < allowed limit (sym keeps.form j) (sym keeps.capacity j)) fewer

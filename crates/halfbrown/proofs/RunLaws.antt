@@ -6,8 +6,8 @@ use Rattle.halfbrown.specs.declared.run.Command.{Command}
 use Rattle.halfbrown.specs.declared.run.Command.TheVariants.{Insert, InsertNew, EntryOrInsert, RawOrInsert, Get, Remove, Clear, Reserve, Shrink, IsVec, Len}
 use Rattle.halfbrown.specs.declared.run.Reply.{Reply}
 use Rattle.halfbrown.specs.declared.run.Reply.TheVariants.{Was, Added, Present, Value, Found, Removed, Done, Form, Length, Refused}
-use Rattle.halfbrown.specs.Costs.{Cost, no_cost, add_costs, search_asked, search_cost_of, unchecked_cost}
-use Rattle.halfbrown.specs.Growth.{is_full, stays_vec, vec_shrunk, insert_needs, unchecked_needs, IsRefusal}
+use Rattle.halfbrown.specs.Costs.{Cost, no_cost, add_costs, search_asked, search_cost_of, new_key_cost}
+use Rattle.halfbrown.specs.Growth.{is_full, is_vec_after, vec_shrunk, insert_needs, new_key_needs, IsRefusal}
 use Rattle.halfbrown.specs.Insertion.{Puts}
 use Rattle.halfbrown.specs.Pairs.{holds, put, take_out}
 use Rattle.halfbrown.specs.State.{State}
@@ -138,13 +138,13 @@ module _ {K V S : Type 0} (limit : ℕ) (eq : K → K → Bool) where
   form_after m command reply = unwrap_or (form_changed limit m command reply) m.is_vec
 
   -- a pair is put, or nothing
-  form_put : (old : State K V S) → stays_vec limit old ≡ unwrap_or (changed (is_full limit old && true) false) old.is_vec
+  form_put : (old : State K V S) → is_vec_after limit old ≡ unwrap_or (changed (is_full limit old && true) false) old.is_vec
   form_put old = not_back old.is_vec (is_full limit old) true false refl
 
   form_same : (old : State K V S) → old.is_vec ≡ unwrap_or (changed (is_full limit old && false) false) old.is_vec
   form_same old = not_back old.is_vec (is_full limit old) false false refl
 
-  form_left_new : (old new : State K V S) (k : K) (v : V) (held : Bool) → MatchBool held (new ≡ old) (Puts limit eq old k v (unchecked_needs limit old) new)
+  form_left_new : (old new : State K V S) (k : K) (v : V) (held : Bool) → MatchBool held (new ≡ old) (Puts limit eq old k v (new_key_needs limit old) new)
       → new.is_vec ≡ unwrap_or (changed (is_full limit old && is_put (if held then Present k v else Added)) false) old.is_vec
   form_left_new old new k v true leaves = ap (λ m. m.is_vec) leaves ∙ form_same old
   form_left_new old new k v false leaves = leaves.form ∙ form_put old
@@ -200,9 +200,9 @@ module _ {K V S : Type 0} (limit : ℕ) (eq : K → K → Bool) where
   }
 
   new_alike : (a b a_new b_new : State K V S) → IsAlike a b → (k : K) (v : V) (a_held b_held : Bool) → a_held ≡ b_held
-      → MatchBool a_held (a_new ≡ a) (Puts limit eq a k v (unchecked_needs limit a) a_new) → MatchBool b_held (b_new ≡ b) (Puts limit eq b k v (unchecked_needs limit b) b_new) → IsAlike a_new b_new
+      → MatchBool a_held (a_new ≡ a) (Puts limit eq a k v (new_key_needs limit a) a_new) → MatchBool b_held (b_new ≡ b) (Puts limit eq b k v (new_key_needs limit b) b_new) → IsAlike a_new b_new
   new_alike a b a_new b_new alike k v true true held a_leaves b_leaves = same_alike a b a_new b_new alike a_leaves b_leaves
-  new_alike a b a_new b_new alike k v false false held a_leaves b_leaves = put_alike a b a_new b_new alike k v (unchecked_needs limit a) (unchecked_needs limit b) a_leaves b_leaves
+  new_alike a b a_new b_new alike k v false false held a_leaves b_leaves = put_alike a b a_new b_new alike k v (new_key_needs limit a) (new_key_needs limit b) a_leaves b_leaves
   new_alike a b a_new b_new alike k v true false held a_leaves b_leaves = absurd (true≢false held)
   new_alike a b a_new b_new alike k v false true held a_leaves b_leaves = absurd (true≢false (sym held))
 
@@ -213,8 +213,8 @@ module _ {K V S : Type 0} (limit : ℕ) (eq : K → K → Bool) where
       put_alike a b a_new b_new alike k (value_or eq a.pairs k v) (insert_needs limit eq a k) (insert_needs limit eq b k) a_leaves
       (subst (λ ps. Puts limit eq b k (value_or eq ps k v) (insert_needs limit eq b k) b_new) (sym alike.pairs) b_leaves)
   leaves_alike a b a_new b_new alike (RawOrInsert k v) a_leaves b_leaves =
-      put_alike a b a_new b_new alike k (value_or eq a.pairs k v) (unchecked_needs limit a) (unchecked_needs limit b) a_leaves
-      (subst (λ ps. Puts limit eq b k (value_or eq ps k v) (unchecked_needs limit b) b_new) (sym alike.pairs) b_leaves)
+      put_alike a b a_new b_new alike k (value_or eq a.pairs k v) (new_key_needs limit a) (new_key_needs limit b) a_leaves
+      (subst (λ ps. Puts limit eq b k (value_or eq ps k v) (new_key_needs limit b) b_new) (sym alike.pairs) b_leaves)
   leaves_alike a b a_new b_new alike (Get k) a_leaves b_leaves = same_alike a b a_new b_new alike a_leaves b_leaves
   leaves_alike a b a_new b_new alike (Remove k) a_leaves b_leaves = record {
     form = a_leaves.form ∙ alike.form ∙ sym b_leaves.form;
@@ -246,7 +246,7 @@ module _ {K V S : Type 0} (limit : ℕ) (eq : K → K → Bool) where
 module _ {K V S : Type 0} (limit : ℕ) (eq : K → K → Bool) (hash : S → K → ℕ) where
   new_asked : (old : State K V S) (k : K) (v : V) (held refused : Bool) → old.is_vec ≡ true
       → (not refused ≡ true → unwrap_or (changed (is_full limit old && is_put {V = V} (if held then Present k v else Added)) false) old.is_vec ≡ true)
-      → (add_costs (search_cost_of eq hash old k) (if held then no_cost else unchecked_cost limit eq hash old k (not refused))).asked ≡ 0
+      → (add_costs (search_cost_of eq hash old k) (if held then no_cost else new_key_cost limit eq hash old k (not refused))).asked ≡ 0
   new_asked old k v true refused form stays = omega (arith, ap search_asked form)
   new_asked old k v false refused form stays =
       omega (arith, ap search_asked form, asked_nothing limit old.is_vec (is_full limit old) (not refused) form (λ e. form_put limit eq old ∙ stays e))

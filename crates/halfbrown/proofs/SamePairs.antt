@@ -14,7 +14,7 @@ use Rattle.std.proofs.lemmas.Map.Made.{is_some-lookup}
 use Rattle.std.proofs.lemmas.Map.Steps.{length-le_from_keys}
 use Rattle.std.proofs.lemmas.Option.{slice_get-get_or, slice_get_within, get_or_from_slice_get}
 use Rattle.halfbrown.specs.Equality.{same_value, same_pairs, holds_pair}
-use Rattle.halfbrown.specs.EqualityLaws.{OrderLaw, equal_has_same, same_pairs-Decides}
+use Rattle.halfbrown.specs.EqualityLaws.{OrderLaw, PairsLaw, equal_has_same, same_pairs-Decides}
 use Rattle.halfbrown.specs.Pairs.{value_of}
 use Rattle.halfbrown.proofs.CallerLemmas.{lookup_permuted}
 
@@ -118,6 +118,9 @@ module _ {K V : Type 0} (eq : K → K → Bool) (value_eq : V → V → Bool) (l
           one_answer (list_all (holds_pair eq value_eq right) left) (same_pairs eq value_eq left right) (λ all. (lengths, all), λ both. both.1) same_pairs-by_pairs
 
 module _ {K V : Type 0} (eq : K → K → Bool) (value_eq : V → V → Bool) (laws : IsEquivalence eq) where
+  pub pairs_law : PairsLaw eq value_eq
+  pairs_law = same_pairs-by_pairs eq value_eq laws
+
   pub order_law : OrderLaw eq value_eq
   order_law pairs reordered other distinct permuted =
       let same = λ (k : K). ap (λ v. option_eq value_eq v (value_of eq other k)) (lookup_permuted eq laws pairs reordered distinct permuted k) in

@@ -3,7 +3,7 @@ use Rattle.std.proofs.Common.{◌≡◌, ℕ, zero, suc, ◌-◌, ◌<◌, inl, 
 use Rattle.std.proofs.lemmas.Bool.{cases_eq}
 use Rattle.std.proofs.lemmas.List.{length-set, take-set-le, get_or-set_other, get_or_default}
 use Rattle.std.specs.Map.{values_of}
-use Rattle.half_store.specs.Pairs.{set_value, swap_out}
+use Rattle.half_store.specs.Pairs.{set_value, swap_remove_at}
 
 module _ {X : Type 0} where
   set-twice : (xs : List X) (i : ℕ) (a b : X) → set (set xs i a) i b ≡ set xs i b
@@ -20,10 +20,10 @@ module _ {X : Type 0} where
       ]
 
   -- an element that is taken out may be another
-  pub swap_out-set : (xs : List X) (i : ℕ) (a : X) → swap_out (set xs i a) i ≡ swap_out xs i
-  swap_out-set [] i a = refl
-  swap_out-set (x ∷ xs) zero a = taken_by (x ∷ xs) (length (x ∷ xs) - 1) zero a a x (omega arith)
-  swap_out-set (x ∷ xs) (suc i) a =
+  pub swap_remove_at-set : (xs : List X) (i : ℕ) (a : X) → swap_remove_at (set xs i a) i ≡ swap_remove_at xs i
+  swap_remove_at-set [] i a = refl
+  swap_remove_at-set (x ∷ xs) zero a = taken_by (x ∷ xs) (length (x ∷ xs) - 1) zero a a x (omega arith)
+  swap_remove_at-set (x ∷ xs) (suc i) a =
       let long = ap suc (length-set xs i a) in
       ap (λ n. take (n - 1) (set (set (x ∷ xs) (suc i) a) (suc i) (get_or (set (x ∷ xs) (suc i) a) (n - 1) x))) long
       ∙ taken_by (x ∷ xs) (length (x ∷ xs) - 1) (suc i) a x x (omega arith)
@@ -35,9 +35,9 @@ module _ {K V : Type 0} where
   set_value-set (p ∷ ps) (suc i) v d = ap (λ l. p ∷ l) (set_value-set ps i v d)
 
   -- a pair that is taken out may have another value
-  pub swap_out-set_value : (ps : List (K × V)) (i : ℕ) (v : V) → swap_out (set_value ps i v) i ≡ swap_out ps i
-  swap_out-set_value [] i v = refl
-  swap_out-set_value (p ∷ ps) i v = ap (λ l. swap_out l i) (set_value-set (p ∷ ps) i v p) ∙ swap_out-set (p ∷ ps) i ((get_or (p ∷ ps) i p).0, v)
+  pub swap_remove_at-set_value : (ps : List (K × V)) (i : ℕ) (v : V) → swap_remove_at (set_value ps i v) i ≡ swap_remove_at ps i
+  swap_remove_at-set_value [] i v = refl
+  swap_remove_at-set_value (p ∷ ps) i v = ap (λ l. swap_remove_at l i) (set_value-set (p ∷ ps) i v p) ∙ swap_remove_at-set (p ∷ ps) i ((get_or (p ∷ ps) i p).0, v)
 
   -- a value that is written again
   pub set_value-twice : (ps : List (K × V)) (i : ℕ) (v w : V) → set_value (set_value ps i v) i w ≡ set_value ps i w

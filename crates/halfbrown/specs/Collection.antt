@@ -38,11 +38,11 @@ AreFirst {X} all items = (left : List X) × (all ≡ items ++ left)
 
 module _ {K V S : Type 0} (limit : ℕ) (eq : K → K → Bool) (hash : S → K → ℕ) where
   -- from old to new the items are inserted, granted, one after another, and the cost is the sum of the insertions' costs
-  abbrev pub Inserts : State K V S → List (K × V) → State K V S → Cost → Type 0
-  Inserts old [] new cost = (new ≡ old) × (cost ≡ no_cost)
-  Inserts old (p ∷ items) new cost =
+  abbrev pub InsertsAll : State K V S → List (K × V) → State K V S → Cost → Type 0
+  InsertsAll old [] new cost = (new ≡ old) × (cost ≡ no_cost)
+  InsertsAll old (p ∷ items) new cost =
       (next : State K V S) × (rest : Cost) × Puts limit eq old p.0 p.1 (insert_needs limit eq old p.0) next × IsState eq limit next
-      × Inserts next items new rest × (cost ≡ add_costs (insert_cost limit eq hash old p.0 true) rest)
+      × InsertsAll next items new rest × (cost ≡ add_costs (insert_cost limit eq hash old p.0 true) rest)
 
   -- items of which `given` holds, and an insertion of the last one that was refused, once those before it were inserted: what was spent counts
   -- the refused one too
@@ -52,7 +52,7 @@ module _ {K V S : Type 0} (limit : ℕ) (eq : K → K → Bool) (hash : S → K 
     pub value : V
     pub were_given : given (before ++ (key, value) ∷ [])
     pub spent : Cost
-    pub inserted : Inserts old before new spent
+    pub inserted : InsertsAll old before new spent
     pub refused : IsRefusal (insert_needs limit eq new key) why
     pub cost_is : cost ≡ add_costs spent (insert_cost limit eq hash new key false)
 
@@ -73,7 +73,7 @@ module _ {K V S : Type 0} (limit : ℕ) (eq : K → K → Bool) (hash : S → K 
       pub builder : is_default m.builder
       pub made : State K V S
       pub is_made : IsMade made
-      pub inserted : Inserts made items m cost
+      pub inserted : InsertsAll made items m cost
 
     -- a map that was made with capacity for so many pairs, and then an insertion that was refused
     pub record IsRefusedItem (given : List (K × V) → Type 0) (why : Refusal) (cost : Cost) : Type 0 where

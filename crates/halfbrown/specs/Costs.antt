@@ -11,7 +11,7 @@ use Rattle.half_store.specs.Capacity.{buckets_of, capacity_for}
 use Rattle.half_store.specs.Work.{Work, first_match_cost}
 use Rattle.halfbrown.specs.State.{State}
 use Rattle.halfbrown.specs.Pairs.{holds, holds_by}
-use Rattle.halfbrown.specs.Growth.{is_full, stays_vec}
+use Rattle.halfbrown.specs.Growth.{is_full, is_vec_after}
 
 -- the hash that the builder gives a key, from what std says of builder, hasher and key
 abbrev pub key_hash : {S H K : Type 0} → builder.Ghosts S H → hasher.Ghosts H → (K → HashWrites) → S → K → ℕ
@@ -135,6 +135,16 @@ module _ {K V S : Type 0} (test : K → Bool) (hash : S → K → ℕ) (sought :
   abbrev pub HashedSearchCostsBy : Work → Work → Type 0
   HashedSearchCostsBy before after = SearchCostsAsking 0 before after
 
+-- what one search in the map by a form of a key cost, by the tally before it and after, where the form stands for the keys that it is equivalent to
+module _ {S H K Q V : Type 0} (b : builder.Ghosts S H) (h : hasher.Ghosts H) (held : K → HashWrites) (sought : Q → HashWrites) (equivalent : Q → K → Bool) (key : Q) (m : State K V S) where
+  -- where the search hashed it, as it does in a table
+  abbrev pub CostsSearch : Work → Work → Type 0
+  CostsSearch before after = SearchCostsBy (equivalent key) (key_hash b h held) (key_hash b h sought m.builder key) m before after
+
+  -- where its hash was handed in: the builder is not asked
+  abbrev pub CostsHashedSearch : Work → Work → Type 0
+  CostsHashedSearch before after = HashedSearchCostsBy (equivalent key) (key_hash b h held) (key_hash b h sought m.builder key) m before after
+
 module _ {K V S : Type 0} (eq : K → K → Bool) (hash : S → K → ℕ) where
   -- what a search for k in the map costs
   abbrev pub search_cost_of : State K V S → K → Cost
@@ -160,7 +170,7 @@ module _ {K V S : Type 0} (limit : ℕ) where
 
   -- how often an insertion hashes: for the switch, and once in a table; a refused switch hashes nothing
   abbrev pub insert_asked : State K V S → Bool → ℕ
-  insert_asked m granted = if is_switch_refused m granted then 0 else switch_asked m + search_asked (stays_vec limit m)
+  insert_asked m granted = if is_switch_refused m granted then 0 else switch_asked m + search_asked (is_vec_after limit m)
 
   -- the capacity once a granted switch is made
   abbrev pub capacity_switched : State K V S → ℕ
@@ -177,23 +187,23 @@ module _ {K V S : Type 0} (limit : ℕ) where
   module _ (eq : K → K → Bool) (hash : S → K → ℕ) where
     -- the buckets that the insertion probe of a new key k reads, once the capacity is enough
     abbrev pub insertion_probe_looks : State K V S → K → ℕ
-    insertion_probe_looks m k = probe_length (hash m.builder) (stays_vec limit m) (capacity_grown m) m.pairs k
+    insertion_probe_looks m k = probe_length (hash m.builder) (is_vec_after limit m) (capacity_grown m) m.pairs k
 
     -- what an insertion of k costs: the switch hashes each key, one search follows in the form that it left, and, where a new key made
     -- the table grow, one insertion probe; a refused switch costs nothing
     abbrev pub insert_cost : State K V S → K → Bool → Cost
     insert_cost m k granted = record {
       asked = insert_asked m granted;
-      compared = if is_switch_refused m granted then exactly 0 else search_compares eq (hash m.builder) (stays_vec limit m) m.pairs k;
+      compared = if is_switch_refused m granted then exactly 0 else search_compares eq (hash m.builder) (is_vec_after limit m) m.pairs k;
       looked = if is_switch_refused m granted then exactly 0 else add_ranges
-          (search_looks eq (hash m.builder) (stays_vec limit m) (capacity_switched m) m.pairs k)
+          (search_looks eq (hash m.builder) (is_vec_after limit m) (capacity_switched m) m.pairs k)
           (exactly (if granted && not (holds eq m.pairs k) && addition_grows m then insertion_probe_looks m k else 0));
     }
 
     -- what an insertion of a new key k without a search costs: the switch and the key's own hash, and one insertion probe where it is
     -- granted
-    abbrev pub unchecked_cost : State K V S → K → Bool → Cost
-    unchecked_cost m k granted =
+    abbrev pub new_key_cost : State K V S → K → Bool → Cost
+    new_key_cost m k granted =
         record { asked = insert_asked m granted; compared = exactly 0; looked = exactly (if granted then insertion_probe_looks m k else 0) }
 
     -- what `raw_entry_mut`, `from_key` of k and `or_insert_entry` of k cost: the switch hashes each key, and one search follows, once the capacity
@@ -201,10 +211,10 @@ module _ {K V S : Type 0} (limit : ℕ) where
     -- they cost nothing
     abbrev pub raw_insert_cost : State K V S → K → Bool → Cost
     raw_insert_cost m k granted = record {
-      asked = if granted then switch_asked m + search_asked (stays_vec limit m) + (if holds eq m.pairs k then 0 else search_asked (stays_vec limit m)) else 0;
-      compared = if granted then search_compares eq (hash m.builder) (stays_vec limit m) m.pairs k else exactly 0;
+      asked = if granted then switch_asked m + search_asked (is_vec_after limit m) + (if holds eq m.pairs k then 0 else search_asked (is_vec_after limit m)) else 0;
+      compared = if granted then search_compares eq (hash m.builder) (is_vec_after limit m) m.pairs k else exactly 0;
       looked = if granted then add_ranges
-          (search_looks eq (hash m.builder) (stays_vec limit m) (capacity_grown m) m.pairs k)
+          (search_looks eq (hash m.builder) (is_vec_after limit m) (capacity_grown m) m.pairs k)
           (exactly (if holds eq m.pairs k then 0 else insertion_probe_looks m k))
           else exactly 0;
     }
@@ -212,5 +222,5 @@ module _ {K V S : Type 0} (limit : ℕ) where
     -- what an insertion of k cost, by the tally before it and after
     pub record InsertCosts (m : State K V S) (k : K) (granted : Bool) (before after : Work) : Type 0 where
       pub grew : GrewBy (insert_cost m k granted) before after
-      pub looked_once : stays_vec limit m ≡ false → granted ≡ true → holds eq m.pairs k ≡ true
+      pub looked_once : is_vec_after limit m ≡ false → granted ≡ true → holds eq m.pairs k ≡ true
           → NoHomeIsShared (hash m.builder) (capacity_switched m) m.pairs → after.looked ≡ before.looked + 1

@@ -1,6 +1,6 @@
 -- What contracts see of an entry: its key and value, and what the map is once they are written or taken out.
 pub use Rattle.halfbrown.specs.declared.entry.LimitedEntry.TheVariants.{Occupied, Vacant}
-use Rattle.std.specs.Prelude.{◌≡◌, ℕ, Bool, true, false, List, slice_get, Option, None, Some}
+use Rattle.std.specs.Prelude.{◌≡◌, ℕ, Bool, true, false, List, slice_get, Option, None, Some, Result, IfOk, IfErr}
 use Rattle.std.specs.Borrow.{MutBor}
 use Rattle.std.specs.Map.{keys_of, values_of}
 use Rattle.std.specs.Option.{option_map}
@@ -8,15 +8,16 @@ use Rattle.std.specs.declared.cmp.PartialEq as eq
 use Rattle.std.specs.declared.hash.Hash as hash
 use Rattle.std.specs.declared.hash.Hasher as hasher
 use Rattle.std.specs.declared.hash.BuildHasher as builder
-use Rattle.half_store.specs.Pairs.{set_value, swap_out}
+use Rattle.half_store.specs.Pairs.{set_key, set_value, swap_remove_at}
 use Rattle.halfbrown.specs.declared.entry.LimitedEntry.{LimitedEntry}
+use Rattle.halfbrown.specs.declared.entry.LimitedOccupiedEntry.{LimitedOccupiedEntry}
 use Rattle.halfbrown.specs.declared.limit.Limit as limits
 use Rattle.halfbrown.specs.declared.refused.RefusedKey.{RefusedKey}
 use Rattle.halfbrown.specs.Growth.{insert_needs, IsRefusal}
 use Rattle.halfbrown.specs.Insertion.{Puts}
 use Rattle.halfbrown.specs.Pairs.{value_of, pair_of, holds, take_out}
-use Rattle.halfbrown.specs.Preparation.{pushed}
-use Rattle.halfbrown.specs.State.{State, with_pairs}
+use Rattle.halfbrown.specs.Preparation.{Prepares, pushed}
+use Rattle.halfbrown.specs.State.{State, IsState, WithPairs, with_pairs}
 use Rattle.halfbrown.specs.Updates.{HasPut, HasRemoved}
 
 module _ {K V S L H : Type 0} {e : eq.Ghosts K} {h : hash.Ghosts K} {b : builder.Ghosts S H} {w : hasher.Ghosts H} {l : limits.Ghosts L} where
@@ -56,7 +57,7 @@ module _ {K V S L H : Type 0} {e : eq.Ghosts K} {h : hash.Ghosts K} {b : builder
 
   -- the pairs once that of the key is taken out
   abbrev pub pairs_without : LimitedEntry K V S L H e h b w l → List (K × V)
-  pairs_without (Occupied o) = swap_out o.map.now.pairs o.index
+  pairs_without (Occupied o) = swap_remove_at o.map.now.pairs o.index
   pairs_without (Vacant v) = v.map.now.pairs
 
   -- the entry is that of k among these pairs
@@ -68,7 +69,7 @@ module _ {K V S L H : Type 0} {e : eq.Ghosts K} {h : hash.Ghosts K} {b : builder
     pub new_key : is_occupied entry ≡ false → entry_key entry ≡ Some k
 
   -- a value that is written through the entry is put into the map that was, for k
-  pub record WritesPut (limit : ℕ) (same : K → K → Bool) (old : State K V S) (k : K) (entry : LimitedEntry K V S L H e h b w l) : Type 0 where
+  pub record PutsThroughEntry (limit : ℕ) (same : K → K → Bool) (old : State K V S) (k : K) (entry : LimitedEntry K V S L H e h b w l) : Type 0 where
     pub puts : (value : V) → Puts limit same old k value (insert_needs limit same old k) (with_value entry value)
     pub put : (value : V) → HasPut same old.pairs k value (with_value entry value).pairs
 
@@ -86,7 +87,32 @@ module _ {K V S L H : Type 0} {e : eq.Ghosts K} {h : hash.Ghosts K} {b : builder
     pub writes : (v : V) → with_value written v ≡ with_value entry v
     pub pairs_left : pairs_without written ≡ pairs_without entry
 
+-- what becomes of the stored key of an occupied entry
+module _ {K V S L H : Type 0} {e : eq.Ghosts K} {h : hash.Ghosts K} {b : builder.Ghosts S H} {w : hasher.Ghosts H} {l : limits.Ghosts L} where
+  -- the pairs once the pair has this key
+  abbrev pub pairs_with_key : LimitedOccupiedEntry K V S L H e h b w l → K → List (K × V)
+  pairs_with_key o key = set_key o.map.now.pairs o.index key
+
+  -- the entry is the same one, and its pair has this key
+  pub record HasNewKey (entry : LimitedOccupiedEntry K V S L H e h b w l) (key : K) (rekeyed : LimitedOccupiedEntry K V S L H e h b w l) : Type 0 where
+    pub same_map : (map_ref (Occupied rekeyed)).ghost_name ≡ (map_ref (Occupied entry)).ghost_name
+    pub map : WithPairs (map_of (Occupied entry)) (pairs_with_key entry key) (map_of (Occupied rekeyed))
+    pub key_is : entry_key (Occupied rekeyed) ≡ Some key
+    pub value : entry_value (Occupied rekeyed) ≡ entry_value (Occupied entry)
+    pub pairs_left : pairs_without (Occupied rekeyed) ≡ pairs_without (Occupied entry)
+
 -- a refused entry that needed this much capacity: the key comes back with the reason
 pub record HandsBackKey {K : Type 0} (k : K) (needs : Option ℕ) (refused : RefusedKey K) : Type 0 where
   pub why : IsRefusal needs refused.why
   pub key : refused.key ≡ k
+
+-- what `entry` returns for k: where it is granted the entry of k, in the map that is ready for its pair; where it is refused the key and the reason
+module _ {K V S L H : Type 0} {e : eq.Ghosts K} {h : hash.Ghosts K} {b : builder.Ghosts S H} {w : hasher.Ghosts H} {l : limits.Ghosts L} where
+  pub record MakesEntry (limit : ℕ) (same : K → K → Bool) (m : MutBor (State K V S)) (k : K) (result : Result (LimitedEntry K V S L H e h b w l) (RefusedKey K)) : Type 0 where
+    pub same_map : IfOk result (λ entry. (map_ref entry).ghost_name ≡ m.ghost_name)
+    pub ok : IfOk result (λ entry. Prepares limit m.now (insert_needs limit same m.now k) (map_of entry))
+    pub entry : IfOk result (IsEntryOf same m.now.pairs k)
+    pub writes : IfOk result (PutsThroughEntry limit same m.now k)
+    pub removes : IfOk result (RemovesKey same m.now.pairs k)
+    pub returned : IfErr result (HandsBackKey k (insert_needs limit same m.now k))
+    pub state : IfOk result (λ entry. IsState same limit (map_of entry))

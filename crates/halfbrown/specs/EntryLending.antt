@@ -1,11 +1,12 @@
 -- What a map, or an entry, ends as once a value that was lent through an entry comes back.
-use Rattle.std.specs.Prelude.{◌≡◌, ℕ, zero, suc, ◌<◌, List, [], ◌∷◌, length, Result}
+use Rattle.std.specs.Prelude.{◌≡◌, ℕ, zero, suc, ◌<◌, List, [], ◌∷◌, length, ⊤, Result}
 use Rattle.std.proofs.Common.{refl, sym, ap, subst}
-use Rattle.std.specs.Borrow.{Fml, RattleType, MutBor, follows, RestsIfErr}
+use Rattle.std.specs.Borrow.{Fml, RattleType, MutBor, follows, follows_so, RestsIfErr}
 use Rattle.std.specs.declared.cmp.PartialEq as eq
 use Rattle.std.specs.declared.hash.Hash as hash
 use Rattle.std.specs.declared.hash.Hasher as hasher
 use Rattle.std.specs.declared.hash.BuildHasher as builder
+use mathlib.Core.Option.{none}
 use mir.Syntax.{named}
 use Rattle.half_store.specs.Pairs.{set_value}
 use Rattle.halfbrown.specs.declared.entry.LimitedEntry.{LimitedEntry}
@@ -43,3 +44,9 @@ module _ (K V S L H : RattleType) {e : eq.Ghosts K.Denot} {h : hash.Ghosts K.Den
   -- the entry has the last value written through the reference
   abbrev pub OccupiedLends : MutBor (LimitedOccupiedEntry K.Denot V.Denot S.Denot L.Denot H.Denot e h b w l) → MutBor V.Denot → Fml
   OccupiedLends o r = follows (occupied.the_row (record { mir = named 1; lft = [] }) K V S L H e h b w l) V o.ghost_name r.ghost_name (with_entry_value o.now)
+
+  -- the entry stays as it is
+  abbrev pub OccupiedRests : MutBor (LimitedOccupiedEntry K.Denot V.Denot S.Denot L.Denot H.Denot e h b w l) → Fml
+  OccupiedRests o =
+      let row = occupied.the_row (record { mir = named 1; lft = [] }) K V S L H e h b w l in
+      follows_so row row o.ghost_name none (λ x n. ⊤) (λ n. n ≡ o.now)

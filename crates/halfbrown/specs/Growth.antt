@@ -47,16 +47,16 @@ module _ {K V S : Type 0} (limit : ℕ) where
   is_full m = m.is_vec && (length m.pairs == limit)
 
   -- whether the form is the vector after a granted switching call: one on a full vector makes a table
-  abbrev pub stays_vec : State K V S → Bool
-  stays_vec m = m.is_vec && not (is_full m)
+  abbrev pub is_vec_after : State K V S → Bool
+  is_vec_after m = m.is_vec && not (is_full m)
 
   -- the capacity that a switching call needs for its switch: one more than the limit
   abbrev pub switch_needs : State K V S → Option ℕ
   switch_needs m = if is_full m then Some (limit + 1) else None
 
   -- the capacity that an insertion of a new key needs, where it needs more
-  abbrev pub unchecked_needs : State K V S → Option ℕ
-  unchecked_needs m = if is_full m then Some (limit + 1) else addition_needs m
+  abbrev pub new_key_needs : State K V S → Option ℕ
+  new_key_needs m = if is_full m then Some (limit + 1) else addition_needs m
 
   -- the capacity that an insertion of k needs, where it needs more: for the switch, or for a new key
   abbrev pub insert_needs : (K → K → Bool) → State K V S → K → Option ℕ

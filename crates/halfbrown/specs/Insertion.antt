@@ -1,15 +1,16 @@
 -- What an insertion does where it is granted, and what it hands back where it is refused.
-use Rattle.std.specs.Prelude.{◌≡◌, ℕ, Bool, Option}
+use Rattle.std.specs.Prelude.{◌≡◌, ℕ, Bool, Option, Result, OnOk, IfOk, IfErr}
 use Rattle.halfbrown.specs.declared.refused.Refused.{Refused}
-use Rattle.halfbrown.specs.Growth.{stays_vec, IsRefusal, IsGrantable, HasCapacityAfter}
-use Rattle.halfbrown.specs.Pairs.{put}
-use Rattle.halfbrown.specs.State.{State}
+use Rattle.halfbrown.specs.Growth.{is_vec_after, insert_needs, new_key_needs, IsRefusal, IsGrantable, HasCapacityAfter}
+use Rattle.halfbrown.specs.Pairs.{put, value_of}
+use Rattle.halfbrown.specs.State.{State, IsState}
+use Rattle.halfbrown.specs.Updates.{HasPut}
 
 module _ {K V S : Type 0} where
   -- a granted insertion of (k, v) that needed this much capacity: the pair is put, and a full vector has become a table
   pub record Puts (limit : ℕ) (eq : K → K → Bool) (old : State K V S) (k : K) (v : V) (needs : Option ℕ) (new : State K V S) : Type 0 where
     pub pairs : new.pairs ≡ put eq old.pairs k v
-    pub form : new.is_vec ≡ stays_vec limit old
+    pub form : new.is_vec ≡ is_vec_after limit old
     pub capacity : HasCapacityAfter limit old needs new
     pub grantable : IsGrantable needs
     pub builder : new.builder ≡ old.builder
@@ -20,3 +21,19 @@ module _ {K V S : Type 0} where
     pub key : refused.key ≡ k
     pub value : refused.value ≡ v
     pub unchanged : new ≡ old
+
+  module _ (limit : ℕ) (eq : K → K → Bool) (old : State K V S) (k : K) (v : V) where
+    -- an insertion of (k, v): granted, it returns the old value of k and puts the pair; refused, it hands the pair back
+    pub record Inserts (result : Result (Option V) (Refused K V)) (new : State K V S) : Type 0 where
+      pub old_value : IfOk result (λ before. before ≡ value_of eq old.pairs k)
+      pub ok : OnOk result (Puts limit eq old k v (insert_needs limit eq old k) new)
+      pub put : OnOk result (HasPut eq old.pairs k v new.pairs)
+      pub returned : IfErr result (HandsBack old k v (insert_needs limit eq old k) new)
+      pub state : IsState eq limit new
+
+    -- an insertion of (k, v) without a search for k, which is not held
+    pub record InsertsNewKey (result : Result (Unit {0}) (Refused K V)) (new : State K V S) : Type 0 where
+      pub ok : OnOk result (Puts limit eq old k v (new_key_needs limit old) new)
+      pub put : OnOk result (HasPut eq old.pairs k v new.pairs)
+      pub returned : IfErr result (HandsBack old k v (new_key_needs limit old) new)
+      pub state : IsState eq limit new

@@ -18,6 +18,8 @@ pub mod Pairs
 pub mod RawEntry
 pub mod RawEntryBuilder
 pub mod RawEntryLending
+pub mod RawSearch
+pub mod Removal
 pub mod Replacement
 pub mod Preparation
 pub mod Run

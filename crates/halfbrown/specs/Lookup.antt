@@ -1,11 +1,11 @@
 -- What a search for a key in a map returns.
 use Rattle.std.specs.Prelude.{◌≡◌, ℕ, ◌<◌, Bool, true, false, List, [], ◌∷◌, ◌++◌, length, slice_get, None, Some}
-use Rattle.std.specs.Map.{keys_of, values_of}
-use Rattle.half_store.specs.Pairs.{index_of, set_value, swap_out}
+use Rattle.std.specs.Map.{keys_of, values_of, lookup, lookup_entry}
+use Rattle.half_store.specs.Pairs.{index_of, set_value, swap_remove_at}
 use Rattle.half_store.specs.Store.{IsVacancy}
 use Rattle.half_store.specs.declared.store.lookup.Lookup.{Lookup}
 use Rattle.half_store.specs.declared.store.lookup.Lookup.TheVariants.{Found, Missing}
-use Rattle.halfbrown.specs.Pairs.{value_by, pair_by, holds_by, set_by, put_by, take_out_by}
+use Rattle.halfbrown.specs.Pairs.{holds_by, set_by, put_by, take_out_by}
 use Rattle.halfbrown.specs.State.{State, contents_of}
 
 module _ {K V : Type 0} (test : K → Bool) (pairs : List (K × V)) where
@@ -14,18 +14,18 @@ module _ {K V : Type 0} (test : K → Bool) (pairs : List (K × V)) where
     pub within : index < length pairs
     pub index_is : index_of test (keys_of pairs) ≡ Some index
     pub held : holds_by test pairs ≡ true
-    pub value : value_by test pairs ≡ slice_get (values_of pairs) index
-    pub pair : pair_by test pairs ≡ slice_get pairs index
+    pub value : lookup test pairs ≡ slice_get (values_of pairs) index
+    pub pair : lookup_entry test pairs ≡ slice_get pairs index
     pub set_is : (v : V) → set_by test pairs v ≡ set_value pairs index v
     pub put_is : (k : K) (v : V) → put_by test pairs k v ≡ set_value pairs index v
-    pub take_is : take_out_by test pairs ≡ swap_out pairs index
+    pub take_is : take_out_by test pairs ≡ swap_remove_at pairs index
 
   -- no key that passes is held
   pub record IsAbsent : Type 0 where
     pub index : index_of test (keys_of pairs) ≡ None
     pub held : holds_by test pairs ≡ false
-    pub value : value_by test pairs ≡ None
-    pub pair : pair_by test pairs ≡ None
+    pub value : lookup test pairs ≡ None
+    pub pair : lookup_entry test pairs ≡ None
     pub put_is : (k : K) (v : V) → put_by test pairs k v ≡ pairs ++ (k, v) ∷ []
     pub take_is : take_out_by test pairs ≡ pairs
 

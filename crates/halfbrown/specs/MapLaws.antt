@@ -6,8 +6,8 @@ use Rattle.half_store.specs.TableLaws.{IsCrowded}
 use Rattle.half_store.specs.Work.{Work}
 use Rattle.halfbrown.specs.declared.run.Command.{Command}
 use Rattle.halfbrown.specs.declared.run.Command.TheVariants.{Insert, InsertNew, EntryOrInsert, RawOrInsert, Get, Remove, Clear, Reserve, Shrink, IsVec, Len}
-use Rattle.halfbrown.specs.Costs.{probe_length, addition_grows, capacity_switched, capacity_grown, unchecked_cost, GrewBy, SearchCosts, InsertCosts}
-use Rattle.halfbrown.specs.Growth.{stays_vec}
+use Rattle.halfbrown.specs.Costs.{probe_length, addition_grows, capacity_switched, capacity_grown, new_key_cost, GrewBy, SearchCosts, InsertCosts}
+use Rattle.halfbrown.specs.Growth.{is_vec_after}
 use Rattle.halfbrown.specs.Pairs.{holds}
 use Rattle.halfbrown.specs.RunCost.{command_cost}
 use Rattle.halfbrown.specs.State.{State, IsState, IsTableCapacity}
@@ -42,10 +42,10 @@ pub record ReadsTwoProbes {K V : Type 0} (hash : K → ℕ) (old new : ℕ) (pai
 module _ {K V S : Type 0} (limit : ℕ) (eq : K → K → Bool) where
   -- whether the command finds its key in a vector: the order of the pairs then decides how many keys it compares
   abbrev pub finds_in_vector : State K V S → Command K V → Bool
-  finds_in_vector m (Insert k v) = stays_vec limit m && holds eq m.pairs k
+  finds_in_vector m (Insert k v) = is_vec_after limit m && holds eq m.pairs k
   finds_in_vector m (InsertNew k v) = m.is_vec && holds eq m.pairs k
-  finds_in_vector m (EntryOrInsert k v) = stays_vec limit m && holds eq m.pairs k
-  finds_in_vector m (RawOrInsert k v) = stays_vec limit m && holds eq m.pairs k
+  finds_in_vector m (EntryOrInsert k v) = is_vec_after limit m && holds eq m.pairs k
+  finds_in_vector m (RawOrInsert k v) = is_vec_after limit m && holds eq m.pairs k
   finds_in_vector m (Get k) = m.is_vec && holds eq m.pairs k
   finds_in_vector m (Remove k) = m.is_vec && holds eq m.pairs k
   finds_in_vector m Clear = false
@@ -113,12 +113,12 @@ module _ {K : Type 0} (V : Type 0) {S : Type 0} (limit : ℕ) (eq : K → K → 
   -- an insertion that makes the capacity of a table grow for its key reads two unsuccessful probes, one before the growth and one after it
   abbrev pub CrowdedGrowthLaw : Type 0
   CrowdedGrowthLaw = (m : State K V S) (k : K) (granted : Bool) (before after : Work)
-      → IsState eq limit m → stays_vec limit m ≡ false → insertion_grows limit eq m k granted ≡ true
+      → IsState eq limit m → is_vec_after limit m ≡ false → insertion_grows limit eq m k granted ≡ true
       → InsertCosts limit eq hash m k granted before after
       → ReadsTwoProbes (hash m.builder) (capacity_switched limit m) (capacity_grown limit m) m.pairs k before after
 
   -- an insertion of a new key without a search passes only buckets that are crowded, in the capacity that it leaves
   abbrev pub CrowdedUncheckedLaw : Type 0
   CrowdedUncheckedLaw = (m : State K V S) (k : K) (granted : Bool) (before after : Work) (passed : ℕ)
-      → IsState eq limit m → GrewBy (unchecked_cost limit eq hash m k granted) before after → before.looked + passed < after.looked
+      → IsState eq limit m → GrewBy (new_key_cost limit eq hash m k granted) before after → before.looked + passed < after.looked
       → IsCrowdedFor (hash m.builder) (capacity_grown limit m) m.pairs k passed

@@ -2,20 +2,12 @@
 use Rattle.std.specs.Prelude.{Bool, List, [], ◌∷◌, ◌++◌, Option, is_some, if◌then◌else◌}
 use Rattle.std.specs.Option.{option_map_or}
 use Rattle.std.specs.Map.{keys_of, lookup, lookup_entry}
-use Rattle.half_store.specs.Pairs.{index_of, swap_out}
+use Rattle.half_store.specs.Pairs.{index_of, swap_remove_at}
 
 module _ {K V : Type 0} (test : K → Bool) where
-  -- the value of the held key that passes
-  abbrev pub value_by : List (K × V) → Option V
-  value_by pairs = lookup test pairs
-
-  -- the stored pair of the held key that passes
-  abbrev pub pair_by : List (K × V) → Option (K × V)
-  pair_by pairs = lookup_entry test pairs
-
   -- whether a key that passes is held
   abbrev pub holds_by : List (K × V) → Bool
-  holds_by pairs = is_some (value_by pairs)
+  holds_by pairs = is_some (lookup test pairs)
 
   -- where a key that passes is held, its pair keeps its key and its index and gets value v; else the same pairs
   abbrev pub set_by : List (K × V) → V → List (K × V)
@@ -28,16 +20,16 @@ module _ {K V : Type 0} (test : K → Bool) where
 
   -- where a key that passes is held, its pair is gone and the last pair takes its index; else the same pairs
   abbrev pub take_out_by : List (K × V) → List (K × V)
-  take_out_by pairs = option_map_or (swap_out pairs) (index_of test (keys_of pairs)) pairs
+  take_out_by pairs = option_map_or (swap_remove_at pairs) (index_of test (keys_of pairs)) pairs
 
 module _ {K V : Type 0} (eq : K → K → Bool) where
   -- the value of the held key that equals k
   abbrev pub value_of : List (K × V) → K → Option V
-  value_of pairs k = value_by (eq k) pairs
+  value_of pairs k = lookup (eq k) pairs
 
   -- the stored pair of the held key that equals k
   abbrev pub pair_of : List (K × V) → K → Option (K × V)
-  pair_of pairs k = pair_by (eq k) pairs
+  pair_of pairs k = lookup_entry (eq k) pairs
 
   -- whether a key equal to k is held
   abbrev pub holds : List (K × V) → K → Bool

@@ -6,7 +6,7 @@ use Rattle.half_store.specs.declared.store.lookup.Lookup.{Lookup}
 use Rattle.half_store.specs.declared.store.lookup.Lookup.TheVariants.{Found, Missing}
 use Rattle.half_store.specs.declared.store.lookup.Vacancy.{Vacancy}
 use Rattle.halfbrown.specs.Costs.{probe_length_by}
-use Rattle.halfbrown.specs.Growth.{stays_vec, IsGrantable, HasCapacityAfter}
+use Rattle.halfbrown.specs.Growth.{is_vec_after, IsGrantable, HasCapacityAfter}
 use Rattle.halfbrown.specs.Lookup.{IsIndexOf, IsAbsent}
 use Rattle.halfbrown.specs.State.{State, state, contents_of}
 
@@ -24,7 +24,7 @@ module _ {K V S : Type 0} where
   -- table
   pub record Prepares (limit : ℕ) (old : State K V S) (needs : Option ℕ) (new : State K V S) : Type 0 where
     pub pairs : new.pairs ≡ old.pairs
-    pub form : new.is_vec ≡ stays_vec limit old
+    pub form : new.is_vec ≡ is_vec_after limit old
     pub capacity : HasCapacityAfter limit old needs new
     pub grantable : IsGrantable needs
     pub builder : new.builder ≡ old.builder

@@ -1,18 +1,24 @@
 -- What an entry is after its value was handed to a closure, which returned another or none.
-use Rattle.std.specs.Prelude.{◌≡◌, ℕ, List, [], ◌∷◌, ◌++◌, Option, None, Some, IfSome, MatchOption, if◌then◌else◌}
+use Rattle.std.specs.Prelude.{◌≡◌, ℕ, Bool, List, [], ◌∷◌, ◌++◌, length, slice_get, Option, None, Some, IfSome, MatchOption, if◌then◌else◌}
 use Rattle.std.specs.Borrow.{Bor}
 use Rattle.std.specs.declared.cmp.PartialEq as eq
 use Rattle.std.specs.declared.hash.Hash as hash
 use Rattle.std.specs.declared.hash.Hasher as hasher
 use Rattle.std.specs.declared.hash.BuildHasher as builder
+use Rattle.half_store.specs.Pairs.{swap_remove_at}
 use Rattle.half_store.specs.Probe.{looked_more}
 use Rattle.half_store.specs.Replaced.{Answers}
 use Rattle.half_store.specs.Work.{Work}
 use Rattle.halfbrown.specs.declared.entry.LimitedEntry.{LimitedEntry}
 use Rattle.halfbrown.specs.declared.limit.Limit as limits
 use Rattle.halfbrown.specs.Costs.{probe_length}
-use Rattle.halfbrown.specs.Entry.{map_of, is_occupied, entry_key, entry_value, entry_pair, with_value, pairs_without}
-use Rattle.halfbrown.specs.State.{WithPairs}
+use Rattle.halfbrown.specs.Entry.{map_ref, map_of, is_occupied, entry_key, entry_value, entry_pair, with_value, pairs_without}
+use Rattle.halfbrown.specs.State.{State, IsState, WithPairs}
+
+-- the pair at this index has gone to the end, which is the index `last`: the pair that was last has its index
+pub record MovesLast {K V S : Type 0} (old : State K V S) (index last : ℕ) (new : State K V S) : Type 0 where
+  pub moved : (pair : K × V) × (slice_get old.pairs index ≡ Some pair) × WithPairs old (swap_remove_at old.pairs index ++ pair ∷ []) new
+  pub last_is : last ≡ length (swap_remove_at old.pairs index)
 
 module _ {K V S L H : Type 0} {e : eq.Ghosts K} {h : hash.Ghosts K} {b : builder.Ghosts S H} {w : hasher.Ghosts H} {l : limits.Ghosts L} where
   -- the pairs once the entry's key has the value that was returned: in a vector its pair goes last, in a table it keeps its index
@@ -44,6 +50,12 @@ module _ {K V S L H : Type 0} {e : eq.Ghosts K} {h : hash.Ghosts K} {b : builder
     pub pair : entry_pair entry ≡ Some (key, value)
     pub answered : Answers returns key value answer
     pub after : MatchOption answer (LosesPair entry key result) (λ v. KeepsPair entry key v result)
+
+  -- the entry is replaced, in the same map, which is whole
+  pub record Replaced (limit : ℕ) (same : K → K → Bool) (returns : Bor K → V → Option V → Type 0) (entry result : LimitedEntry K V S L H e h b w l) : Type 0 where
+    pub replaces : ReplacesEntry returns entry result
+    pub same_map : (map_ref result).ghost_name ≡ (map_ref entry).ghost_name
+    pub state : IsState same limit (map_of result)
 
   -- one insertion probe where the pair is gone, and nothing else
   abbrev pub ReplacementCosts : (S → K → ℕ) → LimitedEntry K V S L H e h b w l → Work → Work → Type 0

@@ -5,7 +5,7 @@ use Rattle.halfbrown.specs.declared.run.Command.{Command}
 use Rattle.halfbrown.specs.declared.run.Command.TheVariants.{Insert, InsertNew, EntryOrInsert, RawOrInsert, Get, Remove, Clear, Reserve, Shrink, IsVec, Len}
 use Rattle.halfbrown.specs.declared.run.Reply.{Reply}
 use Rattle.halfbrown.specs.declared.run.Reply.TheVariants.{Was, Added, Present, Value, Found, Removed, Done, Form, Length, Refused}
-use Rattle.halfbrown.specs.Growth.{vec_shrunk, insert_needs, unchecked_needs, reserve_needs, IsRefusal, Reserves, Shrinks}
+use Rattle.halfbrown.specs.Growth.{vec_shrunk, insert_needs, new_key_needs, reserve_needs, IsRefusal, Reserves, Shrinks}
 use Rattle.halfbrown.specs.Insertion.{Puts}
 use Rattle.halfbrown.specs.Pairs.{value_of, pair_of, holds, take_out}
 use Rattle.halfbrown.specs.State.{State, WithPairs}
@@ -32,18 +32,18 @@ module _ {K V S : Type 0} (limit : ℕ) (eq : K → K → Bool) where
   -- the capacity that the command needs, where it needs more
   abbrev pub command_needs : State K V S → Command K V → Option ℕ
   command_needs m (Insert k v) = insert_needs limit eq m k
-  command_needs m (InsertNew k v) = if holds eq m.pairs k then None else unchecked_needs limit m
+  command_needs m (InsertNew k v) = if holds eq m.pairs k then None else new_key_needs limit m
   command_needs m (EntryOrInsert k v) = insert_needs limit eq m k
-  command_needs m (RawOrInsert k v) = unchecked_needs limit m
+  command_needs m (RawOrInsert k v) = new_key_needs limit m
   command_needs m (Reserve additional) = reserve_needs limit m (length m.pairs + additional)
   command_needs m command = None
 
   -- what a granted command leaves
   abbrev pub Leaves : State K V S → Command K V → State K V S → Type 0
   Leaves old (Insert k v) new = Puts limit eq old k v (insert_needs limit eq old k) new
-  Leaves old (InsertNew k v) new = MatchBool (holds eq old.pairs k) (new ≡ old) (Puts limit eq old k v (unchecked_needs limit old) new)
+  Leaves old (InsertNew k v) new = MatchBool (holds eq old.pairs k) (new ≡ old) (Puts limit eq old k v (new_key_needs limit old) new)
   Leaves old (EntryOrInsert k v) new = Puts limit eq old k (value_or eq old.pairs k v) (insert_needs limit eq old k) new
-  Leaves old (RawOrInsert k v) new = Puts limit eq old k (value_or eq old.pairs k v) (unchecked_needs limit old) new
+  Leaves old (RawOrInsert k v) new = Puts limit eq old k (value_or eq old.pairs k v) (new_key_needs limit old) new
   Leaves old (Get k) new = new ≡ old
   Leaves old (Remove k) new = WithPairs old (take_out eq old.pairs k) new
   Leaves old Clear new = WithPairs old [] new

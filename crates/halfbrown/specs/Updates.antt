@@ -1,8 +1,8 @@
 -- What callers read off a changed list of pairs: which key has which value.
 use Rattle.std.specs.Prelude.{◌≡◌, ◌+◌, Bool, true, false, List, length, Some, None, if◌then◌else◌}
-use Rattle.std.specs.Map.{keys_of, values_of}
+use Rattle.std.specs.Map.{keys_of, values_of, lookup}
 use Rattle.std.specs.Option.{option_map}
-use Rattle.halfbrown.specs.Pairs.{value_of, pair_of, holds, value_by, holds_by}
+use Rattle.halfbrown.specs.Pairs.{value_of, pair_of, holds, holds_by}
 
 -- after these values are written into the pairs: each pair has its key, and where there is one for each pair, its value of them; there
 -- are as many pairs
@@ -25,7 +25,7 @@ module _ {K V : Type 0} (eq : K → K → Bool) where
   -- as many pairs
   pub record HasSetBy (test : K → Bool) (old : List (K × V)) (v : V) (new : List (K × V)) : Type 0 where
     pub held : holds_by test new ≡ true
-    pub value : value_by test new ≡ Some v
+    pub value : lookup test new ≡ Some v
     pub equals : (q : K) → test q ≡ true → value_of eq new q ≡ Some v
     pub others : (q : K) → test q ≡ false → value_of eq new q ≡ value_of eq old q
     pub len : length new ≡ length old
@@ -34,7 +34,7 @@ module _ {K V : Type 0} (eq : K → K → Bool) where
   -- fewer exactly where one was held
   pub record HasRemovedBy (test : K → Bool) (old new : List (K × V)) : Type 0 where
     pub not_held : holds_by test new ≡ false
-    pub no_value : value_by test new ≡ None
+    pub no_value : lookup test new ≡ None
     pub equals : (q : K) → test q ≡ true → value_of eq new q ≡ None
     pub others : (q : K) → test q ≡ false → value_of eq new q ≡ value_of eq old q
     pub len : length old ≡ (if holds_by test old then length new + 1 else length new)

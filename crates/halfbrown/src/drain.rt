@@ -1,12 +1,11 @@
 //! What `drain` returns: the pairs of a map, taken out of it in order.
-ghost use Rattle.std.specs.Prelude.{◌≡◌, ◌^◌, ◌<◌, [], length, Some, IfSome};
+ghost use Rattle.std.specs.Prelude.{◌≡◌, ◌^◌, ◌<◌, false, [], length, Some, IfSome};
 ghost use Rattle.std.specs.Iterator.{at_most, UpTo as IsUpTo};
-ghost use Rattle.std.specs.Iterator.Runs.{YieldsInOrder};
 ghost use Rattle.std.specs.Iterator.SizeHint.{IsWithinCount};
-ghost use Rattle.halfbrown.specs.Drain.{rest, lender, map_after, Steps, KeepsAlong};
-ghost use Rattle.halfbrown.specs.State.{IsState, WithPairs};
+ghost use Rattle.halfbrown.specs.State.{IsState, IsTableCapacity, WithPairs};
 
 use crate::{Limit, LimitedHashMap, UpTo};
+use half_store::{Drained, IntoStore};
 use std::hash::{BuildHasher, Hash};
 use std::iter::FusedIterator;
 
@@ -27,28 +26,43 @@ pub type Drain<'a, K, V, const N: usize, S> = LimitedDrain<'a, K, V, S, UpTo<N>>
 ///     pairs.push(pair)?;
 /// }
 /// ```
-pub struct LimitedDrain<'a, K: Eq + Hash, V, S: BuildHasher, L: Limit> {
-    // the map, with the pairs that are still to come, last first
+pub struct LimitedDrain<
+    'a,
+    K: Eq + Hash,
+    V,
+    S: BuildHasher,
+    L: Limit,
+    P: IntoStore<K, V> = Drained<K, V>,
+> {
+    // an empty vector, until its store is put back
     map: &'a mut LimitedHashMap<K, V, S, L>,
+    // its store, with the pairs that are still to come
+    pairs: P,
+    ghost series: { (P.store pairs).is_vec ≡ false → IsTableCapacity (P.store pairs).capacity },
+    ghost exceeds: { (P.store pairs).is_vec ≡ false → L.LIMIT < (P.store pairs).capacity },
 }
 
-impl<'a, K: Eq + Hash + Drop, V: Drop, S: BuildHasher, L: Limit> Drop
-    for LimitedDrain<'a, K, V, S, L> {
+impl<'a, K: Eq + Hash + Drop, V: Drop, S: BuildHasher, L: Limit, P: IntoStore<K, V>> Drop
+    for LimitedDrain<'a, K, V, S, L, P> {
+    ghost use Rattle.halfbrown.specs.Drain.{map_after};
+
     fn drop(self)
-        ensures after { WithPairs (map_after self.entry) [] self.exit.0.now }
+        ensures after { WithPairs (map_after L.LIMIT self.entry) [] self.exit.0.now }
         ensures state { IsState K.eq L.LIMIT self.exit.0.now }
     {
-        let LimitedDrain { map } = self;
-        map.clear();
+        let LimitedDrain { map, pairs } = self;
+        map.put_back(pairs);
     }
 }
 
 impl<K: Eq + Hash, V, S: BuildHasher, L: Limit> LimitedHashMap<K, V, S, L> {
+    ghost use Rattle.halfbrown.specs.Drain.{rest, lender, map_after, RunsInOrder, KeepsAlong};
+
     /// Takes all pairs out and returns them, in order. Once what it returns is dropped, also before its end, the map holds
     /// no pair: those that were not taken from it are dropped too. The form, the capacity and the builder stay.
     ///
     /// It needs no memory, and nothing is hashed or compared. The order of the pairs is turned round first, and in a table
-    /// what stands in each bucket; so each step removes the last pair.
+    /// the buckets are emptied at the end; each step does no more than to move its pair.
     ///
     /// ```
     /// let mut pairs = ages.drain();
@@ -60,17 +74,19 @@ impl<K: Eq + Hash, V, S: BuildHasher, L: Limit> LimitedHashMap<K, V, S, L> {
         ensures pairs { rest result ≡ self.old.pairs }
         ensures small { length (rest result) < 2 ^ 63 }
         ensures same_map { lender result ≡ self.entry.ghost_name }
-        ensures after { WithPairs self.old [] (map_after result) }
-        ensures runs { YieldsInOrder (Steps {K = K} {V = V} {S = S} {L = L} {H = S.Hasher}) rest }
+        ensures after { WithPairs self.old [] (map_after L.LIMIT result) }
+        ensures runs { RunsInOrder result }
         ensures keeps { KeepsAlong result }
     {
-        self.reverse();
-        LimitedDrain { map: self }
+        let pairs = self.take_store();
+        LimitedDrain { map: self, pairs }
     }
 }
 
 impl<'a, K: Eq + Hash + Drop, V: Drop, S: BuildHasher, L: Limit> Iterator
     for LimitedDrain<'a, K, V, S, L> {
+    ghost use Rattle.halfbrown.specs.Drain.{rest, Steps};
+
     type Item = (K, V);
 
     ghost next_gives = { Steps };
@@ -79,8 +95,8 @@ impl<'a, K: Eq + Hash + Drop, V: Drop, S: BuildHasher, L: Limit> Iterator
 
     #[inline]
     fn next(&mut self) -> Option<(K, V)> {
-        let last = self.map.len().checked_sub(1)?;
-        Some(self.map.take_at(last))
+        let pair = self.pairs.pop_front()?;
+        Some(pair)
     }
 
     fn size_hint(&self) -> (usize, Option<usize>)
@@ -88,7 +104,7 @@ impl<'a, K: Eq + Hash + Drop, V: Drop, S: BuildHasher, L: Limit> Iterator
         ensures upper { IfSome result.1 (IsUpTo (at_most (length (rest self.now)))) }
         ensures exact { result ≡ (length (rest self.now), Some (length (rest self.now))) }
     {
-        let len = self.map.len();
+        let len = self.pairs.len();
         (len, Some(len))
     }
 }
@@ -96,7 +112,7 @@ impl<'a, K: Eq + Hash + Drop, V: Drop, S: BuildHasher, L: Limit> Iterator
 impl<'a, K: Eq + Hash + Drop, V: Drop, S: BuildHasher, L: Limit> ExactSizeIterator
     for LimitedDrain<'a, K, V, S, L> {
     fn len(&self) -> usize {
-        self.map.len()
+        self.pairs.len()
     }
 }
 

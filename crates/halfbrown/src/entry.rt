@@ -69,11 +69,11 @@ pub enum LimitedEntry<'a, K: Eq + Hash, V, S: BuildHasher, L: Limit> {
     Vacant(LimitedVacantEntry<'a, K, V, S, L>),
 }
 
-/// The pair of a held key.
+/// The pair of a held key: what an entry has where its key is held, and a raw entry where its search found a pair.
 #[derive(Drop)]
 pub struct LimitedOccupiedEntry<'a, K: Eq + Hash, V, S: BuildHasher, L: Limit> {
-    map: &'a mut LimitedHashMap<K, V, S, L>,
-    index: usize,
+    pub(crate) map: &'a mut LimitedHashMap<K, V, S, L>,
+    pub(crate) index: usize,
     ghost within: { index < length map.now.pairs },
 }
 

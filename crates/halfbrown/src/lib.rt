@@ -30,7 +30,6 @@
 
 mod drain;
 mod entry;
-mod equivalent;
 mod limit;
 mod macros;
 mod map;
@@ -42,7 +41,7 @@ pub use drain::{Drain, LimitedDrain};
 pub use entry::{
     Entry, LimitedEntry, LimitedOccupiedEntry, LimitedVacantEntry, OccupiedEntry, VacantEntry,
 };
-pub use equivalent::Equivalent;
+pub use half_equivalent::Equivalent;
 pub use half_iter::{IntoIter, Iter, IterMut, Keys, Values, ValuesMut};
 pub use half_store::{Refusal, Tally};
 pub use limit::{Limit, UpTo};

@@ -1,14 +1,15 @@
 //! The map, and what it says of itself.
-ghost use Rattle.std.specs.Prelude.{◌≡◌, ◌^◌, ◌<◌, ◌↔◌, false, [], length, IsTrue};
+ghost use Rattle.std.specs.Prelude.{◌≡◌, ◌^◌, ◌<◌, ◌↔◌, [], length, IsTrue};
 ghost use Rattle.halfbrown.specs.State.{IsState, WithPairs};
 
-mod add;
 mod at;
 mod clone;
 mod collect;
 mod debug;
+mod drained;
 mod equality;
 mod find;
+mod form;
 mod get;
 mod growth;
 mod insert;
@@ -20,8 +21,6 @@ mod prepare;
 mod remove;
 mod replace;
 mod retain;
-mod reverse;
-mod switch;
 
 use crate::{Limit, UpTo};
 use half_store::Store;
@@ -137,31 +136,6 @@ impl<K: Eq + Hash, V, S: BuildHasher, L: Limit> LimitedHashMap<K, V, S, L> {
         ensures { result.now ≡ self.now.builder }
     {
         &self.builder
-    }
-
-    /// Whether the form is the vector.
-    ///
-    /// ```
-    /// let is_vector = ages.is_vec(); // true: two pairs, and the limit is 32
-    /// ```
-    #[inline(always)]
-    pub fn is_vec(&self) -> bool
-        ensures form { result ≡ self.now.is_vec }
-        ensures state { IsState K.eq L.LIMIT self.now }
-    {
-        self.store.is_vec()
-    }
-
-    /// Whether the form is the table.
-    ///
-    /// ```
-    /// let is_table = ages.is_map(); // false
-    /// ```
-    #[inline(always)]
-    pub fn is_map(&self) -> bool
-        ensures { IsTrue result ↔ (self.now.is_vec ≡ false) }
-    {
-        !self.store.is_vec()
     }
 
     /// How many pairs fit before more memory is needed. In a vector it is at most the limit.

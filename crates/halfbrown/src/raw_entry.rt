@@ -6,10 +6,9 @@ mod builder_mut;
 mod debug;
 mod make;
 mod methods;
-mod occupied;
 mod vacant;
 
-use crate::{Limit, LimitedHashMap, UpTo};
+use crate::{Limit, LimitedHashMap, LimitedOccupiedEntry, UpTo};
 use std::hash::{BuildHasher, Hash};
 
 /// Look-ups by a known hash or by a match on keys, in a map that stores up to `N` pairs in a vector.
@@ -50,20 +49,23 @@ pub type RawEntryBuilderMut<'a, K, V, const N: usize, S> = LimitedRawEntryBuilde
 /// ```
 pub type RawEntryMut<'a, K, V, const N: usize, S> = LimitedRawEntryMut<'a, K, V, S, UpTo<N>>;
 
-/// The raw entry of a pair that was found, in a map that stores up to `N` pairs in a vector.
+/// The raw entry of a pair that was found, in a map that stores up to `N` pairs in a vector: an occupied entry, as that of a key.
 ///
 /// ```
 /// fn take(entry: RawOccupiedEntryMut<'_, u64, u32, 32, DefaultHashBuilder>) -> u32 {
 ///     entry.remove()
 /// }
 /// ```
-pub type RawOccupiedEntryMut<'a, K, V, const N: usize, S> = LimitedRawOccupiedEntryMut<
+pub type RawOccupiedEntryMut<'a, K, V, const N: usize, S> = LimitedOccupiedEntry<
     'a,
     K,
     V,
     S,
     UpTo<N>,
 >;
+
+/// The same, in a map of any limit.
+pub type LimitedRawOccupiedEntryMut<'a, K, V, S, L> = LimitedOccupiedEntry<'a, K, V, S, L>;
 
 /// The raw entry where no pair was found, in a map that stores up to `N` pairs in a vector.
 ///
@@ -119,17 +121,9 @@ pub struct Prepared<'a, K: Eq + Hash, V, S: BuildHasher, L: Limit> {
 #[derive(Drop)]
 pub enum LimitedRawEntryMut<'a, K: Eq + Hash, V, S: BuildHasher, L: Limit> {
     /// A pair was found.
-    Occupied(LimitedRawOccupiedEntryMut<'a, K, V, S, L>),
+    Occupied(LimitedOccupiedEntry<'a, K, V, S, L>),
     /// None was.
     Vacant(LimitedRawVacantEntryMut<'a, K, V, S, L>),
-}
-
-/// The pair that was found.
-#[derive(Drop)]
-pub struct LimitedRawOccupiedEntryMut<'a, K: Eq + Hash, V, S: BuildHasher, L: Limit> {
-    map: &'a mut LimitedHashMap<K, V, S, L>,
-    index: usize,
-    ghost within: { index < length map.now.pairs },
 }
 
 /// A vacancy for any pair whose key is not held.

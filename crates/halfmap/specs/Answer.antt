@@ -1,6 +1,6 @@
 -- What a request is answered.
 use Rattle.std.specs.Prelude.{◌≡◌, ℕ, List, nat_eq, Option, Some, None, IsSome, ◌⊎◌, length, if◌then◌else◌}
-use Rattle.halfbrown.specs.Growth.{insert_needs, stays_vec}
+use Rattle.halfbrown.specs.Growth.{insert_needs, is_vec_after}
 use Rattle.halfbrown.specs.Pairs.{value_of, put, take_out}
 use Rattle.halfbrown.specs.State.{State, WithPairs}
 use Rattle.halfmap.specs.Line.{IsTextOfLine}
@@ -25,16 +25,16 @@ abbrev pub limit : ℕ
 limit = 5
 
 -- what a request is answered, and what it makes of the map; an insertion may be refused where it needs more capacity
-abbrev pub Answers : {S : Type 0} → Request → State ℕ ℕ S → Answer → State ℕ ℕ S → Type 0
-Answers (Insert k v) old answer new =
+abbrev pub IsAnswerTo : {S : Type 0} → Request → State ℕ ℕ S → Answer → State ℕ ℕ S → Type 0
+IsAnswerTo (Insert k v) old answer new =
     ((answer ≡ NoRoom) × IsSome (insert_needs limit nat_eq old k) × (new ≡ old))
     ⊎ ((answer ≡ was (value_of nat_eq old.pairs k))
     × (new.pairs ≡ put nat_eq old.pairs k v)
-    × (new.is_vec ≡ stays_vec limit old))
-Answers (Get k) old answer new = (answer ≡ found (value_of nat_eq old.pairs k)) × (new ≡ old)
-Answers (Remove k) old answer new =
+    × (new.is_vec ≡ is_vec_after limit old))
+IsAnswerTo (Get k) old answer new = (answer ≡ found (value_of nat_eq old.pairs k)) × (new ≡ old)
+IsAnswerTo (Remove k) old answer new =
     (answer ≡ was (value_of nat_eq old.pairs k)) × WithPairs old (take_out nat_eq old.pairs k) new
-Answers Form old answer new =
+IsAnswerTo Form old answer new =
     (answer ≡ (if old.is_vec then Vector (length old.pairs) else Table (length old.pairs))) × (new ≡ old)
 
 -- what a line is answered, and what it makes of the map: what the request does that its text writes; and where it writes none, `bad
@@ -42,5 +42,5 @@ Answers Form old answer new =
 abbrev pub AnswersLine : {S : Type 0} → List ℕ → State ℕ ℕ S → Answer → State ℕ ℕ S → Type 0
 AnswersLine line old answer new =
     (text : List ℕ) × IsTextOfLine line text
-    × (((request : Request) × IsTextOf request text × Answers request old answer new)
+    × (((request : Request) × IsTextOf request text × IsAnswerTo request old answer new)
     ⊎ (((request : Request) → ¬ (IsTextOf request text)) × (answer ≡ BadLine) × (new ≡ old)))

@@ -1,7 +1,7 @@
 //! What a request is answered.
 ghost use Rattle.std.specs.Prelude.{◌≡◌, Some};
-ghost use Rattle.halfmap.specs.Answer.{Answers, was as was_answer};
-ghost use Rattle.halfmap.specs.Text.{text_of};
+ghost use Rattle.halfmap.specs.Answer.{IsAnswerTo, was as was_answer};
+ghost use Rattle.halfmap.specs.Text.{text_of_answer};
 
 use crate::request::Request;
 use halfbrown::{DefaultHashBuilder, SizedHashMap};
@@ -30,7 +30,7 @@ pub(crate) enum Answer {
 }
 
 impl fmt::Display for Answer {
-    ghost output = { λ answer. Some (text_of answer) };
+    ghost output = { λ answer. Some (text_of_answer answer) };
 
     fn fmt<W: fmt::Write>(&self, f: &mut fmt::Formatter<W>) -> fmt::Result {
         match *self {
@@ -47,7 +47,7 @@ impl fmt::Display for Answer {
 
 /// Does what the request asks, and answers it.
 pub(crate) fn perform(map: &mut Numbers, request: Request) -> Answer
-    ensures { Answers request map.old result map.new }
+    ensures { IsAnswerTo request map.old result map.new }
 {
     match request {
         Request::Insert(key, value) => match map.insert(key, value) {

@@ -3,6 +3,7 @@
 use crate::call::{Inspection, Manner};
 use crate::kinds::OfNumber;
 use crate::maps::{Maps, mark};
+use crate::pairs::take;
 use crate::{shown, walk, whole};
 use std::fmt::Debug;
 use std::io;
@@ -16,9 +17,12 @@ pub(crate) fn perform<'a, V: OfNumber<'a> + Clone + PartialEq + Debug + Drop, co
 ) -> io::Result<()> {
     match call {
         Inspection::Walk(walk) => {
-            let empty = maps.empty();
             mark(rt, manner.is_refused)?;
-            walk::perform(rt, &mut maps.a, empty, &walk)
+            if walk.kind.takes_the_map() {
+                let taken = take(maps);
+                return walk::perform_taking(rt, taken, &walk);
+            }
+            walk::perform(rt, &mut maps.a, &walk)
         }
         Inspection::Shown(call) => {
             mark(rt, manner.is_refused)?;

@@ -64,8 +64,8 @@ fn answer<'a, V: OfNumber<'a> + Clone + PartialEq + Drop, const N: usize>(
     Answer::Done
 }
 
-// The first map, which is a new one afterwards.
-fn take<'a, V, const N: usize>(maps: &mut Maps<'a, V, N>) -> Counted<'a, V, N> {
+/// The first map, which is a new one afterwards.
+pub(crate) fn take<'a, V, const N: usize>(maps: &mut Maps<'a, V, N>) -> Counted<'a, V, N> {
     let empty = maps.empty();
     std::mem::replace(&mut maps.a, empty)
 }

@@ -1,7 +1,7 @@
 //! The calls of the raw entry of a key that are handed no value, in a map of any keys.
 ghost use Rattle.std.specs.Prelude.{◌≡◌, true, false, IfOk, IfSome};
 ghost use Rattle.halfbrown.specs.Pairs.{holds};
-ghost use Rattle.halfbrown.specs.RawEntry.{map_of, entry_key, is_occupied};
+ghost use Rattle.halfbrown.specs.RawEntry.{raw_map, found_key, is_found};
 
 use crate::answer::Answer;
 use crate::call::{Lent, OfFound, OfRaw};
@@ -36,9 +36,9 @@ pub(crate) fn raw_entry_of<'a, K: Eq + Hash, V, S: BuildHasher, L: Limit>(
     key: &K,
     is_counted: bool,
 ) -> Result<LimitedRawEntryMut<'a, K, V, S, L>, Refusal>
-    ensures absent { IfOk result (λ e. is_occupied e ≡ false → holds K.eq (map_of e).pairs key.now ≡ false) }
-    ensures equal { IfOk result (λ e. IfSome (entry_key e) (λ k. K.eq key.now k ≡ true)) }
-    ensures hasher { IfOk result (λ e. (map_of e).builder ≡ map.old.builder) }
+    ensures absent { IfOk result (λ e. is_found e ≡ false → holds K.eq (raw_map e).pairs key.now ≡ false) }
+    ensures equal { IfOk result (λ e. IfSome (found_key e) (λ k. K.eq key.now k ≡ true)) }
+    ensures hasher { IfOk result (λ e. (raw_map e).builder ≡ map.old.builder) }
 {
     if is_counted {
         let tally = &mut Tally::new();

@@ -30,7 +30,9 @@ pub(crate) fn perform<
             add_entry(map, counts, key, value, call, is_counted)
         }
         OfRawWith::Add(addition) => add_pair(map, counts, key, value, addition, is_counted),
-        call => insert(map, key, value, call, is_counted),
+        OfRawWith::OrInsert => or_insert(map, key, value, is_counted),
+        OfRawWith::OrInsertEntry => or_insert_entry(map, key, value, is_counted),
+        OfRawWith::Insert => insert(map, key, value, is_counted),
     })
 }
 
@@ -50,31 +52,45 @@ fn write<K: Eq + Hash + Named, V: Number + Drop, S: BuildHasher, L: Limit>(
     })
 }
 
+fn or_insert<K: Eq + Hash + Named + Drop, V: Number + Drop, S: BuildHasher, L: Limit>(
+    map: &mut LimitedHashMap<K, V, S, L>,
+    key: K,
+    value: V,
+    is_counted: bool,
+) -> Result<Answer, Refusal> {
+    let entry = raw_entry_of(map, &key, is_counted)?;
+    let (stored, lent) = if is_counted {
+        entry.or_insert_counted(key, value, &mut Tally::new())
+    } else {
+        entry.or_insert(key, value)
+    };
+    Ok(Answer::Pair(stored.name(), lent.number()))
+}
+
+fn or_insert_entry<K: Eq + Hash + Named + Drop, V: Number + Drop, S: BuildHasher, L: Limit>(
+    map: &mut LimitedHashMap<K, V, S, L>,
+    key: K,
+    value: V,
+    is_counted: bool,
+) -> Result<Answer, Refusal> {
+    let entry = raw_entry_of(map, &key, is_counted)?;
+    let left = if is_counted {
+        entry.or_insert_entry_counted(key, value, &mut Tally::new())
+    } else {
+        entry.or_insert_entry(key, value)
+    };
+    Ok(Answer::Pair(left.key().name(), left.get().number()))
+}
+
 fn insert<K: Eq + Hash + Named + Drop, V: Number + Drop, S: BuildHasher, L: Limit>(
     map: &mut LimitedHashMap<K, V, S, L>,
     key: K,
     value: V,
-    call: OfRawWith,
     is_counted: bool,
 ) -> Result<Answer, Refusal> {
-    let tally = &mut Tally::new();
     let entry = raw_entry_of(map, &key, is_counted)?;
-    if let OfRawWith::OrInsert = call {
-        let (stored, lent) = if is_counted {
-            entry.or_insert_counted(key, value, tally)
-        } else {
-            entry.or_insert(key, value)
-        };
-        return Ok(Answer::Pair(stored.name(), lent.number()));
-    }
-    let left = if let OfRawWith::OrInsertEntry = call {
-        if is_counted {
-            entry.or_insert_entry_counted(key, value, tally)
-        } else {
-            entry.or_insert_entry(key, value)
-        }
-    } else if is_counted {
-        entry.insert_counted(key, value, tally)
+    let left = if is_counted {
+        entry.insert_counted(key, value, &mut Tally::new())
     } else {
         entry.insert(key, value)
     };
@@ -103,7 +119,7 @@ fn or_insert_with<K: Eq + Hash + Named + Drop, V: Number + Drop, S: BuildHasher,
     Ok(Answer::Pair(stored.name(), lent.number()))
 }
 
-// Adds the pair through the vacant entry, by a call that lends it. The hash that is handed in is not counted.
+// Adds the pair through the vacant entry, by a call that lends it. A hash that is handed in is not counted.
 fn add_pair<K: Eq + Hash + Named + Drop, V: Number + Drop, S: BuildHasher + Copy, L: Limit>(
     map: &mut LimitedHashMap<K, V, S, L>,
     counts: &Counts,
@@ -112,10 +128,60 @@ fn add_pair<K: Eq + Hash + Named + Drop, V: Number + Drop, S: BuildHasher + Copy
     addition: Addition,
     is_counted: bool,
 ) -> Result<Answer, Refusal> {
+    match addition {
+        Addition::Hashed => add_hashed(map, counts, key, value, is_counted),
+        Addition::WithHasher => add_with_hasher(map, counts, key, value, is_counted),
+        _ => add(map, key, value, is_counted),
+    }
+}
+
+fn add<K: Eq + Hash + Named + Drop, V: Number + Drop, S: BuildHasher, L: Limit>(
+    map: &mut LimitedHashMap<K, V, S, L>,
+    key: K,
+    value: V,
+    is_counted: bool,
+) -> Result<Answer, Refusal> {
+    let LimitedRawEntryMut::Vacant(entry) = raw_entry_of(map, &key, is_counted)? else {
+        return Ok(Answer::Occupied);
+    };
+    let (stored, lent) = if is_counted {
+        entry.insert_counted(key, value, &mut Tally::new())
+    } else {
+        entry.insert(key, value)
+    };
+    Ok(Answer::Pair(stored.name(), lent.number()))
+}
+
+fn add_hashed<K: Eq + Hash + Named + Drop, V: Number + Drop, S: BuildHasher, L: Limit>(
+    map: &mut LimitedHashMap<K, V, S, L>,
+    counts: &Counts,
+    key: K,
+    value: V,
+    is_counted: bool,
+) -> Result<Answer, Refusal> {
+    let hash = map.hasher().hash_one(&key);
+    counts.take_work();
+    let LimitedRawEntryMut::Vacant(entry) = raw_entry_of(map, &key, is_counted)? else {
+        return Ok(Answer::Occupied);
+    };
+    let (stored, lent) = if is_counted {
+        entry.insert_hashed_nocheck_counted(hash, key, value, &mut Tally::new())
+    } else {
+        entry.insert_hashed_nocheck(hash, key, value)
+    };
+    Ok(Answer::Pair(stored.name(), lent.number()))
+}
+
+fn add_with_hasher<K: Eq + Hash + Named + Drop, V: Number + Drop, S: BuildHasher + Copy, L: Limit>(
+    map: &mut LimitedHashMap<K, V, S, L>,
+    counts: &Counts,
+    key: K,
+    value: V,
+    is_counted: bool,
+) -> Result<Answer, Refusal> {
     let builder = *map.hasher();
     let hash = builder.hash_one(&key);
     counts.take_work();
-    let tally = &mut Tally::new();
     let LimitedRawEntryMut::Vacant(entry) = raw_entry_of(map, &key, is_counted)? else {
         return Ok(Answer::Occupied);
     };
@@ -123,15 +189,10 @@ fn add_pair<K: Eq + Hash + Named + Drop, V: Number + Drop, S: BuildHasher + Copy
         counts.count_call();
         builder.hash_one(stored)
     };
-    let (stored, lent) = match (addition, is_counted) {
-        (Addition::Hashed, false) => entry.insert_hashed_nocheck(hash, key, value),
-        (Addition::Hashed, true) => { entry.insert_hashed_nocheck_counted(hash, key, value, tally) }
-        (Addition::WithHasher, false) => entry.insert_with_hasher(hash, key, value, hasher),
-        (Addition::WithHasher, true) => {
-            entry.insert_with_hasher_counted(hash, key, value, hasher, tally)
-        }
-        (_, false) => entry.insert(key, value),
-        (_, true) => entry.insert_counted(key, value, tally),
+    let (stored, lent) = if is_counted {
+        entry.insert_with_hasher_counted(hash, key, value, hasher, &mut Tally::new())
+    } else {
+        entry.insert_with_hasher(hash, key, value, hasher)
     };
     Ok(Answer::Pair(stored.name(), lent.number()))
 }

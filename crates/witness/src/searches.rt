@@ -24,14 +24,133 @@ pub(crate) fn perform<
     search: Search,
     is_counted: bool,
 ) -> Answer {
-    Answer::or_refused(if is_counted {
-        by_counted_forms(map, counts, form, search)
+    match search {
+        Search::Remove => remove(map, form, is_counted),
+        Search::RemoveEntry => remove_entry(map, form, is_counted),
+        Search::RawEntry => raw_entry(map, form, is_counted),
+        Search::RawEntryHashed => raw_entry_hashed(map, counts, form, is_counted),
+        Search::RawFind => Answer::or_refused(raw_find(map, form, is_counted)),
+        Search::RawFindHashed => {
+            Answer::or_refused(raw_find_hashed(map, counts, form, is_counted))
+        }
+        _ => read(map, counts, form, search, is_counted),
+    }
+}
+
+fn read<K: Eq + Hash + Named + Drop, V: Number + Drop, S: BuildHasher, L: Limit, Q: Equivalent<K>>(
+    map: &LimitedHashMap<K, V, S, L>,
+    counts: &Counts,
+    form: Q,
+    search: Search,
+    is_counted: bool,
+) -> Answer {
+    match (search, is_counted) {
+        (Search::Get, false) => Answer::of_value(map.get(form)),
+        (Search::Get, true) => Answer::of_value(map.get_counted(form, &mut Tally::new())),
+        (Search::GetKeyValue, false) => Answer::of_pair(map.get_key_value(form)),
+        (Search::GetKeyValue, true) => {
+            Answer::of_pair(map.get_key_value_counted(form, &mut Tally::new()))
+        }
+        (Search::ContainsKey, false) => Answer::Truth(map.contains_key(form)),
+        (Search::ContainsKey, true) => {
+            Answer::Truth(map.contains_key_counted(form, &mut Tally::new()))
+        }
+        (_, is_counted) => index(map, counts, form, is_counted),
+    }
+}
+
+fn index<K: Eq + Hash + Named + Drop, V: Number + Drop, S: BuildHasher, L: Limit, Q: Equivalent<K>>(
+    map: &LimitedHashMap<K, V, S, L>,
+    counts: &Counts,
+    form: Q,
+    is_counted: bool,
+) -> Answer {
+    if !holds(map, counts, form) {
+        return Answer::NotHeld;
+    }
+    if is_counted {
+        Answer::Value(map.index_counted(form, &mut Tally::new()).number())
     } else {
-        by_plain_forms(map, counts, form, search)
+        Answer::Value(map[form].number())
+    }
+}
+
+fn remove<
+    K: Eq + Hash + Named + Drop,
+    V: Number + Drop,
+    S: BuildHasher,
+    L: Limit,
+    Q: Equivalent<K>,
+>(map: &mut LimitedHashMap<K, V, S, L>, form: Q, is_counted: bool) -> Answer {
+    of_removed_value(if is_counted {
+        map.remove_counted(form, &mut Tally::new())
+    } else {
+        map.remove(form)
     })
 }
 
-fn by_plain_forms<
+fn remove_entry<
+    K: Eq + Hash + Named + Drop,
+    V: Number + Drop,
+    S: BuildHasher,
+    L: Limit,
+    Q: Equivalent<K>,
+>(map: &mut LimitedHashMap<K, V, S, L>, form: Q, is_counted: bool) -> Answer {
+    of_removed_pair(if is_counted {
+        map.remove_entry_counted(form, &mut Tally::new())
+    } else {
+        map.remove_entry(form)
+    })
+}
+
+fn raw_entry<
+    K: Eq + Hash + Named + Drop,
+    V: Number + Drop,
+    S: BuildHasher,
+    L: Limit,
+    Q: Equivalent<K>,
+>(map: &LimitedHashMap<K, V, S, L>, form: Q, is_counted: bool) -> Answer {
+    Answer::of_pair(if is_counted {
+        map.raw_entry().from_key_counted(form, &mut Tally::new())
+    } else {
+        map.raw_entry().from_key(form)
+    })
+}
+
+fn raw_entry_hashed<
+    K: Eq + Hash + Named + Drop,
+    V: Number + Drop,
+    S: BuildHasher,
+    L: Limit,
+    Q: Equivalent<K>,
+>(map: &LimitedHashMap<K, V, S, L>, counts: &Counts, form: Q, is_counted: bool) -> Answer {
+    let hash = map.hasher().hash_one(form);
+    counts.take_work();
+    let entries = map.raw_entry();
+    Answer::of_pair(if is_counted {
+        entries.from_key_hashed_nocheck_counted(hash, form, &mut Tally::new())
+    } else {
+        entries.from_key_hashed_nocheck(hash, form)
+    })
+}
+
+fn raw_find<
+    K: Eq + Hash + Named + Drop,
+    V: Number + Drop,
+    S: BuildHasher,
+    L: Limit,
+    Q: Equivalent<K>,
+>(map: &mut LimitedHashMap<K, V, S, L>, form: Q, is_counted: bool) -> Result<Answer, Refusal> {
+    Ok(of_found(if is_counted {
+        let tally = &mut Tally::new();
+        let entries = map.raw_entry_mut_counted(tally)?;
+        entries.from_key_counted(form, tally)
+    } else {
+        map.raw_entry_mut()?.from_key(form)
+    }))
+}
+
+fn raw_find_hashed<
     K: Eq + Hash + Named + Drop,
     V: Number + Drop,
     S: BuildHasher,
@@ -41,78 +160,17 @@ fn by_plain_forms<
     map: &mut LimitedHashMap<K, V, S, L>,
     counts: &Counts,
     form: Q,
-    search: Search,
+    is_counted: bool,
 ) -> Result<Answer, Refusal> {
-    Ok(match search {
-        Search::Get => Answer::of_value(map.get(form)),
-        Search::GetKeyValue => Answer::of_pair(map.get_key_value(form)),
-        Search::ContainsKey => Answer::Truth(map.contains_key(form)),
-        Search::Index => {
-            if !holds(map, counts, form) {
-                return Ok(Answer::NotHeld);
-            }
-            Answer::Value(map[form].number())
-        }
-        Search::Remove => of_removed_value(map.remove(form)),
-        Search::RemoveEntry => of_removed_pair(map.remove_entry(form)),
-        Search::RawEntry => Answer::of_pair(map.raw_entry().from_key(form)),
-        Search::RawEntryHashed => {
-            let hash = map.hasher().hash_one(form);
-            counts.take_work();
-            Answer::of_pair(map.raw_entry().from_key_hashed_nocheck(hash, form))
-        }
-        Search::RawFind => of_found(map.raw_entry_mut()?.from_key(form)),
-        Search::RawFindHashed => {
-            let hash = map.hasher().hash_one(form);
-            counts.take_work();
-            of_found(map.raw_entry_mut()?.from_key_hashed_nocheck(hash, form))
-        }
-    })
-}
-
-fn by_counted_forms<
-    K: Eq + Hash + Named + Drop,
-    V: Number + Drop,
-    S: BuildHasher,
-    L: Limit,
-    Q: Equivalent<K>,
->(
-    map: &mut LimitedHashMap<K, V, S, L>,
-    counts: &Counts,
-    form: Q,
-    search: Search,
-) -> Result<Answer, Refusal> {
-    let tally = &mut Tally::new();
-    Ok(match search {
-        Search::Get => Answer::of_value(map.get_counted(form, tally)),
-        Search::GetKeyValue => Answer::of_pair(map.get_key_value_counted(form, tally)),
-        Search::ContainsKey => Answer::Truth(map.contains_key_counted(form, tally)),
-        Search::Index => {
-            if !holds(map, counts, form) {
-                return Ok(Answer::NotHeld);
-            }
-            Answer::Value(map.index_counted(form, tally).number())
-        }
-        Search::Remove => of_removed_value(map.remove_counted(form, tally)),
-        Search::RemoveEntry => of_removed_pair(map.remove_entry_counted(form, tally)),
-        Search::RawEntry => Answer::of_pair(map.raw_entry().from_key_counted(form, tally)),
-        Search::RawEntryHashed => {
-            let hash = map.hasher().hash_one(form);
-            counts.take_work();
-            let entries = map.raw_entry();
-            Answer::of_pair(entries.from_key_hashed_nocheck_counted(hash, form, tally))
-        }
-        Search::RawFind => {
-            let entries = map.raw_entry_mut_counted(tally)?;
-            of_found(entries.from_key_counted(form, tally))
-        }
-        Search::RawFindHashed => {
-            let hash = map.hasher().hash_one(form);
-            counts.take_work();
-            let entries = map.raw_entry_mut_counted(tally)?;
-            of_found(entries.from_key_hashed_nocheck_counted(hash, form, tally))
-        }
-    })
+    let hash = map.hasher().hash_one(form);
+    counts.take_work();
+    Ok(of_found(if is_counted {
+        let tally = &mut Tally::new();
+        let entries = map.raw_entry_mut_counted(tally)?;
+        entries.from_key_hashed_nocheck_counted(hash, form, tally)
+    } else {
+        map.raw_entry_mut()?.from_key_hashed_nocheck(hash, form)
+    }))
 }
 
 fn of_removed_value<V: Number + Drop>(removed: Option<V>) -> Answer {

@@ -9,30 +9,44 @@ use std::fmt::Debug;
 use std::hash::{BuildHasher, Hash};
 use std::io;
 
-/// Makes the iterator and the calls on it, and prints what they gave. Where it takes the map, an empty one is left.
+/// Makes the iterator and the calls on it, and prints what they gave.
 pub(crate) fn perform<
     K: Eq + Hash + Drop + Named + Debug,
     V: Drop + Number + Debug,
-    S: BuildHasher + Drop,
+    S: BuildHasher,
     L: Limit,
->(
+>(rt: &impl Print, map: &mut LimitedHashMap<K, V, S, L>, walk: &Walk) -> io::Result<()> {
+    match walk.kind {
+        Kind::IterMut => play(rt, &mut Writing::new(map.iter_mut()), walk),
+        Kind::ValuesMut => play(rt, &mut map.values_mut(), walk),
+        Kind::Drain => play(rt, &mut map.drain(), walk),
+        Kind::ForMut => play(rt, &mut map.into_iter(), walk),
+        _ => perform_reading(rt, map, walk),
+    }
+}
+
+// The iterators that write nothing.
+fn perform_reading<K: Eq + Hash + Named + Debug, V: Number + Debug, S: BuildHasher, L: Limit>(
     rt: &impl Print,
-    map: &mut LimitedHashMap<K, V, S, L>,
-    empty: LimitedHashMap<K, V, S, L>,
+    map: &LimitedHashMap<K, V, S, L>,
     walk: &Walk,
 ) -> io::Result<()> {
     match walk.kind {
-        Kind::Iter => play(rt, &mut map.iter(), walk),
         Kind::Keys => play(rt, &mut map.keys(), walk),
         Kind::Values => play(rt, &mut map.values(), walk),
-        Kind::IterMut => play(rt, &mut Writing::new(map.iter_mut()), walk),
-        Kind::ValuesMut => play(rt, &mut map.values_mut(), walk),
-        Kind::IntoIter => play(rt, &mut std::mem::replace(map, empty).into_iter(), walk),
-        Kind::Drain => play(rt, &mut map.drain(), walk),
-        Kind::For => play(rt, &mut (&*map).into_iter(), walk),
-        Kind::ForMut => play(rt, &mut map.into_iter(), walk),
-        Kind::ForValue => play(rt, &mut std::mem::replace(map, empty).into_iter(), walk),
+        Kind::For => play(rt, &mut map.into_iter(), walk),
+        _ => play(rt, &mut map.iter(), walk),
     }
+}
+
+/// The same of an iterator that takes the map.
+pub(crate) fn perform_taking<
+    K: Eq + Hash + Drop + Named,
+    V: Drop + Number,
+    S: BuildHasher + Drop,
+    L: Limit,
+>(rt: &impl Print, map: LimitedHashMap<K, V, S, L>, walk: &Walk) -> io::Result<()> {
+    play(rt, &mut map.into_iter(), walk)
 }
 
 fn play<I: Walked>(rt: &impl Print, items: &mut I, walk: &Walk) -> io::Result<()> {

@@ -2,7 +2,6 @@
 ghost use Rattle.std.specs.Iterator.{IsFinite};
 
 use crate::kinds::{Named, Number};
-use crate::lists::print_gap;
 use crate::words::Name;
 use halfbrown::{IntoIter, Iter, Keys, Limit, LimitedDrain, Values, ValuesMut};
 use std::fmt::Debug;
@@ -66,16 +65,16 @@ pub(crate) fn of_written_pair<K: Named, V: Number>(pair: (&K, &mut V)) -> Piece 
     Piece::Pair(key.name(), value.number())
 }
 
-fn of_owned_pair<K: Named + Drop, V: Number + Drop>(pair: (K, V)) -> Piece {
+pub(crate) fn of_owned_pair<K: Named + Drop, V: Number + Drop>(pair: (K, V)) -> Piece {
     let (key, value) = pair;
     Piece::Pair(key.name(), value.number())
 }
 
-fn of_key<K: Named>(key: &K) -> Piece {
+pub(crate) fn of_key<K: Named>(key: &K) -> Piece {
     Piece::Key(key.name())
 }
 
-fn of_value<V: Number>(value: &V) -> Piece {
+pub(crate) fn of_value<V: Number>(value: &V) -> Piece {
     Piece::Value(value.number())
 }
 
@@ -103,6 +102,14 @@ pub(crate) fn print_items<I: Iterator, F: Fn(I::Item) -> Piece>(
         print_first(rt, items, most, shown)?;
     }
     print!(rt; "]")
+}
+
+// Prints what stands between two elements of a list.
+fn print_gap(rt: &impl Print, is_first: &mut bool) -> io::Result<()> {
+    if std::mem::replace(is_first, false) {
+        return Ok(());
+    }
+    print!(rt; " ")
 }
 
 fn print_first<I: Iterator, F: Fn(I::Item) -> Piece>(

@@ -27,6 +27,13 @@ pub(crate) enum Kind {
     ForValue,
 }
 
+impl Kind {
+    /// Whether it takes the map.
+    pub(crate) fn takes_the_map(self) -> bool {
+        matches!(self, Kind::IntoIter | Kind::ForValue)
+    }
+}
+
 /// A call on the iterator.
 #[derive(Clone, Copy)]
 pub(crate) enum Step {

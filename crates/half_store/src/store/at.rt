@@ -8,7 +8,7 @@ ghost use Rattle.half_store.specs.Store.{with_pairs};
 use super::Store;
 
 impl<K, V> Store<K, V> {
-    ghost use Rattle.half_store.specs.StoreLending.{LendsValue};
+    ghost use Rattle.half_store.specs.StoreLending.{StoreLendsValue};
 
     /// The key of the pair at this index.
     ///
@@ -57,7 +57,7 @@ impl<K, V> Store<K, V> {
     #[inline(always)]
     pub fn value_at_mut(&mut self, index: usize) -> &mut V
         requires { index < length self.old.pairs }
-        ensures* writes_back { sem 𝓛 (LendsValue K.row V.row self.entry index result) }
+        ensures* writes_back { sem 𝓛 (StoreLendsValue K.row V.row self.entry index result) }
         ensures value { slice_get (values_of self.old.pairs) index ≡ Some result.now }
     {
         self.columns.value_at_mut(index)
@@ -71,7 +71,7 @@ impl<K, V> Store<K, V> {
     #[inline(always)]
     pub fn pair_at_mut(&mut self, index: usize) -> (&K, &mut V)
         requires { index < length self.old.pairs }
-        ensures* writes_back { sem 𝓛 (LendsValue K.row V.row self.entry index result.1) }
+        ensures* writes_back { sem 𝓛 (StoreLendsValue K.row V.row self.entry index result.1) }
         ensures pair { slice_get self.old.pairs index ≡ Some (result.0.now, result.1.now) }
     {
         self.columns.pair_at_mut(index)

@@ -4,7 +4,7 @@ ghost use Rattle.std.specs.Borrow.{Bor};
 ghost use Rattle.std.specs.Map.{keys_of};
 ghost use Rattle.std.specs.Map.Calls.{CalledAtPair, TakesPair, CallableOnEachPair, RetainsPairs};
 ghost use Rattle.std.specs.Option.{option_map};
-ghost use Rattle.half_store.specs.Pairs.{swap_out};
+ghost use Rattle.half_store.specs.Pairs.{swap_remove_at};
 ghost use Rattle.half_store.specs.Replaced.{Replaces};
 ghost use Rattle.half_store.specs.Store.{pushed, IsVacancy, KeepsForm};
 
@@ -38,8 +38,8 @@ impl<K, V> Store<K, V> {
     pub fn swap_remove(&mut self, index: usize) -> (K, V)
         requires { index < length self.old.pairs }
         ensures removed { slice_get self.old.pairs index ≡ Some result }
-        ensures pairs { self.new.pairs ≡ swap_out self.old.pairs index }
-        ensures hashes { self.old.is_vec ≡ false → self.new.hashes ≡ swap_out self.old.hashes index }
+        ensures pairs { self.new.pairs ≡ swap_remove_at self.old.pairs index }
+        ensures hashes { self.old.is_vec ≡ false → self.new.hashes ≡ swap_remove_at self.old.hashes index }
         ensures form { KeepsForm self.old self.new }
     {
         if let Some(table) = &mut self.index {
@@ -68,7 +68,7 @@ impl<K, V> Store<K, V> {
         ensures hash { IfSome result (λ removed. self.old.is_vec ≡ false
             → slice_get self.old.hashes index ≡ Some removed.1) }
         ensures hashes { IfSome result (λ _. self.old.is_vec ≡ false
-            → self.new.hashes ≡ swap_out self.old.hashes index) }
+            → self.new.hashes ≡ swap_remove_at self.old.hashes index) }
         ensures kept { IfNone result (self.new.hashes ≡ self.old.hashes) }
         ensures form { KeepsForm self.old self.new }
     {

@@ -6,7 +6,7 @@ ghost use Rattle.std.specs.Map.{keys_of, values_of};
 use super::Store;
 
 impl<K, V> Store<K, V> {
-    ghost use Rattle.half_store.specs.StoreLending.{LendsValues};
+    ghost use Rattle.half_store.specs.StoreLending.{StoreLendsValues};
 
     /// The keys, in order.
     ///
@@ -41,7 +41,7 @@ impl<K, V> Store<K, V> {
     /// ```
     #[inline(always)]
     pub fn values_mut(&mut self) -> &mut [V]
-        ensures* writes_back { sem 𝓛 (LendsValues K.row V.row self.entry result) }
+        ensures* writes_back { sem 𝓛 (StoreLendsValues K.row V.row self.entry result) }
         ensures values { result.now ≡ values_of self.old.pairs }
         ensures small { length self.old.pairs < 2 ^ 63 }
     {
@@ -55,7 +55,7 @@ impl<K, V> Store<K, V> {
     /// ```
     #[inline(always)]
     pub fn columns_mut(&mut self) -> (&[K], &mut [V])
-        ensures* writes_back { sem 𝓛 (LendsValues K.row V.row self.entry result.1) }
+        ensures* writes_back { sem 𝓛 (StoreLendsValues K.row V.row self.entry result.1) }
         ensures keys { result.0.now ≡ keys_of self.old.pairs }
         ensures values { result.1.now ≡ values_of self.old.pairs }
         ensures small { length self.old.pairs < 2 ^ 63 }

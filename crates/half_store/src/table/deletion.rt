@@ -1,64 +1,93 @@
-//! Backward-shift deletion: after a removal the pairs that follow move back, so that no tombstone is needed.
-ghost use Rattle.std.specs.Prelude.{◌≡◌, ◌-◌, ◌<◌, ◌≤◌, length, slice_set, slice_index};
+//! Backward-shift deletion: after a removal the pairs that follow move back, so that no tombstone is needed. No tally counts
+//! the buckets that it reads.
+ghost use Rattle.std.specs.Prelude.{◌≡◌, ◌<◌, ◌≤◌, length, Some, slice_get, slice_set, slice_index, vec_capacity};
+ghost use Rattle.std.specs.List.{swap_remove};
 ghost use Rattle.half_store.specs.Reach.{probe_distance};
 ghost use Rattle.half_store.specs.Capacity.{IsBucketCount};
-ghost use Rattle.half_store.specs.Buckets.{slots_by, entries_by, WithinHashes};
-ghost use Rattle.half_store.specs.Slots.{ProbeInvariant};
-ghost use Rattle.half_store.specs.Table.{hashes_at};
-ghost use Rattle.half_store.specs.TableLayout.{InStep, HasGap};
+ghost use Rattle.half_store.specs.TableLayout.{IsIndexed, IsIndexedButFor, IsBucketOf};
 
 use super::probe::{home, next};
 use crate::buckets::hash_in;
+use crate::words::Words;
+
+/// Removes the pair at this entry index, and returns its stored hash. The last pair takes its index.
+#[inline(always)]
+pub(super) fn remove_in<B: Words>(buckets: &mut B, hashes: &mut Vec<u64>, index: usize) -> u64
+    requires indexed { IsIndexed hashes.old.items (B.words buckets.old) }
+    requires within { index < length hashes.old.items }
+    requires fits { length hashes.old.items ≤ B.most buckets.old }
+    ensures hash { slice_get hashes.old.items index ≡ Some result }
+    ensures hashes { hashes.new.items ≡ swap_remove hashes.old.items index 0 }
+    ensures capacity { vec_capacity hashes.new ≡ vec_capacity hashes.old }
+    ensures indexed { IsIndexed hashes.new.items (B.words buckets.new) }
+    ensures len { length (B.words buckets.new) ≡ length (B.words buckets.old) }
+    ensures most { B.most buckets.new ≡ B.most buckets.old }
+{
+    let last = hashes.len() - 1;
+    let bucket = bucket_of(buckets, hashes.as_slice(), index);
+    let last_bucket = bucket_of(buckets, hashes.as_slice(), last);
+    buckets.set_word(last_bucket, index + 1);
+    buckets.set_word(bucket, 0);
+    let hash = hashes.swap_remove(index);
+    backward_shift(buckets, hashes.as_slice(), bucket);
+    hash
+}
+
+/// The bucket of the pair at this entry index: where a probe from its stored hash meets the index.
+#[inline(always)]
+fn bucket_of<B: Words>(buckets: &B, hashes: &[u64], index: usize) -> usize
+    requires indexed { IsIndexed hashes.now (B.words buckets.now) }
+    requires within { index < length hashes.now }
+    ensures { IsBucketOf hashes.now (B.words buckets.now) index result }
+{
+    let count = buckets.count();
+    let mut bucket = home(hashes[index], count);
+    for _step in 0..count {
+        if buckets.word_at(bucket) == index + 1 {
+            return bucket;
+        }
+        bucket = next(bucket, count);
+    }
+    unreachable!()
+}
 
 /// The probe distance from one bucket up to another; the first follows the last.
 #[inline(always)]
 fn probe_distance(from: usize, to: usize, count: usize) -> usize
+    requires count { IsBucketCount count }
     requires from_within { from < count }
     requires to_within { to < count }
-    ensures value { result ≡ probe_distance count from to }
+    ensures { result ≡ probe_distance count from to }
 {
-    if from <= to {
-        to - from
-    } else {
-        count - from + to
-    }
+    to + (count - from) & (count - 1)
 }
 
 /// Moves the pair in one bucket to another, which is empty.
 #[inline(always)]
-fn move_pair(buckets: &mut [usize], bucket_of: &mut [usize], from: usize, to: usize)
-    requires from_within { from < length buckets.old }
-    requires to_within { to < length buckets.old }
-    requires full { 0 < slice_index buckets.old from }
-    requires index { slice_index buckets.old from ≤ length bucket_of.old }
-    ensures buckets { buckets.new ≡ slice_set (slice_set buckets.old to (slice_index buckets.old from)) from 0 }
-    ensures bucket_of { bucket_of.new ≡ slice_set bucket_of.old (slice_index buckets.old from - 1) to }
+fn move_pair<B: Words>(buckets: &mut B, from: usize, to: usize)
+    requires from_within { from < length (B.words buckets.old) }
+    requires to_within { to < length (B.words buckets.old) }
+    requires fits { slice_index (B.words buckets.old) from ≤ B.most buckets.old }
+    ensures words { B.words buckets.new
+        ≡ slice_set (slice_set (B.words buckets.old) to (slice_index (B.words buckets.old) from)) from 0 }
+    ensures most { B.most buckets.new ≡ B.most buckets.old }
 {
-    let full = buckets[from];
-    buckets[to] = full;
-    bucket_of[full - 1] = to;
-    buckets[from] = 0;
+    let word = buckets.word_at(from);
+    buckets.set_word(to, word);
+    buckets.set_word(from, 0);
 }
 
 /// Shifts pairs back into an emptied bucket: goes up to the next empty bucket, and moves each pair into the gap whose home
 /// bucket is not after it.
-pub(super) fn backward_shift(
-    buckets: &mut [usize],
-    hashes: &[u64],
-    bucket_of: &mut [usize],
-    emptied: usize,
-)
-    requires count { IsBucketCount (length buckets.old) }
-    requires whole { WithinHashes hashes.now buckets.old }
-    requires in_step { InStep (slots_by hashes.now buckets.old) (entries_by buckets.old) bucket_of.old }
-    requires gap { HasGap (slots_by hashes.now buckets.old) emptied }
-    ensures whole { WithinHashes hashes.now buckets.new }
-    ensures in_step { InStep (slots_by hashes.now buckets.new) (entries_by buckets.new) bucket_of.new }
-    ensures ordered { ProbeInvariant (slots_by hashes.now buckets.new) }
-    ensures hashes { hashes_at (slots_by hashes.now buckets.new) bucket_of.new
-        ≡ hashes_at (slots_by hashes.now buckets.old) bucket_of.old }
+fn backward_shift<B: Words>(buckets: &mut B, hashes: &[u64], emptied: usize)
+    requires count { IsBucketCount (length (B.words buckets.old)) }
+    requires emptied { IsIndexedButFor hashes.now (B.words buckets.old) emptied }
+    requires fits { length hashes.now ≤ B.most buckets.old }
+    ensures indexed { IsIndexed hashes.now (B.words buckets.new) }
+    ensures len { length (B.words buckets.new) ≡ length (B.words buckets.old) }
+    ensures most { B.most buckets.new ≡ B.most buckets.old }
 {
-    let count = buckets.len();
+    let count = buckets.count();
     let mut gap = emptied;
     let mut bucket = next(emptied, count);
     for _step in 0..count {
@@ -66,7 +95,7 @@ pub(super) fn backward_shift(
             return;
         };
         if probe_distance(home(hash, count), bucket, count) >= probe_distance(gap, bucket, count) {
-            move_pair(buckets, bucket_of, bucket, gap);
+            move_pair(buckets, bucket, gap);
             gap = bucket;
         }
         bucket = next(bucket, count);

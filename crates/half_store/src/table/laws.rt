@@ -1,11 +1,11 @@
 //! What holds of `reach` for every list of held hashes. These functions do nothing: the laws are their contracts.
-ghost use Rattle.half_store.specs.TableLaws.{HistoryLaw, NoBucketsLaw, NothingHeldLaw, OneBucketLaw, SharedHomeLaw};
+ghost use Rattle.half_store.specs.TableLaws.{ReachHistoryLaw, NoBucketsLaw, NothingHeldLaw, OneBucketLaw, SharedHomeLaw};
 ghost use Rattle.half_store.specs.TableLaws.{ShortLaw, OnceRoundLaw, StopsLaw, CrowdingLaw};
 
 /// The held hashes and the number of buckets decide how many buckets a probe reads. Their order decides nothing, and so
 /// neither does what was added and removed before.
 pub fn reach_without_history()
-    ensures { HistoryLaw }
+    ensures { ReachHistoryLaw }
 {}
 
 /// A probe reads one bucket where nothing is held, and exactly where the home bucket is not loaded. It reads at most one

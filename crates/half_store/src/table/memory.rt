@@ -1,5 +1,5 @@
 //! Making a table, growing and shrinking it. All memory is had before anything changes.
-ghost use Rattle.std.specs.Prelude.{◌≡◌, ◌+◌, ◌^◌, ◌<◌, ◌≤◌, ◌↔◌, ◌⊎◌, [], max, length, replicate, Err, IfOk, IsOk, OnOk, OnErr, IfErr};
+ghost use Rattle.std.specs.Prelude.{◌≡◌, ◌+◌, ◌^◌, ◌<◌, ◌≤◌, ◌↔◌, ◌⊎◌, [], max, length, Err, IfOk, IsOk, OnOk, OnErr, IfErr};
 ghost use Rattle.half_store.specs.Capacity.{capacity_of, buckets_for, buckets_for_more, IsBucketCount};
 
 use super::Table;
@@ -7,6 +7,7 @@ use super::rehash::rehash;
 use crate::capacity::{buckets_for, capacity_of};
 use crate::column::reserve_in_all;
 use crate::refusal::check_size;
+use crate::words::{WordArray, Words};
 use crate::{Refusal, Tally};
 use std::alloc::{AllocError, Global};
 
@@ -128,17 +129,10 @@ impl Table {
     fn copied(&self) -> Result<Table, AllocError>
         ensures { IfOk result (λ t. t ≡ self.now) }
     {
-        let alloc = self.allocator();
-        let buckets = Vec::from_slice(alloc, self.buckets.as_slice())?;
-        let mut hashes = Vec::with_capacity(alloc, self.capacity())?;
+        let buckets = self.buckets.copied()?;
+        let mut hashes = Vec::with_capacity(self.allocator(), self.capacity())?;
         hashes.extend_from_slice(self.hashes.as_slice())?;
-        let mut bucket_of = Vec::with_capacity(alloc, self.capacity())?;
-        bucket_of.extend_from_slice(self.bucket_of.as_slice())?;
-        Ok(Table {
-            buckets,
-            hashes,
-            bucket_of,
-        })
+        Ok(Table { buckets, hashes })
     }
 
     // So many empty buckets.
@@ -148,15 +142,9 @@ impl Table {
         ensures buckets { IfOk result (λ t. t.buckets ≡ buckets) }
         ensures granted { buckets ≡ 0 → IsOk result }
     {
-        let capacity = capacity_of(buckets);
-        let buckets = empty_buckets(alloc, buckets)?;
-        let hashes = Vec::with_capacity(alloc, capacity)?;
-        let bucket_of = Vec::with_capacity(alloc, capacity)?;
-        Ok(Table {
-            buckets,
-            hashes,
-            bucket_of,
-        })
+        let hashes = Vec::with_capacity(alloc, capacity_of(buckets))?;
+        let buckets = WordArray::empty(alloc, buckets)?;
+        Ok(Table { buckets, hashes })
     }
 
     // Probes all pairs anew in so many buckets, by their stored hashes.
@@ -171,38 +159,21 @@ impl Table {
         ensures err { OnErr result (self.new ≡ self.old) }
     {
         let capacity = capacity_of(buckets);
-        let mut rehashed = empty_buckets(self.allocator(), buckets)?;
+        let mut rehashed = WordArray::empty(self.allocator(), buckets)?;
         reserve_in_all(&mut self.hashes, capacity)?;
-        reserve_in_all(&mut self.bucket_of, capacity)?;
-        rehash(
-            rehashed.as_mut_slice(),
-            self.hashes.as_slice(),
-            self.bucket_of.as_mut_slice(),
-        );
+        rehash(&mut rehashed, self.hashes.as_slice());
         self.buckets = rehashed;
         self.hashes.shrink_to(capacity);
-        self.bucket_of.shrink_to(capacity);
         Ok(())
     }
 
     fn bucket_count(&self) -> usize
         ensures { result ≡ self.now.buckets }
     {
-        self.buckets.len()
+        self.buckets.count()
     }
 
     fn allocator(&self) -> Global {
-        *self.buckets.allocator()
+        self.buckets.allocator()
     }
-}
-
-// So many empty buckets.
-fn empty_buckets(alloc: Global, count: usize) -> Result<Vec<usize>, AllocError>
-    ensures items { IfOk result (λ v. v.items ≡ replicate count 0) }
-    ensures granted { count ≡ 0 → IsOk result }
-{
-    if count == 0 {
-        return Ok(Vec::new(alloc));
-    }
-    vec![in alloc; 0; count]
 }

@@ -34,12 +34,7 @@ impl Table {
             return;
         }
         self.hashes.truncate(pairs.len());
-        self.bucket_of.truncate(pairs.len());
-        self.buckets.fill(0);
-        rehash(
-            self.buckets.as_mut_slice(),
-            self.hashes.as_slice(),
-            self.bucket_of.as_mut_slice(),
-        );
+        self.buckets.clear();
+        rehash(&mut self.buckets, self.hashes.as_slice());
     }
 }

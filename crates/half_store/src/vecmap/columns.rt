@@ -7,7 +7,7 @@ use super::VecMap;
 use std::alloc::Global;
 
 impl<K, V> VecMap<K, V> {
-    ghost use Rattle.half_store.specs.Lending.{LendsValues};
+    ghost use Rattle.half_store.specs.Lending.{ColumnsLendValues};
 
     // Where its memory is from.
     pub(crate) fn allocator(&self) -> Global {
@@ -47,7 +47,7 @@ impl<K, V> VecMap<K, V> {
     /// ```
     #[inline(always)]
     pub fn values_mut(&mut self) -> &mut [V]
-        ensures* writes_back { sem 𝓛 (LendsValues K.row V.row self.entry result) }
+        ensures* writes_back { sem 𝓛 (ColumnsLendValues K.row V.row self.entry result) }
         ensures values { result.now ≡ values_of self.old.pairs }
         ensures small { length self.old.pairs < 2 ^ 63 }
     {
@@ -61,7 +61,7 @@ impl<K, V> VecMap<K, V> {
     /// ```
     #[inline(always)]
     pub fn columns_mut(&mut self) -> (&[K], &mut [V])
-        ensures* writes_back { sem 𝓛 (LendsValues K.row V.row self.entry result.1) }
+        ensures* writes_back { sem 𝓛 (ColumnsLendValues K.row V.row self.entry result.1) }
         ensures keys { result.0.now ≡ keys_of self.old.pairs }
         ensures values { result.1.now ≡ values_of self.old.pairs }
         ensures small { length self.old.pairs < 2 ^ 63 }

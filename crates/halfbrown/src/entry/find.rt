@@ -1,12 +1,9 @@
 //! Making the entry of a key.
-ghost use Rattle.std.specs.Prelude.{◌≡◌, IfOk, IfErr, is_ok};
+ghost use Rattle.std.specs.Prelude.{is_ok};
 ghost use Rattle.std.specs.Borrow.{sem};
 ghost use Rattle.halfbrown.specs.Costs.{key_hash, InsertCosts};
-ghost use Rattle.halfbrown.specs.Entry.{map_of, map_ref, IsEntryOf, WritesPut, RemovesKey, HandsBackKey};
+ghost use Rattle.halfbrown.specs.Entry.{MakesEntry};
 ghost use Rattle.halfbrown.specs.EntryLending.{RestsIfRefused};
-ghost use Rattle.halfbrown.specs.Growth.{insert_needs};
-ghost use Rattle.halfbrown.specs.Preparation.{Prepares};
-ghost use Rattle.halfbrown.specs.State.{IsState};
 
 use super::{LimitedEntry, LimitedOccupiedEntry, LimitedVacantEntry};
 use crate::{Limit, LimitedHashMap, RefusedKey};
@@ -30,13 +27,7 @@ impl<K: Eq + Hash, V, S: BuildHasher, L: Limit> LimitedHashMap<K, V, S, L> {
     where
         K: Drop,
         ensures* unchanged { sem 𝓛 (RestsIfRefused K.row V.row S.row L.row S.Hasher.row self.entry result) }
-        ensures same_map { IfOk result (λ e. (map_ref e).ghost_name ≡ self.entry.ghost_name) }
-        ensures ok { IfOk result (λ e. Prepares L.LIMIT self.old (insert_needs L.LIMIT K.eq self.old key) (map_of e)) }
-        ensures entry { IfOk result (IsEntryOf K.eq self.old.pairs key) }
-        ensures writes { IfOk result (WritesPut L.LIMIT K.eq self.old key) }
-        ensures removes { IfOk result (RemovesKey K.eq self.old.pairs key) }
-        ensures err { IfErr result (HandsBackKey key (insert_needs L.LIMIT K.eq self.old key)) }
-        ensures state { IfOk result (λ e. IsState K.eq L.LIMIT (map_of e)) }
+        ensures makes { MakesEntry L.LIMIT K.eq self.entry key result }
     {
         self.entry_counted(key, &mut Tally::new())
     }
@@ -56,15 +47,9 @@ impl<K: Eq + Hash, V, S: BuildHasher, L: Limit> LimitedHashMap<K, V, S, L> {
     where
         K: Drop,
         ensures* unchanged { sem 𝓛 (RestsIfRefused K.row V.row S.row L.row S.Hasher.row self.entry result) }
-        ensures same_map { IfOk result (λ e. (map_ref e).ghost_name ≡ self.entry.ghost_name) }
-        ensures ok { IfOk result (λ e. Prepares L.LIMIT self.old (insert_needs L.LIMIT K.eq self.old key) (map_of e)) }
-        ensures entry { IfOk result (IsEntryOf K.eq self.old.pairs key) }
-        ensures writes { IfOk result (WritesPut L.LIMIT K.eq self.old key) }
-        ensures removes { IfOk result (RemovesKey K.eq self.old.pairs key) }
-        ensures err { IfErr result (HandsBackKey key (insert_needs L.LIMIT K.eq self.old key)) }
+        ensures makes { MakesEntry L.LIMIT K.eq self.entry key result }
         ensures cost { InsertCosts L.LIMIT K.eq (key_hash S.BuildHasher S.Hasher.Hasher K.hash_input) self.old
             key (is_ok result) tally.old tally.new }
-        ensures state { IfOk result (λ e. IsState K.eq L.LIMIT (map_of e)) }
     {
         match self.prepare(&key, tally) {
             Ok(Lookup::Found(index)) => Ok(LimitedEntry::Occupied(LimitedOccupiedEntry {

@@ -1,9 +1,11 @@
-//! The calls of an occupied entry.
-ghost use Rattle.std.specs.Prelude.{◌≡◌, Some};
+//! The calls of an occupied entry, of a key or a raw one.
+ghost use Rattle.std.specs.Prelude.{◌≡◌, true, Some, IfSome};
 ghost use Rattle.std.specs.Borrow.{sem};
-ghost use Rattle.halfbrown.specs.Entry.{Occupied, entry_key, entry_pair, entry_value, map_of, pairs_without, IsWritten};
-ghost use Rattle.halfbrown.specs.EntryLending.{EntryLends, OccupiedLends, with_entry_value};
+ghost use Rattle.halfbrown.specs.Entry.{Occupied, entry_key, entry_pair, entry_value, map_of, pairs_without};
+ghost use Rattle.halfbrown.specs.Entry.{IsWritten, HasNewKey};
+ghost use Rattle.halfbrown.specs.EntryLending.{EntryLends, OccupiedLends, OccupiedRests, with_entry_value};
 ghost use Rattle.halfbrown.specs.State.{IsState, WithPairs};
+ghost use Rattle.halfbrown.specs.Updates.{HasKeyReplaced};
 
 use super::LimitedOccupiedEntry;
 use crate::Limit;
@@ -20,6 +22,31 @@ impl<'a, K: Eq + Hash, V, S: BuildHasher, L: Limit> LimitedOccupiedEntry<'a, K, 
         ensures { entry_key (Occupied self.now) ≡ Some result.now }
     {
         self.map.key_at(self.index)
+    }
+
+    /// The stored key. It cannot be written, since its hash may not change: `insert_key` replaces it by an equal one.
+    ///
+    /// ```
+    /// let key = *entry.key_mut(); // 5
+    /// ```
+    #[inline(always)]
+    pub fn key_mut(&mut self) -> &K
+        ensures* unchanged { sem 𝓛 (OccupiedRests K.row V.row S.row L.row S.Hasher.row self.entry) }
+        ensures key { entry_key (Occupied self.old) ≡ Some result.now }
+    {
+        self.key()
+    }
+
+    /// The stored key, for as long as the map is borrowed.
+    ///
+    /// ```
+    /// let key = *entry.into_key(); // 5
+    /// ```
+    #[inline(always)]
+    pub fn into_key(self) -> &'a K
+        ensures { entry_key (Occupied self.entry) ≡ Some result.now }
+    {
+        self.into_key_value().0
     }
 
     /// Its value.
@@ -64,6 +91,46 @@ impl<'a, K: Eq + Hash, V, S: BuildHasher, L: Limit> LimitedOccupiedEntry<'a, K, 
         map.value_at_mut(self.index)
     }
 
+    /// The stored key and its value.
+    ///
+    /// ```
+    /// let pair = entry.get_key_value(); // 5 and 14
+    /// ```
+    #[inline(always)]
+    pub fn get_key_value(&self) -> (&K, &V)
+        ensures { entry_pair (Occupied self.now) ≡ Some (result.0.now, result.1.now) }
+    {
+        self.map.pair_at(self.index)
+    }
+
+    /// The stored key, and its value to be written.
+    ///
+    /// ```
+    /// *entry.get_key_value_mut().1 = 15;
+    /// ```
+    #[inline(always)]
+    pub fn get_key_value_mut(&mut self) -> (&K, &mut V)
+        ensures* writes_back { sem 𝓛 (OccupiedLends K.row V.row S.row L.row S.Hasher.row self.entry result.1) }
+        ensures pair { entry_pair (Occupied self.old) ≡ Some (result.0.now, result.1.now) }
+        ensures written { (w : V) → IsWritten (Occupied self.old) w (Occupied (with_entry_value self.old w)) }
+    {
+        let index = self.index;
+        self.map.pair_at_mut(index)
+    }
+
+    /// The stored key, and its value to be written, for as long as the map is borrowed.
+    ///
+    /// ```
+    /// *entry.into_key_value().1 = 17;
+    /// ```
+    #[inline(always)]
+    pub fn into_key_value(self) -> (&'a K, &'a mut V)
+        ensures { entry_pair (Occupied self.entry) ≡ Some (result.0.now, result.1.now) }
+    {
+        let map = self.map;
+        map.pair_at_mut(self.index)
+    }
+
     /// Replaces its value, and returns the old one. The stored key stays.
     ///
     /// ```
@@ -73,8 +140,30 @@ impl<'a, K: Eq + Hash, V, S: BuildHasher, L: Limit> LimitedOccupiedEntry<'a, K, 
     pub fn insert(&mut self, value: V) -> V
         ensures old { entry_value (Occupied self.old) ≡ Some result }
         ensures written { IsWritten (Occupied self.old) value (Occupied self.new) }
+        ensures state { IsState K.eq L.LIMIT (map_of (Occupied self.new)) }
     {
-        std::mem::replace(self.get_mut(), value)
+        let old = std::mem::replace(self.get_mut(), value);
+        // Of the map that is read here `len` states what holds of every map.
+        prove!(self.index < self.map.len());
+        old
+    }
+
+    /// Replaces the stored key by an equal one, and returns it. The value stays.
+    ///
+    /// ```
+    /// let before = entry.insert_key(5); // 5
+    /// ```
+    #[inline(always)]
+    pub fn insert_key(&mut self, key: K) -> K
+        requires { IfSome (entry_key (Occupied self.old)) (λ k. K.eq key k ≡ true) }
+        ensures old { entry_key (Occupied self.old) ≡ Some result }
+        ensures new { HasNewKey self.old key self.new }
+        ensures replaced { HasKeyReplaced K.eq (map_of (Occupied self.old)).pairs key
+            (map_of (Occupied self.new)).pairs }
+        ensures state { IsState K.eq L.LIMIT (map_of (Occupied self.new)) }
+    {
+        let index = self.index;
+        self.map.set_key_at(index, key)
     }
 
     /// Removes the pair, and returns its value. The last pair takes its index. No bucket is probed.

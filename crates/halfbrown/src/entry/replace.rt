@@ -2,9 +2,8 @@
 ghost use Rattle.std.specs.Prelude.{◌≡◌, Some};
 ghost use Rattle.std.specs.Borrow.{Bor};
 ghost use Rattle.halfbrown.specs.Costs.{key_hash};
-ghost use Rattle.halfbrown.specs.Entry.{Occupied, entry_pair, map_of, map_ref};
-ghost use Rattle.halfbrown.specs.Replacement.{ReplacesEntry, ReplacementCosts};
-ghost use Rattle.halfbrown.specs.State.{IsState};
+ghost use Rattle.halfbrown.specs.Entry.{Occupied, entry_pair};
+ghost use Rattle.halfbrown.specs.Replacement.{Replaced, ReplacementCosts};
 
 use super::{LimitedEntry, LimitedOccupiedEntry, LimitedVacantEntry};
 use crate::Limit;
@@ -29,9 +28,7 @@ impl<'a, K: Eq + Hash, V, S: BuildHasher, L: Limit> LimitedOccupiedEntry<'a, K, 
     ) -> LimitedEntry<'a, K, V, S, L>
         requires { (key : Bor K) (value : V) → entry_pair (Occupied self) ≡ Some (key.now, value)
             → F.pre f key value }
-        ensures replaces { ReplacesEntry (F.post f) (Occupied self.entry) result }
-        ensures same_map { (map_ref result).ghost_name ≡ (map_ref (Occupied self.entry)).ghost_name }
-        ensures state { IsState K.eq L.LIMIT (map_of result) }
+        ensures { Replaced L.LIMIT K.eq (F.post f) (Occupied self.entry) result }
     {
         self.replace_entry_with_counted(f, &mut Tally::new())
     }
@@ -49,11 +46,9 @@ impl<'a, K: Eq + Hash, V, S: BuildHasher, L: Limit> LimitedOccupiedEntry<'a, K, 
     ) -> LimitedEntry<'a, K, V, S, L>
         requires { (key : Bor K) (value : V) → entry_pair (Occupied self) ≡ Some (key.now, value)
             → F.pre f key value }
-        ensures replaces { ReplacesEntry (F.post f) (Occupied self.entry) result }
-        ensures same_map { (map_ref result).ghost_name ≡ (map_ref (Occupied self.entry)).ghost_name }
+        ensures replaced { Replaced L.LIMIT K.eq (F.post f) (Occupied self.entry) result }
         ensures cost { ReplacementCosts (key_hash S.BuildHasher S.Hasher.Hasher K.hash_input) result tally.old
             tally.new }
-        ensures state { IsState K.eq L.LIMIT (map_of result) }
     {
         let index = self.index;
         let map = self.map;
@@ -63,10 +58,7 @@ impl<'a, K: Eq + Hash, V, S: BuildHasher, L: Limit> LimitedOccupiedEntry<'a, K, 
                 LimitedEntry::Vacant(LimitedVacantEntry { map, key, vacancy })
             }
             None => {
-                if map.is_vec() {
-                    let last = map.move_last(index);
-                    return LimitedEntry::Occupied(LimitedOccupiedEntry { map, index: last });
-                }
+                let index = map.settle(index);
                 LimitedEntry::Occupied(LimitedOccupiedEntry { map, index })
             }
         }

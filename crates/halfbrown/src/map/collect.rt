@@ -2,7 +2,7 @@
 ghost use Rattle.std.specs.Prelude.{◌≡◌, ◌⊎◌, ℕ, true, List, IfOk, IfErr, OnOk};
 ghost use Rattle.std.specs.Iterator.{IsFinite, Drains};
 ghost use Rattle.std.specs.Iterator.SizeHint.{IsWithinCount};
-ghost use Rattle.halfbrown.specs.Collection.{Gives, AreFirst, Inserts, IsCollection, IsRefusedCollection, IsRefusedInsertion};
+ghost use Rattle.halfbrown.specs.Collection.{Gives, AreFirst, InsertsAll, IsCollection, IsRefusedCollection, IsRefusedInsertion};
 ghost use Rattle.halfbrown.specs.Costs.{key_hash, Cost, GrewBy};
 ghost use Rattle.halfbrown.specs.State.{IsState};
 
@@ -135,9 +135,9 @@ impl<K: Eq + Hash + Drop, V: Drop, S: BuildHasher, L: Limit> LimitedHashMap<K, V
         requires can { I.can_next items }
         requires ends { IsFinite (I.remaining items) }
         ensures ok { OnOk result ((gave : List (K × V)) × (cost : Cost) × Drains I.next_gives items gave
-            × Inserts L.LIMIT K.eq (key_hash S.BuildHasher S.Hasher.Hasher K.hash_input) self.old gave self.new cost
+            × InsertsAll L.LIMIT K.eq (key_hash S.BuildHasher S.Hasher.Hasher K.hash_input) self.old gave self.new cost
             × GrewBy cost tally.old tally.new) }
-        ensures err { IfErr result (λ why. (cost : Cost)
+        ensures refused { IfErr result (λ why. (cost : Cost)
             × IsRefusedInsertion L.LIMIT K.eq (key_hash S.BuildHasher S.Hasher.Hasher K.hash_input)
             (Gives I.next_gives items) self.old why self.new cost × GrewBy cost tally.old tally.new) }
     {
@@ -172,7 +172,7 @@ impl<K: Eq + Hash + Drop, V: Drop, S: BuildHasher + Default + Drop, L: Limit> Fr
 impl<K: Eq + Hash + Drop, V: Drop, S: BuildHasher, L: Limit> Extend<(K, V)>
     for LimitedHashMap<K, V, S, L> {
     ghost extend_gives = { λ old items new. (cost : Cost)
-        × Inserts L.LIMIT K.eq (key_hash S.BuildHasher S.Hasher.Hasher K.hash_input) old items new cost };
+        × InsertsAll L.LIMIT K.eq (key_hash S.BuildHasher S.Hasher.Hasher K.hash_input) old items new cost };
 
     fn extend<I: IntoIterator<Item = (K, V)>>(&mut self, items: I) -> Result<(), AllocError> {
         match self.insert_all(items.into_iter(), &mut Tally::new()) {

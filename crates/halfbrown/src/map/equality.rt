@@ -1,8 +1,8 @@
 //! Whether two maps hold the same pairs, in any order and whatever their forms.
-ghost use Rattle.std.specs.Prelude.{◌≡◌, ◌≢◌, ◌+◌, ◌*◌, ◌≤◌, ◌↔◌, true, length, IsTrue};
+ghost use Rattle.std.specs.Prelude.{◌≡◌};
 ghost use Rattle.std.specs.List.{list_all};
-ghost use Rattle.halfbrown.specs.Costs.{key_hash, search_asked, SearchCosts, SearchesCost};
-ghost use Rattle.halfbrown.specs.Equality.{same_pairs, same_value, holds_pair, keys_while_same, searched_keys};
+ghost use Rattle.halfbrown.specs.Costs.{key_hash, SearchCosts, SearchesCost};
+ghost use Rattle.halfbrown.specs.Equality.{same_pairs, holds_pair, keys_while_same, searched_keys};
 ghost use Rattle.halfbrown.specs.EqualityLaws.{same_maps_per, same_maps_equiv};
 
 use super::LimitedHashMap;
@@ -14,23 +14,22 @@ impl<K: Eq + Hash, V: PartialEq, S: BuildHasher, L: Limit> LimitedHashMap<K, V, 
     /// Returns whether both maps hold equal keys with equal values, in any order. The other map may have another limit and
     /// another builder, and be in another form.
     ///
-    /// Where the lengths differ it costs nothing, and else at most one search in the other map for each pair of this one.
+    /// Where the lengths differ it costs nothing, and else at most one search in the other map for each pair of this one. What
+    /// follows of the answer is in `laws::equality`.
     ///
     /// ```
     /// let same = ages.same_pairs(&theirs); // true: the same ages, in a table
     /// ```
     #[inline]
     pub fn same_pairs<S2: BuildHasher, M: Limit>(&self, other: &LimitedHashMap<K, V, S2, M>) -> bool
-        ensures same { result ≡ same_pairs K.eq V.eq self.now.pairs other.now.pairs }
-        ensures pairs { IsTrue result ↔ ((length self.now.pairs ≡ length other.now.pairs)
-            × IsTrue (list_all (holds_pair K.eq V.eq other.now.pairs) self.now.pairs)) }
-        ensures values { IsTrue result ↔ ((k : K) → IsTrue (same_value K.eq V.eq self.now.pairs other.now.pairs k)) }
+        ensures { result ≡ same_pairs K.eq V.eq self.now.pairs other.now.pairs }
     {
         self.same_pairs_counted(other, &mut Tally::new())
     }
 
     /// `same_pairs`, with its work counted: no search where the lengths differ, else one in the other map for each pair of
     /// this one, in order, up to and with the first that is not held there. Values are compared too, which is not counted.
+    /// What this is at most, and in a vector, is in `laws::cost_of_equality`.
     ///
     /// ```
     /// let same = ages.same_pairs_counted(&theirs, &mut tally); // true, after two searches in a table
@@ -41,23 +40,8 @@ impl<K: Eq + Hash, V: PartialEq, S: BuildHasher, L: Limit> LimitedHashMap<K, V, 
         tally: &mut Tally,
     ) -> bool
         ensures same { result ≡ same_pairs K.eq V.eq self.now.pairs other.now.pairs }
-        ensures pairs { IsTrue result ↔ ((length self.now.pairs ≡ length other.now.pairs)
-            × IsTrue (list_all (holds_pair K.eq V.eq other.now.pairs) self.now.pairs)) }
-        ensures values { IsTrue result ↔ ((k : K) → IsTrue (same_value K.eq V.eq self.now.pairs other.now.pairs k)) }
         ensures cost { SearchesCost K.eq (key_hash S2.BuildHasher S2.Hasher.Hasher K.hash_input) other.now
             (searched_keys K.eq V.eq self.now.pairs other.now.pairs) tally.old tally.new }
-        ensures lengths_differ { length self.now.pairs ≢ length other.now.pairs → tally.new ≡ tally.old }
-        ensures asked { tally.new.asked ≡ tally.old.asked
-            + search_asked other.now.is_vec * length (searched_keys K.eq V.eq self.now.pairs other.now.pairs) }
-        ensures asked_in_a_vector { other.now.is_vec ≡ true → tally.new.asked ≡ tally.old.asked }
-        ensures asked_at_most { tally.new.asked ≤ tally.old.asked + length self.now.pairs }
-        ensures asked_where_same { IsTrue result
-            → tally.new.asked ≡ tally.old.asked + search_asked other.now.is_vec * length self.now.pairs }
-        ensures compared_at_most { tally.new.compared
-            ≤ tally.old.compared + length self.now.pairs * length other.now.pairs }
-        ensures looked_in_a_vector { other.now.is_vec ≡ true → tally.new.looked ≡ tally.old.looked }
-        ensures looked_at_most { tally.new.looked
-            ≤ tally.old.looked + length self.now.pairs * (length other.now.pairs + 1) }
     {
         if self.len() != other.len() {
             return false;

@@ -4,15 +4,14 @@ ghost use Rattle.std.specs.Borrow.{Bor};
 ghost use Rattle.std.specs.Fn.{FnReturnsAt};
 ghost use Rattle.std.specs.Map.{keys_of};
 ghost use Rattle.half_store.specs.Search.{found_index};
-ghost use Rattle.half_store.specs.Work.{asked_more};
-ghost use Rattle.halfbrown.specs.Costs.{key_hash, search_asked, SearchCostsBy, HashedSearchCostsBy};
+ghost use Rattle.halfbrown.specs.Costs.{key_hash, CostsSearch, CostsHashedSearch};
 ghost use Rattle.halfbrown.specs.Lookup.{LooksUp};
 ghost use Rattle.halfbrown.specs.Match.{Matches, MatchCosts};
 ghost use Rattle.halfbrown.specs.State.{IsState};
 
 use super::LimitedHashMap;
 use crate::{Equivalent, Limit};
-use half_store::{Lookup, Tally, counting};
+use half_store::{Lookup, Tally};
 use std::hash::{BuildHasher, Hash};
 
 impl<K: Eq + Hash, V, S: BuildHasher, L: Limit> LimitedHashMap<K, V, S, L> {
@@ -21,25 +20,12 @@ impl<K: Eq + Hash, V, S: BuildHasher, L: Limit> LimitedHashMap<K, V, S, L> {
     pub(crate) fn find<Q: Equivalent<K>>(&self, key: Q, tally: &mut Tally) -> Lookup
         ensures found { LooksUp (Q.equivalent key)
             (key_hash S.BuildHasher S.Hasher.Hasher Q.hash_input self.now.builder key) self.now result }
-        ensures cost { SearchCostsBy (Q.equivalent key) (key_hash S.BuildHasher S.Hasher.Hasher K.hash_input)
-            (key_hash S.BuildHasher S.Hasher.Hasher Q.hash_input self.now.builder key) self.now tally.old tally.new }
+        ensures cost { CostsSearch S.BuildHasher S.Hasher.Hasher K.hash_input Q.hash_input Q.equivalent key
+            self.now tally.old tally.new }
         ensures state { IsState K.eq L.LIMIT self.now }
     {
         let hash = self.hash_to_store(&key, tally);
         self.find_hashed(hash, key, tally)
-    }
-
-    /// The hash of a key in a table. In a vector nothing is hashed, and it is 0.
-    #[inline(always)]
-    pub(crate) fn hash_to_store<Q: Hash>(&self, key: &Q, tally: &mut Tally) -> u64
-        ensures hash { self.now.is_vec ≡ false
-            → result ≡ key_hash S.BuildHasher S.Hasher.Hasher Q.hash_input self.now.builder key.now }
-        ensures work { tally.new ≡ asked_more (search_asked self.now.is_vec) tally.old }
-    {
-        if self.store.is_vec() {
-            return 0;
-        }
-        counting::hash_one(&self.builder, key, tally)
     }
 
     /// `find`, under a hash that is known. A vector does not look at it.
@@ -54,8 +40,8 @@ impl<K: Eq + Hash, V, S: BuildHasher, L: Limit> LimitedHashMap<K, V, S, L> {
             → hash ≡ key_hash S.BuildHasher S.Hasher.Hasher Q.hash_input self.now.builder key }
         ensures found { LooksUp (Q.equivalent key)
             (key_hash S.BuildHasher S.Hasher.Hasher Q.hash_input self.now.builder key) self.now result }
-        ensures cost { HashedSearchCostsBy (Q.equivalent key) (key_hash S.BuildHasher S.Hasher.Hasher K.hash_input)
-            (key_hash S.BuildHasher S.Hasher.Hasher Q.hash_input self.now.builder key) self.now tally.old tally.new }
+        ensures cost { CostsHashedSearch S.BuildHasher S.Hasher.Hasher K.hash_input Q.hash_input Q.equivalent key
+            self.now tally.old tally.new }
         ensures state { IsState K.eq L.LIMIT self.now }
     {
         let matches = move |held: &K| -> bool

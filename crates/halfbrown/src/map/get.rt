@@ -1,11 +1,11 @@
 //! Look-ups by key.
 ghost use Rattle.std.specs.Prelude.{◌≡◌, IsTrue, Some, ◌<◌, length, slice_get};
 ghost use Rattle.std.specs.Borrow.{sem};
-ghost use Rattle.std.specs.Map.{values_of};
+ghost use Rattle.std.specs.Map.{values_of, lookup, lookup_entry};
 ghost use Rattle.std.specs.Map.Iter.{deref_pair};
 ghost use Rattle.std.specs.Option.{option_copied, option_copied_mut, option_map};
-ghost use Rattle.halfbrown.specs.Costs.{key_hash, SearchCostsBy};
-ghost use Rattle.halfbrown.specs.Pairs.{value_by, holds_by, pair_by};
+ghost use Rattle.halfbrown.specs.Costs.{CostsSearch};
+ghost use Rattle.halfbrown.specs.Pairs.{holds_by};
 ghost use Rattle.halfbrown.specs.State.{IsState};
 
 use super::LimitedHashMap;
@@ -24,7 +24,7 @@ impl<K: Eq + Hash, V, S: BuildHasher, L: Limit> LimitedHashMap<K, V, S, L> {
     /// ```
     #[inline(always)]
     pub fn get<Q: Equivalent<K>>(&self, key: Q) -> Option<&V>
-        ensures { option_copied result ≡ value_by (Q.equivalent key) self.now.pairs }
+        ensures { option_copied result ≡ lookup (Q.equivalent key) self.now.pairs }
     {
         self.get_counted(key, &mut Tally::new())
     }
@@ -37,9 +37,9 @@ impl<K: Eq + Hash, V, S: BuildHasher, L: Limit> LimitedHashMap<K, V, S, L> {
     /// ```
     #[inline(always)]
     pub fn get_counted<Q: Equivalent<K>>(&self, key: Q, tally: &mut Tally) -> Option<&V>
-        ensures value { option_copied result ≡ value_by (Q.equivalent key) self.now.pairs }
-        ensures cost { SearchCostsBy (Q.equivalent key) (key_hash S.BuildHasher S.Hasher.Hasher K.hash_input)
-            (key_hash S.BuildHasher S.Hasher.Hasher Q.hash_input self.now.builder key) self.now tally.old tally.new }
+        ensures value { option_copied result ≡ lookup (Q.equivalent key) self.now.pairs }
+        ensures cost { CostsSearch S.BuildHasher S.Hasher.Hasher K.hash_input Q.hash_input Q.equivalent key
+            self.now tally.old tally.new }
         ensures state { IsState K.eq L.LIMIT self.now }
     {
         match self.find(key, tally) {
@@ -55,7 +55,7 @@ impl<K: Eq + Hash, V, S: BuildHasher, L: Limit> LimitedHashMap<K, V, S, L> {
     /// ```
     #[inline(always)]
     pub fn get_key_value<Q: Equivalent<K>>(&self, key: Q) -> Option<(&K, &V)>
-        ensures { option_map deref_pair result ≡ pair_by (Q.equivalent key) self.now.pairs }
+        ensures { option_map deref_pair result ≡ lookup_entry (Q.equivalent key) self.now.pairs }
     {
         self.get_key_value_counted(key, &mut Tally::new())
     }
@@ -71,9 +71,9 @@ impl<K: Eq + Hash, V, S: BuildHasher, L: Limit> LimitedHashMap<K, V, S, L> {
         key: Q,
         tally: &mut Tally,
     ) -> Option<(&K, &V)>
-        ensures pair { option_map deref_pair result ≡ pair_by (Q.equivalent key) self.now.pairs }
-        ensures cost { SearchCostsBy (Q.equivalent key) (key_hash S.BuildHasher S.Hasher.Hasher K.hash_input)
-            (key_hash S.BuildHasher S.Hasher.Hasher Q.hash_input self.now.builder key) self.now tally.old tally.new }
+        ensures pair { option_map deref_pair result ≡ lookup_entry (Q.equivalent key) self.now.pairs }
+        ensures cost { CostsSearch S.BuildHasher S.Hasher.Hasher K.hash_input Q.hash_input Q.equivalent key
+            self.now tally.old tally.new }
         ensures state { IsState K.eq L.LIMIT self.now }
     {
         match self.find(key, tally) {
@@ -93,7 +93,7 @@ impl<K: Eq + Hash, V, S: BuildHasher, L: Limit> LimitedHashMap<K, V, S, L> {
     pub fn get_mut<Q: Equivalent<K>>(&mut self, key: Q) -> Option<&mut V>
         ensures* writes_back { sem 𝓛 (LendsValueBy K.row V.row S.row L.row S.Hasher.row K.Hash S.BuildHasher
             S.Hasher.Hasher L.Limit self.entry (Q.equivalent key) result) }
-        ensures value { option_copied_mut result ≡ value_by (Q.equivalent key) self.old.pairs }
+        ensures value { option_copied_mut result ≡ lookup (Q.equivalent key) self.old.pairs }
     {
         self.get_mut_counted(key, &mut Tally::new())
     }
@@ -109,9 +109,9 @@ impl<K: Eq + Hash, V, S: BuildHasher, L: Limit> LimitedHashMap<K, V, S, L> {
     pub fn get_mut_counted<Q: Equivalent<K>>(&mut self, key: Q, tally: &mut Tally) -> Option<&mut V>
         ensures* writes_back { sem 𝓛 (LendsValueBy K.row V.row S.row L.row S.Hasher.row K.Hash S.BuildHasher
             S.Hasher.Hasher L.Limit self.entry (Q.equivalent key) result) }
-        ensures value { option_copied_mut result ≡ value_by (Q.equivalent key) self.old.pairs }
-        ensures cost { SearchCostsBy (Q.equivalent key) (key_hash S.BuildHasher S.Hasher.Hasher K.hash_input)
-            (key_hash S.BuildHasher S.Hasher.Hasher Q.hash_input self.old.builder key) self.old tally.old tally.new }
+        ensures value { option_copied_mut result ≡ lookup (Q.equivalent key) self.old.pairs }
+        ensures cost { CostsSearch S.BuildHasher S.Hasher.Hasher K.hash_input Q.hash_input Q.equivalent key
+            self.old tally.old tally.new }
         ensures state { IsState K.eq L.LIMIT self.old }
     {
         match self.find(key, tally) {
@@ -140,8 +140,8 @@ impl<K: Eq + Hash, V, S: BuildHasher, L: Limit> LimitedHashMap<K, V, S, L> {
     #[inline(always)]
     pub fn contains_key_counted<Q: Equivalent<K>>(&self, key: Q, tally: &mut Tally) -> bool
         ensures held { result ≡ holds_by (Q.equivalent key) self.now.pairs }
-        ensures cost { SearchCostsBy (Q.equivalent key) (key_hash S.BuildHasher S.Hasher.Hasher K.hash_input)
-            (key_hash S.BuildHasher S.Hasher.Hasher Q.hash_input self.now.builder key) self.now tally.old tally.new }
+        ensures cost { CostsSearch S.BuildHasher S.Hasher.Hasher K.hash_input Q.hash_input Q.equivalent key
+            self.now tally.old tally.new }
         ensures state { IsState K.eq L.LIMIT self.now }
     {
         match self.find(key, tally) {
@@ -162,9 +162,9 @@ impl<K: Eq + Hash, V, S: BuildHasher, L: Limit> LimitedHashMap<K, V, S, L> {
     #[inline(always)]
     pub fn index_counted<Q: Equivalent<K>>(&self, key: Q, tally: &mut Tally) -> &V
         requires { IsTrue (holds_by (Q.equivalent key) self.now.pairs) }
-        ensures value { value_by (Q.equivalent key) self.now.pairs ≡ Some result.now }
-        ensures cost { SearchCostsBy (Q.equivalent key) (key_hash S.BuildHasher S.Hasher.Hasher K.hash_input)
-            (key_hash S.BuildHasher S.Hasher.Hasher Q.hash_input self.now.builder key) self.now tally.old tally.new }
+        ensures value { lookup (Q.equivalent key) self.now.pairs ≡ Some result.now }
+        ensures cost { CostsSearch S.BuildHasher S.Hasher.Hasher K.hash_input Q.hash_input Q.equivalent key
+            self.now tally.old tally.new }
     {
         match self.find(key, tally) {
             Lookup::Found(index) => self.store.value_at(index),
@@ -190,7 +190,7 @@ impl<K: Eq + Hash, V, S: BuildHasher, L: Limit, Q: Equivalent<K>> Index<Q>
 
     ghost can_index = { λ m key. IsTrue (holds_by (Q.equivalent key) m.pairs) };
 
-    ghost index_gives = { λ m key v. value_by (Q.equivalent key) m.pairs ≡ Some v };
+    ghost index_gives = { λ m key v. lookup (Q.equivalent key) m.pairs ≡ Some v };
 
     /// Returns the value of the held key that equals this one, which must be held. It costs one search.
     ///

@@ -1,15 +1,17 @@
-//! Insertion.
-ghost use Rattle.std.specs.Prelude.{◌≡◌, false, OnOk, IfOk, IfErr, is_ok};
-ghost use Rattle.halfbrown.specs.Costs.{key_hash, unchecked_cost, GrewBy, InsertCosts};
-ghost use Rattle.halfbrown.specs.Growth.{insert_needs, unchecked_needs};
-ghost use Rattle.halfbrown.specs.Insertion.{Puts, HandsBack};
-ghost use Rattle.halfbrown.specs.Pairs.{value_of, holds};
-ghost use Rattle.halfbrown.specs.State.{IsState};
-ghost use Rattle.halfbrown.specs.Updates.{HasPut};
+//! Insertion, and what it writes: a value replaced, or a pair added whose key is not held.
+ghost use Rattle.std.specs.Prelude.{◌≡◌, ◌<◌, false, Some, [], ◌∷◌, ◌++◌, length, slice_get, is_ok};
+ghost use Rattle.std.specs.Map.{values_of};
+ghost use Rattle.half_store.specs.Pairs.{set_value};
+ghost use Rattle.half_store.specs.Store.{IsVacancy};
+ghost use Rattle.halfbrown.specs.Costs.{key_hash, new_key_cost, GrewBy, InsertCosts};
+ghost use Rattle.halfbrown.specs.Insertion.{Inserts, InsertsNewKey};
+ghost use Rattle.halfbrown.specs.Pairs.{holds};
+ghost use Rattle.halfbrown.specs.Preparation.{pushed};
+ghost use Rattle.halfbrown.specs.State.{IsState, WithPairs, contents_of};
 
 use super::LimitedHashMap;
 use crate::{Limit, Refused};
-use half_store::{Lookup, Tally};
+use half_store::{Lookup, Tally, Vacancy};
 use std::hash::{BuildHasher, Hash};
 
 impl<K: Eq + Hash, V, S: BuildHasher, L: Limit> LimitedHashMap<K, V, S, L> {
@@ -34,12 +36,7 @@ impl<K: Eq + Hash, V, S: BuildHasher, L: Limit> LimitedHashMap<K, V, S, L> {
     pub fn insert(&mut self, key: K, value: V) -> Result<Option<V>, Refused<K, V>>
     where
         K: Drop,
-        ensures old_value { IfOk result (λ old. old ≡ value_of K.eq self.old.pairs key) }
-        ensures ok { OnOk result (Puts L.LIMIT K.eq self.old key value
-            (insert_needs L.LIMIT K.eq self.old key) self.new) }
-        ensures put { OnOk result (HasPut K.eq self.old.pairs key value self.new.pairs) }
-        ensures err { IfErr result (HandsBack self.old key value (insert_needs L.LIMIT K.eq self.old key) self.new) }
-        ensures state { IsState K.eq L.LIMIT self.new }
+        ensures { Inserts L.LIMIT K.eq self.old key value result self.new }
     {
         self.insert_counted(key, value, &mut Tally::new())
     }
@@ -59,14 +56,9 @@ impl<K: Eq + Hash, V, S: BuildHasher, L: Limit> LimitedHashMap<K, V, S, L> {
     ) -> Result<Option<V>, Refused<K, V>>
     where
         K: Drop,
-        ensures old_value { IfOk result (λ old. old ≡ value_of K.eq self.old.pairs key) }
-        ensures ok { OnOk result (Puts L.LIMIT K.eq self.old key value
-            (insert_needs L.LIMIT K.eq self.old key) self.new) }
-        ensures put { OnOk result (HasPut K.eq self.old.pairs key value self.new.pairs) }
-        ensures err { IfErr result (HandsBack self.old key value (insert_needs L.LIMIT K.eq self.old key) self.new) }
+        ensures inserts { Inserts L.LIMIT K.eq self.old key value result self.new }
         ensures cost { InsertCosts L.LIMIT K.eq (key_hash S.BuildHasher S.Hasher.Hasher K.hash_input) self.old
             key (is_ok result) tally.old tally.new }
-        ensures state { IsState K.eq L.LIMIT self.new }
     {
         match self.prepare(&key, tally) {
             Ok(Lookup::Found(index)) => Ok(Some(self.set_at(index, value))),
@@ -90,10 +82,7 @@ impl<K: Eq + Hash, V, S: BuildHasher, L: Limit> LimitedHashMap<K, V, S, L> {
     #[inline]
     pub fn insert_nocheck(&mut self, key: K, value: V) -> Result<(), Refused<K, V>>
         requires { holds K.eq self.old.pairs key ≡ false }
-        ensures ok { OnOk result (Puts L.LIMIT K.eq self.old key value (unchecked_needs L.LIMIT self.old) self.new) }
-        ensures put { OnOk result (HasPut K.eq self.old.pairs key value self.new.pairs) }
-        ensures err { IfErr result (HandsBack self.old key value (unchecked_needs L.LIMIT self.old) self.new) }
-        ensures state { IsState K.eq L.LIMIT self.new }
+        ensures { InsertsNewKey L.LIMIT K.eq self.old key value result self.new }
     {
         self.insert_nocheck_counted(key, value, &mut Tally::new())
     }
@@ -113,13 +102,10 @@ impl<K: Eq + Hash, V, S: BuildHasher, L: Limit> LimitedHashMap<K, V, S, L> {
         tally: &mut Tally,
     ) -> Result<(), Refused<K, V>>
         requires { holds K.eq self.old.pairs key ≡ false }
-        ensures ok { OnOk result (Puts L.LIMIT K.eq self.old key value (unchecked_needs L.LIMIT self.old) self.new) }
-        ensures put { OnOk result (HasPut K.eq self.old.pairs key value self.new.pairs) }
-        ensures err { IfErr result (HandsBack self.old key value (unchecked_needs L.LIMIT self.old) self.new) }
-        ensures cost { GrewBy (unchecked_cost L.LIMIT K.eq
+        ensures inserts { InsertsNewKey L.LIMIT K.eq self.old key value result self.new }
+        ensures cost { GrewBy (new_key_cost L.LIMIT K.eq
             (key_hash S.BuildHasher S.Hasher.Hasher K.hash_input) self.old key (is_ok result))
             tally.old tally.new }
-        ensures state { IsState K.eq L.LIMIT self.new }
     {
         match self.prepare_new(&key, tally) {
             Ok(vacancy) => {
@@ -128,5 +114,30 @@ impl<K: Eq + Hash, V, S: BuildHasher, L: Limit> LimitedHashMap<K, V, S, L> {
             }
             Err(why) => Err(Refused { key, value, why }),
         }
+    }
+
+    /// Replaces the value of the pair at this index, and returns the old one.
+    #[inline(always)]
+    pub(crate) fn set_at(&mut self, index: usize, value: V) -> V
+        requires { index < length self.old.pairs }
+        ensures old { slice_get (values_of self.old.pairs) index ≡ Some result }
+        ensures after { WithPairs self.old (set_value self.old.pairs index value) self.new }
+        ensures state { IsState K.eq L.LIMIT self.new }
+    {
+        self.store.set_value(index, value)
+    }
+
+    /// Adds a pair whose key is not held, at a vacancy for it. It probes nothing.
+    #[inline(always)]
+    pub(crate) fn push(&mut self, key: K, value: V, vacancy: Vacancy)
+        requires capacity { length self.old.pairs < self.old.capacity }
+        requires absent { holds K.eq self.old.pairs key ≡ false }
+        requires vacant { IsVacancy self.old.is_vec (contents_of self.old)
+            (key_hash S.BuildHasher S.Hasher.Hasher K.hash_input self.old.builder key) vacancy }
+        ensures exact { self.new ≡ pushed self.old key value vacancy }
+        ensures after { WithPairs self.old (self.old.pairs ++ (key, value) ∷ []) self.new }
+        ensures state { IsState K.eq L.LIMIT self.new }
+    {
+        self.store.push(key, value, vacancy);
     }
 }

@@ -1,6 +1,6 @@
 //! What holds of every search of a map, and of equality. These functions do nothing: the laws are their contracts.
 ghost use Rattle.halfbrown.specs.Costs.{key_hash};
-ghost use Rattle.halfbrown.specs.EqualityLaws.{ReflexiveLaw, SymmetricLaw, TransitiveLaw, ValuesLaw, OrderLaw};
+ghost use Rattle.halfbrown.specs.EqualityLaws.{ReflexiveLaw, SymmetricLaw, TransitiveLaw, ValuesLaw, PairsLaw, OrderLaw, ComparisonLaw};
 ghost use Rattle.halfbrown.specs.MapLaws.{HistoryLaw, InsertionHistoryLaw, CommandCostLaw, CommandHashesLaw, CommandBucketsLaw};
 ghost use Rattle.halfbrown.specs.MapLaws.{CrowdedSearchLaw, CrowdedInsertionLaw, CrowdedGrowthLaw, CrowdedUncheckedLaw, CrowdedProbeLaw};
 
@@ -32,11 +32,20 @@ pub fn crowding_of_a_search<K: Eq + Hash, V, S: BuildHasher, L: Limit>()
 {}
 
 /// Whether maps hold the same pairs is an equivalence, where the equality of their values is one. So it is across limits,
-/// builders and forms, none of which decides it, nor does the order of the pairs: what decides it is the value of each key.
+/// builders and forms, none of which decides it, nor does the order of the pairs: what decides it is the value of each key, or,
+/// where the lengths agree, that the one holds each pair of the other.
 pub fn equality<K: Eq + Hash, V: PartialEq>()
     ensures reflexive { ReflexiveLaw K.eq V.eq }
     ensures symmetric { SymmetricLaw K.eq V.eq }
     ensures transitive { TransitiveLaw K.eq V.eq }
     ensures values { ValuesLaw K.eq V.eq }
+    ensures pairs { PairsLaw K.eq V.eq }
     ensures order { OrderLaw K.eq V.eq }
+{}
+
+/// What a comparison of two maps costs, in numbers. Where the lengths differ it is nothing. Else a vector is searched without
+/// a hash and without a bucket, and a table is asked one hash for each search: at most one for each pair of the left map, and
+/// exactly so many where the maps are the same. In both forms no more keys are compared than the product of the lengths.
+pub fn cost_of_equality<K: Eq + Hash, V: PartialEq, S: BuildHasher>()
+    ensures { ComparisonLaw K.eq V.eq (key_hash S.BuildHasher S.Hasher.Hasher K.hash_input) }
 {}

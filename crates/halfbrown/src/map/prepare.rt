@@ -3,8 +3,8 @@ ghost use Rattle.std.specs.Prelude.{◌≡◌, ◌<◌, false, length, OnOk, OnE
 ghost use Rattle.half_store.specs.Probe.{looked_more};
 ghost use Rattle.half_store.specs.Store.{IsVacancy};
 ghost use Rattle.half_store.specs.Work.{asked_more};
-ghost use Rattle.halfbrown.specs.Costs.{key_hash, probe_length_by, switch_asked, unchecked_cost, GrewBy, InsertCosts};
-ghost use Rattle.halfbrown.specs.Growth.{is_full, addition_needs, insert_needs, unchecked_needs, IsRefusal};
+ghost use Rattle.halfbrown.specs.Costs.{key_hash, probe_length_by, switch_asked, new_key_cost, GrewBy, InsertCosts};
+ghost use Rattle.halfbrown.specs.Growth.{is_full, addition_needs, insert_needs, new_key_needs, IsRefusal};
 ghost use Rattle.halfbrown.specs.Pairs.{holds};
 ghost use Rattle.halfbrown.specs.Preparation.{IsReadyFor, HasVacancyFor, Prepares, growth_looks};
 ghost use Rattle.halfbrown.specs.State.{IsState, contents_of};
@@ -39,12 +39,12 @@ impl<K: Eq + Hash, V, S: BuildHasher, L: Limit> LimitedHashMap<K, V, S, L> {
     #[inline(always)]
     pub(crate) fn prepare_new(&mut self, key: &K, tally: &mut Tally) -> Result<Vacancy, Refusal>
         requires { holds K.eq self.old.pairs key.now ≡ false }
-        ensures ok { OnOk result (Prepares L.LIMIT self.old (unchecked_needs L.LIMIT self.old) self.new) }
+        ensures ok { OnOk result (Prepares L.LIMIT self.old (new_key_needs L.LIMIT self.old) self.new) }
         ensures ready { IfOk result (HasVacancyFor K.eq
             (key_hash S.BuildHasher S.Hasher.Hasher K.hash_input) self.new key.now) }
-        ensures refused { IfErr result (IsRefusal (unchecked_needs L.LIMIT self.old)) }
+        ensures refused { IfErr result (IsRefusal (new_key_needs L.LIMIT self.old)) }
         ensures err { OnErr result (self.new ≡ self.old) }
-        ensures cost { GrewBy (unchecked_cost L.LIMIT K.eq
+        ensures cost { GrewBy (new_key_cost L.LIMIT K.eq
             (key_hash S.BuildHasher S.Hasher.Hasher K.hash_input) self.old key.now (is_ok result))
             tally.old tally.new }
         ensures state { IsState K.eq L.LIMIT self.new }
@@ -58,9 +58,9 @@ impl<K: Eq + Hash, V, S: BuildHasher, L: Limit> LimitedHashMap<K, V, S, L> {
     /// Switches a full map and makes capacity for one pair more, whatever its key. Nothing is searched.
     #[inline(always)]
     pub(crate) fn prepare_any(&mut self, tally: &mut Tally) -> Result<(), Refusal>
-        ensures ok { OnOk result (Prepares L.LIMIT self.old (unchecked_needs L.LIMIT self.old) self.new) }
+        ensures ok { OnOk result (Prepares L.LIMIT self.old (new_key_needs L.LIMIT self.old) self.new) }
         ensures capacity { OnOk result (length self.new.pairs < self.new.capacity) }
-        ensures refused { IfErr result (IsRefusal (unchecked_needs L.LIMIT self.old)) }
+        ensures refused { IfErr result (IsRefusal (new_key_needs L.LIMIT self.old)) }
         ensures err { OnErr result (self.new ≡ self.old) }
         ensures work { tally.new ≡ (if is_ok result then asked_more (switch_asked L.LIMIT self.old) tally.old
             else tally.old) }

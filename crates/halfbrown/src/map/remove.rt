@@ -1,11 +1,10 @@
 //! Removal.
 ghost use Rattle.std.specs.Prelude.{◌≡◌, ◌<◌, length, slice_get, Some};
-ghost use Rattle.half_store.specs.Pairs.{swap_out};
-ghost use Rattle.halfbrown.specs.Costs.{key_hash, SearchCostsBy};
-ghost use Rattle.std.specs.Map.{values_of};
-ghost use Rattle.halfbrown.specs.Pairs.{value_by, pair_by, take_out_by};
+ghost use Rattle.std.specs.Map.{values_of, lookup, lookup_entry};
+ghost use Rattle.half_store.specs.Pairs.{swap_remove_at};
+ghost use Rattle.halfbrown.specs.Costs.{CostsSearch};
+ghost use Rattle.halfbrown.specs.Removal.{Removes};
 ghost use Rattle.halfbrown.specs.State.{IsState, WithPairs};
-ghost use Rattle.halfbrown.specs.Updates.{HasRemovedBy};
 
 use super::LimitedHashMap;
 use crate::{Equivalent, Limit};
@@ -23,10 +22,8 @@ impl<K: Eq + Hash, V, S: BuildHasher, L: Limit> LimitedHashMap<K, V, S, L> {
     pub fn remove<Q: Equivalent<K>>(&mut self, key: Q) -> Option<V>
     where
         K: Drop,
-        ensures value { result ≡ value_by (Q.equivalent key) self.old.pairs }
-        ensures after { WithPairs self.old (take_out_by (Q.equivalent key) self.old.pairs) self.new }
-        ensures removed { HasRemovedBy K.eq (Q.equivalent key) self.old.pairs self.new.pairs }
-        ensures state { IsState K.eq L.LIMIT self.new }
+        ensures { Removes L.LIMIT K.eq (Q.equivalent key) self.old
+            (lookup (Q.equivalent key) self.old.pairs) result self.new }
     {
         self.remove_counted(key, &mut Tally::new())
     }
@@ -40,12 +37,10 @@ impl<K: Eq + Hash, V, S: BuildHasher, L: Limit> LimitedHashMap<K, V, S, L> {
     pub fn remove_counted<Q: Equivalent<K>>(&mut self, key: Q, tally: &mut Tally) -> Option<V>
     where
         K: Drop,
-        ensures value { result ≡ value_by (Q.equivalent key) self.old.pairs }
-        ensures after { WithPairs self.old (take_out_by (Q.equivalent key) self.old.pairs) self.new }
-        ensures removed { HasRemovedBy K.eq (Q.equivalent key) self.old.pairs self.new.pairs }
-        ensures cost { SearchCostsBy (Q.equivalent key) (key_hash S.BuildHasher S.Hasher.Hasher K.hash_input)
-            (key_hash S.BuildHasher S.Hasher.Hasher Q.hash_input self.old.builder key) self.old tally.old tally.new }
-        ensures state { IsState K.eq L.LIMIT self.new }
+        ensures removes { Removes L.LIMIT K.eq (Q.equivalent key) self.old
+            (lookup (Q.equivalent key) self.old.pairs) result self.new }
+        ensures cost { CostsSearch S.BuildHasher S.Hasher.Hasher K.hash_input Q.hash_input Q.equivalent key
+            self.old tally.old tally.new }
     {
         let (_, value) = self.remove_entry_counted(key, tally)?;
         Some(value)
@@ -59,10 +54,8 @@ impl<K: Eq + Hash, V, S: BuildHasher, L: Limit> LimitedHashMap<K, V, S, L> {
     /// ```
     #[inline]
     pub fn remove_entry<Q: Equivalent<K>>(&mut self, key: Q) -> Option<(K, V)>
-        ensures pair { result ≡ pair_by (Q.equivalent key) self.old.pairs }
-        ensures after { WithPairs self.old (take_out_by (Q.equivalent key) self.old.pairs) self.new }
-        ensures removed { HasRemovedBy K.eq (Q.equivalent key) self.old.pairs self.new.pairs }
-        ensures state { IsState K.eq L.LIMIT self.new }
+        ensures { Removes L.LIMIT K.eq (Q.equivalent key) self.old
+            (lookup_entry (Q.equivalent key) self.old.pairs) result self.new }
     {
         self.remove_entry_counted(key, &mut Tally::new())
     }
@@ -78,12 +71,10 @@ impl<K: Eq + Hash, V, S: BuildHasher, L: Limit> LimitedHashMap<K, V, S, L> {
         key: Q,
         tally: &mut Tally,
     ) -> Option<(K, V)>
-        ensures pair { result ≡ pair_by (Q.equivalent key) self.old.pairs }
-        ensures after { WithPairs self.old (take_out_by (Q.equivalent key) self.old.pairs) self.new }
-        ensures removed { HasRemovedBy K.eq (Q.equivalent key) self.old.pairs self.new.pairs }
-        ensures cost { SearchCostsBy (Q.equivalent key) (key_hash S.BuildHasher S.Hasher.Hasher K.hash_input)
-            (key_hash S.BuildHasher S.Hasher.Hasher Q.hash_input self.old.builder key) self.old tally.old tally.new }
-        ensures state { IsState K.eq L.LIMIT self.new }
+        ensures removes { Removes L.LIMIT K.eq (Q.equivalent key) self.old
+            (lookup_entry (Q.equivalent key) self.old.pairs) result self.new }
+        ensures cost { CostsSearch S.BuildHasher S.Hasher.Hasher K.hash_input Q.hash_input Q.equivalent key
+            self.old tally.old tally.new }
     {
         match self.find(key, tally) {
             Lookup::Found(index) => Some(self.take_at(index)),
@@ -97,7 +88,7 @@ impl<K: Eq + Hash, V, S: BuildHasher, L: Limit> LimitedHashMap<K, V, S, L> {
         requires { index < length self.old.pairs }
         ensures taken { slice_get self.old.pairs index ≡ Some result }
         ensures value { slice_get (values_of self.old.pairs) index ≡ Some result.1 }
-        ensures after { WithPairs self.old (swap_out self.old.pairs index) self.new }
+        ensures after { WithPairs self.old (swap_remove_at self.old.pairs index) self.new }
         ensures state { IsState K.eq L.LIMIT self.new }
     {
         self.store.swap_remove(index)

@@ -1,8 +1,7 @@
 //! A value that is handed to a closure, and what becomes of its pair.
-ghost use Rattle.std.specs.Prelude.{◌≡◌, ◌<◌, true, false, [], ◌∷◌, ◌++◌, Some, IfSome, OnSome, length, slice_get};
+ghost use Rattle.std.specs.Prelude.{◌≡◌, ◌<◌, false, Some, IfSome, OnSome, length, slice_get};
 ghost use Rattle.std.specs.Borrow.{Bor};
 ghost use Rattle.std.specs.Option.{option_map};
-ghost use Rattle.half_store.specs.Pairs.{swap_out};
 ghost use Rattle.half_store.specs.Replaced.{Replaces};
 ghost use Rattle.halfbrown.specs.Costs.{key_hash};
 ghost use Rattle.halfbrown.specs.Pairs.{holds};
@@ -10,7 +9,6 @@ ghost use Rattle.halfbrown.specs.State.{IsState, WithPairs};
 
 use super::LimitedHashMap;
 use crate::Limit;
-use half_store::Vacancy;
 use std::hash::{BuildHasher, Hash};
 
 impl<K: Eq + Hash, V, S: BuildHasher, L: Limit> LimitedHashMap<K, V, S, L> {
@@ -35,21 +33,5 @@ impl<K: Eq + Hash, V, S: BuildHasher, L: Limit> LimitedHashMap<K, V, S, L> {
         ensures state { IsState K.eq L.LIMIT self.new }
     {
         self.store.replace_with(index, f)
-    }
-
-    /// Moves the pair at this index of a vector to the end: the pair that was last takes its index. Returns its new index.
-    #[inline]
-    pub(crate) fn move_last(&mut self, index: usize) -> usize
-        requires within { index < length self.old.pairs }
-        requires vector { self.old.is_vec ≡ true }
-        ensures after { (pair : K × V) × (slice_get self.old.pairs index ≡ Some pair)
-            × WithPairs self.old (swap_out self.old.pairs index ++ pair ∷ []) self.new }
-        ensures last { result ≡ length (swap_out self.old.pairs index) }
-        ensures state { IsState K.eq L.LIMIT self.new }
-    {
-        let last = self.len() - 1;
-        let (key, value) = self.take_at(index);
-        self.push(key, value, Vacancy { hash: 0, bucket: 0 });
-        last
     }
 }

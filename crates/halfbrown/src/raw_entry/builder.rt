@@ -5,10 +5,10 @@ ghost use Rattle.std.specs.Fn.{FnReturnsAt};
 ghost use Rattle.std.specs.Map.{keys_of};
 ghost use Rattle.std.specs.Map.Iter.{deref_pair};
 ghost use Rattle.std.specs.Option.{option_map};
-ghost use Rattle.halfbrown.specs.Costs.{key_hash, SearchCostsBy, HashedSearchCostsBy};
+ghost use Rattle.halfbrown.specs.Costs.{key_hash, CostsSearch, CostsHashedSearch};
 ghost use Rattle.halfbrown.specs.Match.{FindsMatch, FindingCosts};
-ghost use Rattle.halfbrown.specs.Pairs.{pair_by, value_by};
 ghost use Rattle.halfbrown.specs.RawEntryBuilder.{map_in};
+ghost use Rattle.halfbrown.specs.RawSearch.{ReadsPair};
 
 use super::LimitedRawEntryBuilder;
 use crate::{Equivalent, Limit};
@@ -23,8 +23,7 @@ impl<'a, K: Eq + Hash, V, S: BuildHasher, L: Limit> LimitedRawEntryBuilder<'a, K
     /// ```
     #[inline(always)]
     pub fn from_key<Q: Equivalent<K>>(self, key: Q) -> Option<(&'a K, &'a V)>
-        ensures pair { option_map deref_pair result ≡ pair_by (Q.equivalent key) (map_in self.entry).pairs }
-        ensures value { option_map (λ pair. pair.1.now) result ≡ value_by (Q.equivalent key) (map_in self.entry).pairs }
+        ensures { ReadsPair (Q.equivalent key) (map_in self.entry) result }
     {
         self.from_key_counted(key, &mut Tally::new())
     }
@@ -40,11 +39,9 @@ impl<'a, K: Eq + Hash, V, S: BuildHasher, L: Limit> LimitedRawEntryBuilder<'a, K
         key: Q,
         tally: &mut Tally,
     ) -> Option<(&'a K, &'a V)>
-        ensures pair { option_map deref_pair result ≡ pair_by (Q.equivalent key) (map_in self.entry).pairs }
-        ensures value { option_map (λ pair. pair.1.now) result ≡ value_by (Q.equivalent key) (map_in self.entry).pairs }
-        ensures cost { SearchCostsBy (Q.equivalent key) (key_hash S.BuildHasher S.Hasher.Hasher K.hash_input)
-            (key_hash S.BuildHasher S.Hasher.Hasher Q.hash_input (map_in self.entry).builder key) (map_in self.entry)
-            tally.old tally.new }
+        ensures reads { ReadsPair (Q.equivalent key) (map_in self.entry) result }
+        ensures cost { CostsSearch S.BuildHasher S.Hasher.Hasher K.hash_input Q.hash_input Q.equivalent key
+            (map_in self.entry) tally.old tally.new }
     {
         match self.map.find(key, tally) {
             Lookup::Found(index) => Some(self.map.pair_at(index)),
@@ -65,8 +62,7 @@ impl<'a, K: Eq + Hash, V, S: BuildHasher, L: Limit> LimitedRawEntryBuilder<'a, K
         key: Q,
     ) -> Option<(&'a K, &'a V)>
         requires { hash ≡ key_hash S.BuildHasher S.Hasher.Hasher Q.hash_input (map_in self).builder key }
-        ensures pair { option_map deref_pair result ≡ pair_by (Q.equivalent key) (map_in self.entry).pairs }
-        ensures value { option_map (λ pair. pair.1.now) result ≡ value_by (Q.equivalent key) (map_in self.entry).pairs }
+        ensures { ReadsPair (Q.equivalent key) (map_in self.entry) result }
     {
         self.from_key_hashed_nocheck_counted(hash, key, &mut Tally::new())
     }
@@ -87,11 +83,9 @@ impl<'a, K: Eq + Hash, V, S: BuildHasher, L: Limit> LimitedRawEntryBuilder<'a, K
         tally: &mut Tally,
     ) -> Option<(&'a K, &'a V)>
         requires { hash ≡ key_hash S.BuildHasher S.Hasher.Hasher Q.hash_input (map_in self).builder key }
-        ensures pair { option_map deref_pair result ≡ pair_by (Q.equivalent key) (map_in self.entry).pairs }
-        ensures value { option_map (λ pair. pair.1.now) result ≡ value_by (Q.equivalent key) (map_in self.entry).pairs }
-        ensures cost { HashedSearchCostsBy (Q.equivalent key) (key_hash S.BuildHasher S.Hasher.Hasher K.hash_input)
-            (key_hash S.BuildHasher S.Hasher.Hasher Q.hash_input (map_in self.entry).builder key) (map_in self.entry)
-            tally.old tally.new }
+        ensures reads { ReadsPair (Q.equivalent key) (map_in self.entry) result }
+        ensures cost { CostsHashedSearch S.BuildHasher S.Hasher.Hasher K.hash_input Q.hash_input Q.equivalent key
+            (map_in self.entry) tally.old tally.new }
     {
         match self.map.find_hashed(hash, key, tally) {
             Lookup::Found(index) => Some(self.map.pair_at(index)),

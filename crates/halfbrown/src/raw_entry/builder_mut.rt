@@ -1,19 +1,16 @@
 //! The searches of `raw_entry_mut`.
-ghost use Rattle.std.specs.Prelude.{◌≡◌, ℕ, Some, IfSome, slice_get};
+ghost use Rattle.std.specs.Prelude.{◌≡◌, ℕ, Some, slice_get};
 ghost use Rattle.std.specs.Borrow.{Bor};
 ghost use Rattle.std.specs.Fn.{FnReturnsAt};
 ghost use Rattle.std.specs.Map.{keys_of};
-ghost use Rattle.halfbrown.specs.Costs.{key_hash, SearchCostsBy, HashedSearchCostsBy};
-ghost use Rattle.halfbrown.specs.Match.{FindsMatch, FindingCosts};
-ghost use Rattle.halfbrown.specs.RawEntry.{map_of, map_ref, entry_pair, FindsEntry};
-ghost use Rattle.halfbrown.specs.RawEntryBuilder.{ready_ref, ready_map};
-ghost use Rattle.halfbrown.specs.State.{IsState};
+ghost use Rattle.halfbrown.specs.Costs.{key_hash, CostsSearch, CostsHashedSearch};
+ghost use Rattle.halfbrown.specs.Match.{FindingCosts};
+ghost use Rattle.halfbrown.specs.RawEntry.{found_pair};
+ghost use Rattle.halfbrown.specs.RawEntryBuilder.{ready_map};
+ghost use Rattle.halfbrown.specs.RawSearch.{Searches, SearchesByMatch};
 
-use super::{
-    LimitedRawEntryBuilderMut, LimitedRawEntryMut, LimitedRawOccupiedEntryMut,
-    LimitedRawVacantEntryMut, Prepared,
-};
-use crate::{Equivalent, Limit};
+use super::{LimitedRawEntryBuilderMut, LimitedRawEntryMut, LimitedRawVacantEntryMut};
+use crate::{Equivalent, Limit, LimitedOccupiedEntry};
 use half_store::{Lookup, Tally};
 use std::hash::{BuildHasher, Hash};
 
@@ -28,9 +25,7 @@ impl<'a, K: Eq + Hash, V, S: BuildHasher, L: Limit> LimitedRawEntryBuilderMut<'a
     /// ```
     #[inline]
     pub fn from_key<Q: Equivalent<K>>(self, key: Q) -> LimitedRawEntryMut<'a, K, V, S, L>
-        ensures same_map { (map_ref result).ghost_name ≡ (ready_ref self.entry).ghost_name }
-        ensures finds { FindsEntry K.eq (Q.equivalent key) (ready_map self.entry) result }
-        ensures state { IsState K.eq L.LIMIT (map_of result) }
+        ensures { Searches L.LIMIT K.eq (Q.equivalent key) self.entry result }
     {
         self.from_key_counted(key, &mut Tally::new())
     }
@@ -46,16 +41,13 @@ impl<'a, K: Eq + Hash, V, S: BuildHasher, L: Limit> LimitedRawEntryBuilderMut<'a
         key: Q,
         tally: &mut Tally,
     ) -> LimitedRawEntryMut<'a, K, V, S, L>
-        ensures same_map { (map_ref result).ghost_name ≡ (ready_ref self.entry).ghost_name }
-        ensures finds { FindsEntry K.eq (Q.equivalent key) (ready_map self.entry) result }
-        ensures cost { SearchCostsBy (Q.equivalent key) (key_hash S.BuildHasher S.Hasher.Hasher K.hash_input)
-            (key_hash S.BuildHasher S.Hasher.Hasher Q.hash_input (ready_map self.entry).builder key)
+        ensures searches { Searches L.LIMIT K.eq (Q.equivalent key) self.entry result }
+        ensures cost { CostsSearch S.BuildHasher S.Hasher.Hasher K.hash_input Q.hash_input Q.equivalent key
             (ready_map self.entry) tally.old tally.new }
-        ensures state { IsState K.eq L.LIMIT (map_of result) }
     {
         let LimitedRawEntryBuilderMut::Ready(ready) = self;
         match ready.map.find(key, tally) {
-            Lookup::Found(index) => LimitedRawEntryMut::Occupied(LimitedRawOccupiedEntryMut {
+            Lookup::Found(index) => LimitedRawEntryMut::Occupied(LimitedOccupiedEntry {
                 map: ready.map,
                 index,
             }),
@@ -78,9 +70,7 @@ impl<'a, K: Eq + Hash, V, S: BuildHasher, L: Limit> LimitedRawEntryBuilderMut<'a
         key: Q,
     ) -> LimitedRawEntryMut<'a, K, V, S, L>
         requires { hash ≡ key_hash S.BuildHasher S.Hasher.Hasher Q.hash_input (ready_map self).builder key }
-        ensures same_map { (map_ref result).ghost_name ≡ (ready_ref self.entry).ghost_name }
-        ensures finds { FindsEntry K.eq (Q.equivalent key) (ready_map self.entry) result }
-        ensures state { IsState K.eq L.LIMIT (map_of result) }
+        ensures { Searches L.LIMIT K.eq (Q.equivalent key) self.entry result }
     {
         self.from_key_hashed_nocheck_counted(hash, key, &mut Tally::new())
     }
@@ -101,16 +91,13 @@ impl<'a, K: Eq + Hash, V, S: BuildHasher, L: Limit> LimitedRawEntryBuilderMut<'a
         tally: &mut Tally,
     ) -> LimitedRawEntryMut<'a, K, V, S, L>
         requires { hash ≡ key_hash S.BuildHasher S.Hasher.Hasher Q.hash_input (ready_map self).builder key }
-        ensures same_map { (map_ref result).ghost_name ≡ (ready_ref self.entry).ghost_name }
-        ensures finds { FindsEntry K.eq (Q.equivalent key) (ready_map self.entry) result }
-        ensures cost { HashedSearchCostsBy (Q.equivalent key) (key_hash S.BuildHasher S.Hasher.Hasher K.hash_input)
-            (key_hash S.BuildHasher S.Hasher.Hasher Q.hash_input (ready_map self.entry).builder key)
+        ensures searches { Searches L.LIMIT K.eq (Q.equivalent key) self.entry result }
+        ensures cost { CostsHashedSearch S.BuildHasher S.Hasher.Hasher K.hash_input Q.hash_input Q.equivalent key
             (ready_map self.entry) tally.old tally.new }
-        ensures state { IsState K.eq L.LIMIT (map_of result) }
     {
         let LimitedRawEntryBuilderMut::Ready(ready) = self;
         match ready.map.find_hashed(hash, key, tally) {
-            Lookup::Found(index) => LimitedRawEntryMut::Occupied(LimitedRawOccupiedEntryMut {
+            Lookup::Found(index) => LimitedRawEntryMut::Occupied(LimitedOccupiedEntry {
                 map: ready.map,
                 index,
             }),
@@ -137,13 +124,8 @@ impl<'a, K: Eq + Hash, V, S: BuildHasher, L: Limit> LimitedRawEntryBuilderMut<'a
     ) -> LimitedRawEntryMut<'a, K, V, S, L>
         requires { (key : Bor K) (index : ℕ) → slice_get (keys_of (ready_map self).pairs) index ≡ Some key.now
             → F.pre is_match key }
-        ensures same_map { (map_ref result).ghost_name ≡ (ready_ref self.entry).ghost_name }
-        ensures map { map_of result ≡ ready_map self.entry }
-        ensures found { FindsMatch (FnReturnsAt F.Fn is_match) (key_hash S.BuildHasher S.Hasher.Hasher K.hash_input) hash
-            (ready_map self.entry) (entry_pair result) }
-        ensures entry { IfSome (entry_pair result)
-            (λ pair. FindsEntry K.eq (K.eq pair.0) (ready_map self.entry) result) }
-        ensures state { IsState K.eq L.LIMIT (map_of result) }
+        ensures { SearchesByMatch L.LIMIT K.eq (FnReturnsAt F.Fn is_match)
+            (key_hash S.BuildHasher S.Hasher.Hasher K.hash_input) hash self.entry result }
     {
         self.from_hash_counted(hash, is_match, &mut Tally::new())
     }
@@ -164,19 +146,14 @@ impl<'a, K: Eq + Hash, V, S: BuildHasher, L: Limit> LimitedRawEntryBuilderMut<'a
     ) -> LimitedRawEntryMut<'a, K, V, S, L>
         requires { (key : Bor K) (index : ℕ) → slice_get (keys_of (ready_map self).pairs) index ≡ Some key.now
             → F.pre is_match key }
-        ensures same_map { (map_ref result).ghost_name ≡ (ready_ref self.entry).ghost_name }
-        ensures map { map_of result ≡ ready_map self.entry }
-        ensures found { FindsMatch (FnReturnsAt F.Fn is_match) (key_hash S.BuildHasher S.Hasher.Hasher K.hash_input) hash
-            (ready_map self.entry) (entry_pair result) }
-        ensures entry { IfSome (entry_pair result)
-            (λ pair. FindsEntry K.eq (K.eq pair.0) (ready_map self.entry) result) }
+        ensures searches { SearchesByMatch L.LIMIT K.eq (FnReturnsAt F.Fn is_match)
+            (key_hash S.BuildHasher S.Hasher.Hasher K.hash_input) hash self.entry result }
         ensures cost { FindingCosts (key_hash S.BuildHasher S.Hasher.Hasher K.hash_input) hash (ready_map self.entry)
-            (entry_pair result) tally.old tally.new }
-        ensures state { IsState K.eq L.LIMIT (map_of result) }
+            (found_pair result) tally.old tally.new }
     {
         let LimitedRawEntryBuilderMut::Ready(ready) = self;
         match ready.map.find_match(hash, &is_match, tally) {
-            Lookup::Found(index) => LimitedRawEntryMut::Occupied(LimitedRawOccupiedEntryMut {
+            Lookup::Found(index) => LimitedRawEntryMut::Occupied(LimitedOccupiedEntry {
                 map: ready.map,
                 index,
             }),

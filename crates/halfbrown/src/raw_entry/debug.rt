@@ -1,7 +1,6 @@
 //! What raw entries and their builders are printed as.
 use super::{
-    LimitedRawEntryBuilder, LimitedRawEntryBuilderMut, LimitedRawEntryMut,
-    LimitedRawOccupiedEntryMut, LimitedRawVacantEntryMut,
+    LimitedRawEntryBuilder, LimitedRawEntryBuilderMut, LimitedRawEntryMut, LimitedRawVacantEntryMut,
 };
 use crate::Limit;
 use std::fmt::{Debug, Formatter, Result, Write};
@@ -28,16 +27,6 @@ impl<'a, K: Eq + Hash + Debug, V: Debug, S: BuildHasher, L: Limit> Debug
             LimitedRawEntryMut::Occupied(entry) => f.debug_tuple("RawEntry").field(entry).finish(),
             LimitedRawEntryMut::Vacant(entry) => f.debug_tuple("RawEntry").field(entry).finish(),
         }
-    }
-}
-
-impl<'a, K: Eq + Hash + Debug, V: Debug, S: BuildHasher, L: Limit> Debug
-    for LimitedRawOccupiedEntryMut<'a, K, V, S, L> {
-    fn fmt<W: Write>(&self, f: &mut Formatter<W>) -> Result {
-        f.debug_struct("RawOccupiedEntryMut")
-            .field("key", self.key())
-            .field("value", self.get())
-            .finish()
     }
 }
 

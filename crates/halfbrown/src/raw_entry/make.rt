@@ -1,13 +1,11 @@
 //! Making what raw entries are made from.
-ghost use Rattle.std.specs.Prelude.{◌≡◌, ◌<◌, length, IfOk, IfErr, is_ok, if◌then◌else◌};
+ghost use Rattle.std.specs.Prelude.{◌≡◌, is_ok, if◌then◌else◌};
 ghost use Rattle.std.specs.Borrow.{sem};
 ghost use Rattle.half_store.specs.Work.{asked_more};
 ghost use Rattle.halfbrown.specs.Costs.{switch_asked};
-ghost use Rattle.halfbrown.specs.Growth.{unchecked_needs, IsRefusal};
-ghost use Rattle.halfbrown.specs.Preparation.{Prepares};
-ghost use Rattle.halfbrown.specs.RawEntryBuilder.{map_in, ready_ref, ready_map};
+ghost use Rattle.halfbrown.specs.RawEntryBuilder.{map_in};
 ghost use Rattle.halfbrown.specs.RawEntryLending.{RestsIfUnready};
-ghost use Rattle.halfbrown.specs.State.{IsState};
+ghost use Rattle.halfbrown.specs.RawSearch.{MakesReady};
 
 use super::{LimitedRawEntryBuilder, LimitedRawEntryBuilderMut, Prepared};
 use crate::{Limit, LimitedHashMap};
@@ -38,11 +36,7 @@ impl<K: Eq + Hash, V, S: BuildHasher, L: Limit> LimitedHashMap<K, V, S, L> {
     #[inline]
     pub fn raw_entry_mut(&mut self) -> Result<LimitedRawEntryBuilderMut<'_, K, V, S, L>, Refusal>
         ensures* unchanged { sem 𝓛 (RestsIfUnready K.row V.row S.row L.row S.Hasher.row self.entry result) }
-        ensures same_map { IfOk result (λ r. (ready_ref r).ghost_name ≡ self.entry.ghost_name) }
-        ensures ok { IfOk result (λ r. Prepares L.LIMIT self.old (unchecked_needs L.LIMIT self.old) (ready_map r)) }
-        ensures capacity { IfOk result (λ r. length (ready_map r).pairs < (ready_map r).capacity) }
-        ensures err { IfErr result (IsRefusal (unchecked_needs L.LIMIT self.old)) }
-        ensures state { IfOk result (λ r. IsState K.eq L.LIMIT (ready_map r)) }
+        ensures makes { MakesReady L.LIMIT K.eq self.entry result }
     {
         self.raw_entry_mut_counted(&mut Tally::new())
     }
@@ -60,13 +54,9 @@ impl<K: Eq + Hash, V, S: BuildHasher, L: Limit> LimitedHashMap<K, V, S, L> {
         tally: &mut Tally,
     ) -> Result<LimitedRawEntryBuilderMut<'_, K, V, S, L>, Refusal>
         ensures* unchanged { sem 𝓛 (RestsIfUnready K.row V.row S.row L.row S.Hasher.row self.entry result) }
-        ensures same_map { IfOk result (λ r. (ready_ref r).ghost_name ≡ self.entry.ghost_name) }
-        ensures ok { IfOk result (λ r. Prepares L.LIMIT self.old (unchecked_needs L.LIMIT self.old) (ready_map r)) }
-        ensures capacity { IfOk result (λ r. length (ready_map r).pairs < (ready_map r).capacity) }
-        ensures err { IfErr result (IsRefusal (unchecked_needs L.LIMIT self.old)) }
+        ensures makes { MakesReady L.LIMIT K.eq self.entry result }
         ensures cost { tally.new ≡ (if is_ok result then asked_more (switch_asked L.LIMIT self.old) tally.old
             else tally.old) }
-        ensures state { IfOk result (λ r. IsState K.eq L.LIMIT (ready_map r)) }
     {
         match self.prepare_any(tally) {
             Ok(()) => Ok(LimitedRawEntryBuilderMut::Ready(Prepared { map: self })),

@@ -4,12 +4,12 @@ ghost use Rattle.std.specs.Borrow.{Bor, MutBor};
 ghost use Rattle.std.specs.Option.{UnwrapsOrElse};
 ghost use Rattle.halfbrown.specs.Costs.{key_hash};
 ghost use Rattle.halfbrown.specs.Pairs.{holds};
-ghost use Rattle.halfbrown.specs.RawEntry.{Occupied, map_of, map_ref, is_occupied, entry_key, entry_value};
-ghost use Rattle.halfbrown.specs.RawEntry.{entry_pair, pairs_with, pairs_without, PutsPair, ModifiesPair, after_adding};
-ghost use Rattle.halfbrown.specs.State.{IsState, WithPairs};
+ghost use Rattle.halfbrown.specs.RawEntry.{raw_map, raw_ref, is_found, found_key, found_value};
+ghost use Rattle.halfbrown.specs.RawEntry.{found_pair, pairs_with, without_found, PutsEntry, ModifiesPair, after_adding};
+ghost use Rattle.halfbrown.specs.State.{WithPairs};
 
-use super::{LimitedRawEntryMut, LimitedRawOccupiedEntryMut};
-use crate::Limit;
+use super::LimitedRawEntryMut;
+use crate::{Limit, LimitedOccupiedEntry};
 use half_store::Tally;
 use std::hash::{BuildHasher, Hash};
 
@@ -21,13 +21,12 @@ impl<'a, K: Eq + Hash, V, S: BuildHasher, L: Limit> LimitedRawEntryMut<'a, K, V,
     /// let entry = ages.raw_entry_mut()?.from_key(&1).insert(1, 37);
     /// ```
     #[inline]
-    pub fn insert(self, key: K, value: V) -> LimitedRawOccupiedEntryMut<'a, K, V, S, L>
+    pub fn insert(self, key: K, value: V) -> LimitedOccupiedEntry<'a, K, V, S, L>
     where
         K: Drop,
         V: Drop,
-        requires { is_occupied self ≡ false → holds K.eq (map_of self).pairs key ≡ false }
-        ensures puts { PutsPair self.entry key value result }
-        ensures state { IsState K.eq L.LIMIT (map_of (Occupied result)) }
+        requires { is_found self ≡ false → holds K.eq (raw_map self).pairs key ≡ false }
+        ensures { PutsEntry L.LIMIT K.eq self.entry key value result }
     {
         self.insert_counted(key, value, &mut Tally::new())
     }
@@ -46,15 +45,14 @@ impl<'a, K: Eq + Hash, V, S: BuildHasher, L: Limit> LimitedRawEntryMut<'a, K, V,
         key: K,
         value: V,
         tally: &mut Tally,
-    ) -> LimitedRawOccupiedEntryMut<'a, K, V, S, L>
+    ) -> LimitedOccupiedEntry<'a, K, V, S, L>
     where
         K: Drop,
         V: Drop,
-        requires { is_occupied self ≡ false → holds K.eq (map_of self).pairs key ≡ false }
-        ensures puts { PutsPair self.entry key value result }
-        ensures cost { tally.new ≡ (if is_occupied self.entry then tally.old else after_adding
-            (key_hash S.BuildHasher S.Hasher.Hasher K.hash_input) (map_of self.entry) key tally.old) }
-        ensures state { IsState K.eq L.LIMIT (map_of (Occupied result)) }
+        requires { is_found self ≡ false → holds K.eq (raw_map self).pairs key ≡ false }
+        ensures puts { PutsEntry L.LIMIT K.eq self.entry key value result }
+        ensures cost { tally.new ≡ (if is_found self.entry then tally.old else after_adding
+            (key_hash S.BuildHasher S.Hasher.Hasher K.hash_input) (raw_map self.entry) key tally.old) }
     {
         match self {
             LimitedRawEntryMut::Occupied(mut entry) => {
@@ -80,13 +78,12 @@ impl<'a, K: Eq + Hash, V, S: BuildHasher, L: Limit> LimitedRawEntryMut<'a, K, V,
         self,
         default_key: K,
         default_value: V,
-    ) -> LimitedRawOccupiedEntryMut<'a, K, V, S, L>
+    ) -> LimitedOccupiedEntry<'a, K, V, S, L>
     where
         K: Drop,
         V: Drop,
-        requires { is_occupied self ≡ false → holds K.eq (map_of self).pairs default_key ≡ false }
-        ensures puts { PutsPair self.entry default_key (unwrap_or (entry_value self.entry) default_value) result }
-        ensures state { IsState K.eq L.LIMIT (map_of (Occupied result)) }
+        requires { is_found self ≡ false → holds K.eq (raw_map self).pairs default_key ≡ false }
+        ensures { PutsEntry L.LIMIT K.eq self.entry default_key (unwrap_or (found_value self.entry) default_value) result }
     {
         self.or_insert_entry_counted(default_key, default_value, &mut Tally::new())
     }
@@ -105,15 +102,14 @@ impl<'a, K: Eq + Hash, V, S: BuildHasher, L: Limit> LimitedRawEntryMut<'a, K, V,
         default_key: K,
         default_value: V,
         tally: &mut Tally,
-    ) -> LimitedRawOccupiedEntryMut<'a, K, V, S, L>
+    ) -> LimitedOccupiedEntry<'a, K, V, S, L>
     where
         K: Drop,
         V: Drop,
-        requires { is_occupied self ≡ false → holds K.eq (map_of self).pairs default_key ≡ false }
-        ensures puts { PutsPair self.entry default_key (unwrap_or (entry_value self.entry) default_value) result }
-        ensures cost { tally.new ≡ (if is_occupied self.entry then tally.old else after_adding
-            (key_hash S.BuildHasher S.Hasher.Hasher K.hash_input) (map_of self.entry) default_key tally.old) }
-        ensures state { IsState K.eq L.LIMIT (map_of (Occupied result)) }
+        requires { is_found self ≡ false → holds K.eq (raw_map self).pairs default_key ≡ false }
+        ensures puts { PutsEntry L.LIMIT K.eq self.entry default_key (unwrap_or (found_value self.entry) default_value) result }
+        ensures cost { tally.new ≡ (if is_found self.entry then tally.old else after_adding
+            (key_hash S.BuildHasher S.Hasher.Hasher K.hash_input) (raw_map self.entry) default_key tally.old) }
     {
         match self {
             LimitedRawEntryMut::Occupied(entry) => {
@@ -138,8 +134,8 @@ impl<'a, K: Eq + Hash, V, S: BuildHasher, L: Limit> LimitedRawEntryMut<'a, K, V,
     where
         K: Drop,
         V: Drop,
-        requires { is_occupied self ≡ false → holds K.eq (map_of self).pairs default_key ≡ false }
-        ensures { (result.0.now, result.1.now) ≡ unwrap_or (entry_pair self.entry) (default_key, default_value) }
+        requires { is_found self ≡ false → holds K.eq (raw_map self).pairs default_key ≡ false }
+        ensures { (result.0.now, result.1.now) ≡ unwrap_or (found_pair self.entry) (default_key, default_value) }
     {
         self.or_insert_counted(default_key, default_value, &mut Tally::new())
     }
@@ -162,10 +158,10 @@ impl<'a, K: Eq + Hash, V, S: BuildHasher, L: Limit> LimitedRawEntryMut<'a, K, V,
     where
         K: Drop,
         V: Drop,
-        requires { is_occupied self ≡ false → holds K.eq (map_of self).pairs default_key ≡ false }
-        ensures pair { (result.0.now, result.1.now) ≡ unwrap_or (entry_pair self.entry) (default_key, default_value) }
-        ensures cost { tally.new ≡ (if is_occupied self.entry then tally.old else after_adding
-            (key_hash S.BuildHasher S.Hasher.Hasher K.hash_input) (map_of self.entry) default_key tally.old) }
+        requires { is_found self ≡ false → holds K.eq (raw_map self).pairs default_key ≡ false }
+        ensures pair { (result.0.now, result.1.now) ≡ unwrap_or (found_pair self.entry) (default_key, default_value) }
+        ensures cost { tally.new ≡ (if is_found self.entry then tally.old else after_adding
+            (key_hash S.BuildHasher S.Hasher.Hasher K.hash_input) (raw_map self.entry) default_key tally.old) }
     {
         match self {
             LimitedRawEntryMut::Occupied(entry) => entry.into_key_value(),
@@ -188,10 +184,10 @@ impl<'a, K: Eq + Hash, V, S: BuildHasher, L: Limit> LimitedRawEntryMut<'a, K, V,
     /// ```
     #[inline]
     pub fn or_insert_with<F: FnOnce() -> (K, V)>(self, default: F) -> (&'a K, &'a mut V)
-        requires callable { is_occupied self ≡ false → F.pre default }
-        requires absent { is_occupied self ≡ false → (pair : K × V) → F.post default pair
-            → holds K.eq (map_of self).pairs pair.0 ≡ false }
-        ensures { UnwrapsOrElse (entry_pair self.entry) (F.post default) (result.0.now, result.1.now) }
+        requires callable { is_found self ≡ false → F.pre default }
+        requires absent { is_found self ≡ false → (pair : K × V) → F.post default pair
+            → holds K.eq (raw_map self).pairs pair.0 ≡ false }
+        ensures { UnwrapsOrElse (found_pair self.entry) (F.post default) (result.0.now, result.1.now) }
     {
         self.or_insert_with_counted(default, &mut Tally::new())
     }
@@ -210,12 +206,12 @@ impl<'a, K: Eq + Hash, V, S: BuildHasher, L: Limit> LimitedRawEntryMut<'a, K, V,
         default: F,
         tally: &mut Tally,
     ) -> (&'a K, &'a mut V)
-        requires callable { is_occupied self ≡ false → F.pre default }
-        requires absent { is_occupied self ≡ false → (pair : K × V) → F.post default pair
-            → holds K.eq (map_of self).pairs pair.0 ≡ false }
-        ensures pair { UnwrapsOrElse (entry_pair self.entry) (F.post default) (result.0.now, result.1.now) }
-        ensures cost { tally.new ≡ (if is_occupied self.entry then tally.old else after_adding
-            (key_hash S.BuildHasher S.Hasher.Hasher K.hash_input) (map_of self.entry) result.0.now tally.old) }
+        requires callable { is_found self ≡ false → F.pre default }
+        requires absent { is_found self ≡ false → (pair : K × V) → F.post default pair
+            → holds K.eq (raw_map self).pairs pair.0 ≡ false }
+        ensures pair { UnwrapsOrElse (found_pair self.entry) (F.post default) (result.0.now, result.1.now) }
+        ensures cost { tally.new ≡ (if is_found self.entry then tally.old else after_adding
+            (key_hash S.BuildHasher S.Hasher.Hasher K.hash_input) (raw_map self.entry) result.0.now tally.old) }
     {
         match self {
             LimitedRawEntryMut::Occupied(entry) => entry.into_key_value(),
@@ -236,16 +232,16 @@ impl<'a, K: Eq + Hash, V, S: BuildHasher, L: Limit> LimitedRawEntryMut<'a, K, V,
     /// ```
     #[inline]
     pub fn and_modify<F: FnOnce(&K, &mut V)>(self, f: F) -> LimitedRawEntryMut<'a, K, V, S, L>
-        requires { (key : Bor K) (lent : MutBor V) → entry_pair self ≡ Some (key.now, lent.now) → F.pre f key lent }
-        ensures modified { ModifiesPair F.FnOnce f (entry_pair self.entry) (entry_value result) }
-        ensures same_map { (map_ref result).ghost_name ≡ (map_ref self.entry).ghost_name }
-        ensures found { is_occupied result ≡ is_occupied self.entry }
-        ensures key { entry_key result ≡ entry_key self.entry }
+        requires { (key : Bor K) (lent : MutBor V) → found_pair self ≡ Some (key.now, lent.now) → F.pre f key lent }
+        ensures modified { ModifiesPair F.FnOnce f (found_pair self.entry) (found_value result) }
+        ensures same_map { (raw_ref result).ghost_name ≡ (raw_ref self.entry).ghost_name }
+        ensures found { is_found result ≡ is_found self.entry }
+        ensures key { found_key result ≡ found_key self.entry }
         ensures writes { (key : K) (value : V) → pairs_with result key value ≡ pairs_with self.entry key value }
-        ensures pairs_left { pairs_without result ≡ pairs_without self.entry }
-        ensures vacant { entry_value self.entry ≡ None → map_of result ≡ map_of self.entry }
-        ensures occupied { (key : K) → IfSome (entry_value result)
-            (λ value. WithPairs (map_of self.entry) (pairs_with self.entry key value) (map_of result)) }
+        ensures pairs_left { without_found result ≡ without_found self.entry }
+        ensures vacant { found_value self.entry ≡ None → raw_map result ≡ raw_map self.entry }
+        ensures occupied { (key : K) → IfSome (found_value result)
+            (λ value. WithPairs (raw_map self.entry) (pairs_with self.entry key value) (raw_map result)) }
     {
         match self {
             LimitedRawEntryMut::Occupied(mut entry) => {

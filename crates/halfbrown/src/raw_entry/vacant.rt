@@ -2,11 +2,10 @@
 ghost use Rattle.std.specs.Prelude.{◌≡◌, false};
 ghost use Rattle.halfbrown.specs.Costs.{key_hash};
 ghost use Rattle.halfbrown.specs.Pairs.{holds};
-ghost use Rattle.halfbrown.specs.RawEntry.{Occupied, Vacant, map_of, AddsPair, PutsPair, after_adding, after_probe};
-ghost use Rattle.halfbrown.specs.State.{IsState};
+ghost use Rattle.halfbrown.specs.RawEntry.{Vacant, raw_map, AddsEntry, LendsPair, after_adding, after_probe};
 
-use super::{LimitedRawOccupiedEntryMut, LimitedRawVacantEntryMut};
-use crate::Limit;
+use super::LimitedRawVacantEntryMut;
+use crate::{Limit, LimitedOccupiedEntry};
 use half_store::Tally;
 use std::hash::{BuildHasher, Hash};
 
@@ -19,9 +18,8 @@ impl<'a, K: Eq + Hash, V, S: BuildHasher, L: Limit> LimitedRawVacantEntryMut<'a,
     /// ```
     #[inline]
     pub fn insert(self, key: K, value: V) -> (&'a K, &'a mut V)
-        requires { holds K.eq (map_of (Vacant self)).pairs key ≡ false }
-        ensures key { result.0.now ≡ key }
-        ensures value { result.1.now ≡ value }
+        requires { holds K.eq (raw_map (Vacant self)).pairs key ≡ false }
+        ensures { LendsPair key value result }
     {
         self.insert_counted(key, value, &mut Tally::new())
     }
@@ -33,11 +31,10 @@ impl<'a, K: Eq + Hash, V, S: BuildHasher, L: Limit> LimitedRawVacantEntryMut<'a,
     /// ```
     #[inline]
     pub fn insert_counted(self, key: K, value: V, tally: &mut Tally) -> (&'a K, &'a mut V)
-        requires { holds K.eq (map_of (Vacant self)).pairs key ≡ false }
-        ensures key { result.0.now ≡ key }
-        ensures value { result.1.now ≡ value }
+        requires { holds K.eq (raw_map (Vacant self)).pairs key ≡ false }
+        ensures lends { LendsPair key value result }
         ensures cost { tally.new ≡ after_adding (key_hash S.BuildHasher S.Hasher.Hasher K.hash_input)
-            (map_of (Vacant self.entry)) key tally.old }
+            (raw_map (Vacant self.entry)) key tally.old }
     {
         self.insert_entry_counted(key, value, tally)
             .into_key_value()
@@ -49,11 +46,9 @@ impl<'a, K: Eq + Hash, V, S: BuildHasher, L: Limit> LimitedRawVacantEntryMut<'a,
     /// let entry = entry.insert_entry(5, 21);
     /// ```
     #[inline]
-    pub fn insert_entry(self, key: K, value: V) -> LimitedRawOccupiedEntryMut<'a, K, V, S, L>
-        requires { holds K.eq (map_of (Vacant self)).pairs key ≡ false }
-        ensures puts { PutsPair (Vacant self.entry) key value result }
-        ensures adds { AddsPair K.eq (map_of (Vacant self.entry)).pairs key value result }
-        ensures state { IsState K.eq L.LIMIT (map_of (Occupied result)) }
+    pub fn insert_entry(self, key: K, value: V) -> LimitedOccupiedEntry<'a, K, V, S, L>
+        requires { holds K.eq (raw_map (Vacant self)).pairs key ≡ false }
+        ensures { AddsEntry L.LIMIT K.eq (Vacant self.entry) key value result }
     {
         self.insert_entry_counted(key, value, &mut Tally::new())
     }
@@ -69,13 +64,11 @@ impl<'a, K: Eq + Hash, V, S: BuildHasher, L: Limit> LimitedRawVacantEntryMut<'a,
         key: K,
         value: V,
         tally: &mut Tally,
-    ) -> LimitedRawOccupiedEntryMut<'a, K, V, S, L>
-        requires { holds K.eq (map_of (Vacant self)).pairs key ≡ false }
-        ensures puts { PutsPair (Vacant self.entry) key value result }
-        ensures adds { AddsPair K.eq (map_of (Vacant self.entry)).pairs key value result }
+    ) -> LimitedOccupiedEntry<'a, K, V, S, L>
+        requires { holds K.eq (raw_map (Vacant self)).pairs key ≡ false }
+        ensures adds { AddsEntry L.LIMIT K.eq (Vacant self.entry) key value result }
         ensures cost { tally.new ≡ after_adding (key_hash S.BuildHasher S.Hasher.Hasher K.hash_input)
-            (map_of (Vacant self.entry)) key tally.old }
-        ensures state { IsState K.eq L.LIMIT (map_of (Occupied result)) }
+            (raw_map (Vacant self.entry)) key tally.old }
     {
         let hash = self.map.hash_to_store(&key, tally);
         self.add(hash, key, value, tally)
@@ -88,10 +81,9 @@ impl<'a, K: Eq + Hash, V, S: BuildHasher, L: Limit> LimitedRawVacantEntryMut<'a,
     /// ```
     #[inline]
     pub fn insert_hashed_nocheck(self, hash: u64, key: K, value: V) -> (&'a K, &'a mut V)
-        requires hash { hash ≡ key_hash S.BuildHasher S.Hasher.Hasher K.hash_input (map_of (Vacant self)).builder key }
-        requires absent { holds K.eq (map_of (Vacant self)).pairs key ≡ false }
-        ensures key { result.0.now ≡ key }
-        ensures value { result.1.now ≡ value }
+        requires hash { hash ≡ key_hash S.BuildHasher S.Hasher.Hasher K.hash_input (raw_map (Vacant self)).builder key }
+        requires absent { holds K.eq (raw_map (Vacant self)).pairs key ≡ false }
+        ensures { LendsPair key value result }
     {
         self.insert_hashed_nocheck_counted(hash, key, value, &mut Tally::new())
     }
@@ -109,12 +101,11 @@ impl<'a, K: Eq + Hash, V, S: BuildHasher, L: Limit> LimitedRawVacantEntryMut<'a,
         value: V,
         tally: &mut Tally,
     ) -> (&'a K, &'a mut V)
-        requires hash { hash ≡ key_hash S.BuildHasher S.Hasher.Hasher K.hash_input (map_of (Vacant self)).builder key }
-        requires absent { holds K.eq (map_of (Vacant self)).pairs key ≡ false }
-        ensures key { result.0.now ≡ key }
-        ensures value { result.1.now ≡ value }
+        requires hash { hash ≡ key_hash S.BuildHasher S.Hasher.Hasher K.hash_input (raw_map (Vacant self)).builder key }
+        requires absent { holds K.eq (raw_map (Vacant self)).pairs key ≡ false }
+        ensures lends { LendsPair key value result }
         ensures cost { tally.new ≡ after_probe (key_hash S.BuildHasher S.Hasher.Hasher K.hash_input)
-            (map_of (Vacant self.entry)) hash tally.old }
+            (raw_map (Vacant self.entry)) hash tally.old }
     {
         self.add(hash, key, value, tally).into_key_value()
     }
@@ -130,12 +121,10 @@ impl<'a, K: Eq + Hash, V, S: BuildHasher, L: Limit> LimitedRawVacantEntryMut<'a,
         hash: u64,
         key: K,
         value: V,
-    ) -> LimitedRawOccupiedEntryMut<'a, K, V, S, L>
-        requires hash { hash ≡ key_hash S.BuildHasher S.Hasher.Hasher K.hash_input (map_of (Vacant self)).builder key }
-        requires absent { holds K.eq (map_of (Vacant self)).pairs key ≡ false }
-        ensures puts { PutsPair (Vacant self.entry) key value result }
-        ensures adds { AddsPair K.eq (map_of (Vacant self.entry)).pairs key value result }
-        ensures state { IsState K.eq L.LIMIT (map_of (Occupied result)) }
+    ) -> LimitedOccupiedEntry<'a, K, V, S, L>
+        requires hash { hash ≡ key_hash S.BuildHasher S.Hasher.Hasher K.hash_input (raw_map (Vacant self)).builder key }
+        requires absent { holds K.eq (raw_map (Vacant self)).pairs key ≡ false }
+        ensures { AddsEntry L.LIMIT K.eq (Vacant self.entry) key value result }
     {
         self.insert_entry_hashed_nocheck_counted(hash, key, value, &mut Tally::new())
     }
@@ -152,14 +141,12 @@ impl<'a, K: Eq + Hash, V, S: BuildHasher, L: Limit> LimitedRawVacantEntryMut<'a,
         key: K,
         value: V,
         tally: &mut Tally,
-    ) -> LimitedRawOccupiedEntryMut<'a, K, V, S, L>
-        requires hash { hash ≡ key_hash S.BuildHasher S.Hasher.Hasher K.hash_input (map_of (Vacant self)).builder key }
-        requires absent { holds K.eq (map_of (Vacant self)).pairs key ≡ false }
-        ensures puts { PutsPair (Vacant self.entry) key value result }
-        ensures adds { AddsPair K.eq (map_of (Vacant self.entry)).pairs key value result }
+    ) -> LimitedOccupiedEntry<'a, K, V, S, L>
+        requires hash { hash ≡ key_hash S.BuildHasher S.Hasher.Hasher K.hash_input (raw_map (Vacant self)).builder key }
+        requires absent { holds K.eq (raw_map (Vacant self)).pairs key ≡ false }
+        ensures adds { AddsEntry L.LIMIT K.eq (Vacant self.entry) key value result }
         ensures cost { tally.new ≡ after_probe (key_hash S.BuildHasher S.Hasher.Hasher K.hash_input)
-            (map_of (Vacant self.entry)) hash tally.old }
-        ensures state { IsState K.eq L.LIMIT (map_of (Occupied result)) }
+            (raw_map (Vacant self.entry)) hash tally.old }
     {
         self.add(hash, key, value, tally)
     }
@@ -177,10 +164,9 @@ impl<'a, K: Eq + Hash, V, S: BuildHasher, L: Limit> LimitedRawVacantEntryMut<'a,
         value: V,
         hasher: F,
     ) -> (&'a K, &'a mut V)
-        requires hash { hash ≡ key_hash S.BuildHasher S.Hasher.Hasher K.hash_input (map_of (Vacant self)).builder key }
-        requires absent { holds K.eq (map_of (Vacant self)).pairs key ≡ false }
-        ensures key { result.0.now ≡ key }
-        ensures value { result.1.now ≡ value }
+        requires hash { hash ≡ key_hash S.BuildHasher S.Hasher.Hasher K.hash_input (raw_map (Vacant self)).builder key }
+        requires absent { holds K.eq (raw_map (Vacant self)).pairs key ≡ false }
+        ensures { LendsPair key value result }
     {
         self.insert_with_hasher_counted(hash, key, value, hasher, &mut Tally::new())
     }
@@ -199,12 +185,11 @@ impl<'a, K: Eq + Hash, V, S: BuildHasher, L: Limit> LimitedRawVacantEntryMut<'a,
         _hasher: F,
         tally: &mut Tally,
     ) -> (&'a K, &'a mut V)
-        requires hash { hash ≡ key_hash S.BuildHasher S.Hasher.Hasher K.hash_input (map_of (Vacant self)).builder key }
-        requires absent { holds K.eq (map_of (Vacant self)).pairs key ≡ false }
-        ensures key { result.0.now ≡ key }
-        ensures value { result.1.now ≡ value }
+        requires hash { hash ≡ key_hash S.BuildHasher S.Hasher.Hasher K.hash_input (raw_map (Vacant self)).builder key }
+        requires absent { holds K.eq (raw_map (Vacant self)).pairs key ≡ false }
+        ensures lends { LendsPair key value result }
         ensures cost { tally.new ≡ after_probe (key_hash S.BuildHasher S.Hasher.Hasher K.hash_input)
-            (map_of (Vacant self.entry)) hash tally.old }
+            (raw_map (Vacant self.entry)) hash tally.old }
     {
         self.insert_hashed_nocheck_counted(hash, key, value, tally)
     }
@@ -217,20 +202,18 @@ impl<'a, K: Eq + Hash, V, S: BuildHasher, L: Limit> LimitedRawVacantEntryMut<'a,
         key: K,
         value: V,
         tally: &mut Tally,
-    ) -> LimitedRawOccupiedEntryMut<'a, K, V, S, L>
-        requires hash { (map_of (Vacant self)).is_vec ≡ false
-            → hash ≡ key_hash S.BuildHasher S.Hasher.Hasher K.hash_input (map_of (Vacant self)).builder key }
-        requires absent { holds K.eq (map_of (Vacant self)).pairs key ≡ false }
-        ensures puts { PutsPair (Vacant self.entry) key value result }
-        ensures adds { AddsPair K.eq (map_of (Vacant self.entry)).pairs key value result }
+    ) -> LimitedOccupiedEntry<'a, K, V, S, L>
+        requires hash { (raw_map (Vacant self)).is_vec ≡ false
+            → hash ≡ key_hash S.BuildHasher S.Hasher.Hasher K.hash_input (raw_map (Vacant self)).builder key }
+        requires absent { holds K.eq (raw_map (Vacant self)).pairs key ≡ false }
+        ensures adds { AddsEntry L.LIMIT K.eq (Vacant self.entry) key value result }
         ensures cost { tally.new ≡ after_probe (key_hash S.BuildHasher S.Hasher.Hasher K.hash_input)
-            (map_of (Vacant self.entry)) hash tally.old }
-        ensures state { IsState K.eq L.LIMIT (map_of (Occupied result)) }
+            (raw_map (Vacant self.entry)) hash tally.old }
     {
         let map = self.map;
         let vacancy = map.vacancy_for(hash, tally);
         let index = map.len();
         map.push(key, value, vacancy);
-        LimitedRawOccupiedEntryMut { map, index }
+        LimitedOccupiedEntry { map, index }
     }
 }

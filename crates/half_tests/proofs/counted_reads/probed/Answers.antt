@@ -7,4 +7,4 @@ pub first_empty-requires-clause-vacant : goal.first_empty-requires-clause-vacant
 first_empty-requires-clause-vacant c =
     let b = c.hashed_buckets.result in
     let shown = c.hashed_buckets.ensures.shown in
-    table_vacant (slots_by b.hashes.now b.buckets.now) (entries_by b.buckets.now) shown.bucket_of shown.capacity shown.table (omega (arith, c.if-count-eq0.false, c.count.ensures))
+    table_vacant (slots_by b.hashes.now b.buckets.now) (entries_by b.buckets.now) shown.bucket_of shown.table (omega (arith, c.if-count-eq0.false, c.count.ensures))

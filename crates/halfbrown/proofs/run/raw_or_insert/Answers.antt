@@ -10,7 +10,7 @@ returns-in-Ok-clause-cost g c =
     let hash = key_hash g.S.BuildHasher g.S.Hasher.Hasher g.K.Hash.hash_input in
     let key = c.args.key in
     let searched = c.from_key_counted-found.new.tally in
-    let finds = c.from_key_counted-found.ensures.finds in
-    raw_costs g.L.Limit.LIMIT g.K.PartialEq.eq hash c.args.map.now (ready_map c.in-Ok.entries) key c.in-Ok.ensures.ok c.in-Ok.ensures.capacity
+    let finds = c.from_key_counted-found.ensures.searches.finds in
+    raw_costs g.L.Limit.LIMIT g.K.PartialEq.eq hash c.args.map.now (ready_map c.in-Ok.entries) key c.in-Ok.ensures.makes.ok c.in-Ok.ensures.makes.capacity
     c.args.tally.now c.raw_entry_mut_counted.new.tally searched c.or_insert_entry_counted-entry.new.tally c.in-Ok.ensures.cost c.from_key_counted-found.ensures.cost
     (c.or_insert_entry_counted-entry.ensures.cost ∙ (λ i. cond (finds.occupied i) searched (after_adding hash (finds.map i) key searched)))

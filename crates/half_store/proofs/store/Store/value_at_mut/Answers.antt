@@ -1,9 +1,9 @@
 use Rattle.std.proofs.Common.{refl}
-use Rattle.half_store.specs.Pairs.{with_pairs, set_value}
+use Rattle.half_store.specs.Pairs.{columns_with, set_value}
 use Rattle.half_store.proofs.Stores.{kept_store, length-set_value}
 use Rattle.half_store.proofs.store.Store.value_at_mut.Goals as goal
 
 pub invariant_of-self-lent : goal.invariant_of-self-lent
 invariant_of-self-lent g c w =
     let columns = c.self.inside.columns in
-    kept_store c.self.inside.index columns (with_pairs columns (set_value columns.pairs c.args.index w)) (length-set_value columns.pairs c.args.index w) refl c.self.invariant
+    kept_store c.self.inside.index columns (columns_with columns (set_value columns.pairs c.args.index w)) (length-set_value columns.pairs c.args.index w) refl c.self.invariant

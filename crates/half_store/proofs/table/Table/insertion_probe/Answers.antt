@@ -1,22 +1,29 @@
-use Rattle.std.proofs.Common.{subst}
-use Rattle.half_store.specs.Slots.{IsVacancyFor}
+use Rattle.std.proofs.Common.{ap}
+use Rattle.half_store.specs.Words.{words_of}
 use Rattle.half_store.proofs.BucketsSeen.{buckets_seen}
-use Rattle.half_store.proofs.TableLemmas.{probing_cost_seen, vacant_seen, slots_seen}
+use Rattle.half_store.proofs.IndexLemmas.{shows_lent, laid_out}
 use Rattle.half_store.proofs.table.Table.insertion_probe.Goals as goal
 
-pub first_empty-requires-clause-count : goal.first_empty-requires-clause-count
-first_empty-requires-clause-count c = c.hashed_buckets.ensures.shown.table.buckets
+pub probe_in-requires-clause-layout : goal.probe_in-requires-clause-layout
+probe_in-requires-clause-layout c = laid_out (shows_lent c.self.invariant c.self.view_is c.as_slice-hashes.ensures.value (ap words_of c.in-FourBytes.is))
 
-pub first_empty-requires-clause-vacant : goal.first_empty-requires-clause-vacant
-first_empty-requires-clause-vacant c = vacant_seen c.hashed_buckets.ensures.shown c.args.hash c.requires
+pub returns-in-FourBytes-clause-vacancy : goal.returns-in-FourBytes-clause-vacancy
+returns-in-FourBytes-clause-vacancy c = c.probe_in.ensures.vacancy c.args.self.now (shows_lent c.self.invariant c.self.view_is c.as_slice-hashes.ensures.value (ap words_of c.in-FourBytes.is))
 
-pub returns-clause-vacancy : goal.returns-clause-vacancy
-returns-clause-vacancy c =
-    subst (λ slots. IsVacancyFor slots c.args.hash c.first_empty.result) (slots_seen c.hashed_buckets.ensures.shown c.args.hash) c.first_empty.ensures.vacancy
+pub returns-in-FourBytes-clause-cost : goal.returns-in-FourBytes-clause-cost
+returns-in-FourBytes-clause-cost c = c.probe_in.ensures.cost c.args.self.now (shows_lent c.self.invariant c.self.view_is c.as_slice-hashes.ensures.value (ap words_of c.in-FourBytes.is))
 
-pub returns-clause-cost : goal.returns-clause-cost
-returns-clause-cost c =
-    probing_cost_seen c.hashed_buckets.ensures.shown c.args.hash c.first_empty.result c.args.tally.now c.first_empty.new.tally c.first_empty.ensures.vacancy c.first_empty.ensures.cost
+pub returns-in-FourBytes-clause-buckets : goal.returns-in-FourBytes-clause-buckets
+returns-in-FourBytes-clause-buckets c = buckets_seen (shows_lent c.self.invariant c.self.view_is c.as_slice-hashes.ensures.value (ap words_of c.in-FourBytes.is))
 
-pub returns-clause-buckets : goal.returns-clause-buckets
-returns-clause-buckets c = buckets_seen c.hashed_buckets.ensures.shown
+pub probe_in-requires-in-EightBytes-clause-layout : goal.probe_in-requires-in-EightBytes-clause-layout
+probe_in-requires-in-EightBytes-clause-layout c = laid_out (shows_lent c.self.invariant c.self.view_is c.as_slice-hashes.ensures.value (ap words_of c.in-EightBytes.is))
+
+pub returns-in-EightBytes-clause-vacancy : goal.returns-in-EightBytes-clause-vacancy
+returns-in-EightBytes-clause-vacancy c = c.probe_in-in-EightBytes.ensures.vacancy c.args.self.now (shows_lent c.self.invariant c.self.view_is c.as_slice-hashes.ensures.value (ap words_of c.in-EightBytes.is))
+
+pub returns-in-EightBytes-clause-cost : goal.returns-in-EightBytes-clause-cost
+returns-in-EightBytes-clause-cost c = c.probe_in-in-EightBytes.ensures.cost c.args.self.now (shows_lent c.self.invariant c.self.view_is c.as_slice-hashes.ensures.value (ap words_of c.in-EightBytes.is))
+
+pub returns-in-EightBytes-clause-buckets : goal.returns-in-EightBytes-clause-buckets
+returns-in-EightBytes-clause-buckets c = buckets_seen (shows_lent c.self.invariant c.self.view_is c.as_slice-hashes.ensures.value (ap words_of c.in-EightBytes.is))

@@ -1,22 +1,44 @@
-use Rattle.std.proofs.Common.{◌≡◌, ℕ, length, drop, sym, ap, arith}
-use Rattle.std.proofs.lemmas.List.{take_at}
-use Rattle.std.specs.Vec.{vec_capacity}
-use Rattle.half_store.specs.Capacity.{capacity_of}
-use Rattle.half_store.proofs.IndexLemmas.{IsIndex-as, index-reserved}
+use Rattle.std.proofs.Common.{◌≡◌, ℕ, List, ◌++◌, length, take, drop, replicate, refl, sym, ap, subst, ◌∙◌, arith}
+use Rattle.std.proofs.lemmas.List.{take_at, length-replicate}
+use Rattle.half_store.specs.Capacity.{capacity_of, IsBucketCount}
+use Rattle.half_store.specs.TableLayout.{IsTable}
+use Rattle.half_store.specs.Words.{words_of, most_of}
+use Rattle.half_store.proofs.BucketLemmas.{length-slots_by}
+use Rattle.half_store.proofs.IndexLemmas.{IsTable-as, index-buckets}
 use Rattle.half_store.proofs.table.Table.retain.Goals as goal
 
 pub invariant_of-self-2 : goal.invariant_of-self-2
 invariant_of-self-2 g c =
     let x = c.self.invariant in
-    let buckets = c.rehash.new.buckets in
-    let C : ℕ = capacity_of (length c.as_mut_slice-2.result.now) in
-    let long : length buckets ≡ length c.self.inside.buckets.items = omega (arith, c.rehash.auto.buckets, c.as_mut_slice-2.ensures.len, c.fill.ensures.len, c.self.inside.buckets.ok) in
-    let same = ap capacity_of long in
-    let reserved = index-reserved x in
-    let all_buckets = take_at buckets (drop (length buckets) c.fill.new.self.items) c.fill.new.self.len (omega (arith, c.rehash.auto.buckets, c.as_mut_slice-2.ensures.len)) in
-    let all_indices = take_at c.rehash.new.bucket_of (drop (length c.rehash.new.bucket_of) c.truncate-2.new.self.items) c.truncate-2.new.self.len (omega (arith, c.rehash.auto.bucket_of, c.as_mut_slice-3.ensures.len)) in
-    IsIndex-as c.as_slice.result.now c.truncate.new.self.items buckets _ c.rehash.new.bucket_of _
-    C C (vec_capacity c.truncate.new.self) (vec_capacity c.truncate-2.new.self)
-    (sym c.as_slice.ensures.value) all_buckets all_indices
-    (omega (arith, same, x.reserved, c.truncate.ensures.capacity)) (omega (arith, same, reserved, c.truncate-2.ensures.capacity))
-    c.rehash.ensures.index
+    let m : ℕ = length (words_of c.self.inside.buckets) in
+    let same = ap capacity_of (c.rehash.ensures.len ∙ ap length c.clear.ensures.words ∙ length-replicate {A = ℕ} m 0) in
+    IsTable-as c.as_slice.result.now (words_of c.rehash.new.buckets) (sym c.as_slice.ensures.value) refl (c.rehash.ensures.most ∙ c.clear.ensures.most) c.rehash.ensures.indexed
+    (omega (arith, same, x.fits)) (omega (arith, same, x.reserved, c.truncate.ensures.capacity))
+
+-- a column whose front part is written as it was
+same_front : (items front : List ℕ) (n : ℕ) → front ≡ items → n ≡ length items → take n (front ++ drop (length front) items) ≡ items
+same_front items front n same len = take_at front (drop (length front) items) n (omega (arith, ap length same, len)) ∙ same
+
+pub invariant_of-self : goal.invariant_of-self
+invariant_of-self g c =
+    let t = c.self.inside in
+    let long : length c.retain_with.new.self.pairs ≡ length c.args.pairs.now.pairs =
+    omega (arith, c.len.ensures.len, c.if-len.true, c.len-2.ensures, t.hashes.ok.0, ap (λ s. length s.hashes) c.self.view_is, c.requires.len) in
+    let same = c.retain_with.ensures.same long ∙ c.as_mut_slice.ensures.value in
+    subst (λ hashes. IsTable hashes (words_of t.buckets) (most_of t.buckets) t.hashes.cap)
+    (sym (same_front t.hashes.items c.retain_with.new.hashes t.hashes.len same (omega (arith, t.hashes.ok.0)))) c.self.invariant
+
+pub returns-then-len-clause-buckets : goal.returns-then-len-clause-buckets
+returns-then-len-clause-buckets g c =
+    let t = c.self.inside in
+    length-slots_by _ (words_of t.buckets) ∙ sym (length-slots_by t.hashes.items (words_of t.buckets)) ∙ ap (λ s. s.buckets) c.self.view_is
+
+pub rehash-requires-clause-count : goal.rehash-requires-clause-count
+rehash-requires-clause-count g c =
+    let m : ℕ = length (words_of c.self.inside.buckets) in
+    subst IsBucketCount (sym (ap length c.clear.ensures.words ∙ length-replicate {A = ℕ} m 0)) (index-buckets c.self.invariant.indexed.index)
+
+pub rehash-requires-clause-empty : goal.rehash-requires-clause-empty
+rehash-requires-clause-empty g c =
+    let m : ℕ = length (words_of c.self.inside.buckets) in
+    c.clear.ensures.words ∙ ap (λ n. replicate n 0) (sym (ap length c.clear.ensures.words ∙ length-replicate {A = ℕ} m 0))

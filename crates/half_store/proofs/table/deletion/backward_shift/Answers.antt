@@ -1,11 +1,13 @@
-use Rattle.std.proofs.Common.{◌≡◌, ◌-◌, ◌+◌, ◌<◌, ◌≤◌, ◌∙◌, ℕ, suc, inl, inr, List, Option, Some, None, length, set, slice_index, refl, sym, ap, subst, arith}
+use Rattle.std.proofs.Common.{◌≡◌, ◌+◌, ◌<◌, ◌≤◌, ◌∙◌, ℕ, suc, inl, inr, List, Option, Some, None, length, set, slice_index, refl, sym, ap, subst, arith}
+use Rattle.std.proofs.lemmas.List.{length-set}
 use Rattle.half_store.specs.Buckets.{slots_by, entries_by, WithinHashes}
 use Rattle.half_store.specs.Reach.{home, probe_distance, bucket_after}
 use Rattle.half_store.specs.Slots.{slot_at}
+use Rattle.half_store.specs.Capacity.{capacity_of, IsBucketCount}
 use Rattle.half_store.specs.Table.{hashes_at}
 use Rattle.half_store.specs.TableLayout.{InStep}
-use Rattle.half_store.proofs.BucketLemmas.{length-slots_by, slots_by-move, entries_by-move, entry_by-at, some_entry, whole-move}
-use Rattle.half_store.proofs.SlotsLemmas.{slot_cases, full_from}
+use Rattle.half_store.proofs.BucketLemmas.{length-slots_by, slots_by-move, entries_by-move, whole-at, whole-move}
+use Rattle.half_store.proofs.SlotsLemmas.{slot_cases}
 use Rattle.half_store.proofs.GapLemmas.{InStep-move, hashes_at-move, move-from}
 use Rattle.half_store.proofs.IndexLemmas.{InStep-vacant}
 use Rattle.half_store.proofs.DeletionLemmas.{Gap, Gap-start, Gap-end, Gap-stay, Gap-move, few}
@@ -13,28 +15,57 @@ use Rattle.half_store.proofs.table.deletion.backward_shift.Goals as goal
 use Rattle.half_store.proofs.table.deletion.backward_shift.Goals.{then-probe_distance, else-probe_distance}
 
 pub loop-step-init : goal.loop-step-init
-loop-step-init c =
-    let g = c.requires.gap in
-    let slots : List (Option ℕ) = slots_by c.args.hashes.now c.args.buckets.now in
-    let long = length-slots_by c.args.hashes.now c.args.buckets.now in
+loop-step-init g c =
+    let x = c.requires.emptied in
+    let gap = x.gap in
+    let slots : List (Option ℕ) = slots_by c.args.hashes.now (g.B.Words.words c.args.buckets.now) in
+    let long : length slots ≡ c.count-count.result = length-slots_by c.args.hashes.now (g.B.Words.words c.args.buckets.now) ∙ sym c.count-count.ensures in
     record {
-      inside = c.next-bucket.ensures.bound;
-      whole = c.requires.whole;
+      bucket_of = x.bucket_of;
+      inside = omega (arith, c.next-bucket.ensures.bound, c.count-count.ensures);
+      whole = x.whole;
+      column = x.column;
+      within = x.within;
+      in_step = x.in_step;
+      most = refl;
       deletion =
           subst (λ m. Gap m slots c.args.emptied c.args.emptied c.next-bucket.result 0) long
-          (Gap-start (length slots) slots c.args.emptied c.next-bucket.result refl g.within (c.next-bucket.ensures.value ∙ ap (λ m. bucket_after m c.args.emptied 1) (sym long)) g.vacant g.another g.others);
-      in_step = c.requires.in_step;
-      same = refl;
+          (Gap-start (length slots) slots c.args.emptied c.next-bucket.result refl gap.within (c.next-bucket.ensures.value ∙ ap (λ m. bucket_after m c.args.emptied 1) (sym long)) gap.vacant gap.another gap.others);
     }
 
 -- a bucket that holds no hash is empty
 empty_from : (o : Option ℕ) → ((h : ℕ) → o ≡ Some h → ⊥) → o ≡ None
 empty_from o no_hash = elim (slot_cases o) [ inl z ↦ z | inr (h, is) ↦ absurd (no_hash h is) ]
 
-pub returns-in_default-clause-ordered : goal.returns-in_default-clause-ordered
-returns-in_default-clause-ordered c =
-    Gap-end (length c.args.buckets.now) (slots_by c.args.hashes.now c.loop-step.buckets) c.args.emptied c.loop-step.gap c.loop-step.bucket c.loop-step._step c.loop-step.invariant.deletion
-    (sym c.hash_in.ensures ∙ empty_from c.hash_in.result c.in_default.not-Some)
+-- there are as many buckets as what they contain says
+as_many : (hashes buckets : List ℕ) {m : ℕ} → length (slots_by hashes buckets) ≡ m → length buckets ≡ m
+as_many hashes buckets same = sym (length-slots_by hashes buckets) ∙ same
+
+pub returns-in_default-clause-indexed : goal.returns-in_default-clause-indexed
+returns-in_default-clause-indexed g c =
+    let i = c.loop-step.invariant in
+    let hs = c.args.hashes.now in
+    let buckets = g.B.Words.words c.loop-step.buckets in
+    let long = length-slots_by hs buckets in
+    record {
+      bucket_of = i.bucket_of;
+      index = record {
+        whole = i.whole;
+        column = i.column;
+        table = record {
+          buckets = subst IsBucketCount (sym (i.deletion.size ∙ c.count-count.ensures)) c.requires.count;
+          within = subst (λ m. length i.bucket_of ≤ capacity_of m) (sym long) i.within;
+          in_step = i.in_step;
+          ordered =
+              Gap-end c.count-count.result (slots_by hs buckets) c.args.emptied c.loop-step.gap c.loop-step.bucket c.loop-step._step i.deletion
+              (sym c.hash_in.ensures ∙ empty_from c.hash_in.result c.in_default.not-Some);
+        };
+      };
+    }
+
+pub returns-in_default-clause-len : goal.returns-in_default-clause-len
+returns-in_default-clause-len g c =
+    as_many c.args.hashes.now (g.B.Words.words c.loop-step.buckets) c.loop-step.invariant.deletion.size ∙ c.count-count.ensures
 
 -- the shifting back goes on with columns that were moved, or left alone
 module _ (m : ℕ) (slots slots' : List (Option ℕ)) (entry_of entry_of' bucket_of bucket_of' : List ℕ) (start gap gap' bucket next count hash : ℕ)
@@ -74,63 +105,56 @@ module _ (m : ℕ) (slots slots' : List (Option ℕ)) (entry_of entry_of' bucket
         same = ap (λ x. hashes_at x bucket_of') f' ∙ ap (hashes_at slots°) p ∙ hashes_at-move slots entry_of bucket_of s bucket gap hash in_gap is g.gap_empty;
       }
 
--- a full bucket has an entry index, which has a bucket
-entry_within : (hashes buckets bucket_of : List ℕ) (bucket hash : ℕ) → InStep (slots_by hashes buckets) (entries_by buckets) bucket_of → slot_at (slots_by hashes buckets) bucket ≡ Some hash →
-    (0 < slice_index buckets bucket) × (slice_index buckets bucket ≤ length bucket_of)
-entry_within hashes buckets bucket_of bucket hash s is =
-    let full = full_from _ hash is in
-    let some = some_entry hashes buckets bucket full in
-    let l = s.indexed bucket full in
-    (some, omega (arith, entry_by-at buckets bucket))
-
-pub move_pair-requires-clause-full : goal.move_pair-requires-clause-full
-move_pair-requires-clause-full c =
-    let i = c.loop-step.invariant in
-    (entry_within c.args.hashes.now c.loop-step.buckets c.loop-step.bucket_of c.loop-step.bucket c.in-Some.hash i.in_step (sym c.hash_in.ensures ∙ c.in-Some.is)).0
-
-pub move_pair-requires-clause-index : goal.move_pair-requires-clause-index
-move_pair-requires-clause-index c =
-    let i = c.loop-step.invariant in
-    (entry_within c.args.hashes.now c.loop-step.buckets c.loop-step.bucket_of c.loop-step.bucket c.in-Some.hash i.in_step (sym c.hash_in.ensures ∙ c.in-Some.is)).1
+pub move_pair-requires-clause-fits : goal.move_pair-requires-clause-fits
+move_pair-requires-clause-fits g c =
+    let l = c.loop-step in
+    omega (arith, whole-at c.args.hashes.now (g.B.Words.words l.buckets) l.bucket l.invariant.whole, c.requires.fits, l.invariant.most)
 
 pub loop-step-preserved : goal.loop-step-preserved
-loop-step-preserved c =
+loop-step-preserved g c =
     let l = c.loop-step in
     let i = l.invariant in
-    let m : ℕ = length c.args.buckets.now in
+    let m : ℕ = c.count-count.result in
     let hs : List ℕ = c.args.hashes.now in
     let next = c.next-bucket-in-loop-step in
-    let far = c.probe_distance.ensures.value ∙ ap (λ h. probe_distance m h l.bucket) c.home.ensures.value in
-    let near = c.probe_distance-in-loop-step.ensures.value in
-    let is : slot_at (slots_by hs l.buckets) l.bucket ≡ Some c.in-Some.hash = sym c.hash_in.ensures ∙ c.in-Some.is in
+    let far = c.probe_distance.ensures ∙ ap (λ h. probe_distance m h l.bucket) c.home.ensures.value in
+    let near = c.probe_distance-in-loop-step.ensures in
+    let is : slot_at (slots_by hs (g.B.Words.words l.buckets)) l.bucket ≡ Some c.in-Some.hash = sym c.hash_in.ensures ∙ c.in-Some.is in
     elim c.if-probe_distance.branch [
       | then-probe_distance w ↦
           let out = w.move_pair.ensures in
-          let buckets = w.buckets-is ∙ out.buckets in
-          let entry : slice_index l.buckets l.bucket - 1 ≡ slice_index (entries_by l.buckets) l.bucket = sym (entry_by-at l.buckets l.bucket) in
-          let goes = move m (slots_by hs l.buckets) (slots_by hs c.if-probe_distance.buckets) (entries_by l.buckets) (entries_by c.if-probe_distance.buckets) l.bucket_of c.if-probe_distance.bucket_of c.args.emptied l.gap c.if-probe_distance.gap l.bucket next.result l._step c.in-Some.hash i.deletion i.in_step is next.ensures.value
-          (ap (slots_by hs) buckets ∙ slots_by-move hs l.buckets l.bucket l.gap i.inside) (ap entries_by buckets ∙ entries_by-move hs l.buckets l.bucket l.gap i.inside)
-          (w.bucket_of-is ∙ out.bucket_of ∙ ap (λ n. set l.bucket_of n l.gap) entry) w.gap-is (omega (arith, w.if-probe_distance.true)) in
+          let buckets = ap g.B.Words.words w.buckets-is ∙ out.words in
+          let bucket_of : List ℕ = set i.bucket_of (slice_index (entries_by (g.B.Words.words l.buckets)) l.bucket) l.gap in
+          let goes = move m (slots_by hs (g.B.Words.words l.buckets)) (slots_by hs (g.B.Words.words c.if-probe_distance.buckets)) (entries_by (g.B.Words.words l.buckets)) (entries_by (g.B.Words.words c.if-probe_distance.buckets)) i.bucket_of bucket_of c.args.emptied l.gap c.if-probe_distance.gap l.bucket next.result l._step c.in-Some.hash i.deletion i.in_step is next.ensures.value
+          (ap (slots_by hs) buckets ∙ slots_by-move hs (g.B.Words.words l.buckets) l.bucket l.gap i.inside) (ap entries_by buckets ∙ entries_by-move hs (g.B.Words.words l.buckets) l.bucket l.gap i.inside)
+          refl w.gap-is (omega (arith, w.if-probe_distance.true)) in
           record {
-            inside = omega (arith, next.ensures.bound, goes.deletion.size, length-slots_by hs c.if-probe_distance.buckets);
-            whole = subst (WithinHashes hs) (sym buckets) (whole-move hs l.buckets l.bucket l.gap i.inside i.whole);
-            deletion = goes.deletion;
+            bucket_of = bucket_of;
+            inside = omega (arith, next.ensures.bound, as_many hs (g.B.Words.words c.if-probe_distance.buckets) goes.deletion.size);
+            whole = subst (WithinHashes hs) (sym buckets) (whole-move hs (g.B.Words.words l.buckets) l.bucket l.gap i.inside i.whole);
+            column = goes.same ∙ i.column;
+            within = omega (arith, i.within, length-set i.bucket_of (slice_index (entries_by (g.B.Words.words l.buckets)) l.bucket) l.gap, ap capacity_of (as_many hs (g.B.Words.words l.buckets) i.deletion.size), ap capacity_of (as_many hs (g.B.Words.words c.if-probe_distance.buckets) goes.deletion.size));
             in_step = goes.in_step;
-            same = goes.same ∙ i.same;
+            most = ap g.B.Words.most w.buckets-is ∙ out.most ∙ i.most;
+            deletion = goes.deletion;
           }
       | else-probe_distance w ↦
-          let goes = stay m (slots_by hs l.buckets) (slots_by hs c.if-probe_distance.buckets) (entries_by l.buckets) (entries_by c.if-probe_distance.buckets) l.bucket_of c.if-probe_distance.bucket_of c.args.emptied l.gap c.if-probe_distance.gap l.bucket next.result l._step c.in-Some.hash i.deletion i.in_step is next.ensures.value
-          (ap (slots_by hs) w.buckets-is) (ap entries_by w.buckets-is) w.bucket_of-is w.gap-is (omega (arith, w.if-probe_distance.false)) in
+          let bucket_of = i.bucket_of in
+          let goes = stay m (slots_by hs (g.B.Words.words l.buckets)) (slots_by hs (g.B.Words.words c.if-probe_distance.buckets)) (entries_by (g.B.Words.words l.buckets)) (entries_by (g.B.Words.words c.if-probe_distance.buckets)) i.bucket_of bucket_of c.args.emptied l.gap c.if-probe_distance.gap l.bucket next.result l._step c.in-Some.hash i.deletion i.in_step is next.ensures.value
+          (ap (λ b. slots_by hs (g.B.Words.words b)) w.buckets-is) (ap (λ b. entries_by (g.B.Words.words b)) w.buckets-is) refl w.gap-is (omega (arith, w.if-probe_distance.false)) in
           record {
-            inside = omega (arith, next.ensures.bound, goes.deletion.size, length-slots_by hs c.if-probe_distance.buckets);
-            whole = subst (WithinHashes hs) (sym w.buckets-is) i.whole;
-            deletion = goes.deletion;
+            bucket_of = bucket_of;
+            inside = omega (arith, next.ensures.bound, as_many hs (g.B.Words.words c.if-probe_distance.buckets) goes.deletion.size);
+            whole = subst (λ b. WithinHashes hs (g.B.Words.words b)) (sym w.buckets-is) i.whole;
+            column = goes.same ∙ i.column;
+            within = omega (arith, i.within, ap capacity_of (as_many hs (g.B.Words.words l.buckets) i.deletion.size), ap capacity_of (as_many hs (g.B.Words.words c.if-probe_distance.buckets) goes.deletion.size));
             in_step = goes.in_step;
-            same = goes.same ∙ i.same;
+            most = ap g.B.Words.most w.buckets-is ∙ i.most;
+            deletion = goes.deletion;
           }
     ]
 
 pub unreachable-requires : goal.unreachable-requires
-unreachable-requires c =
+unreachable-requires g c =
     let i = c.loop-step.invariant in
-    omega (arith, few (length c.args.buckets.now) (slots_by c.args.hashes.now c.loop-step.buckets) c.args.emptied c.loop-step.gap c.loop-step.bucket c.loop-step._step i.deletion)
+    omega (arith, few c.count-count.result (slots_by c.args.hashes.now (g.B.Words.words c.loop-step.buckets)) c.args.emptied c.loop-step.gap c.loop-step.bucket c.loop-step._step i.deletion)

@@ -1,9 +1,9 @@
 use Rattle.std.proofs.Common.{arith}
-use Rattle.half_store.proofs.Circle.{distance_is}
+use Rattle.half_store.proofs.MaskLemmas.{mask_distance, count-le_half}
 use Rattle.half_store.proofs.table.deletion.probe_distance.Goals as goal
 
-pub returns-then-from-to : goal.returns-then-from-to
-returns-then-from-to c = omega (arith, distance_is c.args.count c.args.from c.args.to c.requires.from_within)
+pub overflow_add-result : goal.overflow_add-result
+overflow_add-result c = omega (arith, count-le_half c.args.count c.requires.count (omega arith), c.requires.from_within, c.requires.to_within)
 
-pub returns-else-from-to : goal.returns-else-from-to
-returns-else-from-to c = omega (arith, distance_is c.args.count c.args.from c.args.to c.requires.from_within)
+pub returns : goal.returns
+returns c = mask_distance c.args.count c.args.from c.args.to c.requires.count c.requires.from_within c.requires.to_within

@@ -1,8 +1,11 @@
-use Rattle.std.proofs.Common.{length, take}
-use Rattle.half_store.specs.Capacity.{capacity_of}
-use Rattle.half_store.specs.TableLayout.{IsIndex}
+use Rattle.std.proofs.Common.{◌≡◌, length, take}
+use Rattle.half_store.specs.TableLayout.{IsIndexed}
 use Rattle.half_store.proofs.table.rehash.rehash.Given as goal
 
 -- the first pairs have their buckets
 abbrev pub invariant-loop-index : goal.invariant-loop-index
-invariant-loop-index l = IsIndex (take l.index l.hashes) l.buckets (take l.index l.bucket_of) (capacity_of (length l.initial.buckets)) (capacity_of (length l.initial.buckets))
+invariant-loop-index g l = record {
+  indexed : IsIndexed (take l.index l.hashes) (g.B.Words.words l.buckets);
+  len : length (g.B.Words.words l.buckets) ≡ length (g.B.Words.words l.initial.buckets);
+  most : g.B.Words.most l.buckets ≡ g.B.Words.most l.initial.buckets;
+}

@@ -2,8 +2,8 @@ use Rattle.std.proofs.Common.{◌≡◌, ◌-◌, ◌<◌, [], ◌∷◌, ◌++�
 use Rattle.std.specs.List.{zip, slice_get, SwappedAt}
 use Rattle.half_store.proofs.Columns.{opened}
 use Rattle.half_store.proofs.Restored.{restored}
-use Rattle.half_store.proofs.Zip.{slice_get-zip, zip-swap_out, zip-set_value, get_or_within}
-use Rattle.half_store.specs.Pairs.{set_value, swap_out}
+use Rattle.half_store.proofs.Zip.{slice_get-zip, zip-swap_remove_at, zip-set_value, get_or_within}
+use Rattle.half_store.specs.Pairs.{set_value, swap_remove_at}
 use Rattle.half_store.proofs.vecmap.VecMap.replace_with.Goals as goal
 
 pub swap_remove-value-requires : goal.swap_remove-value-requires
@@ -64,6 +64,6 @@ returns-in-None-clause-replaces g c =
       answer = None;
       pair = ap (λ ps. slice_get ps index) (sym o.pairs) ∙ slice_get-zip keys values index _ _ in_keys (omega (arith, o.values_length, c.requires.within)) c.index.ensures taken.ensures.value;
       answered = record { shown = c.index.result; shows = refl; met = c.in-None.ensures };
-      pairs = (λ j. zip (c.swap_remove.ensures.items j) (taken.ensures.items j)) ∙ zip-swap_out keys values index _ _ c.self.invariant ∙ ap (λ ps. swap_out ps index) o.pairs;
+      pairs = (λ j. zip (c.swap_remove.ensures.items j) (taken.ensures.items j)) ∙ zip-swap_remove_at keys values index _ _ c.self.invariant ∙ ap (λ ps. swap_remove_at ps index) o.pairs;
       removed_is = ap Some key_is;
     }

@@ -1,8 +1,9 @@
 use Rattle.std.proofs.Common.{◌≡◌, ◌∙◌, length, map, take, drop, sym, ap, arith}
 use Rattle.std.proofs.lemmas.List.{take_at}
+use Rattle.std.proofs.lemmas.Map.Made.{keys_of-zip}
 use Rattle.std.specs.List.{zip}
 use Rattle.half_store.proofs.Columns.{opened}
-use Rattle.half_store.proofs.Zip.{length-zip, keys_of-zip}
+use Rattle.half_store.proofs.Zip.{length-zip}
 use Rattle.half_store.proofs.vecmap.VecMap.retain_with.Given as given
 use Rattle.half_store.proofs.vecmap.VecMap.retain_with.Goals as goal
 

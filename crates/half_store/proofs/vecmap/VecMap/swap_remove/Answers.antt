@@ -1,8 +1,8 @@
 use Rattle.std.proofs.Common.{min, sym, ap, ◌∙◌, arith}
 use Rattle.std.specs.List.{zip, slice_get}
 use Rattle.half_store.proofs.Columns.{opened, pairs_are}
-use Rattle.half_store.proofs.Zip.{slice_get-zip, zip-swap_out}
-use Rattle.half_store.specs.Pairs.{swap_out}
+use Rattle.half_store.proofs.Zip.{slice_get-zip, zip-swap_remove_at}
+use Rattle.half_store.specs.Pairs.{swap_remove_at}
 use Rattle.half_store.proofs.vecmap.VecMap.swap_remove.Goals as goal
 
 pub swap_remove-requires : goal.swap_remove-requires
@@ -18,6 +18,6 @@ returns g c =
     record {
       taken = ap (λ ps. slice_get ps c.args.index) (sym o.pairs) ∙ slice_get-zip keys values c.args.index _ _ (omega (arith, o.keys_length, c.requires)) (omega (arith, o.values_length, c.requires)) c.swap_remove.ensures.value c.swap_remove-2.ensures.value;
       after = pairs_are c.args.self.now
-          ((λ j. zip (c.swap_remove.ensures.items j) (c.swap_remove-2.ensures.items j)) ∙ zip-swap_out keys values c.args.index _ _ c.self.invariant ∙ ap (λ ps. swap_out ps c.args.index) o.pairs)
+          ((λ j. zip (c.swap_remove.ensures.items j) (c.swap_remove-2.ensures.items j)) ∙ zip-swap_remove_at keys values c.args.index _ _ c.self.invariant ∙ ap (λ ps. swap_remove_at ps c.args.index) o.pairs)
           ((λ j. min (c.swap_remove.ensures.capacity j) (c.swap_remove-2.ensures.capacity j)) ∙ o.capacity);
     }

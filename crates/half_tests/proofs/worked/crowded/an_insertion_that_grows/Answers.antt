@@ -16,7 +16,7 @@ unfolding buckets_for
 returns-in-Ok-clause-returned c =
     let old = c.in_ok-map.map in
     let new = c.insert_counted.new.self in
-    let insert = c.in-Ok.ensures in
+    let insert = c.in-Ok.ensures.inserts in
     let table = table_with _ _ _ 15 old c.in_ok-map.ensures new 0 refl insert.ok.pairs insert.ok.form insert.ok.capacity insert.ok.builder in
     let before = insert.old_value ∙ ap (λ ps. value_of eqb ps 15) c.in_ok-map.ensures.pairs in
     let len = c.len.ensures.len ∙ ap length table.pairs in

@@ -7,5 +7,5 @@ pub returns-in-Vacant-replace_entry_with_counted-clause-replacement : goal.retur
 returns-in-Vacant-replace_entry_with_counted-clause-replacement g c =
     lost_cost g.L.Limit.LIMIT g.K.PartialEq.eq c.args.map.now c.args.key c.requires.table c.requires.held
     (key_hash g.S.BuildHasher g.S.Hasher.Hasher g.K.Hash.hash_input) _ _ _ _ _ _
-    c.in-Occupied.is c.in_ok-entry.ensures.ok c.in_ok-entry.ensures.removes c.in-Vacant-replace_entry_with_counted.ensures.replaces
+    c.in-Occupied.is c.in_ok-entry.ensures.makes.ok c.in_ok-entry.ensures.makes.removes c.in-Vacant-replace_entry_with_counted.ensures.replaced.replaces
     c.in-Vacant-replace_entry_with_counted.ensures.cost refl refl c.into_key.ensures.key

@@ -17,7 +17,7 @@ pub returns-in-Ok-clause-returned : goal.returns-in-Ok-clause-returned
 unfolding buckets_for
 returns-in-Ok-clause-returned c =
     let vector = c.in_ok-map.ensures.vector in
-    let insert = c.in-Ok.ensures in
+    let insert = c.in-Ok.ensures.inserts in
     let table = table_of_full 5 _ _ 6 c.in_ok-map.map vector refl 6 c.insert_counted.new.self insert.ok.pairs insert.ok.form insert.ok.capacity insert.ok.builder in
     let before = insert.old_value ∙ ap (λ ps. value_of eqb ps 6) vector.pairs in
     let len = c.len.ensures.len ∙ ap length table.pairs in

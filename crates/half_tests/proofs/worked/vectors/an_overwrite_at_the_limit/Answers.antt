@@ -6,7 +6,7 @@ use Rattle.half_store.specs.Capacity.{buckets_for, capacity_for, buckets_of}
 use Rattle.half_store.specs.Reach.{HomesApart}
 use Rattle.half_store.specs.Work.{Work}
 use Rattle.halfbrown.specs.Costs.{InsertCosts, GrewBy, GrewWithin, between, exactly, insert_cost, capacity_switched, NoHomeIsShared}
-use Rattle.halfbrown.specs.Growth.{is_full, stays_vec, insert_needs, HasCapacityAfter}
+use Rattle.halfbrown.specs.Growth.{is_full, is_vec_after, insert_needs, HasCapacityAfter}
 use Rattle.halfbrown.specs.Pairs.{value_of, holds}
 use Rattle.halfbrown.specs.State.{State, state, contents_of}
 use Rattle.test_support.specs.declared.builders.Counting.{Counting}
@@ -33,7 +33,7 @@ module _ (m : State ℕ ℕ Counting) (vector : IsVector Plain held m) (k : ℕ)
   full_is : is_full 5 m ≡ true
   full_is i = vector.form i && (length (vector.pairs i) == 5)
 
-  form_is : stays_vec 5 m ≡ false
+  form_is : is_vec_after 5 m ≡ false
   form_is i = vector.form i && not (full_is i)
 
   present : holds eqb m.pairs k ≡ true
@@ -80,7 +80,7 @@ returns-in-Ok-clause-returned c =
     let vector = c.in_ok-map.ensures in
     let some = c.requires.first in
     let below = c.requires.last in
-    let insert = c.in-Ok.ensures in
+    let insert = c.in-Ok.ensures.inserts in
     let before = insert.old_value ∙ ap (λ ps. value_of eqb ps key) vector.pairs ∙ (each key some below).0 in
     let len = c.len.ensures.len ∙ insert.put.len ∙ ap (λ found. if found then length old.pairs else length old.pairs + 1) (present old vector key some below)
     ∙ ap length vector.pairs in

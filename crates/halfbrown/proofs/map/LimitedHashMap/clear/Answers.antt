@@ -1,5 +1,4 @@
 use Rattle.halfbrown.specs.Costs.{key_hash}
-use Rattle.std.proofs.Common.{refl}
 use Rattle.halfbrown.proofs.Kept.{kept_none, state_of}
 use Rattle.halfbrown.proofs.map.LimitedHashMap.clear.Goals as goal
 

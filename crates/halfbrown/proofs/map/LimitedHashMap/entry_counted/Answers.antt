@@ -15,14 +15,16 @@ returns-in-Ok-Found g c =
       (refl, λ n. refl, tt),
       record {
         unchanged = tt;
-        same_map = refl;
-        ok = prepared;
-        entry = found_entry limit same laws c.args.self.now key _ prepared at;
-        writes = found_writes limit same laws c.args.self.now key _ prepared at;
-        removes = found_removes limit same laws c.args.self.now key _ prepared at c.prepare.ensures.state.distinct;
-        err = tt;
+        makes = record {
+          same_map = refl;
+          ok = prepared;
+          entry = found_entry limit same laws c.args.self.now key _ prepared at;
+          writes = found_writes limit same laws c.args.self.now key _ prepared at;
+          removes = found_removes limit same laws c.args.self.now key _ prepared at c.prepare.ensures.state.distinct;
+          returned = tt;
+          state = c.prepare.ensures.state;
+        };
         cost = c.in-Ok-Found.ensures.cost;
-        state = c.prepare.ensures.state;
       },
     )
 
@@ -36,13 +38,15 @@ returns-in-Ok-Missing g c =
       (refl, λ n. refl, tt),
       record {
         unchanged = tt;
-        same_map = refl;
-        ok = prepared;
-        entry = missing_entry limit same laws c.args.self.now _ prepared ready.absent;
-        writes = missing_writes limit same laws c.args.self.now _ prepared ready.absent;
-        removes = missing_removes limit same laws c.args.self.now _ prepared ready.absent c.prepare.ensures.state.distinct;
-        err = tt;
+        makes = record {
+          same_map = refl;
+          ok = prepared;
+          entry = missing_entry limit same laws c.args.self.now _ prepared ready.absent;
+          writes = missing_writes limit same laws c.args.self.now _ prepared ready.absent;
+          removes = missing_removes limit same laws c.args.self.now _ prepared ready.absent c.prepare.ensures.state.distinct;
+          returned = tt;
+          state = c.prepare.ensures.state;
+        };
         cost = c.in-Ok-Missing.ensures.cost;
-        state = c.prepare.ensures.state;
       },
     )

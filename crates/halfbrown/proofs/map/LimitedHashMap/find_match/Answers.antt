@@ -1,8 +1,6 @@
-use Rattle.std.proofs.Common.{map, length, sym, ap, subst, ◌∙◌}
+use Rattle.std.proofs.Common.{subst}
 use Rattle.std.specs.Fn.{FnReturnsAt}
-use Rattle.std.specs.Map.{keys_of}
 use Rattle.half_store.specs.Search.{found_index}
-use Rattle.half_store.specs.Work.{compared_more, first_match_cost}
 use Rattle.halfbrown.specs.Costs.{key_hash}
 use Rattle.halfbrown.specs.Match.{Matches, MatchCosts}
 use Rattle.halfbrown.specs.Layout.{state_in}

@@ -1,12 +1,7 @@
-use Rattle.std.proofs.Common.{sym, ap, subst, ◌∙◌}
-use Rattle.halfbrown.specs.Pairs.{put}
-use Rattle.halfbrown.specs.Updates.{HasPut}
-use Rattle.halfbrown.proofs.CallerLemmas.{has_put}
+use Rattle.halfbrown.proofs.Insertions.{inserted_unchecked}
 use Rattle.halfbrown.proofs.map.LimitedHashMap.insert_nocheck_counted.Goals as goal
 
-pub returns-in-Ok-clause-put : goal.returns-in-Ok-clause-put
-returns-in-Ok-clause-put g c =
-    let eq = g.K.PartialEq.eq in
-    subst (HasPut eq c.args.self.now.pairs c.args.key c.args.value)
-    (ap (λ ps. put eq ps c.args.key c.args.value) (sym c.in-Ok.ensures.ok.pairs) ∙ c.in-Ok.ensures.ready.absent.put_is c.args.key c.args.value ∙ sym c.push.ensures.after.pairs)
-    (has_put eq g.met.K.Eq.laws c.args.self.now.pairs c.args.key c.args.value)
+pub returns-in-Ok-clause-inserts : goal.returns-in-Ok-clause-inserts
+returns-in-Ok-clause-inserts g c =
+    inserted_unchecked g.L.Limit.LIMIT g.K.PartialEq.eq g.met.K.Eq.laws c.args.self.now c.prepare_new.new.self c.push.new.self c.args.key c.args.value _ c.push.ensures.after
+    (c.in-Ok.ensures.ready.absent.put_is c.args.key c.args.value) c.in-Ok.ensures.ok c.push.ensures.state

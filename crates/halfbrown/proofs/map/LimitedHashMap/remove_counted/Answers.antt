@@ -1,12 +1,11 @@
-use Rattle.std.proofs.Common.{◌∙◌, ap}
-use Rattle.std.specs.Option.{option_map}
-use Rattle.halfbrown.proofs.Indices.{value_of_entry}
+use Rattle.std.proofs.Common.{refl}
+use Rattle.halfbrown.proofs.Removals.{removed_value}
 use Rattle.halfbrown.proofs.map.LimitedHashMap.remove_counted.Goals as goal
 
-pub returns-in_err-value-clause-value : goal.returns-in_err-value-clause-value
-returns-in_err-value-clause-value g c =
-    c.from_residual.ensures ∙ ap (option_map (λ pair. pair.1)) c.in_err-value.ensures.pair ∙ value_of_entry (g.Q.Equivalent.equivalent c.args.key) c.args.self.now.pairs
+pub returns-in_err-value-clause-removes : goal.returns-in_err-value-clause-removes
+returns-in_err-value-clause-removes g c =
+    removed_value g.L.Limit.LIMIT g.K.PartialEq.eq (g.Q.Equivalent.equivalent c.args.key) c.args.self.now _ _ _ c.from_residual.ensures c.in_err-value.ensures.removes
 
-pub returns-clause-value : goal.returns-clause-value
-returns-clause-value g c =
-    ap (option_map (λ pair. pair.1)) c.in_ok-value.ensures.pair ∙ value_of_entry (g.Q.Equivalent.equivalent c.args.key) c.args.self.now.pairs
+pub returns-clause-removes : goal.returns-clause-removes
+returns-clause-removes g c =
+    removed_value g.L.Limit.LIMIT g.K.PartialEq.eq (g.Q.Equivalent.equivalent c.args.key) c.args.self.now _ _ _ refl c.in_ok-value.ensures.removes

@@ -1,20 +1,17 @@
-use Rattle.std.proofs.Common.{◌∙◌, sym, subst}
-use Rattle.halfbrown.specs.Updates.{HasRemovedBy}
-use Rattle.halfbrown.proofs.CallerLemmas.{has_removed_by}
+use Rattle.std.proofs.Common.{refl, sym, subst, ◌∙◌}
+use Rattle.halfbrown.specs.State.{WithPairs}
+use Rattle.halfbrown.proofs.Removals.{removed_as}
 use Rattle.halfbrown.proofs.map.LimitedHashMap.remove_entry_counted.Goals as goal
 
-pub returns-in-Found-clause-removed : goal.returns-in-Found-clause-removed
-returns-in-Found-clause-removed g c =
-    let eq = g.K.PartialEq.eq in
-    let test = g.Q.Equivalent.equivalent c.args.key in
-    subst (HasRemovedBy eq test c.args.self.now.pairs)
-    (c.in-Found.ensures.found.take_is ∙ sym c.take_at.ensures.after.pairs)
-    (has_removed_by eq g.met.K.Eq.laws test (g.met.Q.Equivalent.stands_for_equals c.args.key) c.args.self.now.pairs c.in-Found.ensures.state.distinct)
+pub returns-in-Found-clause-removes : goal.returns-in-Found-clause-removes
+returns-in-Found-clause-removes g c =
+    let found = c.in-Found.ensures.found in
+    removed_as g.L.Limit.LIMIT g.K.PartialEq.eq (g.Q.Equivalent.equivalent c.args.key) c.args.self.now c.take_at.new.self g.met.K.Eq.laws (g.met.Q.Equivalent.stands_for_equals c.args.key)
+    c.in-Found.ensures.state c.take_at.ensures.state (subst (λ ps. WithPairs c.args.self.now ps c.take_at.new.self) (sym found.take_is) c.take_at.ensures.after)
+    _ _ (sym c.take_at.ensures.taken ∙ sym found.pair)
 
-pub returns-in-Missing-clause-removed : goal.returns-in-Missing-clause-removed
-returns-in-Missing-clause-removed g c =
-    let eq = g.K.PartialEq.eq in
-    let test = g.Q.Equivalent.equivalent c.args.key in
-    subst (HasRemovedBy eq test c.args.self.now.pairs)
-    c.in-Missing.ensures.found.0.take_is
-    (has_removed_by eq g.met.K.Eq.laws test (g.met.Q.Equivalent.stands_for_equals c.args.key) c.args.self.now.pairs c.in-Missing.ensures.state.distinct)
+pub returns-in-Missing-clause-removes : goal.returns-in-Missing-clause-removes
+returns-in-Missing-clause-removes g c =
+    let absent = c.in-Missing.ensures.found.0 in
+    removed_as g.L.Limit.LIMIT g.K.PartialEq.eq (g.Q.Equivalent.equivalent c.args.key) c.args.self.now c.args.self.now g.met.K.Eq.laws (g.met.Q.Equivalent.stands_for_equals c.args.key)
+    c.in-Missing.ensures.state c.in-Missing.ensures.state (record { pairs = sym absent.take_is; form = refl; capacity = refl; builder = refl }) _ _ (sym absent.pair)

@@ -1,7 +1,7 @@
-use Rattle.std.proofs.Common.{length, refl, ap, ◌∙◌, arith}
+use Rattle.std.proofs.Common.{refl, ap, ◌∙◌}
 use Rattle.std.specs.Map.{values_of}
 use Rattle.halfbrown.specs.Costs.{key_hash}
-use Rattle.halfbrown.proofs.Iterators.{kept_written, written, written_state, has_values}
+use Rattle.halfbrown.proofs.Iterators.{kept_written, lent_values}
 use Rattle.halfbrown.proofs.map.LimitedHashMap.values_slice_mut.Goals as goal
 
 pub invariant_of-self-lent : goal.invariant_of-self-lent
@@ -10,15 +10,15 @@ invariant_of-self-lent g c =
 
 pub returns : goal.returns
 returns g c =
-    let eq = g.K.PartialEq.eq in
-    let hash = key_hash g.S.BuildHasher g.S.Hasher.Hasher g.K.Hash.hash_input c.self.inside.builder in
-    let inside = c.self.inside in (
-      (refl, written eq hash g.L.Limit.LIMIT inside.store inside.builder c.args.self.now c.self.view_is),
+    let inside = c.self.inside in
+    let lent = lent_values g.K.PartialEq.eq (key_hash g.S.BuildHasher g.S.Hasher.Hasher g.K.Hash.hash_input inside.builder) g.L.Limit.LIMIT inside.store inside.builder c.args.self.now c.self.view_is c.self.invariant
+    c.values_mut.ensures.small in (
+      (refl, lent.back),
       record {
         writes_back = tt;
-        values = c.values_mut.ensures.values ∙ ap (λ m. values_of m.pairs) c.self.view_is;
-        small = omega (arith, c.values_mut.ensures.small, ap (λ m. length m.pairs) c.self.view_is);
-        written = has_values c.args.self.now.pairs;
-        state = written_state eq hash g.L.Limit.LIMIT inside.store inside.builder c.args.self.now c.self.view_is c.self.invariant;
+        values = c.values_mut.ensures.values ∙ ap values_of lent.pairs;
+        small = lent.small;
+        written = lent.written;
+        state = lent.state;
       },
     )

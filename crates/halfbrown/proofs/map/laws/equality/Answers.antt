@@ -1,5 +1,5 @@
 use Rattle.halfbrown.specs.EqualityLaws.{reflexive, symmetric, transitive, same_pairs-Decides}
-use Rattle.halfbrown.proofs.SamePairs.{order_law}
+use Rattle.halfbrown.proofs.SamePairs.{order_law, pairs_law}
 use Rattle.halfbrown.proofs.map.laws.equality.Goals as goal
 
 pub returns-clause-reflexive : goal.returns-clause-reflexive
@@ -16,3 +16,6 @@ returns-clause-values g c = same_pairs-Decides g.K.PartialEq.eq g.V.PartialEq.eq
 
 pub returns-clause-order : goal.returns-clause-order
 returns-clause-order g c = order_law g.K.PartialEq.eq g.V.PartialEq.eq g.met.K.Eq.laws
+
+pub returns-clause-pairs : goal.returns-clause-pairs
+returns-clause-pairs g c = pairs_law g.K.PartialEq.eq g.V.PartialEq.eq g.met.K.Eq.laws

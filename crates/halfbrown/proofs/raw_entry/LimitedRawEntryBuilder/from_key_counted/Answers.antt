@@ -3,9 +3,8 @@ use Rattle.std.specs.Option.{option_map}
 use Rattle.halfbrown.proofs.Entries.{value_of-pair}
 use Rattle.halfbrown.proofs.raw_entry.LimitedRawEntryBuilder.from_key_counted.Goals as goal
 
-pub returns-in-Found-clause-pair : goal.returns-in-Found-clause-pair
-returns-in-Found-clause-pair g c = sym c.pair_at.ensures ∙ sym c.in-Found.ensures.found.pair
-
-pub returns-in-Found-clause-value : goal.returns-in-Found-clause-value
-returns-in-Found-clause-value g c =
-    sym (ap (option_map (λ (pair : _ × _). pair.1)) c.pair_at.ensures) ∙ sym (value_of-pair c.args.self.map.now.pairs c.in-Found.index) ∙ sym c.in-Found.ensures.found.value
+pub returns-in-Found-clause-reads : goal.returns-in-Found-clause-reads
+returns-in-Found-clause-reads g c = record {
+  pair = sym c.pair_at.ensures ∙ sym c.in-Found.ensures.found.pair;
+  value = sym (ap (option_map (λ (pair : _ × _). pair.1)) c.pair_at.ensures) ∙ sym (value_of-pair c.args.self.map.now.pairs c.in-Found.index) ∙ sym c.in-Found.ensures.found.value;
+}

@@ -1,0 +1,130 @@
+//! A store whose pairs are taken out, from first to last.
+ghost use Rattle.std.specs.Prelude.{◌≡◌, ◌^◌, ◌<◌, [], ◌∷◌, length, MatchOption};
+ghost use Rattle.half_store.specs.Store.{vector_of, KeepsForm};
+
+use super::Store;
+use crate::{Table, VecMap};
+use std::marker::Model;
+use std::mem::replace;
+
+/// What was a store: the pairs that are still to be taken out of it, and its memory. Once they are gone it is a store again.
+#[derive(Drop)]
+pub struct Drained<K, V> {
+    // last first
+    columns: VecMap<K, V>,
+    // of the pairs that were there
+    index: Option<Table>,
+}
+
+impl<K, V> Model for Drained<K, V> {
+    ghost use Rattle.half_store.specs.Store.{StoreState, drained_of, store_code, IsDrained};
+
+    ghost Value = { StoreState K V };
+
+    ghost coded = { store_code K.code V.code };
+
+    ghost view = { λ d. drained_of d.columns d.index };
+
+    ghost invariant = { λ d. IsDrained d.columns d.index };
+}
+
+/// What becomes a store again: `Drained` alone. It is a trait for types that have it beside a reference, of which a proof
+/// knows what they leave behind it only where they own no memory but that of a type parameter.
+///
+/// ```
+/// fn emptied<D: IntoStore<u64, u32>>(drained: D) -> Store<u64, u32> {
+///     drained.into_store()
+/// }
+/// ```
+pub trait IntoStore<K, V> {
+    ghost use Rattle.half_store.specs.Store.{StoreState};
+
+    ghost store: { Self → StoreState K V };
+
+    /// The store again, with no pair. Those that are left are dropped.
+    ///
+    /// ```
+    /// ages = drained.into_store();
+    /// ```
+    fn into_store(self) -> Store<K, V>
+    where
+        K: Drop,
+        V: Drop,
+        ensures pairs { result.pairs ≡ [] }
+        ensures hashes { result.hashes ≡ [] }
+        ensures form { KeepsForm (Self.store self) result };
+}
+
+impl<K, V> Store<K, V> {
+    /// Takes all pairs out, and the memory with them. A vector with no pairs and no memory is left.
+    ///
+    /// It turns the order of the pairs round, so that each of them is taken out for what it costs to move it.
+    ///
+    /// ```
+    /// let mut drained = ages.drain();
+    /// ```
+    pub fn drain(&mut self) -> Drained<K, V>
+        ensures pairs { result.pairs ≡ self.old.pairs }
+        ensures form { KeepsForm self.old result }
+        ensures after { self.new ≡ vector_of (record { pairs = []; capacity = 0 }) }
+        ensures small { length result.pairs < 2 ^ 63 }
+    {
+        let none = VecMap::new(self.columns.allocator());
+        let mut columns = replace(&mut self.columns, none);
+        columns.reverse();
+        Drained {
+            columns,
+            index: self.index.take(),
+        }
+    }
+}
+
+impl<K, V> Drained<K, V> {
+    /// How many pairs are still to be taken out.
+    ///
+    /// ```
+    /// let count = drained.len(); // 2
+    /// ```
+    #[inline(always)]
+    pub fn len(&self) -> usize
+        ensures len { result ≡ length self.now.pairs }
+        ensures small { result < 2 ^ 63 }
+    {
+        self.columns.len()
+    }
+
+    /// Takes the first one out.
+    ///
+    /// ```
+    /// let first = drained.pop_front(); // 1 and 36
+    /// ```
+    #[inline(always)]
+    pub fn pop_front(&mut self) -> Option<(K, V)>
+        ensures first { MatchOption result ((self.old.pairs ≡ []) × (self.new ≡ self.old))
+            (λ pair. self.old.pairs ≡ pair ∷ self.new.pairs) }
+        ensures form { KeepsForm self.old self.new }
+    {
+        let last = self.len().checked_sub(1)?;
+        Some(self.columns.swap_remove(last))
+    }
+}
+
+impl<K, V> IntoStore<K, V> for Drained<K, V> {
+    ghost store = { λ d. d };
+
+    fn into_store(self) -> Store<K, V>
+    where
+        K: Drop,
+        V: Drop,
+    {
+        let Drained {
+            mut columns,
+            mut index,
+        } = self;
+        if let Some(table) = &mut index {
+            table.clear();
+        }
+        columns.clear();
+        Store { columns, index }
+    }
+}

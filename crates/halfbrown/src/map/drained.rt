@@ -1,0 +1,34 @@
+//! The store of a map, taken out so that its pairs can be drained, and put back once they are gone.
+ghost use Rattle.std.specs.Prelude.{◌≡◌, ◌^◌, ◌<◌, false, [], length};
+ghost use Rattle.halfbrown.specs.Layout.{state_in};
+ghost use Rattle.halfbrown.specs.State.{IsState, IsTableCapacity, WithPairs, with_pairs};
+
+use super::LimitedHashMap;
+use crate::Limit;
+use half_store::{Drained, IntoStore};
+use std::hash::{BuildHasher, Hash};
+
+impl<K: Eq + Hash, V, S: BuildHasher, L: Limit> LimitedHashMap<K, V, S, L> {
+    /// Takes the store out, with all pairs. An empty vector without memory is left, and the builder.
+    pub(crate) fn take_store(&mut self) -> Drained<K, V>
+        ensures after { WithPairs self.old self.old.pairs (state_in L.LIMIT result self.new.builder) }
+        ensures small { length result.pairs < 2 ^ 63 }
+        ensures series { result.is_vec ≡ false → IsTableCapacity result.capacity }
+        ensures exceeds { result.is_vec ≡ false → L.LIMIT < result.capacity }
+    {
+        self.store.drain()
+    }
+
+    /// Puts it back, with no pair. Those that are left in it are dropped.
+    pub(crate) fn put_back<P: IntoStore<K, V>>(&mut self, drained: P)
+    where
+        K: Drop,
+        V: Drop,
+        requires series { (P.store drained).is_vec ≡ false → IsTableCapacity (P.store drained).capacity }
+        requires exceeds { (P.store drained).is_vec ≡ false → L.LIMIT < (P.store drained).capacity }
+        ensures after { WithPairs (state_in L.LIMIT (P.store drained) self.old.builder) [] self.new }
+        ensures state { IsState K.eq L.LIMIT self.new }
+    {
+        self.store = drained.into_store();
+    }
+}

@@ -1,0 +1,153 @@
+//! The form of a map: a vector or a table. It is asked for here alone: where a full vector becomes a table, where a key is hashed,
+//! which a vector does not do, and where a pair goes whose value was replaced.
+ghost use Rattle.std.specs.Prelude.{◌≡◌, ◌+◌, ◌≤◌, ◌<◌, ◌^◌, ◌↔◌, true, false, [], length, map, IsTrue};
+ghost use Rattle.std.specs.Prelude.{OnOk, OnErr, IfErr, is_ok, if◌then◌else◌};
+ghost use Rattle.half_store.specs.Capacity.{capacity_for, capacity_of};
+ghost use Rattle.half_store.specs.Refusal.{refusal_of};
+ghost use Rattle.half_store.specs.Work.{asked_more};
+ghost use Rattle.halfbrown.specs.Costs.{key_hash, search_asked, switch_asked, capacity_switched};
+ghost use Rattle.halfbrown.specs.Growth.{is_full, is_vec_after, IsRefusal, IsGrantable, HasCapacityAfter, switch_needs};
+ghost use Rattle.halfbrown.specs.Replacement.{MovesLast};
+ghost use Rattle.halfbrown.specs.State.{IsState};
+
+use super::LimitedHashMap;
+use crate::Limit;
+use half_store::{Refusal, Table, Tally, Vacancy, counting};
+use std::hash::{BuildHasher, Hash};
+
+impl<K: Eq + Hash, V, S: BuildHasher, L: Limit> LimitedHashMap<K, V, S, L> {
+    /// Whether the form is the vector.
+    ///
+    /// ```
+    /// let is_vector = ages.is_vec(); // true: two pairs, and the limit is 32
+    /// ```
+    #[inline(always)]
+    pub fn is_vec(&self) -> bool
+        ensures form { result ≡ self.now.is_vec }
+        ensures state { IsState K.eq L.LIMIT self.now }
+    {
+        self.store.is_vec()
+    }
+
+    /// Whether the form is the table.
+    ///
+    /// ```
+    /// let is_table = ages.is_map(); // false
+    /// ```
+    #[inline(always)]
+    pub fn is_map(&self) -> bool
+        ensures { IsTrue result ↔ (self.now.is_vec ≡ false) }
+    {
+        !self.store.is_vec()
+    }
+
+    /// Makes a full vector a table. It gets capacity for all pairs and one more first, and only then hashes the keys.
+    #[inline(always)]
+    pub(crate) fn switch_if_full(&mut self, tally: &mut Tally) -> Result<(), Refusal>
+        ensures pairs { self.new.pairs ≡ self.old.pairs }
+        ensures hasher { self.new.builder ≡ self.old.builder }
+        ensures form { OnOk result (self.new.is_vec ≡ is_vec_after L.LIMIT self.old) }
+        ensures capacity { OnOk result (HasCapacityAfter L.LIMIT self.old (switch_needs L.LIMIT self.old) self.new) }
+        ensures switched { OnOk result (self.new.capacity ≡ capacity_switched L.LIMIT self.old) }
+        ensures same { is_full L.LIMIT self.old ≡ false → self.new ≡ self.old }
+        ensures not_full { OnOk result (is_full L.LIMIT self.new ≡ false) }
+        ensures capacity_left { OnOk result (is_full L.LIMIT self.old ≡ true
+            → length self.new.pairs < self.new.capacity) }
+        ensures err { OnErr result (self.new ≡ self.old) }
+        ensures refused { IfErr result (IsRefusal (switch_needs L.LIMIT self.old)) }
+        ensures granted { OnOk result (IsGrantable (switch_needs L.LIMIT self.old)) }
+        ensures work { tally.new ≡ (if is_ok result then asked_more (switch_asked L.LIMIT self.old) tally.old
+            else tally.old) }
+        ensures state { IsState K.eq L.LIMIT self.new }
+    {
+        if !self.store.is_vec() || self.store.len() < L::LIMIT {
+            return Ok(());
+        }
+        self.switch(tally)
+    }
+
+    #[cold]
+    #[inline(never)]
+    fn switch(&mut self, tally: &mut Tally) -> Result<(), Refusal>
+        requires { is_full L.LIMIT self.old ≡ true }
+        ensures pairs { self.new.pairs ≡ self.old.pairs }
+        ensures hasher { self.new.builder ≡ self.old.builder }
+        ensures form { OnOk result (self.new.is_vec ≡ false) }
+        ensures capacity { OnOk result (self.new.capacity ≡ capacity_for (L.LIMIT + 1)) }
+        ensures capacity_left { OnOk result (length self.new.pairs < self.new.capacity) }
+        ensures err { OnErr result (self.new ≡ self.old) }
+        ensures refused { IfErr result (λ why. why ≡ refusal_of (L.LIMIT + 1)) }
+        ensures granted { OnOk result (L.LIMIT + 1 ≤ 2 ^ 60) }
+        ensures work { tally.new ≡ (if is_ok result then asked_more L.LIMIT tally.old else tally.old) }
+        ensures state { IsState K.eq L.LIMIT self.new }
+    {
+        let needed = L::LIMIT.saturating_add(1);
+        let mut index = self.store.new_index(needed)?;
+        store_hashes(&self.builder, self.store.keys(), &mut index, tally);
+        self.store.switch_to(index);
+        Ok(())
+    }
+
+    /// The hash of a key in a table. In a vector nothing is hashed, and it is 0.
+    #[inline(always)]
+    pub(crate) fn hash_to_store<Q: Hash>(&self, key: &Q, tally: &mut Tally) -> u64
+        ensures hash { self.now.is_vec ≡ false
+            → result ≡ key_hash S.BuildHasher S.Hasher.Hasher Q.hash_input self.now.builder key.now }
+        ensures work { tally.new ≡ asked_more (search_asked self.now.is_vec) tally.old }
+    {
+        if self.store.is_vec() {
+            return 0;
+        }
+        counting::hash_one(&self.builder, key, tally)
+    }
+
+    /// Where the pair at this index goes once its value was replaced: in a vector to the end, and the pair that was last takes its
+    /// index; in a table it stays. Returns its index.
+    #[inline]
+    pub(crate) fn settle(&mut self, index: usize) -> usize
+        requires { index < length self.old.pairs }
+        ensures vector { self.old.is_vec ≡ true → MovesLast self.old index result self.new }
+        ensures table { self.old.is_vec ≡ false → (self.new ≡ self.old) × (result ≡ index) }
+        ensures state { IsState K.eq L.LIMIT self.new }
+    {
+        if self.is_vec() {
+            self.move_last(index)
+        } else {
+            index
+        }
+    }
+
+    // Moves the pair at this index of a vector to the end, and returns its new index.
+    #[inline]
+    fn move_last(&mut self, index: usize) -> usize
+        requires within { index < length self.old.pairs }
+        requires vector { self.old.is_vec ≡ true }
+        ensures moves { MovesLast self.old index result self.new }
+        ensures state { IsState K.eq L.LIMIT self.new }
+    {
+        let last = self.len() - 1;
+        let (key, value) = self.take_at(index);
+        self.push(key, value, Vacancy { hash: 0, bucket: 0 });
+        last
+    }
+}
+
+// Hashes each key, in order, and stores the hash. The buckets read for that are not counted.
+fn store_hashes<K: Hash, S: BuildHasher>(
+    builder: &S,
+    keys: &[K],
+    table: &mut Table,
+    tally: &mut Tally,
+)
+    requires empty { table.old.hashes ≡ [] }
+    requires capacity { length keys.now ≤ capacity_of table.old.buckets }
+    ensures hashes { table.new.hashes ≡ map (key_hash S.BuildHasher S.Hasher.Hasher K.hash_input builder.now)
+        keys.now }
+    ensures buckets { table.new.buckets ≡ table.old.buckets }
+    ensures work { tally.new ≡ asked_more (length keys.now) tally.old }
+{
+    for key in keys {
+        let hash = counting::hash_one(builder, key, tally);
+        table.add(hash, &mut Tally::new());
+    }
+}
