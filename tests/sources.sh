@@ -1,6 +1,7 @@
 #!/bin/sh
-# What no proof sees of the libraries and the program, and a search of their sources does: no value is forgotten, the builder is asked in
-# one function alone, and a tally is begun only by the plain calls and where a line below says why.
+# What no proof sees of the libraries and the program, and a search of their sources does: no value is forgotten, the builder is
+# asked in one function alone, buckets are read in two modules, and a tally is begun only by the plain calls and where a line
+# below says why.
 #
 # The last line is "N passed, M failed".
 set -u
@@ -21,6 +22,11 @@ none 'forget|ManuallyDrop|leak\(' "a value may be forgotten"
 grep -rnE '\.build_hasher\(|\.hash_one\(' $sources | grep -vE '^[^:]*:[0-9]+: *//' | sed 's/:.*//' | sort -u >"$work/found"
 echo crates/half_store/src/counting.rt >"$work/wanted"
 compare "$work/wanted" "$work/found" "the builder is asked elsewhere"
+
+# Buckets are read by probes, which count them, and by removals, whose reads no tally counts; `words` alone knows their size.
+grep -rnE '\.word_at\(' $sources | grep -vE '^[^:]*:[0-9]+: *//' | sed 's/:.*//' | sort -u >"$work/found"
+printf 'crates/half_store/src/%s.rt\n' buckets table/deletion words >"$work/wanted"
+compare "$work/wanted" "$work/found" "a bucket is read elsewhere"
 
 # A plain call begins a tally for its counted form: `NAME(..)` calls `NAME_counted(.., &mut Tally::new())`. The others are two
 # plain calls whose counted form has another name, and three places where buckets are read that are not counted: a table that

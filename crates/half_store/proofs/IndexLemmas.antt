@@ -1,17 +1,19 @@
 -- The columns of a table: a pair that is added, one that is removed, and no pair at all.
-use Rattle.std.proofs.Common.{◌≡◌, ◌≢◌, ℕ, zero, suc, ◌-◌, ◌<◌, ◌≤◌, inl, inr, refl, sym, ap, ◌∙◌, subst, arith, List, [], ◌∷◌, ◌++◌, length, set, get_or, replicate, slice_index, Option, Some, None}
+use Rattle.std.proofs.Common.{◌≡◌, ◌≢◌, ℕ, zero, suc, ◌+◌, ◌-◌, ◌<◌, ◌≤◌, inl, inr, refl, sym, ap, ◌∙◌, subst, arith, List, [], ◌∷◌, ◌++◌, length, set, get_or, replicate, slice_index, Option, Some, None}
 use Rattle.std.specs.List.{swap_remove}
 use Rattle.std.proofs.lemmas.Bool.{cases_lt, cases_eq}
 use Rattle.std.proofs.lemmas.List.{length-set, length_push, length-replicate, length-map, get_or_append_left, get_or_push}
 use Rattle.std.proofs.lemmas.Option.{slice_get-get_or}
 use Rattle.half_store.specs.Buckets.{slot_by, slots_by, entries_by, WithinHashes}
 use Rattle.half_store.specs.Capacity.{capacity_of, IsBucketCount}
+use Rattle.half_store.specs.Reach.{home, probe_distance, reach, IsNearer}
 use Rattle.half_store.specs.Slots.{slot_at, IsVacancyFor}
 use Rattle.half_store.specs.Table.{TableState, table_state, hashes_at}
 use Rattle.half_store.specs.TableLayout.{InStep, IsTableLayout, IsIndex, IsIndexed, IsIndexedButFor, IsBucketOf, IsTable, IsLaidOut, HasGap, Shows}
 use Rattle.half_store.proofs.AddLemmas.{IsTableLayout-add, IsTableLayout-empty, hashes_at-add, index_set, index_other, slot_set}
 use Rattle.half_store.proofs.BucketLemmas.{length-slots_by, slot_by-at, entry_by-at, some_entry, slots_by-set, entries_by-set, slots_by-same, slots_by-empty, whole-at, whole-from, whole-set, whole-empty}
 use Rattle.half_store.proofs.GapLemmas.{InStep-remove, hashes_at-remove, length-swap_remove, swap_remove-at, swap_remove-other}
+use Rattle.half_store.proofs.ProbeLemmas.{SameCounts, reach_past_pair}
 use Rattle.half_store.proofs.SlotsLemmas.{full_from, full-lt}
 use Rattle.half_store.proofs.StepLemmas.{length-hashes_at, hash_at_bucket, table_vacant}
 use Rattle.half_store.proofs.DeletionLemmas.{HasGap-remove}
@@ -270,6 +272,23 @@ bucket_of_word hashes buckets index bucket in_buckets in_hashes word =
 -- and the pair's bucket has them
 pub word_of_bucket : (hashes buckets : List ℕ) (index bucket : ℕ) → IsBucketOf hashes buckets index bucket → slice_index buckets bucket ≡ suc index
 word_of_bucket hashes buckets index bucket at = omega (arith, entry_by-at buckets bucket, some_entry hashes buckets bucket at.full, at.entry)
+
+-- the pair in that bucket has its stored hash
+pub hash_in_bucket : (hashes buckets : List ℕ) (index bucket : ℕ) → index < length hashes → IsBucketOf hashes buckets index bucket → slot_at (slots_by hashes buckets) bucket ≡ Some (slice_index hashes index)
+hash_in_bucket hashes buckets index bucket in_hashes at =
+    slot_by-at hashes buckets bucket ∙ ap (slot_by hashes) (word_of_bucket hashes buckets index bucket at) ∙ slice_get-get_or hashes index 0 in_hashes
+
+-- a probe from the pair's home bucket comes to it sooner than an unsuccessful one ends
+pub nearer : (hashes buckets : List ℕ) (x : IsIndexed hashes buckets) (index bucket : ℕ) → index < length hashes → IsBucketOf hashes buckets index bucket → IsNearer hashes (length buckets) (slice_index hashes index) bucket
+nearer hashes buckets x index bucket in_hashes at =
+    let slots : List (Option ℕ) = slots_by hashes buckets in
+    let hash : ℕ = slice_index hashes index in
+    let t = x.index.table in
+    let long : length slots ≡ length buckets = length-slots_by hashes buckets in
+    let counted : SameCounts hashes slots = subst (λ hs. SameCounts hs slots) x.index.column t.in_step.counted in
+    let vacant = table_vacant slots (entries_by buckets) x.bucket_of t (omega (arith, long, at.within)) in
+    let past = reach_past_pair slots t.ordered hashes counted hash bucket (hash_in_bucket hashes buckets index bucket in_hashes at) vacant in
+    subst (λ m. probe_distance m (home m hash) bucket + 1 < reach hashes m hash) long (omega (arith, past))
 
 -- each entry index has a bucket
 pub some_bucket_of : (hashes buckets : List ℕ) (x : IsIndexed hashes buckets) (index : ℕ) → index < length hashes → IsBucketOf hashes buckets index (slice_index x.bucket_of index)

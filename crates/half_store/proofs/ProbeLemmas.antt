@@ -5,7 +5,7 @@ use Rattle.std.proofs.lemmas.Option.{same_Some}
 use Rattle.std.proofs.lemmas.List.Sums.{count_by-le-length}
 use borrow.Author.Tests.{ltb-true, eqb-true}
 use Rattle.half_store.specs.Reach.{home, probe_distance, bucket_after, load, is_loaded, reach}
-use Rattle.half_store.specs.Slots.{slot_at, stored, FullBefore, IsVacancyFor, IsFoundAt, SomeVacant, ProbeInvariant, distance_from_home}
+use Rattle.half_store.specs.Slots.{slot_at, stored, FullBefore, IsVacancyFor, SomeVacant, ProbeInvariant, distance_from_home}
 use Rattle.half_store.proofs.Circle.{probe_distance-lt, bucket_after-lt, probe_distance-bucket_after, bucket_after-probe_distance, distance_same}
 use Rattle.half_store.proofs.Counts.{count_to, count_to-same, count_to-le, count_to_more, count_to-none, count_by-count_to, ahead_size}
 use Rattle.half_store.proofs.ReachLemmas.{is_loaded-yes, is_loaded-no, loaded_run-is, reach-some}
@@ -109,10 +109,10 @@ module _ (slots : List (Option ℕ)) (ordered : ProbeInvariant slots) where
         reach-some hashes (m slots) hash (omega arith) ∙ omega arith
 
     -- a probe that comes to a pair of its hash has not come so far
-    pub reach_past_found : (hash p : ℕ) → IsFoundAt slots hash p → SomeVacant slots → distance_from_home slots hash p + 2 ≤ reach hashes (m slots) hash
-    reach_past_found hash p f v =
+    pub reach_past_pair : (hash p : ℕ) → slot_at slots p ≡ Some hash → SomeVacant slots → distance_from_home slots hash p + 2 ≤ reach hashes (m slots) hash
+    reach_past_pair hash p is v =
         let w = vacancy_for slots hash v in
-        let near = found-before hash p w.0 f.found w.1 in
+        let near = found-before hash p w.0 is w.1 in
         omega (arith, reach_at_vacancy hash w.0 w.1)
 
     -- as many buckets are full as pairs are held

@@ -12,7 +12,7 @@ use Rattle.half_store.specs.Work.{Work}
 use Rattle.half_store.proofs.Circle.{distance_self}
 use Rattle.half_store.proofs.SlotsLemmas.{full_from, full-lt}
 use Rattle.half_store.proofs.StepLemmas.{length-hashes_at, index-lt, bucket_of_index, index_at_bucket, at_home, table_vacant}
-use Rattle.half_store.proofs.ProbeLemmas.{reach_at_vacancy, reach_past_found, reach_short}
+use Rattle.half_store.proofs.ProbeLemmas.{reach_at_vacancy, reach_past_pair, reach_short}
 use Rattle.half_store.proofs.ReachLemmas.{reach-none}
 use Rattle.half_store.proofs.WorkLemmas.{same_work}
 
@@ -38,7 +38,7 @@ module _ (slots : List (Option ℕ)) (entry_of bucket_of : List ℕ) (t : IsTabl
       let full = full_from _ hash f.found in
       let in_p : p < length slots = full-lt slots p full in
       let v = vacant_since p in_p in
-      let r = reach_past_found slots t.ordered hs t.in_step.counted hash p f v in
+      let r = reach_past_pair slots t.ordered hs t.in_step.counted hash p f.found v in
       let c = t.in_step.counted (λ held. held == hash) in
       record {
         asked = asked;

@@ -2,6 +2,7 @@
 
 use half_store::buckets::{Buckets, HashedBuckets};
 use half_store::table::probe::{first_empty, search};
+use half_store::words::WordArray;
 use half_store::{Refusal, Table, Tally};
 use std::alloc::Global;
 use std::cell::Cell;
@@ -11,18 +12,19 @@ use test_support::asserts::assert_same_at;
 // Buckets that count how often they are read.
 #[derive(Drop)]
 struct CountedBuckets<'a> {
-    buckets: HashedBuckets<'a>,
+    buckets: HashedBuckets<'a, WordArray>,
     reads: &'a Cell<usize>,
 }
 
 impl Buckets for CountedBuckets<'_> {
     ghost use Rattle.half_store.specs.Buckets.{slots_by, entries_by, WithinHashes};
+    ghost use Rattle.half_store.specs.Words.{words_of};
 
-    ghost slots = { λ s. slots_by s.buckets.hashes.now s.buckets.buckets.now };
+    ghost slots = { λ s. slots_by s.buckets.hashes.now (words_of s.buckets.buckets.now) };
 
-    ghost entry_of = { λ s. entries_by s.buckets.buckets.now };
+    ghost entry_of = { λ s. entries_by (words_of s.buckets.buckets.now) };
 
-    ghost is_whole = { λ s. WithinHashes s.buckets.hashes.now s.buckets.buckets.now };
+    ghost is_whole = { λ s. WithinHashes s.buckets.hashes.now (words_of s.buckets.buckets.now) };
 
     fn count(&self) -> usize {
         self.buckets.count()

@@ -2,7 +2,7 @@
 //! the buckets that it reads.
 ghost use Rattle.std.specs.Prelude.{◌≡◌, ◌<◌, ◌≤◌, length, Some, slice_get, slice_set, slice_index, vec_capacity};
 ghost use Rattle.std.specs.List.{swap_remove};
-ghost use Rattle.half_store.specs.Reach.{probe_distance};
+ghost use Rattle.half_store.specs.Reach.{probe_distance, IsNearer};
 ghost use Rattle.half_store.specs.Capacity.{IsBucketCount};
 ghost use Rattle.half_store.specs.TableLayout.{IsIndexed, IsIndexedButFor, IsBucketOf};
 
@@ -33,12 +33,14 @@ pub(super) fn remove_in<B: Words>(buckets: &mut B, hashes: &mut Vec<u64>, index:
     hash
 }
 
-/// The bucket of the pair at this entry index: where a probe from its stored hash meets the index.
+/// The bucket of the pair at this entry index: where a probe from its stored hash meets the index. It reads fewer buckets than
+/// an unsuccessful probe for that hash.
 #[inline(always)]
 fn bucket_of<B: Words>(buckets: &B, hashes: &[u64], index: usize) -> usize
     requires indexed { IsIndexed hashes.now (B.words buckets.now) }
     requires within { index < length hashes.now }
-    ensures { IsBucketOf hashes.now (B.words buckets.now) index result }
+    ensures at { IsBucketOf hashes.now (B.words buckets.now) index result }
+    ensures near { IsNearer hashes.now (length (B.words buckets.now)) (slice_index hashes.now index) result }
 {
     let count = buckets.count();
     let mut bucket = home(hashes[index], count);

@@ -1,5 +1,6 @@
 use Rattle.std.proofs.Common.{arith}
 use Rattle.half_store.specs.Buckets.{slots_by, entries_by}
+use Rattle.half_store.specs.Words.{words_of}
 use Rattle.half_store.proofs.StepLemmas.{table_vacant}
 use Rattle.half_tests.proofs.counted_reads.probed.Goals as goal
 
@@ -7,4 +8,4 @@ pub first_empty-requires-clause-vacant : goal.first_empty-requires-clause-vacant
 first_empty-requires-clause-vacant c =
     let b = c.hashed_buckets.result in
     let shown = c.hashed_buckets.ensures.shown in
-    table_vacant (slots_by b.hashes.now b.buckets.now) (entries_by b.buckets.now) shown.bucket_of shown.table (omega (arith, c.if-count-eq0.false, c.count.ensures))
+    table_vacant (slots_by b.hashes.now (words_of b.buckets.now)) (entries_by (words_of b.buckets.now)) shown.bucket_of shown.table (omega (arith, c.if-count-eq0.false, c.count.ensures))

@@ -4,7 +4,7 @@ use Rattle.half_store.specs.Capacity.{IsBucketCount}
 use Rattle.half_store.specs.Reach.{home, probe_distance, bucket_after}
 use Rattle.half_store.specs.TableLayout.{IsBucketOf}
 use Rattle.half_store.proofs.Circle.{bucket_after-zero, bucket_after-bucket_after, bucket_after-probe_distance, probe_distance-lt}
-use Rattle.half_store.proofs.IndexLemmas.{index-within, index-buckets, word_of_bucket, some_bucket_of}
+use Rattle.half_store.proofs.IndexLemmas.{index-within, index-buckets, bucket_of_word, word_of_bucket, some_bucket_of, nearer}
 use Rattle.half_store.proofs.table.deletion.bucket_of.Goals as goal
 
 -- the home of the pair's hash
@@ -76,3 +76,12 @@ unreachable-requires g c =
     let is = some_bucket_of hs bs c.requires.indexed index c.requires.within in
     let in_start : start hs bs index < length bs = omega (arith, begins _ e c.home-bucket.ensures.value, c.home-bucket.ensures.bound, e) in
     omega (arith, e, met hs bs index _ l._step in_start is (l.invariant.ahead _ is))
+
+pub returns-then-word_at-index-clause-near : goal.returns-then-word_at-index-clause-near
+returns-then-word_at-index-clause-near g c =
+    let hs = c.args.hashes.now in
+    let bs = g.B.Words.words c.args.buckets.now in
+    let index = c.args.index in
+    let l = c.loop-step in
+    let word : slice_index bs l.bucket ≡ suc index = omega (arith, c.if-word_at-index.true, c.word_at.ensures) in
+    nearer hs bs c.requires.indexed index l.bucket c.requires.within (bucket_of_word hs bs index l.bucket l.invariant.inside c.requires.within word)

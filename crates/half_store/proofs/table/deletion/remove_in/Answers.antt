@@ -32,9 +32,9 @@ backward_shift-requires-clause-emptied g c =
     let is_last : suc (length hs - 1) ≡ length hs = omega arith in
     let last = ap (λ n. n - 1) (c.len-last.ensures ∙ c.args.hashes.now.ok.0) in
     let one : index + 1 ≡ suc index = omega arith in
-    let at = subst (λ y. IsBucketOf y bs index c.bucket_of-bucket.result) c.as_slice.ensures.value c.bucket_of-bucket.ensures in
+    let at = subst (λ y. IsBucketOf y bs index c.bucket_of-bucket.result) c.as_slice.ensures.value c.bucket_of-bucket.ensures.at in
     let at_last = subst (λ y. IsBucketOf y bs (length hs - 1) c.bucket_of-last_bucket.result) c.as_slice-2.ensures.value
-        (subst (λ n. IsBucketOf c.as_slice-2.result.now bs n c.bucket_of-last_bucket.result) last c.bucket_of-last_bucket.ensures) in
+    (subst (λ n. IsBucketOf c.as_slice-2.result.now bs n c.bucket_of-last_bucket.result) last c.bucket_of-last_bucket.ensures.at) in
     gap_in (c.as_slice-3.ensures.value ∙ c.swap_remove-hash.ensures.items ∙ left hs index c.swap_remove-hash.result in_index)
     (c.set_word-2.ensures.words ∙ ap (λ ws. set ws c.bucket_of-bucket.result 0) (c.set_word.ensures.words ∙ ap (set bs c.bucket_of-last_bucket.result) one))
     (IsIndexed-remove hs bs c.requires.indexed index (length hs - 1) in_index is_last c.bucket_of-bucket.result c.bucket_of-last_bucket.result at at_last)
