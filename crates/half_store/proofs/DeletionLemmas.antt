@@ -1,5 +1,5 @@
 -- Backward-shift deletion: what holds while the probe goes on, and that the order is whole again at its end.
-use Rattle.std.proofs.Common.{◌≡◌, ◌≢◌, ℕ, suc, ◌<◌, ◌≤◌, ◌⊎◌, inl, inr, sym, ap, ◌∙◌, subst, arith, List, length, set, slice_index, Option, Some, None}
+use Rattle.std.proofs.Common.{◌≡◌, ◌≢◌, ℕ, suc, ◌-◌, ◌<◌, ◌≤◌, ◌⊎◌, inl, inr, sym, ap, ◌∙◌, subst, arith, List, length, set, slice_index, Option, Some, None}
 use Rattle.std.proofs.lemmas.Bool.{cases_lt, cases_eq}
 use Rattle.std.proofs.lemmas.List.{length-set}
 use Rattle.std.proofs.lemmas.Option.{same_Some}
@@ -90,6 +90,14 @@ module _ (m : ℕ) (slots : List (Option ℕ)) where
             | inr ne ↦ let l = a.3 in omega arith
           ],
         )
+
+    -- fewer buckets are ahead of the next one
+    pub Gap-ahead : (next : ℕ) → slot_at slots bucket ≢ None → next ≡ bucket_after m bucket 1 → m - probe_distance m start next < m - probe_distance m start bucket
+    Gap-ahead next full e =
+        let f = farther full in
+        let l = probe_distance-lt m start g.start_in f.0 f.1 in
+        let d = probe_distance-bucket_after m start g.start_in (suc (suc count)) (omega (arith, l, f.3)) in
+        omega (arith, l, f.3, bucket_distance, d, ap (probe_distance m start) (next_bucket next e))
 
     -- the probe ends at an empty bucket: the order is whole
     pub Gap-end : slot_at slots bucket ≡ None → ProbeInvariant slots

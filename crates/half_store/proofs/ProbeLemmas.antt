@@ -156,12 +156,12 @@ module _ (slots : List (Option ℕ)) (hash : ℕ) (Refused : ℕ → Type 0) whe
     refused = λ o is near. absurd (omega arith);
   }
 
-  module _ (bucket count : ℕ) (old now : Work) (s : Searches slots hash Refused bucket count old now) (few : count < length slots) where
+  module _ (bucket count : ℕ) (old now : Work) (s : Searches slots hash Refused bucket count old now) (vacant : SomeVacant slots) where
     start_in : home (length slots) hash < length slots
     start_in = home-lt (length slots) hash (omega arith)
 
     at : distance_from_home slots hash bucket ≡ count
-    at = Probes-probe_distance slots hash bucket count s.probe few
+    at = Probes-probe_distance slots hash bucket count s.probe vacant
 
     here_or_before : (P : ℕ → Type 0) → P bucket → ((other : ℕ) → distance_from_home slots hash other < count → P other) →
         (other : ℕ) → other < length slots → distance_from_home slots hash other < count + 1 → P other
@@ -181,7 +181,7 @@ module _ (slots : List (Option ℕ)) (hash : ℕ) (Refused : ℕ → Type 0) whe
         let looked = s.looked in
         let compared = s.compared in
         record {
-          probe = Probes-next slots hash bucket count s.probe few next (full_from _ held is) in_next up_one;
+          probe = Probes-next slots hash bucket count s.probe vacant next (full_from _ held is) in_next up_one;
           asked = ap (λ (w : Work). w.asked) e ∙ asked;
           looked = ap (λ (w : Work). w.looked) e ∙ omega arith;
           compared = ap (λ (w : Work). w.compared) e ∙ omega arith;
@@ -199,7 +199,7 @@ module _ (slots : List (Option ℕ)) (hash : ℕ) (Refused : ℕ → Type 0) whe
         let looked = s.looked in
         let compared = s.compared in
         record {
-          probe = Probes-next slots hash bucket count s.probe few next (full_from _ hash is) in_next up_one;
+          probe = Probes-next slots hash bucket count s.probe vacant next (full_from _ hash is) in_next up_one;
           asked = ap (λ (w : Work). w.asked) e ∙ asked;
           looked = ap (λ (w : Work). w.looked) e ∙ omega arith;
           compared = ap (λ (w : Work). w.compared) e ∙ omega arith;
@@ -215,7 +215,7 @@ module _ (slots : List (Option ℕ)) (hash : ℕ) (Refused : ℕ → Type 0) whe
 
     module _ (ordered : ProbeInvariant slots) (none : slot_at slots bucket ≡ None) where
       ends : IsVacancyFor slots hash bucket
-      ends = Probes-vacancy slots hash bucket count s.probe few none
+      ends = Probes-vacancy slots hash bucket count s.probe vacant none
 
       -- the bucket is empty: each pair of the hash was compared
       pub Searches-missing : now.compared ≡ old.compared + count_by (stored (λ held. held == hash)) slots

@@ -141,7 +141,18 @@ module _ (slots : List (Option ℕ)) (hash : ℕ) where
     full = λ o in_o near. absurd (omega arith);
   }
 
-  module _ (bucket count : ℕ) (w : Probes slots hash bucket count) (few : count < length slots) where
+  -- a probe does not pass all buckets, where one is empty
+  Probes-few : (bucket count : ℕ) → Probes slots hash bucket count → SomeVacant slots → count < length slots
+  Probes-few bucket count w (v, in_v, none) =
+      elim (cases_lt count (length slots)) [
+        | inl few ↦ few
+        | inr all ↦ absurd (w.full v in_v (omega (arith, all, probe_distance-lt (length slots) (home (length slots) hash) (home-lt (length slots) hash (omega arith)) v in_v)) none)
+      ]
+
+  module _ (bucket count : ℕ) (w : Probes slots hash bucket count) (vacant : SomeVacant slots) where
+    few : count < length slots
+    few = Probes-few bucket count w vacant
+
     in_home : home (length slots) hash < length slots
     in_home = home-lt (length slots) hash (omega arith)
 
@@ -166,7 +177,9 @@ module _ (slots : List (Option ℕ)) (hash : ℕ) where
       ];
     }
 
-  -- a probe does not pass all buckets, where one is empty
-  pub Probes-ends : (bucket count : ℕ) → Probes slots hash bucket count → length slots ≤ count → SomeVacant slots → ⊥
-  Probes-ends bucket count w all (v, in_v, none) =
-      w.full v in_v (let l = probe_distance-lt (length slots) (home (length slots) hash) (home-lt (length slots) hash (omega arith)) v in_v in omega arith) none
+    -- fewer buckets are ahead of the next one
+    pub Probes-ahead : (next : ℕ) → slot_at slots bucket ≢ None → next < length slots → next ≡ bucket_after (length slots) bucket 1 → length slots - distance_from_home slots hash next < length slots - distance_from_home slots hash bucket
+    Probes-ahead next full in_next e =
+        let w' = Probes-next next full in_next e in
+        let few' = Probes-few next (count + 1) w' vacant in
+        omega (arith, few', Probes-probe_distance, probe_distance-bucket_after (length slots) (home (length slots) hash) in_home (count + 1) few', ap (probe_distance (length slots) (home (length slots) hash)) w'.on_the_way)

@@ -44,13 +44,10 @@ fn bucket_of<B: Words>(buckets: &B, hashes: &[u64], index: usize) -> usize
 {
     let count = buckets.count();
     let mut bucket = home(hashes[index], count);
-    for _step in 0..count {
-        if buckets.word_at(bucket) == index + 1 {
-            return bucket;
-        }
+    while buckets.word_at(bucket) != index + 1 {
         bucket = next(bucket, count);
     }
-    unreachable!()
+    bucket
 }
 
 /// The probe distance from one bucket up to another; the first follows the last.
@@ -92,15 +89,11 @@ fn backward_shift<B: Words>(buckets: &mut B, hashes: &[u64], emptied: usize)
     let count = buckets.count();
     let mut gap = emptied;
     let mut bucket = next(emptied, count);
-    for _step in 0..count {
-        let Some(hash) = hash_in(buckets, hashes, bucket) else {
-            return;
-        };
+    while let Some(hash) = hash_in(buckets, hashes, bucket) {
         if probe_distance(home(hash, count), bucket, count) >= probe_distance(gap, bucket, count) {
             move_pair(buckets, bucket, gap);
             gap = bucket;
         }
         bucket = next(bucket, count);
     }
-    unreachable!()
 }

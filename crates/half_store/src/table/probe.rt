@@ -77,7 +77,7 @@ pub fn search<P: Buckets, F: Fn(usize) -> bool>(
 {
     let count = buckets.count();
     let mut bucket = home(hash, count);
-    for _step in 0..count {
+    loop {
         match look(buckets, bucket, tally) {
             None => return Err(bucket),
             Some(held) => {
@@ -88,7 +88,6 @@ pub fn search<P: Buckets, F: Fn(usize) -> bool>(
         }
         bucket = next(bucket, count);
     }
-    unreachable!()
 }
 
 /// Probes up from the home bucket to the first empty bucket.
@@ -102,11 +101,8 @@ pub fn first_empty<P: Buckets>(buckets: &P, hash: u64, tally: &mut Tally) -> usi
 {
     let count = buckets.count();
     let mut bucket = home(hash, count);
-    for _step in 0..count {
-        if look(buckets, bucket, tally).is_none() {
-            return bucket;
-        }
+    while look(buckets, bucket, tally).is_some() {
         bucket = next(bucket, count);
     }
-    unreachable!()
+    bucket
 }

@@ -7,20 +7,21 @@ use Rattle.half_store.specs.Capacity.{capacity_of, IsBucketCount}
 use Rattle.half_store.specs.Table.{hashes_at}
 use Rattle.half_store.specs.TableLayout.{InStep}
 use Rattle.half_store.proofs.BucketLemmas.{length-slots_by, slots_by-move, entries_by-move, whole-at, whole-move}
-use Rattle.half_store.proofs.SlotsLemmas.{slot_cases}
+use Rattle.half_store.proofs.SlotsLemmas.{slot_cases, full_from}
 use Rattle.half_store.proofs.GapLemmas.{InStep-move, hashes_at-move, move-from}
 use Rattle.half_store.proofs.IndexLemmas.{InStep-vacant}
-use Rattle.half_store.proofs.DeletionLemmas.{Gap, Gap-start, Gap-end, Gap-stay, Gap-move, few}
+use Rattle.half_store.proofs.DeletionLemmas.{Gap, Gap-start, Gap-end, Gap-stay, Gap-move, Gap-ahead}
 use Rattle.half_store.proofs.table.deletion.backward_shift.Goals as goal
 use Rattle.half_store.proofs.table.deletion.backward_shift.Goals.{then-probe_distance, else-probe_distance}
 
-pub loop-step-init : goal.loop-step-init
-loop-step-init g c =
+pub loop-hash-init : goal.loop-hash-init
+loop-hash-init g c =
     let x = c.requires.emptied in
     let gap = x.gap in
     let slots : List (Option ℕ) = slots_by c.args.hashes.now (g.B.Words.words c.args.buckets.now) in
     let long : length slots ≡ c.count-count.result = length-slots_by c.args.hashes.now (g.B.Words.words c.args.buckets.now) ∙ sym c.count-count.ensures in
     record {
+      passed = 0;
       bucket_of = x.bucket_of;
       inside = omega (arith, c.next-bucket.ensures.bound, c.count-count.ensures);
       whole = x.whole;
@@ -41,11 +42,11 @@ empty_from o no_hash = elim (slot_cases o) [ inl z ↦ z | inr (h, is) ↦ absur
 as_many : (hashes buckets : List ℕ) {m : ℕ} → length (slots_by hashes buckets) ≡ m → length buckets ≡ m
 as_many hashes buckets same = sym (length-slots_by hashes buckets) ∙ same
 
-pub returns-in_default-clause-indexed : goal.returns-in_default-clause-indexed
-returns-in_default-clause-indexed g c =
-    let i = c.loop-step.invariant in
+pub returns-clause-indexed : goal.returns-clause-indexed
+returns-clause-indexed g c =
+    let i = c.loop-hash.invariant in
     let hs = c.args.hashes.now in
-    let buckets = g.B.Words.words c.loop-step.buckets in
+    let buckets = g.B.Words.words c.loop-hash.buckets in
     let long = length-slots_by hs buckets in
     record {
       bucket_of = i.bucket_of;
@@ -57,15 +58,15 @@ returns-in_default-clause-indexed g c =
           within = subst (λ m. length i.bucket_of ≤ capacity_of m) (sym long) i.within;
           in_step = i.in_step;
           ordered =
-              Gap-end c.count-count.result (slots_by hs buckets) c.args.emptied c.loop-step.gap c.loop-step.bucket c.loop-step._step i.deletion
+              Gap-end c.count-count.result (slots_by hs buckets) c.args.emptied c.loop-hash.gap c.loop-hash.bucket c.loop-hash.invariant.passed i.deletion
               (sym c.hash_in.ensures ∙ empty_from c.hash_in.result c.in_default.not-Some);
         };
       };
     }
 
-pub returns-in_default-clause-len : goal.returns-in_default-clause-len
-returns-in_default-clause-len g c =
-    as_many c.args.hashes.now (g.B.Words.words c.loop-step.buckets) c.loop-step.invariant.deletion.size ∙ c.count-count.ensures
+pub returns-clause-len : goal.returns-clause-len
+returns-clause-len g c =
+    as_many c.args.hashes.now (g.B.Words.words c.loop-hash.buckets) c.loop-hash.invariant.deletion.size ∙ c.count-count.ensures
 
 -- the shifting back goes on with columns that were moved, or left alone
 module _ (m : ℕ) (slots slots' : List (Option ℕ)) (entry_of entry_of' bucket_of bucket_of' : List ℕ) (start gap gap' bucket next count hash : ℕ)
@@ -107,28 +108,29 @@ module _ (m : ℕ) (slots slots' : List (Option ℕ)) (entry_of entry_of' bucket
 
 pub move_pair-requires-clause-fits : goal.move_pair-requires-clause-fits
 move_pair-requires-clause-fits g c =
-    let l = c.loop-step in
+    let l = c.loop-hash in
     omega (arith, whole-at c.args.hashes.now (g.B.Words.words l.buckets) l.bucket l.invariant.whole, c.requires.fits, l.invariant.most)
 
-pub loop-step-preserved : goal.loop-step-preserved
-loop-step-preserved g c =
-    let l = c.loop-step in
+pub loop-hash-preserved : goal.loop-hash-preserved
+loop-hash-preserved g c =
+    let l = c.loop-hash in
     let i = l.invariant in
     let m : ℕ = c.count-count.result in
     let hs : List ℕ = c.args.hashes.now in
-    let next = c.next-bucket-in-loop-step in
+    let next = c.next-bucket-in-Some in
     let far = c.probe_distance.ensures ∙ ap (λ h. probe_distance m h l.bucket) c.home.ensures.value in
-    let near = c.probe_distance-in-loop-step.ensures in
+    let near = c.probe_distance-in-Some.ensures in
     let is : slot_at (slots_by hs (g.B.Words.words l.buckets)) l.bucket ≡ Some c.in-Some.hash = sym c.hash_in.ensures ∙ c.in-Some.is in
     elim c.if-probe_distance.branch [
       | then-probe_distance w ↦
           let out = w.move_pair.ensures in
           let buckets = ap g.B.Words.words w.buckets-is ∙ out.words in
           let bucket_of : List ℕ = set i.bucket_of (slice_index (entries_by (g.B.Words.words l.buckets)) l.bucket) l.gap in
-          let goes = move m (slots_by hs (g.B.Words.words l.buckets)) (slots_by hs (g.B.Words.words c.if-probe_distance.buckets)) (entries_by (g.B.Words.words l.buckets)) (entries_by (g.B.Words.words c.if-probe_distance.buckets)) i.bucket_of bucket_of c.args.emptied l.gap c.if-probe_distance.gap l.bucket next.result l._step c.in-Some.hash i.deletion i.in_step is next.ensures.value
+          let goes = move m (slots_by hs (g.B.Words.words l.buckets)) (slots_by hs (g.B.Words.words c.if-probe_distance.buckets)) (entries_by (g.B.Words.words l.buckets)) (entries_by (g.B.Words.words c.if-probe_distance.buckets)) i.bucket_of bucket_of c.args.emptied l.gap c.if-probe_distance.gap l.bucket next.result i.passed c.in-Some.hash i.deletion i.in_step is next.ensures.value
           (ap (slots_by hs) buckets ∙ slots_by-move hs (g.B.Words.words l.buckets) l.bucket l.gap i.inside) (ap entries_by buckets ∙ entries_by-move hs (g.B.Words.words l.buckets) l.bucket l.gap i.inside)
           refl w.gap-is (omega (arith, w.if-probe_distance.true)) in
           record {
+            passed = i.passed + 1;
             bucket_of = bucket_of;
             inside = omega (arith, next.ensures.bound, as_many hs (g.B.Words.words c.if-probe_distance.buckets) goes.deletion.size);
             whole = subst (WithinHashes hs) (sym buckets) (whole-move hs (g.B.Words.words l.buckets) l.bucket l.gap i.inside i.whole);
@@ -140,9 +142,10 @@ loop-step-preserved g c =
           }
       | else-probe_distance w ↦
           let bucket_of = i.bucket_of in
-          let goes = stay m (slots_by hs (g.B.Words.words l.buckets)) (slots_by hs (g.B.Words.words c.if-probe_distance.buckets)) (entries_by (g.B.Words.words l.buckets)) (entries_by (g.B.Words.words c.if-probe_distance.buckets)) i.bucket_of bucket_of c.args.emptied l.gap c.if-probe_distance.gap l.bucket next.result l._step c.in-Some.hash i.deletion i.in_step is next.ensures.value
+          let goes = stay m (slots_by hs (g.B.Words.words l.buckets)) (slots_by hs (g.B.Words.words c.if-probe_distance.buckets)) (entries_by (g.B.Words.words l.buckets)) (entries_by (g.B.Words.words c.if-probe_distance.buckets)) i.bucket_of bucket_of c.args.emptied l.gap c.if-probe_distance.gap l.bucket next.result i.passed c.in-Some.hash i.deletion i.in_step is next.ensures.value
           (ap (λ b. slots_by hs (g.B.Words.words b)) w.buckets-is) (ap (λ b. entries_by (g.B.Words.words b)) w.buckets-is) refl w.gap-is (omega (arith, w.if-probe_distance.false)) in
           record {
+            passed = i.passed + 1;
             bucket_of = bucket_of;
             inside = omega (arith, next.ensures.bound, as_many hs (g.B.Words.words c.if-probe_distance.buckets) goes.deletion.size);
             whole = subst (λ b. WithinHashes hs (g.B.Words.words b)) (sym w.buckets-is) i.whole;
@@ -154,7 +157,9 @@ loop-step-preserved g c =
           }
     ]
 
-pub unreachable-requires : goal.unreachable-requires
-unreachable-requires g c =
-    let i = c.loop-step.invariant in
-    omega (arith, few c.count-count.result (slots_by c.args.hashes.now (g.B.Words.words c.loop-step.buckets)) c.args.emptied c.loop-step.gap c.loop-step.bucket c.loop-step._step i.deletion)
+pub loop-hash-smaller : goal.loop-hash-smaller
+loop-hash-smaller g c =
+    let l = c.loop-hash in
+    let is = sym c.hash_in.ensures ∙ c.in-Some.is in
+    Gap-ahead c.count-count.result (slots_by c.args.hashes.now (g.B.Words.words l.buckets)) c.args.emptied l.gap l.bucket l.invariant.passed l.invariant.deletion c.next-bucket-in-Some.result
+    (full_from _ c.in-Some.hash is) c.next-bucket-in-Some.ensures.value
