@@ -4,8 +4,8 @@ use Rattle.std.proofs.Math.Nat.{pow-le-pow_right, add-mod_left, mod-eq_of_lt}
 use Rattle.std.proofs.lemmas.Bool.{cases_lt}
 use Rattle.std.proofs.lemmas.Nat.{and_mask}
 use Rattle.half_store.specs.Capacity.{IsBucketCount}
-use Rattle.half_store.specs.Reach.{probe_distance}
-use Rattle.half_store.proofs.Circle.{distance_is}
+use Rattle.half_store.specs.Reach.{probe_distance, bucket_after}
+use Rattle.half_store.proofs.Circle.{distance_is, after_is}
 
 -- the mask of a power of two is the remainder
 pub mask_mod : (n m : ℕ) → IsBucketCount m → 0 < m → bit_and n (m - 1) ≡ n % m
@@ -25,6 +25,15 @@ mask_distance m a b count in_a in_b =
     ∙ elim (cases_lt (b + (m - a)) m) [
       | inl l ↦ mod-eq_of_lt l ∙ omega (arith, distance_is m a b in_a)
       | inr ge ↦ mod_once (b + (m - a)) m (omega arith) (omega arith) ∙ omega (arith, distance_is m a b in_a)
+    ]
+
+-- the bucket after this one
+pub mask_next : (m b : ℕ) → IsBucketCount m → b < m → bit_and (b + 1) (m - 1) ≡ bucket_after m b 1
+mask_next m b count in_b =
+    mask_mod (b + 1) m count (omega arith)
+    ∙ elim (cases_lt (b + 1) m) [
+      | inl l ↦ mod-eq_of_lt l ∙ omega (arith, after_is m b 1)
+      | inr ge ↦ mod_once (b + 1) m (omega arith) (omega arith) ∙ omega (arith, after_is m b 1)
     ]
 
 -- a bucket count below 2^64 is at most half of that

@@ -36,11 +36,12 @@ pub(crate) fn home(hash: u64, count: usize) -> usize
 /// The bucket after this one; the first follows the last.
 #[inline(always)]
 pub(crate) fn next(bucket: usize, count: usize) -> usize
-    requires { bucket < count }
+    requires count { IsBucketCount count }
+    requires within { bucket < count }
     ensures value { result ≡ bucket_after count bucket 1 }
     ensures bound { result < count }
 {
-    if bucket + 1 == count { 0 } else { bucket + 1 }
+    (bucket + 1) & (count - 1)
 }
 
 /// Probes up from the home bucket to a pair that is accepted, or else to the first empty bucket.

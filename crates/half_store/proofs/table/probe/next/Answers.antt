@@ -1,9 +1,5 @@
-use Rattle.std.proofs.Common.{arith}
-use Rattle.half_store.proofs.Circle.{after_is}
+use Rattle.half_store.proofs.MaskLemmas.{mask_next}
 use Rattle.half_store.proofs.table.probe.next.Goals as goal
 
-pub returns-then-bucket-count-clause-value : goal.returns-then-bucket-count-clause-value
-returns-then-bucket-count-clause-value c = omega (arith, after_is c.args.count c.args.bucket 1)
-
-pub returns-else-bucket-count-clause-value : goal.returns-else-bucket-count-clause-value
-returns-else-bucket-count-clause-value c = omega (arith, after_is c.args.count c.args.bucket 1)
+pub returns-clause-value : goal.returns-clause-value
+returns-clause-value c = mask_next c.args.count c.args.bucket c.requires.count c.requires.within
