@@ -4,6 +4,7 @@ use Rattle.std.proofs.lemmas.Bool.{cases_lt, cases_eq, lt-ltb, false≢true, tru
 use Rattle.std.proofs.lemmas.Nat.{mod_below}
 use Rattle.std.proofs.lemmas.List.{get_or_past}
 use borrow.Author.Tests.{ltb-true}
+use Rattle.std.specs.Prelude.{option_map}
 use Rattle.half_store.specs.Reach.{home, probe_distance, bucket_after}
 use Rattle.half_store.specs.Slots.{slot_at, stored, FullBefore, IsVacancyFor, SomeVacant, ProbeInvariant, distance_from_home}
 use Rattle.half_store.proofs.Circle.{probe_distance-lt, distance_self, bucket_after-lt, bucket_after-zero, bucket_after-bucket_after, probe_distance-bucket_after, bucket_after-probe_distance, distance_same, down-lt, probe_distance-down, down-probe_distance, home_in_stretch, nearer_than_home, after_is}
@@ -20,13 +21,14 @@ some≢none h e = cc
 pub full_from : (o : Option ℕ) (h : ℕ) → o ≡ Some h → o ≢ None
 full_from o h e z = some≢none h (sym e ∙ z)
 
-pub none_from : (o : Option ℕ) → is_some o ≡ false → o ≡ None
-none_from None e = refl
-none_from (Some h) e = absurd (true≢false e)
+-- a bucket that was read is empty, or full
+pub none_read : (o : Option (ℕ × ℕ)) {slot : Option ℕ} → option_map (λ p. p.1) o ≡ slot → is_some o ≡ false → slot ≡ None
+none_read None e none = sym e
+none_read (Some p) e none = absurd (true≢false none)
 
-pub full_from_some : (o : Option ℕ) → is_some o ≡ true → o ≢ None
-full_from_some None e z = false≢true e
-full_from_some (Some h) e z = some≢none h z
+pub some_read : (o : Option (ℕ × ℕ)) {slot : Option ℕ} → option_map (λ p. p.1) o ≡ slot → is_some o ≡ true → slot ≢ None
+some_read None e some z = false≢true some
+some_read (Some p) e some z = some≢none p.1 (e ∙ z)
 
 pub home-lt : (m h : ℕ) → 0 < m → home m h < m
 home-lt m h p = mod_below h m p

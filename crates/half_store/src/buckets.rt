@@ -1,5 +1,5 @@
 //! What a probe reads: buckets, each empty or with the entry index of a pair, whose hash is stored.
-ghost use Rattle.std.specs.Prelude.{◌≡◌, ◌≢◌, ℕ, ◌<◌, List, Option, None, length, slice_index};
+ghost use Rattle.std.specs.Prelude.{◌≡◌, ℕ, ◌<◌, List, Option, length, slice_index, option_map, IfSome};
 ghost use Rattle.half_store.specs.Slots.{slot_at};
 ghost use Rattle.half_store.specs.Buckets.{slots_by, entries_by, WithinHashes};
 
@@ -21,17 +21,12 @@ pub trait Buckets {
     fn count(&self) -> usize
         ensures { result ≡ length (slots self.now) };
 
-    /// The hash of the pair in this bucket, or none where it is empty.
-    fn hash_at(&self, bucket: usize) -> Option<u64>
+    /// Reads a bucket: the entry index of its pair and the stored hash, or none where it is empty.
+    fn read(&self, bucket: usize) -> Option<(usize, u64)>
         requires whole { is_whole self.now }
         requires within { bucket < length (slots self.now) }
-        ensures { result ≡ slot_at (slots self.now) bucket };
-
-    /// The entry index of the pair in this bucket, which is not empty.
-    fn entry_at(&self, bucket: usize) -> usize
-        requires whole { is_whole self.now }
-        requires full { slot_at (slots self.now) bucket ≢ None }
-        ensures { result ≡ slice_index (entry_of self.now) bucket };
+        ensures hash { option_map (λ pair. pair.1) result ≡ slot_at (slots self.now) bucket }
+        ensures index { IfSome result (λ pair. pair.0 ≡ slice_index (entry_of self.now) bucket) };
 }
 
 /// The buckets of a table, and the stored hashes that they lead to.
@@ -56,25 +51,24 @@ impl<B: Words> Buckets for HashedBuckets<'_, B> {
     }
 
     #[inline(always)]
-    fn hash_at(&self, bucket: usize) -> Option<u64> {
-        hash_in(self.buckets, self.hashes, bucket)
-    }
-
-    #[inline(always)]
-    fn entry_at(&self, bucket: usize) -> usize {
-        self.buckets.word_at(bucket) - 1
+    fn read(&self, bucket: usize) -> Option<(usize, u64)> {
+        read_in(self.buckets, self.hashes, bucket)
     }
 }
 
-/// The hash of the pair in a bucket, or none where it is empty.
+/// Reads a bucket: the entry index of its pair and the stored hash, or none where it is empty.
 #[inline(always)]
-pub(crate) fn hash_in<B: Words>(buckets: &B, hashes: &[u64], bucket: usize) -> Option<u64>
+pub(crate) fn read_in<B: Words>(buckets: &B, hashes: &[u64], bucket: usize) -> Option<(usize, u64)>
     requires whole { WithinHashes hashes.now (B.words buckets.now) }
     requires within { bucket < length (B.words buckets.now) }
-    ensures { result ≡ slot_at (slots_by hashes.now (B.words buckets.now)) bucket }
+    ensures hash { option_map (λ pair. pair.1) result ≡ slot_at (slots_by hashes.now (B.words buckets.now)) bucket }
+    ensures index { IfSome result (λ pair. pair.0 ≡ slice_index (entries_by (B.words buckets.now)) bucket) }
 {
     match buckets.word_at(bucket) {
         0 => None,
-        full => Some(hashes[full - 1]),
+        full => {
+            let index = full - 1;
+            Some((index, hashes[index]))
+        }
     }
 }

@@ -1,7 +1,7 @@
 //! The three functions that do the counted work, each with the call that it counts.
 //!
 //! Each hash of a key, each comparison of keys and each bucket read by a counted probe goes through one of these.
-ghost use Rattle.std.specs.Prelude.{◌≡◌, ◌<◌, length};
+ghost use Rattle.std.specs.Prelude.{◌≡◌, ◌<◌, length, slice_index, option_map, IfSome};
 ghost use Rattle.half_store.specs.Hash.{hash_by};
 ghost use Rattle.half_store.specs.Work.{one_asked, one_compared, one_looked};
 ghost use Rattle.half_store.specs.Slots.{slot_at};
@@ -39,14 +39,19 @@ pub fn compare<F: Fn(usize) -> bool>(matches: &F, index: usize, tally: &mut Tall
     matches(index)
 }
 
-/// Reads a bucket.
+/// Reads a bucket: the entry index of its pair and the stored hash, or none where it is empty.
 #[inline(always)]
-pub(crate) fn look<P: Buckets>(buckets: &P, bucket: usize, tally: &mut Tally) -> Option<u64>
+pub(crate) fn look<P: Buckets>(
+    buckets: &P,
+    bucket: usize,
+    tally: &mut Tally,
+) -> Option<(usize, u64)>
     requires whole { P.is_whole buckets.now }
     requires within { bucket < length (P.slots buckets.now) }
-    ensures stored { result ≡ slot_at (P.slots buckets.now) bucket }
+    ensures hash { option_map (λ pair. pair.1) result ≡ slot_at (P.slots buckets.now) bucket }
+    ensures index { IfSome result (λ pair. pair.0 ≡ slice_index (P.entry_of buckets.now) bucket) }
     ensures counted { tally.new ≡ one_looked tally.old }
 {
     tally.add_looked();
-    buckets.hash_at(bucket)
+    buckets.read(bucket)
 }

@@ -30,13 +30,9 @@ impl Buckets for CountedBuckets<'_> {
         self.buckets.count()
     }
 
-    fn hash_at(&self, bucket: usize) -> Option<u64> {
+    fn read(&self, bucket: usize) -> Option<(usize, u64)> {
         self.reads.set(self.reads.get().wrapping_add(1));
-        self.buckets.hash_at(bucket)
-    }
-
-    fn entry_at(&self, bucket: usize) -> usize {
-        self.buckets.entry_at(bucket)
+        self.buckets.read(bucket)
     }
 }
 

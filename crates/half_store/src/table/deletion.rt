@@ -7,7 +7,7 @@ ghost use Rattle.half_store.specs.Capacity.{IsBucketCount};
 ghost use Rattle.half_store.specs.TableLayout.{IsIndexed, IsIndexedButFor, IsBucketOf};
 
 use super::probe::{home, next};
-use crate::buckets::hash_in;
+use crate::buckets::read_in;
 use crate::words::Words;
 
 /// Removes the pair at this entry index, and returns its stored hash. The last pair takes its index.
@@ -89,7 +89,7 @@ fn backward_shift<B: Words>(buckets: &mut B, hashes: &[u64], emptied: usize)
     let count = buckets.count();
     let mut gap = emptied;
     let mut bucket = next(emptied, count);
-    while let Some(hash) = hash_in(buckets, hashes, bucket) {
+    while let Some((_index, hash)) = read_in(buckets, hashes, bucket) {
         if probe_distance(home(hash, count), bucket, count) >= probe_distance(gap, bucket, count) {
             move_pair(buckets, bucket, gap);
             gap = bucket;

@@ -30,7 +30,7 @@ pub(super) fn find_in<P: Buckets, F: Fn(usize) -> bool>(
         return Probe::NoBuckets;
     }
     match search(buckets, hash, matches, tally) {
-        Ok(bucket) => Probe::Found(buckets.entry_at(bucket)),
+        Ok((_bucket, index)) => Probe::Found(index),
         Err(bucket) => Probe::Vacant(bucket),
     }
 }

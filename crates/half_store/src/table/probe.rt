@@ -46,28 +46,30 @@ pub(crate) fn next(bucket: usize, count: usize) -> usize
 
 /// Probes up from the home bucket to a pair that is accepted, or else to the first empty bucket.
 ///
-/// `matches` is called with the entry indices of those pairs alone whose whole hash is equal.
+/// `matches` is called with the entry indices of those pairs alone whose whole hash is equal. Returns the bucket and the entry
+/// index of the pair, or the empty bucket.
 #[inline(always)]
 pub fn search<P: Buckets, F: Fn(usize) -> bool>(
     buckets: &P,
     hash: u64,
     matches: &F,
     tally: &mut Tally,
-) -> Result<usize, usize>
+) -> Result<(usize, usize), usize>
     requires whole { P.is_whole buckets.now }
     requires count { IsBucketCount (length (P.slots buckets.now)) }
     requires vacant { SomeVacant (P.slots buckets.now) }
     requires ordered { ProbeInvariant (P.slots buckets.now) }
     requires callable { (bucket : ℕ) → slot_at (P.slots buckets.now) bucket ≡ Some hash
         → F.pre matches.now (slice_index (P.entry_of buckets.now) bucket) }
-    ensures found { IfOk result (IsFoundAt (P.slots buckets.now) hash) }
-    ensures accepted { IfOk result (λ bucket. F.post matches.now (slice_index (P.entry_of buckets.now) bucket) true) }
+    ensures found { IfOk result (λ place. IsFoundAt (P.slots buckets.now) hash place.0) }
+    ensures index { IfOk result (λ place. place.1 ≡ slice_index (P.entry_of buckets.now) place.0) }
+    ensures accepted { IfOk result (λ place. F.post matches.now place.1 true) }
     ensures vacancy { IfErr result (IsVacancyFor (P.slots buckets.now) hash) }
     ensures refused { OnErr result ((bucket : ℕ) → slot_at (P.slots buckets.now) bucket ≡ Some hash
         → F.post matches.now (slice_index (P.entry_of buckets.now) bucket) false) }
     ensures asked { tally.new.asked ≡ tally.old.asked }
-    ensures looked_found { IfOk result (λ bucket. tally.new.looked ≡ tally.old.looked
-        + (distance_from_home (P.slots buckets.now) hash bucket + 1)) }
+    ensures looked_found { IfOk result (λ place. tally.new.looked ≡ tally.old.looked
+        + (distance_from_home (P.slots buckets.now) hash place.0 + 1)) }
     ensures looked_missing { IfErr result (λ bucket. tally.new.looked ≡ tally.old.looked
         + (distance_from_home (P.slots buckets.now) hash bucket + 1)) }
     ensures compared_some { OnOk result (tally.old.compared + 1 ≤ tally.new.compared) }
@@ -81,9 +83,9 @@ pub fn search<P: Buckets, F: Fn(usize) -> bool>(
     loop {
         match look(buckets, bucket, tally) {
             None => return Err(bucket),
-            Some(held) => {
-                if held == hash && compare(matches, buckets.entry_at(bucket), tally) {
-                    return Ok(bucket);
+            Some((index, held)) => {
+                if held == hash && compare(matches, index, tally) {
+                    return Ok((bucket, index));
                 }
             }
         }

@@ -1,4 +1,5 @@
-use Rattle.std.proofs.Common.{◌≡◌, ◌+◌, ◌<◌, ◌≤◌, ◌∙◌, ℕ, suc, inl, inr, List, Option, Some, None, length, set, slice_index, refl, sym, ap, subst, arith}
+use Rattle.std.proofs.Common.{◌≡◌, ◌+◌, ◌<◌, ◌≤◌, ◌∙◌, ℕ, suc, List, Option, Some, None, length, set, slice_index, refl, sym, ap, subst, arith}
+use Rattle.std.specs.Prelude.{option_map}
 use Rattle.std.proofs.lemmas.List.{length-set}
 use Rattle.half_store.specs.Buckets.{slots_by, entries_by, WithinHashes}
 use Rattle.half_store.specs.Reach.{home, probe_distance, bucket_after}
@@ -7,15 +8,15 @@ use Rattle.half_store.specs.Capacity.{capacity_of, IsBucketCount}
 use Rattle.half_store.specs.Table.{hashes_at}
 use Rattle.half_store.specs.TableLayout.{InStep}
 use Rattle.half_store.proofs.BucketLemmas.{length-slots_by, slots_by-move, entries_by-move, whole-at, whole-move}
-use Rattle.half_store.proofs.SlotsLemmas.{slot_cases, full_from}
+use Rattle.half_store.proofs.SlotsLemmas.{full_from}
 use Rattle.half_store.proofs.GapLemmas.{InStep-move, hashes_at-move, move-from}
 use Rattle.half_store.proofs.IndexLemmas.{InStep-vacant}
 use Rattle.half_store.proofs.DeletionLemmas.{Gap, Gap-start, Gap-end, Gap-stay, Gap-move, Gap-ahead}
 use Rattle.half_store.proofs.table.deletion.backward_shift.Goals as goal
 use Rattle.half_store.proofs.table.deletion.backward_shift.Goals.{then-probe_distance, else-probe_distance}
 
-pub loop-hash-init : goal.loop-hash-init
-loop-hash-init g c =
+pub loop-index-init : goal.loop-index-init
+loop-index-init g c =
     let x = c.requires.emptied in
     let gap = x.gap in
     let slots : List (Option ℕ) = slots_by c.args.hashes.now (g.B.Words.words c.args.buckets.now) in
@@ -34,9 +35,10 @@ loop-hash-init g c =
           (Gap-start (length slots) slots c.args.emptied c.next-bucket.result refl gap.within (c.next-bucket.ensures.value ∙ ap (λ m. bucket_after m c.args.emptied 1) (sym long)) gap.vacant gap.another gap.others);
     }
 
--- a bucket that holds no hash is empty
-empty_from : (o : Option ℕ) → ((h : ℕ) → o ≡ Some h → ⊥) → o ≡ None
-empty_from o no_hash = elim (slot_cases o) [ inl z ↦ z | inr (h, is) ↦ absurd (no_hash h is) ]
+-- a bucket that was read as no pair is empty
+empty_from : (o : Option (ℕ × ℕ)) {slot : Option ℕ} → option_map (λ p. p.1) o ≡ slot → ((p : ℕ × ℕ) → o ≡ Some p → ⊥) → slot ≡ None
+empty_from None e no_pair = sym e
+empty_from (Some p) e no_pair = absurd (no_pair p refl)
 
 -- there are as many buckets as what they contain says
 as_many : (hashes buckets : List ℕ) {m : ℕ} → length (slots_by hashes buckets) ≡ m → length buckets ≡ m
@@ -44,9 +46,9 @@ as_many hashes buckets same = sym (length-slots_by hashes buckets) ∙ same
 
 pub returns-clause-indexed : goal.returns-clause-indexed
 returns-clause-indexed g c =
-    let i = c.loop-hash.invariant in
+    let i = c.loop-index.invariant in
     let hs = c.args.hashes.now in
-    let buckets = g.B.Words.words c.loop-hash.buckets in
+    let buckets = g.B.Words.words c.loop-index.buckets in
     let long = length-slots_by hs buckets in
     record {
       bucket_of = i.bucket_of;
@@ -58,15 +60,15 @@ returns-clause-indexed g c =
           within = subst (λ m. length i.bucket_of ≤ capacity_of m) (sym long) i.within;
           in_step = i.in_step;
           ordered =
-              Gap-end c.count-count.result (slots_by hs buckets) c.args.emptied c.loop-hash.gap c.loop-hash.bucket c.loop-hash.invariant.passed i.deletion
-              (sym c.hash_in.ensures ∙ empty_from c.hash_in.result c.in_default.not-Some);
+              Gap-end c.count-count.result (slots_by hs buckets) c.args.emptied c.loop-index.gap c.loop-index.bucket c.loop-index.invariant.passed i.deletion
+              (empty_from c.read_in.result c.read_in.ensures.hash c.in_default.not-Some);
         };
       };
     }
 
 pub returns-clause-len : goal.returns-clause-len
 returns-clause-len g c =
-    as_many c.args.hashes.now (g.B.Words.words c.loop-hash.buckets) c.loop-hash.invariant.deletion.size ∙ c.count-count.ensures
+    as_many c.args.hashes.now (g.B.Words.words c.loop-index.buckets) c.loop-index.invariant.deletion.size ∙ c.count-count.ensures
 
 -- the shifting back goes on with columns that were moved, or left alone
 module _ (m : ℕ) (slots slots' : List (Option ℕ)) (entry_of entry_of' bucket_of bucket_of' : List ℕ) (start gap gap' bucket next count hash : ℕ)
@@ -108,19 +110,19 @@ module _ (m : ℕ) (slots slots' : List (Option ℕ)) (entry_of entry_of' bucket
 
 pub move_pair-requires-clause-fits : goal.move_pair-requires-clause-fits
 move_pair-requires-clause-fits g c =
-    let l = c.loop-hash in
+    let l = c.loop-index in
     omega (arith, whole-at c.args.hashes.now (g.B.Words.words l.buckets) l.bucket l.invariant.whole, c.requires.fits, l.invariant.most)
 
-pub loop-hash-preserved : goal.loop-hash-preserved
-loop-hash-preserved g c =
-    let l = c.loop-hash in
+pub loop-index-preserved : goal.loop-index-preserved
+loop-index-preserved g c =
+    let l = c.loop-index in
     let i = l.invariant in
     let m : ℕ = c.count-count.result in
     let hs : List ℕ = c.args.hashes.now in
     let next = c.next-bucket-in-Some in
     let far = c.probe_distance.ensures ∙ ap (λ h. probe_distance m h l.bucket) c.home.ensures.value in
     let near = c.probe_distance-in-Some.ensures in
-    let is : slot_at (slots_by hs (g.B.Words.words l.buckets)) l.bucket ≡ Some c.in-Some.hash = sym c.hash_in.ensures ∙ c.in-Some.is in
+    let is : slot_at (slots_by hs (g.B.Words.words l.buckets)) l.bucket ≡ Some c.in-Some.hash = sym c.in-Some.ensures.hash in
     elim c.if-probe_distance.branch [
       | then-probe_distance w ↦
           let out = w.move_pair.ensures in
@@ -157,9 +159,9 @@ loop-hash-preserved g c =
           }
     ]
 
-pub loop-hash-smaller : goal.loop-hash-smaller
-loop-hash-smaller g c =
-    let l = c.loop-hash in
-    let is = sym c.hash_in.ensures ∙ c.in-Some.is in
+pub loop-index-smaller : goal.loop-index-smaller
+loop-index-smaller g c =
+    let l = c.loop-index in
+    let is = sym c.in-Some.ensures.hash in
     Gap-ahead c.count-count.result (slots_by c.args.hashes.now (g.B.Words.words l.buckets)) c.args.emptied l.gap l.bucket l.invariant.passed l.invariant.deletion c.next-bucket-in-Some.result
     (full_from _ c.in-Some.hash is) c.next-bucket-in-Some.ensures.value

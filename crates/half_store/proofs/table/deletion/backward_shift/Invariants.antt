@@ -8,8 +8,8 @@ use Rattle.half_store.proofs.DeletionLemmas.{Gap}
 use Rattle.half_store.proofs.table.deletion.backward_shift.Given as goal
 
 -- the buckets lead to the hashes, and the gap moves on behind the probe
-abbrev pub invariant-loop-hash : goal.invariant-loop-hash
-invariant-loop-hash g l = record {
+abbrev pub invariant-loop-index : goal.invariant-loop-index
+invariant-loop-index g l = record {
   passed : ℕ;
   bucket_of : List ℕ;
   inside : l.bucket < length (g.B.Words.words l.buckets);
@@ -22,5 +22,5 @@ invariant-loop-hash g l = record {
 }
 
 -- the buckets ahead, once round
-abbrev pub decreases-loop-hash : goal.decreases-loop-hash
-decreases-loop-hash g l = l.count - probe_distance l.count l.emptied l.bucket
+abbrev pub decreases-loop-index : goal.decreases-loop-index
+decreases-loop-index g l = l.count - probe_distance l.count l.emptied l.bucket

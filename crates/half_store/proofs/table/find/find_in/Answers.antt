@@ -1,4 +1,4 @@
-use Rattle.std.proofs.Common.{◌≡◌, ◌≢◌, ◌∙◌, true, false, refl, sym, ap, subst, arith, length}
+use Rattle.std.proofs.Common.{◌≡◌, ◌≢◌, ◌∙◌, false, refl, sym, ap, subst, arith, length}
 use Rattle.std.specs.List.{slice_get}
 use Rattle.half_store.proofs.BucketsSeen.{buckets_seen}
 use Rattle.half_store.proofs.SlotsLemmas.{full_from, full-lt}
@@ -35,13 +35,13 @@ returns-in-Ok g c = λ t shown.
     let told = c.in-Ok.ensures in
     let some : c.count.result ≢ 0 = c.if-count-eq0.false in
     record {
-      found = ap (slice_get t.hashes) c.entry_at.ensures ∙ index_seen shown hash c.in-Ok.bucket told.found.found;
-      accepted = subst (λ n. goal.F-post g c.args.matches.now n true) (sym c.entry_at.ensures) told.accepted;
+      found = ap (slice_get t.hashes) told.index ∙ index_seen shown hash c.in-Ok._bucket told.found.found;
+      accepted = told.accepted;
       refused = tt;
       vacancy = tt;
       no_buckets = ((λ e. absurd cc), λ e. absurd (some (c.count.ensures ∙ count_seen shown hash ∙ e)));
       missing_cost = tt;
-      found_cost = found_cost_seen shown hash c.in-Ok.bucket c.args.tally.now c.search.new.tally told.found told.asked told.looked_found told.compared_some told.compared_most;
+      found_cost = found_cost_seen shown hash c.in-Ok._bucket c.args.tally.now c.search.new.tally told.found told.asked told.looked_found told.compared_some told.compared_most;
       short = short_seen shown hash;
       buckets = buckets_seen shown;
     }

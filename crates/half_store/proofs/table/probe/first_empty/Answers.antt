@@ -1,5 +1,5 @@
 use Rattle.std.proofs.Common.{◌+◌, sym, ◌∙◌, arith}
-use Rattle.half_store.proofs.SlotsLemmas.{none_from, full_from_some, Probes-start, Probes-probe_distance, Probes-vacancy, Probes-next, Probes-ahead}
+use Rattle.half_store.proofs.SlotsLemmas.{none_read, some_read, Probes-start, Probes-probe_distance, Probes-vacancy, Probes-next, Probes-ahead}
 use Rattle.half_store.proofs.WorkLemmas.{looked_more-zero, looked_more-one}
 use Rattle.half_store.proofs.table.probe.first_empty.Goals as goal
 
@@ -17,7 +17,7 @@ pub returns-clause-vacancy : goal.returns-clause-vacancy
 returns-clause-vacancy g c =
     let slots = g.P.Buckets.slots c.args.buckets.now in
     let same = c.count-count.ensures in
-    Probes-vacancy slots c.args.hash c.loop-bucket.bucket c.loop-bucket.invariant.passed c.loop-bucket.invariant.probe c.requires.vacant (sym c.look.ensures.stored ∙ none_from c.look.result (sym c.loop-bucket-test.ensures))
+    Probes-vacancy slots c.args.hash c.loop-bucket.bucket c.loop-bucket.invariant.passed c.loop-bucket.invariant.probe c.requires.vacant (none_read c.look.result c.look.ensures.hash (sym c.loop-bucket-test.ensures))
 
 pub returns-clause-cost : goal.returns-clause-cost
 returns-clause-cost g c =
@@ -32,7 +32,7 @@ loop-bucket-preserved g c =
     let same = c.count-count.ensures in
     record {
       passed = c.loop-bucket.invariant.passed + 1;
-      probe = Probes-next slots c.args.hash c.loop-bucket.bucket c.loop-bucket.invariant.passed c.loop-bucket.invariant.probe c.requires.vacant c.next-bucket.result (λ z. full_from_some c.look.result (sym c.loop-bucket-test.ensures) (c.look.ensures.stored ∙ z)) (omega arith) (rw (← same) c.next-bucket.ensures.value);
+      probe = Probes-next slots c.args.hash c.loop-bucket.bucket c.loop-bucket.invariant.passed c.loop-bucket.invariant.probe c.requires.vacant c.next-bucket.result (some_read c.look.result c.look.ensures.hash (sym c.loop-bucket-test.ensures)) (omega arith) (rw (← same) c.next-bucket.ensures.value);
       counted = c.look.ensures.counted ∙ looked_more-one c.args.tally.now c.loop-bucket.tally c.loop-bucket.invariant.passed c.loop-bucket.invariant.counted;
     }
 
@@ -41,4 +41,4 @@ loop-bucket-smaller g c =
     let slots = g.P.Buckets.slots c.args.buckets.now in
     let same = c.count-count.ensures in
     Probes-ahead slots c.args.hash c.loop-bucket.bucket c.loop-bucket.invariant.passed c.loop-bucket.invariant.probe c.requires.vacant c.next-bucket.result
-    (λ z. full_from_some c.look.result (sym c.loop-bucket-test.ensures) (c.look.ensures.stored ∙ z)) (omega arith) (rw (← same) c.next-bucket.ensures.value)
+    (some_read c.look.result c.look.ensures.hash (sym c.loop-bucket-test.ensures)) (omega arith) (rw (← same) c.next-bucket.ensures.value)
