@@ -21,8 +21,10 @@ pub mod Rekeyed
 pub mod Removals
 pub mod Replacements
 pub mod Retained
+pub mod RunHashes
 pub mod RunLaws
 pub mod RunLemmas
+pub mod RunParts
 pub mod SamePairs
 pub mod SearchesCosts
 pub mod SwapOut

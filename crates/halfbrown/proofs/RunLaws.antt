@@ -17,14 +17,14 @@ use Rattle.halfbrown.specs.Run.{Runs}
 use Rattle.halfbrown.specs.RunLaws.{or_else, is_put, shrinks, goes_back, form_changed, IsAlike, has_switched, last_change}
 
 -- whether the form is the vector after a command that does not go back
-abbrev vec_after : Bool → Bool → Bool → Bool
+abbrev pub vec_after : Bool → Bool → Bool → Bool
 vec_after is_vec full puts = if puts then is_vec && not full else is_vec
 
 -- what a command makes of the form, by whether it switched or went back
 abbrev changed : Bool → Bool → Option Bool
 changed switched back = if switched then Some false else if back then Some true else None
 
-not_back : (v full puts back : Bool) → back ≡ false → vec_after v full puts ≡ unwrap_or (changed (full && puts) back) v
+pub not_back : (v full puts back : Bool) → back ≡ false → vec_after v full puts ≡ unwrap_or (changed (full && puts) back) v
 not_back v full puts true back = absurd (true≢false back)
 not_back false true true false back = refl
 not_back true true true false back = refl
@@ -114,13 +114,13 @@ none≢some why same = true≢false (ap is_some (sym same))
 
 module _ {K V S : Type 0} (limit : ℕ) (eq : K → K → Bool) where
   -- a step is granted or refused
-  abbrev IsGranted : State K V S → Command K V → Reply K V → State K V S → Type 0
+  abbrev pub IsGranted : State K V S → Command K V → Reply K V → State K V S → Type 0
   IsGranted old command reply new = (reply ≡ granted_reply limit eq old.is_vec old.pairs command) × Leaves limit eq old command new
 
-  abbrev IsRefused : State K V S → Command K V → Reply K V → State K V S → Type 0
+  abbrev pub IsRefused : State K V S → Command K V → Reply K V → State K V S → Type 0
   IsRefused old command reply new = (why : Refusal) × (reply ≡ Refused command why) × (new ≡ old) × IsRefusal (command_needs limit eq old command) why
 
-  one_of_both : (old new : State K V S) (command : Command K V) (reply : Reply K V) → Steps limit eq old command reply new
+  pub one_of_both : (old new : State K V S) (command : Command K V) (reply : Reply K V) → Steps limit eq old command reply new
       → IsGranted old command reply new ⊎ IsRefused old command reply new
   one_of_both old new command (Refused back why) step = inr (why, (λ i. Refused (step.0 i) why), step.2, step.1)
   one_of_both old new command (Was before) step = inl step
@@ -177,7 +177,7 @@ module _ {K V S : Type 0} (limit : ℕ) (eq : K → K → Bool) where
   form_refused old IsVec why refusal = form_same old
   form_refused old Len why refusal = form_same old
 
-  form_of_step : (old new : State K V S) (command : Command K V) (reply : Reply K V) → Steps limit eq old command reply new → new.is_vec ≡ form_after old command reply
+  pub form_of_step : (old new : State K V S) (command : Command K V) (reply : Reply K V) → Steps limit eq old command reply new → new.is_vec ≡ form_after old command reply
   form_of_step old new command reply step = form_of_both (one_of_both old new command reply step) where
     form_of_both : IsGranted old command reply new ⊎ IsRefused old command reply new → new.is_vec ≡ form_after old command reply
     form_of_both (inl granted) = form_left old new command granted.1 ∙ ap (form_after old command) (sym granted.0)
@@ -298,7 +298,7 @@ module _ {K V S : Type 0} (limit : ℕ) (eq : K → K → Bool) (hash : S → K 
       (rest.0, omega (arith, ap (λ c. c.asked) run.5, step_asked old run.0 command reply run.2 form next, rest.1))
 
   -- a command that is no `Shrink` does not go back
-  no_shrink : (old : State K V S) (command : Command K V) (commands : List (Command K V)) → shrinks (command ∷ commands) ≡ false → (goes_back limit old command ≡ false) × (shrinks commands ≡ false)
+  pub no_shrink : (old : State K V S) (command : Command K V) (commands : List (Command K V)) → shrinks (command ∷ commands) ≡ false → (goes_back limit old command ≡ false) × (shrinks commands ≡ false)
   no_shrink old (Insert k v) commands none = (refl, none)
   no_shrink old (InsertNew k v) commands none = (refl, none)
   no_shrink old (EntryOrInsert k v) commands none = (refl, none)

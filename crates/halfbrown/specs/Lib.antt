@@ -24,7 +24,9 @@ pub mod Replacement
 pub mod Preparation
 pub mod Run
 pub mod RunCost
+pub mod RunHashes
 pub mod RunLaws
+pub mod RunParts
 pub mod State
 pub mod Step
 pub mod Updates

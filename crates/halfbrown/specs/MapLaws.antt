@@ -81,7 +81,7 @@ module _ {K : Type 0} (V : Type 0) {S : Type 0} (limit : ℕ) (eq : K → K → 
       → InsertCosts limit eq hash a k granted a_before a_after → InsertCosts limit eq hash b k granted b_before b_after
       → (work : Work) × GrewExactlyBy work a_before a_after × GrewExactlyBy work b_before b_after
 
-  -- in two maps that hold the same pairs in any order, a command costs the same, unless it finds its key in a vector
+  -- in two maps that hold the same pairs in any order, a command's cost has the same bounds, unless it finds its key in a vector
   abbrev pub CommandCostLaw : Type 0
   CommandCostLaw = (a b : State K V S) (command : Command K V) (refused : Bool) → HoldSamePairs a b → finds_in_vector limit eq a command ≡ false
       → command_cost limit eq hash a command refused ≡ command_cost limit eq hash b command refused

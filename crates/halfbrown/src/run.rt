@@ -1,5 +1,5 @@
 //! Whole runs: a list of commands, done one after another, with a reply to each.
-ghost use Rattle.std.specs.Prelude.{◌≡◌, true, false, [], IsOk, IfOk, IfErr, OnErr};
+ghost use Rattle.std.specs.Prelude.{◌≡◌, ◌+◌, ◌*◌, ◌≤◌, true, false, [], length, IsOk, IfOk, IfErr, OnErr};
 ghost use Rattle.halfbrown.specs.Costs.{Cost, GrewBy, key_hash};
 ghost use Rattle.halfbrown.specs.Run.{Runs};
 ghost use Rattle.halfbrown.specs.RunCost.{command_cost};
@@ -108,10 +108,13 @@ pub fn run_counted<K: Eq + Hash + Drop, V: Copy, S: BuildHasher, L: Limit>(
         commands.items replies.items map.new cost × GrewBy cost tally.old tally.new) }
     ensures empty { commands.items ≡ [] → IsOk result }
 
-    // Without `Shrink`: once a table, always a table; and a run that ends with a vector has hashed nothing.
+    // Without `Shrink`: once a table, always a table; a run that ends with a vector has hashed nothing; and no run hashes more than
+    // two keys for each command, and once as many as the limit.
     ensures stays_a_table { shrinks commands.items ≡ false → map.old.is_vec ≡ false → map.new.is_vec ≡ false }
     ensures nothing_hashed { shrinks commands.items ≡ false → map.new.is_vec ≡ true
         → tally.new.asked ≡ tally.old.asked }
+    ensures hashes { shrinks commands.items ≡ false
+        → tally.new.asked ≤ tally.old.asked + (2 * length commands.items + L.LIMIT) }
 
     // Where memory for the replies is refused, nothing was done.
     ensures returned { IfErr result (λ back. back.items ≡ commands.items) }

@@ -9,8 +9,8 @@ use std::hash::{BuildHasher, Hash};
 
 /// In two maps of the same form, capacity and builder that hold the same pairs in any order, a search for a key that is
 /// not held costs the same, exactly, whatever was inserted and removed before, and so does an insertion of such a key. A
-/// command costs the same in both, unless it finds its key in a vector: the order of the pairs then decides how many keys
-/// are compared, and nothing else.
+/// command's cost has the same bounds in both, unless it finds its key in a vector: the order of the pairs then decides how
+/// many keys are compared, and nothing else.
 pub fn cost_without_history<K: Eq + Hash, V, S: BuildHasher, L: Limit>()
     ensures search { HistoryLaw V K.eq (key_hash S.BuildHasher S.Hasher.Hasher K.hash_input) }
     ensures insertion { InsertionHistoryLaw V L.LIMIT K.eq (key_hash S.BuildHasher S.Hasher.Hasher K.hash_input) }

@@ -1,5 +1,7 @@
 //! What holds of every run, in the words of `run`'s contract. These functions do nothing: the laws are their contracts.
 ghost use Rattle.halfbrown.specs.Costs.{key_hash};
+ghost use Rattle.halfbrown.specs.RunHashes.{HashesLaw, OneSwitchLaw, AmortizedHashesLaw};
+ghost use Rattle.halfbrown.specs.RunParts.{SplitLaw, JoinLaw};
 ghost use Rattle.halfbrown.specs.RunLaws.{FormLaw, UnswitchedLaw, SwitchLaw, TableLaw, NothingHashedLaw, RepliesLaw};
 
 use crate::Limit;
@@ -25,4 +27,19 @@ pub fn form_without_shrink<K: Eq + Hash, V, S: BuildHasher, L: Limit>()
 /// history decide nothing.
 pub fn replies_of_a_run<K: Eq + Hash, V, S: BuildHasher, L: Limit>()
     ensures { RepliesLaw V L.LIMIT K.eq (key_hash S.BuildHasher S.Hasher.Hasher K.hash_input) }
+{}
+
+/// A run of two lists of commands, one after the other, is a run of the first and then one of the second, and the other way
+/// round. The replies are those of both, and the costs add up.
+pub fn parts_of_a_run<K: Eq + Hash, V, S: BuildHasher, L: Limit>()
+    ensures split { SplitLaw V L.LIMIT K.eq (key_hash S.BuildHasher S.Hasher.Hasher K.hash_input) }
+    ensures join { JoinLaw V L.LIMIT K.eq (key_hash S.BuildHasher S.Hasher.Hasher K.hash_input) }
+{}
+
+/// A run hashes at most two keys for each command, and as many as the limit at each switch. Without `Shrink` there is one
+/// switch at most: however many commands come, it is paid for once.
+pub fn hashes_of_a_run<K: Eq + Hash, V, S: BuildHasher, L: Limit>()
+    ensures hashes { HashesLaw V L.LIMIT K.eq (key_hash S.BuildHasher S.Hasher.Hasher K.hash_input) }
+    ensures one_switch { OneSwitchLaw V L.LIMIT K.eq (key_hash S.BuildHasher S.Hasher.Hasher K.hash_input) }
+    ensures amortized { AmortizedHashesLaw V L.LIMIT K.eq (key_hash S.BuildHasher S.Hasher.Hasher K.hash_input) }
 {}

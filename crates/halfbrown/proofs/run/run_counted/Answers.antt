@@ -3,6 +3,7 @@ use Rattle.std.proofs.lemmas.List.{nil_from_length}
 use Rattle.std.specs.Vec.Iter.{into_iter_items}
 use Rattle.halfbrown.specs.Costs.{key_hash}
 use Rattle.halfbrown.proofs.RunLemmas.{RunSoFar, no_step, step_more, run_ended}
+use Rattle.halfbrown.proofs.RunHashes.{amortized_hashes_law}
 use Rattle.halfbrown.proofs.RunLaws.{table_law, nothing_hashed_law}
 use Rattle.halfbrown.proofs.run.run_counted.Goals as goal
 
@@ -47,3 +48,8 @@ pub returns-clause-nothing_hashed : goal.returns-clause-nothing_hashed
 returns-clause-nothing_hashed g c none form =
     let run = returns-clause-run g c in
     omega (arith, run.2.asked, nothing_hashed_law g.L.Limit.LIMIT g.K.PartialEq.eq (key_hash g.S.BuildHasher g.S.Hasher.Hasher g.K.Hash.hash_input) c.args.map.now c.args.commands.items c.loop-command.replies.items c.loop-command.map run.0 run.1 none form)
+
+pub returns-clause-hashes : goal.returns-clause-hashes
+returns-clause-hashes g c none =
+    let run = returns-clause-run g c in
+    omega (arith, run.2.asked, amortized_hashes_law g.L.Limit.LIMIT g.K.PartialEq.eq (key_hash g.S.BuildHasher g.S.Hasher.Hasher g.K.Hash.hash_input) c.args.map.now c.args.commands.items c.loop-command.replies.items c.loop-command.map run.0 run.1 none)
