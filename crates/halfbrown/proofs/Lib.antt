@@ -24,6 +24,7 @@ pub mod Retained
 pub mod RunHashes
 pub mod RunLaws
 pub mod RunLemmas
+pub mod RunMemory
 pub mod RunParts
 pub mod SamePairs
 pub mod SearchesCosts

@@ -26,6 +26,7 @@ pub mod Run
 pub mod RunCost
 pub mod RunHashes
 pub mod RunLaws
+pub mod RunMemory
 pub mod RunParts
 pub mod State
 pub mod Step

@@ -1,6 +1,7 @@
 //! What holds of every run, in the words of `run`'s contract. These functions do nothing: the laws are their contracts.
 ghost use Rattle.halfbrown.specs.Costs.{key_hash};
 ghost use Rattle.halfbrown.specs.RunHashes.{HashesLaw, OneSwitchLaw, AmortizedHashesLaw};
+ghost use Rattle.halfbrown.specs.RunMemory.{CapacityLaw};
 ghost use Rattle.halfbrown.specs.RunParts.{SplitLaw, JoinLaw};
 ghost use Rattle.halfbrown.specs.RunLaws.{FormLaw, UnswitchedLaw, SwitchLaw, TableLaw, NothingHashedLaw, RepliesLaw};
 
@@ -42,4 +43,10 @@ pub fn hashes_of_a_run<K: Eq + Hash, V, S: BuildHasher, L: Limit>()
     ensures hashes { HashesLaw V L.LIMIT K.eq (key_hash S.BuildHasher S.Hasher.Hasher K.hash_input) }
     ensures one_switch { OneSwitchLaw V L.LIMIT K.eq (key_hash S.BuildHasher S.Hasher.Hasher K.hash_input) }
     ensures amortized { AmortizedHashesLaw V L.LIMIT K.eq (key_hash S.BuildHasher S.Hasher.Hasher K.hash_input) }
+{}
+
+/// A run without `Reserve` leaves capacity for at most eight pairs more than twice the most that the map held at once, or
+/// what it had at first. What was inserted and removed on the way leaves no more.
+pub fn capacity_of_a_run<K: Eq + Hash, V, S: BuildHasher, L: Limit>()
+    ensures { CapacityLaw V L.LIMIT K.eq (key_hash S.BuildHasher S.Hasher.Hasher K.hash_input) }
 {}
