@@ -1,5 +1,5 @@
 -- Pairs whose values are written.
-use Rattle.std.proofs.Common.{◌≡◌, ℕ, suc, ◌<◌, ◌^◌, Bool, List, [], ◌∷◌, length, zip, refl, ap, subst, arith}
+use Rattle.std.proofs.Common.{◌≡◌, ℕ, ◌<◌, ◌^◌, Bool, List, [], ◌∷◌, length, zip, refl, ap, subst, arith}
 use Rattle.std.specs.Map.{keys_of, values_of}
 use Rattle.half_store.proofs.Stores.{length-set_values}
 use Rattle.half_store.specs.Pairs.{set_values}

@@ -25,6 +25,7 @@ pub mod RunHashes
 pub mod RunLaws
 pub mod RunLemmas
 pub mod RunMemory
+pub mod RunMoves
 pub mod RunParts
 pub mod SamePairs
 pub mod SearchesCosts

@@ -1,5 +1,5 @@
 -- How much capacity a run leaves, by induction over the commands.
-use Rattle.std.proofs.Common.{◌≡◌, ◌∙◌, ℕ, zero, suc, ◌+◌, ◌*◌, ◌<◌, ◌≤◌, max, nat_lt, ◌⊎◌, inl, inr, Bool, true, false, true≢false, ◌&&◌, List, [], ◌∷◌, length, Option, None, Some, ap, sym, refl, arith, if◌then◌else◌}
+use Rattle.std.proofs.Common.{◌≡◌, ℕ, zero, suc, ◌+◌, ◌*◌, ◌≤◌, max, nat_lt, ◌⊎◌, inl, inr, Bool, true, false, true≢false, ◌&&◌, List, [], ◌∷◌, length, Option, None, Some, ap, refl, arith, if◌then◌else◌}
 use Rattle.std.specs.Prelude.{IfSome, MatchBool}
 use Rattle.std.proofs.lemmas.Bool.{cases_lt}
 use Rattle.std.proofs.lemmas.Bool.Decides.{nat_tests}
@@ -38,10 +38,10 @@ unfolding buckets_for
 capacity_for-most zero = omega arith
 capacity_for-most (suc n) = more_most n (buckets_for n) (buckets_for-least n).count (capacity_for-most n)
 
-not_less : (a b : ℕ) → nat_lt a b ≡ false → b ≤ a
+pub not_less : (a b : ℕ) → nat_lt a b ≡ false → b ≤ a
 not_less a b e = grind (arith, nat_tests)
 
-first_of_both : (a b : Bool) → (a && b) ≡ true → a ≡ true
+pub first_of_both : (a b : Bool) → (a && b) ≡ true → a ≡ true
 first_of_both true b both = refl
 first_of_both false b both = both
 
@@ -122,7 +122,7 @@ module _ {K V S : Type 0} (limit : ℕ) (eq : K → K → Bool) where
     most (inr refused) = same_most old new (ap (λ m. m.capacity) refused.2)
 
 -- no command of both parts is `Reserve`
-no_reserve : {K V : Type 0} (command : Command K V) (commands : List (Command K V)) → reserves (command ∷ commands) ≡ false → (reserves (command ∷ []) ≡ false) × (reserves commands ≡ false)
+pub no_reserve : {K V : Type 0} (command : Command K V) (commands : List (Command K V)) → reserves (command ∷ commands) ≡ false → (reserves (command ∷ []) ≡ false) × (reserves commands ≡ false)
 no_reserve (Insert k v) commands none = (refl, none)
 no_reserve (InsertNew k v) commands none = (refl, none)
 no_reserve (EntryOrInsert k v) commands none = (refl, none)

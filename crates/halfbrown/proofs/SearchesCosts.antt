@@ -14,7 +14,7 @@ use Rattle.half_store.specs.Pairs.{index_of}
 use Rattle.half_store.specs.Work.{Work, first_match_cost}
 use Rattle.halfbrown.specs.Costs.{Range, between, candidates_by, comparisons_in_order, exactly, probe_length_by, search_asked, SearchCosts, SearchesCost}
 use Rattle.halfbrown.specs.Equality.{same_pairs, holds_pair, keys_while_same, searched_keys}
-use Rattle.halfbrown.specs.EqualityLaws.{ComparisonCosts, ComparisonLaw}
+use Rattle.halfbrown.specs.EqualityLaws.{ComparisonLaw}
 use Rattle.halfbrown.specs.Pairs.{holds}
 use Rattle.halfbrown.specs.State.{State}
 use Rattle.halfbrown.proofs.Indices.{first_of_index, first_within}

@@ -27,6 +27,7 @@ pub mod RunCost
 pub mod RunHashes
 pub mod RunLaws
 pub mod RunMemory
+pub mod RunMoves
 pub mod RunParts
 pub mod State
 pub mod Step

@@ -2,6 +2,7 @@
 ghost use Rattle.halfbrown.specs.Costs.{key_hash};
 ghost use Rattle.halfbrown.specs.RunHashes.{HashesLaw, OneSwitchLaw, AmortizedHashesLaw};
 ghost use Rattle.halfbrown.specs.RunMemory.{CapacityLaw};
+ghost use Rattle.halfbrown.specs.RunMoves.{MovesLaw};
 ghost use Rattle.halfbrown.specs.RunParts.{SplitLaw, JoinLaw};
 ghost use Rattle.halfbrown.specs.RunLaws.{FormLaw, UnswitchedLaw, SwitchLaw, TableLaw, NothingHashedLaw, RepliesLaw};
 
@@ -49,4 +50,10 @@ pub fn hashes_of_a_run<K: Eq + Hash, V, S: BuildHasher, L: Limit>()
 /// what it had at first. What was inserted and removed on the way leaves no more.
 pub fn capacity_of_a_run<K: Eq + Hash, V, S: BuildHasher, L: Limit>()
     ensures { CapacityLaw V L.LIMIT K.eq (key_hash S.BuildHasher S.Hasher.Hasher K.hash_input) }
+{}
+
+/// A run moves all pairs wherever the capacity changes. Without `Shrink` and `Reserve` that is at most two pairs for each
+/// command, and once those that the map held at first and twice the limit: an insertion is cheap on the whole.
+pub fn moves_of_a_run<K: Eq + Hash, V, S: BuildHasher, L: Limit>()
+    ensures { MovesLaw V L.LIMIT K.eq (key_hash S.BuildHasher S.Hasher.Hasher K.hash_input) }
 {}
