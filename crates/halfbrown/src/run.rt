@@ -1,5 +1,5 @@
 //! Whole runs: a list of commands, done one after another, with a reply to each.
-ghost use Rattle.std.specs.Prelude.{◌≡◌, ◌+◌, ◌*◌, ◌≤◌, true, false, [], length, IsOk, IfOk, IfErr, OnErr};
+ghost use Rattle.std.specs.Prelude.{◌≡◌, ◌+◌, ◌*◌, ◌≤◌, true, false, [], length, vec_capacity, IsOk, IfOk, IfErr, OnErr};
 ghost use Rattle.halfbrown.specs.Costs.{Cost, GrewBy, key_hash};
 ghost use Rattle.halfbrown.specs.Run.{Runs};
 ghost use Rattle.halfbrown.specs.RunCost.{command_cost};
@@ -84,6 +84,7 @@ pub fn run<K: Eq + Hash + Drop, V: Copy, S: BuildHasher, L: Limit>(
         commands.items replies.items map.new cost) }
     ensures stays_a_table { shrinks commands.items ≡ false → map.old.is_vec ≡ false → map.new.is_vec ≡ false }
     ensures empty { commands.items ≡ [] → IsOk result }
+    ensures memory { IfOk result (λ replies. vec_capacity replies ≡ length commands.items) }
     ensures returned { IfErr result (λ back. back.items ≡ commands.items) }
     ensures err { OnErr result (map.new ≡ map.old) }
 {
@@ -107,6 +108,7 @@ pub fn run_counted<K: Eq + Hash + Drop, V: Copy, S: BuildHasher, L: Limit>(
         × Runs L.LIMIT K.eq (key_hash S.BuildHasher S.Hasher.Hasher K.hash_input) map.old
         commands.items replies.items map.new cost × GrewBy cost tally.old tally.new) }
     ensures empty { commands.items ≡ [] → IsOk result }
+    ensures memory { IfOk result (λ replies. vec_capacity replies ≡ length commands.items) }
 
     // Without `Shrink`: once a table, always a table; a run that ends with a vector has hashed nothing; and no run hashes more than
     // two keys for each command, and once as many as the limit.

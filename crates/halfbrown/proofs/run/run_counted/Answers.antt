@@ -18,6 +18,7 @@ loop-command-init g c =
           (subst (λ cs. So map commands map cs [] tally tally) (sym c.into_iter-left.ensures.rest)
           (no_step g.L.Limit.LIMIT g.K.PartialEq.eq (key_hash g.S.BuildHasher g.S.Hasher.Hasher g.K.Hash.hash_input) map commands tally));
       capacity = omega (arith, c.in-Ok.ensures.len, c.in-Ok.ensures.capacity, c.len.ensures, c.into_iter-left.ensures.len);
+      exact = omega (arith, c.in-Ok.ensures.exact, c.len.ensures, c.args.commands.ok.0);
     }
 
 pub loop-command-preserved : goal.loop-command-preserved
@@ -32,6 +33,7 @@ loop-command-preserved g c =
       so_far = subst (λ rs. So old commands c.step.new.map left rs before c.step.new.tally) (sym c.push_reserved.ensures.items)
           (step_more g.L.Limit.LIMIT g.K.PartialEq.eq (key_hash g.S.BuildHasher g.S.Hasher.Hasher g.K.Hash.hash_input) old commands c.loop-command.map c.step.new.map c.in-Some.command left c.loop-command.replies.items c.step.result before c.loop-command.tally c.step.new.tally so_far c.step.ensures.step c.len-in-Some.ensures.state c.step.ensures.cost);
       capacity = omega (arith, c.loop-command.invariant.capacity, c.push_reserved.ensures.len, c.push_reserved.ensures.capacity, c.in-Some.ensures.len);
+      exact = omega (arith, c.loop-command.invariant.exact, c.push_reserved.ensures.capacity);
     }
 
 pub returns-clause-run : goal.returns-clause-run

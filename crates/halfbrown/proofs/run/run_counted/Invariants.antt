@@ -1,5 +1,5 @@
--- The run so far, and capacity for a reply to each command that is left.
-use Rattle.std.proofs.Common.{◌+◌, ◌≤◌, vec_len, vec_capacity}
+-- The run so far, and capacity for a reply to each command that is left, and for no more.
+use Rattle.std.proofs.Common.{◌≡◌, ◌+◌, ◌≤◌, length, vec_len, vec_capacity}
 use Rattle.std.specs.Vec.Iter.{into_iter_items, into_iter_len}
 use Rattle.halfbrown.specs.Costs.{key_hash}
 use Rattle.halfbrown.proofs.RunLemmas.{RunSoFar}
@@ -9,6 +9,7 @@ abbrev pub invariant-loop-command : goal.invariant-loop-command
 invariant-loop-command g l = record {
   so_far : RunSoFar g.L.Limit.LIMIT g.K.PartialEq.eq (key_hash g.S.BuildHasher g.S.Hasher.Hasher g.K.Hash.hash_input) l.fn.map l.fn.commands.items l.map (into_iter_items l.left) l.replies.items l.fn.tally l.tally;
   capacity : vec_len l.replies + into_iter_len l.left ≤ vec_capacity l.replies;
+  exact : vec_capacity l.replies ≡ length l.fn.commands.items;
 }
 
 abbrev pub decreases-loop-command : goal.decreases-loop-command
