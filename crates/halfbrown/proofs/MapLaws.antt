@@ -15,10 +15,10 @@ use Rattle.half_store.proofs.CapacityLemmas.{four-le_count, buckets_for-least, b
 use Rattle.half_store.proofs.TableLaws.{history_law as reach_history, crowding_law}
 use Rattle.halfbrown.specs.declared.run.Command.{Command}
 use Rattle.halfbrown.specs.declared.run.Command.TheVariants.{Insert, InsertNew, EntryOrInsert, RawOrInsert, Get, Remove, Clear, Reserve, Shrink, IsVec, Len}
-use Rattle.halfbrown.specs.Costs.{Range, Cost, GrewBy, GrewWithin, exactly, between, add_ranges, no_cost, search_asked, candidates, probe_length, comparisons_in_order, search_compares, search_looks, search_cost_of, insert_cost, raw_insert_cost, new_key_cost, insertion_probe_looks, is_switch_refused, capacity_switched, capacity_grown, addition_grows, SearchCosts, InsertCosts}
+use Rattle.halfbrown.specs.Costs.{Range, Cost, GrewBy, GrewWithin, exactly, between, add_ranges, no_cost, search_asked, candidates_by, probe_length, probe_length_by, comparisons_in_order_by, search_compares, search_compares_by, search_looks, search_looks_by, search_cost_by, search_cost_of, insert_cost, raw_insert_cost, new_key_cost, insertion_probe_looks, is_switch_refused, capacity_switched, capacity_grown, addition_grows, SearchCostsAsking, InsertCosts}
 use Rattle.halfbrown.specs.MapLaws.{HoldSamePairs, GrewExactlyBy, HistoryLaw, InsertionHistoryLaw, CrowdedSearchLaw, CrowdedInsertionLaw, CrowdedProbeLaw, CrowdedGrowthLaw, CrowdedUncheckedLaw, CommandCostLaw, CommandHashesLaw, CommandBucketsLaw, finds_in_vector}
 use Rattle.halfbrown.specs.Growth.{is_full, is_vec_after}
-use Rattle.halfbrown.specs.Pairs.{holds}
+use Rattle.halfbrown.specs.Pairs.{holds, holds_by}
 use Rattle.halfbrown.specs.RunCost.{command_cost}
 use Rattle.halfbrown.specs.State.{State, state, contents_of, IsState, IsTableCapacity}
 use Rattle.halfbrown.proofs.Full.{full_len}
@@ -95,12 +95,17 @@ table_of : (is_vec full : Bool) → full ≡ false → (is_vec && not full) ≡ 
 table_of false full part stays = refl
 table_of true full part stays = absurd (true≢false (sym (ap not part) ∙ stays))
 
+-- a key that is not held is not found in a vector
+never_found : (in_vector held : Bool) → held ≡ false → (in_vector && held) ≡ false
+never_found true held unheld = unheld
+never_found false held unheld = refl
+
 module _ {K V S : Type 0} (hash : S → K → ℕ) where
   pub crowded_probe_law : CrowdedProbeLaw V hash
-  crowded_probe_law builder capacity pairs k passed is fits l =
+  crowded_probe_law builder capacity pairs sought passed is fits l =
       let hashes : List ℕ = map (hash builder) (keys_of pairs) in
       let m : ℕ = buckets_of capacity in
-      let h : ℕ = hash builder k in
+      let h : ℕ = sought in
       let some : 0 < m = elim (cases_lt 0 m) [
         | inl s ↦ s
         | inr none ↦ absurd (omega (arith, reach-none hashes m h (omega arith)))
@@ -110,12 +115,12 @@ module _ {K V S : Type 0} (hash : S → K → ℕ) where
 
   module _ (limit : ℕ) (eq : K → K → Bool) where
     pub crowded_search_law : CrowdedSearchLaw V limit eq hash
-    crowded_search_law m k before after passed state form costs l =
-        let probe : ℕ = probe_length (hash m.builder) false m.capacity m.pairs k in
-        let grew : GrewWithin (search_looks eq (hash m.builder) false m.capacity m.pairs k) before.looked after.looked =
-        subst (λ b. GrewWithin (search_looks eq (hash m.builder) b m.capacity m.pairs k) before.looked after.looked) form costs.grew.looked in
-        let most = looks_most (holds eq m.pairs k) probe in
-        crowded_probe_law m.builder m.capacity m.pairs k passed (state.table_capacity form) state.fits (omega (arith, grew.most, most))
+    crowded_search_law m test sought asked before after passed state form costs l =
+        let probe : ℕ = probe_length_by (hash m.builder) false m.capacity m.pairs sought in
+        let grew : GrewWithin (search_looks_by test (hash m.builder) sought false m.capacity m.pairs) before.looked after.looked =
+        subst (λ b. GrewWithin (search_looks_by test (hash m.builder) sought b m.capacity m.pairs) before.looked after.looked) form costs.grew.looked in
+        let most = looks_most (holds_by test m.pairs) probe in
+        crowded_probe_law m.builder m.capacity m.pairs sought passed (state.table_capacity form) state.fits (omega (arith, grew.most, most))
 
     module _ (m : State K V S) (s : IsState eq limit m) (stays : is_vec_after limit m ≡ false) where
       -- once the form has changed, the capacity is that of a table that the pairs fit
@@ -151,8 +156,8 @@ module _ {K V S : Type 0} (hash : S → K → ℕ) where
           read = growing_reads (is_switch_refused limit m granted) granted (holds eq m.pairs k) (addition_grows limit m) first second before.looked after.looked grows
               (granted_or_refused (is_full limit m) granted)
               (subst (λ b. GrewWithin (if is_switch_refused limit m granted then exactly 0 else add_ranges (search_looks eq h b (capacity_switched limit m) m.pairs k) (exactly (if granted && not (holds eq m.pairs k) && addition_grows limit m then probe_length h b (capacity_grown limit m) m.pairs k else 0))) before.looked after.looked) stays costs.grew.looked);
-          first_crowded = λ passed l. crowded_probe_law m.builder (capacity_switched limit m) m.pairs k passed is.0 is.1 l;
-          second_crowded = λ passed l. crowded_probe_law m.builder (capacity_grown limit m) m.pairs k passed more.0 more.1 l;
+          first_crowded = λ passed l. crowded_probe_law m.builder (capacity_switched limit m) m.pairs (hash m.builder k) passed is.0 is.1 l;
+          second_crowded = λ passed l. crowded_probe_law m.builder (capacity_grown limit m) m.pairs (hash m.builder k) passed more.0 more.1 l;
         }
 
     pub crowded_unchecked_law : CrowdedUncheckedLaw V limit eq hash
@@ -163,7 +168,7 @@ module _ {K V S : Type 0} (hash : S → K → ℕ) where
           | inl vector ↦ absurd (omega (arith, most, ap probe vector))
           | inr stays ↦
               let more = grown m s stays in
-              crowded_probe_law m.builder (capacity_grown limit m) m.pairs k passed more.0 more.1 (omega (arith, most, ap probe stays))
+              crowded_probe_law m.builder (capacity_grown limit m) m.pairs (hash m.builder k) passed more.0 more.1 (omega (arith, most, ap probe stays))
         ]
 
     pub crowded_insertion_law : CrowdedInsertionLaw V limit eq hash
@@ -176,60 +181,82 @@ module _ {K V S : Type 0} (hash : S → K → ℕ) where
           | inr stays ↦
               let is = switched m s stays in
               let most = looks_most (holds eq m.pairs k) (probe_length (hash m.builder) false (capacity_switched limit m) m.pairs k) in
-              crowded_probe_law m.builder (capacity_switched limit m) m.pairs k passed is.0 is.1 (omega (arith, read, most, ap (λ b. (looks b).most) stays))
+              crowded_probe_law m.builder (capacity_switched limit m) m.pairs (hash m.builder k) passed is.0 is.1 (omega (arith, read, most, ap (λ b. (looks b).most) stays))
         ]
 
   keys-permutation : (xs ys : List (K × V)) → IsPermutation xs ys → IsPermutation (keys_of xs) (keys_of ys)
   keys-permutation xs ys p = IsPermutation-map (λ (e : K × V). e.0) xs ys p
 
+  -- where no key passes the test, a search in a vector compares each key
+  comparisons-unheld : (test : K → Bool) (pairs : List (K × V)) → holds_by test pairs ≡ false → comparisons_in_order_by test pairs ≡ length pairs
+  comparisons-unheld test pairs unheld = let absent = absent_of_unheld test pairs unheld in ap (λ i. first_match_cost i (length pairs)) absent.index
+
+  -- a search that finds none compares exactly so many keys, and reads exactly so many buckets
+  module _ (test : K → Bool) (h : K → ℕ) (sought : ℕ) (pairs : List (K × V)) (unheld : holds_by test pairs ≡ false) where
+    compares-exact : (is_vec : Bool) → IsExact (search_compares_by test h sought is_vec pairs)
+    compares-exact true = refl
+    compares-exact false = subst (λ b. IsExact (if b then between 1 (candidates_by h pairs sought) else exactly (candidates_by h pairs sought))) (sym unheld) refl
+
+    looks-exact : (is_vec : Bool) (capacity : ℕ) → IsExact (search_looks_by test h sought is_vec capacity pairs)
+    looks-exact true capacity = refl
+    looks-exact false capacity =
+        let probe : ℕ = probe_length_by h false capacity pairs sought in
+        subst (λ b. IsExact (if b then between 1 (probe - 1) else exactly probe)) (sym unheld) refl
+
+  -- what a search costs by this test, under this hash, that hashed so often
+  abbrev cost_asking : (K → Bool) → ℕ → ℕ → State K V S → Cost
+  cost_asking test sought asked m = record (search_cost_by test (hash m.builder) sought m.is_vec m.capacity m.pairs) { asked = asked }
+
+  search_exactly : (m : State K V S) (test : K → Bool) (sought asked : ℕ) (before after : Work) → holds_by test m.pairs ≡ false → SearchCostsAsking test hash sought m asked before after
+      → GrewExactlyBy (least_work (cost_asking test sought asked m)) before after
+  search_exactly m test sought asked before after unheld costs =
+      grew_exactly (cost_asking test sought asked m) before after
+      (compares-exact test (hash m.builder) sought m.pairs unheld m.is_vec) (looks-exact test (hash m.builder) sought m.pairs unheld m.is_vec m.capacity) costs.grew
+
+  -- the same pairs in another order
+  module _ (builder : S) (xs ys : List (K × V)) (p : IsPermutation xs ys) (test : K → Bool) (sought : ℕ) where
+    held-same : holds_by test xs ≡ holds_by test ys
+    held-same = is_some-lookup test xs ∙ list_any-IsPermutation test (keys_of xs) (keys_of ys) (keys-permutation xs ys p) ∙ sym (is_some-lookup test ys)
+
+    candidates-same : candidates_by (hash builder) xs sought ≡ candidates_by (hash builder) ys sought
+    candidates-same = sym (sum_by-IsPermutation (λ q. cond (hash builder q == sought) 1 0) (keys_of xs) (keys_of ys) (keys-permutation xs ys p))
+
+    reach-same : (m : ℕ) → reach (map (hash builder) (keys_of xs)) m sought ≡ reach (map (hash builder) (keys_of ys)) m sought
+    reach-same m = reach_history (map (hash builder) (keys_of xs)) (map (hash builder) (keys_of ys)) m sought (IsPermutation-map (hash builder) (keys_of xs) (keys_of ys) (keys-permutation xs ys p))
+
+    compares-same : (is_vec : Bool) → (is_vec && holds_by test xs) ≡ false → search_compares_by test (hash builder) sought is_vec xs ≡ search_compares_by test (hash builder) sought is_vec ys
+    compares-same true unheld =
+        ap exactly (comparisons-unheld test xs unheld ∙ sym (length_permutation xs ys p) ∙ sym (comparisons-unheld test ys (sym held-same ∙ unheld)))
+    compares-same false none = λ i. if held-same i then between 1 (candidates-same i) else exactly (candidates-same i)
+
+    looks-same : (is_vec : Bool) (capacity : ℕ) → search_looks_by test (hash builder) sought is_vec capacity xs ≡ search_looks_by test (hash builder) sought is_vec capacity ys
+    looks-same true capacity = refl
+    looks-same false capacity = λ i. let probe = reach-same (buckets_of capacity) i in if held-same i then between 1 (probe - 1) else exactly probe
+
+  pub history_law : HistoryLaw V hash
+  history_law a b test sought asked a_before a_after b_before b_after same unheld a_costs b_costs =
+      let alike : cost_asking test sought asked a ≡ cost_asking test sought asked (state b.is_vec a.pairs b.capacity b.builder (contents_of a)) =
+      λ i. cost_asking test sought asked (state (same.form i) a.pairs (same.capacity i) (same.builder i) (contents_of a)) in
+      let moved : cost_asking test sought asked (state b.is_vec a.pairs b.capacity b.builder (contents_of a)) ≡ cost_asking test sought asked b = λ i. record {
+        asked = asked;
+        compared = compares-same b.builder a.pairs b.pairs same.pairs test sought b.is_vec (never_found b.is_vec (holds_by test a.pairs) unheld) i;
+        looked = looks-same b.builder a.pairs b.pairs same.pairs test sought b.is_vec b.capacity i;
+      } in (
+        least_work (cost_asking test sought asked b),
+        subst (λ cost. GrewExactlyBy (least_work cost) a_before a_after) (alike ∙ moved) (search_exactly a test sought asked a_before a_after unheld a_costs),
+        search_exactly b test sought asked b_before b_after (sym (held-same b.builder a.pairs b.pairs same.pairs test sought) ∙ unheld) b_costs,
+      )
+
   module _ (eq : K → K → Bool) where
-    -- where no key equal to k is held, a search in a vector compares each key
-    comparisons-unheld : (pairs : List (K × V)) (k : K) → holds eq pairs k ≡ false → comparisons_in_order eq pairs k ≡ length pairs
-    comparisons-unheld pairs k unheld = let absent = absent_of_unheld (eq k) pairs unheld in ap (λ i. first_match_cost i (length pairs)) absent.index
-
-    -- a search for a key that is not held compares exactly so many keys, and reads exactly so many buckets
-    module _ (h : K → ℕ) (pairs : List (K × V)) (k : K) (unheld : holds eq pairs k ≡ false) where
-      compares-exact : (is_vec : Bool) → IsExact (search_compares eq h is_vec pairs k)
-      compares-exact true = refl
-      compares-exact false = subst (λ b. IsExact (if b then between 1 (candidates h pairs k) else exactly (candidates h pairs k))) (sym unheld) refl
-
-      looks-exact : (is_vec : Bool) (capacity : ℕ) → IsExact (search_looks eq h is_vec capacity pairs k)
-      looks-exact true capacity = refl
-      looks-exact false capacity =
-          let probe : ℕ = probe_length h false capacity pairs k in
-          subst (λ b. IsExact (if b then between 1 (probe - 1) else exactly probe)) (sym unheld) refl
-
-    search_exactly : (m : State K V S) (k : K) (before after : Work) → holds eq m.pairs k ≡ false → SearchCosts eq hash m k before after
-        → GrewExactlyBy (least_work (search_cost_of eq hash m k)) before after
-    search_exactly m k before after unheld costs =
-        grew_exactly (search_cost_of eq hash m k) before after
-        (compares-exact (hash m.builder) m.pairs k unheld m.is_vec) (looks-exact (hash m.builder) m.pairs k unheld m.is_vec m.capacity) costs.grew
-
     insertion_exactly : (limit : ℕ) (m : State K V S) (k : K) (granted : Bool) (before after : Work) → holds eq m.pairs k ≡ false → InsertCosts limit eq hash m k granted before after
         → GrewExactlyBy (least_work (insert_cost limit eq hash m k granted)) before after
     insertion_exactly limit m k granted before after unheld costs =
         let stays : Bool = is_vec_after limit m in
         let probe : ℕ = if granted && not (holds eq m.pairs k) && addition_grows limit m then insertion_probe_looks limit eq hash m k else 0 in
         grew_exactly (insert_cost limit eq hash m k granted) before after
-        (exact_unless_refused (is_switch_refused limit m granted) (search_compares eq (hash m.builder) stays m.pairs k) (compares-exact (hash m.builder) m.pairs k unheld stays))
+        (exact_unless_refused (is_switch_refused limit m granted) (search_compares eq (hash m.builder) stays m.pairs k) (compares-exact (eq k) (hash m.builder) (hash m.builder k) m.pairs unheld stays))
         (exact_unless_refused (is_switch_refused limit m granted) (add_ranges (search_looks eq (hash m.builder) stays (capacity_switched limit m) m.pairs k) (exactly probe))
-        (ap (λ n. n + probe) (looks-exact (hash m.builder) m.pairs k unheld stays (capacity_switched limit m)))) costs.grew
-
-    -- the same pairs in another order
-    module _ (builder : S) (xs ys : List (K × V)) (p : IsPermutation xs ys) (k : K) where
-      held-same : holds eq xs k ≡ holds eq ys k
-      held-same = is_some-lookup (eq k) xs ∙ list_any-IsPermutation (eq k) (keys_of xs) (keys_of ys) (keys-permutation xs ys p) ∙ sym (is_some-lookup (eq k) ys)
-
-      candidates-same : candidates (hash builder) xs k ≡ candidates (hash builder) ys k
-      candidates-same = sym (sum_by-IsPermutation (λ q. cond (hash builder q == hash builder k) 1 0) (keys_of xs) (keys_of ys) (keys-permutation xs ys p))
-
-      reach-same : (m : ℕ) → reach (map (hash builder) (keys_of xs)) m (hash builder k) ≡ reach (map (hash builder) (keys_of ys)) m (hash builder k)
-      reach-same m = reach_history (map (hash builder) (keys_of xs)) (map (hash builder) (keys_of ys)) m (hash builder k) (IsPermutation-map (hash builder) (keys_of xs) (keys_of ys) (keys-permutation xs ys p))
-
-      compares-same : (is_vec : Bool) → (is_vec && holds eq xs k) ≡ false → search_compares eq (hash builder) is_vec xs k ≡ search_compares eq (hash builder) is_vec ys k
-      compares-same true unheld =
-          ap exactly (comparisons-unheld xs k unheld ∙ sym (length_permutation xs ys p) ∙ sym (comparisons-unheld ys k (sym held-same ∙ unheld)))
-      compares-same false none = λ i. if held-same i then between 1 (candidates-same i) else exactly (candidates-same i)
+        (ap (λ n. n + probe) (looks-exact (eq k) (hash m.builder) (hash m.builder k) m.pairs unheld stays (capacity_switched limit m)))) costs.grew
 
   module _ (limit : ℕ) (eq : K → K → Bool) where
     module _ (is_vec : Bool) (xs ys : List (K × V)) (capacity : ℕ) (builder : S) (some others : Contents) (p : IsPermutation xs ys) where
@@ -243,10 +270,10 @@ module _ {K V S : Type 0} (hash : S → K → ℕ) where
       long = sym (length_permutation xs ys p)
 
       held : (k : K) → holds eq xs k ≡ holds eq ys k
-      held k = held-same eq builder xs ys p k
+      held k = held-same builder xs ys p (eq k) (hash builder k)
 
       looked : (k : K) (m : ℕ) → reach (map (hash builder) (keys_of xs)) m (hash builder k) ≡ reach (map (hash builder) (keys_of ys)) m (hash builder k)
-      looked k m = reach-same eq builder xs ys p k m
+      looked k m = reach-same builder xs ys p (eq k) (hash builder k) m
 
       -- the form after a granted switching call on so many pairs
       abbrev stays : ℕ → Bool
@@ -254,7 +281,7 @@ module _ {K V S : Type 0} (hash : S → K → ℕ) where
 
       module _ (k : K) where
         search-compared : (is_vec && holds eq xs k) ≡ false → (search_cost_of eq hash first k).compared ≡ (search_cost_of eq hash second k).compared
-        search-compared none = compares-same eq builder xs ys p k is_vec none
+        search-compared none = compares-same builder xs ys p (eq k) (hash builder k) is_vec none
 
         search-looked : (search_cost_of eq hash first k).looked ≡ (search_cost_of eq hash second k).looked
         search-looked = simp (held k, looked k)
@@ -264,7 +291,7 @@ module _ {K V S : Type 0} (hash : S → K → ℕ) where
 
         -- the search of a switching call
         searched-alike : (stays (length xs) && holds eq xs k) ≡ false → search_compares eq (hash builder) (stays (length xs)) xs k ≡ search_compares eq (hash builder) (stays (length ys)) ys k
-        searched-alike none = compares-same eq builder xs ys p k (stays (length xs)) none ∙ (λ i. search_compares eq (hash builder) (stays (long i)) ys k)
+        searched-alike none = compares-same builder xs ys p (eq k) (hash builder k) (stays (length xs)) none ∙ (λ i. search_compares eq (hash builder) (stays (long i)) ys k)
 
         module _ (granted : Bool) where
           insert-asked : (insert_cost limit eq hash first k granted).asked ≡ (insert_cost limit eq hash second k granted).asked
@@ -346,26 +373,11 @@ module _ {K V S : Type 0} (hash : S → K → ℕ) where
       alike = λ i. state (same.form i) a.pairs (same.capacity i) (same.builder i) (contents_of a)
 
       unheld-too : (k : K) → holds eq a.pairs k ≡ false → holds eq b.pairs k ≡ false
-      unheld-too k unheld = sym (held-same eq b.builder a.pairs b.pairs same.pairs k) ∙ unheld
-
-      never_found : (in_vector : Bool) (k : K) → holds eq a.pairs k ≡ false → (in_vector && holds eq a.pairs k) ≡ false
-      never_found true k unheld = unheld
-      never_found false k unheld = refl
-
-      searches-alike : (k : K) → holds eq a.pairs k ≡ false → search_cost_of eq hash a k ≡ search_cost_of eq hash b k
-      searches-alike k unheld = ap (λ m. search_cost_of eq hash m k) alike
-          ∙ search-same b.is_vec a.pairs b.pairs b.capacity b.builder (contents_of a) (contents_of b) same.pairs k (never_found b.is_vec k unheld)
+      unheld-too k unheld = sym (held-same b.builder a.pairs b.pairs same.pairs (eq k) (hash b.builder k)) ∙ unheld
 
       insertions-alike : (k : K) (granted : Bool) → holds eq a.pairs k ≡ false → insert_cost limit eq hash a k granted ≡ insert_cost limit eq hash b k granted
       insertions-alike k granted unheld = ap (λ m. insert_cost limit eq hash m k granted) alike
-          ∙ insert-same b.is_vec a.pairs b.pairs b.capacity b.builder (contents_of a) (contents_of b) same.pairs k granted (never_found (is_vec_after limit moved) k unheld)
-
-    pub history_law : HistoryLaw V eq hash
-    history_law a b k a_before a_after b_before b_after same unheld a_costs b_costs = (
-      least_work (search_cost_of eq hash b k),
-      subst (λ cost. GrewExactlyBy (least_work cost) a_before a_after) (searches-alike a b same k unheld) (search_exactly eq a k a_before a_after unheld a_costs),
-      search_exactly eq b k b_before b_after (unheld-too a b same k unheld) b_costs,
-    )
+          ∙ insert-same b.is_vec a.pairs b.pairs b.capacity b.builder (contents_of a) (contents_of b) same.pairs k granted (never_found (is_vec_after limit moved) (holds eq a.pairs k) unheld)
 
     pub insertion_history_law : InsertionHistoryLaw V limit eq hash
     insertion_history_law a b k granted a_before a_after b_before b_after same unheld a_costs b_costs = (

@@ -6,9 +6,9 @@ use Rattle.half_store.specs.TableLaws.{IsCrowded}
 use Rattle.half_store.specs.Work.{Work}
 use Rattle.halfbrown.specs.declared.run.Command.{Command}
 use Rattle.halfbrown.specs.declared.run.Command.TheVariants.{Insert, InsertNew, EntryOrInsert, RawOrInsert, Get, Remove, Clear, Reserve, Shrink, IsVec, Len}
-use Rattle.halfbrown.specs.Costs.{probe_length, addition_grows, capacity_switched, capacity_grown, new_key_cost, GrewBy, SearchCosts, InsertCosts}
+use Rattle.halfbrown.specs.Costs.{probe_length_by, addition_grows, capacity_switched, capacity_grown, new_key_cost, GrewBy, SearchCostsAsking, InsertCosts}
 use Rattle.halfbrown.specs.Growth.{is_vec_after}
-use Rattle.halfbrown.specs.Pairs.{holds}
+use Rattle.halfbrown.specs.Pairs.{holds, holds_by}
 use Rattle.halfbrown.specs.RunCost.{command_cost}
 use Rattle.halfbrown.specs.State.{State, IsState, IsTableCapacity}
 
@@ -25,10 +25,14 @@ pub record GrewExactlyBy (work before after : Work) : Type 0 where
   pub compared : after.compared ≡ before.compared + work.compared
   pub looked : after.looked ≡ before.looked + work.looked
 
--- the first `passed` buckets from the home bucket of k on lie in a stretch of neighbouring buckets, not of all of them, that is home to
--- at least as many of the held pairs as it has buckets
+-- the first `passed` buckets from the home bucket of a hash on lie in a stretch of neighbouring buckets, not of all of them, that is home
+-- to at least as many of the held pairs as it has buckets
+abbrev pub IsCrowdedAround : {K V : Type 0} → (K → ℕ) → ℕ → List (K × V) → ℕ → ℕ → Type 0
+IsCrowdedAround hash capacity pairs sought passed = IsCrowded (map hash (keys_of pairs)) (buckets_of capacity) sought passed
+
+-- the same from the home bucket of k on
 abbrev pub IsCrowdedFor : {K V : Type 0} → (K → ℕ) → ℕ → List (K × V) → K → ℕ → Type 0
-IsCrowdedFor hash capacity pairs k passed = IsCrowded (map hash (keys_of pairs)) (buckets_of capacity) (hash k) passed
+IsCrowdedFor hash capacity pairs k passed = IsCrowdedAround hash capacity pairs (hash k) passed
 
 -- two unsuccessful probes for k, one in a table of capacity `old` and one, with the same pairs, in a table of capacity `new`: together they
 -- read exactly the buckets by which the tally grew, and each passes only buckets that are crowded
@@ -59,18 +63,17 @@ module _ {K V S : Type 0} (limit : ℕ) (eq : K → K → Bool) where
   insertion_grows m k granted = granted && not (holds eq m.pairs k) && addition_grows limit m
 
 module _ {K : Type 0} (V : Type 0) {S : Type 0} (hash : S → K → ℕ) where
-  -- a probe in a table of this capacity, for a search or for an insertion, passes only buckets that are crowded
+  -- a probe for a hash in a table of this capacity, for a search or for an insertion, passes only buckets that are crowded
   abbrev pub CrowdedProbeLaw : Type 0
-  CrowdedProbeLaw = (builder : S) (capacity : ℕ) (pairs : List (K × V)) (k : K) (passed : ℕ)
-      → IsTableCapacity capacity → length pairs ≤ capacity → passed < probe_length (hash builder) false capacity pairs k
-      → IsCrowdedFor (hash builder) capacity pairs k passed
+  CrowdedProbeLaw = (builder : S) (capacity : ℕ) (pairs : List (K × V)) (sought passed : ℕ)
+      → IsTableCapacity capacity → length pairs ≤ capacity → passed < probe_length_by (hash builder) false capacity pairs sought
+      → IsCrowdedAround (hash builder) capacity pairs sought passed
 
-module _ {K : Type 0} (V : Type 0) {S : Type 0} (eq : K → K → Bool) (hash : S → K → ℕ) where
-  -- in two maps that hold the same pairs in any order, a search for a key that is not held hashes as often, compares as many keys and reads
-  -- as many buckets, exactly, whatever was inserted and removed before
+  -- in two maps that hold the same pairs in any order, a search that finds none hashes as often, compares as many keys and reads as many
+  -- buckets, exactly, whatever was inserted and removed before: by a key or any form of one, hashed by it or under a hash that is known
   abbrev pub HistoryLaw : Type 0
-  HistoryLaw = (a b : State K V S) (k : K) (a_before a_after b_before b_after : Work) → HoldSamePairs a b → holds eq a.pairs k ≡ false
-      → SearchCosts eq hash a k a_before a_after → SearchCosts eq hash b k b_before b_after
+  HistoryLaw = (a b : State K V S) (test : K → Bool) (sought asked : ℕ) (a_before a_after b_before b_after : Work) → HoldSamePairs a b → holds_by test a.pairs ≡ false
+      → SearchCostsAsking test hash sought a asked a_before a_after → SearchCostsAsking test hash sought b asked b_before b_after
       → (work : Work) × GrewExactlyBy work a_before a_after × GrewExactlyBy work b_before b_after
 
 module _ {K : Type 0} (V : Type 0) {S : Type 0} (limit : ℕ) (eq : K → K → Bool) (hash : S → K → ℕ) where
@@ -97,11 +100,11 @@ module _ {K : Type 0} (V : Type 0) {S : Type 0} (limit : ℕ) (eq : K → K → 
   CommandBucketsLaw = (a b : State K V S) (command : Command K V) (refused : Bool) → HoldSamePairs a b
       → (command_cost limit eq hash a command refused).looked ≡ (command_cost limit eq hash b command refused).looked
 
-  -- a search in a table passes only buckets that are crowded, whether it finds the key or not
+  -- a search in a table, by any form of a key, passes only buckets that are crowded, whether it finds one or not
   abbrev pub CrowdedSearchLaw : Type 0
-  CrowdedSearchLaw = (m : State K V S) (k : K) (before after : Work) (passed : ℕ)
-      → IsState eq limit m → m.is_vec ≡ false → SearchCosts eq hash m k before after → before.looked + passed < after.looked
-      → IsCrowdedFor (hash m.builder) m.capacity m.pairs k passed
+  CrowdedSearchLaw = (m : State K V S) (test : K → Bool) (sought asked : ℕ) (before after : Work) (passed : ℕ)
+      → IsState eq limit m → m.is_vec ≡ false → SearchCostsAsking test hash sought m asked before after → before.looked + passed < after.looked
+      → IsCrowdedAround (hash m.builder) m.capacity m.pairs sought passed
 
   -- an insertion that makes no capacity grow for its key passes only buckets that are crowded
   abbrev pub CrowdedInsertionLaw : Type 0

@@ -7,19 +7,19 @@ ghost use Rattle.halfbrown.specs.MapLaws.{CrowdedSearchLaw, CrowdedInsertionLaw,
 use crate::Limit;
 use std::hash::{BuildHasher, Hash};
 
-/// In two maps of the same form, capacity and builder that hold the same pairs in any order, a search for a key that is
-/// not held costs the same, exactly, whatever was inserted and removed before, and so does an insertion of such a key. A
-/// command's cost has the same bounds in both, unless it finds its key in a vector: the order of the pairs then decides how
-/// many keys are compared, and nothing else.
+/// In two maps of the same form, capacity and builder that hold the same pairs in any order, a search that finds none costs
+/// the same, exactly, whatever was inserted and removed before: by a key or any form of one, also under a known hash. So
+/// does an insertion of a key that is not held. A command's cost has the same bounds in both, unless it finds its key in a
+/// vector: the order of the pairs then decides how many keys are compared, and nothing else.
 pub fn cost_without_history<K: Eq + Hash, V, S: BuildHasher, L: Limit>()
-    ensures search { HistoryLaw V K.eq (key_hash S.BuildHasher S.Hasher.Hasher K.hash_input) }
+    ensures search { HistoryLaw V (key_hash S.BuildHasher S.Hasher.Hasher K.hash_input) }
     ensures insertion { InsertionHistoryLaw V L.LIMIT K.eq (key_hash S.BuildHasher S.Hasher.Hasher K.hash_input) }
     ensures command { CommandCostLaw V L.LIMIT K.eq (key_hash S.BuildHasher S.Hasher.Hasher K.hash_input) }
     ensures hashes { CommandHashesLaw V L.LIMIT K.eq (key_hash S.BuildHasher S.Hasher.Hasher K.hash_input) }
     ensures buckets { CommandBucketsLaw V L.LIMIT K.eq (key_hash S.BuildHasher S.Hasher.Hasher K.hash_input) }
 {}
 
-/// The buckets that a search in a table passes lie in a stretch of neighbouring buckets, not of all of them, that is home
+/// The buckets that a search in a table passes, by any form of a key, lie in a stretch of neighbouring buckets, not of all of them, that is home
 /// to at least as many held pairs as it has buckets. So do those that an insertion passes. Where it makes the capacity of
 /// a table grow for its key, it reads two unsuccessful probes, one before the growth and one after it, and both pass only
 /// such buckets.

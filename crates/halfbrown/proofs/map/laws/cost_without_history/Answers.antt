@@ -3,7 +3,7 @@ use Rattle.halfbrown.proofs.MapLaws.{history_law, insertion_history_law, command
 use Rattle.halfbrown.proofs.map.laws.cost_without_history.Goals as goal
 
 pub returns-clause-search : goal.returns-clause-search
-returns-clause-search g c = history_law (key_hash g.S.BuildHasher g.S.Hasher.Hasher g.K.Hash.hash_input) g.L.Limit.LIMIT g.K.PartialEq.eq
+returns-clause-search g c = history_law (key_hash g.S.BuildHasher g.S.Hasher.Hasher g.K.Hash.hash_input)
 
 pub returns-clause-command : goal.returns-clause-command
 returns-clause-command g c = command_cost_law (key_hash g.S.BuildHasher g.S.Hasher.Hasher g.K.Hash.hash_input) g.L.Limit.LIMIT g.K.PartialEq.eq
