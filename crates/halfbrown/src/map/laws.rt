@@ -19,10 +19,10 @@ pub fn cost_without_history<K: Eq + Hash, V, S: BuildHasher, L: Limit>()
     ensures buckets { CommandBucketsLaw V L.LIMIT K.eq (key_hash S.BuildHasher S.Hasher.Hasher K.hash_input) }
 {}
 
-/// The buckets that a search in a table passes, by any form of a key, lie in a stretch of neighbouring buckets, not of all of them, that is home
-/// to at least as many held pairs as it has buckets. So do those that an insertion passes. Where it makes the capacity of
-/// a table grow for its key, it reads two unsuccessful probes, one before the growth and one after it, and both pass only
-/// such buckets.
+/// The buckets that a search in a table passes, by any form of a key, lie in a stretch of neighbouring buckets, not of all of
+/// them, that is home to at least as many held pairs as it has buckets. So do those that an insertion passes. Where it makes
+/// the capacity of a table grow for its key, it reads two unsuccessful probes, one before the growth and one after it, and
+/// both pass only such buckets.
 pub fn crowding_of_a_search<K: Eq + Hash, V, S: BuildHasher, L: Limit>()
     ensures search { CrowdedSearchLaw V L.LIMIT K.eq (key_hash S.BuildHasher S.Hasher.Hasher K.hash_input) }
     ensures insertion { CrowdedInsertionLaw V L.LIMIT K.eq (key_hash S.BuildHasher S.Hasher.Hasher K.hash_input) }
