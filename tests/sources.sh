@@ -27,6 +27,9 @@ compare "$work/wanted" "$work/found" "the builder is asked elsewhere"
 grep -rnE '\.word_at\(' $sources | grep -vE '^[^:]*:[0-9]+: *//' | sed 's/:.*//' | sort -u >"$work/found"
 printf 'crates/half_store/src/%s.rt\n' buckets table/deletion words >"$work/wanted"
 compare "$work/wanted" "$work/found" "a bucket is read elsewhere"
+grep -rnE '\bread_in\(|\.read\(' crates/half_store/src | grep -vE '^[^:]*:[0-9]+: *//' | sed 's/:.*//' | sort -u >"$work/found"
+printf 'crates/half_store/src/%s.rt\n' buckets counting table/deletion >"$work/wanted"
+compare "$work/wanted" "$work/found" "a bucket is read beside the count"
 
 # A plain call begins a tally for its counted form: `NAME(..)` calls `NAME_counted(.., &mut Tally::new())`. The others are two
 # plain calls whose counted form has another name, and three places where buckets are read that are not counted: a table that

@@ -1,4 +1,4 @@
--- How many pairs a whole run moves: all that are held, wherever the capacity changes.
+-- How many pairs a whole run moves by growth and the switch: all that are held, wherever the capacity changes.
 use Rattle.std.specs.Prelude.{◌≡◌, ℕ, ◌+◌, ◌*◌, ◌≤◌, Bool, false, ◌==◌, List, [], ◌∷◌, length, if◌then◌else◌}
 use Rattle.halfbrown.specs.declared.run.Command.{Command}
 use Rattle.halfbrown.specs.declared.run.Reply.{Reply}
@@ -8,7 +8,7 @@ use Rattle.halfbrown.specs.RunMemory.{reserves}
 use Rattle.halfbrown.specs.Costs.{Cost}
 use Rattle.halfbrown.specs.State.{State, IsState}
 
--- the pairs that a step moved: growth and the switch move all, and a step that leaves the capacity moves none
+-- the pairs that growth or the switch moved in a step: all that were held where the capacity changed; nothing else is counted
 abbrev pub moved : {K V S : Type 0} → State K V S → State K V S → ℕ
 moved old new = if new.capacity == old.capacity then 0 else length old.pairs
 

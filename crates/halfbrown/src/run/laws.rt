@@ -52,8 +52,9 @@ pub fn capacity_of_a_run<K: Eq + Hash, V, S: BuildHasher, L: Limit>()
     ensures { CapacityLaw V L.LIMIT K.eq (key_hash S.BuildHasher S.Hasher.Hasher K.hash_input) }
 {}
 
-/// A run moves all pairs wherever the capacity changes. Without `Shrink` and `Reserve` that is at most two pairs for each
-/// command, and once those that the map held at first and twice the limit: an insertion is cheap on the whole.
+/// Where the capacity changes, at growth and at the switch, all held pairs are moved. Without `Shrink` and `Reserve` these are
+/// at most two for each command, and once those that the map held at first and twice the limit: an insertion is cheap on the
+/// whole. What is moved where the capacity stays, as by a removal, is not counted.
 pub fn moves_of_a_run<K: Eq + Hash, V, S: BuildHasher, L: Limit>()
     ensures { MovesLaw V L.LIMIT K.eq (key_hash S.BuildHasher S.Hasher.Hasher K.hash_input) }
 {}
