@@ -45,17 +45,22 @@ pub first_of_both : (a b : Bool) → (a && b) ≡ true → a ≡ true
 first_of_both true b both = refl
 first_of_both false b both = both
 
-module _ {K V S : Type 0} (limit : ℕ) (eq : K → K → Bool) where
-  -- capacity is asked for one pair more at most, and where none is left
-  abbrev IsDue : State K V S → Option ℕ → Type 0
-  IsDue m needs = IfSome needs (λ n. (n ≤ length m.pairs + 1) × (m.capacity ≤ length m.pairs))
+module _ {K V S : Type 0} where
+  -- capacity is asked for one pair more, where none is left
+  abbrev pub IsDue : State K V S → Option ℕ → Type 0
+  IsDue m needs = IfSome needs (λ n. (n ≡ length m.pairs + 1) × (m.capacity ≤ length m.pairs))
 
-  addition_due : (m : State K V S) → IsDue m (addition_needs m)
+  pub addition_due : (m : State K V S) → IsDue m (addition_needs m)
   addition_due m = by (nat_lt (length m.pairs) m.capacity) (not_less (length m.pairs) m.capacity) where
     by : (few : Bool) → (few ≡ false → m.capacity ≤ length m.pairs) → IsDue m (if few then None else Some (length m.pairs + 1))
     by true h = tt
-    by false h = (omega arith, h refl)
+    by false h = (refl, h refl)
 
+  pub held_due : (m : State K V S) (held : Bool) → IsDue m (if held then None else addition_needs m)
+  held_due m true = tt
+  held_due m false = addition_due m
+
+module _ {K V S : Type 0} (limit : ℕ) (eq : K → K → Bool) where
   switch_due : (m : State K V S) → IsState eq limit m → (needs : Option ℕ) → IsDue m needs → IsDue m (if is_full limit m then Some (limit + 1) else needs)
   switch_due m state needs due = by (is_full limit m) (λ e. e) where
     by : (full : Bool) → (full ≡ true → is_full limit m ≡ true) → IsDue m (if full then Some (limit + 1) else needs)
@@ -64,15 +69,11 @@ module _ {K V S : Type 0} (limit : ℕ) (eq : K → K → Bool) where
         (omega (arith, len), omega (arith, len, state.vector_capacity (first_of_both m.is_vec _ (h refl))))
     by false h = due
 
-  held_due : (m : State K V S) (held : Bool) (needs : Option ℕ) → IsDue m needs → IsDue m (if held then None else needs)
-  held_due m true needs due = tt
-  held_due m false needs due = due
-
   new_due : (m : State K V S) → IsState eq limit m → IsDue m (new_key_needs limit m)
   new_due m state = switch_due m state (addition_needs m) (addition_due m)
 
   insert_due : (m : State K V S) → IsState eq limit m → (k : K) → IsDue m (insert_needs limit eq m k)
-  insert_due m state k = switch_due m state (if holds eq m.pairs k then None else addition_needs m) (held_due m (holds eq m.pairs k) (addition_needs m) (addition_due m))
+  insert_due m state k = switch_due m state (if holds eq m.pairs k then None else addition_needs m) (held_due m (holds eq m.pairs k))
 
   -- what a call leaves that asked for capacity so
   after_most : (old new : State K V S) (needs : Option ℕ) → IsDue old needs → HasCapacityAfter limit old needs new → new.capacity ≤ max old.capacity (2 * length old.pairs + 8)

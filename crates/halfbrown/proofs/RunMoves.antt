@@ -1,6 +1,6 @@
 -- How many pairs a run moves: each step pays two, and what a map has paid and not used is its credit.
 use Rattle.std.proofs.Common.{◌≡◌, ◌≢◌, ◌∙◌, ℕ, suc, ◌+◌, ◌-◌, ◌*◌, ◌<◌, ◌≤◌, nat_lt, ◌==◌, ◌⊎◌, inl, inr, Bool, true, false, true≢false, not, ◌&&◌, cond, List, [], ◌∷◌, length, Option, None, Some, ap, sym, refl, arith, if◌then◌else◌}
-use Rattle.std.specs.Prelude.{IfSome, MatchBool}
+use Rattle.std.specs.Prelude.{MatchBool}
 use Rattle.std.proofs.lemmas.Bool.{cases_lt, cases_Bool, eq-eqb, lt-ltb, le-ltb}
 use Rattle.half_store.specs.Capacity.{IsBucketCount, capacity_of, more_buckets, buckets_for, capacity_for, grown_capacity}
 use Rattle.half_store.proofs.CapacityLemmas.{more_buckets-some, buckets_for-least, buckets_for-grown, quarter}
@@ -20,7 +20,7 @@ use Rattle.halfbrown.specs.RunMoves.{moved, pairs_moved}
 use Rattle.halfbrown.proofs.CallerLemmas.{len_put, len_taken}
 use Rattle.halfbrown.proofs.Full.{full_len, form_stays}
 use Rattle.halfbrown.proofs.RunLaws.{IsGranted, IsRefused, one_of_both, no_shrink}
-use Rattle.halfbrown.proofs.RunMemory.{not_less, first_of_both, no_reserve}
+use Rattle.halfbrown.proofs.RunMemory.{IsDue, addition_due, held_due, first_of_both, no_reserve}
 
 -- twice the capacity, where a table grows
 double : (m : ℕ) → IsBucketCount m → 2 * capacity_of m ≤ capacity_of (more_buckets m)
@@ -152,20 +152,6 @@ module _ {K V S : Type 0} (limit : ℕ) (eq : K → K → Bool) where
         ap (λ v. budget limit v new.capacity) (form ∙ table),
         ap (λ v. budget limit v old.capacity) table,
       )
-
-  -- capacity is asked for one pair more, where none is left
-  abbrev IsDue : State K V S → Option ℕ → Type 0
-  IsDue m needs = IfSome needs (λ n. (n ≡ length m.pairs + 1) × (m.capacity ≤ length m.pairs))
-
-  addition_due : (m : State K V S) → IsDue m (addition_needs m)
-  addition_due m = by (nat_lt (length m.pairs) m.capacity) (not_less (length m.pairs) m.capacity) where
-    by : (few : Bool) → (few ≡ false → m.capacity ≤ length m.pairs) → IsDue m (if few then None else Some (length m.pairs + 1))
-    by true h = tt
-    by false h = (refl, h refl)
-
-  held_due : (m : State K V S) (held : Bool) → IsDue m (if held then None else addition_needs m)
-  held_due m true = tt
-  held_due m false = addition_due m
 
   grown_pays : (old new : State K V S) → IsState eq limit old → is_full limit old ≡ false → new.is_vec ≡ old.is_vec → (needs : Option ℕ) → IsDue old needs → HasCapacityAfter limit old needs new
       → length new.pairs ≤ length old.pairs + 1 → Pays old new
