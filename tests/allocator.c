@@ -1,4 +1,4 @@
-// Counts the requests for memory of a program that it is preloaded into, and refuses them.
+// Counts the requests for memory of a program that it is preloaded into, refuses them, and says what was never given back.
 //
 // The program marks each call by a write of no bytes to standard output, right before it, and one that may be refused
 // memory by two. From the mark to the end of the line that it writes then, its requests are counted, and the line gets
@@ -8,7 +8,8 @@
 // With REFUSE_UNMARKED nothing is marked: all requests of the program are counted, from its start, those from
 // REFUSE_FROM to REFUSE_TO return NULL, and a line on standard error tells of each.
 //
-// A request is a `malloc`, a `calloc`, or a `realloc` to a size above 0.
+// A request is a `malloc`, a `calloc`, or a `realloc` to a size above 0. Where the program ends and has not freed all blocks
+// that it was granted, the last line of its output is `kept N blocks`.
 #include <errno.h>
 #include <stdio.h>
 #include <stdlib.h>
@@ -19,12 +20,15 @@
 extern void *__libc_malloc(size_t size);
 extern void *__libc_calloc(size_t count, size_t size);
 extern void *__libc_realloc(void *block, size_t size);
+extern void __libc_free(void *block);
 
 // How often the call was marked whose line is not yet written to its end, and the requests since.
 static int marks;
 static long requests;
 // Whether the last thing that was written was a mark.
 static int is_right_after_mark;
+// How many blocks are granted and not freed.
+static long blocks;
 
 // The number that a variable of the environment gives, or another one.
 static long number(const char *name, long otherwise) {
@@ -51,16 +55,33 @@ static int is_refused(void) {
     return 1;
 }
 
+static void *counted(void *block) {
+    blocks += block != NULL;
+    return block;
+}
+
 void *malloc(size_t size) {
-    return is_refused() ? NULL : __libc_malloc(size);
+    return is_refused() ? NULL : counted(__libc_malloc(size));
 }
 
 void *calloc(size_t count, size_t size) {
-    return is_refused() ? NULL : __libc_calloc(count, size);
+    return is_refused() ? NULL : counted(__libc_calloc(count, size));
+}
+
+void free(void *block) {
+    blocks -= block != NULL;
+    __libc_free(block);
 }
 
 void *realloc(void *block, size_t size) {
-    return size > 0 && is_refused() ? NULL : __libc_realloc(block, size);
+    if (size == 0) {
+        free(block);
+        return NULL;
+    }
+    if (is_refused())
+        return NULL;
+    void *moved = __libc_realloc(block, size);
+    return block == NULL ? counted(moved) : moved;
 }
 
 static void mark(void) {
@@ -99,4 +120,10 @@ ssize_t write(int file, const void *bytes, size_t size) {
     is_right_after_mark = 0;
     const char *end = marks > 0 ? memchr(bytes, '\n', size) : NULL;
     return end == NULL ? syscall(SYS_write, file, bytes, size) : write_with_requests(bytes, size, end);
+}
+
+__attribute__((destructor)) static void tell_what_is_kept(void) {
+    char line[40];
+    if (blocks != 0)
+        write_all(line, snprintf(line, sizeof line, "kept %ld blocks\n", blocks));
 }

@@ -1,11 +1,11 @@
 #!/usr/bin/env python3
-"""What `make bench` runs: proves and builds half_bench and halfmap, where something has changed, prints the figures of
-docs/SPEED.md, and draws docs/speed.svg.
+"""What `make bench` runs: proves and builds half_bench, halfmap and word_count, where something has changed, prints all
+figures, of which docs/SPEED.md has a part, and draws docs/speed.svg.
 
     tests/bench.py [ROUNDS] [WORD..]                  9 rounds where none are given
     tests/bench.py --against DIR [ROUNDS] [WORD..]    beside half_bench of another checkout, which has to be built there
 
-Words pick rows of times: names of operations, `u64`, `String` and sizes; `memory` and `halfmap` pick those tables. Where any
+Words pick rows of times: names of operations, `u64`, `String` and sizes; `memory`, `halfmap` and `word_count` those tables. Where any
 is given nothing is drawn.
 """
 
@@ -24,7 +24,7 @@ import bench_times
 
 TOP = pathlib.Path(__file__).resolve().parent.parent
 PICTURE = TOP / "docs/speed.svg"
-OTHERS = ["memory", "halfmap"]
+OTHERS = ["memory", "halfmap", "word_count"]
 
 
 def build(name):
@@ -45,7 +45,7 @@ def print_times(rounds, words):
     bench_times.print_times(found)
     if not words:
         bench_picture.draw(PICTURE, found)
-        print("\n![The same times as lines](speed.svg)")
+        print("\nThe same times as lines: docs/speed.svg")
 
 
 def print_memory():
@@ -58,6 +58,12 @@ def print_halfmap(rounds):
     program = build("halfmap")
     print(f"\nhalfmap, by the median of {rounds} rounds:\n")
     bench_times.print_table(["lines", "halfmap to sort -u"], bench_others.halfmap_rows(program, rounds))
+
+
+def print_word_count(rounds):
+    programs = build("word_count"), build("half_bench")
+    print(f"\nMegabytes of words a second, by the median of {rounds} rounds:\n")
+    bench_times.print_table(["program", "megabytes"], bench_others.words_rows(*programs, rounds))
 
 
 def print_machine(seconds):
@@ -78,6 +84,8 @@ def print_all(rounds, words):
         print_memory()
     if "halfmap" in words or not words:
         print_halfmap(rounds)
+    if "word_count" in words or not words:
+        print_word_count(rounds)
     print_machine(time.monotonic() - began)
 
 

@@ -1,9 +1,11 @@
-"""What `make bench` measures beside the times of calls: the memory of maps, and the time of halfmap."""
+"""What `make bench` measures beside the times of calls: the memory of maps, and the time of halfmap and of word_count."""
 
+import itertools
 import os
 import pathlib
 import random
 import statistics
+import string
 import subprocess
 import sys
 import tempfile
@@ -15,6 +17,9 @@ PAIRS = 1_000_000
 SIZES = [4, 16, 33, 100, 1_000, 100_000, 1_000_000]
 LINES = 1_000_000
 HELD = 100_000
+# The words of a text, of which so many differ.
+WORDS = 2_000_000
+DIFFERING = 50_000
 
 
 def peak_bytes(program, words):
@@ -89,3 +94,25 @@ def halfmap_rows(program, rounds):
                 for _ in range(rounds)
             ]
             yield [name, f"{statistics.median(ratios):.2f}"]
+
+
+def write_text(folder):
+    """A file of words that come as unevenly as those of a language do: the second of them half as often as the first, and so on."""
+    chance = random.Random(1)
+    words = ["".join(chance.choices(string.ascii_lowercase, k=chance.randint(2, 10))) for _ in range(DIFFERING)]
+    weights = list(itertools.accumulate(1 / rank for rank in range(1, DIFFERING + 1)))
+    path = pathlib.Path(folder) / "words"
+    path.write_text(" ".join(chance.choices(words, cum_weights=weights, k=WORDS)) + "\n")
+    return path
+
+
+def words_rows(word_count, half_bench, rounds):
+    with tempfile.TemporaryDirectory() as folder:
+        path = write_text(folder)
+        programs = [("word_count", [word_count])]
+        programs += [(f"counting alone, {it}", [half_bench, "words", it]) for it in MAPS if it != "limit_0"]
+        # They take turns.
+        print("word_count", file=sys.stderr)
+        seconds = [[processor_seconds(words, path) for _, words in programs] for _ in range(rounds)]
+        for (name, _), found in zip(programs, zip(*seconds)):
+            yield [name, f"{path.stat().st_size / 1e6 / statistics.median(found):.0f}"]

@@ -1,4 +1,4 @@
-"""Whether lines agree, by docs/WITNESS.md, "The comparison"."""
+"""Whether lines agree, by docs/SCRIPTS.md, "What is determined"."""
 
 import re
 

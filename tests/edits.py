@@ -6,11 +6,12 @@
 
 An edit is named for its fault. It has lines `file: PATH`, `old: TEXT`, which stands once in that file, and `new: TEXT`; `#`
 begins a comment. The prover has to refuse it: contracts that let a fault through are too weak. Where no contract can, a line
-`found by: scripts/FILE` names the script of tests/scripts which shows the fault, and the comment says why no contract does.
-An edit with `also found by: scripts/FILE` is tried in both ways, which shows that scripts find what the prover refuses.
+`found by: scripts/FILE` names the script of tests/scripts which shows the fault, or `found by: sources.sh` the search of the
+sources, and the comment says why no contract does. An edit with `also found by: scripts/FILE` is tried in both ways, which
+shows that scripts find what the prover refuses.
 
 The crates are proved first, where out/ does not have that yet. Then several checks run at a time, each in a copy of the
-repository with that out/, as many as there are processors and memory for. A check tries several edits, each of which changes
+sources with links of that out/, as many as there are processors and memory for. A check tries several edits, each of which changes
 other functions: a caller is proved by the contracts of what it calls, so that no edit shows in another's function. An edit
 passes there where the prover names a goal of a function that it changes. Every other one is tried once more, alone, and
 passes where the prover says what it could not prove. It fails where it cannot be applied, where it does not reach the prover,
@@ -38,7 +39,7 @@ import turns
 
 TOP = pathlib.Path(__file__).resolve().parent.parent
 # The crates, each after those that it stands on.
-CRATES = ("half_store", "half_iter", "half_equivalent", "halfbrown", "halfmap", "test_support", "half_uses", "half_tests")
+CRATES = ("half_store", "half_iter", "half_equivalent", "halfbrown", "halfmap", "test_support", "half_uses", "document", "half_tests")
 # What a check of one job takes at most.
 MEMORY = 2_000_000_000
 # Where antt cannot read a text, or a proof misses a name, nothing is said of a contract.
@@ -57,16 +58,16 @@ class Edit:
     def __init__(self, path):
         self.path, self.crate = path, path.parent.name
         self.name = f"{self.crate}/{path.stem}"
-        # The script by which it is tried, or none, where the prover has to refuse it.
+        # The script or the search by which it is tried, or none, where the prover has to refuse it.
         self.script = None
 
     def ways(self):
         """The edit in each way in which it is tried."""
-        found_by = re.search(r"^(also )?found by: scripts/(\S+)$", self.path.read_text(), re.M)
+        found_by = re.search(r"^(also )?found by: (scripts/\S+|sources\.sh)$", self.path.read_text(), re.M)
         if not found_by:
             return [self]
         played = Edit(self.path)
-        played.script = TOP / "tests/scripts" / found_by[2]
+        played.script = TOP / "tests" / found_by[2]
         return [self, played] if found_by[1] else [played]
 
     def apply(self, texts, crate):
@@ -201,10 +202,20 @@ class Lane(threading.Thread):
         self.folder, self.names, self.tries, self.answers = folder, names, tries, answers
         self.running, self.is_stopped = None, False
 
+    def copy_repository(self):
+        """Copies the sources, and makes links of what was proved, which rt replaces and never writes over: copies of that would
+        fill the disk."""
+        shutil.copy(TOP / "HANDLES", self.folder)
+        lines = (TOP / "crates.txt").read_text().splitlines(keepends=True)
+        (self.folder / "crates.txt").write_text("".join(it for it in lines if it.partition(":")[0] in CRATES))
+        for name in CRATES:
+            crate, copy = TOP / "crates" / name, self.folder / "crates" / name
+            shutil.copytree(crate, copy, ignore=shutil.ignore_patterns("out"))
+            if (crate / "out").is_dir():
+                shutil.copytree(crate / "out", copy / "out", copy_function=os.link)
+
     def run(self):
-        for name in ("HANDLES", "crates.txt"):
-            shutil.copy(TOP / name, self.folder)
-        shutil.copytree(TOP / "crates", self.folder / "crates")
+        self.copy_repository()
         while not self.is_stopped and not self.answers.are_all():
             try:
                 edits = self.tries.get(timeout=1)
@@ -356,7 +367,9 @@ def main(words):
     for it in batches:
         tries.put(it)
     began = time.monotonic()
-    with tempfile.TemporaryDirectory(prefix="edits-", ignore_cleanup_errors=True) as folder:
+    # Below out/, since links do not lead to another disk.
+    (TOP / "out").mkdir(exist_ok=True)
+    with tempfile.TemporaryDirectory(prefix="edits.", dir=TOP / "out", ignore_cleanup_errors=True) as folder:
         lanes = []
         for number in range(min(at_once(), len(batches))):
             copy = pathlib.Path(folder, str(number))

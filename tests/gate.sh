@@ -1,7 +1,7 @@
 #!/usr/bin/env bash
 # What `make test` runs, part by part: it fails where a part does, and its last line adds up theirs.
 #
-#   tests/gate.sh            proves what users run and the tests, where out/ does not have that yet, and then the rest
+#   tests/gate.sh            proves what users run and its callers, where out/ does not have that yet, and then the rest
 #   tests/gate.sh proved     the rest alone, after `rt ci`
 cd "$(dirname "$0")/.." || exit 1
 . tests/parts.sh
@@ -17,6 +17,9 @@ part "hostile input" tests/hostile_input.py
 part "must not compile" tests/must_not_compile.py
 part "README" tests/readme.sh
 part "examples" tests/examples.py
+# `rt ci` leaves no library that could be packed.
+[ "${1:-}" = proved ] || part "package" tests/package_test.sh
 part "sources" tests/sources.sh
+part "pages" tests/pages.py
 
 sum_of_parts

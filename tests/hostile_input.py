@@ -1,6 +1,7 @@
 #!/usr/bin/env python3
-"""Gives the proved program halfmap what nobody should send, and takes from it what it needs: docs/HOSTILE_INPUT.md says what
-it does then. Answers are compared, byte by byte, with those of a dictionary. It plays the sessions of worked_sessions.py, too.
+"""Gives the proved program halfmap what nobody should send, and takes from it what it needs: what it does then is said in
+crates/halfmap/README.md. Answers are compared, byte by byte, with those of a dictionary. It plays the sessions of
+worked_sessions.py, too.
 
 The last line is "N passed, M failed".
 """

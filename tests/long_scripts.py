@@ -1,5 +1,5 @@
 #!/usr/bin/env python3
-"""Plays scripts of docs/WITNESS.md that are too long to be written by hand: each line must be answered as it is wanted.
+"""Plays scripts of docs/SCRIPTS.md that are too long to be written by hand: each line must be answered as it is wanted.
 
     tests/long_scripts.py [--model] [WORD..]    plays all of them, or those whose name has one of the words
 

@@ -1,4 +1,5 @@
-"""Plays a script on the witness, with an edit planted in a copy of the repository, in which nothing is proved."""
+"""Plays a script on the witness, or searches the sources, with an edit planted in a copy of the repository, in which nothing
+is proved."""
 
 import pathlib
 import re
@@ -68,8 +69,26 @@ def play(folder, parts):
     return [(printed.get(name, "").splitlines(), ended[name]) for name in names]
 
 
+def search_sources(edit):
+    """Returns whether the search of the sources finds this edit, and what it shows."""
+    with tempfile.TemporaryDirectory(prefix="planted-") as folder:
+        folder = pathlib.Path(folder)
+        copy_sources(folder, crates_of(edit.crate) | crates_of("halfmap"))
+        (folder / "tests").mkdir()
+        for name in (edit.script.name, "part.sh"):
+            shutil.copy(edit.script.parent / name, folder / "tests")
+        search = [folder / "tests" / edit.script.name]
+        if subprocess.run(search, capture_output=True).returncode:
+            return False, f"{edit.script.name} fails without it"
+        plant(edit, folder)
+        ran = subprocess.run(search, capture_output=True, text=True)
+        return bool(ran.returncode), " ".join(ran.stdout.splitlines()[:3]) if ran.returncode else "nothing is found"
+
+
 def attempt(edit):
     """Returns whether the script of this edit finds it, and what it shows."""
+    if edit.script.suffix == ".sh":
+        return search_sources(edit)
     with tempfile.TemporaryDirectory(prefix="planted-") as folder:
         folder = pathlib.Path(folder)
         parts = scripts.parts_of(edit.script)

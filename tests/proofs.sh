@@ -1,13 +1,14 @@
 #!/bin/sh
-# Proves what users run, and proves and runs the tests: each crate once, as soon as what it stands on is proved, several at a
-# time. What earlier runs have proved is kept in out/.
+# Proves what users run and its callers, and runs the tests: each crate once, as soon as what it stands on is proved, several at
+# a time. What earlier runs have proved is kept in out/.
 #
 # The last line is "N passed, M failed", by crates.
 set -u
 cd "$(dirname "$0")/.." || exit 1
 . tests/part.sh
 
-crates="half_store half_iter half_equivalent halfbrown halfmap witness half_uses half_tests"
+tests/forget_laid_in.sh
+crates="half_store half_iter half_equivalent halfbrown halfmap witness half_uses word_count json_at half_tests"
 # Each takes all processors that it finds, but not all the time, and fewer where others leave it little memory. On four
 # processors three at a time keep them busy.
 make --no-print-directory -k -j$(($(nproc) / 2 + 1)) -f tests/proofs.mk $crates 2>&1 | tee "$work/said"

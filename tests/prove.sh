@@ -1,8 +1,9 @@
 #!/bin/bash
 # Proves a crate, where out/ does not have that yet: tests/prove.sh CRATE. A program is built and run on its stdin, and has to
-# print its stdout; the tests of a library are run; any other library is made ready for the crates above it. Says when the
-# proof begins, how far it is and how long it took, and nothing where nothing has changed. What rt prints is shown where it
-# fails.
+# print its stdout; a library is made ready for the crates above it, but one with tests has none above it, and its tests are
+# run. What is proved of a test is that it returns, which its run shows: so that is left to `rt ci`. Says when the proof
+# begins, how far it is and how long it took, and nothing where nothing has changed. What rt prints is shown where it fails.
+# tests/prove.sh CRATE kept proves nothing: its status says whether out/ has it.
 set -u
 name=$1
 top=$(cd "$(dirname "$0")/.." && pwd) || exit 1
@@ -14,20 +15,19 @@ trap 'exit 1' HUP INT TERM
 
 wanted=/dev/null
 input=/dev/null
-# What only tests run is compiled by Rattle's own backend, in a third of LLVM's time. `rt ci` has both compile all programs.
-backend=rattle
+# What users do not run by this is compiled by Rattle's own backend, in a third of LLVM's time. `rt ci` has both compile all
+# programs.
+backend=
 if [ -f src/main.rt ]; then
     command=run
-    [ "$name" = witness ] || backend=llvm
+    backend="--backend $([ "$name" = halfmap ] && echo llvm || echo rattle)"
     [ -f stdin ] && input=$PWD/stdin
     [ -f stdout ] && wanted=$PWD/stdout
 elif grep -rq '^ *#\[test\]' src; then
-    command=test
+    command=check
 else
     command=lib
-    backend=
 fi
-[ -z "$backend" ] || backend="--backend $backend"
 
 # The crate and what it stands on, lowest first.
 below() {
@@ -61,6 +61,7 @@ esac
 if [ -e "$made" ] && [ "$(cat "$proved" 2>/dev/null)" = "$files" ]; then
     exit 0
 fi
+[ "${2:-}" != kept ] || exit 1
 
 fail() {
     rm -f "$proved"
@@ -100,11 +101,11 @@ cd "$copied" || exit 1
 began=$(date +%s)
 # What rt says goes to standard output, but of a program to standard error, since its standard output is the program's.
 prove() {
-    if [ "$command" = run ]; then
-        rt run $backend <"$input" 2>&1 >"$log.out"
-    else
-        rt "$command" $backend </dev/null 2>&1
-    fi || echo "status $?"
+    case $command in
+        run) rt run $backend <"$input" 2>&1 >"$log.out" ;;
+        check) rt check </dev/null 2>&1 && rt try --test </dev/null 2>&1 ;;
+        lib) rt lib </dev/null 2>&1 ;;
+    esac || echo "status $?"
 }
 prove | tee "$log" | sed -u -n \
     -e "s/^so far: 0 of \([0-9]* functions\).*/$name: proving \1/p" \

@@ -3,7 +3,7 @@
 
     tests/scripts.py [--model] [WORD..]    plays all of them, or those whose name has one of the words
 
-How a script is played is said in docs/WITNESS.md, "Scripts by hand". The program runs under tests/allocator.c, which is
+How a script is played is said in docs/SCRIPTS.md, "Scripts by hand". The program runs under tests/allocator.c, which is
 preloaded. With --model the model plays alone. Each wanted line passes where all plays meet it. One that they do not is
 printed as scripts/FILE:LINE with what was found, and the last line is "N passed, M failed".
 """

@@ -1,7 +1,7 @@
 #!/bin/sh
 # What no proof sees of the libraries and the program, and a search of their sources does: no value is forgotten, the builder is
-# asked in one function alone, buckets are read in two modules, and a tally is begun only by the plain calls and where a line
-# below says why.
+# asked in one function alone, buckets are read in two modules, a tally is begun only by the plain calls and where a line below
+# says why, and no table is made, and no builder cloned, but where it is kept.
 #
 # The last line is "N passed, M failed".
 set -u
@@ -28,7 +28,7 @@ grep -rnE '\.word_at\(' $sources | grep -vE '^[^:]*:[0-9]+: *//' | sed 's/:.*//'
 printf 'crates/half_store/src/%s.rt\n' buckets table/deletion words >"$work/wanted"
 compare "$work/wanted" "$work/found" "a bucket is read elsewhere"
 grep -rnE '\bread_in\(|\.read\(' crates/half_store/src | grep -vE '^[^:]*:[0-9]+: *//' | sed 's/:.*//' | sort -u >"$work/found"
-printf 'crates/half_store/src/%s.rt\n' buckets counting table/deletion >"$work/wanted"
+printf 'crates/half_store/src/%s.rt\n' buckets counting >"$work/wanted"
 compare "$work/wanted" "$work/found" "a bucket is read beside the count"
 
 # A plain call begins a tally for its counted form: `NAME(..)` calls `NAME_counted(.., &mut Tally::new())`. The others are two
@@ -45,5 +45,16 @@ grep -rnE 'Tally::new\(\)' $sources | grep -vE '^[^:]*:[0-9]+: *//' | grep -vE '
     sed -E 's/^([^:]*):[0-9]+: */\1: /' | sort >"$work/found"
 sort "$work/others" >"$work/wanted"
 compare "$work/wanted" "$work/found" "a tally is begun elsewhere"
+
+# A table or a builder that is made beside, and dropped, is one that no contract sees.
+sort >"$work/wanted" <<'LIST'
+crates/half_store/src/store/memory.rt: let table = Table::with_capacity(alloc, capacity)?;
+crates/half_store/src/store/switch.rt: let index = Table::with_capacity(self.columns.allocator(), needed)?;
+crates/half_store/src/table/memory.rt: let mut table = Table::with_capacity(alloc, needed)?;
+crates/halfbrown/src/map/clone.rt: let builder = self.builder.clone()?;
+LIST
+grep -rnE 'Table::(with_capacity|from_hashes)\(|builder\.clone\(' $sources | grep -vE '^[^:]*:[0-9]+: *//' |
+    sed -E 's/^([^:]*):[0-9]+: */\1: /' | sort >"$work/found"
+compare "$work/wanted" "$work/found" "a table is made, or a builder cloned, elsewhere"
 
 sum

@@ -3,7 +3,7 @@
 
     tests/witness.py [N] [SEED]    makes N scripts, 200 if not said, from a seed
 
-The scripts are made by tests/witness_scripts.py, in the language of docs/WITNESS.md. All requests of `refused` calls
+The scripts are made by tests/witness_scripts.py, in the language of docs/SCRIPTS.md. All requests of `refused` calls
 are refused, by tests/allocator.c. Where a script differs, lines are taken out as long as it still differs, and the
 shortest one is printed with both answers. The scripts together have to meet what is rare as often as REACHED says. The
 last line is "N passed, M failed".

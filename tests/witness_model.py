@@ -1,5 +1,5 @@
 #!/usr/bin/env python3
-"""Answers the scripts of docs/WITNESS.md from the documents alone: a model that shares nothing with the map's code.
+"""Answers the scripts of docs/SCRIPTS.md from the documents alone: a model that shares nothing with the map's code.
 
     tests/witness_model.py [--granted] < SCRIPT
 

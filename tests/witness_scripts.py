@@ -1,4 +1,4 @@
-"""Scripts of calls that are made at random, in the language of docs/WITNESS.md."""
+"""Scripts of calls that are made at random, in the language of docs/SCRIPTS.md."""
 
 from model.basics import GREATEST, MOST_PAIRS, RULES, Key, capacity_for
 from model.lines import COUNTED, LIMITS, OTHER_LIMITS, OWNING_LIMITS, name_of
@@ -19,7 +19,7 @@ PHASES = {
 }
 
 # In a form K stands for a key, L for one that is likely held, F for a form of a key, H for a hash, W for what a match
-# accepts, V for a value, N for a number to add, M for a divisor, S for a size, C for the limit and R for the rule of another
+# accepts, V for a value, I for an index, N for a number to add, M for a divisor, S for a size, C for the limit and R for the rule of another
 # map, P for a maker and ITEMS for some pairs.
 ADD = (
     "insert K V", "insert K V", "insert K V", "insert_nocheck K V", "insert_nocheck K V", "entry K or_insert V",
@@ -29,19 +29,19 @@ ADD = (
     "raw_hashed K V", "raw_match H K V", "extend K V K V K V", "extend K V", "error insert K V",
 )
 READ = (
-    "get F", "get F", "get_key_value F", "contains_key F", "index F", "entry K read", "entry K key",
-    "entry K into_key", "raw_entry F", "raw_entry_hashed F", "raw_entry_match H W", "raw_find F", "raw_find_hashed F",
-    "raw_find_match H W", "raw K read", "raw K key_mut", "raw K into_key", "entry K debug", "raw K debug",
-    "error entry K",
+    "get F", "get F", "get_key_value F", "contains_key F", "index F", "get_index_of F", "get_index I", "get_index I",
+    "first", "last", "entry K read", "entry K key", "entry K index", "entry K into_key", "raw_entry F",
+    "raw_entry_hashed F", "raw_entry_match H W", "raw_find F", "raw_find_hashed F", "raw_find_match H W", "raw K read",
+    "raw K index", "raw K key_mut", "raw K into_key", "entry K debug", "raw K debug", "error entry K",
 )
 WRITE = (
-    "get_mut F V", "entry K get_mut N", "entry K into_mut N", "entry K replace N", "entry K lose_insert V",
-    "entry K handed", "raw K and_modify N", "raw K handed", "raw K write V", "raw K get_mut N", "raw K value_mut N",
-    "raw K into_mut N", "raw K into_key_value N", "raw K insert_key",
+    "get_mut F V", "get_index_mut I V", "entry K get_mut N", "entry K into_mut N", "entry K replace N",
+    "entry K lose_insert V", "entry K handed", "raw K and_modify N", "raw K handed", "raw K write V", "raw K get_mut N",
+    "raw K value_mut N", "raw K into_mut N", "raw K into_key_value N", "raw K insert_key",
 )
 TAKE = (
-    "remove F", "remove F", "remove_entry F", "entry K remove", "entry K remove_entry", "entry K lose",
-    "raw K remove", "raw K remove_entry",
+    "remove F", "remove F", "remove_entry F", "remove_entry_hashed F", "pop", "swap_remove_index I", "entry K remove",
+    "entry K remove_entry", "entry K lose", "raw K remove", "raw K remove_entry",
 )
 ALL = (
     "iter", "keys", "values", "pairs", "pairs", "iter_mut N", "values_mut N", "values_slice_mut N", "state", "debug",
@@ -80,7 +80,10 @@ BEYOND = (
     "insert K V", "insert K V", "insert_nocheck K V", "entry K or_insert V", "raw K add V",
     "run insert_new K V is_vec", "run raw_or_insert K V shrink",
 )
-BACK = ("remove K", "remove K", "remove_entry K", "entry K remove", "raw K remove", "run shrink remove K is_vec")
+BACK = (
+    "remove K", "remove K", "remove_entry K", "remove_entry_hashed K", "entry K remove", "raw K remove",
+    "run shrink remove K is_vec",
+)
 SHRINK = ("shrink_to_fit", "shrink_to_fit", "shrink_to_fit", "run shrink", "run is_vec shrink is_vec len")
 
 # The printed text of these takes memory of the program's own, so that they are not refused any.
@@ -107,7 +110,11 @@ BAD = (
     "counted error insert 1 2", "pairs 1", "drop 1", "debug_pretty 1", "from_iter_hint", "from_iter_hint x",
     "from_iter_hint 1 2", "collect 1", "entry 1 handed 2", "raw 1 key_mut 2", "raw 1 handed 1", "raw_entry_mut 1",
     "counted raw_entry_mut_debug", "counted raw_entry_debug", "counted entry 1 debug", "counted raw 1 debug",
-    "counted from_iter_hint 1", "counted eq", "counted shrink_to_fit",
+    "counted from_iter_hint 1", "counted eq", "counted shrink_to_fit", "get_index", "get_index x", "get_index @1",
+    "get_index 1 2", "get_index_mut 1", "get_index_mut 1#2 3", "get_index_of", "get_index_of 1 2", "first 1", "last 1",
+    "pop 1", "swap_remove_index", "swap_remove_index 1 2", "remove_entry_hashed", "entry 1 index 2", "raw 1 index 2",
+    "counted get_index 0", "counted get_index_mut 0 1", "counted first", "counted last", "counted pop",
+    "counted swap_remove_index 0",
 )
 
 
@@ -193,6 +200,7 @@ class Script:
             "W": lambda: self.which(id_),
             "H": lambda: self.hash_for(id_),
             "V": lambda: str(chance.randrange(1000)),
+            "I": lambda: str(chance.choice((0, 0, 1, 1, 2, 3, 4, 5, 6, 7, 12, 31, 32, GREATEST))),
             "N": lambda: str(chance.choice((0, 1, 7, 100, GREATEST))),
             "M": lambda: str(chance.choice((0, 1, 2, 2, 3, 3, 5, 7))),
             "S": self.size,

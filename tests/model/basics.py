@@ -1,4 +1,4 @@
-"""Keys, pairs, counts and capacities, by docs/WITNESS.md and the words of specs/ that it names."""
+"""Keys, pairs, counts and capacities, by docs/SCRIPTS.md and the words of specs/ that it names."""
 
 import dataclasses
 

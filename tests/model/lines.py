@@ -1,4 +1,4 @@
-"""The lines of docs/WITNESS.md: their words are read, and the calls are found by their names."""
+"""The lines of docs/SCRIPTS.md: their words are read, and the calls are found by their names."""
 
 import dataclasses
 import re
@@ -28,7 +28,7 @@ WITH_CLOSURE |= {f"entry {action}" for action in ("lose_insert", "handed")}
 WITH_CLOSURE |= {f"raw {action}" for action in ("or_insert_with", "and_modify", "handed", "add_with_hasher")}
 # Before which `counted` may stand, with the calls of entries and raw entries.
 COUNTED = {"same", "same_as", "same_from", "from_iter", "run", "insert", "insert_nocheck", "remove", "remove_entry"}
-COUNTED |= {"get", "get_mut", "get_key_value", "contains_key", "index"}
+COUNTED |= {"get", "get_mut", "get_key_value", "contains_key", "index", "get_index_of", "remove_entry_hashed"}
 
 
 def first_word(form):

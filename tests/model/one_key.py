@@ -83,6 +83,10 @@ def handed_at(a, index):
     return f"handed {replace_at(a, index).key}"
 
 
+def index_at(a, index, *_):
+    return index
+
+
 def take_value_at(a, index):
     return a.take_out(index).value
 
@@ -196,6 +200,26 @@ def shrink_to_fit(a):
     return "done"
 
 
+# The calls by an index in the order of the pairs.
+
+
+def at_index(action):
+    """What is done with the pair at this index, or `none` where there is none. Nothing is searched."""
+
+    def answer(a, index, *said):
+        return action(a, index, *said) if 0 <= index < len(a.pairs) else "none"
+
+    return answer
+
+
+def at_first(action):
+    return lambda a: at_index(action)(a, 0)
+
+
+def at_last(action):
+    return lambda a: at_index(action)(a, len(a.pairs) - 1)
+
+
 # Errors that are printed.
 
 TEXTS = {"size": "more than 2^60 pairs", "memory": "memory could not be allocated"}
@@ -225,6 +249,14 @@ BASIC_CALLS = {
     "index FORM_OF_KEY": by(Map.find_held, value_at, "not held"),
     "remove FORM_OF_KEY": by(Map.find, take_value_at, "none"),
     "remove_entry FORM_OF_KEY": by(Map.find, Map.take_out, "none"),
+    "remove_entry_hashed FORM_OF_KEY": by(Map.find_hashed, Map.take_out, "none"),
+    "get_index N": at_index(pair_at),
+    "get_index_mut N V": at_index(write_at),
+    "get_index_of FORM_OF_KEY": by(Map.find, index_at, "none"),
+    "first": at_first(pair_at),
+    "last": at_last(pair_at),
+    "pop": at_last(Map.take_out),
+    "swap_remove_index N": at_index(Map.take_out),
     "clear": clear,
     "reserve N": reserve,
     "shrink_to_fit": shrink_to_fit,
@@ -240,6 +272,7 @@ BASIC_CALLS = {
 ENTRY_CALLS = {
     "entry KEY read": by(Map.entry, occupied_at, saying("vacant", this_key)),
     "entry KEY key": by(Map.entry, key_at, this_key),
+    "entry KEY index": by(Map.entry, index_at, "vacant"),
     "entry KEY or_insert V": by(Map.entry, value_at, append_value),
     "entry KEY or_insert_with V": by(Map.entry, value_at, calling(append_value)),
     "entry KEY or_default": by(Map.entry, value_at, append_value),
@@ -273,6 +306,7 @@ RAW_CALLS = {
     "raw_entry_mut": raw_entry_mut,
     "raw_entry_mut_debug": raw_entry_mut_debug,
     "raw KEY read": by(Map.raw_entry, occupied_at, "vacant"),
+    "raw KEY index": by(Map.raw_entry, index_at, "vacant"),
     "raw KEY or_insert V": by(Map.raw_entry, pair_at, Map.append_hashing),
     "raw KEY or_insert_with V": by(Map.raw_entry, pair_at, calling(Map.append_hashing)),
     "raw KEY or_insert_entry V": by(Map.raw_entry, pair_at, Map.append_hashing),

@@ -1,7 +1,7 @@
 -- A pair that is added at the end of a probe.
 use Rattle.std.proofs.Common.{◌≡◌, ◌≢◌, ℕ, ◌+◌, ◌<◌, ◌≤◌, Bool, inl, inr, refl, sym, ap, ◌∙◌, subst, arith, List, [], ◌∷◌, ◌++◌, length, set, replicate, slice_index, Option, Some, None, unwrap_or, count_by}
 use Rattle.std.proofs.lemmas.Bool.{cases_lt, cases_eq}
-use Rattle.std.proofs.lemmas.List.{length-set, length_push, length-replicate, map_push, get_or-set_same, get_or-set_other, get_or_append_left, get_or_push, get_or-replicate, get_or_past}
+use Rattle.std.proofs.lemmas.List.{ext_get_or, length-set, length_push, length-replicate, map_push, get_or-set_same, get_or-set_other, get_or_append_left, get_or_push, get_or-replicate, get_or_past}
 use Rattle.std.proofs.lemmas.List.Sums.{sum_by_push, sum_by-set}
 use Rattle.std.proofs.lemmas.Option.{same_Some}
 use Rattle.half_store.specs.Reach.{home, probe_distance}
@@ -26,6 +26,16 @@ index_set entry_of p n l = get_or-set_same entry_of p n 0 l
 
 pub index_other : (entry_of : List ℕ) (p q n : ℕ) → q ≢ p → slice_index (set entry_of p n) q ≡ slice_index entry_of q
 index_other entry_of p q n ne = get_or-set_other entry_of p q n 0 ne
+
+-- a bucket that is written twice has the second word
+pub set-again : (words : List ℕ) (p m n : ℕ) → p < length words → set (set words p m) p n ≡ set words p n
+set-again words p m n l =
+    ext_get_or 0 (set (set words p m) p n) (set words p n) (length-set (set words p m) p n ∙ length-set words p m ∙ sym (length-set words p n))
+    (λ q k.
+    elim (cases_eq q p) [
+      | inl e ↦ ap (slice_index (set (set words p m) p n)) e ∙ index_set (set words p m) p n (omega (arith, length-set words p m)) ∙ sym (ap (slice_index (set words p n)) e ∙ index_set words p n l)
+      | inr ne ↦ index_other (set words p m) p q n ne ∙ index_other words p q m ne ∙ sym (index_other words p q n ne)
+    ])
 
 -- how a write changes a count over the buckets
 pub stored-set : (test : ℕ → Bool) (slots : List (Option ℕ)) (p : ℕ) (o : Option ℕ) → p < length slots → count_by (stored test) (set slots p o) + tick (stored test (slot_at slots p)) ≡ count_by (stored test) slots + tick (stored test o)

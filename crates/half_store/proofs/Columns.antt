@@ -1,18 +1,27 @@
 -- What the two columns of a `VecMap` are to its list of pairs.
-use Rattle.std.proofs.Common.{◌≡◌, ℕ, min, List, length, sym, ap, ◌∙◌}
+use Rattle.std.proofs.Common.{◌≡◌, ℕ, min, List, length, refl, sym, ap, ◌∙◌}
 use Rattle.std.proofs.lemmas.Map.Made.{keys_of-zip}
 use Rattle.std.proofs.lemmas.Slice.Zip.{seconds-zip}
 use Rattle.std.specs.List.{zip, refill}
 use Rattle.std.specs.declared.vec.Vec.{Vec}
 use Rattle.std.specs.Map.{keys_of, values_of}
 use Rattle.half_store.proofs.Zip.{length-zip, zip-refill}
-use Rattle.half_store.specs.Pairs.{Pairs, columns_with, set_values}
+use Rattle.half_store.specs.Pairs.{Pairs, Memory, columns_with, set_values}
 
 module _ {K V Z : Type 0} where
+  -- the capacities of two columns
+  abbrev pub memory_of : Vec K Z → Vec V Z → Memory
+  memory_of keys values = record { keys = keys.cap; values = values.cap }
+
+  -- what a map sees of its columns
+  abbrev pub seen : Vec K Z → Vec V Z → Pairs K V
+  seen keys values = record { pairs = zip keys.items values.items; capacity = min keys.cap values.cap; memory = memory_of keys values }
+
   -- what is known of the columns of a map whose pairs and capacity are these
   pub record Opened (keys : Vec K Z) (values : Vec V Z) (map : Pairs K V) : Type 0 where
     pub pairs : zip keys.items values.items ≡ map.pairs
     pub capacity : min keys.cap values.cap ≡ map.capacity
+    pub memory : memory_of keys values ≡ map.memory
     pub keys_are : keys.items ≡ keys_of map.pairs
     pub values_are : values.items ≡ values_of map.pairs
     pub keys_length : length keys.items ≡ length map.pairs
@@ -20,8 +29,7 @@ module _ {K V Z : Type 0} where
     pub keys_len : keys.len ≡ length map.pairs
     pub values_len : values.len ≡ length map.pairs
 
-  pub opened : (keys : Vec K Z) (values : Vec V Z) (map : Pairs K V)
-      → ◌≡◌ {A = Pairs K V} (record { pairs = zip keys.items values.items; capacity = min keys.cap values.cap }) map
+  pub opened : (keys : Vec K Z) (values : Vec V Z) (map : Pairs K V) → seen keys values ≡ map
       → length values.items ≡ length keys.items → Opened keys values map
   opened keys values map view even =
       let same : zip keys.items values.items ≡ map.pairs = ap (λ m. m.pairs) view in
@@ -29,6 +37,7 @@ module _ {K V Z : Type 0} where
       record {
         pairs = same;
         capacity = ap (λ m. m.capacity) view;
+        memory = ap (λ m. m.memory) view;
         keys_are = sym (keys_of-zip keys.items values.items even) ∙ ap keys_of same;
         values_are = sym (seconds-zip keys.items values.items even) ∙ ap values_of same;
         keys_length = n;
@@ -37,20 +46,22 @@ module _ {K V Z : Type 0} where
         values_len = values.ok.0 ∙ even ∙ n;
       }
 
-module _ {K V : Type 0} where
-  -- a map of these pairs with the capacity of another
-  pub pairs_are : (map : Pairs K V) {ps qs : List (K × V)} {capacity : ℕ} → ps ≡ qs → capacity ≡ map.capacity
-      → ◌≡◌ {A = Pairs K V} (record { pairs = ps; capacity = capacity }) (columns_with map qs)
-  pairs_are map p q = λ i. record { pairs = p i; capacity = q i }
+module _ {K V Z : Type 0} {keys : Vec K Z} {values : Vec V Z} {map : Pairs K V} (o : Opened keys values map) where
+  -- a map of these pairs, whose columns keep their capacities
+  pub pairs_are : {ps qs : List (K × V)} {key_cap value_cap : ℕ} → ps ≡ qs → key_cap ≡ keys.cap → value_cap ≡ values.cap
+      → ◌≡◌ {A = Pairs K V} (record { pairs = ps; capacity = min key_cap value_cap; memory = record { keys = key_cap; values = value_cap } }) (columns_with map qs)
+  pairs_are {ps} {qs} p k v =
+      (λ i. record { pairs = p i; capacity = min (k i) (v i); memory = record { keys = k i; values = v i } })
+      ∙ (λ i. record { pairs = qs; capacity = o.capacity i; memory = o.memory i })
 
 module _ {K V Z : Type 0} where
   -- the map whose values are written, one after the other
-  pub written : (keys : Vec K Z) (values : Vec V Z) (map : Pairs K V)
-      → ◌≡◌ {A = Pairs K V} (record { pairs = zip keys.items values.items; capacity = min keys.cap values.cap }) map
+  pub written : (keys : Vec K Z) (values : Vec V Z) (map : Pairs K V) → seen keys values ≡ map
       → length values.items ≡ length keys.items → (w : List V)
-      → ◌≡◌ {A = Pairs K V} (record { pairs = zip keys.items (refill values.len values.items w); capacity = min keys.cap values.cap }) (columns_with map (set_values map.pairs w))
+      → ◌≡◌ {A = Pairs K V} (record { pairs = zip keys.items (refill values.len values.items w); capacity = min keys.cap values.cap; memory = memory_of keys values })
+      (columns_with map (set_values map.pairs w))
   written keys values map view even w =
       let o = opened keys values map view even in
-      pairs_are map
+      pairs_are o
       (ap (λ n. zip keys.items (refill n values.items w)) values.ok.0 ∙ zip-refill keys.items values.items w even ∙ ap (λ ps. set_values ps w) o.pairs)
-      o.capacity
+      refl refl

@@ -1,5 +1,5 @@
 -- Backward-shift deletion: what holds while the probe goes on, and that the order is whole again at its end.
-use Rattle.std.proofs.Common.{◌≡◌, ◌≢◌, ℕ, suc, ◌-◌, ◌<◌, ◌≤◌, ◌⊎◌, inl, inr, sym, ap, ◌∙◌, subst, arith, List, length, set, slice_index, Option, Some, None}
+use Rattle.std.proofs.Common.{◌≡◌, ◌≢◌, ℕ, suc, ◌+◌, ◌-◌, ◌<◌, ◌≤◌, ◌⊎◌, inl, inr, sym, ap, ◌∙◌, subst, arith, List, length, set, slice_index, Option, Some, None}
 use Rattle.std.proofs.lemmas.Bool.{cases_lt, cases_eq}
 use Rattle.std.proofs.lemmas.List.{length-set}
 use Rattle.std.proofs.lemmas.Option.{same_Some}
@@ -69,8 +69,16 @@ module _ (m : ℕ) (slots : List (Option ℕ)) where
     pub bucket-lt : bucket < m
     bucket-lt = subst (λ p. p < m) (sym g.on_the_way) (bucket_after-lt m start g.start_in (suc count) (omega (arith, few)))
 
-    bucket_distance : probe_distance m start bucket ≡ suc count
+    pub bucket_distance : probe_distance m start bucket ≡ suc count
     bucket_distance = ap (probe_distance m start) g.on_the_way ∙ probe_distance-bucket_after m start g.start_in (suc count) few
+
+    -- the gap is farther back
+    pub Gap-distance : probe_distance m gap bucket + probe_distance m start gap ≡ suc count
+    Gap-distance =
+        omega (arith, g.gap_near, bucket_distance, bucket-lt, g.gap_in, g.start_in, distance_is m start gap g.start_in, distance_is m start bucket g.start_in, distance_is m gap bucket g.gap_in)
+
+    pub Gap-apart : bucket ≢ gap
+    Gap-apart same = absurd (omega (arith, g.gap_near, bucket_distance, ap (probe_distance m start) same))
 
     within : (q : ℕ) → slot_at slots q ≢ None → q < m
     within q full = let l = full-lt slots q full in let e = g.size in omega arith

@@ -251,12 +251,12 @@ module _ {hashes buckets bucket_of : List ℕ} (x : IsIndex hashes buckets bucke
 pub IsIndexed-as : (hashes hashes' buckets buckets' : List ℕ) → hashes' ≡ hashes → buckets' ≡ buckets → IsIndexed hashes buckets → IsIndexed hashes' buckets'
 IsIndexed-as hashes hs buckets bs h b x = subst (λ y. IsIndexed y bs) (sym h) (subst (IsIndexed hashes) (sym b) x)
 
--- equal columns whose capacities are enough
+-- equal columns, with the capacity that they want
 pub IsTable-as : (hashes buckets : List ℕ) {hashes' buckets' : List ℕ} {most most' capacity : ℕ} → hashes' ≡ hashes → buckets' ≡ buckets → most' ≡ most
-    → IsIndexed hashes buckets → capacity_of (length buckets) ≤ most → capacity_of (length buckets) ≤ capacity → IsTable hashes' buckets' most' capacity
-IsTable-as hashes buckets {hashes'} {buckets'} h b m x fits enough =
+    → IsIndexed hashes buckets → capacity_of (length buckets) ≤ most → capacity ≡ capacity_of (length buckets) → IsTable hashes' buckets' most' capacity
+IsTable-as hashes buckets {hashes'} {buckets'} h b m x fits exact =
     let same = ap capacity_of (ap length b) in
-    record { indexed = IsIndexed-as hashes hashes' buckets buckets' h b x; fits = omega (arith, same, m); reserved = omega (arith, same) }
+    record { indexed = IsIndexed-as hashes hashes' buckets buckets' h b x; fits = omega (arith, same, m); exact = omega (arith, same, exact) }
 
 -- one pair more, at a vacancy for its hash
 pub IsIndexed-add : (hashes buckets : List ℕ) (x : IsIndexed hashes buckets) (p h : ℕ) → IsVacancyFor (slots_by hashes buckets) h p → length hashes < capacity_of (length buckets)

@@ -1,5 +1,5 @@
 -- What stays true of a store whose columns change.
-use Rattle.std.proofs.Common.{◌≡◌, ℕ, zero, suc, ◌≤◌, List, [], ◌∷◌, length, Option, None, Some, is_none, if◌then◌else◌, refl, sym, ap, subst, ◌∙◌}
+use Rattle.std.proofs.Common.{◌≡◌, ℕ, zero, suc, ◌≤◌, List, [], ◌∷◌, length, Option, None, Some, true, is_none, if◌then◌else◌, refl, sym, ap, subst, ◌∙◌}
 use Rattle.std.proofs.lemmas.Option.{same_Some}
 use Rattle.std.specs.Borrow.{Bor}
 use Rattle.half_store.specs.Capacity.{capacity_of}
@@ -28,6 +28,11 @@ module _ {K V : Type 0} where
   pub vector_view : (columns : Pairs K V) {index : Option TableState} {s : StoreState K V} → index ≡ None → store_of columns index ≡ s → vector_of columns ≡ s
   vector_view columns is view = ap (store_of columns) (sym is) ∙ view
 
+  -- a store that is a vector has none
+  pub no_index : (columns : Pairs K V) (index : Option TableState) {s : StoreState K V} → store_of columns index ≡ s → s.is_vec ≡ true → index ≡ None
+  no_index columns None view is = refl
+  no_index columns (Some t) view is = absurd (cc (ap (λ s. s.is_vec) view, is))
+
   -- and with one a table of both
   pub table_view : (columns : Pairs K V) (t : TableState) {index : Option TableState} {s : StoreState K V} → index ≡ Some t → store_of columns index ≡ s → table_of columns t ≡ s
   table_view columns t is view = ap (store_of columns) (sym is) ∙ view
@@ -37,17 +42,19 @@ module _ {K V : Type 0} where
   pairs_of-store columns None = refl
   pairs_of-store columns (Some t) = refl
 
-  -- with the same index the form stays, and with the same capacity of the columns the capacity does
-  pub keeps_form : (index : Option TableState) (old new : Pairs K V) {s : StoreState K V} → store_of old index ≡ s → new.capacity ≡ old.capacity → KeepsForm s (store_of new index)
-  keeps_form None old new view capacity = record { form = ap (λ s. s.is_vec) view; capacity = capacity ∙ ap (λ s. s.capacity) view }
-  keeps_form (Some t) old new view capacity = record { form = ap (λ s. s.is_vec) view; capacity = ap (λ s. s.capacity) view }
+  -- with the same index the form stays, and with the same capacity and memory of the columns both do
+  pub keeps_form : (index : Option TableState) (old new : Pairs K V) {s : StoreState K V} → store_of old index ≡ s → new.capacity ≡ old.capacity → new.memory ≡ old.memory → KeepsForm s (store_of new index)
+  keeps_form None old new view capacity memory =
+      record { form = ap (λ s. s.is_vec) view; capacity = capacity ∙ ap (λ s. s.capacity) view; memory = memory ∙ ap (λ s. s.memory) view }
+  keeps_form (Some t) old new view capacity memory =
+      record { form = ap (λ s. s.is_vec) view; capacity = ap (λ s. s.capacity) view; memory = memory ∙ ap (λ s. s.memory) view }
 
-  -- and of a table that has another index with as many buckets both stay
-  pub table_keeps_form : (old new : Pairs K V) {t after : TableState} {index : Option TableState} {s : StoreState K V} → index ≡ Some t → store_of old index ≡ s → after.buckets ≡ t.buckets
+  -- and of a table that has another index with as many buckets
+  pub table_keeps_form : (old new : Pairs K V) {t after : TableState} {index : Option TableState} {s : StoreState K V} → index ≡ Some t → store_of old index ≡ s → after.buckets ≡ t.buckets → new.memory ≡ old.memory
       → KeepsForm s (table_of new after)
-  table_keeps_form old new {t} is view buckets =
+  table_keeps_form old new {t} is view buckets memory =
       let was = table_view old t is view in
-      record { form = ap (λ s. s.is_vec) was; capacity = ap capacity_of buckets ∙ ap (λ s. s.capacity) was }
+      record { form = ap (λ s. s.is_vec) was; capacity = ap capacity_of buckets ∙ ap (λ s. s.capacity) was; memory = memory ∙ ap (λ s. s.memory) was }
 
   -- as many pairs, with the same capacity, have the same index
   pub kept_store : (index : Option TableState) (old new : Pairs K V) → length new.pairs ≡ length old.pairs → new.capacity ≡ old.capacity → IsStore old index → IsStore new index

@@ -1,5 +1,7 @@
 -- Why a call that needs more capacity may be refused.
 use Rattle.std.specs.Prelude.{ℕ, ◌^◌, nat_lt, List, codes, if◌then◌else◌}
+use Rattle.std.specs.declared.io.ErrorKind.{ErrorKind}
+use Rattle.std.specs.declared.io.ErrorKind.TheVariants.{OutOfMemory, InvalidInput}
 use Rattle.half_store.specs.declared.refusal.Refusal.{Refusal}
 use Rattle.half_store.specs.declared.refusal.Refusal.TheVariants.{Memory, Size}
 
@@ -11,3 +13,8 @@ refusal_of needed = if nat_lt (2 ^ 60) needed then Size else Memory
 abbrev pub text_of : Refusal → List ℕ
 text_of Memory = codes "memory could not be allocated"
 text_of Size = codes "more than 2^60 pairs"
+
+-- the kind of the `io::Error` that a reason becomes
+abbrev pub kind_of : Refusal → ErrorKind
+kind_of Memory = OutOfMemory
+kind_of Size = InvalidInput

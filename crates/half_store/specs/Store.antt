@@ -1,27 +1,28 @@
 -- What contracts see of a store.
 use Rattle.std.specs.Prelude.{◌≡◌, ℕ, ◌+◌, ◌≤◌, Bool, true, false, List, [], ◌∷◌, ◌++◌, length, reverse, min, Option, None, Some, if◌then◌else◌}
 use Rattle.half_store.specs.declared.store.lookup.Vacancy.{Vacancy}
-use Rattle.half_store.specs.Capacity.{capacity_of}
-use Rattle.half_store.specs.Pairs.{Pairs, columns_with}
+use Rattle.half_store.specs.Capacity.{capacity_of, capacity_for, grown_capacity}
+use Rattle.half_store.specs.Pairs.{Pairs, Memory, memory_code, columns_with}
 use Rattle.half_store.specs.Table.{TableState, Contents, contents_of, no_contents, contents_code, with_hash_in, IsVacancyIn}
 use base.Stored.{Coded, coded×, coded_list, coded_ℕ, coded_bool, coded_via}
 
--- the form, the pairs in order, and how many fit; the stored hashes by entry index and what the buckets contain, of which a vector has none
+-- the form, the pairs in order, how many fit, and the capacity of each column; the stored hashes by entry index and what the buckets contain, of which a vector has none
 pub record StoreState (K V : Type 0) : Type 0 where
   pub is_vec : Bool
   pub pairs : List (K × V)
   pub capacity : ℕ
+  pub memory : Memory
   pub hashes : List ℕ
   pub contents : Contents
 
 module _ {K V : Type 0} where
   -- a vector of these columns
   abbrev pub vector_of : Pairs K V → StoreState K V
-  vector_of columns = record { is_vec = true; pairs = columns.pairs; capacity = columns.capacity; hashes = []; contents = no_contents }
+  vector_of columns = record { is_vec = true; pairs = columns.pairs; capacity = columns.capacity; memory = columns.memory; hashes = []; contents = no_contents }
 
   -- a table of these columns and this index, which decides how many pairs fit
   abbrev pub table_of : Pairs K V → TableState → StoreState K V
-  table_of columns t = record { is_vec = false; pairs = columns.pairs; capacity = capacity_of t.buckets; hashes = t.hashes; contents = contents_of t }
+  table_of columns t = record { is_vec = false; pairs = columns.pairs; capacity = capacity_of t.buckets; memory = columns.memory; hashes = t.hashes; contents = contents_of t }
 
   -- columns without an index are a vector
   abbrev pub store_of : Pairs K V → Option TableState → StoreState K V
@@ -47,14 +48,19 @@ module _ {K V : Type 0} where
   IsDrained columns None = Unit {0}
   IsDrained columns (Some t) = capacity_of t.buckets ≤ columns.capacity
 
-  -- the form and the capacity stay
+  -- the form, the capacity and the columns' memory stay
   pub record KeepsForm (old new : StoreState K V) : Type 0 where
     pub form : new.is_vec ≡ old.is_vec
     pub capacity : new.capacity ≡ old.capacity
+    pub memory : new.memory ≡ old.memory
 
   -- the store with these pairs, all else the same
   abbrev pub with_pairs : StoreState K V → List (K × V) → StoreState K V
   with_pairs s ps = record s { pairs = ps }
+
+  -- the store in columns of this memory, all else the same
+  abbrev pub in_memory : StoreState K V → Memory → StoreState K V
+  in_memory s memory = record s { memory = memory }
 
 -- as many of `capacity` pairs as a form may hold: a vector no more than the limit
 abbrev pub allowed : ℕ → Bool → ℕ → ℕ
@@ -68,6 +74,11 @@ module _ {K V : Type 0} (limit : ℕ) where
   -- how many pairs in all a reservation for so many more is for
   abbrev pub reserved : StoreState K V → ℕ → ℕ
   reserved s additional = allowed limit s.is_vec (length s.pairs + additional)
+
+  -- the capacity that it makes where there is less: in a table the least of its series that is enough
+  abbrev pub reserved_capacity : StoreState K V → ℕ → ℕ
+  reserved_capacity s additional =
+      if s.is_vec then grown_capacity limit s.capacity (reserved s additional) else capacity_for (reserved s additional)
 
 -- a pair of this hash may be added here: in a table at the empty bucket where an insertion probe for it ends; a vector looks at neither
 abbrev pub IsVacancy : Bool → Contents → ℕ → Vacancy → Type 0
@@ -83,11 +94,19 @@ pushed s k v vacancy = record {
   is_vec = s.is_vec;
   pairs = s.pairs ++ (k, v) ∷ [];
   capacity = s.capacity;
+  memory = s.memory;
   hashes = if s.is_vec then s.hashes else s.hashes ++ vacancy.hash ∷ [];
   contents = filled s.is_vec s.contents vacancy;
 }
 
 abbrev pub store_code : {K V : Type 0} → Coded K → Coded V → Coded (StoreState K V)
-store_code k v = coded_via (coded× coded_bool (coded× (coded_list (coded× k v)) (coded× coded_ℕ (coded× (coded_list coded_ℕ) contents_code))))
-    (λ s. (s.is_vec, (s.pairs, (s.capacity, (s.hashes, s.contents)))))
-    (λ a b e i. record { is_vec = (e i).0; pairs = (e i).1.0; capacity = (e i).1.1.0; hashes = (e i).1.1.1.0; contents = (e i).1.1.1.1 })
+store_code k v = coded_via (coded× coded_bool (coded× (coded_list (coded× k v)) (coded× coded_ℕ (coded× memory_code (coded× (coded_list coded_ℕ) contents_code)))))
+    (λ s. (s.is_vec, (s.pairs, (s.capacity, (s.memory, (s.hashes, s.contents))))))
+    (λ a b e i. record {
+      is_vec = (e i).0;
+      pairs = (e i).1.0;
+      capacity = (e i).1.1.0;
+      memory = (e i).1.1.1.0;
+      hashes = (e i).1.1.1.1.0;
+      contents = (e i).1.1.1.1.1;
+    })

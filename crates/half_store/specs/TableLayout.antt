@@ -55,11 +55,12 @@ pub record IsBucketOf (hashes buckets : List ℕ) (index bucket : ℕ) : Type 0 
   pub full : slot_at (slots_by hashes buckets) bucket ≢ None
   pub entry : slice_index (entries_by buckets) bucket ≡ index
 
--- what is always true of a table's columns: words up to `most` fit its buckets, and the column of the hashes has this capacity
+-- what is always true of a table's columns: words up to `most` fit its buckets, and the column of the hashes, which has this
+-- capacity, is exactly as large as they want it
 pub record IsTable (hashes buckets : List ℕ) (most capacity : ℕ) : Type 0 where
   pub indexed : IsIndexed hashes buckets
   pub fits : capacity_of (length buckets) ≤ most
-  pub reserved : capacity_of (length buckets) ≤ capacity
+  pub exact : capacity ≡ capacity_of (length buckets)
 
 -- what a probe needs to know of the buckets
 pub record IsLaidOut (slots : List (Option ℕ)) (entry_of : List ℕ) : Type 0 where

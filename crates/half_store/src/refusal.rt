@@ -1,14 +1,26 @@
 //! Why a call that needs more capacity failed.
 ghost use Rattle.std.specs.Prelude.{◌≡◌, ◌^◌, ◌<◌, ◌≤◌, Some, OnOk, IfErr};
-ghost use Rattle.half_store.specs.Refusal.{text_of};
+ghost use Rattle.std.specs.IoError.{error_kind};
+ghost use Rattle.half_store.specs.Refusal.{kind_of, text_of};
 ghost use Rattle.half_store.specs.declared.refusal.Refusal.TheVariants.{Memory, Size};
 
 use crate::capacity::MOST_PAIRS;
-use std::alloc::AllocError;
+use std::alloc::{AllocError, AllocFailed};
 use std::error::Error;
-use std::fmt;
+use std::io::ErrorKind;
+use std::{fmt, io};
 
 /// Why a call failed. On error nothing changes.
+///
+/// `?` converts into it what std's own calls fail with, so that they stand beside calls of the map:
+///
+/// ```
+/// let mut names = Vec::new(alloc);
+/// names.push(format!(in alloc; "{name}")?)?;
+/// ages.insert(name, age)?;
+/// ```
+///
+/// And it converts a `Refusal` into an `io::Error`, as for a `main`.
 #[derive(Clone, Copy, Debug, PartialEq, Eq)]
 pub enum Refusal {
     /// Memory could not be allocated.
@@ -35,6 +47,28 @@ impl From<AllocError> for Refusal {
 
     fn from(_error: AllocError) -> Refusal {
         Refusal::Memory
+    }
+}
+
+// What `Vec::push` and its like fail with. The value that was not stored is dropped.
+impl<T: Drop> From<AllocFailed<T>> for Refusal {
+    ghost from_gives = { λ _ why. why ≡ Memory };
+
+    fn from(_failed: AllocFailed<T>) -> Refusal {
+        Refusal::Memory
+    }
+}
+
+impl From<Refusal> for io::Error {
+    ghost from_gives = { λ why error. error_kind error ≡ kind_of why };
+
+    fn from(why: Refusal) -> io::Error {
+        match why {
+            Refusal::Memory => {
+                io::Error::new(ErrorKind::OutOfMemory, "memory could not be allocated")
+            }
+            Refusal::Size => io::Error::new(ErrorKind::InvalidInput, "more than 2^60 pairs"),
+        }
     }
 }
 

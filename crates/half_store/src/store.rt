@@ -1,6 +1,7 @@
 //! Pairs in two forms over the same two columns: a vector, which is searched from first to last, or a table, which has an
 //! index.
 ghost use Rattle.std.specs.Prelude.{◌≡◌, ◌^◌, ◌<◌, [], length};
+ghost use Rattle.half_store.specs.Pairs.{no_pairs};
 ghost use Rattle.half_store.specs.Store.{vector_of, capacity_within, KeepsForm};
 
 mod at;
@@ -43,7 +44,7 @@ impl<K, V> Store<K, V> {
     /// let mut ages: Store<u64, u32> = Store::new(alloc);
     /// ```
     pub fn new(alloc: Global) -> Store<K, V>
-        ensures { result ≡ vector_of (record { pairs = []; capacity = 0 }) }
+        ensures { result ≡ vector_of no_pairs }
     {
         Store {
             columns: VecMap::new(alloc),

@@ -22,26 +22,28 @@ mod retain;
 use crate::Tally;
 use crate::buckets::HashedBuckets;
 use crate::capacity::capacity_of;
-use crate::words::{WordArray, Words};
+use crate::words::{FourByteLimit, WhereEnough, WordArray, Words};
 use deletion::remove_in;
 use find::{find_in, probe_in};
 use probe::Probe;
 use std::alloc::Global;
-use std::marker::Model;
+use std::marker::{Model, PhantomData};
 
 /// Buckets that lead from a hash to the entry indices of the pairs that have it.
 ///
 /// Entry indices count up in the order of insertion; a removal gives the last pair the index that became free. There are
-/// no buckets, or a power of two from 4 on, and the load factor is three quarters.
+/// no buckets, or a power of two from 4 on, and the load factor is three quarters. Up to the capacity of `L` a bucket takes four
+/// bytes, and above it eight.
 #[derive(Drop)]
-pub struct Table {
+pub struct Table<L: FourByteLimit = WhereEnough> {
     // 0 for an empty bucket, else the entry index and one more
     buckets: WordArray,
     // by entry index
     hashes: Vec<u64>,
+    four_bytes: PhantomData<L>,
 }
 
-impl Model for Table {
+impl<L: FourByteLimit> Model for Table<L> {
     ghost use Rattle.std.specs.Prelude.{vec_capacity};
     ghost use Rattle.half_store.specs.Buckets.{slots_by};
     ghost use Rattle.half_store.specs.Table.{TableState, table_state, table_state_code};
@@ -57,7 +59,7 @@ impl Model for Table {
     ghost invariant = { λ t. IsTable t.hashes.items (words_of t.buckets) (most_of t.buckets) (vec_capacity t.hashes) };
 }
 
-impl Table {
+impl<L: FourByteLimit> Table<L> {
     ghost use Rattle.half_store.specs.Buckets.{slots_by, entries_by, WithinHashes};
     ghost use Rattle.half_store.specs.TableLayout.{Shows};
     ghost use Rattle.half_store.specs.Words.{words_of};
@@ -65,14 +67,15 @@ impl Table {
     /// A table with no buckets. It takes no memory.
     ///
     /// ```
-    /// let none = Table::new(alloc); // no buckets
+    /// let none: Table = Table::new(alloc); // no buckets
     /// ```
-    pub fn new(alloc: Global) -> Table
+    pub fn new(alloc: Global) -> Table<L>
         ensures { result ≡ no_buckets }
     {
         Table {
             buckets: WordArray::new(alloc),
             hashes: Vec::new(alloc),
+            four_bytes: PhantomData,
         }
     }
 

@@ -2,7 +2,7 @@
 ghost use Rattle.std.specs.Prelude.{◌≡◌, ℕ, ◌^◌, ◌<◌, ◌≤◌, true, false, [], ◌∷◌, ◌++◌, length, reverse, slice_get, IfSome, IfNone};
 ghost use Rattle.std.specs.Borrow.{sem};
 ghost use Rattle.std.specs.Map.{keys_of, values_of};
-ghost use Rattle.half_store.specs.Pairs.{columns_with, set_key, set_value, swap_remove_at};
+ghost use Rattle.half_store.specs.Pairs.{no_pairs, columns_with, set_key, set_value, swap_remove_at};
 ghost use Rattle.half_store.specs.Work.{compared_more, first_match_cost};
 
 mod columns;
@@ -35,6 +35,7 @@ impl<K, V> Model for VecMap<K, V> {
     ghost view = { λ m. record {
       pairs = zip m.keys.items m.values.items;
       capacity = min (vec_capacity m.keys) (vec_capacity m.values);
+      memory = record { keys = vec_capacity m.keys; values = vec_capacity m.values };
     } };
 
     ghost invariant = { λ m. length m.values.items ≡ length m.keys.items };
@@ -49,8 +50,7 @@ impl<K, V> VecMap<K, V> {
     /// let none: VecMap<u64, u32> = VecMap::new(alloc);
     /// ```
     pub fn new(alloc: Global) -> VecMap<K, V>
-        ensures pairs { result.pairs ≡ [] }
-        ensures capacity { result.capacity ≡ 0 }
+        ensures { result ≡ no_pairs }
     {
         VecMap {
             keys: Vec::new(alloc),

@@ -3,6 +3,7 @@
 use crate::callers::{add_label, add_two, declare, forget, has_label, resolve, stored};
 use crate::drain_callers::{take_all, take_each, take_first};
 use crate::entry_callers::{count, count_up, meaning, toggle};
+use crate::index_callers::{forget_last, pair_by_index, remove_by_index, set_at};
 use crate::raw_callers::{cached, respell};
 use crate::worked::one_hash::a_miss_among_768;
 use crate::worked::vectors::an_overwrite_at_the_limit;
@@ -11,11 +12,11 @@ use std::test::Fail;
 use test_support::asserts::{assert_same, assert_true};
 use test_support::counts::Counts;
 
-type Numbers = HashMap<u64, u64, DefaultHashBuilder>;
+type Numbers = HashMap<u64, u64>;
 
 type Scope = SizedHashMap<u64, u64, DefaultHashBuilder, 8>;
 
-type Labels = HashMap<u64, (), DefaultHashBuilder>;
+type Labels = HashMap<u64, ()>;
 
 #[test]
 fn names_and_labels(rt: HostRuntime) -> Result<(), Fail> {
@@ -75,7 +76,7 @@ fn caches_and_spellings(rt: HostRuntime) -> Result<(), Fail> {
     let again = cached(&mut squares, 3, || 0, &mut Tally::new())?;
     assert_same((square, again), (9, 9), "not computed again")?;
     assert_same(respell(&mut squares, 3)?, Some(3), "the key before")?;
-    let mut ages = HashMap::<u64, u32, DefaultHashBuilder>::new(rt.alloc());
+    let mut ages = HashMap::<u64, u32>::new(rt.alloc());
     add_two(&mut ages, 36, 41)?;
     assert_same(ages.len(), 2, "two ages")
 }
@@ -87,4 +88,24 @@ fn worked_maps(rt: HostRuntime) -> Result<(), Fail> {
     assert_same((miss, counts.take().0), ((None, 768), 769), "key 769")?;
     let written = an_overwrite_at_the_limit(rt.alloc(), &counts, 3, &mut Tally::new())?;
     assert_same((written, counts.take().0), ((Some(3), 5, 6), 6), "key 3")
+}
+
+#[test]
+fn pairs_by_index(rt: HostRuntime) -> Result<(), Fail> {
+    let mut scope = Scope::new(rt.alloc());
+    for (name, meaning) in [(7, 70), (8, 80), (9, 90)] {
+        declare(&mut scope, name, meaning)?;
+    }
+    set_at(&mut scope, 1, 81);
+    let means = pair_by_index(&scope, &8).map(|pair| *pair.1);
+    assert_same(means, Some(81), "set by its index")?;
+    assert_same(remove_by_index(&mut scope, &7), Some((7, 70)), "the first")?;
+    assert_same(remove_by_index(&mut scope, &7), None, "it is gone")?;
+    assert_same(
+        forget_last(&mut scope),
+        Some((8, 81)),
+        "9 took the first index",
+    )?;
+    assert_same(forget_last(&mut scope), Some((9, 90)), "the other one")?;
+    assert_same(forget_last(&mut scope), None, "none is left")
 }

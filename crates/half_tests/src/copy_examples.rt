@@ -1,12 +1,12 @@
 //! The examples of clones and collections in the map's documentation, word for word, each with its result.
 
-use halfbrown::{DefaultHashBuilder, HashMap, Tally, hashmap};
+use halfbrown::{HashMap, Tally, hashmap};
 use std::test::Fail;
 use test_support::asserts::{assert_same, assert_true};
 
-type Ages = HashMap<u64, u32, DefaultHashBuilder>;
+type Ages = HashMap<u64, u32>;
 
-type Names = HashMap<u64, &'static str, DefaultHashBuilder>;
+type Names = HashMap<u64, &'static str>;
 
 #[test]
 fn a_clone(rt: HostRuntime) -> Result<(), Fail> {

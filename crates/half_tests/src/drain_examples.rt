@@ -1,12 +1,12 @@
 //! The examples of `drain` in the map's documentation, word for word, each with its result.
 
-use halfbrown::{DefaultHashBuilder, Drain, HashMap};
+use halfbrown::{Drain, HashMap};
 use std::test::Fail;
 use test_support::asserts::assert_same;
 
-type Ages = HashMap<u64, u32, DefaultHashBuilder>;
+type Ages = HashMap<u64, u32>;
 
-fn count(pairs: Drain<'_, u64, u32, 32, DefaultHashBuilder>) -> usize {
+fn count(pairs: Drain<'_, u64, u32, 32>) -> usize {
     pairs.len()
 }
 

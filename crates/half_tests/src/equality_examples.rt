@@ -4,7 +4,7 @@ use halfbrown::{DefaultHashBuilder, HashMap, SizedHashMap, Tally};
 use std::test::Fail;
 use test_support::asserts::{assert_same, assert_true};
 
-type Ages = HashMap<u64, u32, DefaultHashBuilder>;
+type Ages = HashMap<u64, u32>;
 
 type AgesInATable = SizedHashMap<u64, u32, DefaultHashBuilder, 0>;
 

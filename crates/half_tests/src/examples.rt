@@ -9,24 +9,28 @@ use std::hash::BuildHasher;
 use std::test::Fail;
 use test_support::asserts::{assert_same, assert_true};
 
-type Ages = HashMap<u64, u32, DefaultHashBuilder>;
+type Ages = HashMap<u64, u32>;
 
-type People = HashMap<String, u32, DefaultHashBuilder>;
+type People = HashMap<String, u32>;
 
 type Few = LimitedHashMap<u64, u32, DefaultHashBuilder, UpTo<8>>; // up to eight pairs in a vector
+
+type Scope = SizedHashMap<u64, u32, DefaultHashBuilder, 8>;
 
 #[test]
 fn a_map_and_its_limit(rt: HostRuntime) -> Result<(), Fail> {
     let alloc = rt.alloc();
-    let mut ages = Ages::new(alloc);
+    let mut ages = HashMap::<u64, u32>::new(alloc);
     ages.insert(1, 36)?;
     let age = ages.get(&1).copied(); // 36
     assert_same(age, Some(36), "the age of 1")?;
-    let mut scope = SizedHashMap::<u64, u32, DefaultHashBuilder, 8>::new(alloc);
+    let mut scope = SizedHashMap::<u64, u32, _, 8>::new(alloc);
     scope.insert(7, 70)?;
     assert_true(scope.is_vec(), "one of eight")?;
     let few = Few::new(alloc);
     assert_true(few.is_vec() && few.is_empty(), "none of eight")?;
+    let scope: Scope = few;
+    assert_true(scope.is_vec(), "one type under both names")?;
     Ok(())
 }
 
@@ -216,11 +220,11 @@ fn removing(rt: HostRuntime) -> Result<(), Fail> {
     Ok(())
 }
 
-fn take(entry: OccupiedEntry<'_, u64, u32, 32, DefaultHashBuilder>) -> u32 {
+fn take(entry: OccupiedEntry<'_, u64, u32, 32>) -> u32 {
     entry.remove()
 }
 
-fn sought(entry: &VacantEntry<'_, u64, u32, 32, DefaultHashBuilder>) -> u64 {
+fn sought(entry: &VacantEntry<'_, u64, u32, 32>) -> u64 {
     *entry.key()
 }
 

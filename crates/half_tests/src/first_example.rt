@@ -2,14 +2,14 @@
 
 ghost use Rattle.std.specs.Prelude.{◌≡◌, IfOk};
 
-use halfbrown::{DefaultHashBuilder, Refused, SizedHashMap};
+use halfbrown::{Refused, SizedHashMap};
 use std::alloc::Global;
 
 /// Ada's age after her birthday. Up to four pairs are stored in a vector; the fifth insertion would make a table.
 pub fn birthday(alloc: Global) -> Result<u32, Refused<u64, u32>>
     ensures { IfOk result (λ age. age ≡ 37) }
 {
-    let mut ages = SizedHashMap::<u64, u32, DefaultHashBuilder, 4>::new(alloc);
+    let mut ages = SizedHashMap::<u64, u32, _, 4>::new(alloc);
     ages.insert(1, 36)?;
     ages.insert(2, 41)?;
     ages.insert(1, 37)?;

@@ -29,7 +29,7 @@ fn assert_found_at<K: Eq + Hash + Debug + Drop, Q: Equivalent<K>, const N: usize
     form: Q,
     absent: Q,
 ) -> Result<(), Fail> {
-    let mut map = SizedHashMap::<K, u64, DefaultHashBuilder, N>::new(alloc);
+    let mut map = SizedHashMap::<K, u64, _, N>::new(alloc);
     map.insert(keys.0, 1)?;
     map.insert(keys.1, 2)?;
     assert_same_at(N, map.is_vec(), N > 0, "the form")?;
@@ -175,7 +175,7 @@ fn slices_are_looked_up_without_an_owner(rt: HostRuntime) -> Result<(), Fail> {
 #[test]
 fn a_text_key_is_indexed_by_a_text(rt: HostRuntime) -> Result<(), Fail> {
     let alloc = rt.alloc();
-    let mut map = HashMap::<String, u32, DefaultHashBuilder>::new(alloc);
+    let mut map = HashMap::<String, u32>::new(alloc);
     map.insert(String::from_str(alloc, "hello")?, 42)?;
     let value = if map.contains_key("hello") {
         map["hello"]

@@ -1,10 +1,10 @@
 //! The examples in the documentation of iterators, line by line, run and proved.
-use halfbrown::{DefaultHashBuilder, HashMap, Iter, IterMut, Keys, Refusal, Values, ValuesMut};
+use halfbrown::{HashMap, Iter, IterMut, Keys, Refusal, Values, ValuesMut};
 use std::alloc::Global;
 use std::test::Fail;
 use test_support::asserts::{assert_same, assert_true};
 
-type Ages = HashMap<u64, u64, DefaultHashBuilder>;
+type Ages = HashMap<u64, u64>;
 
 // The ages of 1 and 2.
 fn two_ages(alloc: Global) -> Result<Ages, Refusal> {

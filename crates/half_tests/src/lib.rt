@@ -10,6 +10,7 @@ pub mod copy_callers;
 mod copy_examples;
 #[cfg(test)]
 mod counted_reads;
+pub mod counting_callers;
 pub mod drain_callers;
 #[cfg(test)]
 mod drain_examples;
@@ -17,6 +18,7 @@ pub mod entry_callers;
 pub mod equality_callers;
 #[cfg(test)]
 mod equality_examples;
+pub mod error_callers;
 #[cfg(test)]
 mod examples;
 pub mod first_example;
@@ -24,6 +26,9 @@ pub mod first_example;
 mod form_examples;
 #[cfg(test)]
 mod forms_of_keys;
+pub mod index_callers;
+#[cfg(test)]
+mod index_examples;
 pub mod iter_callers;
 #[cfg(test)]
 mod iter_examples;
@@ -39,6 +44,7 @@ mod rust_tests;
 mod store_examples;
 #[cfg(test)]
 mod table_tests;
+pub mod text_callers;
 #[cfg(test)]
 mod texts;
 #[cfg(test)]

@@ -1,27 +1,27 @@
 //! The examples of raw entries in the map's documentation, word for word, each with its result.
 
 use halfbrown::{
-    DefaultHashBuilder, HashMap, RawEntryBuilder, RawEntryBuilderMut, RawEntryMut,
-    RawOccupiedEntryMut, RawVacantEntryMut, Refusal, Tally,
+    HashMap, RawEntryBuilder, RawEntryBuilderMut, RawEntryMut, RawOccupiedEntryMut,
+    RawVacantEntryMut, Refusal, Tally,
 };
 use std::alloc::Global;
 use std::hash::BuildHasher;
 use std::test::Fail;
 use test_support::asserts::{assert_same, assert_true};
 
-type Ages = HashMap<u64, u32, DefaultHashBuilder>;
+type Ages = HashMap<u64, u32>;
 
-fn known(ages: RawEntryBuilder<'_, u64, u32, 32, DefaultHashBuilder>) -> bool {
+fn known(ages: RawEntryBuilder<'_, u64, u32, 32>) -> bool {
     ages.from_key(&1).is_some()
 }
 
-fn leave_all(_ages: RawEntryBuilderMut<'_, u64, u32, 32, DefaultHashBuilder>) {}
+fn leave_all(_ages: RawEntryBuilderMut<'_, u64, u32, 32>) {}
 
-fn take(entry: RawOccupiedEntryMut<'_, u64, u32, 32, DefaultHashBuilder>) -> u32 {
+fn take(entry: RawOccupiedEntryMut<'_, u64, u32, 32>) -> u32 {
     entry.remove()
 }
 
-fn leave(_entry: RawVacantEntryMut<'_, u64, u32, 32, DefaultHashBuilder>) {}
+fn leave(_entry: RawVacantEntryMut<'_, u64, u32, 32>) {}
 
 // A map in which 1 is 36 years old.
 fn one_age(alloc: Global) -> Result<Ages, Refusal> {

@@ -28,16 +28,16 @@
 //! | `hashmap!` | `written_pairs` |
 
 use crate::drain_callers::take_first;
-use halfbrown::{DefaultHashBuilder, Entry, HashMap, Refusal, hashmap};
+use halfbrown::{Entry, HashMap, Refusal, hashmap};
 use std::alloc::Global;
 use std::test::Fail;
 use test_support::asserts::{assert_same, assert_same_at, assert_true};
 
-type Numbers = HashMap<u64, u64, DefaultHashBuilder>;
+type Numbers = HashMap<u64, u64>;
 
-type Letters = HashMap<u64, &'static str, DefaultHashBuilder>;
+type Letters = HashMap<u64, &'static str>;
 
-type Ponies = HashMap<&'static str, u64, DefaultHashBuilder>;
+type Ponies = HashMap<&'static str, u64>;
 
 const PONIES: &str = "poneyland";
 
@@ -49,7 +49,7 @@ fn written_pairs(rt: HostRuntime) -> Result<(), Fail> {
     assert_same(names.get(&1).copied(), Some("one"), "the first")?;
     assert_same(names.get(&3).copied(), None, "no third")?;
     let inner: Numbers = hashmap! {in alloc; 0 => 1 + 2,}?;
-    let nested: HashMap<u64, Numbers, DefaultHashBuilder> = hashmap! {in alloc; 1 => inner}?;
+    let nested: HashMap<u64, Numbers> = hashmap! {in alloc; 1 => inner}?;
     assert_same(nested.len(), 1, "a map of maps")
 }
 
@@ -115,7 +115,7 @@ fn one_pair(rt: HostRuntime) -> Result<(), Fail> {
 
 #[test]
 fn characters_are_counted(rt: HostRuntime) -> Result<(), Fail> {
-    let mut times = HashMap::<char, u64, DefaultHashBuilder>::new(rt.alloc());
+    let mut times = HashMap::<char, u64>::new(rt.alloc());
     for character in "a short treatise on fungi".chars() {
         let count = times.entry(character)?.or_insert(0);
         *count = count.saturating_add(1);
@@ -148,10 +148,10 @@ fn ponies_by_entries(rt: HostRuntime) -> Result<(), Fail> {
 #[test]
 fn values_of_entries_are_made(rt: HostRuntime) -> Result<(), Fail> {
     let alloc = rt.alloc();
-    let mut texts = HashMap::<&str, &str, DefaultHashBuilder>::new(alloc);
+    let mut texts = HashMap::<&str, &str>::new(alloc);
     let text = *texts.entry(PONIES)?.or_insert_with(|| "hoho");
     assert_same(text, "hoho", "made")?;
-    let mut perhaps = HashMap::<&str, Option<u64>, DefaultHashBuilder>::new(alloc);
+    let mut perhaps = HashMap::<&str, Option<u64>>::new(alloc);
     assert_same(*perhaps.entry(PONIES)?.or_default(), None, "by default")
 }
 
@@ -181,7 +181,7 @@ fn held_ponies(rt: HostRuntime) -> Result<(), Fail> {
 #[test]
 fn a_lost_pair_is_gone(rt: HostRuntime) -> Result<(), Fail> {
     let alloc = rt.alloc();
-    let mut map = HashMap::<String, u64, DefaultHashBuilder>::new(alloc);
+    let mut map = HashMap::<String, u64>::new(alloc);
     map.insert(String::from_str(alloc, PONIES)?, 42)?;
     if let Entry::Occupied(entry) = map.entry(String::from_str(alloc, PONIES)?)? {
         let left = entry.replace_entry_with(|_, value| value.checked_add(1));

@@ -119,9 +119,9 @@ fn columns_apart(rt: HostRuntime) -> Result<(), Fail> {
 fn a_table(rt: HostRuntime) -> Result<(), Fail> {
     let alloc = rt.alloc();
     let mut tally = Tally::new();
-    let none = Table::new(alloc); // no buckets
+    let none: Table = Table::new(alloc); // no buckets
     assert_true(none.is_empty() && none.capacity() == 0, "no buckets")?;
-    let mut table = Table::with_capacity(alloc, 3)?; // four buckets
+    let mut table: Table = Table::with_capacity(alloc, 3)?; // four buckets
     table.add(7, &mut tally); // entry index 0 has hash 7
     let bucket = table.insertion_probe(11, &mut tally); // bucket 0: bucket 3 is full, and the first follows the last
     assert_same(bucket, 0, "round the end")?;
@@ -148,7 +148,7 @@ fn a_table(rt: HostRuntime) -> Result<(), Fail> {
     assert_same(table.capacity(), 3, "not grown")?;
     table.clear();
     assert_same(table.len(), 0, "no pairs")?;
-    let table = Table::from_hashes(alloc, &[7, 11], 4)?; // two pairs, capacity 6
+    let table: Table = Table::from_hashes(alloc, &[7, 11], 4)?; // two pairs, capacity 6
     assert_same((table.len(), table.capacity()), (2, 6), "from hashes")?;
     Ok(())
 }
@@ -159,7 +159,7 @@ fn pairs_and_their_table(rt: HostRuntime) -> Result<(), Fail> {
     let mut ages: VecMap<u64, u32> = VecMap::with_capacity(alloc, 2)?;
     ages.push(1, 36);
     ages.push(2, 41);
-    let mut table = Table::from_hashes(alloc, &[7, 11], 2)?;
+    let mut table: Table = Table::from_hashes(alloc, &[7, 11], 2)?;
     table.retain(&mut ages, |_, age| *age < 40); // one pair is left, and one hash
     assert_same((ages.len(), table.len()), (1, 1), "one is left")?;
     let found = table.find(7, &|_| true, &mut Tally::new());

@@ -2,6 +2,7 @@
 //! pairs of one hash are asked for. How many buckets that takes is said by `worked`, in contracts.
 
 use half_store::capacity::{buckets_for, capacity_for, capacity_of};
+use half_store::words::{FourByteLimit, WhereEnough, WordArray};
 use half_store::{Probe, Refusal, Table, Tally};
 use std::alloc::Global;
 use std::cell::Cell;
@@ -9,7 +10,7 @@ use std::test::Fail;
 use test_support::asserts::{assert_same, assert_same_at};
 
 // A table of pairs with these hashes, added one after another, which grows where it has no capacity.
-fn table_of(alloc: Global, hashes: &[u64]) -> Result<Table, Refusal> {
+fn table_of<L: FourByteLimit>(alloc: Global, hashes: &[u64]) -> Result<Table<L>, Refusal> {
     let mut table = Table::new(alloc);
     for hash in hashes {
         table.grow()?;
@@ -19,13 +20,13 @@ fn table_of(alloc: Global, hashes: &[u64]) -> Result<Table, Refusal> {
 }
 
 // A search for this hash that accepts no pair ends at this empty bucket.
-fn assert_vacant(table: &Table, hash: u64, bucket: usize) -> Result<(), Fail> {
+fn assert_vacant<L: FourByteLimit>(table: &Table<L>, hash: u64, bucket: usize) -> Result<(), Fail> {
     let ended = table.find(hash, &|_: usize| false, &mut Tally::new());
     assert_same_at(hash, ended, Probe::Vacant(bucket), "where a probe ends")
 }
 
 // Of so many buckets these are full: a probe from any other one ends at once.
-fn assert_full(table: &Table, count: u64, full: &[u64]) -> Result<(), Fail> {
+fn assert_full<L: FourByteLimit>(table: &Table<L>, count: u64, full: &[u64]) -> Result<(), Fail> {
     for bucket in 0..count {
         let ended = table.find(bucket, &|_: usize| false, &mut Tally::new());
         let is_empty = ended == Probe::Vacant(bucket as usize);
@@ -40,8 +41,8 @@ fn assert_full(table: &Table, count: u64, full: &[u64]) -> Result<(), Fail> {
 }
 
 // A search for this hash that accepts one entry index: where it ends, and how many pairs it asks for.
-fn assert_search(
-    table: &Table,
+fn assert_search<L: FourByteLimit>(
+    table: &Table<L>,
     hash: u64,
     accepted: usize,
     expected: (Probe, u64),
@@ -56,12 +57,12 @@ fn assert_search(
 }
 
 // One pair is asked for, which has this entry index.
-fn assert_found(table: &Table, hash: u64, index: usize) -> Result<(), Fail> {
+fn assert_found<L: FourByteLimit>(table: &Table<L>, hash: u64, index: usize) -> Result<(), Fail> {
     assert_search(table, hash, index, (Probe::Found(index), 1))
 }
 
 // Removes the pair of this index, which has this hash.
-fn remove(table: &mut Table, index: usize, hash: u64) -> Result<(), Fail> {
+fn remove<L: FourByteLimit>(table: &mut Table<L>, index: usize, hash: u64) -> Result<(), Fail> {
     if index >= table.len() {
         return Err(Fail::new("no pair has this entry index"));
     }
@@ -71,7 +72,7 @@ fn remove(table: &mut Table, index: usize, hash: u64) -> Result<(), Fail> {
 #[test]
 fn four_buckets_and_eight(rt: HostRuntime) -> Result<(), Fail> {
     // All of home 3.
-    let mut table = table_of(rt.alloc(), &[3, 7, 11])?;
+    let mut table: Table = table_of(rt.alloc(), &[3, 7, 11])?;
     assert_full(&table, 4, &[3, 0, 1])?;
     assert_vacant(&table, 15, 2)?;
     assert_found(&table, 11, 2)?;
@@ -83,7 +84,7 @@ fn four_buckets_and_eight(rt: HostRuntime) -> Result<(), Fail> {
 
 #[test]
 fn four_buckets_emptied(rt: HostRuntime) -> Result<(), Fail> {
-    let mut table = table_of(rt.alloc(), &[3, 7, 11])?;
+    let mut table: Table = table_of(rt.alloc(), &[3, 7, 11])?;
     remove(&mut table, 0, 3)?;
     assert_full(&table, 4, &[3, 0])?;
     // The last pair has the index that became free.
@@ -96,11 +97,11 @@ fn four_buckets_emptied(rt: HostRuntime) -> Result<(), Fail> {
 
 #[test]
 fn pairs_of_one_hash_are_asked_for_in_order(rt: HostRuntime) -> Result<(), Fail> {
-    let zeros = table_of(rt.alloc(), &[0, 0, 0])?;
+    let zeros: Table = table_of(rt.alloc(), &[0, 0, 0])?;
     assert_search(&zeros, 0, usize::MAX, (Probe::Vacant(3), 3))?;
     assert_search(&zeros, 0, 1, (Probe::Found(1), 2))?;
     let top = u64::MAX;
-    let mut tops = table_of(rt.alloc(), &[top, top, top])?;
+    let mut tops: Table = table_of(rt.alloc(), &[top, top, top])?;
     assert_full(&tops, 4, &[3, 0, 1])?;
     remove(&mut tops, 0, top)?;
     // The third pair has entry index 0 now, and comes after the second.
@@ -109,7 +110,7 @@ fn pairs_of_one_hash_are_asked_for_in_order(rt: HostRuntime) -> Result<(), Fail>
 
 #[test]
 fn a_cluster_around_the_end(rt: HostRuntime) -> Result<(), Fail> {
-    let mut table = table_of(rt.alloc(), &[u64::MAX, 3, 0])?;
+    let mut table: Table = table_of(rt.alloc(), &[u64::MAX, 3, 0])?;
     assert_full(&table, 4, &[3, 0, 1])?;
     assert_found(&table, 0, 2)?;
     remove(&mut table, 0, u64::MAX)?;
@@ -141,7 +142,7 @@ fn a_backward_shift(rt: HostRuntime) -> Result<(), Fail> {
         assert_found(&table, hash, index)?;
     }
     // A table that never held 6.
-    let fresh = Table::from_hashes(rt.alloc(), &[0, 15, 14, 7], 5)?;
+    let fresh: Table = Table::from_hashes(rt.alloc(), &[0, 15, 14, 7], 5)?;
     assert_full(&fresh, 8, &[6, 7, 0, 1])
 }
 
@@ -162,6 +163,67 @@ fn a_pair_in_its_home_bucket_stays(rt: HostRuntime) -> Result<(), Fail> {
     let mut table = eight_buckets(rt.alloc(), &[(1, 1), (9, 2), (3, 3)])?;
     remove(&mut table, 0, 1)?;
     assert_full(&table, 8, &[1, 3])
+}
+
+// Words of four bytes up to eight pairs: the table of sixteen buckets, for twelve, has words of eight.
+struct UpToEight;
+
+impl FourByteLimit for UpToEight {
+    const CAPACITY: usize = 8;
+}
+
+// Whether its words have eight bytes.
+fn assert_wide<L: FourByteLimit>(table: &Table<L>, wide: bool) -> Result<(), Fail> {
+    let is_wide = matches!(table.hashed_buckets().buckets, WordArray::EightBytes(_));
+    assert_same(is_wide, wide, "whether a word takes eight bytes")
+}
+
+// The entry index of each of these hashes.
+fn assert_all_found<L: FourByteLimit>(table: &Table<L>, hashes: &[u64]) -> Result<(), Fail> {
+    let mut index = 0usize;
+    for hash in hashes {
+        assert_found(table, *hash, index)?;
+        index = index.wrapping_add(1);
+    }
+    Ok(())
+}
+
+// A table that grows from eight buckets to sixteen, loses pairs there, and shrinks to eight again. Of sixteen the words may have
+// eight bytes.
+fn there_and_back<L: FourByteLimit>(alloc: Global, wide: bool) -> Result<(), Fail> {
+    // All of home 7.
+    let mut table: Table<L> = table_of(alloc, &[7, 15, 23, 31, 39, 47])?;
+    assert_wide(&table, false)?;
+    assert_full(&table, 8, &[7, 0, 1, 2, 3, 4])?;
+    remove(&mut table, 0, 7)?;
+    assert_full(&table, 8, &[7, 0, 1, 2, 3])?;
+    table.grow()?;
+    table.add(7, &mut Tally::new());
+    assert_all_found(&table, &[47, 15, 23, 31, 39, 7])?;
+    // Of homes 15, 15, 7, 15, 7, 7 and 7.
+    table.grow()?;
+    assert_wide(&table, wide)?;
+    table.add(55, &mut Tally::new());
+    assert_full(&table, 16, &[15, 0, 7, 1, 8, 9, 10])?;
+    assert_vacant(&table, 71, 11)?;
+    assert_all_found(&table, &[47, 15, 23, 31, 39, 7, 55])?;
+    // The pair of 55 has the index that became free; it and those of 39 and 7 move back.
+    remove(&mut table, 2, 23)?;
+    assert_full(&table, 16, &[15, 0, 1, 7, 8, 9])?;
+    assert_all_found(&table, &[47, 15, 55, 31, 39, 7])?;
+    let copy = table.copy()?;
+    assert_wide(&copy, wide)?;
+    assert_all_found(&copy, &[47, 15, 55, 31, 39, 7])?;
+    table.shrink_to_fit();
+    assert_wide(&table, false)?;
+    assert_full(&table, 8, &[7, 0, 1, 2, 3, 4])?;
+    assert_all_found(&table, &[47, 15, 55, 31, 39, 7])
+}
+
+#[test]
+fn words_of_eight_bytes_change_no_answer(rt: HostRuntime) -> Result<(), Fail> {
+    there_and_back::<WhereEnough>(rt.alloc(), false)?;
+    there_and_back::<UpToEight>(rt.alloc(), true)
 }
 
 #[test]

@@ -1,6 +1,6 @@
 //! Maps of texts: cloned, kept and printed, and under random hashes.
 
-use halfbrown::{DefaultHashBuilder, HashMap, SizedHashMap};
+use halfbrown::{HashMap, SizedHashMap};
 use std::alloc::Global;
 use std::hash::RandomState;
 use std::test::Fail;
@@ -9,7 +9,7 @@ use test_support::asserts::{assert_same, assert_same_at};
 #[test]
 fn texts_are_cloned(rt: HostRuntime) -> Result<(), Fail> {
     let alloc = rt.alloc();
-    let mut map = SizedHashMap::<String, String, DefaultHashBuilder, 0>::new(alloc);
+    let mut map = SizedHashMap::<String, String, _, 0>::new(alloc);
     map.insert(
         String::from_str(alloc, "one")?,
         String::from_str(alloc, "uno")?,
@@ -23,7 +23,7 @@ fn texts_are_cloned(rt: HostRuntime) -> Result<(), Fail> {
 #[test]
 fn texts_are_kept_by_their_length(rt: HostRuntime) -> Result<(), Fail> {
     let alloc = rt.alloc();
-    let mut map = HashMap::<String, u64, DefaultHashBuilder>::new(alloc);
+    let mut map = HashMap::<String, u64>::new(alloc);
     for (text, value) in [("a", 1), ("bcd", 2), ("ef", 3), ("ghij", 4)] {
         map.insert(String::from_str(alloc, text)?, value)?;
     }
@@ -34,7 +34,7 @@ fn texts_are_kept_by_their_length(rt: HostRuntime) -> Result<(), Fail> {
 }
 
 fn assert_printed<const N: usize>(alloc: Global) -> Result<(), Fail> {
-    let mut map = SizedHashMap::<&str, &str, DefaultHashBuilder, N>::new(alloc);
+    let mut map = SizedHashMap::<&str, &str, _, N>::new(alloc);
     map.insert("one", "a")?;
     map.insert("two", "b")?;
     let text = format!(in alloc; "{map:?}")?;

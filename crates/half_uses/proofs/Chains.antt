@@ -1,8 +1,7 @@
 -- What names mean once the innermost scope is changed, or one more is looked at.
-use Rattle.std.proofs.Common.{◌≡◌, Bool, true, false, List, [], ◌∷◌, ◌++◌, Option, None, Some, map, reverse, refl, sym, ap, ◌∙◌}
+use Rattle.std.proofs.Common.{◌≡◌, Bool, false, List, [], ◌∷◌, ◌++◌, Some, map, reverse, ap, ◌∙◌}
 use Rattle.std.proofs.lemmas.List.{reverse-append, map_push}
 use Rattle.std.specs.Option.{option_or}
-use Rattle.halfbrown.specs.Pairs.{value_of, put}
 use Rattle.halfbrown.specs.State.{State}
 use Rattle.halfbrown.specs.Updates.{HasPut}
 use Rattle.half_uses.specs.Scopes.{innermost_first, meaning}

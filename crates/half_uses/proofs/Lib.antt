@@ -1,2 +1,5 @@
 pub mod Chains
+pub mod Counting
+pub mod Interning
 pub mod Sets
+pub mod TextWords

@@ -1,5 +1,5 @@
 -- Sets of labels: what their keys and their look-ups have in common, and what the labels of two sets are.
-use Rattle.std.proofs.Common.{◌≡◌, Bool, true, false, cond, List, [], ◌∷◌, ◌++◌, ◌||◌, inl, inr, Option, None, Some, is_some, Result, Ok, Err, OnOk, OnErr, map, sym, ap, ◌∙◌, refl}
+use Rattle.std.proofs.Common.{◌≡◌, Bool, true, false, cond, List, [], ◌∷◌, ◌++◌, ◌||◌, inl, inr, Option, None, Some, is_some, not, Result, Ok, Err, OnOk, OnErr, sym, ap, ◌∙◌, refl}
 use Rattle.std.proofs.lemmas.Bool.{cases_Bool}
 use Rattle.std.proofs.lemmas.List.{map_push}
 use Rattle.std.proofs.lemmas.List.Folds.{list_any-append}
@@ -13,19 +13,41 @@ use Rattle.halfbrown.specs.Equality.{same_value}
 use Rattle.halfbrown.specs.Pairs.{value_of, holds, set_by, put}
 use Rattle.half_uses.specs.Labels.{has, with_label, with_labels}
 
+pub cond_same : {A : Type 0} (b : Bool) (x : A) → cond b x x ≡ x
+cond_same true x = refl
+cond_same false x = refl
+
+-- where the one is false exactly where the other is true
+pub flipped : (a b : Bool) → a ≡ not b → b ≡ not a
+flipped a true e = ap not (sym e)
+flipped a false e = ap not (sym e)
+
+keys_either : {T V : Type 0} (b : Bool) (set pushed : List (T × V)) (keys more : List T) → keys_of set ≡ keys → keys_of pushed ≡ more
+    → keys_of (cond b set pushed) ≡ cond b keys more
+keys_either true set pushed keys more of_set of_pushed = of_set
+keys_either false set pushed keys more of_set of_pushed = of_pushed
+
+module _ {T V : Type 0} (test : T → Bool) where
+  -- a written value leaves the keys
+  keys_set : (pairs : List (T × V)) (v : V) → keys_of (set_by test pairs v) ≡ keys_of pairs
+  keys_set [] v = refl
+  keys_set (p ∷ pairs) v =
+      keys_either (test p.0) ((p.0, v) ∷ pairs) (p ∷ set_by test pairs v) (keys_of (p ∷ pairs)) (keys_of (p ∷ pairs)) refl
+      (ap (λ keys. p.0 ∷ keys) (keys_set pairs v))
+      ∙ cond_same (test p.0) (keys_of (p ∷ pairs))
+
 module _ {T V : Type 0} (eq : T → T → Bool) (pairs : List (T × V)) (k : T) where
   pub held_is_had : holds eq pairs k ≡ has eq (keys_of pairs) k
   held_is_had = is_some-lookup (eq k) pairs
 
-  pub keys_with_new : (v : V) (after : List (T × V)) → after ≡ put eq pairs k v → holds eq pairs k ≡ false → keys_of after ≡ with_label eq (keys_of pairs) k
-  keys_with_new v after e absent =
-      ap keys_of (e ∙ ap (λ b. cond b (set_by (eq k) pairs v) (pairs ++ (k, v) ∷ [])) absent) ∙ map_push (λ p. p.0) pairs (k, v)
-      ∙ ap (λ b. cond b (keys_of pairs) (keys_of pairs ++ k ∷ [])) (sym absent ∙ held_is_had)
+  -- the keys once a pair is put
+  pub keys_put : (v : V) → keys_of (put eq pairs k v) ≡ with_label eq (keys_of pairs) k
+  keys_put v =
+      keys_either (holds eq pairs k) (set_by (eq k) pairs v) (pairs ++ (k, v) ∷ []) (keys_of pairs) (keys_of pairs ++ k ∷ [])
+      (keys_set (eq k) pairs v) (map_push (λ p. p.0) pairs (k, v))
+      ∙ ap (λ b. cond b (keys_of pairs) (keys_of pairs ++ k ∷ [])) held_is_had
 
 module _ {T : Type 0} (eq : T → T → Bool) where
-  pub same_with_held : (labels : List T) (k : T) → has eq labels k ≡ true → labels ≡ with_label eq labels k
-  same_with_held labels k e = ap (λ b. cond b labels (labels ++ k ∷ [])) (sym e)
-
   pub with_labels_push : (labels more : List T) (k : T) → with_labels eq labels (more ++ k ∷ []) ≡ with_label eq (with_labels eq labels more) k
   with_labels_push labels [] k = refl
   with_labels_push labels (l ∷ more) k = with_labels_push (with_label eq labels l) more k

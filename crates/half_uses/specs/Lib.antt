@@ -1,2 +1,4 @@
+pub mod Interner
 pub mod Labels
 pub mod Scopes
+pub mod Words

@@ -91,28 +91,22 @@ impl<K: Eq + Hash, V, S: BuildHasher> Cache<K, V, S> {
         value_in(&mut self.values, key.hash, key.key, compute, tally)
     }
 
-    /// Forgets the value of a key, and returns it. Nothing is hashed. Fails where a first table gets no memory; then nothing
-    /// changes.
-    pub fn remove(&mut self, key: &Hashed<K>, tally: &mut Tally) -> Result<Option<V>, Refusal>
+    /// Forgets the value of a key, and returns it. Nothing is hashed, and no memory is needed.
+    pub fn remove(&mut self, key: &Hashed<K>, tally: &mut Tally) -> Option<V>
     where
         K: Drop,
         requires { key.now.hash ≡ key_hash S.BuildHasher S.Hasher.Hasher K.hash_input self.old.builder key.now.key }
-        ensures value { IfOk result (λ value. value ≡ value_of K.eq self.old.pairs key.now.key) }
-        ensures forgotten { OnOk result (holds K.eq self.new.pairs key.now.key ≡ false) }
-        ensures others { OnOk result ((other : K) → K.eq key.now.key other ≡ false
-            → value_of K.eq self.new.pairs other ≡ value_of K.eq self.old.pairs other) }
-        ensures hashes { OnOk result (tally.new.asked ≡ tally.old.asked) }
+        ensures value { result ≡ value_of K.eq self.old.pairs key.now.key }
+        ensures forgotten { holds K.eq self.new.pairs key.now.key ≡ false }
+        ensures others { (other : K) → K.eq key.now.key other ≡ false
+            → value_of K.eq self.new.pairs other ≡ value_of K.eq self.old.pairs other }
+        ensures hashes { tally.new.asked ≡ tally.old.asked }
         ensures builder { self.new.builder ≡ self.old.builder }
-        ensures err { OnErr result (self.new ≡ self.old) }
     {
-        let found = self
+        let (_, value) = self
             .values
-            .raw_entry_mut_counted(tally)?
-            .from_key_hashed_nocheck_counted(key.hash, &key.key, tally);
-        match found {
-            LimitedRawEntryMut::Occupied(entry) => Ok(Some(entry.remove())),
-            LimitedRawEntryMut::Vacant(_) => Ok(None),
-        }
+            .remove_entry_hashed_nocheck_counted(key.hash, &key.key, tally)?;
+        Some(value)
     }
 }
 

@@ -47,6 +47,7 @@ impl<T: Eq + Hash> Labels<T> {
     }
 
     /// Adds a label, and returns whether it is new. One that is in the set already changes nothing. On error nothing changes.
+    /// It costs one search.
     pub fn add(&mut self, label: T) -> Result<bool, Refusal>
     where
         T: Drop,
@@ -54,11 +55,7 @@ impl<T: Eq + Hash> Labels<T> {
         ensures after { OnOk result (self.new ≡ with_label T.eq self.old label) }
         ensures err { OnErr result (self.new ≡ self.old) }
     {
-        if self.labels.contains_key(&label) {
-            return Ok(false);
-        }
-        self.labels.insert_nocheck(label, ())?;
-        Ok(true)
+        Ok(self.labels.insert(label, ())?.is_none())
     }
 
     /// Adds all labels of another set. On error some may have been added, and none is lost.

@@ -1,10 +1,11 @@
 -- What callers read off a list of pairs after a put or a removal: which key has which value, and how many pairs there are.
-use Rattle.std.proofs.Common.{◌≡◌, ℕ, suc, ◌+◌, Bool, true, false, cond, List, [], ◌∷◌, ◌++◌, length, get_or, Option, None, Some, is_some, Result, Ok, Err, OnOk, refl, sym, ap, subst, ◌∙◌, arith}
+use Rattle.std.proofs.Common.{◌≡◌, ℕ, suc, ◌+◌, Bool, true, false, cond, List, [], ◌∷◌, ◌++◌, length, get_or, Option, None, Some, is_some, Result, Ok, Err, OnOk, refl, sym, ap, subst, ◌∙◌, arith, true≢false}
 use Rattle.std.specs.Cmp.{IsEquivalence}
 use Rattle.std.specs.List.{IsDistinct}
 use Rattle.std.specs.List.Sorted.{IsPermutation}
 use Rattle.std.specs.Map.{keys_of, lookup}
 use Rattle.std.proofs.Math.ListN.{get_or-map}
+use Rattle.std.proofs.lemmas.List.{map-append}
 use Rattle.std.proofs.lemmas.List.Sorted.{IsPermutation-map, IsPermutation-sym, Contains-permutation}
 use Rattle.std.proofs.lemmas.Map.{lookup-none}
 use Rattle.std.proofs.lemmas.Map.Entries.{place_from_lookup, none_past_head, length-keys_of}
@@ -12,7 +13,7 @@ use Rattle.std.proofs.lemmas.Map.Keys.{IsDistinct-IsPermutation}
 use Rattle.std.proofs.lemmas.Map.Views.{lookup-from_Contains}
 use Rattle.std.proofs.lemmas.Option.{slice_get_within, get_or_from_slice_get}
 use Rattle.half_store.specs.Pairs.{index_of, swap_remove_at}
-use Rattle.halfbrown.specs.Pairs.{value_of, holds, put, take_out, set_by, take_out_by}
+use Rattle.halfbrown.specs.Pairs.{IsForm, value_of, holds, put, take_out, set_by, take_out_by}
 use Rattle.halfbrown.specs.Updates.{HasPut, HasRemoved, HasRemovedBy}
 use Rattle.halfbrown.proofs.Indices.{IsFirst, first_of_index, first_passes, first_within, index_found, absent_of_index}
 use Rattle.halfbrown.proofs.SwapOut.{IsPermutation-swap_remove_at, length-swap_remove_at}
@@ -44,7 +45,29 @@ step_by : {K V : Type 0} (p : K × V) (here set appended : List (K × V)) (other
 step_by p here set appended other true = refl
 step_by p here set appended other false = step_past p set appended other
 
+keys_choice : {K V : Type 0} (b : Bool) (xs ys : List (K × V)) → keys_of (cond b xs ys) ≡ cond b (keys_of xs) (keys_of ys)
+keys_choice true xs ys = refl
+keys_choice false xs ys = refl
+
+module _ {K V : Type 0} (test : K → Bool) where
+  keys_set_past : (p : K × V) (ps : List (K × V)) (v : V) → keys_of (set_by test ps v) ≡ keys_of ps
+      → (b : Bool) → keys_of (cond b ((p.0, v) ∷ ps) (p ∷ set_by test ps v)) ≡ keys_of (p ∷ ps)
+  keys_set_past p ps v more true = refl
+  keys_set_past p ps v more false = ap (λ ks. p.0 ∷ ks) more
+
+  -- a value that is set leaves the keys
+  pub keys_set : (ps : List (K × V)) (v : V) → keys_of (set_by test ps v) ≡ keys_of ps
+  keys_set [] v = refl
+  keys_set (p ∷ ps) v = keys_set_past p ps v (keys_set ps v) (test p.0)
+
 module _ {K V : Type 0} (eq : K → K → Bool) where
+  -- a put leaves the keys where an equal one is held, and else adds its key at the end
+  pub keys_put : (ps : List (K × V)) (k : K) (v : V) → keys_of (put eq ps k v) ≡ cond (holds eq ps k) (keys_of ps) (keys_of ps ++ k ∷ [])
+  keys_put ps k v =
+      keys_choice (holds eq ps k) (set_by (eq k) ps v) (ps ++ (k, v) ∷ [])
+      ∙ ap (λ ks. cond (holds eq ps k) ks (keys_of (ps ++ (k, v) ∷ []))) (keys_set (eq k) ps v)
+      ∙ ap (cond (holds eq ps k) (keys_of ps)) (map-append (λ p. p.0) ps ((k, v) ∷ []))
+
   -- a put, one pair at a time
   pub put_step : (p : K × V) (ps : List (K × V)) (k : K) (v : V) → put eq (p ∷ ps) k v ≡ cond (eq k p.0) ((p.0, v) ∷ ps) (p ∷ put eq ps k v)
   put_step p ps k v = step_by p ((p.0, v) ∷ ps) (set_by (eq k) ps v) (ps ++ (k, v) ∷ []) (value_of eq ps k) (eq k p.0)
@@ -73,6 +96,16 @@ module _ {K V : Type 0} (eq : K → K → Bool) where
   -- there is one pair fewer where the key was held
   pub len_taken : (ps : List (K × V)) (k : K) → length (take_out eq ps k) + cond (holds eq ps k) 1 0 ≡ length ps
   len_taken ps k = len_taken_by ps k (index_of (eq k) (keys_of ps)) refl
+
+module _ {K : Type 0} (eq : K → K → Bool) (laws : IsEquivalence eq) where
+  form_apart_by : (test : K → Bool) → IsForm eq test → (k : K) → test k ≡ false → (x : K) → eq k x ≡ true → (b : Bool) → test x ≡ b → test x ≡ false
+  form_apart_by test form k fails x same false e = e
+  form_apart_by test form k fails x same true e =
+      absurd (true≢false (sym (form x k e ∙ laws.symm x k ∙ same) ∙ fails))
+
+  -- a form that does not stand for a key stands for none of its equals
+  pub form_apart : (test : K → Bool) → IsForm eq test → (k : K) → test k ≡ false → (x : K) → eq k x ≡ true → test x ≡ false
+  form_apart test form k fails x same = form_apart_by test form k fails x same (test x) refl
 
 module _ {K V : Type 0} (eq : K → K → Bool) (laws : IsEquivalence eq) where
   -- equal keys have the same value
@@ -104,6 +137,23 @@ module _ {K V : Type 0} (eq : K → K → Bool) (laws : IsEquivalence eq) where
   pub lookup_permuted : (xs ys : List (K × V)) → IsDistinct eq (keys_of xs) → IsPermutation xs ys → (q : K) → lookup (eq q) ys ≡ lookup (eq q) xs
   lookup_permuted xs ys distinct permuted q = permuted_by xs ys distinct permuted q (lookup (eq q) xs) (lookup (eq q) ys) refl refl
 
+  form_permuted_by : (xs ys : List (K × V)) → IsDistinct eq (keys_of xs) → IsPermutation xs ys → (test : K → Bool) → IsForm eq test
+      → (old new : Option V) → lookup test xs ≡ old → lookup test ys ≡ new → lookup test ys ≡ lookup test xs
+  form_permuted_by xs ys distinct permuted test form (Some v) new was is =
+      let at = place_from_lookup test xs v was in
+      let same : test ≡ eq at.1 = λ i x. form at.1 x at.3 i in
+      subst (λ (t : K → Bool). lookup t ys ≡ lookup t xs) (sym same) (lookup_permuted xs ys distinct permuted at.1)
+  form_permuted_by xs ys distinct permuted test form None (Some v) was is =
+      let at = place_from_lookup test ys v is in
+      let same : test ≡ eq at.1 = λ i x. form at.1 x at.3 i in
+      subst (λ (t : K → Bool). lookup t ys ≡ lookup t xs) (sym same) (lookup_permuted xs ys distinct permuted at.1)
+  form_permuted_by xs ys distinct permuted test form None None was is = is ∙ sym was
+
+  -- nor does what a form finds
+  pub form_permuted : (xs ys : List (K × V)) → IsDistinct eq (keys_of xs) → IsPermutation xs ys → (test : K → Bool) → IsForm eq test
+      → lookup test ys ≡ lookup test xs
+  form_permuted xs ys distinct permuted test form = form_permuted_by xs ys distinct permuted test form (lookup test xs) (lookup test ys) refl refl
+
   -- ---- a put
 
   put_behind : (p : K × V) (k q : K) (v : V) (rest : Option V) → eq k p.0 ≡ false → (b : Bool) → eq k q ≡ b
@@ -124,6 +174,20 @@ module _ {K V : Type 0} (eq : K → K → Bool) (laws : IsEquivalence eq) where
   lookup_put [] k v q = ap (λ b. cond b (Some v) None) (laws.symm q k)
   lookup_put (p ∷ ps) k v q = ap (λ l. value_of eq l q) (put_step eq p ps k v) ∙ put_by p ps k v q (lookup_put ps k v q) (eq k p.0) refl
 
+  put_other_past : (p : K × V) (ps : List (K × V)) (k : K) (v : V) (test : K → Bool) → lookup test (put eq ps k v) ≡ lookup test ps
+      → ((x : K) → eq k x ≡ true → test x ≡ false) → (b : Bool) → eq k p.0 ≡ b
+      → lookup test (cond b ((p.0, v) ∷ ps) (p ∷ put eq ps k v)) ≡ lookup test (p ∷ ps)
+  put_other_past p ps k v test more apart true at =
+      ap (λ b. cond b (Some v) (lookup test ps)) (apart p.0 at) ∙ sym (ap (λ b. cond b (Some p.1) (lookup test ps)) (apart p.0 at))
+  put_other_past p ps k v test more apart false at = ap (cond (test p.0) (Some p.1)) more
+
+  -- a test that accepts no equal of the key finds what it found
+  pub put_other : (ps : List (K × V)) (k : K) (v : V) (test : K → Bool) → ((x : K) → eq k x ≡ true → test x ≡ false)
+      → lookup test (put eq ps k v) ≡ lookup test ps
+  put_other [] k v test apart = ap (λ b. cond b (Some v) None) (apart k (laws.refl k))
+  put_other (p ∷ ps) k v test apart =
+      ap (λ l. lookup test l) (put_step eq p ps k v) ∙ put_other_past p ps k v test (put_other ps k v test apart) apart (eq k p.0) refl
+
   pub value_of_put : (ps : List (K × V)) (k : K) (v : V) → value_of eq (put eq ps k v) k ≡ Some v
   value_of_put ps k v = lookup_put ps k v k ∙ ap (λ b. cond b (Some v) (value_of eq ps k)) (laws.refl k)
 
@@ -136,6 +200,22 @@ module _ {K V : Type 0} (eq : K → K → Bool) (laws : IsEquivalence eq) where
   pub other_of_put : (ps : List (K × V)) (k : K) (v : V) (q : K) → eq k q ≡ false → value_of eq (put eq ps k v) q ≡ value_of eq ps q
   other_of_put ps k v q other = lookup_put ps k v q ∙ ap (λ b. cond b (Some v) (value_of eq ps q)) other
 
+  -- a form that stands for the key finds the value
+  pub put_same : (ps : List (K × V)) (k : K) (v : V) (test : K → Bool) → IsForm eq test → test k ≡ true → lookup test (put eq ps k v) ≡ Some v
+  put_same ps k v test form passes =
+      let same : test ≡ eq k = λ i x. form k x passes i in
+      ap (λ t. lookup t (put eq ps k v)) same ∙ value_of_put ps k v
+
+  form_put_by : (ps : List (K × V)) (k : K) (v : V) (test : K → Bool) → IsForm eq test → (b : Bool) → test k ≡ b
+      → lookup test (put eq ps k v) ≡ cond b (Some v) (lookup test ps)
+  form_put_by ps k v test form true passes = put_same ps k v test form passes
+  form_put_by ps k v test form false fails = put_other ps k v test (form_apart eq laws test form k fails)
+
+  -- what any form finds after a put
+  pub form_put : (ps : List (K × V)) (k : K) (v : V) (test : K → Bool) → IsForm eq test
+      → lookup test (put eq ps k v) ≡ cond (test k) (Some v) (lookup test ps)
+  form_put ps k v test form = form_put_by ps k v test form (test k) refl
+
   pub has_put : (ps : List (K × V)) (k : K) (v : V) → HasPut eq ps k v (put eq ps k v)
   has_put ps k v = record {
     held = held_put ps k v;
@@ -143,6 +223,7 @@ module _ {K V : Type 0} (eq : K → K → Bool) (laws : IsEquivalence eq) where
     equals = equal_of_put ps k v;
     others = other_of_put ps k v;
     len = len_put eq ps k v;
+    keys = keys_put eq ps k v;
   }
 
   -- ---- a removal
@@ -198,6 +279,21 @@ module _ {K V : Type 0} (eq : K → K → Bool) (laws : IsEquivalence eq) where
 
     pub other_of_taken : (q : K) → eq k q ≡ false → value_of eq (take_out eq ps k) q ≡ value_of eq ps q
     other_of_taken q other = lookup_taken q ∙ ap (λ b. cond b None (value_of eq ps q)) other
+
+    form_taken_by : (index : Option ℕ) → index ≡ index_of (eq k) (keys_of ps) → (test : K → Bool) → IsForm eq test
+        → ((q : K) → eq k q ≡ true → test q ≡ false) → lookup test (take_out eq ps k) ≡ lookup test ps
+    form_taken_by (Some i) is test form apart =
+        let left = split_first ps k i (first_of_index (eq k) (keys_of ps) i (sym is)) in
+        let p = left.removed in
+        ap (λ l. lookup test l) (index_found (eq k) ps i is).take_is
+        ∙ ap (λ b. cond b (Some p.1) (lookup test (swap_remove_at ps i))) (sym (apart p.0 left.same))
+        ∙ form_permuted ps (p ∷ swap_remove_at ps i) distinct left.order test form
+    form_taken_by None is test form apart = ap (λ l. lookup test l) (absent_of_index (eq k) ps is).take_is
+
+    -- a form that stands for no equal of the key finds what it found
+    pub form_taken : (test : K → Bool) → IsForm eq test → ((q : K) → eq k q ≡ true → test q ≡ false)
+        → lookup test (take_out eq ps k) ≡ lookup test ps
+    form_taken = form_taken_by (index_of (eq k) (keys_of ps)) refl
 
     pub has_removed : HasRemoved eq ps k (take_out eq ps k)
     has_removed = record {

@@ -8,7 +8,7 @@ use Rattle.std.specs.Map.{keys_of}
 use Rattle.std.proofs.lemmas.Map.Entries.{length-keys_of}
 use Rattle.std.proofs.lemmas.Map.Keys.{IsDistinct-push}
 use Rattle.half_store.proofs.Stores.{length-set_key}
-use Rattle.half_store.specs.Pairs.{set_key, set_value, swap_remove_at}
+use Rattle.half_store.specs.Pairs.{no_pairs, set_key, set_value, swap_remove_at}
 use Rattle.half_store.specs.Store as store
 use Rattle.half_store.specs.Store.{StoreState, KeepsForm, allowed}
 use Rattle.half_store.specs.declared.store.lookup.Vacancy.{Vacancy}
@@ -51,7 +51,7 @@ module _ {K V : Type 0} where
 
     -- the same keys
     pub kept_keys : (s : StoreState K V) (ps : List (K × V)) → IsKept eq hash limit s → keys_of ps ≡ keys_of s.pairs → length ps ≡ length s.pairs → IsKept eq hash limit (store.with_pairs s ps)
-    kept_keys s ps kept keys len = kept_as s (store.with_pairs s ps) kept (record { form = refl; capacity = refl }) (subst (IsDistinct eq) (sym keys) kept.distinct)
+    kept_keys s ps kept keys len = kept_as s (store.with_pairs s ps) kept (record { form = refl; capacity = refl; memory = refl }) (subst (IsDistinct eq) (sym keys) kept.distinct)
         (omega (arith, kept.fits)) (λ table. kept.hashed table ∙ ap (map hash) (sym keys))
 
     -- one more pair, whose key is not held
@@ -59,7 +59,7 @@ module _ {K V : Type 0} where
         → (s.is_vec ≡ false → vacancy.hash ≡ hash k) → IsKept eq hash limit (store.pushed s k v vacancy)
     kept_pushed laws s k v vacancy kept absent room own =
         let keys : keys_of (s.pairs ++ (k, v) ∷ []) ≡ keys_of s.pairs ++ k ∷ [] = keys_of-push s.pairs k v in
-        kept_as s (store.pushed s k v vacancy) kept (record { form = refl; capacity = refl })
+        kept_as s (store.pushed s k v vacancy) kept (record { form = refl; capacity = refl; memory = refl })
         (subst (IsDistinct eq) (sym keys) (IsDistinct-push laws (keys_of s.pairs) k kept.distinct (any_of_none (eq k) (keys_of s.pairs) (none_of_index (eq k) (keys_of s.pairs) absent.index))))
         (omega (arith, length-append s.pairs ((k, v) ∷ [])))
         (λ table. ap (λ b. if b then s.hashes else s.hashes ++ vacancy.hash ∷ []) table ∙ (λ i. kept.hashed table i ++ own table i ∷ [])
@@ -70,7 +70,7 @@ module _ {K V : Type 0} where
         → slice_get (keys_of s.pairs) i ≡ Some old → eq old new ≡ true → hash old ≡ hash new → IsKept eq hash limit (store.with_pairs s (set_key s.pairs i new))
     kept_key laws s i old new kept at same alike =
         let keys = keys_of-set_key s.pairs i new in
-        kept_as s (store.with_pairs s (set_key s.pairs i new)) kept (record { form = refl; capacity = refl })
+        kept_as s (store.with_pairs s (set_key s.pairs i new)) kept (record { form = refl; capacity = refl; memory = refl })
         (subst (IsDistinct eq) (sym keys) (IsDistinct-set eq laws old new same (keys_of s.pairs) i at kept.distinct))
         (omega (arith, length-set_key s.pairs i new, kept.fits))
         (λ table. kept.hashed table ∙ sym (map-set_alike hash (keys_of s.pairs) i old new at alike) ∙ ap (map hash) (sym keys))
@@ -102,7 +102,7 @@ module _ {K V : Type 0} where
     }
 
     -- a vector without memory
-    pub kept_empty : (s : StoreState K V) → s ≡ store.vector_of (record { pairs = []; capacity = 0 }) → IsKept eq hash limit s
+    pub kept_empty : (s : StoreState K V) → s ≡ store.vector_of no_pairs → IsKept eq hash limit s
     kept_empty s is =
         let no_table : s.is_vec ≢ false = λ table. true≢false (sym (ap (λ s. s.is_vec) is) ∙ table) in
         kept_made s (ap (λ s. s.pairs) is) (ap (λ s. s.hashes) is) (λ table. absurd (no_table table)) (λ table. absurd (no_table table))

@@ -1,3 +1,4 @@
+pub mod CallerFacts
 pub mod CallerLemmas
 pub mod Clones
 pub mod CollectedLaws
@@ -14,6 +15,7 @@ pub mod Kept
 pub mod Lookups
 pub mod MapLaws
 pub mod Matches
+pub mod PairIndices
 pub mod RawCosts
 pub mod RawEntries
 pub mod RawFinds
@@ -30,5 +32,6 @@ pub mod RunParts
 pub mod SamePairs
 pub mod SearchesCosts
 pub mod SwapOut
+pub mod TextFacts
 pub mod Vacancies
 pub mod Written

@@ -1,10 +1,8 @@
 -- What the raw entry of a key is, where a search found it, and where none is held.
-use Rattle.std.proofs.Common.{◌≡◌, ℕ, zero, suc, ◌+◌, ◌<◌, Bool, true, false, List, [], ◌∷◌, ◌++◌, length, get_or, slice_get, Option, None, Some, IfSome, cond, refl, sym, ap, subst, ◌∙◌, true≢false}
+use Rattle.std.proofs.Common.{◌≡◌, ℕ, zero, suc, ◌+◌, Bool, true, false, List, [], ◌∷◌, ◌++◌, length, get_or, slice_get, Option, None, Some, IfSome, cond, refl, sym, ap, subst, ◌∙◌, true≢false}
 use Rattle.std.specs.Cmp.{IsEquivalence}
 use Rattle.std.specs.List.{IsDistinct}
-use Rattle.std.proofs.lemmas.Option.{get_or_from_slice_get, slice_get_within}
 use Rattle.std.specs.Map.{keys_of, lookup}
-use Rattle.std.specs.Option.{option_map}
 use Rattle.std.specs.declared.cmp.PartialEq as eq
 use Rattle.std.specs.declared.hash.Hash as hash
 use Rattle.std.specs.declared.hash.Hasher as hasher
@@ -21,9 +19,9 @@ use Rattle.halfbrown.specs.RawEntry.{Occupied, Vacant, AddsThroughRawEntry, Find
 use Rattle.halfbrown.specs.State.{State}
 use Rattle.halfbrown.specs.Updates.{HasPut, HasSetBy, HasRemovedBy}
 use Rattle.halfbrown.proofs.CallerLemmas.{has_put, has_removed_by}
-use Rattle.halfbrown.proofs.Entries.{key_of-pair}
+use Rattle.halfbrown.proofs.PairIndices.{index_of_pair}
 use Rattle.halfbrown.proofs.RawEntries.{some_is_not_none}
-use Rattle.halfbrown.proofs.Indices.{IsFirst, absent_of_unheld, first_matched, first_of_index, first_passes, index_of_first}
+use Rattle.halfbrown.proofs.Indices.{IsFirst, absent_of_unheld, first_of_index, first_passes}
 
 module _ {K : Type 0} (same : K → K → Bool) (laws : IsEquivalence same) (test : K → Bool) (one_class : (k other : K) → test k ≡ true → test other ≡ same k other) where
   -- a key that passes is put as the key itself is
@@ -52,6 +50,7 @@ module _ {K : Type 0} (same : K → K → Bool) (laws : IsEquivalence same) (tes
       equals = λ q e. put.equals q (sym (one_class k q passes) ∙ e);
       others = λ q e. put.others q (sym (one_class k q passes) ∙ e);
       len = put.len ∙ ap (λ b. cond b (length ps) (length ps + 1)) (ap (λ (t : K → Bool). holds_by t ps) same_test ∙ held);
+      keys = put.keys ∙ ap (λ b. cond b (keys_of ps) (keys_of ps ++ k ∷ [])) (ap (λ (t : K → Bool). holds_by t ps) same_test ∙ held);
     }
 
   -- the value of the key that was found is set
@@ -109,12 +108,7 @@ module _ {K V S L H : Type 0} {e : eq.Ghosts K} {h : hash.Ghosts K} {b : builder
       → (found : Option (K × V)) → slice_get o.map.now.pairs o.index ≡ found → IfSome found (λ pair. FindsEntry same (same pair.0) m (Occupied o))
   found_at m o is distinct None at = tt
   found_at m o is distinct (Some pair) at =
-      let pairs = o.map.now.pairs in
-      let key : slice_get (keys_of pairs) o.index ≡ Some pair.0 = key_of-pair pairs o.index ∙ ap (option_map (λ (p : K × V). p.0)) at in
-      let within : o.index < length (keys_of pairs) = slice_get_within (keys_of pairs) o.index pair.0 key in
-      found_entry same laws (same pair.0) (λ k other alike. laws.congr pair.0 k other alike) m o is distinct
-      (index_of_first (same pair.0) pairs o.index (first_matched (same pair.0) same (λ k other alike. laws.congr pair.0 k other alike) (keys_of pairs) o.index distinct within
-      (λ d. sym (laws.refl pair.0) ∙ ap (same pair.0) (sym (get_or_from_slice_get (keys_of pairs) o.index pair.0 d key)))))
+      found_entry same laws (same pair.0) (λ k other alike. laws.congr pair.0 k other alike) m o is distinct (index_of_pair same laws o.map.now.pairs o.index pair distinct at)
 
   -- the entry of a pair that a match found is that of the pair's key
   pub found_by_match : (m : State K V S) (o : LimitedOccupiedEntry K V S L H e h b w l) → m ≡ o.map.now → IsDistinct same (keys_of o.map.now.pairs)

@@ -21,6 +21,10 @@ module _ (K V S L H : RattleType) (key : HashMembers K.Denot) (build : builder.G
     abbrev pub LendsValueAt : ℕ → MutBor V.Denot → Fml
     LendsValueAt index r = Lends map_row V m r (λ w. with_pairs m.now (set_value m.now.pairs index w))
 
+    -- the same, and where there is no pair at this index the map stays as it is
+    abbrev pub LendsValueIfAt : ℕ → Option (MutBor V.Denot) → Fml
+    LendsValueIfAt index r = LendsIf map_row V m r (λ w. with_pairs m.now (set_value m.now.pairs index w)) m.now
+
     -- the pair whose key passes the test has the last value written through the reference, and where none is held the map stays as it is
     abbrev pub LendsValueBy : (K.Denot → Bool) → Option (MutBor V.Denot) → Fml
     LendsValueBy test r = LendsIf map_row V m r (λ w. with_pairs m.now (set_by test m.now.pairs w)) m.now

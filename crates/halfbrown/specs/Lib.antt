@@ -6,6 +6,7 @@ pub mod Entry
 pub mod EntryLending
 pub mod Equality
 pub mod EqualityLaws
+pub mod Gathering
 pub mod Growth
 pub mod Insertion
 pub mod Iter

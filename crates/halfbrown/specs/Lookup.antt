@@ -1,5 +1,5 @@
 -- What a search for a key in a map returns.
-use Rattle.std.specs.Prelude.{◌≡◌, ℕ, ◌<◌, Bool, true, false, List, [], ◌∷◌, ◌++◌, length, slice_get, None, Some}
+use Rattle.std.specs.Prelude.{◌≡◌, ℕ, ◌<◌, Bool, true, false, List, [], ◌∷◌, ◌++◌, length, slice_get, Option, None, Some}
 use Rattle.std.specs.Map.{keys_of, values_of, lookup, lookup_entry}
 use Rattle.half_store.specs.Pairs.{index_of, set_value, swap_remove_at}
 use Rattle.half_store.specs.Store.{IsVacancy}
@@ -28,6 +28,11 @@ module _ {K V : Type 0} (test : K → Bool) (pairs : List (K × V)) where
     pub pair : lookup_entry test pairs ≡ None
     pub put_is : (k : K) (v : V) → put_by test pairs k v ≡ pairs ++ (k, v) ∷ []
     pub take_is : take_out_by test pairs ≡ pairs
+
+  -- the index of the pair whose key passes, or none where no such key is held
+  abbrev pub FindsIndex : Option ℕ → Type 0
+  FindsIndex (Some index) = IsIndexOf index
+  FindsIndex None = IsAbsent
 
 -- a search found the key that passes the test, or none is held, and where there is capacity a pair of the hash may be added here
 abbrev pub LooksUp : {K V S : Type 0} → (K → Bool) → ℕ → State K V S → Lookup → Type 0

@@ -1,8 +1,13 @@
 -- Reading and changing a list of pairs of distinct keys, of the key that passes a test, and of the key that equals k.
-use Rattle.std.specs.Prelude.{Bool, List, [], ◌∷◌, ◌++◌, Option, is_some, if◌then◌else◌}
+use Rattle.std.specs.Prelude.{◌≡◌, Bool, true, List, [], ◌∷◌, ◌++◌, Option, is_some, if◌then◌else◌}
 use Rattle.std.specs.Option.{option_map_or}
 use Rattle.std.specs.Map.{keys_of, lookup, lookup_entry}
 use Rattle.half_store.specs.Pairs.{index_of, swap_remove_at}
+
+-- the test of a lawful form of a key, as that of a text among keys that are strings: it accepts the equals of a key that it accepts, and no
+-- other
+abbrev pub IsForm : {K : Type 0} → (K → K → Bool) → (K → Bool) → Type 0
+IsForm {K} eq form = (k other : K) → form k ≡ true → form other ≡ eq k other
 
 module _ {K V : Type 0} (test : K → Bool) where
   -- whether a key that passes is held

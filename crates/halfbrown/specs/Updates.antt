@@ -1,5 +1,5 @@
 -- What callers read off a changed list of pairs: which key has which value.
-use Rattle.std.specs.Prelude.{◌≡◌, ◌+◌, Bool, true, false, List, length, Some, None, if◌then◌else◌}
+use Rattle.std.specs.Prelude.{◌≡◌, ◌+◌, Bool, true, false, List, [], ◌∷◌, ◌++◌, length, Some, None, if◌then◌else◌}
 use Rattle.std.specs.Map.{keys_of, values_of, lookup}
 use Rattle.std.specs.Option.{option_map}
 use Rattle.halfbrown.specs.Pairs.{value_of, pair_of, holds, holds_by}
@@ -13,22 +13,24 @@ pub record HasValues {K V : Type 0} (old : List (K × V)) (vs : List V) (new : L
 
 module _ {K V : Type 0} (eq : K → K → Bool) where
   -- after the pair (k, v) is put: k is held with the value v, as are its equals; each other key has what it had; there is one pair more
-  -- exactly where k was not held
+  -- exactly where k was not held, and its key is the last
   pub record HasPut (old : List (K × V)) (k : K) (v : V) (new : List (K × V)) : Type 0 where
     pub held : holds eq new k ≡ true
     pub value : value_of eq new k ≡ Some v
     pub equals : (q : K) → eq k q ≡ true → value_of eq new q ≡ Some v
     pub others : (q : K) → eq k q ≡ false → value_of eq new q ≡ value_of eq old q
     pub len : length new ≡ (if holds eq old k then length old else length old + 1)
+    pub keys : keys_of new ≡ (if holds eq old k then keys_of old else keys_of old ++ k ∷ [])
 
   -- after the held key that passes the test is given the value v: it has v, as have its equals; each other key has what it had; there are
-  -- as many pairs
+  -- as many pairs, with the same keys
   pub record HasSetBy (test : K → Bool) (old : List (K × V)) (v : V) (new : List (K × V)) : Type 0 where
     pub held : holds_by test new ≡ true
     pub value : lookup test new ≡ Some v
     pub equals : (q : K) → test q ≡ true → value_of eq new q ≡ Some v
     pub others : (q : K) → test q ≡ false → value_of eq new q ≡ value_of eq old q
     pub len : length new ≡ length old
+    pub keys : keys_of new ≡ keys_of old
 
   -- after the pair whose key passes the test is removed: no such key is held; each key that fails it has what it had; there is one pair
   -- fewer exactly where one was held

@@ -4,7 +4,7 @@ ghost use Rattle.std.specs.Iterator.{at_most, UpTo as IsUpTo};
 ghost use Rattle.std.specs.Iterator.SizeHint.{IsWithinCount};
 ghost use Rattle.halfbrown.specs.State.{IsState, IsTableCapacity, WithPairs};
 
-use crate::{Limit, LimitedHashMap, UpTo};
+use crate::{DefaultHashBuilder, Limit, LimitedHashMap, UpTo};
 use half_store::{Drained, IntoStore};
 use std::hash::{BuildHasher, Hash};
 use std::iter::FusedIterator;
@@ -12,11 +12,17 @@ use std::iter::FusedIterator;
 /// The pairs that `drain` takes out of a map that stores up to `N` pairs in a vector.
 ///
 /// ```
-/// fn count(pairs: Drain<'_, u64, u32, 32, DefaultHashBuilder>) -> usize {
+/// fn count(pairs: Drain<'_, u64, u32, 32>) -> usize {
 ///     pairs.len()
 /// }
 /// ```
-pub type Drain<'a, K, V, const N: usize, S> = LimitedDrain<'a, K, V, S, UpTo<N>>;
+pub type Drain<'a, K, V, const N: usize, S = DefaultHashBuilder> = LimitedDrain<
+    'a,
+    K,
+    V,
+    S,
+    UpTo<N>,
+>;
 
 /// The pairs that `LimitedHashMap::drain` takes out of a map, in order. It says how many are left, and stays at its end.
 /// Once it is dropped the map holds no pair.

@@ -12,7 +12,7 @@ mod occupied;
 mod replace;
 mod vacant;
 
-use crate::{Limit, LimitedHashMap, UpTo};
+use crate::{DefaultHashBuilder, Limit, LimitedHashMap, UpTo};
 use half_store::Vacancy;
 use std::hash::{BuildHasher, Hash};
 
@@ -24,25 +24,43 @@ use std::hash::{BuildHasher, Hash};
 ///     Entry::Vacant(entry) => *entry.insert(13),
 /// }; // 13
 /// ```
-pub type Entry<'a, K, V, const N: usize, S> = LimitedEntry<'a, K, V, S, UpTo<N>>;
+pub type Entry<'a, K, V, const N: usize, S = DefaultHashBuilder> = LimitedEntry<
+    'a,
+    K,
+    V,
+    S,
+    UpTo<N>,
+>;
 
 /// The entry of a held key in a map that stores up to `N` pairs in a vector.
 ///
 /// ```
-/// fn take(entry: OccupiedEntry<'_, u64, u32, 32, DefaultHashBuilder>) -> u32 {
+/// fn take(entry: OccupiedEntry<'_, u64, u32, 32>) -> u32 {
 ///     entry.remove()
 /// }
 /// ```
-pub type OccupiedEntry<'a, K, V, const N: usize, S> = LimitedOccupiedEntry<'a, K, V, S, UpTo<N>>;
+pub type OccupiedEntry<'a, K, V, const N: usize, S = DefaultHashBuilder> = LimitedOccupiedEntry<
+    'a,
+    K,
+    V,
+    S,
+    UpTo<N>,
+>;
 
 /// The entry of a key that is not held, in a map that stores up to `N` pairs in a vector.
 ///
 /// ```
-/// fn sought(entry: &VacantEntry<'_, u64, u32, 32, DefaultHashBuilder>) -> u64 {
+/// fn sought(entry: &VacantEntry<'_, u64, u32, 32>) -> u64 {
 ///     *entry.key()
 /// }
 /// ```
-pub type VacantEntry<'a, K, V, const N: usize, S> = LimitedVacantEntry<'a, K, V, S, UpTo<N>>;
+pub type VacantEntry<'a, K, V, const N: usize, S = DefaultHashBuilder> = LimitedVacantEntry<
+    'a,
+    K,
+    V,
+    S,
+    UpTo<N>,
+>;
 
 /// The entry of a key, by `LimitedHashMap::entry`. The map has been searched, and the capacity is enough for the pair where it is
 /// not held; so nothing fails after that, nothing is hashed and no key is compared.

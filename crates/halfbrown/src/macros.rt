@@ -16,9 +16,6 @@ macro_rules! hashmap {
         $crate::HashMap::with_capacity($alloc, 0)
     };
     (in $alloc:expr; $($key:expr => $value:expr),+ $(,)?) => {
-        $crate::HashMap::<_, _, $crate::DefaultHashBuilder>::from_array(
-            $alloc,
-            [$(($key, $value)),+],
-        )
+        $crate::HashMap::<_, _>::from_array($alloc, [$(($key, $value)),+])
     };
 }

@@ -12,6 +12,7 @@ mod find;
 mod form;
 mod get;
 mod growth;
+mod index;
 mod insert;
 mod into_iter;
 mod iter;
@@ -30,19 +31,30 @@ use std::marker::{Model, PhantomData};
 /// The builder that `new` uses. Its seed is fixed.
 pub type DefaultHashBuilder = BuildHasherDefault<FoldHasher>;
 
-/// A map that stores up to `N` pairs in a vector.
+/// A map that stores up to `N` pairs in a vector. The builder stands before the number; where a call makes the map, `_` leaves
+/// it to the call, and `new` takes the default one:
 ///
 /// ```
-/// let mut scope = SizedHashMap::<u64, u32, DefaultHashBuilder, 8>::new(alloc);
+/// let mut scope = SizedHashMap::<u64, u32, _, 8>::new(alloc);
+/// ```
+///
+/// ```
+/// type Scope = SizedHashMap<u64, u32, DefaultHashBuilder, 8>;
 /// ```
 pub type SizedHashMap<K, V, S, const N: usize> = LimitedHashMap<K, V, S, UpTo<N>>;
 
 /// A map that stores up to 32 pairs in a vector.
 ///
 /// ```
-/// type Ages = HashMap<u64, u32, DefaultHashBuilder>;
+/// type Ages = HashMap<u64, u32>;
 /// ```
-pub type HashMap<K, V, S> = LimitedHashMap<K, V, S, UpTo<32>>;
+///
+/// Another builder is handed in, and is the third argument of the type:
+///
+/// ```
+/// Ok(HashMap::with_hasher(alloc, RandomState::new(rt)?))
+/// ```
+pub type HashMap<K, V, S = DefaultHashBuilder> = LimitedHashMap<K, V, S, UpTo<32>>;
 
 /// A map in two forms. Up to the limit its pairs are stored in a vector and searched by `==`, and nothing is hashed. A
 /// switching call on as many pairs as the limit makes it a hash table. One call goes back: `shrink_to_fit`, where no more
@@ -55,16 +67,30 @@ pub type HashMap<K, V, S> = LimitedHashMap<K, V, S, UpTo<32>>;
 /// table it hashes the key once, probes from its home bucket on, and compares no key of another hash; a search that finds
 /// nothing reads exactly as many buckets as the home buckets of the held keys decide, whatever the history.
 ///
+/// Its limit `L` is a type, and no number: for 8 pairs write `UpTo<8>`, or take the name `SizedHashMap`, which is given the
+/// number:
+///
 /// ```
-/// type Ages = HashMap<u64, u32, DefaultHashBuilder>;
+/// type Few = LimitedHashMap<u64, u32, DefaultHashBuilder, UpTo<8>>; // up to eight pairs in a vector
 /// ```
 ///
 /// ```
-/// let mut ages = Ages::new(alloc);
+/// type Scope = SizedHashMap<u64, u32, DefaultHashBuilder, 8>;
+/// ```
+///
+/// A function of maps of every limit has it as a parameter, `L: Limit`. Most users need neither, and write `HashMap`:
+///
+/// ```
+/// let mut ages = HashMap::<u64, u32>::new(alloc);
 /// ages.insert(1, 36)?;
 /// let age = ages.get(&1).copied(); // 36
 /// ```
-pub struct LimitedHashMap<K: Eq + Hash, V, S: BuildHasher, L: Limit> {
+pub struct LimitedHashMap<
+    K: Eq + Hash,
+    V,
+    S: BuildHasher = DefaultHashBuilder,
+    L: Limit = UpTo<32>,
+> {
     store: Store<K, V>,
     builder: S,
     limit: PhantomData<L>,

@@ -8,17 +8,17 @@ mod make;
 mod methods;
 mod vacant;
 
-use crate::{Limit, LimitedHashMap, LimitedOccupiedEntry, UpTo};
+use crate::{DefaultHashBuilder, Limit, LimitedHashMap, LimitedOccupiedEntry, UpTo};
 use std::hash::{BuildHasher, Hash};
 
 /// Look-ups by a known hash or by a match on keys, in a map that stores up to `N` pairs in a vector.
 ///
 /// ```
-/// fn known(ages: RawEntryBuilder<'_, u64, u32, 32, DefaultHashBuilder>) -> bool {
+/// fn known(ages: RawEntryBuilder<'_, u64, u32, 32>) -> bool {
 ///     ages.from_key(&1).is_some()
 /// }
 /// ```
-pub type RawEntryBuilder<'a, K, V, const N: usize, S> = LimitedRawEntryBuilder<
+pub type RawEntryBuilder<'a, K, V, const N: usize, S = DefaultHashBuilder> = LimitedRawEntryBuilder<
     'a,
     K,
     V,
@@ -29,15 +29,10 @@ pub type RawEntryBuilder<'a, K, V, const N: usize, S> = LimitedRawEntryBuilder<
 /// What a raw entry is made from, in a map that stores up to `N` pairs in a vector.
 ///
 /// ```
-/// fn leave_all(_ages: RawEntryBuilderMut<'_, u64, u32, 32, DefaultHashBuilder>) {}
+/// fn leave_all(_ages: RawEntryBuilderMut<'_, u64, u32, 32>) {}
 /// ```
-pub type RawEntryBuilderMut<'a, K, V, const N: usize, S> = LimitedRawEntryBuilderMut<
-    'a,
-    K,
-    V,
-    S,
-    UpTo<N>,
->;
+pub type RawEntryBuilderMut<'a, K, V, const N: usize, S = DefaultHashBuilder> =
+    LimitedRawEntryBuilderMut<'a, K, V, S, UpTo<N>>;
 
 /// A raw entry of a map that stores up to `N` pairs in a vector.
 ///
@@ -47,22 +42,23 @@ pub type RawEntryBuilderMut<'a, K, V, const N: usize, S> = LimitedRawEntryBuilde
 ///     RawEntryMut::Vacant(_vacant) => 0,
 /// };
 /// ```
-pub type RawEntryMut<'a, K, V, const N: usize, S> = LimitedRawEntryMut<'a, K, V, S, UpTo<N>>;
-
-/// The raw entry of a pair that was found, in a map that stores up to `N` pairs in a vector: an occupied entry, as that of a key.
-///
-/// ```
-/// fn take(entry: RawOccupiedEntryMut<'_, u64, u32, 32, DefaultHashBuilder>) -> u32 {
-///     entry.remove()
-/// }
-/// ```
-pub type RawOccupiedEntryMut<'a, K, V, const N: usize, S> = LimitedOccupiedEntry<
+pub type RawEntryMut<'a, K, V, const N: usize, S = DefaultHashBuilder> = LimitedRawEntryMut<
     'a,
     K,
     V,
     S,
     UpTo<N>,
 >;
+
+/// The raw entry of a pair that was found, in a map that stores up to `N` pairs in a vector: an occupied entry, as that of a key.
+///
+/// ```
+/// fn take(entry: RawOccupiedEntryMut<'_, u64, u32, 32>) -> u32 {
+///     entry.remove()
+/// }
+/// ```
+pub type RawOccupiedEntryMut<'a, K, V, const N: usize, S = DefaultHashBuilder> =
+    LimitedOccupiedEntry<'a, K, V, S, UpTo<N>>;
 
 /// The same, in a map of any limit.
 pub type LimitedRawOccupiedEntryMut<'a, K, V, S, L> = LimitedOccupiedEntry<'a, K, V, S, L>;
@@ -70,15 +66,10 @@ pub type LimitedRawOccupiedEntryMut<'a, K, V, S, L> = LimitedOccupiedEntry<'a, K
 /// The raw entry where no pair was found, in a map that stores up to `N` pairs in a vector.
 ///
 /// ```
-/// fn leave(_entry: RawVacantEntryMut<'_, u64, u32, 32, DefaultHashBuilder>) {}
+/// fn leave(_entry: RawVacantEntryMut<'_, u64, u32, 32>) {}
 /// ```
-pub type RawVacantEntryMut<'a, K, V, const N: usize, S> = LimitedRawVacantEntryMut<
-    'a,
-    K,
-    V,
-    S,
-    UpTo<N>,
->;
+pub type RawVacantEntryMut<'a, K, V, const N: usize, S = DefaultHashBuilder> =
+    LimitedRawVacantEntryMut<'a, K, V, S, UpTo<N>>;
 
 /// Look-ups by a known hash or by a match on keys. `LimitedHashMap::raw_entry` makes it.
 ///

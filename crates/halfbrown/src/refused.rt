@@ -1,14 +1,15 @@
 //! The errors of an insertion, and of an entry.
 ghost use Rattle.std.specs.Prelude.{◌≡◌, ◌++◌, Some, codes};
-ghost use Rattle.half_store.specs.Refusal.{text_of};
+ghost use Rattle.std.specs.IoError.{error_kind};
+ghost use Rattle.half_store.specs.Refusal.{kind_of, text_of};
 
 use half_store::Refusal;
 use std::error::Error;
-use std::fmt;
+use std::{fmt, io};
 
 /// A pair that was not inserted, and why. The map is unchanged.
 ///
-/// `?` converts it into a `Refusal`, and drops the pair:
+/// `?` converts it into a `Refusal` or an `io::Error`, and drops the pair:
 ///
 /// ```
 /// ages.insert(3, 5)?;
@@ -46,9 +47,17 @@ impl<K: Drop, V: Drop> From<Refused<K, V>> for Refusal {
     }
 }
 
+impl<K: Drop, V: Drop> From<Refused<K, V>> for io::Error {
+    ghost from_gives = { λ refused error. error_kind error ≡ kind_of refused.why };
+
+    fn from(refused: Refused<K, V>) -> io::Error {
+        refused.why.into()
+    }
+}
+
 /// A key for which no entry was made, and why. The map is unchanged.
 ///
-/// `?` converts it into a `Refusal`, and drops the key:
+/// `?` converts it into a `Refusal` or an `io::Error`, and drops the key:
 ///
 /// ```
 /// *ages.entry(5)?.or_insert(0) = 13;
@@ -79,5 +88,13 @@ impl<K: Drop> From<RefusedKey<K>> for Refusal {
 
     fn from(refused: RefusedKey<K>) -> Refusal {
         refused.why
+    }
+}
+
+impl<K: Drop> From<RefusedKey<K>> for io::Error {
+    ghost from_gives = { λ refused error. error_kind error ≡ kind_of refused.why };
+
+    fn from(refused: RefusedKey<K>) -> io::Error {
+        refused.why.into()
     }
 }

@@ -10,6 +10,7 @@ use std::fmt;
 pub(crate) enum Answer {
     None,
     Value(u64),
+    Index(usize),
     Was(u64),
     WasKey(Name),
     Key(Name),
@@ -46,6 +47,14 @@ impl Answer {
     pub(crate) fn of_value<V: Number>(value: Option<&V>) -> Answer {
         match value {
             Some(value) => Answer::Value(value.number()),
+            None => Answer::None,
+        }
+    }
+
+    /// The index, or none.
+    pub(crate) fn of_index(index: Option<usize>) -> Answer {
+        match index {
+            Some(index) => Answer::Index(index),
             None => Answer::None,
         }
     }
@@ -103,6 +112,7 @@ impl fmt::Display for Answer {
         match self {
             Answer::None => write!(f, "none"),
             Answer::Value(value) => write!(f, "{value}"),
+            Answer::Index(index) => write!(f, "{index}"),
             Answer::Was(old) => write!(f, "was {old}"),
             Answer::WasKey(key) => write!(f, "was {key}"),
             Answer::Key(key) => write!(f, "{key}"),

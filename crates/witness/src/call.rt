@@ -27,6 +27,8 @@ pub(crate) struct Manner {
 pub(crate) enum Call {
     /// A call with one key, or one search.
     Keyed(Keyed),
+    /// A call by an index in the order of the pairs.
+    AtIndex(AtIndex),
     /// A call on the map as a whole.
     Whole(Whole),
     /// A call with a list of pairs.
@@ -83,12 +85,25 @@ pub(crate) enum Search {
     GetKeyValue,
     ContainsKey,
     Index,
+    GetIndexOf,
     Remove,
     RemoveEntry,
+    RemoveEntryHashed,
     RawEntry,
     RawEntryHashed,
     RawFind,
     RawFindHashed,
+}
+
+/// A call by an index in the order of the pairs, with the value that is written; or one of the first pair or the last.
+#[derive(Clone, Copy)]
+pub(crate) enum AtIndex {
+    Read(usize),
+    Write(usize, u64),
+    First,
+    Last,
+    Pop,
+    SwapRemove(usize),
 }
 
 /// A search by a match.
@@ -113,6 +128,7 @@ pub(crate) enum Insertion {
 pub(crate) enum OfEntry {
     Read,
     Key,
+    Index,
     GetMut(u64),
     IntoMut(u64),
     Remove,
@@ -148,6 +164,7 @@ pub(crate) enum OfRaw {
 #[derive(Clone, Copy)]
 pub(crate) enum OfFound {
     Read,
+    Index,
     GetMut(u64),
     ValueMut(u64),
     KeyMut,
@@ -252,7 +269,7 @@ impl Call {
             Call::Keyed(Keyed::EntryDebug(_) | Keyed::RawDebug(_)) => false,
             Call::Keyed(Keyed::EntryError(_) | Keyed::InsertError(_, _)) => false,
             Call::Whole(Whole::Same | Whole::RawEntryMut) => true,
-            Call::Whole(_) => false,
+            Call::Whole(_) | Call::AtIndex(_) => false,
             Call::Inspection(call) => matches!(call, Inspection::Same(_)),
             Call::Items(Items::FromIter, _) => true,
             Call::Items(_, _) => false,

@@ -19,6 +19,7 @@ pub(crate) fn perform<K: Eq + Hash + Named + Drop, V: Number + Drop, S: BuildHas
     Answer::or_refused_key(match call {
         OfEntry::Read => read(map, key, is_counted),
         OfEntry::Key => stored_key(map, key, is_counted),
+        OfEntry::Index => index(map, key, is_counted),
         OfEntry::IntoKey => into_key(map, key, is_counted),
         OfEntry::GetMut(more) => get_mut(map, key, more, is_counted),
         OfEntry::IntoMut(more) => into_mut(map, key, more, is_counted),
@@ -63,6 +64,17 @@ fn stored_key<K: Eq + Hash + Named + Drop, V: Number, S: BuildHasher, L: Limit>(
 ) -> Result<Answer, RefusedKey<K>> {
     let entry = entry_of(map, key, is_counted)?;
     Ok(Answer::Key(entry.key().name()))
+}
+
+fn index<K: Eq + Hash + Named + Drop, V: Number, S: BuildHasher, L: Limit>(
+    map: &mut LimitedHashMap<K, V, S, L>,
+    key: K,
+    is_counted: bool,
+) -> Result<Answer, RefusedKey<K>> {
+    Ok(match entry_of(map, key, is_counted)? {
+        LimitedEntry::Occupied(entry) => Answer::Index(entry.index()),
+        LimitedEntry::Vacant(_vacant) => Answer::Vacant,
+    })
 }
 
 fn into_key<K: Eq + Hash + Named + Drop, V: Number, S: BuildHasher, L: Limit>(

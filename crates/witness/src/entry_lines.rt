@@ -11,6 +11,7 @@ pub(crate) fn of_entry(key: Name, words: &[&str]) -> Option<Keyed> {
     let call = match words {
         ["read"] => OfEntry::Read,
         ["key"] => OfEntry::Key,
+        ["index"] => OfEntry::Index,
         ["get_mut", more] => OfEntry::GetMut(number(more)?),
         ["into_mut", more] => OfEntry::IntoMut(number(more)?),
         ["remove"] => OfEntry::Remove,
@@ -57,6 +58,7 @@ fn of_raw_alone(call: &str) -> Option<OfRaw> {
     Some(match call {
         "handed" => OfRaw::Handed,
         "read" => OfRaw::Found(OfFound::Read),
+        "index" => OfRaw::Found(OfFound::Index),
         "key_mut" => OfRaw::Found(OfFound::KeyMut),
         "insert_key" => OfRaw::Found(OfFound::InsertKey),
         "into_key" => OfRaw::Lend(Lent::IntoKey),

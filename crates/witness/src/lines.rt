@@ -3,6 +3,7 @@
 use crate::call::{Call, Inspection, Items, Keyed, Line, Maker, Manner, PlainCall, Whole};
 use crate::commands::parse_commands;
 use crate::entry_lines::{of_entry, of_raw};
+use crate::indices::parse_at_index;
 use crate::search_lines::of_key;
 use crate::shown::parse_shown;
 use crate::walk_steps::parse_walk;
@@ -106,6 +107,9 @@ fn with_items(alloc: Global, call: Items, words: &[&str]) -> Result<Option<Call>
 fn of_words(call: &str, rest: &[&str]) -> Option<Call> {
     if let Some(whole) = of_whole(call, rest) {
         return Some(Call::Whole(whole));
+    }
+    if let Some(at_index) = parse_at_index(call, rest) {
+        return Some(Call::AtIndex(at_index));
     }
     if let Some(inspection) = of_inspection(call, rest) {
         return Some(Call::Inspection(inspection));

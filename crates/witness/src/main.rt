@@ -1,5 +1,5 @@
 //! Plays a script of calls from standard input on a map, and prints what each returned, the work that it did and the state
-//! after it. `docs/WITNESS.md` says how a script is written and what each line is answered.
+//! after it. `docs/SCRIPTS.md` says how a script is written and what each line is answered.
 #![tactic(auto)]
 
 mod answer;
@@ -11,6 +11,7 @@ mod entries;
 mod entries_with;
 mod entry_lines;
 mod first;
+mod indices;
 mod insertions;
 mod inspect;
 mod keyed;

@@ -104,6 +104,7 @@ fn on_found<K: Eq + Hash + Named + Drop, V: Number, S: BuildHasher, L: Limit>(
             add_to(held, more);
             Answer::Value(held.number())
         }
+        OfFound::Index => Answer::Index(entry.index()),
         OfFound::KeyMut => Answer::Key(entry.key_mut().name()),
         OfFound::Read => {
             let (stored, held) = entry.get_key_value();

@@ -8,7 +8,7 @@ use crate::kinds::OfNumber;
 use crate::lines::parse;
 use crate::maps::{Counted, Maps};
 use crate::values::Owned;
-use crate::{inspect, keyed, made, pairs, runs};
+use crate::{indices, inspect, keyed, made, pairs, runs};
 use halfbrown::{Refusal, SizedHashMap};
 use std::alloc::{AllocError, Global};
 use std::fmt::Debug;
@@ -180,6 +180,7 @@ fn answer<'a, V: OfNumber<'a> + Clone + PartialEq + Debug + Drop, const N: usize
     maps.counts.begin();
     match call {
         Call::Keyed(call) => keyed::perform(rt, maps, call, manner)?,
+        Call::AtIndex(call) => indices::perform(rt, maps, call, manner)?,
         Call::Whole(call) => pairs::perform(rt, maps, call, manner)?,
         Call::Items(call, names) => made::perform(rt, maps, call, names.as_slice(), manner)?,
         Call::Inspection(call) => inspect::perform(rt, maps, call, manner)?,

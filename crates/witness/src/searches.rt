@@ -27,6 +27,7 @@ pub(crate) fn perform<
     match search {
         Search::Remove => remove(map, form, is_counted),
         Search::RemoveEntry => remove_entry(map, form, is_counted),
+        Search::RemoveEntryHashed => remove_entry_hashed(map, counts, form, is_counted),
         Search::RawEntry => raw_entry(map, form, is_counted),
         Search::RawEntryHashed => raw_entry_hashed(map, counts, form, is_counted),
         Search::RawFind => Answer::or_refused(raw_find(map, form, is_counted)),
@@ -54,6 +55,10 @@ fn read<K: Eq + Hash + Named + Drop, V: Number + Drop, S: BuildHasher, L: Limit,
         (Search::ContainsKey, false) => Answer::Truth(map.contains_key(form)),
         (Search::ContainsKey, true) => {
             Answer::Truth(map.contains_key_counted(form, &mut Tally::new()))
+        }
+        (Search::GetIndexOf, false) => Answer::of_index(map.get_index_of(form)),
+        (Search::GetIndexOf, true) => {
+            Answer::of_index(map.get_index_of_counted(form, &mut Tally::new()))
         }
         (_, is_counted) => index(map, counts, form, is_counted),
     }
@@ -100,6 +105,22 @@ fn remove_entry<
         map.remove_entry_counted(form, &mut Tally::new())
     } else {
         map.remove_entry(form)
+    })
+}
+
+fn remove_entry_hashed<
+    K: Eq + Hash + Named + Drop,
+    V: Number + Drop,
+    S: BuildHasher,
+    L: Limit,
+    Q: Equivalent<K>,
+>(map: &mut LimitedHashMap<K, V, S, L>, counts: &Counts, form: Q, is_counted: bool) -> Answer {
+    let hash = map.hasher().hash_one(form);
+    counts.take_work();
+    of_removed_pair(if is_counted {
+        map.remove_entry_hashed_nocheck_counted(hash, form, &mut Tally::new())
+    } else {
+        map.remove_entry_hashed_nocheck(hash, form)
     })
 }
 
@@ -177,7 +198,10 @@ fn of_removed_value<V: Number + Drop>(removed: Option<V>) -> Answer {
     Answer::of_value(removed.as_ref())
 }
 
-fn of_removed_pair<K: Named + Drop, V: Number + Drop>(removed: Option<(K, V)>) -> Answer {
+/// A pair that was removed, or none.
+pub(crate) fn of_removed_pair<K: Named + Drop, V: Number + Drop>(
+    removed: Option<(K, V)>,
+) -> Answer {
     match removed {
         Some((key, value)) => Answer::Pair(key.name(), value.number()),
         None => Answer::None,

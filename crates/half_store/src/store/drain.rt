@@ -1,5 +1,6 @@
 //! A store whose pairs are taken out, from first to last.
 ghost use Rattle.std.specs.Prelude.{◌≡◌, ◌^◌, ◌<◌, [], ◌∷◌, length, MatchOption};
+ghost use Rattle.half_store.specs.Pairs.{no_pairs};
 ghost use Rattle.half_store.specs.Store.{vector_of, KeepsForm};
 
 use super::Store;
@@ -66,7 +67,7 @@ impl<K, V> Store<K, V> {
     pub fn drain(&mut self) -> Drained<K, V>
         ensures pairs { result.pairs ≡ self.old.pairs }
         ensures form { KeepsForm self.old result }
-        ensures after { self.new ≡ vector_of (record { pairs = []; capacity = 0 }) }
+        ensures after { self.new ≡ vector_of no_pairs }
         ensures small { length result.pairs < 2 ^ 63 }
     {
         let none = VecMap::new(self.columns.allocator());

@@ -2,9 +2,10 @@
 ghost use Rattle.std.specs.Prelude.{◌≡◌, ◌+◌, ◌^◌, ◌<◌, ◌≤◌, ◌⊎◌, ◌||◌, false, []};
 ghost use Rattle.std.specs.Prelude.{length, nat_le, IsOk, IfOk, OnOk, OnErr, IfErr, if◌then◌else◌};
 ghost use Rattle.std.specs.List.{AllZip};
-ghost use Rattle.half_store.specs.Capacity.{capacity_for, grown_capacity};
+ghost use Rattle.half_store.specs.Capacity.{capacity_for};
+ghost use Rattle.half_store.specs.Pairs.{memory_for, grown_memory, IsShrunkMemory, IsPartlyGrown};
 ghost use Rattle.half_store.specs.Refusal.{refusal_of};
-ghost use Rattle.half_store.specs.Store.{allowed, capacity_within, reserved};
+ghost use Rattle.half_store.specs.Store.{allowed, capacity_within, reserved, reserved_capacity, in_memory};
 
 use super::Store;
 use crate::capacity::capacity_for;
@@ -27,6 +28,7 @@ impl<K, V> Store<K, V> {
         ensures pairs { IfOk result (λ s. s.pairs ≡ []) }
         ensures hashes { IfOk result (λ s. s.hashes ≡ []) }
         ensures capacity { IfOk result (λ s. s.capacity ≡ (if s.is_vec then capacity else capacity_for capacity)) }
+        ensures memory { IfOk result (λ s. s.memory ≡ memory_for s.capacity) }
         ensures series { IfOk result (λ s. s.is_vec ≡ false → s.capacity ≡ capacity_for s.capacity) }
         ensures exceeds { IfOk result (λ s. s.is_vec ≡ false → limit < s.capacity) }
         ensures granted { OnOk result (capacity ≤ 2 ^ 60) }
@@ -63,16 +65,18 @@ impl<K, V> Store<K, V> {
         ensures unneeded { OnOk result (reserved limit self.old additional ≤ capacity_within limit self.old
             → self.new ≡ self.old) }
         ensures grown { OnOk result (capacity_within limit self.old < reserved limit self.old additional
-            → self.new.capacity ≡ (if self.old.is_vec
-            then grown_capacity limit self.old.capacity (reserved limit self.old additional)
-            else capacity_for (reserved limit self.old additional))) }
+            → self.new.capacity ≡ reserved_capacity limit self.old additional) }
+        ensures memory { OnOk result (capacity_within limit self.old < reserved limit self.old additional
+            → self.new.memory ≡ grown_memory (reserved_capacity limit self.old additional) self.old.memory) }
         ensures more { self.old.capacity ≤ self.new.capacity }
         ensures series { self.new.is_vec ≡ false → self.new.capacity ≡ capacity_for self.new.capacity }
         ensures granted { OnOk result (capacity_within limit self.old < reserved limit self.old additional
             → reserved limit self.old additional ≤ 2 ^ 60) }
         ensures refused { IfErr result (λ why. (capacity_within limit self.old < reserved limit self.old additional)
             × (why ≡ refusal_of (reserved limit self.old additional))) }
-        ensures err { OnErr result (self.new ≡ self.old) }
+        ensures err { OnErr result (self.new ≡ in_memory self.old self.new.memory) }
+        ensures partly { OnErr result (IsPartlyGrown (reserved_capacity limit self.old additional)
+            self.old.memory self.new.memory) }
     {
         let len = self.columns.len();
         let Some(table) = &mut self.index else {
@@ -106,6 +110,8 @@ impl<K, V> Store<K, V> {
             else capacity_for (length self.old.pairs)))
             ⊎ ((0 < length self.old.pairs)
             × (allowed limit self.new.is_vec self.new.capacity ≡ allowed limit self.new.is_vec self.old.capacity)) }
+        ensures memory { IsShrunkMemory (if self.new.is_vec then length self.old.pairs else self.new.capacity)
+            self.old.memory self.new.memory }
         ensures series { self.new.is_vec ≡ false → self.new.capacity ≡ capacity_for self.new.capacity }
         ensures fits { self.new.is_vec ≡ false → length self.old.pairs ≤ self.new.capacity }
     {
@@ -136,6 +142,7 @@ impl<K, V> Store<K, V> {
             self.now.pairs s.pairs) }
         ensures capacity { IfOk result (λ s. s.capacity
             ≡ (if self.now.is_vec then length self.now.pairs else self.now.capacity)) }
+        ensures memory { IfOk result (λ s. s.memory ≡ memory_for s.capacity) }
         ensures hashes { IfOk result (λ s. s.hashes ≡ self.now.hashes) }
         ensures refused { IfErr result (λ why. why ≡ Refusal.Memory) }
     {

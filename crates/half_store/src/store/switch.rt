@@ -1,8 +1,9 @@
 //! The change of form: a vector gets an index.
 ghost use Rattle.std.specs.Prelude.{◌≡◌, ◌^◌, ◌≤◌, true, [], length, IfOk, OnOk, OnErr, IfErr};
 ghost use Rattle.half_store.specs.Capacity.{capacity_of, capacity_for};
+ghost use Rattle.half_store.specs.Pairs.{grown_memory, IsPartlyGrown};
 ghost use Rattle.half_store.specs.Refusal.{refusal_of};
-ghost use Rattle.half_store.specs.Store.{table_of};
+ghost use Rattle.half_store.specs.Store.{table_of, in_memory};
 
 use super::Store;
 use crate::{Refusal, Table};
@@ -22,9 +23,11 @@ impl<K, V> Store<K, V> {
         ensures enough { OnOk result (needed ≤ capacity_for needed) }
         ensures series { OnOk result (capacity_for needed ≡ capacity_for (capacity_for needed)) }
         ensures backed { OnOk result (capacity_for needed ≤ self.new.capacity) }
+        ensures memory { OnOk result (self.new.memory ≡ grown_memory (capacity_for needed) self.old.memory) }
         ensures granted { OnOk result (needed ≤ 2 ^ 60) }
         ensures refused { IfErr result (λ why. why ≡ refusal_of needed) }
-        ensures err { OnErr result (self.new ≡ self.old) }
+        ensures err { OnErr result (self.new ≡ in_memory self.old self.new.memory) }
+        ensures partly { OnErr result (IsPartlyGrown (capacity_for needed) self.old.memory self.new.memory) }
     {
         let index = Table::with_capacity(self.columns.allocator(), needed)?;
         self.columns.reserve(index.capacity())?;
@@ -40,7 +43,8 @@ impl<K, V> Store<K, V> {
         requires vector { self.old.is_vec ≡ true }
         requires len { length index.hashes ≡ length self.old.pairs }
         requires backed { capacity_of index.buckets ≤ self.old.capacity }
-        ensures { self.new ≡ table_of (record { pairs = self.old.pairs; capacity = self.old.capacity }) index }
+        ensures { self.new ≡ table_of
+            (record { pairs = self.old.pairs; capacity = self.old.capacity; memory = self.old.memory }) index }
     {
         self.index = Some(index);
     }

@@ -1,13 +1,12 @@
 //! Backward-shift deletion: after a removal the pairs that follow move back, so that no tombstone is needed. No tally counts
 //! the buckets that it reads.
-ghost use Rattle.std.specs.Prelude.{◌≡◌, ◌<◌, ◌≤◌, length, Some, slice_get, slice_set, slice_index, vec_capacity};
+ghost use Rattle.std.specs.Prelude.{◌≡◌, ◌-◌, ◌<◌, ◌≤◌, length, Some, slice_get, slice_set, slice_index, vec_capacity};
 ghost use Rattle.std.specs.List.{swap_remove};
 ghost use Rattle.half_store.specs.Reach.{probe_distance, IsNearer};
 ghost use Rattle.half_store.specs.Capacity.{IsBucketCount};
 ghost use Rattle.half_store.specs.TableLayout.{IsIndexed, IsIndexedButFor, IsBucketOf};
 
 use super::probe::{home, next};
-use crate::buckets::read_in;
 use crate::words::Words;
 
 /// Removes the pair at this entry index, and returns its stored hash. The last pair takes its index.
@@ -27,7 +26,6 @@ pub(super) fn remove_in<B: Words>(buckets: &mut B, hashes: &mut Vec<u64>, index:
     let bucket = bucket_of(buckets, hashes.as_slice(), index);
     let last_bucket = bucket_of(buckets, hashes.as_slice(), last);
     buckets.set_word(last_bucket, index + 1);
-    buckets.set_word(bucket, 0);
     let hash = hashes.swap_remove(index);
     backward_shift(buckets, hashes.as_slice(), bucket);
     hash
@@ -61,39 +59,42 @@ fn probe_distance(from: usize, to: usize, count: usize) -> usize
     to + (count - from) & (count - 1)
 }
 
-/// Moves the pair in one bucket to another, which is empty.
+/// The stored hash of the pair that the word of a full bucket leads to.
 #[inline(always)]
-fn move_pair<B: Words>(buckets: &mut B, from: usize, to: usize)
-    requires from_within { from < length (B.words buckets.old) }
-    requires to_within { to < length (B.words buckets.old) }
-    requires fits { slice_index (B.words buckets.old) from ≤ B.most buckets.old }
-    ensures words { B.words buckets.new
-        ≡ slice_set (slice_set (B.words buckets.old) to (slice_index (B.words buckets.old) from)) from 0 }
-    ensures most { B.most buckets.new ≡ B.most buckets.old }
+fn hash_of(word: usize, hashes: &[u64]) -> u64
+    requires full { 0 < word }
+    requires within { word ≤ length hashes.now }
+    ensures { result ≡ slice_index hashes.now (word - 1) }
 {
-    let word = buckets.word_at(from);
-    buckets.set_word(to, word);
-    buckets.set_word(from, 0);
+    hashes[word - 1]
 }
 
-/// Shifts pairs back into an emptied bucket: goes up to the next empty bucket, and moves each pair into the gap whose home
-/// bucket is not after it.
-fn backward_shift<B: Words>(buckets: &mut B, hashes: &[u64], emptied: usize)
+/// Shifts pairs back into a bucket whose pair was removed: goes up to the next empty bucket, and moves each pair into the gap
+/// whose home bucket is not after it. What the gap contains is not read; it is emptied at the end.
+fn backward_shift<B: Words>(buckets: &mut B, hashes: &[u64], removed: usize)
     requires count { IsBucketCount (length (B.words buckets.old)) }
-    requires emptied { IsIndexedButFor hashes.now (B.words buckets.old) emptied }
+    requires removed { IsIndexedButFor hashes.now (slice_set (B.words buckets.old) removed 0) removed }
     requires fits { length hashes.now ≤ B.most buckets.old }
     ensures indexed { IsIndexed hashes.now (B.words buckets.new) }
     ensures len { length (B.words buckets.new) ≡ length (B.words buckets.old) }
     ensures most { B.most buckets.new ≡ B.most buckets.old }
 {
     let count = buckets.count();
-    let mut gap = emptied;
-    let mut bucket = next(emptied, count);
-    while let Some((_index, hash)) = read_in(buckets, hashes, bucket) {
-        if probe_distance(home(hash, count), bucket, count) >= probe_distance(gap, bucket, count) {
-            move_pair(buckets, bucket, gap);
+    let mut gap = removed;
+    let mut bucket = next(removed, count);
+    // the probe distance from the gap up to the bucket
+    let mut distance = 1;
+    let mut word = buckets.word_at(bucket);
+    while word != 0 {
+        let hash = hash_of(word, hashes);
+        if probe_distance(home(hash, count), bucket, count) >= distance {
+            buckets.set_word(gap, word);
             gap = bucket;
+            distance = 0;
         }
         bucket = next(bucket, count);
+        distance += 1;
+        word = buckets.word_at(bucket);
     }
+    buckets.set_word(gap, 0);
 }

@@ -5,21 +5,22 @@ ghost use Rattle.half_store.specs.Capacity.{capacity_of, buckets_for, buckets_fo
 use super::Table;
 use super::rehash::rehash;
 use crate::capacity::{buckets_for, capacity_of};
-use crate::column::reserve_in_all;
+use crate::column::{clone_all, set_capacity};
 use crate::refusal::check_size;
-use crate::words::{WordArray, Words};
+use crate::words::{FourByteLimit, WordArray, Words};
 use crate::{Refusal, Tally};
 use std::alloc::{AllocError, Global};
+use std::marker::PhantomData;
 
-impl Table {
+impl<L: FourByteLimit> Table<L> {
     /// An empty table with the least number of buckets whose capacity is enough for so many pairs.
     ///
     /// Fails with `Size` exactly for more than 2^60 pairs.
     ///
     /// ```
-    /// let mut table = Table::with_capacity(alloc, 3)?; // four buckets
+    /// let mut table: Table = Table::with_capacity(alloc, 3)?; // four buckets
     /// ```
-    pub fn with_capacity(alloc: Global, needed: usize) -> Result<Table, Refusal>
+    pub fn with_capacity(alloc: Global, needed: usize) -> Result<Table<L>, Refusal>
         ensures hashes { IfOk result (λ t. t.hashes ≡ []) }
         ensures buckets { IfOk result (λ t. t.buckets ≡ buckets_for needed) }
         ensures capacity { IfOk result (λ t. needed ≤ capacity_of t.buckets) }
@@ -33,11 +34,11 @@ impl Table {
     /// A table of pairs with these hashes, with the least number of buckets whose capacity is enough for `needed` pairs.
     ///
     /// ```
-    /// let table = Table::from_hashes(alloc, &[7, 11], 4)?; // two pairs, capacity 6
+    /// let table: Table = Table::from_hashes(alloc, &[7, 11], 4)?; // two pairs, capacity 6
     /// ```
     #[cold]
     #[inline(never)]
-    pub fn from_hashes(alloc: Global, hashes: &[u64], needed: usize) -> Result<Table, Refusal>
+    pub fn from_hashes(alloc: Global, hashes: &[u64], needed: usize) -> Result<Table<L>, Refusal>
         requires { length hashes.now ≤ needed }
         ensures hashes { IfOk result (λ t. t.hashes ≡ hashes.now) }
         ensures buckets { IfOk result (λ t. t.buckets ≡ buckets_for needed) }
@@ -119,32 +120,40 @@ impl Table {
     /// ```
     /// let copy = table.copy()?; // the same pairs, in as many buckets
     /// ```
-    pub fn copy(&self) -> Result<Table, Refusal>
+    pub fn copy(&self) -> Result<Table<L>, Refusal>
         ensures ok { IfOk result (λ t. t ≡ self.now) }
         ensures err { IfErr result (λ why. why ≡ Refusal.Memory) }
     {
         self.copied().map_err(|_| Refusal::Memory)
     }
 
-    fn copied(&self) -> Result<Table, AllocError>
+    fn copied(&self) -> Result<Table<L>, AllocError>
         ensures { IfOk result (λ t. t ≡ self.now) }
     {
         let buckets = self.buckets.copied()?;
-        let mut hashes = Vec::with_capacity(self.allocator(), self.capacity())?;
-        hashes.extend_from_slice(self.hashes.as_slice())?;
-        Ok(Table { buckets, hashes })
+        let hashes = Vec::with_capacity(self.allocator(), self.capacity())?;
+        let hashes = clone_all(self.hashes.as_slice(), hashes)?;
+        Ok(Table {
+            buckets,
+            hashes,
+            four_bytes: PhantomData,
+        })
     }
 
     // So many empty buckets.
-    fn empty(alloc: Global, buckets: usize) -> Result<Table, AllocError>
+    fn empty(alloc: Global, buckets: usize) -> Result<Table<L>, AllocError>
         requires { IsBucketCount buckets }
         ensures hashes { IfOk result (λ t. t.hashes ≡ []) }
         ensures buckets { IfOk result (λ t. t.buckets ≡ buckets) }
         ensures granted { buckets ≡ 0 → IsOk result }
     {
         let hashes = Vec::with_capacity(alloc, capacity_of(buckets))?;
-        let buckets = WordArray::empty(alloc, buckets)?;
-        Ok(Table { buckets, hashes })
+        let buckets = WordArray::empty::<L>(alloc, buckets)?;
+        Ok(Table {
+            buckets,
+            hashes,
+            four_bytes: PhantomData,
+        })
     }
 
     // Probes all pairs anew in so many buckets, by their stored hashes.
@@ -159,11 +168,10 @@ impl Table {
         ensures err { OnErr result (self.new ≡ self.old) }
     {
         let capacity = capacity_of(buckets);
-        let mut rehashed = WordArray::empty(self.allocator(), buckets)?;
-        reserve_in_all(&mut self.hashes, capacity)?;
+        let mut rehashed = WordArray::empty::<L>(self.allocator(), buckets)?;
+        set_capacity(&mut self.hashes, capacity)?;
         rehash(&mut rehashed, self.hashes.as_slice());
         self.buckets = rehashed;
-        self.hashes.shrink_to(capacity);
         Ok(())
     }
 

@@ -6,8 +6,9 @@ ghost use Rattle.std.specs.Map.Calls.{CalledAtPair, TakesPair, CallableOnEachPai
 use super::Table;
 use super::rehash::rehash;
 use crate::VecMap;
+use crate::words::FourByteLimit;
 
-impl Table {
+impl<L: FourByteLimit> Table<L> {
     /// Calls `f` at each of these pairs, whose index this is, and keeps those that it accepts, as `VecMap::retain` does. The
     /// buckets stay, and no memory is taken.
     ///
@@ -24,6 +25,7 @@ impl Table {
         ensures kept { RetainsPairs (CalledAtPair F.FnMut) f pairs.old.pairs pairs.new.pairs }
         ensures len { length pairs.new.pairs ≤ length pairs.old.pairs }
         ensures capacity { pairs.new.capacity ≡ pairs.old.capacity }
+        ensures memory { pairs.new.memory ≡ pairs.old.memory }
         ensures hashes { (hash : K → ℕ) → self.old.hashes ≡ map hash (keys_of pairs.old.pairs)
             → self.new.hashes ≡ map hash (keys_of pairs.new.pairs) }
         ensures even { length self.new.hashes ≡ length pairs.new.pairs }

@@ -2,6 +2,7 @@
 ghost use Rattle.std.specs.Prelude.{◌≡◌, ◌^◌, ◌<◌, ◌≤◌, ◌⊎◌, max, min, [], length, IsOk, IfOk, OnOk, OnErr, IfErr};
 ghost use Rattle.std.specs.List.{AllZip};
 ghost use Rattle.half_store.specs.Capacity.{grown_capacity};
+ghost use Rattle.half_store.specs.Pairs.{memory_for, grown_memory, columns_in, IsShrunkMemory, IsPartlyGrown};
 ghost use Rattle.half_store.specs.Refusal.{refusal_of};
 
 use super::VecMap;
@@ -22,6 +23,7 @@ impl<K, V> VecMap<K, V> {
     pub fn with_capacity(alloc: Global, capacity: usize) -> Result<VecMap<K, V>, AllocError>
         ensures pairs { IfOk result (λ m. m.pairs ≡ []) }
         ensures capacity { IfOk result (λ m. m.capacity ≡ capacity) }
+        ensures memory { IfOk result (λ m. m.memory ≡ memory_for capacity) }
         ensures needed { capacity ≡ 0 → IsOk result }
     {
         let keys = Vec::with_capacity(alloc, capacity)?;
@@ -47,6 +49,7 @@ impl<K, V> VecMap<K, V> {
         ensures pairs { IfOk result (λ m. AllZip (λ p q. K.is_clone p.0 q.0 × V.is_clone p.1 q.1)
             self.now.pairs m.pairs) }
         ensures capacity { IfOk result (λ m. m.capacity ≡ capacity) }
+        ensures memory { IfOk result (λ m. m.memory ≡ memory_for capacity) }
     {
         let alloc = *self.keys.allocator();
         let keys = Vec::with_capacity(alloc, capacity)?;
@@ -78,17 +81,19 @@ impl<K, V> VecMap<K, V> {
         ensures pairs { self.new.pairs ≡ self.old.pairs }
         ensures capacity { (self.new.capacity ≡ min (max needed (length self.old.pairs)) self.old.capacity)
             ⊎ (self.new.capacity ≡ self.old.capacity) }
+        ensures memory { IsShrunkMemory (max needed (length self.old.pairs)) self.old.memory self.new.memory }
         ensures frees { length self.old.pairs ≡ 0 → needed ≡ 0 → self.new.capacity ≡ 0 }
+        ensures frees_both { length self.old.pairs ≡ 0 → needed ≡ 0 → self.new.memory ≡ memory_for 0 }
     {
         let kept = needed.max(self.len());
-        shrink_column(&mut self.keys, kept);
-        shrink_column(&mut self.values, kept);
+        let _ = shrink_column(&mut self.keys, kept);
+        let _ = shrink_column(&mut self.values, kept);
     }
 
     /// Makes the capacity enough for `needed` pairs in all, and no greater where that needs memory.
     ///
     /// Both columns get their memory before anything else happens. The column with the smaller capacity grows last, so
-    /// that on error nothing changes.
+    /// that on error nothing changes but that the other one may have grown.
     ///
     /// ```
     /// ages.reserve(10)?; // capacity 10
@@ -97,7 +102,9 @@ impl<K, V> VecMap<K, V> {
     pub fn reserve(&mut self, needed: usize) -> Result<(), AllocError>
         ensures pairs { self.new.pairs ≡ self.old.pairs }
         ensures ok { OnOk result (self.new.capacity ≡ max self.old.capacity needed) }
-        ensures err { OnErr result (self.new ≡ self.old) }
+        ensures memory { OnOk result (self.new.memory ≡ grown_memory needed self.old.memory) }
+        ensures err { OnErr result (self.new ≡ columns_in self.old self.new.memory) }
+        ensures partly { OnErr result (IsPartlyGrown needed self.old.memory self.new.memory) }
         ensures needed { OnErr result (self.old.capacity < needed) }
     {
         if self.keys.capacity() <= self.values.capacity() {
@@ -123,10 +130,14 @@ impl<K, V> VecMap<K, V> {
         ensures ok { OnOk result (needed ≤ self.new.capacity) }
         ensures grown { OnOk result (self.old.capacity < needed
             → self.new.capacity ≡ grown_capacity limit self.old.capacity needed) }
+        ensures memory { OnOk result (self.old.capacity < needed
+            → self.new.memory ≡ grown_memory (grown_capacity limit self.old.capacity needed) self.old.memory) }
         ensures keeps_capacity { self.old.capacity ≤ self.new.capacity }
         ensures within_limit { self.new.capacity ≤ max self.old.capacity limit }
         ensures unneeded { needed ≤ self.old.capacity → self.new ≡ self.old }
-        ensures err { OnErr result (self.new ≡ self.old) }
+        ensures err { OnErr result (self.new ≡ columns_in self.old self.new.memory) }
+        ensures partly { OnErr result (IsPartlyGrown (grown_capacity limit self.old.capacity needed)
+            self.old.memory self.new.memory) }
         ensures needed { OnErr result (self.old.capacity < needed) }
         ensures size { IfErr result (λ why. why ≡ refusal_of needed) }
         ensures within_size { OnOk result (self.old.capacity < needed → needed ≤ 2 ^ 60) }

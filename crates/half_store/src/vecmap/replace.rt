@@ -18,6 +18,7 @@ impl<K, V> VecMap<K, V> {
             → F.pre f key value }
         ensures replaces { Replaces (F.post f) self.old.pairs index self.new.pairs result }
         ensures capacity { self.new.capacity ≡ self.old.capacity }
+        ensures memory { self.new.memory ≡ self.old.memory }
     {
         let value = self.values.swap_remove(index);
         match f(&self.keys[index], value) {

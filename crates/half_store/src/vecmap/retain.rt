@@ -21,6 +21,7 @@ impl<K, V> VecMap<K, V> {
         ensures kept { RetainsPairs (CalledAtPair F.FnMut) f self.old.pairs self.new.pairs }
         ensures len { length self.new.pairs ≤ length self.old.pairs }
         ensures capacity { self.new.capacity ≡ self.old.capacity }
+        ensures memory { self.new.memory ≡ self.old.memory }
     {
         self.retain_with(&mut [], f);
     }
@@ -35,6 +36,7 @@ impl<K, V> VecMap<K, V> {
         ensures kept { RetainsPairs (CalledAtPair F.FnMut) f self.old.pairs self.new.pairs }
         ensures len { length self.new.pairs ≤ length self.old.pairs }
         ensures capacity { self.new.capacity ≡ self.old.capacity }
+        ensures memory { self.new.memory ≡ self.old.memory }
         ensures hashes { (hash : K → ℕ) → hashes.old ≡ map hash (keys_of self.old.pairs)
             → take (length self.new.pairs) hashes.new ≡ map hash (keys_of self.new.pairs) }
         ensures same { length self.new.pairs ≡ length self.old.pairs → hashes.new ≡ hashes.old }

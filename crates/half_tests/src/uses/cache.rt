@@ -28,7 +28,7 @@ fn each_key_is_hashed_once(rt: HostRuntime) -> Result<(), Fail> {
         let key = squares.hashed(number);
         let square = squares.get(&key, &mut tally).copied();
         assert_same_at(number, square, Some(number * number), "cached")?;
-        let removed = squares.remove(&key, &mut tally)?;
+        let removed = squares.remove(&key, &mut tally);
         assert_same_at(number, removed, Some(number * number), "forgotten")?;
         assert_same_at(
             number,

@@ -22,7 +22,7 @@ impl<K: Eq + Hash, V, S: BuildHasher, L: Limit> LimitedHashMap<K, V, S, L> {
     /// ```
     /// let age = *ages.entry(1)?.or_insert(36); // 36
     /// ```
-    #[inline]
+    #[inline(always)]
     pub fn entry(&mut self, key: K) -> Result<LimitedEntry<'_, K, V, S, L>, RefusedKey<K>>
     where
         K: Drop,
@@ -38,7 +38,7 @@ impl<K: Eq + Hash, V, S: BuildHasher, L: Limit> LimitedHashMap<K, V, S, L> {
     /// ```
     /// let age = *ages.entry_counted(1, &mut tally)?.or_insert(0); // 36
     /// ```
-    #[inline]
+    #[inline(always)]
     pub fn entry_counted(
         &mut self,
         key: K,

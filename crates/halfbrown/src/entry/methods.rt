@@ -32,7 +32,7 @@ impl<'a, K: Eq + Hash, V, S: BuildHasher, L: Limit> LimitedEntry<'a, K, V, S, L>
     /// ```
     /// *ages.entry(2)?.or_insert(0) = 41;
     /// ```
-    #[inline]
+    #[inline(always)]
     pub fn or_insert(self, default: V) -> &'a mut V
     where
         V: Drop,
@@ -50,7 +50,7 @@ impl<'a, K: Eq + Hash, V, S: BuildHasher, L: Limit> LimitedEntry<'a, K, V, S, L>
     /// ```
     /// let age = *ages.entry(3)?.or_insert_with(|| 5); // 5
     /// ```
-    #[inline]
+    #[inline(always)]
     pub fn or_insert_with<F: FnOnce() -> V>(self, default: F) -> &'a mut V
         requires { entry_value self ≡ None → F.pre default }
         ensures* writes_back { sem 𝓛 (EntryLends K.row V.row S.row L.row S.Hasher.row self.entry result) }
@@ -67,7 +67,7 @@ impl<'a, K: Eq + Hash, V, S: BuildHasher, L: Limit> LimitedEntry<'a, K, V, S, L>
     /// ```
     /// let age = *ages.entry(4)?.or_default(); // 0
     /// ```
-    #[inline]
+    #[inline(always)]
     pub fn or_default(self) -> &'a mut V
     where
         V: Default,
@@ -85,7 +85,7 @@ impl<'a, K: Eq + Hash, V, S: BuildHasher, L: Limit> LimitedEntry<'a, K, V, S, L>
     /// ```
     /// let age = *ages.entry(4)?.and_modify(|age| *age = 8).or_insert(0); // 8
     /// ```
-    #[inline]
+    #[inline(always)]
     pub fn and_modify<F: FnOnce(&mut V)>(self, f: F) -> LimitedEntry<'a, K, V, S, L>
         requires { (lent : MutBor V) → entry_value self ≡ Some lent.now → F.pre f lent }
         ensures modified { ModifiesValue F.FnOnce f (entry_value self.entry) (entry_value result) }

@@ -1,6 +1,7 @@
 //! The calls of an occupied entry, of a key or a raw one.
-ghost use Rattle.std.specs.Prelude.{◌≡◌, true, Some, IfSome};
+ghost use Rattle.std.specs.Prelude.{◌≡◌, ◌<◌, true, Some, IfSome, length, slice_get};
 ghost use Rattle.std.specs.Borrow.{sem};
+ghost use Rattle.half_store.specs.Pairs.{swap_remove_at};
 ghost use Rattle.halfbrown.specs.Entry.{Occupied, entry_key, entry_pair, entry_value, map_of, pairs_without};
 ghost use Rattle.halfbrown.specs.Entry.{IsWritten, HasNewKey};
 ghost use Rattle.halfbrown.specs.EntryLending.{EntryLends, OccupiedLends, OccupiedRests, with_entry_value};
@@ -47,6 +48,21 @@ impl<'a, K: Eq + Hash, V, S: BuildHasher, L: Limit> LimitedOccupiedEntry<'a, K, 
         ensures { entry_key (Occupied self.entry) ≡ Some result.now }
     {
         self.into_key_value().0
+    }
+
+    /// The index of its pair in the order of the pairs.
+    ///
+    /// ```
+    /// let index = entry.index(); // 1
+    /// ```
+    #[inline(always)]
+    pub fn index(&self) -> usize
+        ensures within { result < length (map_of (Occupied self.now)).pairs }
+        ensures pair { slice_get (map_of (Occupied self.now)).pairs result ≡ entry_pair (Occupied self.now) }
+        ensures pairs_left { swap_remove_at (map_of (Occupied self.now)).pairs result
+            ≡ pairs_without (Occupied self.now) }
+    {
+        self.index
     }
 
     /// Its value.

@@ -40,7 +40,7 @@ impl<'a, K: Eq + Hash, V, S: BuildHasher, L: Limit> LimitedVacantEntry<'a, K, V,
     /// ```
     /// *entry.insert(0) = 21;
     /// ```
-    #[inline]
+    #[inline(always)]
     pub fn insert(self, value: V) -> &'a mut V
         ensures* writes_back { sem 𝓛 (EntryLends K.row V.row S.row L.row S.Hasher.row (Vacant self.entry) result) }
         ensures value { result.now ≡ value }

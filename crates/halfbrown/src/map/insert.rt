@@ -32,7 +32,7 @@ impl<K: Eq + Hash, V, S: BuildHasher, L: Limit> LimitedHashMap<K, V, S, L> {
     /// ```
     /// let before = ages.insert(1, 37)?; // 36
     /// ```
-    #[inline]
+    #[inline(always)]
     pub fn insert(&mut self, key: K, value: V) -> Result<Option<V>, Refused<K, V>>
     where
         K: Drop,
@@ -47,7 +47,7 @@ impl<K: Eq + Hash, V, S: BuildHasher, L: Limit> LimitedHashMap<K, V, S, L> {
     /// let mut tally = Tally::new();
     /// let before = ages.insert_counted(1, 38, &mut tally)?; // 37
     /// ```
-    #[inline]
+    #[inline(always)]
     pub fn insert_counted(
         &mut self,
         key: K,
@@ -79,7 +79,7 @@ impl<K: Eq + Hash, V, S: BuildHasher, L: Limit> LimitedHashMap<K, V, S, L> {
     ///     ages.insert_nocheck(2, 41)?;
     /// }
     /// ```
-    #[inline]
+    #[inline(always)]
     pub fn insert_nocheck(&mut self, key: K, value: V) -> Result<(), Refused<K, V>>
         requires { holds K.eq self.old.pairs key ≡ false }
         ensures { InsertsNewKey L.LIMIT K.eq self.old key value result self.new }
@@ -94,7 +94,7 @@ impl<K: Eq + Hash, V, S: BuildHasher, L: Limit> LimitedHashMap<K, V, S, L> {
     ///     ages.insert_nocheck_counted(3, 5, &mut tally)?;
     /// }
     /// ```
-    #[inline]
+    #[inline(always)]
     pub fn insert_nocheck_counted(
         &mut self,
         key: K,

@@ -1,8 +1,9 @@
 //! Removal.
-ghost use Rattle.std.specs.Prelude.{◌≡◌, ◌<◌, length, slice_get, Some};
+ghost use Rattle.std.specs.Prelude.{◌≡◌, ◌<◌, false, length, slice_get, Some};
 ghost use Rattle.std.specs.Map.{values_of, lookup, lookup_entry};
+ghost use Rattle.std.specs.Option.{option_map};
 ghost use Rattle.half_store.specs.Pairs.{swap_remove_at};
-ghost use Rattle.halfbrown.specs.Costs.{CostsSearch};
+ghost use Rattle.halfbrown.specs.Costs.{key_hash, CostsSearch, CostsHashedSearch};
 ghost use Rattle.halfbrown.specs.Removal.{Removes};
 ghost use Rattle.halfbrown.specs.State.{IsState, WithPairs};
 
@@ -18,7 +19,7 @@ impl<K: Eq + Hash, V, S: BuildHasher, L: Limit> LimitedHashMap<K, V, S, L> {
     /// ```
     /// let age = ages.remove(&1); // 36
     /// ```
-    #[inline]
+    #[inline(always)]
     pub fn remove<Q: Equivalent<K>>(&mut self, key: Q) -> Option<V>
     where
         K: Drop,
@@ -33,7 +34,7 @@ impl<K: Eq + Hash, V, S: BuildHasher, L: Limit> LimitedHashMap<K, V, S, L> {
     /// ```
     /// let age = ages.remove_counted(&2, &mut tally); // 41
     /// ```
-    #[inline]
+    #[inline(always)]
     pub fn remove_counted<Q: Equivalent<K>>(&mut self, key: Q, tally: &mut Tally) -> Option<V>
     where
         K: Drop,
@@ -52,7 +53,7 @@ impl<K: Eq + Hash, V, S: BuildHasher, L: Limit> LimitedHashMap<K, V, S, L> {
     /// ```
     /// let pair = ages.remove_entry(&3); // 3 and 5
     /// ```
-    #[inline]
+    #[inline(always)]
     pub fn remove_entry<Q: Equivalent<K>>(&mut self, key: Q) -> Option<(K, V)>
         ensures { Removes L.LIMIT K.eq (Q.equivalent key) self.old
             (lookup_entry (Q.equivalent key) self.old.pairs) result self.new }
@@ -65,7 +66,7 @@ impl<K: Eq + Hash, V, S: BuildHasher, L: Limit> LimitedHashMap<K, V, S, L> {
     /// ```
     /// let pair = ages.remove_entry_counted(&4, &mut tally); // 4 and 8
     /// ```
-    #[inline]
+    #[inline(always)]
     pub fn remove_entry_counted<Q: Equivalent<K>>(
         &mut self,
         key: Q,
@@ -76,14 +77,78 @@ impl<K: Eq + Hash, V, S: BuildHasher, L: Limit> LimitedHashMap<K, V, S, L> {
         ensures cost { CostsSearch S.BuildHasher S.Hasher.Hasher K.hash_input Q.hash_input Q.equivalent key
             self.old tally.old tally.new }
     {
-        match self.find(key, tally) {
+        let to_store = self.hash_to_store(&key, tally);
+        self.remove_hashed(to_store, key, tally)
+    }
+
+    /// `remove_entry`, by a hash that is known, which must be the builder's hash of the key. Nothing is hashed. No memory is needed,
+    /// where `raw_entry_mut` may ask for some.
+    ///
+    /// ```
+    /// let hash = ages.hasher().hash_one(&5u64);
+    /// let pair = ages.remove_entry_hashed_nocheck(hash, &5); // 5 and 13
+    /// ```
+    #[inline(always)]
+    pub fn remove_entry_hashed_nocheck<Q: Equivalent<K>>(
+        &mut self,
+        hash: u64,
+        key: Q,
+    ) -> Option<(K, V)>
+        requires { hash ≡ key_hash S.BuildHasher S.Hasher.Hasher Q.hash_input self.old.builder key }
+        ensures removes { Removes L.LIMIT K.eq (Q.equivalent key) self.old
+            (lookup_entry (Q.equivalent key) self.old.pairs) result self.new }
+        ensures value { option_map (λ pair. pair.1) result ≡ lookup (Q.equivalent key) self.old.pairs }
+    {
+        self.remove_entry_hashed_nocheck_counted(hash, key, &mut Tally::new())
+    }
+
+    /// `remove_entry_hashed_nocheck`, with its work counted: that of one search, with no hash.
+    ///
+    /// ```
+    /// let hash = ages.hasher().hash_one(&6u64);
+    /// let pair = ages.remove_entry_hashed_nocheck_counted(hash, &6, &mut tally); // 6 and 21
+    /// ```
+    #[inline(always)]
+    pub fn remove_entry_hashed_nocheck_counted<Q: Equivalent<K>>(
+        &mut self,
+        hash: u64,
+        key: Q,
+        tally: &mut Tally,
+    ) -> Option<(K, V)>
+        requires { hash ≡ key_hash S.BuildHasher S.Hasher.Hasher Q.hash_input self.old.builder key }
+        ensures removes { Removes L.LIMIT K.eq (Q.equivalent key) self.old
+            (lookup_entry (Q.equivalent key) self.old.pairs) result self.new }
+        ensures value { option_map (λ pair. pair.1) result ≡ lookup (Q.equivalent key) self.old.pairs }
+        ensures cost { CostsHashedSearch S.BuildHasher S.Hasher.Hasher K.hash_input Q.hash_input Q.equivalent key
+            self.old tally.old tally.new }
+    {
+        self.remove_hashed(hash, key, tally)
+    }
+
+    // Removes the pair of the key, under a hash that is known. A vector does not look at it.
+    #[inline(always)]
+    fn remove_hashed<Q: Equivalent<K>>(
+        &mut self,
+        hash: u64,
+        key: Q,
+        tally: &mut Tally,
+    ) -> Option<(K, V)>
+        requires { self.old.is_vec ≡ false
+            → hash ≡ key_hash S.BuildHasher S.Hasher.Hasher Q.hash_input self.old.builder key }
+        ensures removes { Removes L.LIMIT K.eq (Q.equivalent key) self.old
+            (lookup_entry (Q.equivalent key) self.old.pairs) result self.new }
+        ensures value { option_map (λ pair. pair.1) result ≡ lookup (Q.equivalent key) self.old.pairs }
+        ensures cost { CostsHashedSearch S.BuildHasher S.Hasher.Hasher K.hash_input Q.hash_input Q.equivalent key
+            self.old tally.old tally.new }
+    {
+        match self.find_hashed(hash, key, tally) {
             Lookup::Found(index) => Some(self.take_at(index)),
             Lookup::Missing(_) => None,
         }
     }
 
     /// Removes the pair at this index.
-    #[inline]
+    #[inline(always)]
     pub(crate) fn take_at(&mut self, index: usize) -> (K, V)
         requires { index < length self.old.pairs }
         ensures taken { slice_get self.old.pairs index ≡ Some result }

@@ -10,7 +10,8 @@ invariant_of-self g c =
     kept_store c.self.inside.index columns c.replace_with.new.self (ap length kept.2 ∙ length-set_value columns.pairs c.args.index kept.0) c.in_err-key.ensures.capacity c.self.invariant
 
 pub returns-in_err-key-clause-form : goal.returns-in_err-key-clause-form
-returns-in_err-key-clause-form g c = keeps_form c.self.inside.index c.self.inside.columns c.replace_with.new.self c.self.view_is c.in_err-key.ensures.capacity
+returns-in_err-key-clause-form g c =
+    keeps_form c.self.inside.index c.self.inside.columns c.replace_with.new.self c.self.view_is c.in_err-key.ensures.capacity c.in_err-key.ensures.memory
 
 pub returns-in_err-key-clause-replaces : goal.returns-in_err-key-clause-replaces
 returns-in_err-key-clause-replaces g c =
@@ -30,6 +31,6 @@ pub returns-clause-form : goal.returns-clause-form
 returns-clause-form g c =
     let columns = c.self.inside.columns in
     elim c.match-self.branch [
-      | in-Some w ↦ rw w.self-inside-is (table_keeps_form columns c.replace_with.new.self w.in-Some.is c.self.view_is w.remove-hash.ensures.buckets)
-      | in-None w ↦ rw w.self-inside-is (keeps_form c.self.inside.index columns c.replace_with.new.self c.self.view_is c.in_ok-key.ensures.capacity)
+      | in-Some w ↦ rw w.self-inside-is (table_keeps_form columns c.replace_with.new.self w.in-Some.is c.self.view_is w.remove-hash.ensures.buckets c.in_ok-key.ensures.memory)
+      | in-None w ↦ rw w.self-inside-is (keeps_form c.self.inside.index columns c.replace_with.new.self c.self.view_is c.in_ok-key.ensures.capacity c.in_ok-key.ensures.memory)
     ]

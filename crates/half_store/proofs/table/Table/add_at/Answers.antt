@@ -10,7 +10,7 @@ use Rattle.half_store.proofs.IndexLemmas.{IsIndexed-add, IsTable-as, slots-add}
 use Rattle.half_store.proofs.table.Table.add_at.Goals as goal
 
 pub invariant_of-self : goal.invariant_of-self
-invariant_of-self c =
+invariant_of-self g c =
     let t = c.self.inside in
     let hs = t.hashes.items in
     let bs = words_of t.buckets in
@@ -24,10 +24,10 @@ invariant_of-self c =
     let index : c.len-word.result + 1 ≡ suc (length hs) = omega (arith, held, c.len-word.ensures.value) in
     let same = ap capacity_of (length-set bs bucket (suc (length hs))) in
     IsTable-as (hs ++ c.args.hash ∷ []) (set bs bucket (suc (length hs))) c.push_reserved.ensures.items (c.set_word.ensures.words ∙ ap (set bs bucket) index) c.set_word.ensures.most
-    (IsIndexed-add hs bs x.indexed bucket c.args.hash w few) (omega (arith, same, x.fits)) (omega (arith, same, x.reserved, c.push_reserved.ensures.capacity))
+    (IsIndexed-add hs bs x.indexed bucket c.args.hash w few) (omega (arith, same, x.fits)) (omega (arith, same, x.exact, c.push_reserved.ensures.capacity))
 
 pub returns-clause-contents : goal.returns-clause-contents
-returns-clause-contents c =
+returns-clause-contents g c =
     let t = c.self.inside in
     let hs = t.hashes.items in
     let bs = words_of t.buckets in

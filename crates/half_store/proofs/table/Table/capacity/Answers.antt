@@ -7,14 +7,14 @@ use Rattle.half_store.proofs.IndexLemmas.{index-shows}
 use Rattle.half_store.proofs.table.Table.capacity.Goals as goal
 
 pub returns-clause-series : goal.returns-clause-series
-returns-clause-series c =
+returns-clause-series g c =
     let t = c.self.inside in
     let shown = index-shows c.self.invariant.indexed.index c.self.view_is in
     let value : c.capacity_of.result ≡ capacity_of c.args.self.now.buckets = c.capacity_of.ensures ∙ ap capacity_of (c.count.ensures ∙ sym (length-slots_by t.hashes.items (words_of t.buckets)) ∙ ap (λ v. v.buckets) c.self.view_is) in
     value ∙ series_seen shown ∙ ap capacity_for (sym value)
 
 pub returns-clause-buckets : goal.returns-clause-buckets
-returns-clause-buckets c =
+returns-clause-buckets g c =
     let t = c.self.inside in
     let shown = index-shows c.self.invariant.indexed.index c.self.view_is in
     let value : c.capacity_of.result ≡ capacity_of c.args.self.now.buckets = c.capacity_of.ensures ∙ ap capacity_of (c.count.ensures ∙ sym (length-slots_by t.hashes.items (words_of t.buckets)) ∙ ap (λ v. v.buckets) c.self.view_is) in

@@ -6,9 +6,9 @@ use Rattle.half_store.proofs.IndexLemmas.{IsIndexed-empty, IsTable-as, index-buc
 use Rattle.half_store.proofs.table.Table.clear.Goals as goal
 
 pub invariant_of-self : goal.invariant_of-self
-invariant_of-self c =
+invariant_of-self g c =
     let x = c.self.invariant in
     let m : ℕ = length (words_of c.self.inside.buckets) in
     let same = ap capacity_of (length-replicate {A = ℕ} m 0) in
     IsTable-as [] (replicate m 0) c.clear-2.ensures.items c.clear.ensures.words c.clear.ensures.most (IsIndexed-empty m (index-buckets x.indexed.index))
-    (omega (arith, same, x.fits)) (omega (arith, same, x.reserved, c.clear-2.ensures.capacity))
+    (omega (arith, same, x.fits)) (omega (arith, same, x.exact, c.clear-2.ensures.capacity))

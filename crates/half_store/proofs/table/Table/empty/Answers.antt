@@ -5,9 +5,9 @@ use Rattle.half_store.proofs.IndexLemmas.{IsIndexed-empty, IsTable-as}
 use Rattle.half_store.proofs.table.Table.empty.Goals as goal
 
 pub invariant_of-result : goal.invariant_of-result
-invariant_of-result c =
+invariant_of-result g c =
     let m : ℕ = c.args.buckets in
     let same = ap capacity_of (length-replicate {A = ℕ} m 0) in
     let words = c.in_ok-buckets.ensures in
     IsTable-as [] (replicate m 0) c.in_ok-hashes.ensures.items words.words refl (IsIndexed-empty m c.requires)
-    (omega (arith, same, words.fits)) (omega (arith, same, c.capacity_of.ensures, c.in_ok-hashes.ensures.capacity))
+    (omega (arith, same, words.fits)) (omega (arith, same, c.capacity_of.ensures, c.in_ok-hashes.ensures.exact))

@@ -5,7 +5,7 @@ use Rattle.half_store.proofs.CapacityLemmas.{buckets_for-least}
 use Rattle.half_store.proofs.table.Table.from_hashes.Goals as goal
 
 pub add-requires : goal.add-requires
-add-requires c =
+add-requires g c =
     let i = c.loop-hash.invariant in
     let serves = (buckets_for-least c.args.needed).serves in
     let long = ap length i.hashes in

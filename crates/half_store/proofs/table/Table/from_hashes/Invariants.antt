@@ -4,7 +4,7 @@ use Rattle.half_store.proofs.table.Table.from_hashes.Given as goal
 
 -- the first hashes are in the table
 abbrev pub invariant-loop-hash : goal.invariant-loop-hash
-invariant-loop-hash l = record {
+invariant-loop-hash g l = record {
   hashes : l.table.hashes ≡ take l.hash-index l.hashes;
   buckets : l.table.buckets ≡ buckets_for l.needed;
 }

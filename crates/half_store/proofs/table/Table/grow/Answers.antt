@@ -4,7 +4,7 @@ use Rattle.half_store.proofs.CapacityLemmas.{max-buckets_for-grown}
 use Rattle.half_store.proofs.table.Table.grow.Goals as goal
 
 pub returns-clause-buckets : goal.returns-clause-buckets
-returns-clause-buckets c =
+returns-clause-buckets g c =
     let m : ℕ = c.args.self.now.buckets in
     let full = c.if-len-capacity.false in
     let held = c.len-2.ensures.value in

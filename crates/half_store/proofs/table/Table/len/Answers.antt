@@ -4,7 +4,7 @@ use Rattle.half_store.proofs.WordLemmas.{most-le}
 use Rattle.half_store.proofs.table.Table.len.Goals as goal
 
 pub returns-clause-small : goal.returns-clause-small
-returns-clause-small c =
+returns-clause-small g c =
     let t = c.self.inside in
     let x = c.self.invariant in
     omega (arith, c.len.ensures, t.hashes.ok, index-within x.indexed.index, x.fits, most-le t.buckets)

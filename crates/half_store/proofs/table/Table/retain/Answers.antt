@@ -13,7 +13,7 @@ invariant_of-self-2 g c =
     let m : ℕ = length (words_of c.self.inside.buckets) in
     let same = ap capacity_of (c.rehash.ensures.len ∙ ap length c.clear.ensures.words ∙ length-replicate {A = ℕ} m 0) in
     IsTable-as c.as_slice.result.now (words_of c.rehash.new.buckets) (sym c.as_slice.ensures.value) refl (c.rehash.ensures.most ∙ c.clear.ensures.most) c.rehash.ensures.indexed
-    (omega (arith, same, x.fits)) (omega (arith, same, x.reserved, c.truncate.ensures.capacity))
+    (omega (arith, same, x.fits)) (omega (arith, same, x.exact, c.truncate.ensures.capacity))
 
 -- a column whose front part is written as it was
 same_front : (items front : List ℕ) (n : ℕ) → front ≡ items → n ≡ length items → take n (front ++ drop (length front) items) ≡ items

@@ -1,55 +1,80 @@
-use Rattle.std.proofs.Common.{◌≡◌, ◌+◌, ◌<◌, ◌≤◌, ◌∙◌, ℕ, suc, List, Option, Some, None, length, set, slice_index, refl, sym, ap, subst, arith}
-use Rattle.std.specs.Prelude.{option_map}
+use Rattle.std.proofs.Common.{◌≡◌, ◌≢◌, ◌+◌, ◌-◌, ◌<◌, ◌≤◌, ◌∙◌, ℕ, suc, List, Option, Some, None, length, set, slice_index, refl, sym, ap, subst, arith}
 use Rattle.std.proofs.lemmas.List.{length-set}
-use Rattle.half_store.specs.Buckets.{slots_by, entries_by, WithinHashes}
+use Rattle.std.proofs.lemmas.Option.{slice_get-get_or}
+use Rattle.half_store.specs.Buckets.{slot_by, slots_by, entries_by, WithinHashes}
 use Rattle.half_store.specs.Reach.{home, probe_distance, bucket_after}
 use Rattle.half_store.specs.Slots.{slot_at}
 use Rattle.half_store.specs.Capacity.{capacity_of, IsBucketCount}
 use Rattle.half_store.specs.Table.{hashes_at}
-use Rattle.half_store.specs.TableLayout.{InStep}
-use Rattle.half_store.proofs.BucketLemmas.{length-slots_by, slots_by-move, entries_by-move, whole-at, whole-move}
+use Rattle.half_store.specs.TableLayout.{InStep, IsIndexed}
+use Rattle.half_store.proofs.AddLemmas.{index_other, set-again}
+use Rattle.half_store.proofs.BucketLemmas.{length-slots_by, slot_by-at, slots_by-move, entries_by-move, whole-at, whole-move}
+use Rattle.half_store.proofs.Circle.{distance_self, probe_distance-lt}
 use Rattle.half_store.proofs.SlotsLemmas.{full_from}
 use Rattle.half_store.proofs.GapLemmas.{InStep-move, hashes_at-move, move-from}
 use Rattle.half_store.proofs.IndexLemmas.{InStep-vacant}
-use Rattle.half_store.proofs.DeletionLemmas.{Gap, Gap-start, Gap-end, Gap-stay, Gap-move, Gap-ahead}
+use Rattle.half_store.proofs.DeletionLemmas.{Gap, Gap-start, Gap-end, Gap-stay, Gap-move, Gap-ahead, Gap-apart, Gap-distance, bucket_distance}
 use Rattle.half_store.proofs.table.deletion.backward_shift.Goals as goal
-use Rattle.half_store.proofs.table.deletion.backward_shift.Goals.{then-probe_distance, else-probe_distance}
+use Rattle.half_store.proofs.table.deletion.backward_shift.Goals.{then-probe_distance-distance, else-probe_distance-distance}
 
-pub loop-index-init : goal.loop-index-init
-loop-index-init g c =
-    let x = c.requires.emptied in
+-- there are as many buckets as what they contain says, whatever is in the gap
+as_many : (hashes words : List ℕ) (gap : ℕ) {m : ℕ} → length (slots_by hashes (set words gap 0)) ≡ m → length words ≡ m
+as_many hashes words gap same = sym (length-set words gap 0) ∙ sym (length-slots_by hashes (set words gap 0)) ∙ same
+
+-- what stands in a bucket that is not the gap
+module _ (hashes words : List ℕ) (gap bucket word : ℕ) (apart : bucket ≢ gap) (read : word ≡ slice_index words bucket) where
+  word_is : slice_index (set words gap 0) bucket ≡ word
+  word_is = index_other words gap bucket 0 apart ∙ sym read
+
+  none_is : word ≡ 0 → slot_at (slots_by hashes (set words gap 0)) bucket ≡ None
+  none_is none = slot_by-at hashes (set words gap 0) bucket ∙ ap (slot_by hashes) (word_is ∙ none)
+
+  short : WithinHashes hashes (set words gap 0) → word ≤ length hashes
+  short whole = omega (arith, whole-at hashes (set words gap 0) bucket whole, word_is)
+
+  hash_is : WithinHashes hashes (set words gap 0) → word ≢ 0 → slot_at (slots_by hashes (set words gap 0)) bucket ≡ Some (slice_index hashes (word - 1))
+  hash_is whole some =
+      let in_hashes : word - 1 < length hashes = omega (arith, short whole) in
+      let next : word ≡ suc (word - 1) = omega arith in
+      slot_by-at hashes (set words gap 0) bucket ∙ ap (slot_by hashes) (word_is ∙ next) ∙ slice_get-get_or hashes (word - 1) 0 in_hashes
+
+  -- once it is written into the gap, and is the gap itself
+  moved_is : gap < length words → set (set words gap word) bucket 0 ≡ set (set (set words gap 0) gap (slice_index (set words gap 0) bucket)) bucket 0
+  moved_is in_gap = ap (λ y. set y bucket 0) (sym (ap (set (set words gap 0) gap) word_is ∙ set-again words gap 0 word in_gap))
+
+pub loop-word-init : goal.loop-word-init
+loop-word-init g c =
+    let x = c.requires.removed in
+    let words : List ℕ = set (g.B.Words.words c.args.buckets.now) c.args.removed 0 in
+    let slots : List (Option ℕ) = slots_by c.args.hashes.now words in
     let gap = x.gap in
-    let slots : List (Option ℕ) = slots_by c.args.hashes.now (g.B.Words.words c.args.buckets.now) in
-    let long : length slots ≡ c.count-count.result = length-slots_by c.args.hashes.now (g.B.Words.words c.args.buckets.now) ∙ sym c.count-count.ensures in
+    let long : length slots ≡ c.count-count.result = length-slots_by c.args.hashes.now words ∙ length-set (g.B.Words.words c.args.buckets.now) c.args.removed 0 ∙ sym c.count-count.ensures in
+    let deletion : Gap c.count-count.result slots c.args.removed c.args.removed c.next-bucket.result 0 =
+    subst (λ m. Gap m slots c.args.removed c.args.removed c.next-bucket.result 0) long
+    (Gap-start (length slots) slots c.args.removed c.next-bucket.result refl gap.within (c.next-bucket.ensures.value ∙ ap (λ m. bucket_after m c.args.removed 1) (sym long)) gap.vacant gap.another gap.others) in
     record {
       passed = 0;
       bucket_of = x.bucket_of;
       inside = omega (arith, c.next-bucket.ensures.bound, c.count-count.ensures);
+      read = c.word_at-word.ensures;
+      apart = omega (arith, Gap-distance c.count-count.result slots c.args.removed c.args.removed c.next-bucket.result 0 deletion, distance_self c.count-count.result c.args.removed deletion.gap_in);
       whole = x.whole;
       column = x.column;
       within = x.within;
       in_step = x.in_step;
       most = refl;
-      deletion =
-          subst (λ m. Gap m slots c.args.emptied c.args.emptied c.next-bucket.result 0) long
-          (Gap-start (length slots) slots c.args.emptied c.next-bucket.result refl gap.within (c.next-bucket.ensures.value ∙ ap (λ m. bucket_after m c.args.emptied 1) (sym long)) gap.vacant gap.another gap.others);
+      deletion = deletion;
     }
-
--- a bucket that was read as no pair is empty
-empty_from : (o : Option (ℕ × ℕ)) {slot : Option ℕ} → option_map (λ p. p.1) o ≡ slot → ((p : ℕ × ℕ) → o ≡ Some p → ⊥) → slot ≡ None
-empty_from None e no_pair = sym e
-empty_from (Some p) e no_pair = absurd (no_pair p refl)
-
--- there are as many buckets as what they contain says
-as_many : (hashes buckets : List ℕ) {m : ℕ} → length (slots_by hashes buckets) ≡ m → length buckets ≡ m
-as_many hashes buckets same = sym (length-slots_by hashes buckets) ∙ same
 
 pub returns-clause-indexed : goal.returns-clause-indexed
 returns-clause-indexed g c =
-    let i = c.loop-index.invariant in
+    let l = c.loop-word in
+    let i = l.invariant in
     let hs = c.args.hashes.now in
-    let buckets = g.B.Words.words c.loop-index.buckets in
-    let long = length-slots_by hs buckets in
+    let words : List ℕ = g.B.Words.words l.buckets in
+    let left : List ℕ = set words l.gap 0 in
+    let apart = Gap-apart c.count-count.result (slots_by hs left) c.args.removed l.gap l.bucket i.passed i.deletion in
+    subst (IsIndexed hs) (sym c.set_word-2.ensures.words)
     record {
       bucket_of = i.bucket_of;
       index = record {
@@ -57,18 +82,20 @@ returns-clause-indexed g c =
         column = i.column;
         table = record {
           buckets = subst IsBucketCount (sym (i.deletion.size ∙ c.count-count.ensures)) c.requires.count;
-          within = subst (λ m. length i.bucket_of ≤ capacity_of m) (sym long) i.within;
+          within = subst (λ m. length i.bucket_of ≤ capacity_of m) (sym (length-slots_by hs left)) i.within;
           in_step = i.in_step;
-          ordered =
-              Gap-end c.count-count.result (slots_by hs buckets) c.args.emptied c.loop-index.gap c.loop-index.bucket c.loop-index.invariant.passed i.deletion
-              (empty_from c.read_in.result c.read_in.ensures.hash c.in_default.not-Some);
+          ordered = Gap-end c.count-count.result (slots_by hs left) c.args.removed l.gap l.bucket i.passed i.deletion (none_is hs words l.gap l.bucket l.word apart i.read (omega (arith, c.loop-word-test.false)));
         };
       };
     }
 
 pub returns-clause-len : goal.returns-clause-len
 returns-clause-len g c =
-    as_many c.args.hashes.now (g.B.Words.words c.loop-index.buckets) c.loop-index.invariant.deletion.size ∙ c.count-count.ensures
+    let l = c.loop-word in
+    ap length c.set_word-2.ensures.words ∙ length-set (g.B.Words.words l.buckets) l.gap 0 ∙ as_many c.args.hashes.now (g.B.Words.words l.buckets) l.gap l.invariant.deletion.size ∙ c.count-count.ensures
+
+pub returns-clause-most : goal.returns-clause-most
+returns-clause-most g c = c.set_word-2.ensures.most ∙ c.loop-word.invariant.most
 
 -- the shifting back goes on with columns that were moved, or left alone
 module _ (m : ℕ) (slots slots' : List (Option ℕ)) (entry_of entry_of' bucket_of bucket_of' : List ℕ) (start gap gap' bucket next count hash : ℕ)
@@ -108,60 +135,135 @@ module _ (m : ℕ) (slots slots' : List (Option ℕ)) (entry_of entry_of' bucket
         same = ap (λ x. hashes_at x bucket_of') f' ∙ ap (hashes_at slots°) p ∙ hashes_at-move slots entry_of bucket_of s bucket gap hash in_gap is g.gap_empty;
       }
 
-pub move_pair-requires-clause-fits : goal.move_pair-requires-clause-fits
-move_pair-requires-clause-fits g c =
-    let l = c.loop-index in
-    omega (arith, whole-at c.args.hashes.now (g.B.Words.words l.buckets) l.bucket l.invariant.whole, c.requires.fits, l.invariant.most)
+pub hash_of-hash-requires-clause-full : goal.hash_of-hash-requires-clause-full
+hash_of-hash-requires-clause-full g c = omega (arith, c.loop-word-test.true)
 
-pub loop-index-preserved : goal.loop-index-preserved
-loop-index-preserved g c =
-    let l = c.loop-index in
+pub hash_of-hash-requires-clause-within : goal.hash_of-hash-requires-clause-within
+hash_of-hash-requires-clause-within g c =
+    let l = c.loop-word in
+    let i = l.invariant in
+    let hs = c.args.hashes.now in
+    let words : List ℕ = g.B.Words.words l.buckets in
+    short hs words l.gap l.bucket l.word (Gap-apart c.count-count.result (slots_by hs (set words l.gap 0)) c.args.removed l.gap l.bucket i.passed i.deletion) i.read i.whole
+
+pub probe_distance-requires-clause-to_within : goal.probe_distance-requires-clause-to_within
+probe_distance-requires-clause-to_within g c = omega (arith, c.loop-word.invariant.inside, as_many c.args.hashes.now (g.B.Words.words c.loop-word.buckets) c.loop-word.gap c.loop-word.invariant.deletion.size)
+
+pub set_word-requires-clause-within : goal.set_word-requires-clause-within
+set_word-requires-clause-within g c = omega (arith, c.loop-word.invariant.deletion.gap_in, as_many c.args.hashes.now (g.B.Words.words c.loop-word.buckets) c.loop-word.gap c.loop-word.invariant.deletion.size)
+
+pub set_word-requires-clause-fits : goal.set_word-requires-clause-fits
+set_word-requires-clause-fits g c =
+    let l = c.loop-word in
+    let i = l.invariant in
+    let hs = c.args.hashes.now in
+    let words : List ℕ = g.B.Words.words l.buckets in
+    let apart = Gap-apart c.count-count.result (slots_by hs (set words l.gap 0)) c.args.removed l.gap l.bucket i.passed i.deletion in
+    omega (arith, short hs words l.gap l.bucket l.word apart i.read i.whole, c.requires.fits, i.most)
+
+pub next-bucket-requires-in-loop-word-clause-within : goal.next-bucket-requires-in-loop-word-clause-within
+next-bucket-requires-in-loop-word-clause-within g c =
+    omega (arith, c.loop-word.invariant.inside, as_many c.args.hashes.now (g.B.Words.words c.loop-word.buckets) c.loop-word.gap c.loop-word.invariant.deletion.size)
+
+pub overflow_add-distance : goal.overflow_add-distance
+overflow_add-distance g c =
+    let l = c.loop-word in
+    let d = l.invariant.deletion in
+    let m : ℕ = c.count-count.result in
+    let in_bucket : l.bucket < m = omega (arith, l.invariant.inside, as_many c.args.hashes.now (g.B.Words.words l.buckets) l.gap d.size) in
+    elim c.if-probe_distance-distance.branch [
+      | then-probe_distance-distance w ↦ omega (arith, w.distance-is)
+      | else-probe_distance-distance w ↦ omega (arith, w.distance-is, l.invariant.apart, probe_distance-lt m l.gap d.gap_in l.bucket in_bucket, c.count-count.type_inv)
+    ]
+
+pub word_at-word-requires-in-loop-word : goal.word_at-word-requires-in-loop-word
+word_at-word-requires-in-loop-word g c =
+    let l = c.loop-word in
+    let words : List ℕ = g.B.Words.words l.buckets in
+    let long = as_many c.args.hashes.now words l.gap l.invariant.deletion.size in
+    elim c.if-probe_distance-distance.branch [
+      | then-probe_distance-distance w ↦ omega (arith, c.next-bucket-in-loop-word.ensures.bound, long, ap length (ap g.B.Words.words w.buckets-is ∙ w.set_word.ensures.words), length-set words l.gap l.word)
+      | else-probe_distance-distance w ↦ omega (arith, c.next-bucket-in-loop-word.ensures.bound, long, ap length (ap g.B.Words.words w.buckets-is))
+    ]
+
+pub loop-word-smaller : goal.loop-word-smaller
+loop-word-smaller g c =
+    let l = c.loop-word in
+    let i = l.invariant in
+    let hs = c.args.hashes.now in
+    let words : List ℕ = g.B.Words.words l.buckets in
+    let left : List ℕ = set words l.gap 0 in
+    let m : ℕ = c.count-count.result in
+    let apart = Gap-apart m (slots_by hs left) c.args.removed l.gap l.bucket i.passed i.deletion in
+    let is = hash_is hs words l.gap l.bucket l.word apart i.read i.whole c.loop-word-test.true in
+    Gap-ahead m (slots_by hs left) c.args.removed l.gap l.bucket i.passed i.deletion c.next-bucket-in-loop-word.result (full_from _ _ is) c.next-bucket-in-loop-word.ensures.value
+
+pub loop-word-preserved : goal.loop-word-preserved
+loop-word-preserved g c =
+    let l = c.loop-word in
     let i = l.invariant in
     let m : ℕ = c.count-count.result in
     let hs : List ℕ = c.args.hashes.now in
-    let next = c.next-bucket-in-Some in
-    let far = c.probe_distance.ensures ∙ ap (λ h. probe_distance m h l.bucket) c.home.ensures.value in
-    let near = c.probe_distance-in-Some.ensures in
-    let is : slot_at (slots_by hs (g.B.Words.words l.buckets)) l.bucket ≡ Some c.in-Some.hash = sym c.in-Some.ensures.hash in
-    elim c.if-probe_distance.branch [
-      | then-probe_distance w ↦
-          let out = w.move_pair.ensures in
-          let buckets = ap g.B.Words.words w.buckets-is ∙ out.words in
-          let bucket_of : List ℕ = set i.bucket_of (slice_index (entries_by (g.B.Words.words l.buckets)) l.bucket) l.gap in
-          let goes = move m (slots_by hs (g.B.Words.words l.buckets)) (slots_by hs (g.B.Words.words c.if-probe_distance.buckets)) (entries_by (g.B.Words.words l.buckets)) (entries_by (g.B.Words.words c.if-probe_distance.buckets)) i.bucket_of bucket_of c.args.emptied l.gap c.if-probe_distance.gap l.bucket next.result i.passed c.in-Some.hash i.deletion i.in_step is next.ensures.value
-          (ap (slots_by hs) buckets ∙ slots_by-move hs (g.B.Words.words l.buckets) l.bucket l.gap i.inside) (ap entries_by buckets ∙ entries_by-move hs (g.B.Words.words l.buckets) l.bucket l.gap i.inside)
-          refl w.gap-is (omega (arith, w.if-probe_distance.true)) in
+    let next = c.next-bucket-in-loop-word in
+    let words : List ℕ = g.B.Words.words l.buckets in
+    let words' : List ℕ = g.B.Words.words c.if-probe_distance-distance.buckets in
+    let gap' : ℕ = c.if-probe_distance-distance.gap in
+    let left : List ℕ = set words l.gap 0 in
+    let left' : List ℕ = set words' gap' 0 in
+    let apart = Gap-apart m (slots_by hs left) c.args.removed l.gap l.bucket i.passed i.deletion in
+    let hash : ℕ = slice_index hs (l.word - 1) in
+    let is : slot_at (slots_by hs left) l.bucket ≡ Some hash = hash_is hs words l.gap l.bucket l.word apart i.read i.whole c.loop-word-test.true in
+    let far = c.probe_distance.ensures ∙ ap (λ h. probe_distance m h l.bucket) (c.home.ensures.value ∙ ap (home m) c.hash_of-hash.ensures) in
+    let long = as_many hs words l.gap i.deletion.size in
+    let in_left : l.bucket < length left = omega (arith, i.inside, length-set words l.gap 0) in
+    let in_gap : l.gap < length words = omega (arith, i.deletion.gap_in, long) in
+    let before = Gap-distance m (slots_by hs left) c.args.removed l.gap l.bucket i.passed i.deletion in
+    elim c.if-probe_distance-distance.branch [
+      | then-probe_distance-distance w ↦
+          let out = w.set_word.ensures in
+          let wrote : words' ≡ set words l.gap l.word = ap g.B.Words.words w.buckets-is ∙ out.words in
+          let same : left' ≡ set (set left l.gap (slice_index left l.bucket)) l.bucket 0 =
+          ap (λ y. set y gap' 0) wrote ∙ ap (λ p. set (set words l.gap l.word) p 0) w.gap-is ∙ moved_is hs words l.gap l.bucket l.word apart i.read in_gap in
+          let bucket_of : List ℕ = set i.bucket_of (slice_index (entries_by left) l.bucket) l.gap in
+          let goes = move m (slots_by hs left) (slots_by hs left') (entries_by left) (entries_by left') i.bucket_of bucket_of c.args.removed l.gap gap' l.bucket next.result i.passed hash i.deletion i.in_step is next.ensures.value
+          (ap (slots_by hs) same ∙ slots_by-move hs left l.bucket l.gap in_left) (ap entries_by same ∙ entries_by-move hs left l.bucket l.gap in_left)
+          refl w.gap-is (omega (arith, w.if-probe_distance-distance.true, far, i.apart)) in
+          let long' = as_many hs words' gap' goes.deletion.size in
+          let after = Gap-distance m (slots_by hs left') c.args.removed gap' next.result (i.passed + 1) goes.deletion in
           record {
             passed = i.passed + 1;
             bucket_of = bucket_of;
-            inside = omega (arith, next.ensures.bound, as_many hs (g.B.Words.words c.if-probe_distance.buckets) goes.deletion.size);
-            whole = subst (WithinHashes hs) (sym buckets) (whole-move hs (g.B.Words.words l.buckets) l.bucket l.gap i.inside i.whole);
+            inside = omega (arith, next.ensures.bound, long');
+            read = c.word_at-word-in-loop-word.ensures;
+            apart = omega (arith, after, w.distance-is, ap (probe_distance m c.args.removed) w.gap-is, bucket_distance m (slots_by hs left) c.args.removed l.gap l.bucket i.passed i.deletion);
+            whole = subst (WithinHashes hs) (sym same) (whole-move hs left l.bucket l.gap in_left i.whole);
             column = goes.same ∙ i.column;
-            within = omega (arith, i.within, length-set i.bucket_of (slice_index (entries_by (g.B.Words.words l.buckets)) l.bucket) l.gap, ap capacity_of (as_many hs (g.B.Words.words l.buckets) i.deletion.size), ap capacity_of (as_many hs (g.B.Words.words c.if-probe_distance.buckets) goes.deletion.size));
+            within = omega (arith, i.within, length-set i.bucket_of (slice_index (entries_by left) l.bucket) l.gap, ap capacity_of (length-set words l.gap 0 ∙ long), ap capacity_of (length-set words' gap' 0 ∙ long'));
             in_step = goes.in_step;
             most = ap g.B.Words.most w.buckets-is ∙ out.most ∙ i.most;
             deletion = goes.deletion;
           }
-      | else-probe_distance w ↦
-          let bucket_of = i.bucket_of in
-          let goes = stay m (slots_by hs (g.B.Words.words l.buckets)) (slots_by hs (g.B.Words.words c.if-probe_distance.buckets)) (entries_by (g.B.Words.words l.buckets)) (entries_by (g.B.Words.words c.if-probe_distance.buckets)) i.bucket_of bucket_of c.args.emptied l.gap c.if-probe_distance.gap l.bucket next.result i.passed c.in-Some.hash i.deletion i.in_step is next.ensures.value
-          (ap (λ b. slots_by hs (g.B.Words.words b)) w.buckets-is) (ap (λ b. entries_by (g.B.Words.words b)) w.buckets-is) refl w.gap-is (omega (arith, w.if-probe_distance.false)) in
+      | else-probe_distance-distance w ↦
+          let wrote : words' ≡ words = ap g.B.Words.words w.buckets-is in
+          let same : left' ≡ left = ap (λ y. set y gap' 0) wrote ∙ ap (λ p. set words p 0) w.gap-is in
+          let goes = stay m (slots_by hs left) (slots_by hs left') (entries_by left) (entries_by left') i.bucket_of i.bucket_of c.args.removed l.gap gap' l.bucket next.result i.passed hash i.deletion i.in_step is next.ensures.value
+          (ap (slots_by hs) same) (ap entries_by same) refl w.gap-is (omega (arith, w.if-probe_distance-distance.false, far, i.apart)) in
+          let long' = as_many hs words' gap' goes.deletion.size in
+          let after = Gap-distance m (slots_by hs left') c.args.removed gap' next.result (i.passed + 1) goes.deletion in
           record {
             passed = i.passed + 1;
-            bucket_of = bucket_of;
-            inside = omega (arith, next.ensures.bound, as_many hs (g.B.Words.words c.if-probe_distance.buckets) goes.deletion.size);
-            whole = subst (λ b. WithinHashes hs (g.B.Words.words b)) (sym w.buckets-is) i.whole;
+            bucket_of = i.bucket_of;
+            inside = omega (arith, next.ensures.bound, long');
+            read = c.word_at-word-in-loop-word.ensures;
+            apart = omega (arith, before, after, i.apart, w.distance-is, ap (probe_distance m c.args.removed) w.gap-is);
+            whole = subst (WithinHashes hs) (sym same) i.whole;
             column = goes.same ∙ i.column;
-            within = omega (arith, i.within, ap capacity_of (as_many hs (g.B.Words.words l.buckets) i.deletion.size), ap capacity_of (as_many hs (g.B.Words.words c.if-probe_distance.buckets) goes.deletion.size));
+            within = omega (arith, i.within, ap capacity_of (ap length same));
             in_step = goes.in_step;
             most = ap g.B.Words.most w.buckets-is ∙ i.most;
             deletion = goes.deletion;
           }
     ]
 
-pub loop-index-smaller : goal.loop-index-smaller
-loop-index-smaller g c =
-    let l = c.loop-index in
-    let is = sym c.in-Some.ensures.hash in
-    Gap-ahead c.count-count.result (slots_by c.args.hashes.now (g.B.Words.words l.buckets)) c.args.emptied l.gap l.bucket l.invariant.passed l.invariant.deletion c.next-bucket-in-Some.result
-    (full_from _ c.in-Some.hash is) c.next-bucket-in-Some.ensures.value
+pub set_word-requires-2-clause-within : goal.set_word-requires-2-clause-within
+set_word-requires-2-clause-within g c = omega (arith, c.loop-word.invariant.deletion.gap_in, as_many c.args.hashes.now (g.B.Words.words c.loop-word.buckets) c.loop-word.gap c.loop-word.invariant.deletion.size)

@@ -15,16 +15,16 @@ left xs index x few = ap (λ y. take (length xs - 1) (set xs index y)) (get_or_d
 gap_in : {hashes hs buckets bs : List ℕ} {emptied : ℕ} → hashes ≡ hs → buckets ≡ bs → IsIndexedButFor hs bs emptied → IsIndexedButFor hashes buckets emptied
 gap_in {hs = hs} {buckets = buckets} {emptied = emptied} h b x = subst (λ y. IsIndexedButFor y buckets emptied) (sym h) (subst (λ y. IsIndexedButFor hs y emptied) (sym b) x)
 
--- two words were written
-as_many : (bs : List ℕ) (p m q n : ℕ) {one two : List ℕ} → one ≡ set bs p m → two ≡ set one q n → length two ≡ length bs
-as_many bs p m q n {one} e f = ap length f ∙ length-set one q n ∙ ap length e ∙ length-set bs p m
+-- a word was written
+as_many : (bs : List ℕ) (p m : ℕ) {one : List ℕ} → one ≡ set bs p m → length one ≡ length bs
+as_many bs p m e = ap length e ∙ length-set bs p m
 
 pub backward_shift-requires-clause-count : goal.backward_shift-requires-clause-count
 backward_shift-requires-clause-count g c =
-    subst IsBucketCount (sym (as_many (g.B.Words.words c.args.buckets.now) _ _ _ _ c.set_word.ensures.words c.set_word-2.ensures.words)) (index-buckets c.requires.indexed.index)
+    subst IsBucketCount (sym (as_many (g.B.Words.words c.args.buckets.now) _ _ c.set_word.ensures.words)) (index-buckets c.requires.indexed.index)
 
-pub backward_shift-requires-clause-emptied : goal.backward_shift-requires-clause-emptied
-backward_shift-requires-clause-emptied g c =
+pub backward_shift-requires-clause-removed : goal.backward_shift-requires-clause-removed
+backward_shift-requires-clause-removed g c =
     let hs = c.args.hashes.now.items in
     let bs = g.B.Words.words c.args.buckets.now in
     let index = c.args.index in
@@ -36,7 +36,7 @@ backward_shift-requires-clause-emptied g c =
     let at_last = subst (λ y. IsBucketOf y bs (length hs - 1) c.bucket_of-last_bucket.result) c.as_slice-2.ensures.value
     (subst (λ n. IsBucketOf c.as_slice-2.result.now bs n c.bucket_of-last_bucket.result) last c.bucket_of-last_bucket.ensures.at) in
     gap_in (c.as_slice-3.ensures.value ∙ c.swap_remove-hash.ensures.items ∙ left hs index c.swap_remove-hash.result in_index)
-    (c.set_word-2.ensures.words ∙ ap (λ ws. set ws c.bucket_of-bucket.result 0) (c.set_word.ensures.words ∙ ap (set bs c.bucket_of-last_bucket.result) one))
+    (ap (λ ws. set ws c.bucket_of-bucket.result 0) (c.set_word.ensures.words ∙ ap (set bs c.bucket_of-last_bucket.result) one))
     (IsIndexed-remove hs bs c.requires.indexed index (length hs - 1) in_index is_last c.bucket_of-bucket.result c.bucket_of-last_bucket.result at at_last)
 
 pub returns-clause-hash : goal.returns-clause-hash
@@ -50,7 +50,7 @@ pub returns-clause-indexed : goal.returns-clause-indexed
 returns-clause-indexed g c = subst (λ hs. IsIndexed hs (g.B.Words.words c.backward_shift.new.buckets)) c.as_slice-3.ensures.value c.backward_shift.ensures.indexed
 
 pub returns-clause-len : goal.returns-clause-len
-returns-clause-len g c = c.backward_shift.ensures.len ∙ as_many (g.B.Words.words c.args.buckets.now) _ _ _ _ c.set_word.ensures.words c.set_word-2.ensures.words
+returns-clause-len g c = c.backward_shift.ensures.len ∙ as_many (g.B.Words.words c.args.buckets.now) _ _ c.set_word.ensures.words
 
 pub returns-clause-most : goal.returns-clause-most
-returns-clause-most g c = c.backward_shift.ensures.most ∙ c.set_word-2.ensures.most ∙ c.set_word.ensures.most
+returns-clause-most g c = c.backward_shift.ensures.most ∙ c.set_word.ensures.most

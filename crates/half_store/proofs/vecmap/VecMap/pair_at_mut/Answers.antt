@@ -14,7 +14,7 @@ index_mut-requires g c = omega (arith, (opened c.self.inside.keys c.self.inside.
 pub returns : goal.returns
 returns g c =
     let o = opened c.self.inside.keys c.self.inside.values c.args.self.now c.self.view_is c.self.invariant in (
-      (refl, λ w. pairs_are c.args.self.now (zip-set_value c.self.inside.keys.items c.self.inside.values.items c.args.index w ∙ ap (λ ps. set_value ps c.args.index w) o.pairs) o.capacity),
+      (refl, λ w. pairs_are o (zip-set_value c.self.inside.keys.items c.self.inside.values.items c.args.index w ∙ ap (λ ps. set_value ps c.args.index w) o.pairs) refl refl),
       record {
         writes_back = tt;
         pair = ap (λ ps. slice_get ps c.args.index) (sym o.pairs)

@@ -17,6 +17,6 @@ push_reserved-requires-2 g c =
 pub returns : goal.returns
 returns g c =
     let o = opened c.self.inside.keys c.self.inside.values c.args.self.now c.self.view_is c.self.invariant in
-    pairs_are c.args.self.now
+    pairs_are o
     ((λ j. zip (c.push_reserved.ensures.items j) (c.push_reserved-2.ensures.items j)) ∙ zip_push c.self.inside.keys.items c.self.inside.values.items c.args.key c.args.value c.self.invariant ∙ ap (λ ps. ps ++ (c.args.key, c.args.value) ∷ []) o.pairs)
-    ((λ j. min (c.push_reserved.ensures.capacity j) (c.push_reserved-2.ensures.capacity j)) ∙ o.capacity)
+    c.push_reserved.ensures.capacity c.push_reserved-2.ensures.capacity

@@ -1,4 +1,4 @@
-use Rattle.std.proofs.Common.{get_or, sym, ap, ◌∙◌, arith}
+use Rattle.std.proofs.Common.{get_or, refl, sym, ap, ◌∙◌, arith}
 use Rattle.std.specs.List.{slice_get}
 use Rattle.half_store.proofs.Columns.{opened, pairs_are}
 use Rattle.half_store.proofs.Zip.{slice_get_at, zip-set_key}
@@ -16,4 +16,4 @@ returns-clause-old g c =
 pub returns-clause-after : goal.returns-clause-after
 returns-clause-after g c =
     let o = opened c.self.inside.keys c.self.inside.values c.args.self.now c.self.view_is c.self.invariant in
-    pairs_are c.args.self.now (zip-set_key c.self.inside.keys.items c.self.inside.values.items c.args.index c.replace.new.dest ∙ (λ j. set_key (o.pairs j) c.args.index (c.replace.ensures.after j))) o.capacity
+    pairs_are o (zip-set_key c.self.inside.keys.items c.self.inside.values.items c.args.index c.replace.new.dest ∙ (λ j. set_key (o.pairs j) c.args.index (c.replace.ensures.after j))) refl refl

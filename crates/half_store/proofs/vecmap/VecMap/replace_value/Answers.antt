@@ -1,4 +1,4 @@
-use Rattle.std.proofs.Common.{get_or, sym, ap, ◌∙◌, arith}
+use Rattle.std.proofs.Common.{get_or, refl, sym, ap, ◌∙◌, arith}
 use Rattle.std.specs.List.{slice_get}
 use Rattle.half_store.proofs.Columns.{opened, pairs_are}
 use Rattle.half_store.proofs.Zip.{slice_get_at, zip-set_value}
@@ -13,5 +13,5 @@ returns g c =
     let o = opened c.self.inside.keys c.self.inside.values c.args.self.now c.self.view_is c.self.invariant in
     record {
       old = ap (λ l. slice_get l c.args.index) (sym o.values_are) ∙ slice_get_at c.self.inside.values.items c.args.index _ (omega (arith, o.values_length, c.requires)) (c.replace.ensures.value ∙ c.index_mut.ensures.value ∙ ap (get_or c.self.inside.values.items c.args.index) (sym c.replace.ensures.value));
-      after = pairs_are c.args.self.now (zip-set_value c.self.inside.keys.items c.self.inside.values.items c.args.index c.replace.new.dest ∙ (λ j. set_value (o.pairs j) c.args.index (c.replace.ensures.after j))) o.capacity;
+      after = pairs_are o (zip-set_value c.self.inside.keys.items c.self.inside.values.items c.args.index c.replace.new.dest ∙ (λ j. set_value (o.pairs j) c.args.index (c.replace.ensures.after j))) refl refl;
     }

@@ -7,9 +7,9 @@ use Rattle.half_store.proofs.vecmap.VecMap.reverse.Goals as goal
 pub returns-clause-after : goal.returns-clause-after
 returns-clause-after g c =
     let o = opened c.self.inside.keys c.self.inside.values c.args.self.now c.self.view_is c.self.invariant in
-    pairs_are c.args.self.now
+    pairs_are o
     ((λ j. zip (c.reverse.ensures.items j) (c.reverse-2.ensures.items j)) ∙ zip-reverse c.self.inside.keys.items c.self.inside.values.items c.self.invariant ∙ ap reverse o.pairs)
-    ((λ j. min (c.reverse.ensures.capacity j) (c.reverse-2.ensures.capacity j)) ∙ o.capacity)
+    c.reverse.ensures.capacity c.reverse-2.ensures.capacity
 
 pub returns-clause-small : goal.returns-clause-small
 returns-clause-small g c =

@@ -17,7 +17,7 @@ returns g c =
     let o = opened c.self.inside.keys c.self.inside.values c.args.self.now c.self.view_is c.self.invariant in
     record {
       taken = ap (λ ps. slice_get ps c.args.index) (sym o.pairs) ∙ slice_get-zip keys values c.args.index _ _ (omega (arith, o.keys_length, c.requires)) (omega (arith, o.values_length, c.requires)) c.swap_remove.ensures.value c.swap_remove-2.ensures.value;
-      after = pairs_are c.args.self.now
+      after = pairs_are o
           ((λ j. zip (c.swap_remove.ensures.items j) (c.swap_remove-2.ensures.items j)) ∙ zip-swap_remove_at keys values c.args.index _ _ c.self.invariant ∙ ap (λ ps. swap_remove_at ps c.args.index) o.pairs)
-          ((λ j. min (c.swap_remove.ensures.capacity j) (c.swap_remove-2.ensures.capacity j)) ∙ o.capacity);
+          c.swap_remove.ensures.capacity c.swap_remove-2.ensures.capacity;
     }

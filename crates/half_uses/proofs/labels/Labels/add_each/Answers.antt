@@ -1,4 +1,4 @@
-use Rattle.std.proofs.Common.{rules, ◌≡◌, map, sym, ap, ◌∙◌}
+use Rattle.std.proofs.Common.{rules, map, sym, ap, ◌∙◌}
 use Rattle.std.proofs.lemmas.List.{map_push}
 use Rattle.half_uses.proofs.Sets.{with_labels_push, kept_before}
 use Rattle.half_uses.proofs.labels.Labels.add_each.Goals as goal

@@ -1,4 +1,4 @@
-use Rattle.std.proofs.Common.{◌≡◌, refl, sym, ap, ◌∙◌}
+use Rattle.std.proofs.Common.{refl, sym, ap, ◌∙◌}
 use Rattle.half_uses.proofs.Sets.{same_labels, same_values}
 use Rattle.half_uses.proofs.labels.Labels.is_same.Goals as goal
 use Rattle.half_uses.specs.Labels.{has}

@@ -1,0 +1,94 @@
+//! What callers build in a loop: counts of words, and values gathered by key, each with all that there is to say of it.
+ghost use Rattle.std.specs.Prelude.{◌≡◌, true, IfOk, OnOk, map};
+ghost use Rattle.std.specs.List.{list_any};
+ghost use Rattle.std.specs.Map.{keys_of};
+ghost use Rattle.std.specs.Str.{bytes_eq};
+ghost use Rattle.std.specs.String.{string_bytes};
+ghost use Rattle.halfbrown.specs.Gathering.{add_key, CountsEach, GroupsEach, keyed_by};
+
+use halfbrown::{HashMap, Refusal};
+use std::alloc::Global;
+use std::hash::Hash;
+
+/// How often each word stands among these. The words are held in order of their first occurrence.
+pub fn count_words<K: Eq + Hash + Copy>(
+    alloc: Global,
+    words: &[K],
+) -> Result<HashMap<K, u64>, Refusal>
+    ensures { IfOk result (λ counts. CountsEach K.eq words.now counts.pairs) }
+{
+    let mut counts = HashMap::new(alloc);
+    for word in words {
+        *counts.entry(*word)?.or_insert(0) += 1;
+    }
+    Ok(counts)
+}
+
+/// The values of each key, in order. The keys are held in order of their first occurrence.
+pub fn group<K: Eq + Hash + Copy, V: Copy>(
+    alloc: Global,
+    items: &[(K, V)],
+) -> Result<HashMap<K, Vec<V>>, Refusal>
+    ensures { IfOk result (λ groups. GroupsEach K.eq (λ values. values.items) items.now groups.pairs) }
+{
+    let mut groups = HashMap::new(alloc);
+    for (key, value) in items {
+        groups.entry(*key)?.or_insert(Vec::new(alloc)).push(*value)?;
+    }
+    Ok(groups)
+}
+
+/// How often each text stands among these. The map owns its keys, and the clause speaks of every text, by its bytes.
+pub fn count_texts(alloc: Global, words: &[&str]) -> Result<HashMap<String, u64>, Refusal>
+    ensures { IfOk result (λ counts. CountsEach bytes_eq (map (λ word. word.now) words.now)
+        (keyed_by string_bytes counts.pairs)) }
+{
+    let mut counts = HashMap::new(alloc);
+    for word in words {
+        *counts.entry(String::from_str(alloc, word)?)?.or_insert(0) += 1;
+    }
+    Ok(counts)
+}
+
+/// The same by texts that are lent.
+pub fn count_lent_texts<'a>(
+    alloc: Global,
+    words: &[&'a str],
+) -> Result<HashMap<&'a str, u64>, Refusal>
+    ensures { IfOk result (λ counts. CountsEach bytes_eq (map (λ word. word.now) words.now)
+        (keyed_by (λ key. key.now) counts.pairs)) }
+{
+    let mut counts = HashMap::new(alloc);
+    for word in words {
+        *counts.entry(*word)?.or_insert(0) += 1;
+    }
+    Ok(counts)
+}
+
+/// The items of each key, in order, where the pairs are used up.
+pub fn group_owned<K: Eq + Hash + Drop>(
+    alloc: Global,
+    pairs: Vec<(K, u64)>,
+) -> Result<HashMap<K, Vec<u64>>, Refusal>
+    ensures { IfOk result (λ groups. GroupsEach K.eq (λ v. v.items) pairs.items groups.pairs) }
+{
+    let mut groups = HashMap::new(alloc);
+    for (key, item) in pairs {
+        groups.entry(key)?.or_insert(Vec::new(alloc)).push(item)?;
+    }
+    Ok(groups)
+}
+
+/// Stores a pair. Its key is among the keys then, at the end where none equal to it was held.
+#[tactic(auto, using(halfbrown::proofs::CallerFacts::map_facts))]
+pub fn store<K: Eq + Hash + Drop, V: Drop>(
+    map: &mut HashMap<K, V>,
+    key: K,
+    value: V,
+) -> Result<(), Refusal>
+    ensures known { OnOk result (list_any (K.eq key) (keys_of map.new.pairs) ≡ true) }
+    ensures keys { OnOk result (keys_of map.new.pairs ≡ add_key K.eq (keys_of map.old.pairs) key) }
+{
+    map.insert(key, value)?;
+    Ok(())
+}

@@ -1,0 +1,57 @@
+//! What callers build on the calls by index, proved from their public contracts alone: a stack of names, a value that is
+//! written at the index that was found, and a removal that is made in two steps.
+ghost use Rattle.std.specs.Prelude.{◌≡◌, ◌<◌, ◌++◌, false, length, option_to_list, IfSome};
+ghost use Rattle.std.specs.Map.Iter.{deref_pair};
+ghost use Rattle.std.specs.Option.{option_map};
+ghost use Rattle.half_store.specs.Pairs.{set_value};
+ghost use Rattle.halfbrown.specs.Pairs.{pair_of, holds, take_out};
+
+use halfbrown::{Limit, LimitedHashMap};
+use std::hash::{BuildHasher, Hash};
+
+/// Leaves the innermost declaration of a scope. The others stay in their order.
+pub fn forget_last<N: Eq + Hash + Drop, M: Drop, S: BuildHasher, L: Limit>(
+    scope: &mut LimitedHashMap<N, M, S, L>,
+) -> Option<(N, M)>
+    ensures left { scope.old.pairs ≡ scope.new.pairs ++ option_to_list result }
+    ensures form { scope.new.is_vec ≡ scope.old.is_vec }
+    ensures forgotten { IfSome result (λ pair. holds N.eq scope.new.pairs pair.0 ≡ false) }
+{
+    scope.pop()
+}
+
+/// The pair of a key, by its index.
+pub fn pair_by_index<'a, K: Eq + Hash, V, S: BuildHasher, L: Limit>(
+    map: &'a LimitedHashMap<K, V, S, L>,
+    key: &K,
+) -> Option<(&'a K, &'a V)>
+    ensures { option_map deref_pair result ≡ pair_of K.eq map.now.pairs key.now }
+{
+    let index = map.get_index_of(key)?;
+    map.get_index(index)
+}
+
+/// Removes the pair of a key, by its index, as `remove_entry` does.
+pub fn remove_by_index<K: Eq + Hash + Drop, V: Drop, S: BuildHasher, L: Limit>(
+    map: &mut LimitedHashMap<K, V, S, L>,
+    key: &K,
+) -> Option<(K, V)>
+    ensures pair { result ≡ pair_of K.eq map.old.pairs key.now }
+    ensures taken { map.new.pairs ≡ take_out K.eq map.old.pairs key.now }
+{
+    let index = map.get_index_of(key)?;
+    map.swap_remove_index(index)
+}
+
+/// Sets the value of the pair at an index, where there is one, and else changes nothing.
+pub fn set_at<K: Eq + Hash, S: BuildHasher, L: Limit>(
+    map: &mut LimitedHashMap<K, u64, S, L>,
+    index: usize,
+    value: u64,
+)
+    ensures set { index < length map.old.pairs → map.new.pairs ≡ set_value map.old.pairs index value }
+{
+    if let Some(held) = map.get_index_mut(index) {
+        *held = value;
+    }
+}

@@ -1,0 +1,27 @@
+//! What callers say of texts: for every text, by its bytes, what a map of owned keys has.
+ghost use Rattle.std.specs.Prelude.{OnOk};
+ghost use Rattle.std.specs.Str.{bytes_eq};
+ghost use Rattle.std.specs.String.{string_bytes};
+ghost use Rattle.halfbrown.specs.Gathering.{keyed_by};
+ghost use Rattle.halfbrown.specs.Updates.{HasPut, HasRemoved};
+
+use halfbrown::{HashMap, Refusal};
+
+/// Stores an age under a name. What each text has is said of all texts, also of those that are no key.
+pub fn store_named(ages: &mut HashMap<String, u32>, name: String, age: u32) -> Result<(), Refusal>
+    ensures { OnOk result (HasPut bytes_eq (keyed_by string_bytes ages.old.pairs) (string_bytes name) age
+        (keyed_by string_bytes ages.new.pairs)) }
+{
+    ages.insert(name, age)?;
+    Ok(())
+}
+
+/// Removes the age of a name that is lent, and returns how many pairs are gone.
+pub fn forget_named(ages: &mut HashMap<String, u32>, name: &str) -> usize
+    ensures { HasRemoved bytes_eq (keyed_by string_bytes ages.old.pairs) name.now
+        (keyed_by string_bytes ages.new.pairs) }
+{
+    let before = ages.len();
+    ages.remove(name);
+    before - ages.len()
+}

@@ -1,0 +1,277 @@
+-- What follows of changed lists of pairs, for callers: the set `map_facts` has those that `grind` applies, and `using` takes it.
+use Rattle.std.proofs.Common.{◌≡◌, ℕ, suc, ◌+◌, ◌<◌, ◌≤◌, Bool, true, false, cond, ◌||◌, ◌⊎◌, inl, inr, List, [], ◌∷◌, ◌++◌, length, take, get_or, slice_get, Option, None, Some, is_some, IsSome, unwrap_or, count_by, refl, sym, ap, subst, ◌∙◌, true≢false, append-nil, arith}
+use Rattle.std.specs.Cmp.{IsEquivalence}
+use Rattle.std.specs.List.{IsDistinct, filter, list_any}
+use Rattle.std.specs.Map.{keys_of, values_of, lookup, lookup_entry}
+use Rattle.std.specs.Option.{option_map, option_map_or}
+use Rattle.std.proofs.lemmas.Cmp.{nat_eq_equiv}
+use Rattle.std.proofs.lemmas.List.{map-append, take_more}
+use Rattle.std.proofs.lemmas.List.Elements.{filter-append}
+use Rattle.std.proofs.lemmas.List.Sums.{count_by-le-length, fold_push}
+use Rattle.std.proofs.lemmas.Map.Entries.{none_past_head, option_filter}
+use Rattle.std.proofs.lemmas.Map.{lookup-none}
+use Rattle.std.proofs.lemmas.Map.Keys.{IsDistinct-tail}
+use Rattle.half_store.specs.Pairs.{index_of, swap_remove_at}
+use Rattle.halfbrown.specs.Pairs.{IsForm, value_of, holds, holds_by, put, set_by, take_out_by}
+use Rattle.halfbrown.specs.Updates.{HasPut}
+use Rattle.halfbrown.proofs.CallerLemmas.{value_of_equal}
+use Rattle.halfbrown.proofs.Indices.{value_of_entry}
+use Rattle.halfbrown.proofs.SwapOut.{map-swap_remove_at}
+use Rattle.halfbrown.specs.Gathering.{add_key, first_of_each, CountsEach, GroupsEach}
+
+-- ---- whether a key is held, and where
+
+module _ {K V : Type 0} (test : K → Bool) where
+  held_past : (p : K × V) (ps : List (K × V)) (b : Bool) → holds_by test ps ≡ list_any test (keys_of ps)
+      → is_some (cond b (Some p.1) (lookup test ps)) ≡ (b || list_any test (keys_of ps))
+  held_past p ps true more = refl
+  held_past p ps false more = more
+
+  -- a key that passes is held exactly where any key passes
+  pub holds_by-any : (ps : List (K × V)) → holds_by test ps ≡ list_any test (keys_of ps)
+  holds_by-any [] = refl
+  holds_by-any (p ∷ ps) = held_past p ps (test p.0) (holds_by-any ps)
+
+  -- where a key that passes is held there is a value
+  pub some_of_held : (ps : List (K × V)) → holds_by test ps ≡ true → IsSome (lookup test ps)
+  some_of_held ps h = h
+
+  value_by : (o : Option V) → is_some o ≡ true → (v : V) × (o ≡ Some v)
+  value_by None h = absurd (true≢false (sym h))
+  value_by (Some v) h = (v, refl)
+
+  -- that value
+  pub value_of_held : (ps : List (K × V)) → holds_by test ps ≡ true → (v : V) × (lookup test ps ≡ Some v)
+  value_of_held ps h = value_by (lookup test ps) h
+
+  -- the first pair whose key passes has this value and stands at this index
+  pub record IsPlaced (ps : List (K × V)) (v : V) : Type 0 where
+    pub index : ℕ
+    pub key : K
+    pub at : slice_get ps index ≡ Some (key, v)
+    pub passes : test key ≡ true
+    pub first : index_of test (keys_of ps) ≡ Some index
+
+  placed_by : (p : K × V) (ps : List (K × V)) (v : V) → (lookup test ps ≡ Some v → IsPlaced ps v) → (b : Bool) → test p.0 ≡ b
+      → cond b (Some p.1) (lookup test ps) ≡ Some v → IsPlaced (p ∷ ps) v
+  placed_by p ps v more true passes found =
+      let same : p.1 ≡ v = cc in
+      record { index = 0; key = p.0; at = ap (λ w. Some (p.0, w)) same; passes = passes; first = ap (λ b. cond b (Some 0) (option_map suc (index_of test (keys_of ps)))) passes }
+  placed_by p ps v more false fails found =
+      let m = more found in
+      record { index = suc m.index; key = m.key; at = m.at; passes = m.passes; first = ap (λ b. cond b (Some 0) (option_map suc (index_of test (keys_of ps)))) fails ∙ ap (option_map suc) m.first }
+
+  -- where a value is found its pair stands at an index
+  pub place_of_value : (ps : List (K × V)) (v : V) → lookup test ps ≡ Some v → IsPlaced ps v
+  place_of_value [] v found = absurd cc
+  place_of_value (p ∷ ps) v found = placed_by p ps v (place_of_value ps v) (test p.0) refl found
+
+  set_same_by : (p : K × V) (ps : List (K × V)) (v : V) → (lookup test ps ≡ Some v → set_by test ps v ≡ ps) → (b : Bool)
+      → cond b (Some p.1) (lookup test ps) ≡ Some v → cond b ((p.0, v) ∷ ps) (p ∷ set_by test ps v) ≡ p ∷ ps
+  set_same_by p ps v more true found = let same : p.1 ≡ v = cc in ap (λ w. (p.0, w) ∷ ps) (sym same)
+  set_same_by p ps v more false found = ap (λ l. p ∷ l) (more found)
+
+  -- the value that is held, set again, changes nothing
+  pub set_same : (ps : List (K × V)) (v : V) → lookup test ps ≡ Some v → set_by test ps v ≡ ps
+  set_same [] v found = refl
+  set_same (p ∷ ps) v found = set_same_by p ps v (set_same ps v) (test p.0) found
+
+  keys_taken_by : (ps : List (K × V)) (index : Option ℕ)
+      → keys_of (option_map_or (swap_remove_at ps) index ps) ≡ option_map_or (swap_remove_at (keys_of ps)) index (keys_of ps)
+  keys_taken_by ps None = refl
+  keys_taken_by ps (Some i) = map-swap_remove_at (λ p. p.0) ps i
+
+  -- the keys after a removal: the one that passes is gone, and the last is in its place
+  pub keys_taken : (ps : List (K × V))
+      → keys_of (take_out_by test ps) ≡ option_map_or (swap_remove_at (keys_of ps)) (index_of test (keys_of ps)) (keys_of ps)
+  keys_taken ps = keys_taken_by ps (index_of test (keys_of ps))
+
+module _ {K V : Type 0} (eq : K → K → Bool) where
+  -- the value that is held, put again, changes nothing
+  pub put_value_held : (ps : List (K × V)) (k : K) (v : V) → value_of eq ps k ≡ Some v → put eq ps k v ≡ ps
+  put_value_held ps k v found =
+      ap (λ o. cond (is_some o) (set_by (eq k) ps v) (ps ++ (k, v) ∷ [])) found ∙ set_same (eq k) ps v found
+
+  -- the pair of a key that is not held is appended
+  pub put_new : (ps : List (K × V)) (k : K) (v : V) → holds eq ps k ≡ false → put eq ps k v ≡ ps ++ (k, v) ∷ []
+  put_new ps k v absent = ap (λ b. cond b (set_by (eq k) ps v) (ps ++ (k, v) ∷ [])) absent
+
+-- ---- after a value was set
+
+module _ {K V : Type 0} (eq : K → K → Bool) (laws : IsEquivalence eq) (test : K → Bool) (form : IsForm eq test) where
+  set_here : (b : Bool) (w v : V) (rest : Option V) → cond b (Some v) rest ≡ cond b (option_map (λ _. v) (cond b (Some w) rest)) (cond b (Some w) rest)
+  set_here true w v rest = refl
+  set_here false w v rest = refl
+
+  past_is : (p : K × V) (q : K) → test p.0 ≡ false → eq q p.0 ≡ true → (b : Bool) → test q ≡ b → test q ≡ false
+  past_is p q fails same false e = e
+  past_is p q fails same true e = absurd (true≢false (sym (form q p.0 e ∙ same) ∙ fails))
+
+  set_past : (p : K × V) (ps : List (K × V)) (v : V) (q : K)
+      → value_of eq (set_by test ps v) q ≡ cond (test q) (option_map (λ _. v) (value_of eq ps q)) (value_of eq ps q)
+      → test p.0 ≡ false → (b : Bool) → eq q p.0 ≡ b
+      → cond b (Some p.1) (value_of eq (set_by test ps v) q)
+      ≡ cond (test q) (option_map (λ _. v) (cond b (Some p.1) (value_of eq ps q))) (cond b (Some p.1) (value_of eq ps q))
+  set_past p ps v q more fails true same = sym (ap (λ c. cond c (Some v) (Some p.1)) (past_is p q fails same (test q) refl))
+  set_past p ps v q more fails false apart = more
+
+  set_by_cases : (p : K × V) (ps : List (K × V)) (v : V) (q : K)
+      → value_of eq (set_by test ps v) q ≡ cond (test q) (option_map (λ _. v) (value_of eq ps q)) (value_of eq ps q)
+      → (b : Bool) → test p.0 ≡ b
+      → value_of eq (cond b ((p.0, v) ∷ ps) (p ∷ set_by test ps v)) q
+      ≡ cond (test q) (option_map (λ _. v) (value_of eq (p ∷ ps) q)) (value_of eq (p ∷ ps) q)
+  set_by_cases p ps v q more true passes =
+      set_here (eq q p.0) p.1 v (value_of eq ps q)
+      ∙ ap (λ c. cond c (option_map (λ _. v) (value_of eq (p ∷ ps) q)) (value_of eq (p ∷ ps) q)) (sym (form p.0 q passes ∙ laws.symm p.0 q))
+  set_by_cases p ps v q more false fails = set_past p ps v q more fails (eq q p.0) refl
+
+  same_either : (o : Option V) (b : Bool) → o ≡ cond b o o
+  same_either o true = refl
+  same_either o false = refl
+
+  -- a key that the test accepts has the value where it had one, and each other key what it had
+  pub lookup_set : (ps : List (K × V)) (v : V) (q : K)
+      → value_of eq (set_by test ps v) q ≡ cond (test q) (option_map (λ _. v) (value_of eq ps q)) (value_of eq ps q)
+  lookup_set [] v q = same_either None (test q)
+  lookup_set (p ∷ ps) v q = set_by_cases p ps v q (lookup_set ps v q) (test p.0) refl
+
+-- ---- a filter, as `retain` leaves
+
+keys_kept : {K V : Type 0} (f : K → Bool) (p : K × V) (ps : List (K × V)) → keys_of (filter (λ p. f p.0) ps) ≡ filter f (keys_of ps) → (b : Bool)
+    → keys_of (cond b (p ∷ filter (λ p. f p.0) ps) (filter (λ p. f p.0) ps)) ≡ cond b (p.0 ∷ filter f (keys_of ps)) (filter f (keys_of ps))
+keys_kept f p ps more true = ap (λ ks. p.0 ∷ ks) more
+keys_kept f p ps more false = more
+
+-- the keys that a test of keys keeps
+pub keys_filter : {K V : Type 0} (f : K → Bool) (ps : List (K × V)) → keys_of (filter (λ p. f p.0) ps) ≡ filter f (keys_of ps)
+keys_filter f [] = refl
+keys_filter f (p ∷ ps) = keys_kept f p ps (keys_filter f ps) (f p.0)
+
+module _ {K V : Type 0} (eq : K → K → Bool) (laws : IsEquivalence eq) (f : K × V → Bool) where
+  absent_entry : (o : Option (K × V)) → option_map (λ p. p.1) o ≡ None → option_map (λ p. p.1) (option_filter f o) ≡ None
+  absent_entry None none = refl
+  absent_entry (Some p) none = absurd cc
+
+  kept_by : (p : K × V) (ps : List (K × V)) (q : K) → IsDistinct eq (keys_of (p ∷ ps))
+      → lookup (eq q) (filter f ps) ≡ option_map (λ p. p.1) (option_filter f (lookup_entry (eq q) ps))
+      → (b c : Bool) → eq q p.0 ≡ b → f p ≡ c
+      → lookup (eq q) (cond c (p ∷ filter f ps) (filter f ps)) ≡ option_map (λ p. p.1) (option_filter f (cond b (Some p) (lookup_entry (eq q) ps)))
+  kept_by p ps q distinct more true true same kept =
+      ap (λ b. cond b (Some p.1) (lookup (eq q) (filter f ps))) same ∙ sym (ap (λ b. option_map (λ p. p.1) (cond b (Some p) None)) kept)
+  kept_by p ps q distinct more true false same gone =
+      let none : lookup (eq q) ps ≡ None = lookup-none (eq q) ps (none_past_head laws q p ps distinct same) in
+      more ∙ absent_entry (lookup_entry (eq q) ps) (value_of_entry (eq q) ps ∙ none)
+      ∙ sym (ap (λ b. option_map (λ p. p.1) (cond b (Some p) None)) gone)
+  kept_by p ps q distinct more false true apart kept = ap (λ b. cond b (Some p.1) (lookup (eq q) (filter f ps))) apart ∙ more
+  kept_by p ps q distinct more false false apart gone = more
+
+  -- what a key has of the pairs that are kept
+  pub lookup_filter : (ps : List (K × V)) (q : K) → IsDistinct eq (keys_of ps)
+      → value_of eq (filter f ps) q ≡ option_map (λ p. p.1) (option_filter f (lookup_entry (eq q) ps))
+  lookup_filter [] q distinct = refl
+  lookup_filter (p ∷ ps) q distinct =
+      kept_by p ps q distinct (lookup_filter ps q (IsDistinct-tail eq p.0 (keys_of ps) distinct)) (eq q p.0) (f p) refl refl
+
+-- ---- for `grind`: what any key has after a put or a removal
+
+-- after a put of k the key q is equal to k and has its value, or has what it had; the first two parts show `grind` the calls to match
+abbrev pub FindsAfterPut : {K V : Type 0} → (K → K → Bool) → List (K × V) → List (K × V) → K → V → K → Type 0
+FindsAfterPut eq old new k v q = HasPut eq old k v new × (value_of eq new q ≡ value_of eq new q)
+    × (((eq k q ≡ true) × (eq q k ≡ true) × (value_of eq new q ≡ Some v) × (value_of eq old q ≡ value_of eq old k))
+    ⊎ ((eq k q ≡ false) × (eq q k ≡ false) × (value_of eq new q ≡ value_of eq old q)))
+
+module _ {K V : Type 0} {eq : K → K → Bool} (laws : IsEquivalence eq) (old new : List (K × V)) where
+  after_put_by : (k : K) (v : V) (q : K) → HasPut eq old k v new → (b : Bool) → eq k q ≡ b → FindsAfterPut eq old new k v q
+  after_put_by k v q put true same = (put, refl, inl (same, laws.symm q k ∙ same, put.equals q same, value_of_equal eq laws old k q same))
+  after_put_by k v q put false apart = (put, refl, inr (apart, laws.symm q k ∙ apart, put.others q apart))
+
+  pub after_put : (k : K) (v : V) (q : K) → HasPut eq old k v new → FindsAfterPut eq old new k v q
+  after_put k v q put = after_put_by k v q put (eq k q) refl
+
+-- the keys after a put
+pub keys_after_put : {K V : Type 0} {eq : K → K → Bool} (old new : List (K × V)) (k : K) (v : V) → HasPut eq old k v new
+    → HasPut eq old k v new × (keys_of new ≡ add_key eq (keys_of old) k)
+keys_after_put {eq = eq} old new k v put = (put, put.keys ∙ ap (λ b. cond b (keys_of old) (keys_of old ++ k ∷ [])) (holds_by-any (eq k) old))
+
+pub ruleset map_facts = (after_put, keys_after_put, holds_by-any, put_value_held, put_new, nat_eq_equiv)
+
+-- ---- the step of a loop that counts
+
+module _ {K : Type 0} {eq : K → K → Bool} (laws : IsEquivalence eq) where
+  count_push : (q : K) (xs : List K) (x : K) → count_by (eq q) (xs ++ x ∷ []) ≡ count_by (eq q) xs + cond (eq q x) 1 0
+  count_push q xs x = fold_push (λ n y. n + cond (eq q y) 1 0) 0 xs x
+
+  counts_by : (xs : List K) {old new : List (K × ℕ)} {k : K} {v : ℕ} → HasPut eq old k v new → v ≡ unwrap_or (value_of eq old k) 0 + 1
+      → (q : K) → unwrap_or (value_of eq old q) 0 ≡ count_by (eq q) xs → (b : Bool) → eq k q ≡ b
+      → unwrap_or (value_of eq new q) 0 ≡ count_by (eq q) (xs ++ k ∷ [])
+  counts_by xs {old} {new} {k} {v} puts more q before true same =
+      ap (λ o. unwrap_or o 0) (puts.equals q same) ∙ more
+      ∙ ap (λ o. unwrap_or o 0 + 1) (sym (value_of_equal eq laws old k q same)) ∙ ap (λ n. n + 1) before
+      ∙ ap (λ b. count_by (eq q) xs + cond b 1 0) (sym (laws.symm q k ∙ same)) ∙ sym (count_push q xs k)
+  counts_by xs {old} {new} {k} {v} puts more q before false apart =
+      let n : count_by (eq q) xs ≡ count_by (eq q) xs + 0 = omega arith in
+      ap (λ o. unwrap_or o 0) (puts.others q apart) ∙ before ∙ n
+      ∙ ap (λ b. count_by (eq q) xs + cond b 1 0) (sym (laws.symm q k ∙ apart)) ∙ sym (count_push q xs k)
+
+  -- a put of one more counts one item more
+  pub counted_more : (xs : List K) {old new : List (K × ℕ)} {k : K} {v : ℕ} → CountsEach eq xs old → HasPut eq old k v new
+      → v ≡ unwrap_or (value_of eq old k) 0 + 1 → CountsEach eq (xs ++ k ∷ []) new
+  counted_more xs {old} {new} {k} {v} before puts more = record {
+    counts = λ q. counts_by xs puts more q (before.counts q) (eq k q) refl;
+    keys = (keys_after_put old new k v puts).1 ∙ ap (λ ks. add_key eq ks k) before.keys ∙ sym (fold_push (add_key eq) [] xs k);
+  }
+
+  -- the same in a loop over a slice
+  pub counted_step : (xs : List K) (i : ℕ) {old new : List (K × ℕ)} {k : K} {v : ℕ} → CountsEach eq (take i xs) old → HasPut eq old k v new
+      → i < length xs → k ≡ get_or xs i k → v ≡ unwrap_or (value_of eq old k) 0 + 1 → CountsEach eq (take (i + 1) xs) new
+  counted_step xs i {old} {new} {k} {v} before puts within item more =
+      subst (λ ys. CountsEach eq ys new) (ap (λ x. take i xs ++ x ∷ []) item ∙ sym (take_more xs i k within)) (counted_more (take i xs) before puts more)
+
+  -- no count is more than there are items, so that one more fits
+  pub count_fits : {xs : List K} {ps : List (K × ℕ)} → CountsEach eq xs ps → (q : K) → unwrap_or (value_of eq ps q) 0 ≤ length xs
+  count_fits {xs} {ps} counted q = omega (arith, counted.counts q, count_by-le-length (eq q) xs)
+
+-- ---- the step of a loop that gathers values by key
+
+group_push : {K X : Type 0} (eq : K → K → Bool) (q : K) (xs : List (K × X)) (x : K × X)
+    → values_of (filter (λ x. eq q x.0) (xs ++ x ∷ [])) ≡ values_of (filter (λ x. eq q x.0) xs) ++ values_of (cond (eq q x.0) (x ∷ []) [])
+group_push eq q xs x =
+    ap values_of (filter-append (λ x. eq q x.0) xs (x ∷ [])) ∙ map-append (λ p. p.1) (filter (λ x. eq q x.0) xs) (cond (eq q x.0) (x ∷ []) [])
+
+module _ {K X V : Type 0} {eq : K → K → Bool} (laws : IsEquivalence eq) (read : V → List X) where
+  groups_by : (xs : List (K × X)) (x : X) {old new : List (K × V)} {k : K} {v : V} → HasPut eq old k v new
+      → read v ≡ option_map_or read (value_of eq old k) [] ++ x ∷ []
+      → (q : K) → option_map_or read (value_of eq old q) [] ≡ values_of (filter (λ x. eq q x.0) xs) → (b : Bool) → eq k q ≡ b
+      → option_map_or read (value_of eq new q) [] ≡ values_of (filter (λ x. eq q x.0) (xs ++ (k, x) ∷ []))
+  groups_by xs x {old} {new} {k} {v} puts more q before true same =
+      ap (λ o. option_map_or read o []) (puts.equals q same) ∙ more
+      ∙ ap (λ o. option_map_or read o [] ++ x ∷ []) (sym (value_of_equal eq laws old k q same)) ∙ ap (λ l. l ++ x ∷ []) before
+      ∙ ap (λ b. values_of (filter (λ x. eq q x.0) xs) ++ values_of (cond b ((k, x) ∷ []) [])) (sym (laws.symm q k ∙ same))
+      ∙ sym (group_push eq q xs (k, x))
+  groups_by xs x {old} {new} {k} {v} puts more q before false apart =
+      ap (λ o. option_map_or read o []) (puts.others q apart) ∙ before ∙ sym (append-nil (values_of (filter (λ x. eq q x.0) xs)))
+      ∙ ap (λ b. values_of (filter (λ x. eq q x.0) xs) ++ values_of (cond b ((k, x) ∷ []) [])) (sym (laws.symm q k ∙ apart))
+      ∙ sym (group_push eq q xs (k, x))
+
+  unwrapped : (o : Option V) (d : V) → read d ≡ [] → read (unwrap_or o d) ≡ option_map_or read o []
+  unwrapped None d empty = empty
+  unwrapped (Some v) d empty = refl
+
+  -- a put of the values of a key with one more gathers one item more; d, which has none, is put where the key is new
+  pub grouped_more : (xs : List (K × X)) (x : X) (d : V) {old new : List (K × V)} {k : K} {v : V} → GroupsEach eq read xs old → HasPut eq old k v new
+      → read d ≡ [] → read v ≡ read (unwrap_or (value_of eq old k) d) ++ x ∷ [] → GroupsEach eq read (xs ++ (k, x) ∷ []) new
+  grouped_more xs x d {old} {new} {k} {v} before puts empty more =
+      let added = more ∙ ap (λ l. l ++ x ∷ []) (unwrapped (value_of eq old k) d empty) in
+      record {
+        groups = λ q. groups_by xs x puts added q (before.groups q) (eq k q) refl;
+        keys = (keys_after_put old new k v puts).1 ∙ ap (λ ks. add_key eq ks k) before.keys ∙ sym (fold_push (add_key eq) [] (keys_of xs) k)
+            ∙ ap (first_of_each eq) (sym (map-append (λ p. p.0) xs ((k, x) ∷ [])));
+      }
+
+  -- the same in a loop over a slice
+  pub grouped_step : (xs : List (K × X)) (i : ℕ) (x : X) (d : V) {old new : List (K × V)} {k : K} {v : V} → GroupsEach eq read (take i xs) old
+      → HasPut eq old k v new → i < length xs → (k, x) ≡ get_or xs i (k, x) → read d ≡ [] → read v ≡ read (unwrap_or (value_of eq old k) d) ++ x ∷ []
+      → GroupsEach eq read (take (i + 1) xs) new
+  grouped_step xs i x d {old} {new} {k} {v} before puts within item empty more =
+      subst (λ ys. GroupsEach eq read ys new) (ap (λ y. take i xs ++ y ∷ []) item ∙ sym (take_more xs i (k, x) within))
+      (grouped_more (take i xs) x d before puts empty more)

@@ -1,0 +1,150 @@
+//! Pairs by their index in the order of the pairs: reading one, writing its value, finding that of a key, and removing the pair at
+//! one.
+ghost use Rattle.std.specs.Prelude.{◌≡◌, ◌-◌, ◌<◌, ◌↔◌, ◌++◌, IsSome, length, option_to_list, slice_get};
+ghost use Rattle.std.specs.Borrow.{sem};
+ghost use Rattle.std.specs.Map.{keys_of, values_of};
+ghost use Rattle.std.specs.Map.Iter.{deref_pair};
+ghost use Rattle.std.specs.Option.{option_copied_mut, option_map};
+ghost use Rattle.half_store.specs.Pairs.{index_of};
+ghost use Rattle.halfbrown.specs.Costs.{CostsSearch};
+ghost use Rattle.halfbrown.specs.Lookup.{FindsIndex};
+ghost use Rattle.halfbrown.specs.Removal.{RemovesAt};
+ghost use Rattle.halfbrown.specs.State.{IsState};
+
+use super::LimitedHashMap;
+use crate::{Equivalent, Limit};
+use half_store::{Lookup, Tally};
+use std::hash::{BuildHasher, Hash};
+
+impl<K: Eq + Hash, V, S: BuildHasher, L: Limit> LimitedHashMap<K, V, S, L> {
+    ghost use Rattle.halfbrown.specs.Lending.{LendsValueIfAt};
+
+    /// Returns the pair at this index in the order of the pairs, or none where the index is not below `len`. Nothing is hashed and
+    /// no key is compared.
+    ///
+    /// ```
+    /// let pair = ages.get_index(1); // 2 and 41
+    /// ```
+    #[inline(always)]
+    pub fn get_index(&self, index: usize) -> Option<(&K, &V)>
+        ensures pair { option_map deref_pair result ≡ slice_get self.now.pairs index }
+        ensures held { IsSome result ↔ (index < length self.now.pairs) }
+    {
+        if index < self.len() {
+            Some(self.pair_at(index))
+        } else {
+            None
+        }
+    }
+
+    /// Returns the value of the pair at this index, to be written, or none where the index is not below `len`. `get_index` has its
+    /// key. Nothing is hashed and no key is compared.
+    ///
+    /// ```
+    /// if let Some(age) = ages.get_index_mut(1) {
+    ///     *age = 42;
+    /// }
+    /// ```
+    #[inline(always)]
+    pub fn get_index_mut(&mut self, index: usize) -> Option<&mut V>
+        ensures* writes_back { sem 𝓛 (LendsValueIfAt K.row V.row S.row L.row S.Hasher.row K.Hash S.BuildHasher
+            S.Hasher.Hasher L.Limit self.entry index result) }
+        ensures value { option_copied_mut result ≡ slice_get (values_of self.old.pairs) index }
+        ensures held { IsSome result ↔ (index < length self.old.pairs) }
+        ensures state { IsState K.eq L.LIMIT self.old }
+    {
+        if index < self.len() {
+            Some(self.value_at_mut(index))
+        } else {
+            None
+        }
+    }
+
+    /// Returns the first pair, or none where the map is empty. Nothing is hashed and no key is compared.
+    ///
+    /// ```
+    /// let pair = ages.first(); // 1 and 36
+    /// ```
+    #[inline(always)]
+    pub fn first(&self) -> Option<(&K, &V)>
+        ensures pair { option_map deref_pair result ≡ slice_get self.now.pairs 0 }
+        ensures held { IsSome result ↔ (0 < length self.now.pairs) }
+    {
+        self.get_index(0)
+    }
+
+    /// Returns the last pair, or none where the map is empty. Nothing is hashed and no key is compared.
+    ///
+    /// ```
+    /// let pair = ages.last(); // 3 and 5
+    /// ```
+    #[inline(always)]
+    pub fn last(&self) -> Option<(&K, &V)>
+        ensures pair { option_map deref_pair result ≡ slice_get self.now.pairs (length self.now.pairs - 1) }
+        ensures held { IsSome result ↔ (0 < length self.now.pairs) }
+    {
+        self.get_index(self.len().saturating_sub(1))
+    }
+
+    /// Returns the index of the pair whose key equals this one, or none where no such key is held. It costs one search.
+    ///
+    /// ```
+    /// let index = ages.get_index_of(&2); // 1
+    /// ```
+    #[inline(always)]
+    pub fn get_index_of<Q: Equivalent<K>>(&self, key: Q) -> Option<usize>
+        ensures index { result ≡ index_of (Q.equivalent key) (keys_of self.now.pairs) }
+        ensures found { FindsIndex (Q.equivalent key) self.now.pairs result }
+    {
+        self.get_index_of_counted(key, &mut Tally::new())
+    }
+
+    /// `get_index_of`, with its work counted: that of one search.
+    ///
+    /// ```
+    /// let index = ages.get_index_of_counted(&4, &mut tally); // none
+    /// ```
+    #[inline(always)]
+    pub fn get_index_of_counted<Q: Equivalent<K>>(&self, key: Q, tally: &mut Tally) -> Option<usize>
+        ensures index { result ≡ index_of (Q.equivalent key) (keys_of self.now.pairs) }
+        ensures found { FindsIndex (Q.equivalent key) self.now.pairs result }
+        ensures cost { CostsSearch S.BuildHasher S.Hasher.Hasher K.hash_input Q.hash_input Q.equivalent key
+            self.now tally.old tally.new }
+        ensures state { IsState K.eq L.LIMIT self.now }
+    {
+        match self.find(key, tally) {
+            Lookup::Found(index) => Some(index),
+            Lookup::Missing(_) => None,
+        }
+    }
+    /// Removes the pair at this index, and returns it. The last pair takes its index. Where the index is not below `len` nothing
+    /// changes. Nothing is hashed and no key is compared; no memory is needed, and the form and the capacity stay.
+    ///
+    /// ```
+    /// let pair = ages.swap_remove_index(0); // 1 and 36; the pair of 3 has index 0 now
+    /// ```
+    #[inline]
+    pub fn swap_remove_index(&mut self, index: usize) -> Option<(K, V)>
+        ensures { RemovesAt L.LIMIT K.eq self.old index result self.new }
+    {
+        if index < self.len() {
+            Some(self.take_at(index))
+        } else {
+            None
+        }
+    }
+
+    /// Removes the last pair, and returns it, or none where the map is empty. The order of the others stays. Nothing is hashed and no
+    /// key is compared; no memory is needed, and the form and the capacity stay.
+    ///
+    /// ```
+    /// let pair = ages.pop(); // 2 and 42
+    /// ```
+    #[inline]
+    pub fn pop(&mut self) -> Option<(K, V)>
+        ensures pairs { self.old.pairs ≡ self.new.pairs ++ option_to_list result }
+        ensures removes { RemovesAt L.LIMIT K.eq self.old (length self.old.pairs - 1) result self.new }
+    {
+        self.swap_remove_index(self.len().saturating_sub(1))
+    }
+}

@@ -1,0 +1,47 @@
+//! Reads a JSON document from standard input, and prints the value that a path leads to: `json_at /a/0`. With no path it prints the
+//! whole document. Members stay in their order, and of those of one name the last value wins, at the place of the first.
+#![tactic(auto)]
+
+mod failure;
+
+use crate::failure::Failure;
+use document::{Document, Scratch};
+use std::alloc::Global;
+use std::io::Read;
+use std::process::ExitCode;
+use std::rt::Env;
+use std::{env, str};
+
+fn main(rt: HostRuntime) -> ExitCode {
+    match print_value(&rt) {
+        Ok(()) => ExitCode::SUCCESS,
+        Err(failure) => {
+            let _ = eprintln!(rt; "json_at: {failure}");
+            ExitCode::FAILURE
+        }
+    }
+}
+
+// Reads all of standard input, and prints the value at the path.
+fn print_value(rt: &(impl Input + Print + AllocGlobal + Env)) -> Result<(), Failure> {
+    let path = env::args(rt)?.nth(1);
+    let mut bytes = Vec::new(rt.alloc());
+    rt.reader().read_to_end(&mut bytes)?;
+    let text = str::from_utf8(bytes.as_slice())
+        .ok()
+        .ok_or(Failure::NotText)?;
+    let found = match &path {
+        Some(path) => value_at(rt.alloc(), text, path.as_str())?,
+        None => value_at(rt.alloc(), text, "")?,
+    };
+    rt.println(found)?;
+    Ok(())
+}
+
+// The text of the value that a path leads to.
+fn value_at(alloc: Global, text: &str, path: &str) -> Result<String, Failure> {
+    let mut scratch = Scratch::new(alloc);
+    let document = Document::parse(alloc, text, &mut scratch)?;
+    let place = document.find(path).ok_or(Failure::NotThere)?;
+    Ok(document.text_at(alloc, place)?)
+}
