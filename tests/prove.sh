@@ -114,6 +114,10 @@ if tail -n 1 "$log" | grep -q '^status '; then
     [ ! -f "$log.out" ] || cat "$log.out" >&2
     fail "$name: not proved"
 fi
+# A check only warns of what `rt ci` refuses in the text of the sources.
+if grep -q 'rt verdict refuses this' "$log"; then
+    fail "$name: rt ci would refuse it"
+fi
 if [ "$command" = run ] && ! cmp -s "$log.out" "$wanted"; then
     diff "$wanted" "$log.out" >>"$log"
     fail "$name: it prints something else than its stdout"

@@ -1,7 +1,7 @@
 //! The small libraries of `half_uses`, in use.
 
 mod cache;
-mod document;
+mod documents;
 mod interner;
 mod labels;
 mod object;
