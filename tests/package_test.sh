@@ -7,8 +7,9 @@ cd "$(dirname "$0")/.." || exit 1
 top=$PWD
 . tests/part.sh
 
-# (The quickest packing will do.)
-XZ_OPT="-0 -T2" tests/package.sh "$work" || fail "no archive"
+# (The quickest packing will do. Unpacking takes these options too.)
+export XZ_OPT="-0 -T$(nproc)"
+tests/package.sh "$work" || fail "no archive"
 (cd "$work" && sha256sum --quiet -c ./*.sha256) || fail "the sum beside the archive is not its own"
 crates="$(sed -n 's/^halfbrown: *//p' crates.txt) halfbrown"
 

@@ -9,31 +9,56 @@ pub(crate) fn of_entry(key: Name, words: &[&str]) -> Option<Keyed> {
         return Some(Keyed::EntryWith(key, value, call));
     }
     let call = match words {
-        ["read"] => OfEntry::Read,
-        ["key"] => OfEntry::Key,
-        ["index"] => OfEntry::Index,
-        ["get_mut", more] => OfEntry::GetMut(number(more)?),
-        ["into_mut", more] => OfEntry::IntoMut(number(more)?),
-        ["remove"] => OfEntry::Remove,
-        ["remove_entry"] => OfEntry::RemoveEntry,
-        ["replace", more] => OfEntry::Replace(number(more)?),
-        ["lose"] => OfEntry::Lose,
-        ["handed"] => OfEntry::Handed,
-        ["into_key"] => OfEntry::IntoKey,
         ["debug"] => return Some(Keyed::EntryDebug(key)),
+        [call] => of_entry_alone(call)?,
+        [call, more] => of_entry_more(call, number(more)?)?,
         _ => return None,
     };
     Some(Keyed::Entry(key, call))
 }
 
-// Such a call, and the value that it hands in.
+fn of_entry_alone(call: &str) -> Option<OfEntry> {
+    Some(match call {
+        "read" => OfEntry::Read,
+        "key" => OfEntry::Key,
+        "index" => OfEntry::Index,
+        "remove" => OfEntry::Remove,
+        "remove_entry" => OfEntry::RemoveEntry,
+        "lose" => OfEntry::Lose,
+        "handed" => OfEntry::Handed,
+        "into_key" => OfEntry::IntoKey,
+        _ => return None,
+    })
+}
+
+// The calls that add a number to the value.
+fn of_entry_more(call: &str, more: u64) -> Option<OfEntry> {
+    Some(match call {
+        "get_mut" => OfEntry::GetMut(more),
+        "into_mut" => OfEntry::IntoMut(more),
+        "replace" => OfEntry::Replace(more),
+        _ => return None,
+    })
+}
+
+// A call that hands in a value, which is its last word.
 fn of_entry_with(words: &[&str]) -> Option<(OfEntryWith, u64)> {
-    Some(match words {
-        ["or_insert", value] => (OfEntryWith::OrInsert, number(value)?),
-        ["or_insert_with", value] => (OfEntryWith::OrInsertWith, number(value)?),
-        ["and_modify", more, value] => (OfEntryWith::AndModify(number(more)?), number(value)?),
-        ["insert", value] => (OfEntryWith::Insert, number(value)?),
-        ["lose_insert", value] => (OfEntryWith::LoseInsert, number(value)?),
+    match words {
+        [call, value] => Some((of_entry_with_value(call)?, number(value)?)),
+        [call, more, value] => match *call {
+            "and_modify" => Some((OfEntryWith::AndModify(number(more)?), number(value)?)),
+            _ => None,
+        },
+        _ => None,
+    }
+}
+
+fn of_entry_with_value(call: &str) -> Option<OfEntryWith> {
+    Some(match call {
+        "or_insert" => OfEntryWith::OrInsert,
+        "or_insert_with" => OfEntryWith::OrInsertWith,
+        "insert" => OfEntryWith::Insert,
+        "lose_insert" => OfEntryWith::LoseInsert,
         _ => return None,
     })
 }
