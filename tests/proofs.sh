@@ -9,11 +9,18 @@ cd "$(dirname "$0")/.." || exit 1
 
 tests/forget_laid_in.sh
 crates="half_store half_iter half_equivalent halfbrown witness half_tests halfmap half_uses word_count json_at"
-# Each takes all processors that it finds, but not all the time, and fewer where others leave it little memory. On four
-# processors three at a time keep them busy. The witness takes longest, so that what it stands on comes before all others.
-for wanted in test_support "$crates"; do
-    make --no-print-directory -k -j$(($(nproc) / 2 + 1)) -f tests/proofs.mk $wanted 2>&1
-done | tee "$work/said"
+prove() {
+    make --no-print-directory -k -f tests/proofs.mk "$@" 2>&1
+}
+# The libraries come first, by as many jobs as rt chooses. What stands on them is proved two crates at a time or more, by one or two
+# jobs each: every job reads the libraries anew, so that more jobs take more processor time. The witness takes longest, and begins
+# first.
+processors=$(nproc)
+crates_at_once=$((processors < 4 ? 2 : processors / 2))
+{
+    prove -j3 test_support
+    prove -j"$crates_at_once" JOBS=$(((processors + crates_at_once - 1) / crates_at_once)) $crates
+} | tee "$work/said"
 for crate in $crates; do
     if grep -qE "^make.*(: $crate\] Error|'$crate' not remade)" "$work/said"; then
         fail "$crate: not proved"

@@ -3,7 +3,7 @@
 # print its stdout; a library is made ready for the crates above it, but one with tests has none above it, and its tests are
 # run. What is proved of a test is that it returns, which its run shows: so that is left to `rt ci`. Says when the proof
 # begins, how far it is and how long it took, and nothing where nothing has changed. What rt prints is shown where it fails.
-# tests/prove.sh CRATE kept proves nothing: its status says whether out/ has it.
+# tests/prove.sh CRATE kept proves nothing: its status says whether out/ has it. JOBS is how many jobs rt has; else it chooses.
 set -u
 name=$1
 top=$(cd "$(dirname "$0")/.." && pwd) || exit 1
@@ -28,6 +28,8 @@ elif grep -rq '^ *#\[test\]' src; then
 else
     command=lib
 fi
+
+jobs=${JOBS:+--jobs $JOBS}
 
 # The crate and what it stands on, lowest first.
 below() {
@@ -102,9 +104,9 @@ began=$(date +%s)
 # What rt says goes to standard output, but of a program to standard error, since its standard output is the program's.
 prove() {
     case $command in
-        run) rt run $backend <"$input" 2>&1 >"$log.out" ;;
-        check) rt check </dev/null 2>&1 && rt try --test </dev/null 2>&1 ;;
-        lib) rt lib </dev/null 2>&1 ;;
+        run) rt run $backend $jobs <"$input" 2>&1 >"$log.out" ;;
+        check) rt check $jobs </dev/null 2>&1 && rt try --test </dev/null 2>&1 ;;
+        lib) rt lib $jobs </dev/null 2>&1 ;;
     esac || echo "status $?"
 }
 prove | tee "$log" | sed -u -n \

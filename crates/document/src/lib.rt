@@ -7,11 +7,11 @@ mod read;
 mod write;
 
 pub use error::Error;
-use halfbrown::{DefaultHashBuilder, HashMap};
+use halfbrown::HashMap;
 pub use json::Scratch;
 
 /// The members of an object, by name, in the order of the text. Each has the place of its value.
-pub type Members<'t> = HashMap<&'t str, usize, DefaultHashBuilder>;
+pub type Members<'t> = HashMap<&'t str, usize>;
 
 /// A value. Those in a list or an object stand elsewhere in the document, and are named by their places.
 #[derive(Debug, Drop)]

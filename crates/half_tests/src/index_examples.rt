@@ -1,11 +1,11 @@
 //! The examples of the calls by index, word for word, each with its result.
 
-use halfbrown::{DefaultHashBuilder, Entry, HashMap, Tally};
+use halfbrown::{Entry, HashMap, Tally};
 use std::hash::BuildHasher;
 use std::test::Fail;
 use test_support::asserts::{assert_same, assert_true};
 
-type Ages = HashMap<u64, u32, DefaultHashBuilder>;
+type Ages = HashMap<u64, u32>;
 
 #[test]
 fn reading_by_index(rt: HostRuntime) -> Result<(), Fail> {

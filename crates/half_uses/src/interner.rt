@@ -3,7 +3,7 @@ ghost use Rattle.std.specs.Prelude.{◌≡◌, ℕ, List, [], ◌∷◌, ◌++�
 ghost use Rattle.std.specs.Option.{option_copied};
 ghost use Rattle.half_uses.specs.Interner.{number_of, with_text};
 
-use halfbrown::{DefaultHashBuilder, HashMap, Refusal};
+use halfbrown::{HashMap, Refusal};
 use std::alloc::Global;
 use std::marker::Model;
 
@@ -20,7 +20,7 @@ use std::marker::Model;
 #[derive(Drop)]
 pub struct Interner {
     // A text's number is the index of its pair.
-    texts: HashMap<String, (), DefaultHashBuilder>,
+    texts: HashMap<String, ()>,
     alloc: Global,
 }
 

@@ -2,7 +2,7 @@
 ghost use Rattle.std.specs.Prelude.{◌≡◌, ◌↔◌, ◌||◌, [], true, not, length, All, IsTrue, IfOk, OnOk, OnErr};
 ghost use Rattle.half_uses.specs.Labels.{has, with_label, with_labels};
 
-use halfbrown::{DefaultHashBuilder, HashMap, Refusal, Refused, laws};
+use halfbrown::{HashMap, Refusal, Refused, laws};
 use std::alloc::Global;
 use std::hash::Hash;
 use std::marker::Model;
@@ -10,7 +10,7 @@ use std::marker::Model;
 /// A set of labels. Up to 32 are searched by `==`, and nothing is hashed.
 #[derive(Drop)]
 pub struct Labels<T: Eq + Hash> {
-    labels: HashMap<T, (), DefaultHashBuilder>,
+    labels: HashMap<T, ()>,
 }
 
 impl<T: Eq + Hash> Model for Labels<T> {

@@ -6,7 +6,7 @@ ghost use Rattle.halfbrown.specs.Pairs.{value_of, holds_by, put};
 ghost use Rattle.halfbrown.specs.Equality.{same_pairs};
 ghost use Rattle.halfbrown.specs.Iter.{pairs_left};
 
-use halfbrown::{DefaultHashBuilder, Equivalent, HashMap, Iter, Refused};
+use halfbrown::{Equivalent, HashMap, Iter, Refused};
 use std::alloc::Global;
 use std::fmt::{Debug, Formatter, Result as Printed, Write};
 use std::hash::Hash;
@@ -16,7 +16,7 @@ use std::marker::Model;
 /// first.
 #[derive(Drop)]
 pub struct Object<N: Eq + Hash, V> {
-    members: HashMap<N, V, DefaultHashBuilder>,
+    members: HashMap<N, V>,
 }
 
 impl<N: Eq + Hash, V> Model for Object<N, V> {

@@ -6,12 +6,12 @@ ghost use Rattle.std.specs.Map.{keys_of};
 ghost use Rattle.halfbrown.specs.Pairs.{value_of, put};
 ghost use Rattle.half_uses.specs.Words.{AreWordsOf, counted, line_of, same_word};
 
-use halfbrown::{DefaultHashBuilder, HashMap, Refusal};
+use halfbrown::{HashMap, Refusal};
 use std::alloc::{AllocError, Global};
 use std::fmt::Write;
 
 /// Words, each with how often it comes.
-pub type Counts<'a> = HashMap<&'a str, u64, DefaultHashBuilder>;
+pub type Counts<'a> = HashMap<&'a str, u64>;
 
 /// The words of a text, each with how often it comes, in the order in which they first come. White space parts the words, which
 /// are not copied. It costs one search a word.

@@ -117,6 +117,7 @@ impl<K: Eq + Hash, V, S: BuildHasher, L: Limit> LimitedHashMap<K, V, S, L> {
             Lookup::Missing(_) => None,
         }
     }
+
     /// Removes the pair at this index, and returns it. The last pair takes its index. Where the index is not below `len` nothing
     /// changes. Nothing is hashed and no key is compared; no memory is needed, and the form and the capacity stay.
     ///
