@@ -8,18 +8,18 @@ cd "$(dirname "$0")/.." || exit 1
 . tests/part.sh
 
 tests/forget_laid_in.sh
-crates="half_store half_iter half_equivalent halfbrown witness half_tests halfmap half_uses word_count json_at"
+crates="half_store half_iter half_equivalent halfbrown half_uses half_tests halfmap word_count json_at witness"
 prove() {
     make --no-print-directory -k -f tests/proofs.mk "$@" 2>&1
 }
-# The libraries come first, by as many jobs as rt chooses. What stands on them is proved two crates at a time or more, by one or two
-# jobs each: every job reads the libraries anew, so that more jobs take more processor time. The witness takes longest, and begins
-# first.
-processors=$(nproc)
-crates_at_once=$((processors < 4 ? 2 : processors / 2))
+# The libraries come first, by as many jobs as rt chooses. Then the witness, which takes longest, stands beside the others, one of
+# these after another, and they share the processors: each job reads the libraries anew, so that more jobs take more processor time.
+jobs=$((($(nproc) + 1) / 2))
 {
     prove -j3 test_support
-    prove -j"$crates_at_once" JOBS=$(((processors + crates_at_once - 1) / crates_at_once)) $crates
+    prove JOBS=$jobs witness &
+    prove JOBS=$jobs $crates
+    wait
 } | tee "$work/said"
 for crate in $crates; do
     if grep -qE "^make.*(: $crate\] Error|'$crate' not remade)" "$work/said"; then
