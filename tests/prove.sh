@@ -60,7 +60,10 @@ case $command in
     run) made=out/$name ;;
     *) made=out ;;
 esac
-if [ -e "$made" ] && [ "$(cat "$proved" 2>/dev/null)" = "$files" ]; then
+is_kept() {
+    [ -e "$made" ] && [ "$(cat "$proved" 2>/dev/null)" = "$files" ]
+}
+if is_kept; then
     exit 0
 fi
 [ "${2:-}" != kept ] || exit 1
@@ -86,6 +89,10 @@ for crate in $crates; do
     exec {held}<"$top/crates/$crate"
     if [ "$crate" = "$name" ]; then flock "$held"; else flock -s "$held"; fi
 done
+# Another run of this script may have proved it meanwhile.
+if is_kept; then
+    exit 0
+fi
 [ ! -d "$copy" ] || take_back # after a run that was killed
 trap 'take_back; rm -f "$log" "$log.out"' EXIT
 for crate in $crates; do
