@@ -13,8 +13,8 @@ tests/package.sh "$work" || fail "no archive"
 (cd "$work" && sha256sum --quiet -c ./*.sha256) || fail "the sum beside the archive is not its own"
 crates="$(sed -n 's/^halfbrown: *//p' crates.txt) halfbrown"
 
-# A repository of the four crates' sources and a caller: the first example of the README. rt keeps what it proved by the name of
-# a crate, for all copies on a machine, so that the name is new in each run.
+# A repository of the four crates' sources and a caller: the first example of the README. Its name is new in each run, so that
+# nothing that is kept of an earlier one can serve.
 caller=caller_$$
 mkdir "$work/user" && cp HANDLES "$work/user/"
 for crate in $crates; do
@@ -84,7 +84,7 @@ else
     exit 1
 fi
 
-# rt makes a library anew in new files, also where it takes one from another copy on this machine: here none is new.
+# rt makes a library anew in new files: here none is new.
 listed() {
     find crates/half*/out -printf '%p %i %s %C@\n' | sort
 }

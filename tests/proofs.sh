@@ -1,6 +1,6 @@
 #!/bin/sh
-# Proves what users run and its callers, and runs the tests: each crate once, as soon as what it stands on is proved, several at
-# a time. What earlier runs have proved is kept in out/.
+# Proves what users run and its callers, and runs the tests: each crate once, after what it stands on. What earlier runs have
+# proved is kept in out/.
 #
 # The last line is "N passed, M failed", by crates.
 set -u
@@ -12,9 +12,11 @@ crates="half_store half_iter half_equivalent halfbrown half_uses half_tests half
 prove() {
     make --no-print-directory -k -f tests/proofs.mk "$@" 2>&1
 }
-# The libraries come first, by as many jobs as rt chooses. Then the witness, which takes longest, stands beside the others, one of
-# these after another, and they share the processors: each job reads the libraries anew, so that more jobs take more processor time.
+# The libraries come first, by as many jobs as rt chooses, which are four at most. Then the witness, which takes longest, is proved
+# beside the others, one of these after another, and they share the processors: each job reads the libraries anew, so that more
+# jobs take more processor time.
 jobs=$((($(nproc) + 1) / 2))
+[ "$jobs" -le 4 ] || jobs=4
 {
     prove -j3 test_support
     prove JOBS=$jobs witness &
