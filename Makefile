@@ -1,46 +1,45 @@
 # make run < FILE   proves and builds halfmap, where something has changed, and runs it on the lines of FILE
-# make try < FILE   runs halfmap on the lines of FILE at once, with nothing proved
+# make try < FILE   builds halfmap with nothing proved, in about half a minute, and runs it on the lines of FILE
 # make test         proves what users run, where something has changed, and runs every test
-# make package      proves the libraries, where something has changed, and packs them: a repository with their sources can
-#                   lay them in, and need not prove them
-# make edits        puts one fault after another into the code: the prover, or a test, has to find each
-# make scripts      plays the scripts of tests/scripts on the proved program witness and on a model (WORD=.. picks some)
-# make witness      plays N scripts at random (N=200, SEED=1) on both, and compares each line
-# make bench        proves and builds what it times, where something has changed, prints times and memory, and draws
-#                   docs/speed.svg (ROUNDS=3 takes fewer rounds than 9; WORDS="drain u64 1000" picks rows)
+# make edits        puts one fault after another into the code: the prover, or a test, has to find each (WORD=.. picks some)
+# make scripts      plays the scripts of tests/scripts on the program witness, built unproved, and on a model (WORD=.. picks some)
+# make witness      plays N scripts at random (N=.., SEED=..) on both, and compares each line
+# make bench        proves and builds what it times, where something has changed, and prints times and memory
+#                   (ROUNDS=3 takes fewer rounds than 9; WORDS="drain u64 1000" picks rows)
 # make fmt          lays out the files of every crate
 
-.PHONY: help run try test package edits scripts witness bench fmt
+.PHONY: help run try test edits scripts witness bench fmt
 
 help:
 	@sed -n 's/^# //p' Makefile
 
 run:
-	@tests/run.sh
+	@tests/prove.sh
+	@crates/halfmap/out/halfmap
 
-try:
-	@echo "nothing is proved in this run of halfmap: make run proves it first" >&2
-	@cd crates/halfmap && rt try
+try: out/unproved/halfmap
+	@echo "halfmap is unproved here: make run proves it." >&2
+	@out/unproved/halfmap
 
 test:
 	@tests/gate.sh
 
-package:
-	@tests/package.sh
-
 edits:
-	@tests/edits.py
+	@tests/edits.py $(WORD)
 
-scripts:
-	@$(MAKE) --no-print-directory -s -f tests/proofs.mk witness
-	@tests/scripts.py $(WORD)
+scripts: out/unproved/witness
+	@WITNESS=$(CURDIR)/$< tests/scripts.py $(WORD)
 
-witness:
-	@$(MAKE) --no-print-directory -s -f tests/proofs.mk witness
-	@tests/witness.py $(or $(N),200) $(or $(SEED),1)
+witness: out/unproved/witness
+	@WITNESS=$(CURDIR)/$< tests/witness.py $(or $(N),600) $(or $(SEED),1)
 
 bench:
 	@tests/bench.py $(or $(ROUNDS),9) $(WORDS)
 
 fmt:
 	@for crate in crates/*/; do (cd "$$crate" && rt fmt) || exit 1; done
+
+# A program that is built with nothing proved.
+out/unproved/%: $(wildcard crates/*/src/*.rt crates/*/src/*/*.rt crates/*/src/*/*/*.rt) crates.txt tests/build_unproved.sh
+	@echo "$* is built unproved, in about half a minute." >&2
+	@tests/build_unproved.sh $* $@

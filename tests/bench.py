@@ -1,30 +1,45 @@
 #!/usr/bin/env python3
 """What `make bench` runs: proves and builds half_bench, halfmap and word_count, where something has changed, prints all
-figures, of which docs/SPEED.md has a part, and draws docs/speed.svg.
+figures, of which docs/SPEED.md has a part.
 
     tests/bench.py [ROUNDS] [WORD..]                  9 rounds where none are given
-    tests/bench.py --against DIR [ROUNDS] [WORD..]    beside half_bench of another checkout, which has to be built there
+    tests/bench.py --against DIR [ROUNDS] [WORD..]    half_bench of this tree and of another, built there, in turns
 
-Words pick rows of times: names of operations, `u64`, `String` and sizes; `memory`, `halfmap` and `word_count` those tables. Where any
-is given nothing is drawn.
+Words pick rows of times: operations, `u64`, `String` and sizes; `memory`, `halfmap` and `word_count` those tables.
 """
 
+import collections
+import itertools
 import math
 import os
 import pathlib
 import platform
+import random
 import re
+import statistics
+import string
 import subprocess
 import sys
+import tempfile
 import time
 
-import bench_others
-import bench_picture
-import bench_times
 
 TOP = pathlib.Path(__file__).resolve().parent.parent
-PICTURE = TOP / "docs/speed.svg"
+MAPS = ["limit_0", "limit_32", "std", "indexmap"]
+# The types of keys, each with the most pairs: texts in maps of a million pairs would take most of the time.
+KEYS = {"u64": 1_000_000, "String": 100_000}
+SIZES = [4, 16, 33, 100, 1_000, 100_000, 1_000_000]
+OPERATIONS = (
+    "hit miss raw_hit build raw_build churn entry_few entry_many iter values_mut clone retain drain from_iter extend"
+    " equal shrink_to_fit"
+).split()
 OTHERS = ["memory", "halfmap", "word_count"]
+# Pairs in all maps whose memory is measured, lines that halfmap reads, and words that word_count counts.
+PAIRS = LINES = 1_000_000
+HELD = 100_000
+WORDS, DIFFERING = 2_000_000, 50_000
+
+Place = collections.namedtuple("Place", "operation keys pairs")
 
 
 def build(name):
@@ -37,33 +52,168 @@ def build(name):
     return crate / "out" / name
 
 
+def print_table(heads, rows, texts=1):
+    """Prints a table, whose first columns are texts and the others numbers."""
+    print("| " + " | ".join(heads) + " |")
+    print("|" + "---|" * texts + "--:|" * (len(heads) - texts))
+    for row in rows:
+        print("| " + " | ".join(str(cell) for cell in row) + " |", flush=True)
+
+
+def places(words):
+    """The rows that the words pick. A map goes back to a vector of at most 32 pairs, so others need not shrink."""
+
+    def chosen(among):
+        return [it for it in among if str(it) in words] or among
+
+    for place in itertools.starmap(Place, itertools.product(chosen(OPERATIONS), chosen(KEYS), chosen(SIZES))):
+        if place.pairs <= (32 if place.operation == "shrink_to_fit" else KEYS[place.keys]):
+            yield place
+
+
+def times(program, place, rounds):
+    """The nanoseconds of one operation in each round, for each map. All maps have to give the same answers."""
+    ran = subprocess.run([program, "times", *map(str, place), str(rounds)], capture_output=True, text=True)
+    found, answers = {it: [] for it in MAPS}, set()
+    for line in ran.stdout.splitlines():
+        name, picoseconds, answer = line.split()
+        found[name].append(int(picoseconds) / 1000)
+        answers.add(answer)
+    if ran.returncode or len(answers) != 1:
+        sys.exit(f"{program}: {' '.join(map(str, place))}: {ran.stderr or 'the answers differ'}")
+    return found
+
+
+def spread(found):
+    """How far the quartiles lie apart, as a part of the median."""
+    ordered = sorted(found)
+    quarter = (len(ordered) - 1) // 4
+    return (ordered[-1 - quarter] - ordered[quarter]) / max(statistics.median(found), 0.01)
+
+
 def print_times(rounds, words):
-    found = bench_times.times(build("half_bench"), rounds, words)
-    if found is None:
-        sys.exit("half_bench: no times")
+    """Prints a table for each operation."""
+    program = build("half_bench")
+
+    def row(place):
+        print(*place, file=sys.stderr)
+        found = times(program, place, rounds)
+        pairs = [zip(found[ours], found[name]) for ours in MAPS[:2] for name in MAPS[2:]]
+        ratios = [statistics.median(ours / max(theirs, 0.01) for ours, theirs in it) for it in pairs]
+        numbers = [f"{statistics.median(found[name]):,.1f}" for name in MAPS]
+        widest = max(map(spread, found.values()))
+        return [place.keys, f"{place.pairs:,}", *numbers, f"{widest:.0%}", *(f"{it:.2f}" for it in ratios)]
+
     print(f"Times of one operation in nanoseconds, and ratios, by the medians of {rounds} rounds:")
-    bench_times.print_times(found)
-    if not words:
-        bench_picture.draw(PICTURE, found)
-        print("\nThe same times as lines: docs/speed.svg")
+    heads = ["keys", "pairs", "limit 0", "limit 32", "std", "indexmap", "spread"]
+    heads += [f"{ours} to {name}" for ours in heads[2:4] for name in MAPS[2:]]
+    for operation, rows in itertools.groupby(places(words), lambda it: it.operation):
+        print(f"\n`{operation}`\n")
+        print_table(heads, map(row, rows))
 
 
-def print_memory():
-    print("\nMemory, in bytes a pair at the peak:\n")
-    heads = ["keys", "pairs a map", "maps", "limit 0", "limit 32", "std", "indexmap"]
-    bench_times.print_table(heads, bench_others.memory_rows(build("half_bench")))
+def print_against(folder, rounds, words):
+    """Prints how long this tree's maps take by those of another tree. Std's and indexmap's should be about 1."""
+    other = pathlib.Path(folder).resolve() / "crates/half_bench/out/half_bench"
+    if not other.exists():
+        sys.exit(f"{other}: not built")
+    programs = [build("half_bench"), other]
+    # Both run on one processor, so that neither has a better one, and take turns, also in which goes first.
+    os.sched_setaffinity(0, {max(os.sched_getaffinity(0))})
+
+    def row(place):
+        found = {program: {name: [] for name in MAPS} for program in programs}
+        for turn in range(rounds):
+            for program in programs if turn % 2 == 0 else reversed(programs):
+                for name, nanoseconds in times(program, place, 1).items():
+                    found[program][name] += nanoseconds
+        medians = [[statistics.median(found[it][name]) for it in programs] for name in MAPS]
+        return [*place, *(f"{ours / max(theirs, 0.01):.2f}" for ours, theirs in medians)]
+
+    print(f"How many times as long as there, by the medians of {rounds} rounds:\n")
+    print_table(["operation", "keys", "pairs", *MAPS], map(row, places(words)), texts=2)
 
 
-def print_halfmap(rounds):
-    program = build("halfmap")
-    print(f"\nhalfmap, by the median of {rounds} rounds:\n")
-    bench_times.print_table(["lines", "halfmap to sort -u"], bench_others.halfmap_rows(program, rounds))
+def peak_bytes(program, *words):
+    """The most memory that the program had at once. It waits for the end of its input, so that this can be read."""
+    command = [program, "memory", *map(str, words)]
+    running = subprocess.Popen(command, stdin=subprocess.PIPE, stdout=subprocess.PIPE, text=True)
+    running.stdout.readline()
+    # What os.wait4 gives would count the pages of this process too, which the child had before it became the program.
+    status = pathlib.Path(f"/proc/{running.pid}/status").read_text()
+    running.communicate()
+    if running.returncode:
+        sys.exit(f"{command}: status {running.returncode}")
+    return int(re.search(r"^VmHWM:\s*(\d+)", status, re.M)[1]) * 1024
 
 
-def print_word_count(rounds):
-    programs = build("word_count"), build("half_bench")
-    print(f"\nMegabytes of words a second, by the median of {rounds} rounds:\n")
-    bench_times.print_table(["program", "megabytes"], bench_others.words_rows(*programs, rounds))
+def memory_rows(program):
+    """Bytes a pair of as many maps as hold a million pairs. One map alone would be lost in the pages of the program."""
+    empty = peak_bytes(program, "std", "u64", 0, 0)
+    for keys, size in itertools.product(KEYS, SIZES):
+        print(f"memory {keys} {size}", file=sys.stderr)
+        copies = PAIRS // size
+        peaks = [peak_bytes(program, name, keys, size, copies) for name in MAPS]
+        yield [keys, f"{size:,}", f"{copies:,}", *(round((peak - empty) / (size * copies)) for peak in peaks)]
+
+
+def processor_seconds(command, path):
+    """The processor time that a program takes to read the file as its input."""
+    with open(path) as given:
+        environment = {**os.environ, "LC_ALL": "C"}
+        running = subprocess.Popen(command, stdin=given, stdout=subprocess.DEVNULL, env=environment)
+        _, status, used = os.wait4(running.pid, 0)
+    running.returncode = os.waitstatus_to_exitcode(status)
+    if running.returncode:
+        sys.exit(f"{command}: status {running.returncode}")
+    return used.ru_utime + used.ru_stime
+
+
+def halfmap_rows(program, rounds, path):
+    chance = random.Random(1)
+    keys = chance.sample(range(10 * LINES), LINES)
+    insertions = [f"i {key} {number}" for number, key in enumerate(keys)]
+    look_ups = insertions[:HELD] + [f"g {chance.choice(keys[:HELD])}" for _ in range(LINES)]
+    forms = ["i {0} {1}", "g {0}", "r {0}", "f"]
+    mixed = [chance.choice(forms).format(chance.randrange(HELD), chance.randrange(HELD)) for _ in range(LINES)]
+    for name, lines in [
+        ("a million insertions of new keys", insertions),
+        ("a million mixed lines", mixed),
+        ("a million look-ups, after 100,000 insertions", look_ups),
+    ]:
+        print(f"halfmap: {name}", file=sys.stderr)
+        path.write_text("".join(f"{line}\n" for line in lines))
+        commands = [program], ["sort", "-u"]
+        ratios = [processor_seconds(commands[0], path) / processor_seconds(commands[1], path) for _ in range(rounds)]
+        yield [name, f"{statistics.median(ratios):.2f}"]
+
+
+def words_rows(word_count, half_bench, rounds, path):
+    """Words come as unevenly as those of a language do: the second of them half as often as the first, and so on."""
+    print("word_count", file=sys.stderr)
+    chance = random.Random(1)
+    words = ["".join(chance.choices(string.ascii_lowercase, k=chance.randint(2, 10))) for _ in range(DIFFERING)]
+    weights = list(itertools.accumulate(1 / rank for rank in range(1, DIFFERING + 1)))
+    path.write_text(" ".join(chance.choices(words, cum_weights=weights, k=WORDS)) + "\n")
+    programs = {"word_count": [word_count]}
+    programs |= {f"counting alone, {it}": [half_bench, "words", it] for it in MAPS[1:]}
+    # They take turns.
+    seconds = [[processor_seconds(it, path) for it in programs.values()] for _ in range(rounds)]
+    for name, found in zip(programs, zip(*seconds)):
+        yield [name, f"{path.stat().st_size / 1e6 / statistics.median(found):.0f}"]
+
+
+def print_others(rounds, words, path):
+    if "memory" in words:
+        print("\nMemory, in bytes a pair at the peak:\n")
+        print_table(["keys", "pairs a map", "maps", *MAPS], memory_rows(build("half_bench")))
+    if "halfmap" in words:
+        print(f"\nhalfmap, by the median of {rounds} rounds:\n")
+        print_table(["lines", "halfmap to sort -u"], halfmap_rows(build("halfmap"), rounds, path))
+    if "word_count" in words:
+        print(f"\nMegabytes of words a second, by the median of {rounds} rounds:\n")
+        programs = build("word_count"), build("half_bench")
+        print_table(["program", "megabytes"], words_rows(*programs, rounds, path))
 
 
 def print_machine(seconds):
@@ -75,48 +225,23 @@ def print_machine(seconds):
     )
 
 
-def print_all(rounds, words):
-    began = time.monotonic()
+def main():
+    began, words = time.monotonic(), sys.argv[1:]
+    other = words[1] if words[:1] == ["--against"] and len(words) > 1 else None
+    words = words[2:] if other else words
+    # A size is a number too, so the rounds are told by their place.
+    rounds = int(words.pop(0)) if words and words[0].isdigit() else 9
+    known = [*OPERATIONS, *KEYS, *map(str, SIZES), *([] if other else OTHERS)]
+    if unknown := [it for it in words if it not in known]:
+        sys.exit(f"{unknown[0]}: not one of {' '.join(known)}")
+    if other:
+        return print_against(other, rounds, words)
     rows = [it for it in words if it not in OTHERS]
     if rows or not words:
         print_times(rounds, rows)
-    if "memory" in words or not words:
-        print_memory()
-    if "halfmap" in words or not words:
-        print_halfmap(rounds)
-    if "word_count" in words or not words:
-        print_word_count(rounds)
+    with tempfile.TemporaryDirectory() as folder:
+        print_others(rounds, words or OTHERS, pathlib.Path(folder) / "lines")
     print_machine(time.monotonic() - began)
-
-
-def print_against(folder, rounds, words):
-    other = pathlib.Path(folder).resolve() / "crates/half_bench/out/half_bench"
-    if not other.exists():
-        sys.exit(f"{other}: not built")
-    program = build("half_bench")
-    # Both run on one processor, so that neither has a better one.
-    os.sched_setaffinity(0, {max(os.sched_getaffinity(0))})
-    print(f"How many times as long as there, by the medians of {rounds} rounds:\n")
-    bench_times.print_against(program, other, rounds, words)
-
-
-def main():
-    words = sys.argv[1:]
-    other = None
-    if words[:1] == ["--against"]:
-        if len(words) < 2:
-            sys.exit(__doc__)
-        other, words = words[1], words[2:]
-    # A size is a number too, so the rounds are told by their place.
-    rounds = int(words.pop(0)) if words and words[0].isdigit() else 9
-    known = bench_times.OPERATIONS + bench_times.KEYS + ([] if other else OTHERS)
-    for word in words:
-        if word not in known and not word.isdigit():
-            sys.exit(f"{word}: not one of {' '.join(known)} and the sizes")
-    if other:
-        print_against(other, rounds, words)
-    else:
-        print_all(rounds, words)
 
 
 main()

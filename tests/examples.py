@@ -1,127 +1,88 @@
 #!/usr/bin/env python3
-"""The examples in the documentation of the libraries, and the snippets of docs/USING.md, stand in code that the gate proves.
+"""Runs the examples in the documentation of the map, with nothing proved.
 
-- An example stands line by line in a crate's examples or callers.
-- A snippet stands there, or in a proof of theirs, but for line breaks, comments, and the tally of a counted call.
-- What a snippet imports, some file of the crates imports so. A lemma that is listed is one of its module.
+Each example becomes a test. The first example of the crate's page stands before every other, and that of a file's page before
+the others of the file: so no example repeats how `ages` or `entry` is made.
 
 The last line is "N passed, M failed".
 """
 
 import pathlib
 import re
+import shutil
+import subprocess
 import sys
+import tempfile
 
 TOP = pathlib.Path(__file__).resolve().parent.parent
-CRATES = TOP / "crates"
-USING = TOP / "docs/USING.md"
-DOCUMENTED = ("half_store", "half_iter", "half_equivalent", "halfbrown")
-# A crate's examples, and the callers that are proved from the public contracts.
-PROVED = ("half_*/src/*examples.rt", "half_*/src/*callers.rt")
-PROOFS = "half_tests/proofs/*/*/*.antt"
-IMPORT = re.compile(r"(?:ghost )?use (Rattle[\w.]*)\.\{(.*)\};?$", re.M)
-# What a line of code ends or begins with; and where a line of a table has its second column.
-CODE = re.compile(r".*[;{})=]$|[\w-]+( \w+)+ = |use ")
-COLUMN = re.compile(r".*\S {3,}(?!//)\S")
-LEMMAS = re.compile(r"^    ([A-Z]\w+)$((?:\n      .*)+)", re.M)
-
-
-def stripped(text):
-    return [line.strip() for line in text.splitlines()]
+SOURCES = TOP / "crates/halfbrown/src"
+CRATE_PAGE = SOURCES / "lib.rt"
+USES = """use halfbrown::run::run;
+use halfbrown::*;
+use std::hash::{BuildHasher, RandomState};
+use std::test::Fail;
+"""
+DOC = re.compile(r"\s*(//[/!]) ?(.*)")
+PLACE = re.compile(r"src/examples\.rt:(\d+):\d+")
 
 
 def examples(path):
-    """The examples of a file, each with the number of its first line."""
+    """The examples of a file: whether each is of the page, `//!`, and its lines, each with its place."""
     example = None
-    for number, line in enumerate(stripped(path.read_text()), 1):
-        if not line.startswith(("///", "//!")):
-            continue
-        line = line[3:].strip()
-        if line != "```":
-            if example is not None:
-                example[1].append(line)
-        elif example is None:
-            example = (number + 1, [])
-        else:
-            yield example
-            example = None
-    if example is not None:
-        yield example[0], ["an example that does not end"]
+    for number, line in enumerate(path.read_text().splitlines(), 1):
+        place = f"{path.relative_to(TOP)}:{number}"
+        doc = DOC.fullmatch(line)
+        if doc and doc[2].strip() == "```":
+            if example:
+                yield doc[1] == "//!", example
+            example = [] if example is None else None
+        elif doc and example is not None:
+            example.append((place, doc[2]))
+        elif example is not None:
+            raise ValueError(f"{place}: the example above has no end")
 
 
-def stands_in(lines, text):
-    return any(text[at : at + len(lines)] == lines for at in range(len(text)))
+def tests_of(path, before):
+    """The tests of a file by name, each as its lines with their places."""
+    own = list(examples(path))
+    page = own.pop(0)[1] if own and own[0][0] else []
+    if path != CRATE_PAGE:
+        before = before + page
+    for _, lines in own:
+        place = lines[0][0]
+        name = re.sub(r"\W+", "_", place.removeprefix("crates/halfbrown/src/"))
+        head = [(place, "#[test]"), (place, f"fn {name}(rt: HostRuntime) -> Result<(), Fail> {{")]
+        yield name, head + before + lines + [(place, "Ok(())"), (place, "}")]
 
 
-def examples_of_the_sources():
-    """The examples of all sources: where each is, its lines, and whether it is proved."""
-    proved = [stripped(path.read_text()) for pattern in PROVED for path in sorted(CRATES.glob(pattern))]
-    for path in [path for crate in DOCUMENTED for path in sorted((CRATES / crate / "src").rglob("*.rt"))]:
-        for number, lines in examples(path):
-            is_proved = bool(lines) and any(stands_in(lines, text) for text in proved)
-            yield f"{path.relative_to(TOP)}:{number}", lines, is_proved
-
-
-def packed(text):
-    """Code with no spaces, no comments and no comma before an end."""
-    text = "".join(re.sub(r"(^|\s)(//|-- ).*", "", text, flags=re.M).split())
-    return re.sub(r",(?=[)\]}])", "", text)
-
-
-def uncounted(text):
-    """The same code with the plain calls in the place of the counted ones."""
-    return text.replace("_counted(", "(").replace(",tally", "").replace("(tally)", "()")
-
-
-def paragraphs(path):
-    """The indented paragraphs of a page, each with the number of its first line."""
-    found = []
-    for number, line in enumerate([*path.read_text().splitlines(), ""], 1):
-        if line.startswith("    "):
-            found.append(line.strip())
-        elif found:
-            yield number - len(found), found
-            found = []
-
-
-def imported(texts):
-    """What the files import, each as a module and a name."""
-    return {(module, name) for text in texts for module, names in IMPORT.findall(text) for name in names.split(", ")}
-
-
-def snippets_of_using():
-    """The snippets of the page: where each is, its lines, and whether it stands in proved code."""
-    files = [path for part in ("src/**/*.rt", "specs/*.antt", "proofs/**/*.antt") for path in CRATES.glob(f"*/{part}")]
-    known = imported(path.read_text() for path in files)
-    proved = [packed(path.read_text()) for pattern in PROVED for path in sorted(CRATES.glob(pattern))]
-    proved += [uncounted(text) for text in proved] + [packed(path.read_text()) for path in sorted(CRATES.glob(PROOFS))]
-    for number, lines in paragraphs(USING):
-        place = f"{USING.relative_to(TOP)}:{number}"
-        for pair in sorted(imported(lines)):
-            yield place, ["imports " + ".".join(pair)], pair in known
-        lines = [it for it in lines if not IMPORT.match(it)]
-        if any(map(CODE.match, lines)) and not any(map(COLUMN.match, lines)):
-            wanted = [packed("\n".join(lines)), *map(packed, lines)]
-            whole, *single = [any(it in text for text in proved) for it in wanted]
-            yield place, lines, whole or all(single)
-    for module, listed in LEMMAS.findall(USING.read_text()):
-        defined = re.findall(r"^ *pub ([\w-]+) :", (CRATES / f"halfbrown/proofs/{module}.antt").read_text(), re.M)
-        for line in stripped(listed.strip()):
-            for name in re.split(r"\s{2,}", line)[0].split(", "):
-                yield f"{USING.relative_to(TOP)}: {module}", [name], name in defined
+def run(lines):
+    """What `rt` says of the tests with these lines, in a crate of their own."""
+    with tempfile.TemporaryDirectory() as folder:
+        crates = pathlib.Path(folder, "crates")
+        shutil.copytree(TOP / "crates", crates, ignore=shutil.ignore_patterns("proofs", "out"))
+        (crates.parent / "crates.txt").write_text((TOP / "crates.txt").read_text() + "examples: halfbrown\n")
+        (crates / "examples/src").mkdir(parents=True)
+        (crates / "examples/src/lib.rt").write_text("#![tactic(auto)]\n\n#[cfg(test)]\nmod examples;\n")
+        (crates / "examples/src/examples.rt").write_text("\n".join(lines))
+        command = ["rt", "try", "--test"]
+        ran = subprocess.run(command, cwd=crates / "examples", stdin=subprocess.DEVNULL, capture_output=True, text=True)
+    return ran.stdout + ran.stderr
 
 
 def main():
-    passed = failed = 0
-    for place, lines, is_proved in [*examples_of_the_sources(), *snippets_of_using()]:
-        if is_proved:
-            passed += 1
-        else:
-            failed += 1
-            print(f"{place}: not what is proved:")
-            print("\n".join(f"    {line}" for line in lines))
-    print(f"{passed} passed, {failed} failed")
-    return failed != 0 or passed == 0
+    before = next(examples(CRATE_PAGE))[1]
+    tests = dict(test for path in sorted(SOURCES.rglob("*.rt")) for test in tests_of(path, before))
+    lines = [(pathlib.Path(__file__).name, use) for use in USES.splitlines()] + sum(tests.values(), [])
+    said = run(text for _, text in lines)
+    said = PLACE.sub(lambda it: lines[int(it[1]) - 1][0], said)
+    passed = [name for name in tests if f"test examples::{name} ... ok\n" in said]
+    failed = len(tests) - len(passed)
+    if failed:
+        said = re.sub(r"^test \S+ \.\.\. ok\n", "", said, flags=re.M)
+        print(re.sub(r"^test examples::(\w+)", lambda it: tests[it[1]][0][0], said, flags=re.M))
+    print(f"{len(passed)} passed, {failed} failed")
+    return failed or not tests
 
 
-sys.exit(main())
+if __name__ == "__main__":
+    sys.exit(bool(main()))

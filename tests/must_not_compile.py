@@ -1,12 +1,9 @@
 #!/usr/bin/env python3
-"""Programs that misuse what the map lends must not compile.
+"""Programs that misuse what the map lends must not compile: those of tests/must_not_compile.txt.
 
-Each file of tests/must_not_compile is a program over halfbrown. Its first line is "// error[CODE]", where the compiler has to
-stop at this error, or "// compiles", which shows that the others are refused for nothing else.
-
-All of them are put into one crate, as its modules, over a copy of the libraries' sources, where nothing is proved. The
-compiler stops after the first of its passes that finds errors. So those that it has found are taken out, and the rest is
-compiled again until it finds none: these have to be the ones that compile, and they are run.
+All of them are put into one crate, as its modules, over a copy of the libraries' sources, where nothing is proved. The compiler
+stops after the first of its passes that finds errors. So those that it has found are taken out, and the rest is compiled again
+until it finds none: these have to be the ones that compile, and they are run.
 
 The last line is "N passed, M failed".
 """
@@ -18,66 +15,63 @@ import subprocess
 import sys
 import tempfile
 
-import planted
-
 TOP = pathlib.Path(__file__).resolve().parent.parent
-COMPILES = "compiles"
+CASE = re.compile(r"^(\w+): (.*)\n((?:    .*\n)+)", re.M)
 ERROR = re.compile(r"^src/(\w+)\.rt:\d+:\d+: (error\[[^\]]*\])", re.M)
-ENDED = "run=ended status=0"
+COMPILES = "compiles"
+MODULE = """use halfbrown::{{DefaultHashBuilder, RawEntryMut, SizedHashMap}};
+
+pub fn main(rt: &HostRuntime) {{
+    let mut map = SizedHashMap::<u64, u64, DefaultHashBuilder, 5>::new(rt.alloc());
+{}}}
+"""
 
 
 def copy_libraries(folder):
     """Copies the sources of the libraries, and names the crate that misuses them."""
-    planted.copy_sources(folder, planted.crates_of("halfbrown") | {"misuse": " halfbrown"})
+    (folder / "crates.txt").write_text("half_store:\nhalfbrown: half_store\nmisuse: halfbrown\n")
+    for name in ("half_store", "halfbrown"):
+        for part in ("src", "specs"):
+            shutil.copytree(TOP / "crates" / name / part, folder / "crates" / name / part)
 
 
-def put(cases, sources):
-    """Makes the crate of these programs: each is a module, whose `main` is called in turn."""
-    shutil.rmtree(sources, ignore_errors=True)
-    sources.mkdir(parents=True)
-    for case in cases:
-        text = case.read_text().replace("#![tactic(auto)]\n", "")
-        text = text.replace("\nfn main(rt: HostRuntime)", "\npub fn main(rt: &HostRuntime)")
-        (sources / f"{case.stem}.rt").write_text(text)
-    modules = "".join(f"mod {case.stem};\n" for case in cases)
-    calls = "".join(f"    {case.stem}::main(&rt);\n" for case in cases)
-    (sources / "main.rt").write_text(f"#![tactic(auto)]\n\n{modules}\nfn main(rt: HostRuntime) {{\n{calls}}}\n")
+def compile_crate(bodies, crate):
+    """Makes the crate of these programs, and returns what the compiler says and the run."""
+    shutil.rmtree(crate / "src", ignore_errors=True)
+    (crate / "src").mkdir(parents=True)
+    for name, body in bodies.items():
+        (crate / "src" / f"{name}.rt").write_text(MODULE.format(body))
+    modules, calls = ("".join(text.format(it) for it in bodies) for text in ("mod {};\n", "    {}::main(&rt);\n"))
+    (crate / "src/main.rt").write_text(f"#![tactic(auto)]\n\n{modules}\nfn main(rt: HostRuntime) {{\n{calls}}}\n")
+    ran = subprocess.run(["rt", "try", "--steps", "1"], cwd=crate, stdin=subprocess.DEVNULL, capture_output=True, text=True)
+    return ran.stdout + ran.stderr
 
 
-def wanted(case):
-    return case.read_text().splitlines()[0].removeprefix("// ")
-
-
-def judge(cases, crate):
+def judge(bodies, crate):
     """Returns what was found of each program, and what the compiler printed last."""
-    found, rest = {}, cases
-    while rest:
-        put(rest, crate / "src")
-        ran = subprocess.run(["rt", "try"], cwd=crate, stdin=subprocess.DEVNULL, capture_output=True, text=True)
-        said = ran.stdout + ran.stderr
+    found, said = {}, ""
+    while rest := {name: body for name, body in bodies.items() if name not in found}:
+        said = compile_crate(rest, crate)
         errors = ERROR.findall(said)
         if not errors:
-            return found | {case: COMPILES if ENDED in said else "no end" for case in rest}, said
-        for case in rest:
-            codes = {code for name, code in errors if name == case.stem}
-            if codes:
-                found[case] = ", ".join(sorted(codes))
-        if not any(case in found for case in rest):
+            return found | dict.fromkeys(rest, COMPILES if "run=ended status=0" in said else "no end"), said
+        new = {name: ", ".join(sorted({code for it, code in errors if it == name})) for name, _ in errors if name in rest}
+        if not new:
             # What the compiler stops at is in none of them.
             break
-        rest = [case for case in rest if case not in found]
+        found |= new
     return found, said
 
 
 def main():
-    cases = sorted((TOP / "tests/must_not_compile").glob("*.case"))
+    cases = CASE.findall((TOP / "tests/must_not_compile.txt").read_text())
     with tempfile.TemporaryDirectory() as folder:
         folder = pathlib.Path(folder)
         copy_libraries(folder)
-        found, said = judge(cases, folder / "crates/misuse")
-    failed = [case for case in cases if found.get(case) != wanted(case)]
-    for case in failed:
-        print(f"{case.name}: wanted {wanted(case)}, found {found.get(case)}")
+        found, said = judge({name: body for name, _, body in cases}, folder / "crates/misuse")
+    failed = [(name, wanted) for name, wanted, _ in cases if found.get(name) != wanted]
+    for name, wanted in failed:
+        print(f"{name}: wanted {wanted}, found {found.get(name)}")
     if failed:
         print(said[-2000:])
     print(f"{len(cases) - len(failed)} passed, {len(failed)} failed")

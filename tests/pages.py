@@ -1,66 +1,33 @@
 #!/usr/bin/env python3
-"""The pages (README.md, docs/*.md and the README.md of each crate) stay short, and what they and other texts name is there.
+"""What the pages (README.md, docs/*.md, the README.md of each crate) name is there, and the README's examples are what is run.
 
-- README.md has at most 1,100 words, and all pages together at most 15,000.
-- A link leads to a file, and to a heading where it names one.
-- A path in backticks leads to a file or a folder, from anywhere in the tree: `map/find.rt` is crates/halfbrown/src/map/find.rt.
-- A name such as `counting::hash_one` is defined in the sources, in a module or a type of that name.
-- No text cites what is found elsewhere under a number.
+- A link leads to a file, and to a heading where it names one. A path in backticks leads to a file or a folder, from anywhere in
+  the tree: `map/find.rt` is crates/halfbrown/src/map/find.rt.
+- The README's first example stands in half_tests, where it is proved, and halfmap answers its lines as it says.
 
 The last line is "N passed, M failed".
 """
 
-import os
 import pathlib
 import re
+import subprocess
 import sys
 
 TOP = pathlib.Path(__file__).resolve().parent.parent
-MOST_OF_README = 1_100
-MOST_OF_ALL = 15_000
-# Folders that are built, words of a path that stand for any, and the modules of std that are named without it.
-BUILT = {".git", "out", "__pycache__"}
-ANY = {"CRATE", "FAULT", "FILE", "NAME"}
-OF_STD = {"std", "io", "fmt", "mem"}
-SUFFIXES = ("antt", "c", "edit", "md", "mk", "py", "rt", "sh", "svg", "txt")
+HALFMAP = TOP / "crates/halfmap/out/halfmap"
+FIRST_EXAMPLE = TOP / "crates/half_tests/src/first_example.rt"
+# Words of a path that stand for any, and folders that are built.
+ANY = {"CRATE", "FAULT", "FILE", "MODULE", "NAME", "PATH"}
+BUILT = {"out"}
 CODE = re.compile(r"^```.*?^```|^    .*?$", re.M | re.S)
 SPAN = re.compile(r"`([^`]+)`")
 LINK = re.compile(r"\[[^\]]*\]\(([^)\s]+)\)")
 HEADING = re.compile(r"^#+ (.*)$", re.M)
-PATH = re.compile(rf"[\w.-]+/[\w./-]*|[\w-]+\.({'|'.join(SUFFIXES)})")
-NAME = re.compile(r"[A-Za-z]\w+(::\w+)+")
-DEFINED = r"(?:fn|struct|enum|trait|type|mod|const|macro_rules!)\s+{0}\b|^\s+{0}\s*[,({{]"
-CITED = re.compile(
-    r"\b(paper|issue|row|request|theorem|lemma|ticket|pull request)\s+(no\.\s*|number\s+)?#?[0-9]+\b|(^|[\s(])#[0-9]+\b"
-    r"|\barxiv\b|\bdoi\.org\b|\bet al\.",
-    re.I,
-)
-
-
-def files():
-    """The files of the tree, by their paths from its top."""
-    for folder, folders, names in os.walk(TOP):
-        folders[:] = [it for it in folders if it not in BUILT]
-        yield from (pathlib.Path(folder, it).relative_to(TOP).as_posix() for it in names)
-
-
-def text_of(name):
-    return (TOP / name).read_text(errors="replace")
+PATH = re.compile(r"[\w.-]+/[\w./-]*|[\w-]+\.(?:antt|c|edits|md|py|rt|sh|svg|txt)")
 
 
 def blanked(pattern, text):
-    """The text with spaces in the place of what is found; lines stay."""
     return pattern.sub(lambda it: re.sub(r"[^\n]", " ", it[0]), text)
-
-
-def line_of(text, at):
-    return text.count("\n", 0, at) + 1
-
-
-def word_counts(pages):
-    words = {it: len(text_of(it).split()) for it in pages}
-    for name, count, most in [("README.md", words["README.md"], MOST_OF_README), ("docs", sum(words.values()), MOST_OF_ALL)]:
-        yield name, 1, None if count <= most else f"{count} words, and at most {most} are wanted"
 
 
 def anchor(heading):
@@ -69,7 +36,7 @@ def anchor(heading):
 
 def link_problem(page, link):
     name, _, wanted = link.partition("#")
-    path = (TOP / page).parent / name if name else TOP / page
+    path = page.parent / name if name else page
     if not path.exists():
         return f"the link {link} leads to no file"
     if wanted and wanted not in map(anchor, HEADING.findall(blanked(CODE, path.read_text()))):
@@ -77,66 +44,51 @@ def link_problem(page, link):
     return None
 
 
-def links(pages):
-    for page in pages:
-        text = blanked(SPAN, blanked(CODE, text_of(page)))
-        for it in LINK.finditer(text):
-            if "://" not in it[1]:
-                yield page, line_of(text, it.start()), link_problem(page, it[1])
+def links(page):
+    for it in LINK.finditer(blanked(SPAN, blanked(CODE, page.read_text()))):
+        if "://" not in it[1]:
+            yield link_problem(page, it[1])
 
 
-def spans(pages):
-    """What stands in backticks in the pages, but in blocks of code: the page, the line, the text."""
-    for page in pages:
-        text = blanked(CODE, text_of(page))
-        for it in SPAN.finditer(text):
-            yield page, line_of(text, it.start()), it[1]
-
-
-def paths(pages, tree):
-    known = "\n".join(f"/{it}" for it in tree)
-    for page, line, span in spans(pages):
+def paths(page, tree):
+    for span in SPAN.findall(blanked(CODE, page.read_text())):
         for word in filter(PATH.fullmatch, span.split()):
             parts = re.split(r"([/.])", word.strip("/"))
             wanted = "".join("[^/]+" if it in ANY else re.escape(it) for it in parts)
             if BUILT.isdisjoint(parts):
-                yield page, line, None if re.search(rf"/{wanted}(/|$)", known, re.M) else f"there is no {word}"
+                yield None if re.search(rf"/{wanted}(/|$)", tree, re.M) else f"there is no {word}"
 
 
-def is_defined(name, sources):
-    """Whether it is defined in a source, in whose path the modules before it are found."""
-    *before, last = name.split("::")
-    modules = {it for it in before if it.islower()}
-    types = [it for it in before if not it.islower()]
-    within = [text for parts, text in sources if modules <= parts]
-    return all(any(re.search(DEFINED.format(it), text, re.M) for text in within) for it in [*types, last])
+def first_example(readme):
+    """Its first lines say what the file is, and its tests follow it."""
+    proved = re.search(r"^ghost use.*?^}$", FIRST_EXAMPLE.read_text(), re.M | re.S)[0]
+    shown = re.search(r"^```rust\n(.*?)\n```$", readme, re.M | re.S)
+    return None if shown and shown[1] == proved else "the first example is not that of half_tests"
 
 
-def names(pages, tree):
-    sources = [(set(re.split(r"[/.]", it)), text_of(it)) for it in tree if it.endswith(".rt") and "/src/" in it]
-    for page, line, span in spans(pages):
-        if NAME.fullmatch(span) and span.split("::")[0] not in OF_STD:
-            yield page, line, None if is_defined(span, sources) else f"nothing defines {span}"
-
-
-def citations(tree):
-    for name in tree:
-        if not name.startswith(("tests/scripts/", "LICENSE")) and not name.endswith(".svg"):
-            found = [it for it in enumerate(text_of(name).splitlines(), 1) if CITED.search(it[1])]
-            yield from ((name, line, f"it cites by number: {text.strip()}") for line, text in found)
-            yield from () if found else [(name, 1, None)]
+def session(readme):
+    """An indented line `$ printf .. | make run`, and the answers below it."""
+    shown = re.search(r"^    \$ printf '(.*)' \| make run\n((?:    .*\n)+)", readme, re.M)
+    if not shown or not HALFMAP.is_file():
+        return "no lines for halfmap, or no halfmap"
+    ran = subprocess.run([HALFMAP], input=shown[1].replace("\\n", "\n"), capture_output=True, text=True)
+    return None if ran.stdout == shown[2].replace("    ", "") else "halfmap answers otherwise"
 
 
 def main():
-    tree = sorted(files())
-    pages = [it for it in tree if re.fullmatch(r"README\.md|docs/[^/]*\.md|crates/[^/]*/README\.md", it)]
-    texts = [it for it in tree if it.endswith(".md")]
-    checked = [*word_counts(pages), *links(texts), *paths(texts, tree), *names(texts, tree), *citations(tree)]
-    failed = [it for it in checked if it[2]]
-    for name, line, problem in failed:
-        print(f"{name}:{line}: {problem}")
+    listed = subprocess.run(["git", "ls-files", "-co", "--exclude-standard"], cwd=TOP, capture_output=True, text=True, check=True)
+    files = [it for it in listed.stdout.splitlines() if (TOP / it).exists()]
+    tree = "\n".join(f"/{it}" for it in files)
+    readme = TOP / "README.md"
+    checked = [(readme, check(readme.read_text())) for check in (first_example, session)]
+    for page in [TOP / it for it in files if it.endswith(".md")]:
+        checked += [(page, it) for it in (*links(page), *paths(page, tree))]
+    failed = [it for it in checked if it[1]]
+    for page, problem in failed:
+        print(f"{page.relative_to(TOP)}: {problem}")
     print(f"{len(checked) - len(failed)} passed, {len(failed)} failed")
     return bool(failed)
 
 
-sys.exit(main())
+if __name__ == "__main__":
+    sys.exit(main())

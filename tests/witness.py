@@ -1,12 +1,12 @@
 #!/usr/bin/env python3
-"""Plays scripts of calls on the proved program `witness`, and compares each line with the answer of the model.
+"""Plays scripts of calls that are made at random on the program `witness`, and compares each line with the model's.
 
-    tests/witness.py [N] [SEED]    makes N scripts, 200 if not said, from a seed
+    tests/witness.py [N] [SEED]    makes N scripts, 600 if not said, from a seed: far fewer do not meet all that is demanded
 
-The scripts are made by tests/witness_scripts.py, in the language of docs/SCRIPTS.md. All requests of `refused` calls
-are refused, by tests/allocator.c. Where a script differs, lines are taken out as long as it still differs, and the
-shortest one is printed with both answers. The scripts together have to meet what is rare as often as REACHED says. The
-last line is "N passed, M failed".
+The scripts are in the language of docs/SCRIPTS.md. Beside each answer its work, its drops and its requests for memory are
+compared; allocator.c refuses all requests of `refused` calls. Where a script differs, lines are taken out as long as it
+still differs, and what is left is printed with both answers. A table says how often each call was met and refused, and
+what model/coverage.py demands has to be met. The last line is "N passed, M failed": the scripts, and what is demanded.
 """
 
 import collections
@@ -19,16 +19,14 @@ import time
 from concurrent.futures import ProcessPoolExecutor
 
 from comparison import agrees
+from model.coverage import COLUMNS, MET, demanded
+from model.session import answers
+from random_scripts import make_script
 from scripts import PROGRAM, compile_allocator, play
-from witness_model import answers
-from witness_scripts import make_script
 
-# A script that differs is tried in so many shorter forms at most.
-MOST_TRIES = 3000
-# How often a script meets each of these at least, on average: a vector becomes a table, and a table a vector; a call is refused
-# memory; the whole state is compared.
-REACHED = {"switches": 5, "returns": 2, "refusals": 2, "whole states": 5}
-# So many scripts that differ are made short and printed.
+SCRIPTS = 600
+# For this time a script that differs is made shorter, and this number of them is printed.
+SECONDS_TO_SHORTEN = 20
 MOST_SHOWN = 3
 
 
@@ -40,98 +38,74 @@ def difference(found, wanted):
     return None if len(found) == len(wanted) else min(len(found), len(wanted))
 
 
-def differs(lines, player):
-    return difference(player(lines), answers(lines)) is not None
-
-
-def shortest(lines, player, differs=differs):
-    """The lines that are left once none can be taken out without the difference going."""
-    tries, size = 0, max(1, len(lines) // 2)
-    while True:
-        at, has_shrunk = 0, False
-        while at < len(lines) and tries < MOST_TRIES:
+def shortest(lines, player):
+    """What is left of the lines when fewer and fewer at once are taken out, as long as they still differ."""
+    end, size = time.monotonic() + SECONDS_TO_SHORTEN, len(lines)
+    while size > 1:
+        size, at = (size + 1) // 2, 0
+        while at < len(lines) and time.monotonic() < end:
             shorter = lines[:at] + lines[at + size :]
-            tries += 1
-            if shorter and differs(shorter, player):
-                lines, has_shrunk = shorter, True
+            if difference(player(shorter), answers(shorter)) is not None:
+                lines = shorter
             else:
                 at += size
-        if tries >= MOST_TRIES or (size == 1 and not has_shrunk):
-            return lines
-        size = max(1, size // 2)
+    return lines
 
 
-def report(lines, found, wanted):
-    """Prints a script, and where a line differs both answers."""
-    for index, line in enumerate(lines):
-        has = found[index] if index < len(found) else "nothing"
-        wants = wanted[index] if index < len(wanted) else "nothing"
+def report(lines, player):
+    """Prints a script, and both answers where they differ."""
+    found, wanted = player(lines), answers(lines)
+    for index in range(max(len(lines), len(found))):
+        line, has, wants = (it[index] if index < len(it) else "nothing" for it in (lines, found, wanted))
         print(f"    {line}")
         if not agrees(has, wants):
-            print(f"        the program: {has}")
-            print(f"        the model:   {wants}")
-    for line in found[len(lines) :]:
-        print(f"        the program, after the last line: {line}")
+            print(f"        the program: {has}\n        the model:   {wants}")
 
 
 def script_of(seed, index):
-    return make_script(random.Random(f"{seed} {index}"), may_refuse=True)
-
-
-def reached(lines, wanted):
-    """How often the lines meet each of REACHED."""
-    met, form = collections.Counter(lines=len(lines)), None
-    for line, answer in zip(lines, wanted):
-        answer, *fields = answer.split(" | ")
-        before, form = form, fields[1].split(" ")[0] if fields else None
-        word = line.split(" ")[0]
-        if word not in ("swap", "drop", "into_iter", "walk"):
-            met["switches"] += (before, form) == ("vec", "map")
-            met["returns"] += (before, form) == ("map", "vec")
-        met["refusals"] += word == "refused" and "refused" in answer
-        met["whole states"] += word == "pairs"
-    return met
+    return make_script(random.Random(f"{seed} {index}"), index)
 
 
 def try_script(seed, player, index):
     """Whether a script differs, and what it meets."""
-    lines = script_of(seed, index)
-    wanted = answers(lines)
-    return difference(player(lines), wanted) is not None, reached(lines, wanted)
+    script = script_of(seed, index)
+    return difference(player(script.lines), script.wanted) is not None, collections.Counter(script.session.met)
 
 
-def try_scripts(count, seed, player):
-    """Plays the scripts side by side. Returns what they meet, and which differ."""
-    with ProcessPoolExecutor(os.cpu_count()) as pool:
-        tried = list(pool.map(functools.partial(try_script, seed, player), range(count), chunksize=4))
-    met = sum((it for _, it in tried), collections.Counter())
-    return met, [index for index, (is_other, _) in enumerate(tried) if is_other]
+def print_met(met):
+    """Prints a row of each call, and what is met in any state."""
+    print(" " * 28 + "".join(f"{column:>11}" for column in COLUMNS))
+    for name in sorted({name for name, column in met if column in COLUMNS}):
+        print(f"{name:<28}" + "".join(f"{met[name, column] or '.':>11}" for column in COLUMNS))
+    others = [f"{name:<32}{met[name, MET]:>6}" for name, column in sorted(met) if column == MET]
+    for index in range(0, len(others), 3):
+        print("   ".join(others[index : index + 3]))
 
 
-def main():
-    count = int(sys.argv[1]) if len(sys.argv) > 1 else 200
-    seed = sys.argv[2] if len(sys.argv) > 2 else "1"
+def main(count=SCRIPTS, seed=1):
     if not PROGRAM.exists():
         print(f"{PROGRAM} is not there: `rt run` in crates/witness proves and builds it")
         return 0, 1
     began = time.monotonic()
-    with tempfile.TemporaryDirectory() as folder:
+    with tempfile.TemporaryDirectory() as folder, ProcessPoolExecutor(os.cpu_count()) as pool:
         player = functools.partial(play, library=compile_allocator(folder))
-        met, failed = try_scripts(count, seed, player)
-        print(f"{', '.join(f'{met[it]} {it}' for it in ('lines', *REACHED))} in {time.monotonic() - began:.1f} s")
-        missed = [it for it, least in REACHED.items() if met[it] < least * count]
-        if missed:
-            print(f"too few: {', '.join(missed)}")
-        for index in failed:
-            print(f"script {index} of seed {seed} differs")
-        for index in failed[:MOST_SHOWN]:
+        tried = list(pool.map(functools.partial(try_script, seed, player), range(int(count))))
+        met = sum((it for _, it in tried), collections.Counter())
+        print_met(met)
+        demands = demanded(met)
+        missed = [demand for demand in demands if not met[demand]]
+        for name, column in missed:
+            print(f"never met: {name} ({column})")
+        failed = [index for index, (is_other, _) in enumerate(tried) if is_other]
+        print(f"{count} scripts in {time.monotonic() - began:.1f} s; these differ: {failed or 'none'}")
+        # The first ones are long.
+        for index in failed[-MOST_SHOWN:]:
             print(f"script {index} of seed {seed}, made short:")
-            lines = shortest(script_of(seed, index), player)
-            report(lines, player(lines), answers(lines))
-    return count - len(failed) + (not missed), len(failed) + bool(missed)
+            report(shortest(script_of(seed, index).lines, player), player)
+    return len(tried) + len(demands) - len(failed) - len(missed), len(failed) + len(missed)
 
 
 if __name__ == "__main__":
-    passed, failed = main()
+    passed, failed = main(*sys.argv[1:])
     print(f"{passed} passed, {failed} failed")
     sys.exit(failed != 0 or passed == 0)

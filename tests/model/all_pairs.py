@@ -1,4 +1,4 @@
-"""The calls on all pairs. Each function is handed both maps and what the line says."""
+"""The calls on all pairs, and on both maps. One that returns nothing is `done`."""
 
 from model.basics import Refused, Work, list_of, text_of
 from model.map import Map
@@ -7,21 +7,9 @@ from model.one_key import insert
 HASH_MAP_LIMIT = 32
 
 
-def of_a(call):
-    """A call on `a` alone."""
-    return lambda maps, *said: call(maps.a, *said)
-
-
-# Texts.
-
-
-def debug(a):
-    return "{" + ", ".join(f"{pair.key}: {pair.value}" for pair in a.pairs) + "}"
-
-
-def debug_pretty(a):
-    lines = "".join(rf"    {pair.key}: {pair.value},\n" for pair in a.pairs)
-    return rf"{{\n{lines}}}" if a.pairs else "{}"
+def state(a):
+    forms = f"is_vec={text_of(a.is_vec)} is_map={text_of(not a.is_vec)}"
+    return f"is_empty={text_of(not a.pairs)} {forms} rule={a.rule}"
 
 
 def debug_of_pairs(pairs):
@@ -29,18 +17,19 @@ def debug_of_pairs(pairs):
     return list_of((f"({pair.key}, {pair.value})" for pair in pairs), ", ")
 
 
-def debug_iter_pretty(a):
-    lines = "".join(rf"    (\n        {pair.key},\n        {pair.value},\n    ),\n" for pair in a.pairs)
-    return rf"[\n{lines}]" if a.pairs else "[]"
+def pretty(a, opened, shown, closed):
+    """A text of many lines, each pair as shown, and `\\n` for each end of a line."""
+    lines = "".join(shown.format(key=pair.key, value=pair.value) for pair in a.pairs)
+    return rf"{opened}\n{lines}{closed}" if a.pairs else opened + closed
 
 
-# Pairs.
+def clear(a):
+    a.pairs = []
 
 
 def add_to_values(a, number):
     for pair in a.pairs:
         pair.add(number)
-    return "done"
 
 
 def drain(a, count):
@@ -49,91 +38,50 @@ def drain(a, count):
 
 
 def retain(a, divisor, number):
-    asked = a.pairs
     add_to_values(a, number)
-    a.work.called = len(asked)
-    a.pairs = [pair for pair in asked if divisor == 0 or (pair.key.id + pair.value) % 2**64 % divisor != 0]
-    return f"called {len(asked)}"
+    a.work.called = len(a.pairs)
+    a.pairs = [pair for pair in a.pairs if divisor == 0 or (pair.key.id + pair.value) % 2**64 % divisor != 0]
+    return f"called {a.work.called}"
 
 
 def extend(a, items):
     for key, value in items:
         insert(a, key, value)
-    return "done"
 
 
-# Maps that are made. Their work and their builders show in no answer.
-
-
-def collect(a, limit, hint, items):
-    """A map that is made for so many pairs, and takes the items."""
-    made = Map(limit, a.rule, hint, Work(a.work.has_memory))
-    extend(made, items)
+def collect(a, items, limit=None, hint=None):
+    """A map that is made for as many pairs as the hint says, and takes the items. Its searches are not counted."""
+    try:
+        made = Map(a.limit if limit is None else limit, a.rule, len(items) if hint is None else hint, a.work)
+        extend(made, items)
+    finally:
+        a.work.hashes = a.work.least = a.work.most = 0
     return f"{made} {list_of(made.pairs)}"
 
 
-def from_items(a, items):
-    return collect(a, a.limit, len(items), items)
-
-
-def from_array(a, items):
-    """Asks for memory for the array first, also of no pairs."""
-    if not a.work.has_memory:
-        raise Refused("memory")
-    return from_items(a, items)
-
-
-def from_iter_hint(a, hint, items):
-    return collect(a, a.limit, hint, items)
-
-
-def hashmap(a, items):
-    return collect(a, HASH_MAP_LIMIT, len(items), items)
-
-
-def made_for(a, capacity):
-    return Map(a.limit, a.rule, capacity, Work(a.work.has_memory))
-
-
-def made_or_refused(a, capacity):
-    try:
-        return made_for(a, capacity)
-    except Refused as why:
-        return f"refused {why}"
-
-
-def make(a, capacity):
-    return f"{made_or_refused(a, capacity)} {made_or_refused(a, min(capacity, a.limit))}"
+def from_array(a, items, limit=None):
+    """Its array is memory, also that of no pairs."""
+    a.work.request(1)
+    return collect(a, items, limit)
 
 
 def made(a, maker, items):
     """The form, length and capacity as made and after each pair, up to the first that is refused."""
     word, capacity = maker
-    new = made_for(a, min(capacity, a.limit) if word == "vec_with_capacity" else capacity)
+    new = Map(a.limit, a.rule, min(capacity, a.limit) if word == "vec_with_capacity" else capacity, a.work)
     said = [str(new)]
     try:
-        for key, value in items:
-            insert(new, key, value)
+        for item in items:
+            insert(new, *item)
             said.append(str(new))
     except Refused as why:
         said.append(f"refused {why}")
+    a.work.hashes = a.work.least = a.work.most = 0
     return "; ".join(said)
-
-
-# Both maps.
-
-
-def whole(map_):
-    return f"{map_.rule} {map_} {list_of(map_.pairs)}"
-
-
-def pairs(maps):
-    return f"a {whole(maps.a)} b {whole(maps.b)}"
 
 
 def drop(maps):
     maps.a = maps.a.anew()
-    return "done"
 
 
 def into_iter(maps):
@@ -144,63 +92,55 @@ def into_iter(maps):
 
 def clone(maps):
     maps.b = maps.a.clone()
-    return "done"
 
 
 def swap(maps):
     maps.a, maps.b = maps.b, maps.a
-    return "done"
-
-
-def same(maps):
-    return text_of(maps.a.same_pairs(maps.b))
 
 
 def other_map(maps, limit, rule):
-    """A map of this limit and rule that has taken clones of the pairs of `b`."""
+    """A map of this limit and rule that has taken clones of the pairs of `b`, which is not counted."""
     maps.a.work.cloned += len(maps.b.pairs)
-    other = Map(limit, rule)
+    other = Map(limit, rule, work=Work())
     extend(other, [(pair.key, pair.value) for pair in maps.b.pairs])
     other.work = maps.a.work
     return other
 
 
-def same_as(maps, limit, rule):
-    return text_of(maps.a.same_pairs(other_map(maps, limit, rule)))
-
-
-def same_from(maps, limit, rule):
-    return text_of(other_map(maps, limit, rule).same_pairs(maps.a))
-
-
-PAIR_CALLS = {
-    "iter": of_a(lambda a: list_of(a.pairs)),
-    "keys": of_a(lambda a: list_of(pair.key for pair in a.pairs)),
-    "values": of_a(lambda a: list_of(pair.value for pair in a.pairs)),
-    "pairs": pairs,
-    "iter_mut N": of_a(add_to_values),
-    "values_mut N": of_a(add_to_values),
-    "values_slice_mut N": of_a(add_to_values),
+OF_A_CALLS = {
+    "clear": clear,
+    "reserve SIZE": Map.reserve,
+    "shrink_to_fit": Map.shrink_to_fit,
+    "state": state,
+    "iter": lambda a: list_of(a.pairs),
+    "keys": lambda a: list_of(pair.key for pair in a.pairs),
+    "values": lambda a: list_of(pair.value for pair in a.pairs),
+    "iter_mut N": add_to_values,
+    "values_mut N": add_to_values,
+    "values_slice_mut N": add_to_values,
+    "drain N": drain,
+    "retain M N *": retain,
+    "debug": lambda a: "{" + ", ".join(f"{pair.key}: {pair.value}" for pair in a.pairs) + "}",
+    "debug_iter": lambda a: debug_of_pairs(a.pairs),
+    "debug_pretty": lambda a: pretty(a, "{", r"    {key}: {value},\n", "}"),
+    "debug_iter_pretty": lambda a: pretty(a, "[", r"    (\n        {key},\n        {value},\n    ),\n", "]"),
+    "extend ITEMS": extend,
+    "from_iter ITEMS": collect,
+    "from_iter_hint SIZE ITEMS": lambda a, hint, items: collect(a, items, hint=hint),
+    "from_array ITEMS": from_array,
+    # Without pairs there is no array.
+    "hashmap ITEMS": lambda a, items: (from_array if items else collect)(a, items, HASH_MAP_LIMIT),
+    "collect ITEMS": collect,
+    "made MAKER ITEMS": made,
+}
+BOTH_CALLS = {
+    "pairs": lambda maps: " ".join(f"{name} {it.rule} {it} {list_of(it.pairs)}" for name, it in zip("ab", (maps.a, maps.b))),
     "into_iter": into_iter,
-    "drain N": of_a(drain),
-    "retain M N": of_a(retain),
     "drop": drop,
     "clone": clone,
     "swap": swap,
-    "same": same,
-    "same_as LIMIT RULE": same_as,
-    "same_from LIMIT RULE": same_from,
-    "eq": same,
-    "debug": of_a(debug),
-    "debug_pretty": of_a(debug_pretty),
-    "debug_iter": of_a(lambda a: debug_of_pairs(a.pairs)),
-    "debug_iter_pretty": of_a(debug_iter_pretty),
-    "extend ITEMS": of_a(extend),
-    "from_iter ITEMS": of_a(from_items),
-    "from_array ITEMS": of_a(from_array),
-    "hashmap ITEMS": of_a(hashmap),
-    "from_iter_hint N ITEMS": of_a(from_iter_hint),
-    "collect ITEMS": of_a(from_items),
-    "made MAKER ITEMS": of_a(made),
-    "make N": of_a(make),
+    "same": lambda maps: text_of(maps.a.same_pairs(maps.b)),
+    "eq": lambda maps: text_of(maps.a.same_pairs(maps.b)),
+    "same_as LIMIT RULE": lambda maps, *said: text_of(maps.a.same_pairs(other_map(maps, *said))),
+    "same_from LIMIT RULE": lambda maps, *said: text_of(other_map(maps, *said).same_pairs(maps.a)),
 }

@@ -1,9 +1,9 @@
-"""Keys, pairs, counts and capacities, by docs/SCRIPTS.md and the words of specs/ that it names."""
+"""Keys, pairs, and the work that a line does, by docs/SCRIPTS.md."""
 
 import dataclasses
 
 GREATEST = 2**64 - 1
-# A call that needs capacity for more pairs than these is refused.
+# A call that needs capacity for more pairs is refused.
 MOST_PAIRS = 2**60
 RULES = {"plain": lambda key: key.id, "zero": lambda key: 0, "top": lambda key: GREATEST}
 
@@ -18,7 +18,7 @@ class Refused(Exception):
 
 @dataclasses.dataclass(frozen=True)
 class Key:
-    """Keys are equal where their IDs are equal. A form of a key is one that nobody made: it has the ID alone."""
+    """Keys are equal where their IDs are equal. A form that only stands for a key has no mark."""
 
     id: int
     mark: int = dataclasses.field(default=1, compare=False)
@@ -27,7 +27,7 @@ class Key:
         return f"{self.id}#{self.mark}"
 
 
-@dataclasses.dataclass
+@dataclasses.dataclass(eq=False)
 class Pair:
     key: Key
     value: int
@@ -37,63 +37,50 @@ class Pair:
 
     def add(self, number):
         self.value = (self.value + number) % 2**64
+        return self
 
-
-@dataclasses.dataclass(frozen=True)
-class Span:
-    """A number of which a least and a most are known."""
-
-    least: int
-    most: int
-
-    def __str__(self):
-        return str(self.least) if self.least == self.most else f"{self.least}..{self.most}"
-
-    def __add__(self, other):
-        return Span(self.least + other.least, self.most + other.most)
-
-
-def exactly(number):
-    return Span(number, number)
+    def write(self, value):
+        old, self.value = self.value, value
+        return f"was {old}"
 
 
 @dataclasses.dataclass
 class Work:
     """What one line does that is counted, and whether its requests for memory are refused."""
 
-    has_memory: bool = True
+    is_refused: bool = False
     hashes: int = 0
-    comparisons: Span = exactly(0)
+    # Of the comparisons of keys the least and the most are known.
+    least: int = 0
+    most: int = 0
+    requests: int = 0
     # How often the closure was called that the line hands in.
     called: int = 0
-    # Of how many pairs clones were made.
+    # How many pairs were cloned.
     cloned: int = 0
+    # For which reasons something was refused.
+    refusals: set = dataclasses.field(default_factory=set)
 
     def __str__(self):
-        return f"{self.hashes} {self.comparisons}"
+        return f"{self.hashes} {self.least}" + (f"..{self.most}" if self.most > self.least else "")
 
-    def request(self):
-        """Asks for memory."""
-        if not self.has_memory:
+    def compare(self, least, most):
+        self.least, self.most = self.least + least, self.most + most
+
+    def try_to_request(self, count):
+        """Makes requests for memory, up to the first that is refused. Returns whether none is."""
+        self.requests += 1 if self.is_refused else count
+        self.refusals |= {"memory"} if self.is_refused else set()
+        return not self.is_refused
+
+    def request(self, count):
+        if not self.try_to_request(count):
             raise Refused("memory")
 
-
-def capacity_for(needed):
-    """The least capacity of a table that is enough: three quarters of no buckets, or of a power of two from 4 on."""
-    buckets = 0
-    while buckets // 4 * 3 < needed:
-        buckets = max(4, 2 * buckets)
-    return buckets // 4 * 3
-
-
-def grown_capacity(capacity, needed, limit):
-    """What a vector grows to: twice its capacity, at least eight and what is needed, and at most the limit."""
-    return min(max(2 * capacity, 8, needed), limit)
-
-
-def check_size(needed):
-    if needed > MOST_PAIRS:
-        raise Refused("size")
+    def check_size(self, pairs):
+        if pairs > MOST_PAIRS:
+            self.refusals.add("size")
+            raise Refused("size")
 
 
 def text_of(is_true):
@@ -101,4 +88,4 @@ def text_of(is_true):
 
 
 def list_of(items, between=" "):
-    return f"[{between.join(str(item) for item in items)}]"
+    return f"[{between.join(map(str, items))}]"

@@ -2,94 +2,108 @@
 
 import dataclasses
 
-from model.basics import RULES, Pair, Span, Work, capacity_for, check_size, exactly, grown_capacity
+from model.basics import RULES, Pair, Work
+
+# How many requests for memory the columns make, of keys and of values, and the arrays of a table beside them.
+COLUMNS, ARRAYS = 2, 2
+
+
+def table_capacity(pairs):
+    """The least that is enough: three quarters of no buckets, or of a power of two from 4 on."""
+    buckets = 0
+    while buckets // 4 * 3 < pairs:
+        buckets = max(4, 2 * buckets)
+    return buckets // 4 * 3
 
 
 class Map:
     """A map as `with_hasher` makes it, or, for a capacity, as `with_capacity_and_hasher` does."""
 
     def __init__(self, limit, rule, capacity=0, work=None):
-        check_size(capacity)
-        self.work = work or Work()
+        self.limit, self.rule, self.pairs, self.work = limit, rule, [], work or Work()
+        self.is_vec, self.has_gone_back = capacity <= limit, False
+        # The columns may have more than the capacity, where the map was a table.
+        self.capacity = self.columns = 0
+        self.work.check_size(capacity)
         if capacity > 0:
-            self.work.request()
-        self.limit, self.rule = limit, rule
-        self.pairs = []
-        self.is_vec = capacity <= limit
-        self.capacity = capacity if self.is_vec else capacity_for(capacity)
+            self.grow(capacity if self.is_vec else table_capacity(capacity), self.is_vec)
 
     def __str__(self):
         return f"{'vec' if self.is_vec else 'map'} {len(self.pairs)} {self.capacity}"
+
+    def state(self):
+        """The form, as coverage.py tells forms apart."""
+        if self.has_gone_back:
+            return "went back"
+        is_full = len(self.pairs) == (self.limit if self.is_vec else self.capacity)
+        return f"{'full ' if is_full else ''}{'vec' if self.is_vec else 'table'}"
 
     def anew(self):
         """A map that `with_hasher` makes with the same limit and rule."""
         return Map(self.limit, self.rule, work=self.work)
 
-    def hash_of(self, key):
-        return RULES[self.rule](key)
+    def grow(self, capacity, is_vec):
+        """The arrays of a table are made anew. The columns grow where they are not enough."""
+        self.work.request((0 if is_vec else ARRAYS) + (COLUMNS if capacity > self.columns else 0))
+        self.is_vec, self.capacity, self.columns = is_vec, capacity, max(capacity, self.columns)
 
-    # Capacity and form.
-
-    def require(self, needed):
-        """Makes the capacity enough for so many pairs."""
-        if needed <= self.capacity:
-            return
-        check_size(needed)
-        self.work.request()
-        self.capacity = grown_capacity(self.capacity, needed, self.limit) if self.is_vec else capacity_for(needed)
+    def require(self, pairs):
+        """Makes the capacity enough for this number of pairs. A vector's doubles, from eight on, up to the limit."""
+        if pairs > self.capacity:
+            self.work.check_size(pairs)
+            grown = min(max(2 * self.capacity, 8, pairs), self.limit)
+            self.grow(grown if self.is_vec else table_capacity(pairs), self.is_vec)
 
     def reserve(self, more):
         total = len(self.pairs) + more
         self.require(min(total, self.limit) if self.is_vec else total)
 
-    def shrink_to_fit(self):
-        """A table of no more pairs than the limit becomes a vector, of the same pairs in the same order.
-
-        Of no pairs the capacity is 0. Where memory is refused it stays, but a vector that was a table has the limit.
-        """
-        goes_back = not self.is_vec and len(self.pairs) <= self.limit
-        self.is_vec = self.is_vec or goes_back
-        if self.work.has_memory or not self.pairs:
-            self.capacity = len(self.pairs) if self.is_vec else capacity_for(len(self.pairs))
-        elif goes_back:
-            self.capacity = self.limit
-
     def switch_if_full(self):
         """A vector of as many pairs as the limit becomes a table, which hashes each key once."""
         if self.is_vec and len(self.pairs) == self.limit:
-            check_size(self.limit + 1)
-            self.work.request()
-            self.is_vec, self.capacity = False, capacity_for(self.limit + 1)
+            self.grow(table_capacity(self.limit + 1), is_vec=False)
+            self.has_gone_back = False
             self.work.hashes += self.limit
 
-    # Searches. Each returns the index of the pair that it finds, or None.
+    def shrink_to_fit(self):
+        """A table of no more pairs than the limit becomes a vector of the same pairs, also where memory is refused."""
+        needed = len(self.pairs)
+        if not self.is_vec and needed <= self.limit:
+            self.is_vec = self.has_gone_back = True
+        if not self.is_vec and table_capacity(needed) < self.capacity and self.work.try_to_request(ARRAYS):
+            self.capacity = table_capacity(needed)
+        self.shrink_columns(needed if self.is_vec else self.capacity)
+        self.capacity = min(self.columns, self.limit) if self.is_vec else self.capacity
+
+    def shrink_columns(self, capacity):
+        """Both columns are moved, or neither. For no capacity they ask for no memory."""
+        if self.columns > capacity and (capacity == 0 or self.work.try_to_request(COLUMNS)):
+            self.columns = capacity
 
     def candidates(self, hash_):
-        """The indices of the keys that a search may compare: in a table those of the hash alone."""
-        return [index for index, pair in enumerate(self.pairs) if self.is_vec or self.hash_of(pair.key) == hash_]
+        """The pairs whose keys a search may compare: in a table those of the hash alone."""
+        hash_of = RULES[self.rule]
+        return self.pairs if self.is_vec else [pair for pair in self.pairs if hash_of(pair.key) == hash_]
 
     def match(self, hash_, accepts):
-        """A vector is searched in order. In a table the keys of the hash are compared, in an order that is not said."""
+        """Returns the pair that is found, or None. A vector is searched in order, a table among the keys of the hash."""
         candidates = self.candidates(hash_)
-        found = next((index for index in candidates if accepts(self.pairs[index].key)), None)
-        if found is None:
-            self.work.comparisons += exactly(len(candidates))
-        else:
-            self.work.comparisons += exactly(found + 1) if self.is_vec else Span(1, len(candidates))
-        return found
+        for count, pair in enumerate(candidates, 1):
+            if accepts(pair.key):
+                self.work.compare(*((count, count) if self.is_vec else (1, len(candidates))))
+                return pair
+        self.work.compare(len(candidates), len(candidates))
+        return None
 
     def match_any(self, hash_):
-        """The search by a match that accepts each key: the first that it is asked of.
-
-        Which that is in a table, where several have the hash, is not said. Here it is the first of the pairs.
-        """
-        candidates = self.candidates(hash_)
-        self.work.comparisons += exactly(1 if candidates else 0)
-        return candidates[0] if candidates else None
+        """The search by a match that accepts each key. Which one a table with several of the hash finds is not said."""
+        found = self.candidates(hash_)[:1]
+        self.work.compare(len(found), len(found))
+        return found[0] if found else None
 
     def find_hashed(self, key):
         """The search for a key whose hash is handed in."""
-        return self.match(self.hash_of(key), lambda held: held == key)
+        return self.match(RULES[self.rule](key), lambda held: held == key)
 
     def count_hash(self):
         """A key is hashed, which only a table needs."""
@@ -103,33 +117,22 @@ class Map:
         """Whether a key is held, as the program asks before a call: it is not counted."""
         return any(pair.key == key for pair in self.pairs)
 
-    def find_held(self, key):
-        return self.find(key) if self.holds(key) else None
-
-    # What is done before an addition: the switch, the search, and capacity for one pair more.
-
     def entry(self, key):
-        """For `insert` and `entry`: capacity only where the key is not held."""
+        """For `insert` and `entry`: the switch, the search, and capacity only where the key is not held."""
         self.switch_if_full()
-        index = self.find(key)
-        if index is None:
+        found = self.find(key)
+        if found is None:
             self.require(len(self.pairs) + 1)
-        return index
+        return found
 
     def make_ready(self):
-        """For `raw_entry_mut`: capacity whatever is searched."""
+        """For `raw_entry_mut`: the switch, and capacity whatever is searched."""
         self.switch_if_full()
         self.require(len(self.pairs) + 1)
 
     def raw_entry(self, key):
         self.make_ready()
         return self.find(key)
-
-    def raw_entry_hashed(self, key):
-        self.make_ready()
-        return self.find_hashed(key)
-
-    # What changes the list of pairs.
 
     def append(self, key, value):
         self.pairs.append(Pair(key, value))
@@ -145,23 +148,26 @@ class Map:
         self.switch_if_full()
         self.count_hash()
         self.require(len(self.pairs) + 1)
-        return self.append(key, value)
+        self.append(key, value)
 
-    def take_out(self, index):
+    def take_out(self, pair):
         """The last pair takes the index of the one that is removed."""
-        taken, last = self.pairs[index], self.pairs.pop()
-        if taken is not last:
+        index, last = self.pairs.index(pair), self.pairs.pop()
+        if pair is not last:
             self.pairs[index] = last
-        return taken
+        return pair
 
-    # Both maps.
+    def put_back(self, pair):
+        """A pair that is replaced is taken out of a vector and goes last. In a table it keeps its index."""
+        if self.is_vec:
+            self.pairs.append(self.take_out(pair))
+        return pair
 
     def clone(self):
         """The capacity of a table's clone is that of the table. A vector's clone has none to spare."""
         clone = self.anew()
-        clone.is_vec, clone.capacity = self.is_vec, len(self.pairs) if self.is_vec else self.capacity
-        if clone.capacity > 0:
-            self.work.request()
+        if self.pairs or not self.is_vec:
+            clone.grow(len(self.pairs) if self.is_vec else self.capacity, self.is_vec)
         clone.pairs = [dataclasses.replace(pair) for pair in self.pairs]
         self.work.cloned += len(self.pairs)
         return clone
@@ -169,19 +175,5 @@ class Map:
     def same_pairs(self, other):
         """Searches in the other map, in order, up to the first pair that it does not hold."""
         other.work = self.work
-        return len(self.pairs) == len(other.pairs) and all(other.holds_pair(pair) for pair in self.pairs)
-
-    def holds_pair(self, pair):
-        index = self.find(pair.key)
-        return index is not None and self.pairs[index].value == pair.value
-
-
-class Maps:
-    """The two maps of a script."""
-
-    def __init__(self, limit, rule, capacity, is_owning):
-        self.a, self.b = Map(limit, rule, capacity), Map(limit, rule)
-        self.is_owning = is_owning
-
-    def held(self):
-        return len(self.a.pairs) + len(self.b.pairs)
+        found = ((pair, other.find(pair.key)) for pair in self.pairs)
+        return len(self.pairs) == len(other.pairs) and all(it and it.value == pair.value for pair, it in found)

@@ -3,27 +3,31 @@ ghost use Rattle.std.specs.Prelude.{◌≡◌};
 ghost use Rattle.halfbrown.specs.Costs.{key_hash};
 ghost use Rattle.half_bench.specs.Hashes.{default_hash};
 
-use crate::failure::Failure;
+use crate::keys::{Key, Lawful, OfNumber};
 use crate::maps::AtLimit;
 use halfbrown::{DefaultHashBuilder, LimitedRawEntryMut, SizedHashMap};
 use std::alloc::Global;
 use std::hash::{BuildHasher, BuildHasherDefault, FoldHasher, Hash, Hasher};
+use std::io;
 
 /// A key with its hash by a default builder.
 #[derive(Drop)]
 pub(crate) struct Hashed<K: Eq + Hash> {
-    pub key: K,
-    pub hash: u64,
+    key: K,
+    hash: u64,
     ghost exact: { hash ≡ default_hash (K.hash_input key) },
 }
 
-impl<K: Eq + Hash> Hashed<K> {
-    pub fn new(key: K) -> Hashed<K> {
+impl<K: Key> OfNumber for Hashed<K> {
+    fn of_number(alloc: Global, number: u64) -> io::Result<Hashed<K>> {
         let builder: DefaultHashBuilder = BuildHasherDefault::new();
+        let key = K::of_number(alloc, number)?;
         let hash = builder.hash_one(&key);
-        Hashed { key, hash }
+        Ok(Hashed { key, hash })
     }
+}
 
+impl<K: Eq + Hash> Hashed<K> {
     // The hash, which is that of every default builder.
     #[inline(always)]
     fn hash_by(&self, _builder: &DefaultHashBuilder) -> u64
@@ -49,10 +53,10 @@ impl<K: Eq + Hash + Drop, const N: usize> Filled<K, N> {
         }
     }
 
-    /// Adds a pair where the key is not held. The key is not hashed again.
+    /// Adds the key with zero where it is not held. It is not hashed again.
     #[inline(always)]
-    pub fn insert(&mut self, hashed: Hashed<K>, value: u64) -> Result<(), Failure> {
-        insert_hashed(&mut self.map, hashed, value)
+    pub fn insert(&mut self, hashed: Hashed<K>) -> io::Result<()> {
+        insert_hashed(&mut self.map, hashed)
     }
 }
 
@@ -60,8 +64,7 @@ impl<K: Eq + Hash + Drop, const N: usize> Filled<K, N> {
 fn insert_hashed<K: Eq + Hash + Drop, const N: usize>(
     map: &mut AtLimit<K, N>,
     hashed: Hashed<K>,
-    value: u64,
-) -> Result<(), Failure>
+) -> io::Result<()>
     requires { ⟦<DefaultHashBuilder as Default>⟧.is_default map.old.builder }
     ensures { map.new.builder ≡ map.old.builder }
 {
@@ -72,8 +75,18 @@ fn insert_hashed<K: Eq + Hash + Drop, const N: usize>(
     {
         LimitedRawEntryMut::Occupied(_) => {}
         LimitedRawEntryMut::Vacant(entry) => {
-            let _added = entry.insert_entry_hashed_nocheck(hash, hashed.key, value);
+            let _added = entry.insert_entry_hashed_nocheck(hash, hashed.key, 0);
         }
     }
     Ok(())
+}
+
+/// The value of a key whose hash is known.
+pub(crate) fn value_by_hash<K: Lawful, const N: usize>(
+    map: &AtLimit<K, N>,
+    hashed: &Hashed<K>,
+) -> Option<u64> {
+    let is_match = |held: &K| *held == hashed.key;
+    let pair = map.raw_entry().from_hash(hashed.hash, is_match)?;
+    Some(*pair.1)
 }

@@ -1,55 +1,46 @@
 //! Times the map beside std's `HashMap` and `IndexMap`, and fills maps and counts words for measurements from outside.
 #![tactic(auto)]
 
-mod choice;
-mod failure;
 mod hashed;
 mod keys;
-mod lists;
 mod maps;
-mod memory;
-mod operation;
+mod operations;
+mod outside;
 mod rounds;
-mod rows;
-mod task;
-mod tasks;
-mod words;
 
-use crate::failure::Failure;
-use std::env;
+use std::{env, io};
 
-const USAGE: &str = "half_bench times ROUNDS [WORD..]
-    prints what each operation takes on each map in nanoseconds: the median, the lower and the upper quartile of so many
-    rounds, and the medians of the ratios to std and to indexmap. The words pick rows: names of operations, u64, String, sizes
+const USAGE: &str = "half_bench times OPERATION u64|String SIZE ROUNDS
+    prints a line for each round and map: the map, the picoseconds of one operation, and a number made of all answers
 half_bench memory limit_0|limit_32|std|indexmap u64|String SIZE COPIES
-    fills so many maps with so many pairs, prints how many maps there are, and waits for the end of its input
+    fills this many maps, prints how many there are, and waits for the end of its input
 half_bench words limit_32|std|indexmap
     counts the words of its input with a map, and prints how many differ";
 
-fn main(rt: HostRuntime) -> Result<(), Failure> {
+fn main(rt: HostRuntime) -> io::Result<()> {
     let words: Vec<String> = env::args(&rt)?.skip(1).collect(rt.alloc())?;
     match words.as_slice() {
-        [command, rounds, chosen @ ..] if command.as_str() == "times" => {
-            rows::print(&rt, number(rounds)?, chosen)
+        [command, what, keys, size, count] => {
+            let (size, count) = (number(size)?, number(count)?);
+            match (command.as_str(), keys.as_str()) {
+                ("times", "u64") => rounds::print::<u64>(&rt, what.as_str(), size, count),
+                ("times", "String") => rounds::print::<String>(&rt, what.as_str(), size, count),
+                ("memory", "u64") => outside::hold::<u64>(&rt, what.as_str(), size, count),
+                ("memory", "String") => outside::hold::<String>(&rt, what.as_str(), size, count),
+                _ => Err(unknown()),
+            }
         }
-        [command, map, keys, size, copies] if command.as_str() == "memory" => {
-            memory::hold(
-                &rt,
-                map.as_str(),
-                keys.as_str(),
-                number(size)?,
-                number(copies)?,
-            )
-        }
-        [command, map] if command.as_str() == "words" => words::count(&rt, map.as_str()),
-        [] => {
-            println!(rt; "{USAGE}")?;
-            Ok(())
-        }
-        _ => Err(Failure::Arguments),
+        [command, map] if command.as_str() == "words" => outside::count(&rt, map.as_str()),
+        [] => println!(rt; "{USAGE}"),
+        _ => Err(unknown()),
     }
 }
 
-fn number(word: &String) -> Result<u64, Failure> {
-    word.as_str().parse().ok().ok_or(Failure::Arguments)
+fn number(word: &String) -> io::Result<u64> {
+    word.as_str().parse().ok().ok_or(unknown())
+}
+
+// The arguments ask for nothing that is known.
+pub(crate) fn unknown() -> io::Error {
+    io::Error::other("these arguments ask for nothing that is known")
 }

@@ -1,14 +1,21 @@
 //! The maps that are compared, behind one trait. All hash by the same builder, which is the default of each.
-mod in_order;
-mod of_std;
-mod ours;
-
-use crate::failure::Failure;
-use crate::keys::Key;
+use crate::keys::{Key, Lawful};
 use halfbrown::{DefaultHashBuilder, SizedHashMap};
 use indexmap::IndexMap;
 use std::alloc::Global;
 use std::collections::HashMap;
+use std::io;
+
+// Adds up a number of each pair.
+macro_rules! sum {
+    ($pairs:expr, $value:ident => $number:expr) => {{
+        let mut sum = 0u64;
+        for (_, $value) in $pairs {
+            sum = sum.wrapping_add($number);
+        }
+        sum
+    }};
+}
 
 /// Our map, at limit N.
 pub(crate) type AtLimit<K, const N: usize> = SizedHashMap<K, u64, DefaultHashBuilder, N>;
@@ -17,15 +24,26 @@ pub(crate) type AtLimit<K, const N: usize> = SizedHashMap<K, u64, DefaultHashBui
 pub(crate) type OfStd<K> = HashMap<K, u64, DefaultHashBuilder>;
 
 /// A hash map that keeps its pairs in order, as ours does.
-pub(crate) type InOrder<K> = IndexMap<K, u64, DefaultHashBuilder>;
+pub(crate) type OfIndex<K> = IndexMap<K, u64, DefaultHashBuilder>;
 
 /// A map from keys to numbers.
-pub(crate) trait Map<K: Key>: Drop {
+pub(crate) trait Map<K: Lawful>: PartialEq + Drop {
     fn empty(alloc: Global) -> Self;
+
+    /// A map of these pairs, by `from_iter`.
+    fn of_pairs(alloc: Global, pairs: Vec<(K, u64)>) -> io::Result<Self>;
 
     fn len(&self) -> usize;
 
-    fn insert(&mut self, key: K, value: u64) -> Result<Option<u64>, Failure>;
+    fn insert(&mut self, key: K, value: u64) -> io::Result<Option<u64>>;
+
+    /// Inserts new keys, by `insert`.
+    fn insert_all(&mut self, keys: Vec<K>) -> io::Result<()> {
+        for key in keys {
+            self.insert(key, 0)?;
+        }
+        Ok(())
+    }
 
     fn value_of(&self, key: &K) -> Option<u64>;
 
@@ -33,65 +51,245 @@ pub(crate) trait Map<K: Key>: Drop {
     fn take(&mut self, key: &K) -> Option<(K, u64)>;
 
     /// Adds one to the value of this key, which is zero where it is not held, by `entry`.
-    fn count(&mut self, key: K) -> Result<(), Failure>;
+    fn count(&mut self, key: K) -> io::Result<()>;
 
-    /// The value of a key whose hash is known. Where a map cannot use the hash, as the others cannot, it is a plain look-up.
-    fn value_by_hash(&self, hash: u64, key: &K) -> Option<u64>;
+    /// Counts words, by `count`.
+    fn count_all(&mut self, words: Vec<K>) -> io::Result<()> {
+        for word in words {
+            self.count(word)?;
+        }
+        Ok(())
+    }
 
-    /// The sum of all values, by an iterator over the pairs.
+    /// The sum of all values, by `iter`.
     fn sum(&self) -> u64;
 
-    /// Adds one to each value, by `values_mut`.
-    fn raise(&mut self);
+    /// Adds one to each value, by `values_mut`, and returns how many there are.
+    fn raise(&mut self) -> u64;
 
-    fn copy(&self) -> Result<Self, Failure>;
+    fn copy(&self) -> io::Result<Self>;
 
-    /// Keeps the pairs with even values, by `retain`.
-    fn keep_even(&mut self);
+    /// Keeps the pairs with even values, by `retain`, and returns how many there are.
+    fn keep_even(&mut self) -> u64;
 
-    /// Takes all pairs out, by `drain`, and returns the sum of their values.
+    /// The sum of all values, by `drain`.
     fn drained(&mut self) -> u64;
 
-    /// A map of these pairs, by `from_iter`.
-    fn of_pairs(alloc: Global, pairs: Vec<(K, u64)>) -> Result<Self, Failure>;
-
     /// Inserts these pairs, by `extend`.
-    fn add_all(&mut self, pairs: Vec<(K, u64)>) -> Result<(), Failure>;
+    fn add_all(&mut self, pairs: Vec<(K, u64)>) -> io::Result<()>;
 
-    fn is_equal(&self, other: &Self) -> bool;
-
-    /// Takes no more memory than the pairs need, and becomes a vector again where that is allowed: `shrink_to_fit`.
-    fn shrink(&mut self);
+    /// Gives back memory that the pairs do not need, by `shrink_to_fit`, and returns how many pairs there are.
+    fn shrink(&mut self) -> u64;
 }
 
-/// A map of the keys of the numbers below this one, each with its number.
-pub(crate) fn filled<K: Key, M: Map<K>>(alloc: Global, count: u64) -> Result<M, Failure> {
-    let mut map = M::empty(alloc);
-    for number in 0..count {
-        map.insert(K::of_number(alloc, number)?, number)?;
+impl<K: Lawful, const N: usize> Map<K> for AtLimit<K, N> {
+    fn empty(alloc: Global) -> Self {
+        SizedHashMap::new(alloc)
     }
-    Ok(map)
+
+    fn of_pairs(alloc: Global, pairs: Vec<(K, u64)>) -> io::Result<Self> {
+        Ok(SizedHashMap::from_iter(alloc, pairs)?)
+    }
+
+    fn add_all(&mut self, pairs: Vec<(K, u64)>) -> io::Result<()> {
+        Ok(self.extend(pairs)?)
+    }
+
+    fn len(&self) -> usize {
+        SizedHashMap::len(self)
+    }
+
+    fn insert(&mut self, key: K, value: u64) -> io::Result<Option<u64>> {
+        Ok(SizedHashMap::insert(self, key, value)?)
+    }
+
+    fn value_of(&self, key: &K) -> Option<u64> {
+        self.get(key).copied()
+    }
+
+    fn take(&mut self, key: &K) -> Option<(K, u64)> {
+        self.remove_entry(key)
+    }
+
+    fn count(&mut self, key: K) -> io::Result<()> {
+        let count = self.entry(key)?.or_insert(0);
+        *count = count.wrapping_add(1);
+        Ok(())
+    }
+
+    fn sum(&self) -> u64 {
+        sum!(self.iter(), value => *value)
+    }
+
+    fn raise(&mut self) -> u64 {
+        for value in self.values_mut() {
+            *value = value.wrapping_add(1);
+        }
+        self.len() as u64
+    }
+
+    fn copy(&self) -> io::Result<Self> {
+        Ok(SizedHashMap::clone(self)?)
+    }
+
+    fn keep_even(&mut self) -> u64 {
+        self.retain(|_, value| *value % 2 == 0);
+        self.len() as u64
+    }
+
+    fn drained(&mut self) -> u64 {
+        sum!(self.drain(), value => value)
+    }
+
+    fn shrink(&mut self) -> u64 {
+        self.shrink_to_fit();
+        self.len() as u64
+    }
 }
 
-/// So many maps of so many pairs.
+impl<K: Lawful> Map<K> for OfStd<K> {
+    fn empty(alloc: Global) -> Self {
+        HashMap::new(alloc)
+    }
+
+    fn of_pairs(alloc: Global, pairs: Vec<(K, u64)>) -> io::Result<Self> {
+        Ok(HashMap::from_iter(alloc, pairs)?)
+    }
+
+    fn add_all(&mut self, pairs: Vec<(K, u64)>) -> io::Result<()> {
+        Ok(self.extend(pairs)?)
+    }
+
+    fn len(&self) -> usize {
+        HashMap::len(self)
+    }
+
+    fn insert(&mut self, key: K, value: u64) -> io::Result<Option<u64>> {
+        Ok(HashMap::insert(self, key, value)?)
+    }
+
+    fn value_of(&self, key: &K) -> Option<u64> {
+        self.get(key).copied()
+    }
+
+    fn take(&mut self, key: &K) -> Option<(K, u64)> {
+        self.remove_entry(key)
+    }
+
+    fn count(&mut self, key: K) -> io::Result<()> {
+        let count = self.entry(key)?.or_insert(0);
+        *count = count.wrapping_add(1);
+        Ok(())
+    }
+
+    fn sum(&self) -> u64 {
+        sum!(self.iter(), value => *value)
+    }
+
+    fn raise(&mut self) -> u64 {
+        for value in self.values_mut() {
+            *value = value.wrapping_add(1);
+        }
+        self.len() as u64
+    }
+
+    fn copy(&self) -> io::Result<Self> {
+        Ok(self.clone()?)
+    }
+
+    fn keep_even(&mut self) -> u64 {
+        self.retain(|_, value| *value % 2 == 0);
+        self.len() as u64
+    }
+
+    fn drained(&mut self) -> u64 {
+        sum!(self.drain(), value => value)
+    }
+
+    fn shrink(&mut self) -> u64 {
+        self.shrink_to_fit();
+        self.len() as u64
+    }
+}
+
+impl<K: Lawful> Map<K> for OfIndex<K> {
+    fn empty(alloc: Global) -> Self {
+        IndexMap::new(alloc)
+    }
+
+    fn of_pairs(alloc: Global, pairs: Vec<(K, u64)>) -> io::Result<Self> {
+        Ok(IndexMap::from_iter(alloc, pairs)?)
+    }
+
+    fn add_all(&mut self, pairs: Vec<(K, u64)>) -> io::Result<()> {
+        Ok(self.extend(pairs)?)
+    }
+
+    fn len(&self) -> usize {
+        IndexMap::len(self)
+    }
+
+    fn insert(&mut self, key: K, value: u64) -> io::Result<Option<u64>> {
+        Ok(IndexMap::insert(self, key, value)?)
+    }
+
+    fn value_of(&self, key: &K) -> Option<u64> {
+        self.get(key).copied()
+    }
+
+    fn take(&mut self, key: &K) -> Option<(K, u64)> {
+        self.swap_remove_entry(key)
+    }
+
+    fn count(&mut self, key: K) -> io::Result<()> {
+        let count = self.entry(key)?.or_insert(0);
+        *count = count.wrapping_add(1);
+        Ok(())
+    }
+
+    fn sum(&self) -> u64 {
+        sum!(self.iter(), value => *value)
+    }
+
+    fn raise(&mut self) -> u64 {
+        for value in self.values_mut() {
+            *value = value.wrapping_add(1);
+        }
+        self.len() as u64
+    }
+
+    fn copy(&self) -> io::Result<Self> {
+        Ok(self.clone()?)
+    }
+
+    fn keep_even(&mut self) -> u64 {
+        self.retain(|_, value| *value % 2 == 0);
+        self.len() as u64
+    }
+
+    fn drained(&mut self) -> u64 {
+        sum!(self.drain(..), value => value)
+    }
+
+    fn shrink(&mut self) -> u64 {
+        self.shrink_to_fit();
+        self.len() as u64
+    }
+}
+
+/// Maps of the keys of the numbers below the size, each with its number.
 pub(crate) fn many_filled<K: Key, M: Map<K>>(
     alloc: Global,
     maps: u64,
-    count: u64,
-) -> Result<Vec<M>, Failure> {
+    size: u64,
+) -> io::Result<Vec<M>> {
     let mut made = Vec::new(alloc);
     for _ in 0..maps {
-        let map: M = filled(alloc, count)?;
+        let mut map = M::empty(alloc);
+        for number in 0..size {
+            map.insert(K::of_number(alloc, number)?, number)?;
+        }
         made.push(map)?;
     }
     Ok(made)
-}
-
-/// The sum of the values of all maps.
-pub(crate) fn sum_of<K: Key, M: Map<K>>(maps: &[M]) -> u64 {
-    let mut sum = 0u64;
-    for map in maps {
-        sum = sum.wrapping_add(map.sum());
-    }
-    sum
 }

@@ -1,128 +1,127 @@
-//! Rounds: the four maps in turn, with the same work.
-ghost use Rattle.std.specs.Prelude.{◌<◌};
-
-use crate::failure::Failure;
+//! Rounds: the four maps in turn, with the same work, by the processor time of the thread.
 use crate::keys::Key;
-use crate::maps::{InOrder, OfStd};
-use crate::operation::Operation;
-use crate::task::Timed;
-use crate::tasks::{measure, measure_ours};
+use crate::maps::{AtLimit, Map, OfIndex, OfStd};
+use crate::operations::given::Given;
+use crate::operations::{measure, measure_ours};
 use std::alloc::Global;
-use std::fmt;
+use std::io;
+use std::marker::PhantomData;
 use std::time::CpuClock;
 
-/// One of the maps that are compared.
-#[derive(Clone, Copy, Debug, PartialEq, Eq)]
-pub(crate) enum Kind {
-    Limit0,
-    Limit32,
-    Std,
-    IndexMap,
-}
+/// A run is of at least about this many keys or pairs: too many for the processor to learn the order of the answers.
+pub(crate) const LEAST_KEYS: u64 = 16_384;
 
-/// All maps, in the order of the rows.
-pub(crate) const KINDS: [Kind; 4] = [Kind::Limit0, Kind::Limit32, Kind::Std, Kind::IndexMap];
+// At least about this many keys or pairs in all runs together.
+const LEAST_IN_ALL: u64 = 200_000;
 
-impl fmt::Display for Kind {
-    fn fmt<W: fmt::Write>(&self, f: &mut fmt::Formatter<W>) -> fmt::Result {
-        f.write_str(match *self {
-            Kind::Limit0 => "limit_0",
-            Kind::Limit32 => "limit_32",
-            Kind::Std => "std",
-            Kind::IndexMap => "indexmap",
-        })
-    }
-}
-
-/// What the four maps took.
-#[derive(Clone, Copy, Debug, Default, PartialEq, Eq)]
-pub(crate) struct Round {
-    limit_0: Timed,
-    limit_32: Timed,
-    std: Timed,
-    indexmap: Timed,
-}
-
-/// A number with two decimals.
-#[derive(Clone, Copy, Debug, PartialEq, Eq, PartialOrd, Ord)]
-pub(crate) struct Hundredths(u64);
-
-impl fmt::Display for Hundredths {
-    fn fmt<W: fmt::Write>(&self, f: &mut fmt::Formatter<W>) -> fmt::Result {
-        write!(f, "{}.{:02}", self.0 / 100, self.0 % 100)
-    }
-}
-
-impl Round {
-    fn of(&self, kind: Kind) -> Timed {
-        match kind {
-            Kind::Limit0 => self.limit_0,
-            Kind::Limit32 => self.limit_32,
-            Kind::Std => self.std,
-            Kind::IndexMap => self.indexmap,
-        }
-    }
-
-    /// How many nanoseconds a map took for each operation.
-    pub fn nanos(&self, kind: Kind) -> Hundredths {
-        let timed = self.of(kind);
-        Hundredths(in_hundredths(timed.nanos, timed.operations.max(1)))
-    }
-
-    /// How many times as long one map took as another.
-    pub fn ratio(&self, ours: Kind, theirs: Kind) -> Hundredths {
-        Hundredths(in_hundredths(self.of(ours).nanos, self.of(theirs).nanos.max(1)))
-    }
-
-    fn agrees(&self) -> bool {
-        let answers = self.std.answers;
-        self.indexmap.answers == answers
-            && self.limit_0.answers == answers
-            && self.limit_32.answers == answers
-    }
-}
-
-// How many hundredths of the second number the first one is, to the nearest.
-fn in_hundredths(one: u64, other: u64) -> u64
-    requires { 0 < other }
-{
-    one.saturating_mul(100).saturating_add(other / 2) / other
-}
-
-/// So many rounds. Each begins with the next map.
-pub(crate) fn run<K: Key>(
-    rt: &impl CpuClock,
-    alloc: Global,
-    operation: Operation,
+/// Prints what each map took in each round. Each round begins with the next map.
+pub(crate) fn print<K: Key>(
+    rt: &(impl Print + CpuClock + AllocGlobal),
+    operation: &str,
     size: u64,
-    count: u64,
-) -> Result<Vec<Round>, Failure> {
-    let mut rounds = Vec::new(alloc);
-    for first in 0..count {
-        let round = run_one::<K>(rt, alloc, operation, size, first)?;
-        if !round.agrees() {
-            return Err(Failure::WrongAnswer);
+    rounds: u64,
+) -> io::Result<()> {
+    for round in 0..rounds {
+        for turn in 0..4 {
+            match round.wrapping_add(turn) % 4 {
+                0 => print_ours::<K, 0>(rt, "limit_0", operation, size)?,
+                1 => print_ours::<K, 32>(rt, "limit_32", operation, size)?,
+                2 => print_other::<K, OfStd<K>>(rt, "std", operation, size)?,
+                _ => print_other::<K, OfIndex<K>>(rt, "indexmap", operation, size)?,
+            }
         }
-        rounds.push(round)?;
     }
-    Ok(rounds)
+    Ok(())
 }
 
-fn run_one<K: Key>(
-    rt: &impl CpuClock,
-    alloc: Global,
-    operation: Operation,
+fn print_ours<K: Key, const N: usize>(
+    rt: &(impl Print + CpuClock + AllocGlobal),
+    map: &str,
+    operation: &str,
     size: u64,
-    first: u64,
-) -> Result<Round, Failure> {
-    let mut round = Round::default();
-    for turn in 0..4 {
-        match first.wrapping_add(turn) % 4 {
-            0 => round.limit_0 = measure_ours::<K, 0>(rt, alloc, operation, size)?,
-            1 => round.limit_32 = measure_ours::<K, 32>(rt, alloc, operation, size)?,
-            2 => round.std = measure::<K, OfStd<K>>(rt, alloc, operation, size)?,
-            _ => round.indexmap = measure::<K, InOrder<K>>(rt, alloc, operation, size)?,
+) -> io::Result<()> {
+    let mut timer = Timer::<'_, _, K, AtLimit<K, N>>::new(rt, rt.alloc(), size);
+    for _ in 0..runs_of(size) {
+        measure_ours(&mut timer, operation)?;
+    }
+    println!(rt; "{map} {} {}", timer.picoseconds(), timer.answers)
+}
+
+fn print_other<K: Key, M: Map<K>>(
+    rt: &(impl Print + CpuClock + AllocGlobal),
+    map: &str,
+    operation: &str,
+    size: u64,
+) -> io::Result<()> {
+    let mut timer = Timer::<'_, _, K, M>::new(rt, rt.alloc(), size);
+    for _ in 0..runs_of(size) {
+        measure(&mut timer, operation)?;
+    }
+    println!(rt; "{map} {} {}", timer.picoseconds(), timer.answers)
+}
+
+// How many runs are timed together.
+fn runs_of(size: u64) -> u64 {
+    let runs = LEAST_IN_ALL.checked_div(size.max(LEAST_KEYS));
+    runs.unwrap_or(1).max(1)
+}
+
+/// Times operations on maps of one type and size.
+#[derive(Drop)]
+pub(crate) struct Timer<'a, C, K, M> {
+    rt: &'a C,
+    pub alloc: Global,
+    pub size: u64,
+    nanoseconds: u64,
+    operations: u64,
+    // A number that depends on all answers.
+    answers: u64,
+    maps: PhantomData<(K, M)>,
+}
+
+impl<'a, C: CpuClock, K: Key, M: Map<K>> Timer<'a, C, K, M> {
+    fn new(rt: &'a C, alloc: Global, size: u64) -> Timer<'a, C, K, M> {
+        Timer {
+            rt,
+            alloc,
+            size,
+            nanoseconds: 0,
+            operations: 0,
+            answers: 0,
+            maps: PhantomData,
         }
     }
-    Ok(round)
+
+    /// How often a run looks up its keys.
+    pub fn look_up_passes(&self) -> u64 {
+        if self.size < LEAST_IN_ALL { 10 } else { 2 }
+    }
+
+    /// Times work in this many passes.
+    pub fn time<T, W>(&mut self, passes: u64, given: Given<K, M, T>, work: W) -> io::Result<()>
+    where
+        T: Drop,
+        W: Fn(&mut Given<K, M, T>) -> io::Result<u64>,
+        requires work { W.IsAlwaysCallable work }
+    {
+        let mut given = given;
+        let start = self.rt.thread_cpu_time()?;
+        for _ in 0..passes {
+            given.answer = work(&mut given)?;
+        }
+        let spent = self.rt.thread_cpu_time()?.saturating_sub(start);
+        let nanoseconds = u64::try_from(spent.as_nanos()).unwrap_or(u64::MAX);
+        self.nanoseconds = self.nanoseconds.saturating_add(nanoseconds);
+        let operations = given.operations.saturating_mul(passes);
+        self.operations = self.operations.saturating_add(operations);
+        let answer = given.answer.wrapping_add(given.left());
+        self.answers = self.answers.wrapping_add(answer);
+        Ok(())
+    }
+
+    // What an operation took.
+    fn picoseconds(&self) -> u64 {
+        let all = self.nanoseconds.saturating_mul(1000);
+        all.checked_div(self.operations).unwrap_or(0)
+    }
 }

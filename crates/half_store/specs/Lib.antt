@@ -1,5 +1,6 @@
 pub mod Buckets
 pub mod Capacity
+pub mod Columns
 pub mod Hash
 pub mod Lending
 pub mod Pairs

@@ -1,27 +1,7 @@
--- What a probe of a table finds, and what it costs.
+-- What a probe of a table costs.
 use Rattle.std.specs.Prelude.{◌≡◌, ℕ, ◌+◌, ◌≤◌, ◌==◌, List, count_by}
-use Rattle.half_store.specs.declared.table.probe.Probe.{Probe}
-use Rattle.half_store.specs.declared.table.probe.Probe.TheVariants.{Found, Vacant, NoBuckets}
 use Rattle.half_store.specs.Reach.{reach, HomesApart}
 use Rattle.half_store.specs.Work.{Work}
-
--- a fact of the entry index that was found
-abbrev pub IfFound : Probe → (ℕ → Type 0) → Type 0
-IfFound (Found index) P = P index
-IfFound (Vacant bucket) P = Unit {0}
-IfFound NoBuckets P = Unit {0}
-
--- a fact where none was found
-abbrev pub OnMissing : Probe → Type 0 → Type 0
-OnMissing (Found index) P = Unit {0}
-OnMissing (Vacant bucket) P = P
-OnMissing NoBuckets P = P
-
--- a fact of the empty bucket at which a probe that found none ended
-abbrev pub IfVacant : Probe → (ℕ → Type 0) → Type 0
-IfVacant (Found index) P = Unit {0}
-IfVacant (Vacant bucket) P = P bucket
-IfVacant NoBuckets P = Unit {0}
 
 -- so many more buckets were read
 abbrev pub looked_more : Work → ℕ → Work

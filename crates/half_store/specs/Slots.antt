@@ -1,5 +1,6 @@
 -- What the buckets contain: a stored hash in each full bucket.
-use Rattle.std.specs.Prelude.{◌≡◌, ◌≢◌, ℕ, ◌<◌, Bool, false, List, length, Option, Some, None, slice_index_or}
+use Rattle.std.specs.Prelude.{◌≡◌, ◌≢◌, ℕ, ◌+◌, ◌-◌, ◌<◌, Bool, false, List, length, Option, Some, None, slice_index, slice_index_or}
+use Rattle.half_store.specs.Buckets.{slots_by}
 use Rattle.half_store.specs.Reach.{home, probe_distance}
 
 -- the hash stored in a bucket, or none where it is empty
@@ -10,6 +11,10 @@ slot_at slots bucket = slice_index_or slots bucket None
 abbrev pub stored : (ℕ → Bool) → Option ℕ → Bool
 stored test None = false
 stored test (Some hash) = test hash
+
+-- the probe distance of a bucket from the hash's home bucket
+abbrev pub distance_from_home : List (Option ℕ) → ℕ → ℕ → ℕ
+distance_from_home slots hash bucket = probe_distance (length slots) (home (length slots) hash) bucket
 
 -- each bucket that a probe from `start` reads before this one is full
 abbrev pub FullBefore : List (Option ℕ) → ℕ → ℕ → Type 0
@@ -27,6 +32,13 @@ pub record IsFoundAt (slots : List (Option ℕ)) (hash bucket : ℕ) : Type 0 wh
   pub found : slot_at slots bucket ≡ Some hash
   pub passed : FullBefore slots (home (length slots) hash) bucket
 
+-- a probe for the hash ended at the pair of this entry index, and read each bucket up to the pair's
+pub record EndsAtPair (hashes words : List ℕ) (hash index before after : ℕ) : Type 0 where
+  pub bucket : ℕ
+  pub found : IsFoundAt (slots_by hashes words) hash bucket
+  pub entry : index ≡ slice_index words bucket - 1
+  pub looked : after ≡ before + (distance_from_home (slots_by hashes words) hash bucket + 1)
+
 -- some bucket is empty
 abbrev pub SomeVacant : List (Option ℕ) → Type 0
 SomeVacant slots = (bucket : ℕ) × (bucket < length slots) × (slot_at slots bucket ≡ None)
@@ -35,7 +47,3 @@ SomeVacant slots = (bucket : ℕ) × (bucket < length slots) × (slot_at slots b
 pub record ProbeInvariant (slots : List (Option ℕ)) : Type 0 where
   pub before : (bucket vacant hash : ℕ) → slot_at slots bucket ≡ Some hash → vacant < length slots → slot_at slots vacant ≡ None →
       probe_distance (length slots) (home (length slots) hash) bucket < probe_distance (length slots) (home (length slots) hash) vacant
-
--- the probe distance of a bucket from the hash's home bucket
-abbrev pub distance_from_home : List (Option ℕ) → ℕ → ℕ → ℕ
-distance_from_home slots hash bucket = probe_distance (length slots) (home (length slots) hash) bucket

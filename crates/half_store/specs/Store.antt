@@ -1,66 +1,62 @@
 -- What contracts see of a store.
 use Rattle.std.specs.Prelude.{◌≡◌, ℕ, ◌+◌, ◌≤◌, Bool, true, false, List, [], ◌∷◌, ◌++◌, length, reverse, min, Option, None, Some, if◌then◌else◌}
-use Rattle.half_store.specs.declared.store.lookup.Vacancy.{Vacancy}
+use Rattle.half_store.specs.declared.store.vacancy.Vacancy.{Vacancy}
 use Rattle.half_store.specs.Capacity.{capacity_of, capacity_for, grown_capacity}
-use Rattle.half_store.specs.Pairs.{Pairs, Memory, memory_code, columns_with}
-use Rattle.half_store.specs.Table.{TableState, Contents, contents_of, no_contents, contents_code, with_hash_in, IsVacancyIn}
+use Rattle.half_store.specs.Columns.{Columns, columns_with}
+use Rattle.half_store.specs.Table.{TableState, Contents, table_contents, no_contents, contents_code, with_hash_in, IsVacancyIn}
 use base.Stored.{Coded, coded×, coded_list, coded_ℕ, coded_bool, coded_via}
 
--- the form, the pairs in order, how many fit, and the capacity of each column; the stored hashes by entry index and what the buckets contain, of which a vector has none
+-- the form, the pairs in order, how many fit, and the capacity that each column has; the stored hashes by entry index and what the buckets contain, of which a vector has none
 pub record StoreState (K V : Type 0) : Type 0 where
   pub is_vec : Bool
   pub pairs : List (K × V)
   pub capacity : ℕ
-  pub memory : Memory
+  pub columns : ℕ
   pub hashes : List ℕ
   pub contents : Contents
 
 module _ {K V : Type 0} where
   -- a vector of these columns
-  abbrev pub vector_of : Pairs K V → StoreState K V
-  vector_of columns = record { is_vec = true; pairs = columns.pairs; capacity = columns.capacity; memory = columns.memory; hashes = []; contents = no_contents }
+  abbrev pub vector_of : Columns K V → StoreState K V
+  vector_of columns = record { is_vec = true; pairs = columns.pairs; capacity = columns.capacity; columns = columns.capacity; hashes = []; contents = no_contents }
 
-  -- a table of these columns and this index, which decides how many pairs fit
-  abbrev pub table_of : Pairs K V → TableState → StoreState K V
-  table_of columns t = record { is_vec = false; pairs = columns.pairs; capacity = capacity_of t.buckets; memory = columns.memory; hashes = t.hashes; contents = contents_of t }
+  -- a table over these columns, which decides how many pairs fit
+  abbrev pub table_of : Columns K V → TableState → StoreState K V
+  table_of columns t = record { is_vec = false; pairs = columns.pairs; capacity = capacity_of t.buckets; columns = columns.capacity; hashes = t.hashes; contents = table_contents t }
 
-  -- columns without an index are a vector
-  abbrev pub store_of : Pairs K V → Option TableState → StoreState K V
+  -- columns without a table are a vector
+  abbrev pub store_of : Columns K V → Option TableState → StoreState K V
   store_of columns None = vector_of columns
   store_of columns (Some t) = table_of columns t
 
-  -- an index has a hash for each pair, and no more capacity than the columns
-  pub record IsIndexOfColumns (columns : Pairs K V) (t : TableState) : Type 0 where
+  -- a table has a hash for each pair, and no more capacity than the columns
+  pub record IsTableOver (columns : Columns K V) (t : TableState) : Type 0 where
     pub len : length t.hashes ≡ length columns.pairs
     pub backed : capacity_of t.buckets ≤ columns.capacity
 
-  -- what is always true of the columns and the index
-  abbrev pub IsStore : Pairs K V → Option TableState → Type 0
+  -- what is always true of the columns and the table
+  abbrev pub IsStore : Columns K V → Option TableState → Type 0
   IsStore columns None = Unit {0}
-  IsStore columns (Some t) = IsIndexOfColumns columns t
+  IsStore columns (Some t) = IsTableOver columns t
 
   -- what is left of a store whose pairs are taken out, in columns that lie last first
-  abbrev pub drained_of : Pairs K V → Option TableState → StoreState K V
-  drained_of columns index = store_of (columns_with columns (reverse columns.pairs)) index
+  abbrev pub drained_of : Columns K V → Option TableState → StoreState K V
+  drained_of columns table = store_of (columns_with columns (reverse columns.pairs)) table
 
-  -- of an index that the pairs had it is still true that it has no more capacity than the columns
-  abbrev pub IsDrained : Pairs K V → Option TableState → Type 0
+  -- a table that the pairs had still has no more capacity than the columns
+  abbrev pub IsDrained : Columns K V → Option TableState → Type 0
   IsDrained columns None = Unit {0}
   IsDrained columns (Some t) = capacity_of t.buckets ≤ columns.capacity
 
-  -- the form, the capacity and the columns' memory stay
+  -- the form and all capacities stay
   pub record KeepsForm (old new : StoreState K V) : Type 0 where
     pub form : new.is_vec ≡ old.is_vec
     pub capacity : new.capacity ≡ old.capacity
-    pub memory : new.memory ≡ old.memory
+    pub columns : new.columns ≡ old.columns
 
   -- the store with these pairs, all else the same
-  abbrev pub with_pairs : StoreState K V → List (K × V) → StoreState K V
-  with_pairs s ps = record s { pairs = ps }
-
-  -- the store in columns of this memory, all else the same
-  abbrev pub in_memory : StoreState K V → Memory → StoreState K V
-  in_memory s memory = record s { memory = memory }
+  abbrev pub store_with_pairs : StoreState K V → List (K × V) → StoreState K V
+  store_with_pairs s ps = record s { pairs = ps }
 
 -- as many of `capacity` pairs as a form may hold: a vector no more than the limit
 abbrev pub allowed : ℕ → Bool → ℕ → ℕ
@@ -89,24 +85,24 @@ abbrev pub filled : Bool → Contents → Vacancy → Contents
 filled is_vec contents vacancy = if is_vec then contents else with_hash_in contents vacancy.hash vacancy.bucket
 
 -- the store with one pair more, which is added here
-abbrev pub pushed : {K V : Type 0} → StoreState K V → K → V → Vacancy → StoreState K V
-pushed s k v vacancy = record {
+abbrev pub store_pushed : {K V : Type 0} → StoreState K V → K → V → Vacancy → StoreState K V
+store_pushed s k v vacancy = record {
   is_vec = s.is_vec;
   pairs = s.pairs ++ (k, v) ∷ [];
   capacity = s.capacity;
-  memory = s.memory;
+  columns = s.columns;
   hashes = if s.is_vec then s.hashes else s.hashes ++ vacancy.hash ∷ [];
   contents = filled s.is_vec s.contents vacancy;
 }
 
 abbrev pub store_code : {K V : Type 0} → Coded K → Coded V → Coded (StoreState K V)
-store_code k v = coded_via (coded× coded_bool (coded× (coded_list (coded× k v)) (coded× coded_ℕ (coded× memory_code (coded× (coded_list coded_ℕ) contents_code)))))
-    (λ s. (s.is_vec, (s.pairs, (s.capacity, (s.memory, (s.hashes, s.contents))))))
+store_code k v = coded_via (coded× coded_bool (coded× (coded_list (coded× k v)) (coded× coded_ℕ (coded× coded_ℕ (coded× (coded_list coded_ℕ) contents_code)))))
+    (λ s. (s.is_vec, (s.pairs, (s.capacity, (s.columns, (s.hashes, s.contents))))))
     (λ a b e i. record {
       is_vec = (e i).0;
       pairs = (e i).1.0;
       capacity = (e i).1.1.0;
-      memory = (e i).1.1.1.0;
+      columns = (e i).1.1.1.0;
       hashes = (e i).1.1.1.1.0;
       contents = (e i).1.1.1.1.1;
     })

@@ -1,8 +1,8 @@
 -- The value of a table.
-use Rattle.std.specs.Prelude.{ℕ, List, [], map, length, Option, Some, unwrap_or, slice_set}
+use Rattle.std.specs.Prelude.{ℕ, List, [], length, Option, Some, slice_set}
 use Rattle.std.specs.Coded.{Coded, coded×, coded_list, coded_option, coded_ℕ}
 use base.Stored.{coded_via}
-use Rattle.half_store.specs.Slots.{slot_at, IsVacancyFor}
+use Rattle.half_store.specs.Slots.{IsVacancyFor}
 
 -- what callers see: the stored hashes by entry index, and how many buckets there are; which bucket contains what is private
 pub record TableState : Type 0 where
@@ -18,8 +18,8 @@ slots_of t = t.slots
 pub record Contents : Type 0 where
   slots : List (Option ℕ)
 
-abbrev pub contents_of : TableState → Contents
-contents_of t = record { slots = t.slots }
+abbrev pub table_contents : TableState → Contents
+table_contents t = record { slots = t.slots }
 
 -- no buckets
 abbrev pub no_contents : Contents
@@ -47,7 +47,3 @@ abbrev pub table_state_code : Coded TableState
 table_state_code =
     coded_via (coded× (coded_list coded_ℕ) (coded× coded_ℕ (coded_list (coded_option coded_ℕ)))) (λ t. (t.hashes, (t.buckets, t.slots)))
     (λ a b e i. record { hashes = (e i).0; buckets = (e i).1.0; slots = (e i).1.1 })
-
--- the stored hash of each entry index, by the bucket that it has
-abbrev pub hashes_at : List (Option ℕ) → List ℕ → List ℕ
-hashes_at slots bucket_of = map (λ bucket. unwrap_or (slot_at slots bucket) 0) bucket_of

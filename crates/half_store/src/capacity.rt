@@ -15,10 +15,6 @@ const BUCKETS_PER_EMPTY: usize = 4;
 const LEAST_BUCKETS: usize = 4;
 
 /// The capacity of so many buckets: 0, 3, 6, 12, 24 for 0, 4, 8, 16, 32.
-///
-/// ```
-/// let capacity = capacity_of(8); // 6
-/// ```
 #[inline(always)]
 pub fn capacity_of(buckets: usize) -> usize
     ensures { result ≡ capacity_of buckets }
@@ -27,10 +23,6 @@ pub fn capacity_of(buckets: usize) -> usize
 }
 
 /// The least bucket count whose capacity is enough for so many pairs.
-///
-/// ```
-/// let buckets = buckets_for(7); // 16
-/// ```
 pub fn buckets_for(needed: usize) -> usize
     requires { needed ≤ 2 ^ 62 }
     ensures value { result ≡ buckets_for needed }
@@ -47,10 +39,6 @@ pub fn buckets_for(needed: usize) -> usize
 }
 
 /// The least of the capacities 0, 3, 6, 12, 24, .. that is enough for so many pairs.
-///
-/// ```
-/// let capacity = capacity_for(7); // 12
-/// ```
 pub fn capacity_for(needed: usize) -> usize
     requires { needed ≤ 2 ^ 62 }
     ensures value { result ≡ capacity_for needed }

@@ -1,5 +1,5 @@
-//! The capacity of one column, which is a vector: making it, and giving it back.
-ghost use Rattle.std.specs.Prelude.{◌≡◌, ◌<◌, ◌≤◌, ◌⊎◌, max, min, [], length, IfOk, IsOk, OnOk, OnErr, vec_len, vec_capacity};
+//! What both columns do, each of which is a vector: grow, move to another block, and be cloned.
+ghost use Rattle.std.specs.Prelude.{◌≡◌, ◌<◌, ◌≤◌, [], length, IfOk, OnOk, OnErr, vec_len, vec_capacity};
 ghost use Rattle.std.specs.List.{AllZip};
 
 use std::alloc::AllocError;
@@ -8,73 +8,34 @@ use std::mem::replace;
 // Up to this capacity a column grows into a fresh block, since an allocator takes longer to extend a small one than to move it.
 const MOST_MOVED: usize = 6_144;
 
-/// Makes the capacity of a column enough for `needed` elements in all.
-pub(crate) fn reserve_in_all<T>(column: &mut Vec<T>, needed: usize) -> Result<(), AllocError>
-    ensures items { column.new.items ≡ column.old.items }
-    ensures len { vec_len column.new ≡ vec_len column.old }
-    ensures ok { OnOk result (vec_capacity column.new ≡ max (vec_capacity column.old) needed) }
-    ensures err { OnErr result (vec_capacity column.new ≡ vec_capacity column.old) }
-    ensures needed { OnErr result (vec_capacity column.old < needed) }
-{
-    if needed <= column.capacity() {
-        return Ok(());
-    }
-    if needed <= MOST_MOVED {
-        return move_to(column, needed);
-    }
-    column.reserve_exact(needed - column.len())
-}
-
-/// Shrinks the capacity of a column. On error nothing changes.
-pub(crate) fn shrink_column<T>(column: &mut Vec<T>, kept: usize) -> Result<(), AllocError>
-    requires { vec_len column.old ≤ kept }
-    ensures items { column.new.items ≡ column.old.items }
-    ensures len { vec_len column.new ≡ vec_len column.old }
-    ensures capacity { (vec_capacity column.new ≡ min kept (vec_capacity column.old))
-        ⊎ (vec_capacity column.new ≡ vec_capacity column.old) }
-    ensures ok { OnOk result (vec_capacity column.new ≡ min kept (vec_capacity column.old)) }
-    ensures err { OnErr result (vec_capacity column.new ≡ vec_capacity column.old) }
-    ensures frees { kept ≡ 0 → IsOk result × (vec_capacity column.new ≡ 0) }
-{
-    if column.capacity() <= kept {
-        return Ok(());
-    }
-    if kept == 0 {
-        column.shrink_to(0);
-        return Ok(());
-    }
-    move_to(column, kept)
-}
-
-/// Gives a column exactly this capacity. On error nothing changes.
-pub(crate) fn set_capacity<T>(column: &mut Vec<T>, capacity: usize) -> Result<(), AllocError>
-    requires { vec_len column.old ≤ capacity }
+/// Gives a column a greater capacity. On error nothing changes.
+pub(crate) fn grow<T>(column: &mut Vec<T>, capacity: usize) -> Result<(), AllocError>
+    requires { vec_capacity column.old < capacity }
     ensures items { column.new.items ≡ column.old.items }
     ensures len { vec_len column.new ≡ vec_len column.old }
     ensures ok { OnOk result (vec_capacity column.new ≡ capacity) }
     ensures err { OnErr result (vec_capacity column.new ≡ vec_capacity column.old) }
-    ensures none { capacity ≡ 0 → IsOk result }
 {
-    if column.capacity() < capacity {
-        reserve_in_all(column, capacity)
-    } else {
-        shrink_column(column, capacity)
+    if capacity <= MOST_MOVED {
+        let fresh = Vec::with_capacity(*column.allocator(), capacity)?;
+        move_to(column, fresh);
+        return Ok(());
     }
+    column.reserve_exact(capacity - column.len())
 }
 
-// Moves a column into a block of exactly this capacity. On error nothing changes.
-fn move_to<T>(column: &mut Vec<T>, capacity: usize) -> Result<(), AllocError>
-    requires { vec_len column.old ≤ capacity }
+/// Moves all elements into an empty column whose capacity is enough, and frees the old one.
+pub(crate) fn move_to<T>(column: &mut Vec<T>, fresh: Vec<T>)
+    requires empty { fresh.items ≡ [] }
+    requires len { vec_len fresh ≡ 0 }
+    requires fits { vec_len column.old ≤ vec_capacity fresh }
     ensures items { column.new.items ≡ column.old.items }
     ensures len { vec_len column.new ≡ vec_len column.old }
-    ensures ok { OnOk result (vec_capacity column.new ≡ capacity) }
-    ensures err { OnErr result (vec_capacity column.new ≡ vec_capacity column.old) }
+    ensures capacity { vec_capacity column.new ≡ vec_capacity fresh }
 {
     let alloc = *column.allocator();
-    let block = Vec::with_capacity(alloc, capacity)?;
-    let moved = move_all(replace(column, Vec::new(alloc)), block);
+    let moved = move_all(replace(column, Vec::new(alloc)), fresh);
     replace(column, moved).destroy_empty();
-    Ok(())
 }
 
 // Moves all elements, in order, into an empty column whose capacity is enough.

@@ -1,9 +1,10 @@
 //! The three functions that do the counted work, each with the call that it counts.
 //!
 //! Each hash of a key, each comparison of keys and each bucket read by a counted probe goes through one of these.
-ghost use Rattle.std.specs.Prelude.{◌≡◌, ◌<◌, length, slice_index, option_map, IfSome};
+ghost use Rattle.std.specs.Prelude.{◌≡◌, ◌-◌, ◌<◌, length, slice_index, option_map, IfSome};
 ghost use Rattle.half_store.specs.Hash.{hash_by};
 ghost use Rattle.half_store.specs.Work.{one_asked, one_compared, one_looked};
+ghost use Rattle.half_store.specs.Buckets.{slots_by, WithinHashes};
 ghost use Rattle.half_store.specs.Slots.{slot_at};
 
 use crate::Tally;
@@ -11,10 +12,6 @@ use crate::buckets::Buckets;
 use std::hash::{BuildHasher, Hash};
 
 /// Hashes a key: calls `hash_one` of the builder.
-///
-/// ```
-/// let hash = counting::hash_one(&builder, &1u64, &mut tally); // the builder's hash of 1, counted
-/// ```
 #[inline(always)]
 pub fn hash_one<K: Hash, S: BuildHasher>(builder: &S, key: &K, tally: &mut Tally) -> u64
     ensures hash { result ≡ hash_by S.BuildHasher S.Hasher.Hasher builder.now (K.hash_input key.now) }
@@ -25,10 +22,6 @@ pub fn hash_one<K: Hash, S: BuildHasher>(builder: &S, key: &K, tally: &mut Tally
 }
 
 /// Compares keys: calls `matches`, the test of an entry index.
-///
-/// ```
-/// let is_equal = counting::compare(&|index: usize| index < 2 && keys[index] == 2, 1, &mut tally); // true, counted
-/// ```
 #[inline(always)]
 pub fn compare<F: Fn(usize) -> bool>(matches: &F, index: usize, tally: &mut Tally) -> bool
     requires { F.pre matches.now index }
@@ -46,10 +39,10 @@ pub(crate) fn look<P: Buckets>(
     bucket: usize,
     tally: &mut Tally,
 ) -> Option<(usize, u64)>
-    requires whole { P.is_whole buckets.now }
-    requires within { bucket < length (P.slots buckets.now) }
-    ensures hash { option_map (λ pair. pair.1) result ≡ slot_at (P.slots buckets.now) bucket }
-    ensures index { IfSome result (λ pair. pair.0 ≡ slice_index (P.entry_of buckets.now) bucket) }
+    requires whole { WithinHashes (P.hashes buckets.now) (P.words buckets.now) }
+    requires within { bucket < length (P.words buckets.now) }
+    ensures hash { option_map (λ pair. pair.1) result ≡ slot_at (slots_by (P.hashes buckets.now) (P.words buckets.now)) bucket }
+    ensures index { IfSome result (λ pair. pair.0 ≡ slice_index (P.words buckets.now) bucket - 1) }
     ensures counted { tally.new ≡ one_looked tally.old }
 {
     tally.add_looked();

@@ -12,15 +12,8 @@ use std::{fmt, io};
 
 /// Why a call failed. On error nothing changes.
 ///
-/// `?` converts into it what std's own calls fail with, so that they stand beside calls of the map:
-///
-/// ```
-/// let mut names = Vec::new(alloc);
-/// names.push(format!(in alloc; "{name}")?)?;
-/// ages.insert(name, age)?;
-/// ```
-///
-/// And it converts a `Refusal` into an `io::Error`, as for a `main`.
+/// `?` converts std's `AllocError` and `AllocFailed` into a `Refusal`, so that calls of std and of the map stand in one function.
+/// It also converts a `Refusal` into an `io::Error`, the error of a `main`.
 #[derive(Clone, Copy, Debug, PartialEq, Eq)]
 pub enum Refusal {
     /// Memory could not be allocated.
@@ -73,10 +66,6 @@ impl From<Refusal> for io::Error {
 }
 
 /// Refuses a number of pairs that no map may hold. It is called before memory is allocated.
-///
-/// ```
-/// let refused = check_size((1 << 60) + 1); // refused for `Size`
-/// ```
 pub fn check_size(needed: usize) -> Result<(), Refusal>
     ensures ok { OnOk result (needed ≤ 2 ^ 60) }
     ensures err { IfErr result (λ why. (why ≡ Size) × (2 ^ 60 < needed)) }

@@ -1,7 +1,7 @@
 //! Pairs in two forms over the same two columns: a vector, which is searched from first to last, or a table, which has an
 //! index.
 ghost use Rattle.std.specs.Prelude.{◌≡◌, ◌^◌, ◌<◌, [], length};
-ghost use Rattle.half_store.specs.Pairs.{no_pairs};
+ghost use Rattle.half_store.specs.Columns.{no_pairs};
 ghost use Rattle.half_store.specs.Store.{vector_of, capacity_within, KeepsForm};
 
 mod at;
@@ -9,9 +9,9 @@ mod change;
 mod columns;
 pub mod drain;
 mod find;
-pub mod lookup;
 mod memory;
 mod switch;
+pub mod vacancy;
 
 use crate::{Table, VecMap};
 use std::alloc::Global;
@@ -22,7 +22,7 @@ use std::marker::Model;
 pub struct Store<K, V> {
     columns: VecMap<K, V>,
     // by hash; a vector has none
-    index: Option<Table>,
+    table: Option<Table>,
 }
 
 impl<K, V> Model for Store<K, V> {
@@ -32,71 +32,42 @@ impl<K, V> Model for Store<K, V> {
 
     ghost coded = { store_code K.code V.code };
 
-    ghost view = { λ s. store_of s.columns s.index };
+    ghost view = { λ s. store_of s.columns s.table };
 
-    ghost invariant = { λ s. IsStore s.columns s.index };
+    ghost invariant = { λ s. IsStore s.columns s.table };
 }
 
 impl<K, V> Store<K, V> {
     /// A vector with no pairs. It takes no memory.
-    ///
-    /// ```
-    /// let mut ages: Store<u64, u32> = Store::new(alloc);
-    /// ```
     pub fn new(alloc: Global) -> Store<K, V>
         ensures { result ≡ vector_of no_pairs }
     {
         Store {
             columns: VecMap::new(alloc),
-            index: None,
+            table: None,
         }
     }
 
-    /// How many pairs are held.
-    ///
-    /// ```
-    /// let count = ages.len(); // 2
-    /// ```
-    #[inline(always)]
-    pub fn len(&self) -> usize
-        ensures len { result ≡ length self.now.pairs }
-        ensures small { result < 2 ^ 63 }
-    {
-        self.columns.len()
-    }
-
     /// Whether the form is the vector.
-    ///
-    /// ```
-    /// let is_vector = ages.is_vec(); // true
-    /// ```
     #[inline(always)]
     pub fn is_vec(&self) -> bool
         ensures { result ≡ self.now.is_vec }
     {
-        self.index.is_none()
+        self.table.is_none()
     }
 
     /// How many pairs fit before more memory is needed; in a vector no more than the limit.
-    ///
-    /// ```
-    /// let capacity = ages.capacity(5); // 5: there is memory for eight
-    /// ```
     #[inline(always)]
     pub fn capacity(&self, limit: usize) -> usize
         ensures { result ≡ capacity_within limit self.now }
     {
-        match &self.index {
+        match &self.table {
             Some(table) => table.capacity(),
             None => self.columns.capacity().min(limit),
         }
     }
 
     /// Removes all pairs. The form and the capacity stay.
-    ///
-    /// ```
-    /// ages.clear();
-    /// ```
     pub fn clear(&mut self)
     where
         K: Drop,
@@ -105,7 +76,7 @@ impl<K, V> Store<K, V> {
         ensures hashes { self.new.hashes ≡ [] }
         ensures form { KeepsForm self.old self.new }
     {
-        if let Some(table) = &mut self.index {
+        if let Some(table) = &mut self.table {
             table.clear();
         }
         self.columns.clear();

@@ -3,12 +3,12 @@
 //! A bucket contains an entry index, and a column has the stored hash of each. There are no keys: a search takes a test of
 //! an entry index. Probes go up from the home bucket of a hash, one bucket at a time, and a removal shifts back what
 //! follows it, so no tombstone is left.
-ghost use Rattle.std.specs.Prelude.{◌≡◌, ℕ, ◌+◌, ◌^◌, ◌<◌, ◌≤◌, ◌↔◌, true, false, [], ◌∷◌, ◌++◌, length, Some, IsTrue, slice_get};
+ghost use Rattle.std.specs.Prelude.{◌≡◌, ℕ, ◌+◌, ◌^◌, ◌<◌, ◌≤◌, true, false, [], ◌∷◌, ◌++◌, length, Some, slice_get};
 ghost use Rattle.std.specs.List.{swap_remove};
 ghost use Rattle.half_store.specs.Reach.{reach};
 ghost use Rattle.half_store.specs.Capacity.{capacity_of, IsBucketCount, capacity_for, buckets_of};
 ghost use Rattle.half_store.specs.Probe.{looked_more};
-ghost use Rattle.half_store.specs.Table.{contents_of, with_hash_in, IsVacancyIn, no_buckets};
+ghost use Rattle.half_store.specs.Table.{table_contents, with_hash_in, IsVacancyIn, no_buckets};
 ghost use Rattle.half_store.specs.TableSearch.{FindsInTable};
 
 mod deletion;
@@ -22,28 +22,27 @@ mod retain;
 use crate::Tally;
 use crate::buckets::HashedBuckets;
 use crate::capacity::capacity_of;
-use crate::words::{FourByteLimit, WhereEnough, WordArray, Words};
+use crate::words::{WordArray, Words};
 use deletion::remove_in;
-use find::{find_in, probe_in};
-use probe::Probe;
+use find::find_in;
+use probe::first_empty;
 use std::alloc::Global;
-use std::marker::{Model, PhantomData};
+use std::marker::Model;
 
 /// Buckets that lead from a hash to the entry indices of the pairs that have it.
 ///
 /// Entry indices count up in the order of insertion; a removal gives the last pair the index that became free. There are
-/// no buckets, or a power of two from 4 on, and the load factor is three quarters. Up to the capacity of `L` a bucket takes four
-/// bytes, and above it eight.
+/// no buckets, or a power of two from 4 on, and the load factor is three quarters. A bucket takes four bytes where that is
+/// enough for as many pairs as fit, and else eight.
 #[derive(Drop)]
-pub struct Table<L: FourByteLimit = WhereEnough> {
+pub struct Table {
     // 0 for an empty bucket, else the entry index and one more
     buckets: WordArray,
     // by entry index
     hashes: Vec<u64>,
-    four_bytes: PhantomData<L>,
 }
 
-impl<L: FourByteLimit> Model for Table<L> {
+impl Model for Table {
     ghost use Rattle.std.specs.Prelude.{vec_capacity};
     ghost use Rattle.half_store.specs.Buckets.{slots_by};
     ghost use Rattle.half_store.specs.Table.{TableState, table_state, table_state_code};
@@ -59,31 +58,23 @@ impl<L: FourByteLimit> Model for Table<L> {
     ghost invariant = { λ t. IsTable t.hashes.items (words_of t.buckets) (most_of t.buckets) (vec_capacity t.hashes) };
 }
 
-impl<L: FourByteLimit> Table<L> {
-    ghost use Rattle.half_store.specs.Buckets.{slots_by, entries_by, WithinHashes};
-    ghost use Rattle.half_store.specs.TableLayout.{Shows};
+impl Table {
+    ghost use Rattle.half_store.specs.Buckets.{slots_by};
+    ghost use Rattle.half_store.specs.Table.{table_state};
+    ghost use Rattle.half_store.specs.TableLayout.{IsIndexed};
     ghost use Rattle.half_store.specs.Words.{words_of};
 
     /// A table with no buckets. It takes no memory.
-    ///
-    /// ```
-    /// let none: Table = Table::new(alloc); // no buckets
-    /// ```
-    pub fn new(alloc: Global) -> Table<L>
+    pub fn new(alloc: Global) -> Table
         ensures { result ≡ no_buckets }
     {
         Table {
             buckets: WordArray::new(alloc),
             hashes: Vec::new(alloc),
-            four_bytes: PhantomData,
         }
     }
 
     /// How many pairs it holds.
-    ///
-    /// ```
-    /// let count = table.len(); // 2
-    /// ```
     #[inline(always)]
     pub fn len(&self) -> usize
         ensures value { result ≡ length self.now.hashes }
@@ -92,23 +83,7 @@ impl<L: FourByteLimit> Table<L> {
         self.hashes.len()
     }
 
-    /// Whether it holds no pair.
-    ///
-    /// ```
-    /// let is_empty = table.is_empty(); // false
-    /// ```
-    #[inline(always)]
-    pub fn is_empty(&self) -> bool
-        ensures { IsTrue result ↔ (length self.now.hashes ≡ 0) }
-    {
-        self.hashes.is_empty()
-    }
-
     /// How many pairs fit, those that it holds among them.
-    ///
-    /// ```
-    /// let capacity = table.capacity(); // 3
-    /// ```
     #[inline(always)]
     pub fn capacity(&self) -> usize
         ensures value { result ≡ capacity_of self.now.buckets }
@@ -122,13 +97,15 @@ impl<L: FourByteLimit> Table<L> {
 
     /// Searches for a pair of this hash that `matches` accepts. `matches` is called with entry indices of that hash alone.
     ///
-    /// Where none is found it has read exactly `reach` buckets and called `matches` once for each pair of that hash.
-    ///
-    /// ```
-    /// let found = table.find(11, &|_| true, &mut tally); // entry index 1
-    /// ```
+    /// Returns its entry index, or the empty bucket at which the probe ended, which is 0 where there are none. Where none is
+    /// found it has read exactly `reach` buckets and called `matches` once for each pair of that hash.
     #[inline(always)]
-    pub fn find<F: Fn(usize) -> bool>(&self, hash: u64, matches: &F, tally: &mut Tally) -> Probe
+    pub fn find<F: Fn(usize) -> bool>(
+        &self,
+        hash: u64,
+        matches: &F,
+        tally: &mut Tally,
+    ) -> Result<usize, usize>
         requires { (index : ℕ) → slice_get self.now.hashes index ≡ Some hash → F.pre matches.now index }
         ensures { FindsInTable (F.post matches.now) self.now hash result tally.old tally.new }
     {
@@ -144,40 +121,32 @@ impl<L: FourByteLimit> Table<L> {
     }
 
     /// Probes for the empty bucket where a pair of this hash belongs. It reads exactly `reach` buckets.
-    ///
-    /// ```
-    /// let bucket = table.insertion_probe(11, &mut tally); // bucket 0: bucket 3 is full, and the first follows the last
-    /// ```
     #[inline(always)]
     pub fn insertion_probe(&self, hash: u64, tally: &mut Tally) -> usize
         requires { 0 < self.now.buckets }
-        ensures vacancy { IsVacancyIn (contents_of self.now) hash result }
+        ensures vacancy { IsVacancyIn (table_contents self.now) hash result }
         ensures cost { tally.new ≡ looked_more tally.old (reach self.now.hashes self.now.buckets hash) }
         ensures buckets { self.now.buckets ≡ buckets_of (capacity_of self.now.buckets) }
     {
         let hashes = self.hashes.as_slice();
         match &self.buckets {
             WordArray::FourBytes(buckets) => {
-                probe_in(&HashedBuckets { buckets, hashes }, hash, tally)
+                first_empty(&HashedBuckets { buckets, hashes }, hash, tally)
             }
             WordArray::EightBytes(buckets) => {
-                probe_in(&HashedBuckets { buckets, hashes }, hash, tally)
+                first_empty(&HashedBuckets { buckets, hashes }, hash, tally)
             }
         }
     }
 
     /// Adds a pair of this hash in the empty bucket at which a probe for it ended. It reads no bucket.
-    ///
-    /// ```
-    /// table.add_at(11, bucket); // entry index 1 has hash 11
-    /// ```
     #[inline(always)]
     pub fn add_at(&mut self, hash: u64, bucket: usize)
         requires capacity { length self.old.hashes < capacity_of self.old.buckets }
-        requires vacancy { IsVacancyIn (contents_of self.old) hash bucket }
+        requires vacancy { IsVacancyIn (table_contents self.old) hash bucket }
         ensures hashes { self.new.hashes ≡ self.old.hashes ++ hash ∷ [] }
         ensures buckets { self.new.buckets ≡ self.old.buckets }
-        ensures contents { contents_of self.new ≡ with_hash_in (contents_of self.old) hash bucket }
+        ensures contents { table_contents self.new ≡ with_hash_in (table_contents self.old) hash bucket }
     {
         let word = self.len() + 1;
         self.buckets.set_word(bucket, word);
@@ -185,10 +154,6 @@ impl<L: FourByteLimit> Table<L> {
     }
 
     /// Adds a pair of this hash. It reads exactly `reach` buckets.
-    ///
-    /// ```
-    /// table.add(7, &mut tally); // entry index 0 has hash 7
-    /// ```
     #[inline(always)]
     pub fn add(&mut self, hash: u64, tally: &mut Tally)
         requires { length self.old.hashes < capacity_of self.old.buckets }
@@ -203,10 +168,6 @@ impl<L: FourByteLimit> Table<L> {
     }
 
     /// Removes the pair at this entry index, and returns its stored hash. The last pair takes its index.
-    ///
-    /// ```
-    /// let hash = table.remove(0); // 7; the pair of hash 11 has index 0 now
-    /// ```
     #[inline]
     pub fn remove(&mut self, index: usize) -> u64
         requires { index < length self.old.hashes }
@@ -221,10 +182,6 @@ impl<L: FourByteLimit> Table<L> {
     }
 
     /// Removes all pairs. The capacity stays.
-    ///
-    /// ```
-    /// table.clear();
-    /// ```
     pub fn clear(&mut self)
         ensures hashes { self.new.hashes ≡ [] }
         ensures buckets { self.new.buckets ≡ self.old.buckets }
@@ -234,15 +191,11 @@ impl<L: FourByteLimit> Table<L> {
     }
 
     /// The buckets, as a probe reads them.
-    ///
-    /// ```
-    /// let buckets = table.hashed_buckets(); // four, and the hashes 7 and 11
-    /// ```
     #[inline(always)]
     pub fn hashed_buckets(&self) -> HashedBuckets<'_, WordArray>
-        ensures whole { WithinHashes result.hashes.now (words_of result.buckets.now) }
-        ensures shown { Shows (slots_by result.hashes.now (words_of result.buckets.now))
-            (entries_by (words_of result.buckets.now)) self.now }
+        ensures indexed { IsIndexed result.hashes.now (words_of result.buckets.now) }
+        ensures shown { table_state result.hashes.now
+            (slots_by result.hashes.now (words_of result.buckets.now)) ≡ self.now }
     {
         HashedBuckets {
             buckets: &self.buckets,

@@ -28,10 +28,6 @@ const _: () = prove!(size_of::<Tally>() == 0);
 
 impl Tally {
     /// A tally that has seen no work.
-    ///
-    /// ```
-    /// let mut tally = Tally::new();
-    /// ```
     #[inline(always)]
     pub fn new() -> Tally
         ensures { result ≡ no_work }

@@ -75,20 +75,8 @@ impl Words for Vec<usize> {
     }
 }
 
-/// Up to which capacity the words of a table take four bytes. It is a type, so that a test can make a table of few pairs that
-/// goes over to eight.
-pub trait FourByteLimit {
-    /// The most pairs. Where four bytes are not enough for so many, it is as many as they are enough for.
-    const CAPACITY: usize;
-}
-
-/// Four bytes wherever they are enough.
-#[derive(Clone, Copy, Debug, PartialEq, Eq)]
-pub struct WhereEnough;
-
-impl FourByteLimit for WhereEnough {
-    const CAPACITY: usize = u32::MAX as usize;
-}
+/// The largest capacity whose buckets take four bytes.
+const MOST_IN_FOUR_BYTES: usize = u32::MAX as usize;
 
 /// The words of a table's buckets.
 #[derive(Drop)]
@@ -138,10 +126,7 @@ impl WordArray {
     }
 
     /// The words of so many empty buckets, each large enough for as many pairs as they may hold.
-    pub(crate) fn empty<L: FourByteLimit>(
-        alloc: Global,
-        count: usize,
-    ) -> Result<WordArray, AllocError>
+    pub(crate) fn empty(alloc: Global, count: usize) -> Result<WordArray, AllocError>
         requires { IsBucketCount count }
         ensures words { IfOk result (λ a. words_of a ≡ replicate count 0) }
         ensures fits { IfOk result (λ a. capacity_of count ≤ most_of a) }
@@ -150,7 +135,7 @@ impl WordArray {
         if count == 0 {
             return Ok(WordArray::new(alloc));
         }
-        if capacity_of(count) <= L::CAPACITY.min(u32::MAX as usize) {
+        if capacity_of(count) <= MOST_IN_FOUR_BYTES {
             Ok(WordArray::FourBytes(vec![in alloc; 0; count]?))
         } else {
             Ok(WordArray::EightBytes(vec![in alloc; 0; count]?))

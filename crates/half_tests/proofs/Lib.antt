@@ -1,5 +1,3 @@
-pub mod Losses
-pub mod OneHash
 pub mod Prefixes
 pub mod Searches
 pub mod Tables

@@ -9,7 +9,8 @@ module _ {X : Type 0} (f : X → X) where
   next_of_prefix (x ∷ xs) (suc i) d within = next_of_prefix xs i d (omega arith)
 
   -- and once it is changed too, one element more is
-  pub longer_prefix : (xs : List X) (i : ℕ) (d : X) → i < length xs → set (map f (take i xs) ++ drop i xs) i (f (get_or xs i d)) ≡ map f (take (suc i) xs) ++ drop (suc i) xs
+  pub longer_prefix : (xs : List X) (i : ℕ) (d : X) → i < length xs
+      → set (map f (take i xs) ++ drop i xs) i (f (get_or xs i d)) ≡ map f (take (suc i) xs) ++ drop (suc i) xs
   longer_prefix [] i d within = absurd (omega arith)
   longer_prefix (x ∷ xs) zero d within = refl
   longer_prefix (x ∷ xs) (suc i) d within = ap (λ l. f x ∷ l) (longer_prefix xs i d (omega arith))

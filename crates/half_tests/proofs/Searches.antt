@@ -1,22 +1,25 @@
 -- What a search of a worked map costs, in numbers.
-use Rattle.std.proofs.Common.{◌≡◌, ℕ, ◌+◌, ◌-◌, ◌==◌, Bool, true, false, not, ◌&&◌, eqb, List, [], ◌∷◌, length, map, Option, None, is_some, count_by, nat_lt, if◌then◌else◌, Bor, sym, ap, subst, ◌∙◌, arith}
+use Rattle.std.proofs.Common.{◌≡◌, ℕ, ◌+◌, ◌-◌, ◌==◌, Bool, true, false, not, ◌&&◌, eqb, List, [], ◌∷◌, length, map, count_by, nat_lt}
+use Rattle.std.proofs.Common.{is_some, if◌then◌else◌, sym, ap, subst, ◌∙◌, arith}
 use Rattle.std.proofs.Math.ListN.{length-map, get_or-map}
 use Rattle.std.proofs.lemmas.Bool.{and_parts, or_parts, not-true, eqb-false}
 use Rattle.std.proofs.lemmas.Map.Keys.{IsDistinct-cons, apart_from_distinct}
 use Rattle.std.specs.Hash.{le_bytes}
 use Rattle.std.specs.List.{IsDistinct, AllByRecursion, list_any}
 use Rattle.std.specs.Map.{keys_of}
-use Rattle.std.specs.Option.{option_copied}
 use Rattle.half_store.specs.Reach.{reach, home, HomesApart}
 use Rattle.half_store.specs.Capacity.{buckets_of, capacity_for}
+use Rattle.half_store.specs.Pairs.{index_of}
 use Rattle.half_store.specs.Work.{Work}
-use Rattle.halfbrown.specs.Costs.{SearchCosts, InsertCosts, Cost, GrewBy, GrewWithin, exactly, between, add_ranges, search_cost_of, insert_cost, NoHomeIsShared}
-use Rattle.halfbrown.specs.Pairs.{value_of, holds}
+use Rattle.halfbrown.specs.Costs.{KeySearchCosts, InsertCosts, Cost, GrewBy, GrewWithin, exactly, between, add_ranges, search_cost_of}
+use Rattle.halfbrown.specs.Costs.{insert_cost, NoHomeIsShared}
+use Rattle.halfbrown.specs.Pairs.{holds}
+use Rattle.halfbrown.proofs.lemmas.pairs.Indices.{found_where_held}
 use Rattle.halfbrown.specs.State.{State, state, contents_of}
 use Rattle.test_support.specs.declared.builders.Rule.{Rule}
 use Rattle.test_support.specs.declared.builders.Counting.{Counting}
 use Rattle.test_support.specs.Hashes.{hash_by, shifted}
-use Rattle.half_tests.specs.Tables.{IsTable, AtMost, more_work, are_distinct}
+use Rattle.half_tests.specs.Tables.{IsTableOf, more_work, are_distinct}
 
 -- ---- distinct numbers, from the test
 
@@ -34,7 +37,8 @@ distinct_of (n ∷ ns) e =
 pub homes_apart : (hashes : List ℕ) (buckets : ℕ) → are_distinct (map (home buckets) hashes) ≡ true → HomesApart hashes buckets
 homes_apart hashes buckets e i j d below within same =
     let homes = map (home buckets) hashes in
-    let apart = apart_from_distinct eqb homes i j (home buckets d) (distinct_of homes e) below (omega (arith, length-map hashes (home buckets))) in
+    let apart = apart_from_distinct eqb homes i j (home buckets d) (distinct_of homes e) below
+    (omega (arith, length-map hashes (home buckets))) in
     eqb-false _ _ apart (get_or-map (home buckets) hashes i d ∙ same ∙ sym (get_or-map (home buckets) hashes j d))
 
 -- ---- the work
@@ -86,23 +90,24 @@ module _ (rule : Rule) (held : List (ℕ × ℕ)) (capacity : ℕ) (k : ℕ) whe
   abbrev pub insertion_probe : ℕ
   insertion_probe = if grows then reach hashes_of (buckets_of grown) (number_hash rule k) else 0
 
-  -- what a granted insertion costs, by whether k is held
-  abbrev table_insert_cost : Bool → Cost
-  table_insert_cost found = record {
+  -- what a granted insertion costs, by whether its search found k and k is held
+  abbrev table_insert_cost : Bool → Bool → Cost
+  table_insert_cost found held = record {
     asked = 1;
     compared = if found then between 1 matches else exactly matches;
     looked = add_ranges
         (if found then between 1 (probe - 1) else exactly probe)
-        (exactly (if not found && grows then reach hashes_of (buckets_of grown) (number_hash rule k) else 0));
+        (exactly (if not held && grows then reach hashes_of (buckets_of grown) (number_hash rule k) else 0));
   }
 
-  module _ (m : State ℕ ℕ Counting) (table : IsTable rule held capacity m) where
+  module _ (m : State ℕ ℕ Counting) (table : IsTableOf rule held capacity m) where
     -- the parts of the state that costs depend on, from those that it has to those of the table
-    cost_is : search_cost_of eqb builder_hash m k ≡ table_cost (holds eqb held k)
-    cost_is i = search_cost_of eqb (λ b. number_hash (table.builder i)) (state (table.form i) (table.pairs i) (table.capacity i) m.builder (contents_of m)) k
+    cost_is : search_cost_of eqb builder_hash m k ≡ table_cost (is_some (index_of (eqb k) (keys_of held)))
+    cost_is i = search_cost_of eqb (λ b. number_hash (table.builder i))
+        (state (table.form i) (table.pairs i) (table.capacity i) m.columns m.builder (contents_of m)) k
 
-    held_is : holds eqb held k ≡ true → holds eqb m.pairs k ≡ true
-    held_is present = ap (λ ps. holds eqb ps k) table.pairs ∙ present
+    found_is : holds eqb held k ≡ true → is_some (index_of (eqb k) (keys_of m.pairs)) ≡ true
+    found_is present = found_where_held (eqb k) m.pairs ∙ ap (λ ps. holds eqb ps k) table.pairs ∙ present
 
     apart_is : are_distinct (map (home (buckets_of capacity)) hashes_of) ≡ true
         → NoHomeIsShared (builder_hash m.builder) m.capacity m.pairs
@@ -112,9 +117,10 @@ module _ (rule : Rule) (held : List (ℕ × ℕ)) (capacity : ℕ) (k : ℕ) whe
         subst (λ hs. HomesApart hs (buckets_of m.capacity)) (sym hashes)
         (subst (λ n. HomesApart hashes_of (buckets_of n)) (sym table.capacity) (homes_apart hashes_of (buckets_of capacity) e))
 
-    module _ (before after : Work) (cost : SearchCosts eqb builder_hash m k before after) where
+    module _ (before after : Work) (cost : KeySearchCosts eqb builder_hash m k before after) where
       grew_by : (found : Bool) → holds eqb held k ≡ found → GrewBy (table_cost found) before after
-      grew_by found is = subst (λ b. GrewBy (table_cost b) before after) is (subst (λ c. GrewBy c before after) cost_is cost.grew)
+      grew_by found is = subst (λ b. GrewBy (table_cost b) before after) (found_where_held (eqb k) held ∙ is)
+          (subst (λ c. GrewBy c before after) cost_is cost.grew)
 
       -- a key that is not held: each key of its hash is compared, and its probe is read to the end
       pub missing : holds eqb held k ≡ false → after ≡ more_work 1 matches probe before
@@ -122,59 +128,25 @@ module _ (rule : Rule) (held : List (ℕ × ℕ)) (capacity : ℕ) (k : ℕ) whe
           let grew = grew_by false absent in
           work_is _ _ grew.asked (grew_exactly _ _ _ grew.compared) (grew_exactly _ _ _ grew.looked)
 
-      -- a held key: at most each key of its hash is compared, and its probe is read to no empty bucket
-      pub found_within : (compared looked : ℕ) → holds eqb held k ≡ true → matches ≡ compared → probe ≡ looked + 1
-          → AtMost compared looked before after
-      found_within compared looked present as_many as_far =
-          let grew = grew_by true present in
-          record {
-            asked = grew.asked;
-            compared_some = grew.compared.least;
-            compared_most = omega (arith, grew.compared.most, as_many);
-            looked_some = grew.looked.least;
-            looked_most = omega (arith, grew.looked.most, as_far);
-          }
-
       -- a held key, where no home is shared and no other key has its hash
       pub found_at_home : holds eqb held k ≡ true → matches ≡ 1
           → are_distinct (map (home (buckets_of capacity)) hashes_of) ≡ true → after ≡ more_work 1 1 1 before
       found_at_home present alone apart =
           let grew = grew_by true present in
-          work_is _ _ grew.asked (omega (arith, grew.compared.least, grew.compared.most, alone)) (cost.looked_once table.form (held_is present) (apart_is apart))
+          work_is _ _ grew.asked (omega (arith, grew.compared.least, grew.compared.most, alone))
+          (cost.looked_once table.form (found_is present) (apart_is apart))
 
-    insert_cost_is : insert_cost 0 eqb builder_hash m k true ≡ table_insert_cost (holds eqb held k)
-    insert_cost_is i = insert_cost 0 eqb (λ b. number_hash (table.builder i)) (state (table.form i) (table.pairs i) (table.capacity i) m.builder (contents_of m)) k true
+    insert_cost_is : insert_cost 0 eqb builder_hash m k true
+        ≡ table_insert_cost (is_some (index_of (eqb k) (keys_of held))) (holds eqb held k)
+    insert_cost_is i = insert_cost 0 eqb (λ b. number_hash (table.builder i))
+        (state (table.form i) (table.pairs i) (table.capacity i) m.columns m.builder (contents_of m)) k true
 
     -- a new key that is granted: each key of its hash is compared, its probe is read to the end, and another one after growth
     pub inserting : (before after : Work) → InsertCosts 0 eqb builder_hash m k true before after → holds eqb held k ≡ false
         → after ≡ more_work 1 matches (probe + insertion_probe) before
     inserting before after cost absent =
-        let grew : GrewBy (table_insert_cost false) before after = subst (λ b. GrewBy (table_insert_cost b) before after) absent (subst (λ c. GrewBy c before after) insert_cost_is cost.grew) in
+        let grew : GrewBy (table_insert_cost false false) before after =
+        subst (λ b. GrewBy (table_insert_cost b false) before after) (found_where_held (eqb k) held ∙ absent)
+        (subst (λ b. GrewBy (table_insert_cost (is_some (index_of (eqb k) (keys_of held))) b) before after) absent
+        (subst (λ c. GrewBy c before after) insert_cost_is cost.grew)) in
         work_is _ _ grew.asked (grew_exactly _ _ _ grew.compared) (grew_exactly _ _ _ grew.looked)
-
-    -- the entry of a held key: at most each key of its hash is compared, and its probe is read to no empty bucket
-    pub entering : (before after : Work) → InsertCosts 0 eqb builder_hash m k true before after → (compared looked : ℕ)
-        → holds eqb held k ≡ true → matches ≡ compared → probe ≡ looked + 1 → AtMost compared looked before after
-    entering before after cost compared looked present as_many as_far =
-        let grew : GrewBy (table_insert_cost true) before after = subst (λ b. GrewBy (table_insert_cost b) before after) present (subst (λ c. GrewBy c before after) insert_cost_is cost.grew) in
-        record {
-          asked = grew.asked;
-          compared_some = grew.compared.least;
-          compared_most = omega (arith, grew.compared.most, as_many);
-          looked_some = grew.looked.least;
-          looked_most = omega (arith, grew.looked.most, as_far);
-        }
-
--- a key that is not held, by its number
-pub missing_as : (rule : Rule) (held : List (ℕ × ℕ)) (capacity k j : ℕ) → k ≡ j → (m : State ℕ ℕ Counting)
-    → IsTable rule held capacity m
-    → (r : Option (Bor ℕ)) → option_copied r ≡ value_of eqb m.pairs k → (found : Option ℕ) → found ≡ option_copied r
-    → (before after : Work) → SearchCosts eqb builder_hash m k before after
-    → value_of eqb held j ≡ None
-    → (found ≡ None) × (after ≡ more_work 1 (matches rule held capacity j) (probe rule held capacity j) before)
-missing_as rule held capacity k j same m table r value found copy before after cost absent =
-    let none : value_of eqb held k ≡ None = ap (value_of eqb held) same ∙ absent in (
-      copy ∙ value ∙ ap (λ ps. value_of eqb ps k) table.pairs ∙ none,
-      missing rule held capacity k m table before after cost (ap is_some none)
-          ∙ ap (λ key. more_work 1 (matches rule held capacity key) (probe rule held capacity key) before) same,
-    )

@@ -1,32 +1,31 @@
 -- Tables made key by key.
-use Rattle.std.proofs.Common.{◌≡◌, ℕ, zero, suc, ◌+◌, ◌<◌, ◌≤◌, ◌==◌, Bool, true, false, not, ◌&&◌, cond, ltb, leb, eqb, List, [], ◌∷◌, ◌++◌, length, get_or, take, max, MatchBool, MatchOption, nat_lt, if◌then◌else◌, Option, None, Some, is_some, inl, inr, refl, sym, ap, subst, ◌∙◌, arith}
+use Rattle.std.proofs.Common.{◌≡◌, ℕ, zero, suc, ◌+◌, ◌<◌, ◌==◌, Bool, true, false, not, ◌&&◌, cond, ltb, eqb, List, [], ◌∷◌, ◌++◌, length}
+use Rattle.std.proofs.Common.{get_or, take, MatchBool, MatchOption, nat_lt, if◌then◌else◌, Option, None, Some, is_some, refl, sym, ap}
+use Rattle.std.proofs.Common.{subst, ◌∙◌, arith}
 use Rattle.std.proofs.Math.ListN.{length-append, length-map}
-use Rattle.std.proofs.lemmas.Bool.{cases_lt, lt-ltb, ltb-true, ltb-false, ne_eqb, eq-eqb, eqb-true, and_parts, true≢false, lt-leb, leb-true, eqb-false}
+use Rattle.std.proofs.lemmas.Bool.{lt-ltb, ltb-true, ne_eqb, eqb-true, and_parts, true≢false, eqb-false}
 use Rattle.std.proofs.lemmas.List.{map-append, length-take, get_or-take, get_or_default}
 use Rattle.std.proofs.lemmas.Map.Keys.{apart_from_distinct}
 use Rattle.std.specs.List.{IsDistinct}
 use Rattle.std.specs.Map.{keys_of}
 use Rattle.half_store.specs.Capacity.{capacity_of, more_buckets, buckets_for, capacity_for, grown_capacity}
-use Rattle.half_store.proofs.CapacityLemmas.{buckets_for-least}
-use Rattle.halfbrown.specs.Growth.{is_full, is_vec_after, insert_needs, HasCapacityAfter, HasCapacityMade}
+use Rattle.halfbrown.specs.Growth.{is_full, is_vec_after, insert_needs, HasCapacityAfter}
+use Rattle.halfbrown.specs.Lookup.{IsAbsent}
 use Rattle.halfbrown.specs.Pairs.{holds, put, take_out}
 use Rattle.halfbrown.specs.State.{State, WithPairs}
-use Rattle.halfbrown.proofs.Indices.{NonePasses, none_at, absent_of_none}
+use Rattle.halfbrown.proofs.lemmas.pairs.Indices.{NonePasses, none_at, absent_of_none}
 use Rattle.test_support.specs.declared.builders.Rule.{Rule}
 use Rattle.test_support.specs.declared.builders.Counting.{Counting}
-use Rattle.half_tests.specs.Tables.{IsTable, twins}
+use Rattle.half_tests.specs.Tables.{IsTableOf, twins}
 
--- a map that was made for this capacity, and into which these keys were inserted; it is a vector as long as no capacity was needed
-pub record IsFilled (rule : Rule) (needed : ℕ) (keys : List ℕ) (m : State ℕ ℕ Counting) : Type 0 where
-  pub form : m.is_vec ≡ (max needed (length keys) == 0)
+-- a map into which these keys were inserted; it is a vector as long as there is none
+pub record IsFilled (rule : Rule) (keys : List ℕ) (m : State ℕ ℕ Counting) : Type 0 where
+  pub form : m.is_vec ≡ (length keys == 0)
   pub pairs : m.pairs ≡ twins keys
-  pub capacity : m.capacity ≡ capacity_for (max needed (length keys))
+  pub capacity : m.capacity ≡ capacity_for (length keys)
   pub builder : m.builder.rule ≡ rule
 
 -- ---- capacities
-
-capacity_for-fits : (n : ℕ) → n ≤ capacity_for n
-capacity_for-fits n = (buckets_for-least n).serves
 
 -- one pair more needs no other capacity where some is left
 capacity_for-more : (n : ℕ) → n < capacity_for n → capacity_for (n + 1) ≡ capacity_for n
@@ -35,43 +34,28 @@ capacity_for-more n left =
     let next : n + 1 ≡ suc n = omega arith in
     ap capacity_for next ∙ ap (λ b. capacity_of (cond b (buckets_for n) (more_buckets (buckets_for n)))) (lt-ltb n (capacity_for n) left)
 
-max_more : (needed n : ℕ) → n < capacity_for (max needed n) → capacity_for (max needed (n + 1)) ≡ capacity_for (max needed n)
-max_more needed n left =
-    elim (cases_lt n needed) [
-      | inl below ↦ ap capacity_for (omega arith)
-      | inr ge ↦
-          let here : max needed n ≡ n = omega arith in
-          let more : max needed (n + 1) ≡ n + 1 = omega arith in
-          ap capacity_for more ∙ capacity_for-more n (subst (λ k. n < capacity_for k) here left) ∙ ap capacity_for (sym here)
-    ]
-
--- where there is none, the pairs alone decide
-max_grown : (needed n : ℕ) → capacity_for (max needed n) ≤ n → capacity_for (max needed (n + 1)) ≡ capacity_for (n + 1)
-max_grown needed n full = ap capacity_for (let fits = capacity_for-fits (max needed n) in omega arith)
-
 -- the capacity of a table after a granted call
 after_in_table : (old new : State ℕ ℕ Counting) (needs : Option ℕ) → new.is_vec ≡ false → HasCapacityAfter 0 old needs new
     → MatchOption needs (new.capacity ≡ old.capacity) (λ size. new.capacity ≡ capacity_for size)
 after_in_table old new needs form after =
-    subst (λ is_vec. MatchOption needs (new.capacity ≡ old.capacity) (λ size. MatchBool is_vec (new.capacity ≡ grown_capacity 0 old.capacity size) (new.capacity ≡ capacity_for size))) form after
+    subst (λ is_vec. MatchOption needs (new.capacity ≡ old.capacity)
+    (λ size. MatchBool is_vec (new.capacity ≡ grown_capacity 0 old.capacity size) (new.capacity ≡ capacity_for size))) form after
 
 -- ---- one key more
 
--- after one insertion it is no vector: it was one only while no capacity was needed
-form_by : (is_vec : Bool) (n needed : ℕ) → n ≤ needed → is_vec ≡ (needed == 0) → (is_vec && not (is_vec && (n == 0))) ≡ false
-form_by true n needed within form =
-    let none : n ≡ 0 = let zero : needed ≡ 0 = eqb-true needed 0 (sym form) in omega arith in
-    ap not (eq-eqb n 0 none)
-form_by false n needed within form = refl
+-- after one insertion it is no vector: it was one only while it held no key
+form_by : (is_vec : Bool) (n : ℕ) → is_vec ≡ (n == 0) → (is_vec && not (is_vec && (n == 0))) ≡ false
+form_by true n form = ap not (sym form)
+form_by false n form = refl
 
-capacity_by : (full held left : Bool) (needed n old new : ℕ) → held ≡ false → ltb n old ≡ left
-    → old ≡ capacity_for (max needed n) → (full ≡ true → max needed n ≡ 0)
+capacity_by : (full held left : Bool) (n old new : ℕ) → held ≡ false → ltb n old ≡ left → old ≡ capacity_for n → (full ≡ true → n ≡ 0)
     → MatchOption (cond full (Some (0 + 1)) (cond held None (cond left None (Some (n + 1))))) (new ≡ old) (λ size. new ≡ capacity_for size)
-    → new ≡ capacity_for (max needed (n + 1))
-capacity_by true held left needed n old new unheld test was none after = after ∙ ap capacity_for (let zero = none refl in omega arith)
-capacity_by false true left needed n old new unheld test was none after = absurd (true≢false unheld)
-capacity_by false false true needed n old new unheld test was none after = after ∙ was ∙ sym (max_more needed n (subst (λ r. n < r) was (ltb-true n old test)))
-capacity_by false false false needed n old new unheld test was none after = after ∙ sym (max_grown needed n (subst (λ r. r ≤ n) was (ltb-false n old test)))
+    → new ≡ capacity_for (n + 1)
+capacity_by true held left n old new unheld test was none after = after ∙ ap capacity_for (let zero = none refl in omega arith)
+capacity_by false true left n old new unheld test was none after = absurd (true≢false unheld)
+capacity_by false false true n old new unheld test was none after = after ∙ was
+    ∙ sym (capacity_for-more n (subst (λ r. n < r) was (ltb-true n old test)))
+capacity_by false false false n old new unheld test was none after = after
 
 pub twins-push : (keys : List ℕ) (k : ℕ) → twins (keys ++ k ∷ []) ≡ twins keys ++ (k, k) ∷ []
 twins-push keys k = map-append (λ key. (key, key)) keys (k ∷ [])
@@ -80,67 +64,44 @@ pub keys_of-twins : (keys : List ℕ) → keys_of (twins keys) ≡ keys
 keys_of-twins [] = refl
 keys_of-twins (k ∷ ks) = ap (λ l. k ∷ l) (keys_of-twins ks)
 
-module _ (rule : Rule) (needed : ℕ) (keys : List ℕ) (k : ℕ) (old new : State ℕ ℕ Counting) (was : IsFilled rule needed keys old) (fresh : NonePasses (eqb k) keys)
-    (pairs : new.pairs ≡ put eqb old.pairs k k) (form : new.is_vec ≡ is_vec_after 0 old) (grows : HasCapacityAfter 0 old (insert_needs 0 eqb old k) new) (builder : new.builder ≡ old.builder) where
-  pairs_is : new.pairs ≡ twins (keys ++ k ∷ [])
-  pairs_is =
-      let absent = absent_of_none (eqb k) (twins keys) (subst (NonePasses (eqb k)) (sym (keys_of-twins keys)) fresh) in
-      pairs ∙ ap (λ ps. put eqb ps k k) was.pairs ∙ absent.put_is k k ∙ sym (twins-push keys k)
+module _ (rule : Rule) (keys : List ℕ) (k : ℕ) (old new : State ℕ ℕ Counting) (was : IsFilled rule keys old)
+    (fresh : NonePasses (eqb k) keys)
+    (pairs : new.pairs ≡ put eqb old.pairs k k) (form : new.is_vec ≡ is_vec_after 0 old)
+    (grows : HasCapacityAfter 0 old (insert_needs 0 eqb old k) new) (builder : new.builder ≡ old.builder) where
+  absent : IsAbsent (eqb k) (twins keys)
+  absent = absent_of_none (eqb k) (twins keys) (subst (NonePasses (eqb k)) (sym (keys_of-twins keys)) fresh)
 
   count : length old.pairs ≡ length keys
   count = ap length was.pairs ∙ length-map keys _
 
   unheld : holds eqb old.pairs k ≡ false
-  unheld =
-      let absent = absent_of_none (eqb k) (twins keys) (subst (NonePasses (eqb k)) (sym (keys_of-twins keys)) fresh) in
-      ap (λ ps. holds eqb ps k) was.pairs ∙ ap is_some absent.value
+  unheld = ap (λ ps. holds eqb ps k) was.pairs ∙ ap is_some absent.value
+
+  form_was : old.is_vec ≡ (length old.pairs == 0)
+  form_was = was.form ∙ ap (λ n. n == 0) (sym count)
 
   in_table : new.is_vec ≡ false
-  in_table = form ∙ form_by old.is_vec (length old.pairs) (max needed (length keys)) (omega (arith, count)) was.form
+  in_table = form ∙ form_by old.is_vec (length old.pairs) form_was
 
-  none_needed : is_full 0 old ≡ true → max needed (length old.pairs) ≡ 0
-  none_needed full =
-      let zero : max needed (length keys) ≡ 0 = eqb-true _ 0 (sym was.form ∙ (and_parts old.is_vec (length old.pairs == 0) full).0) in
-      ap (max needed) count ∙ zero
+  none_held : is_full 0 old ≡ true → length old.pairs ≡ 0
+  none_held full = eqb-true _ 0 (and_parts old.is_vec (length old.pairs == 0) full).1
 
-  capacity_is : new.capacity ≡ capacity_for (max needed (length old.pairs + 1))
+  capacity_is : new.capacity ≡ capacity_for (length old.pairs + 1)
   capacity_is =
-      capacity_by (is_full 0 old) (holds eqb old.pairs k) (ltb (length old.pairs) old.capacity) needed (length old.pairs) old.capacity new.capacity
-      unheld refl (was.capacity ∙ ap (λ n. capacity_for (max needed n)) (sym count)) none_needed (after_in_table old new (insert_needs 0 eqb old k) in_table grows)
+      capacity_by (is_full 0 old) (holds eqb old.pairs k) (ltb (length old.pairs) old.capacity) (length old.pairs) old.capacity new.capacity
+      unheld refl (was.capacity ∙ ap capacity_for (sym count)) none_held (after_in_table old new (insert_needs 0 eqb old k) in_table grows)
 
-  pub filled_more : IsFilled rule needed (keys ++ k ∷ []) new
+  pub filled_more : IsFilled rule (keys ++ k ∷ []) new
   filled_more =
       let one : length (keys ++ k ∷ []) ≡ length keys + 1 = length-append keys (k ∷ []) in
       record {
         form = in_table ∙ sym (ne_eqb _ 0 (λ e. omega arith));
-        pairs = pairs_is;
-        capacity = capacity_is ∙ ap (λ n. capacity_for (max needed n)) (let c = count in omega arith);
+        pairs = pairs ∙ ap (λ ps. put eqb ps k k) was.pairs ∙ absent.put_is k k ∙ sym (twins-push keys k);
+        capacity = capacity_is ∙ ap capacity_for (let c = count in omega arith);
         builder = ap (λ b. b.rule) builder ∙ was.builder;
       }
 
--- ---- the first state, and one more of the keys
-
-made_form : (needed : ℕ) → leb needed 0 ≡ (max needed 0 == 0)
-made_form zero = refl
-made_form (suc needed) = lt-leb (suc needed) 0 (omega arith) ∙ sym (ne_eqb _ 0 (λ e. omega arith))
-
-made_capacity : (is_vec : Bool) (needed new : ℕ) → is_vec ≡ leb needed 0
-    → new ≡ (if is_vec then needed else capacity_for needed) → new ≡ capacity_for (max needed 0)
-unfolding buckets_for
-made_capacity true needed new form made =
-    let none : needed ≡ 0 = let within = leb-true needed 0 (sym form) in omega arith in
-    let zero : max needed 0 ≡ 0 = omega arith in
-    made ∙ none ∙ ap capacity_for (sym zero)
-made_capacity false needed new form made = let same : needed ≡ max needed 0 = omega arith in made ∙ ap capacity_for same
-
-pub filled_none : (rule : Rule) (needed : ℕ) (m : State ℕ ℕ Counting) → m.is_vec ≡ leb needed 0 → m.pairs ≡ []
-    → HasCapacityMade needed m → m.builder.rule ≡ rule → IsFilled rule needed [] m
-filled_none rule needed m form pairs made builder = record {
-  form = form ∙ made_form needed;
-  pairs = pairs;
-  capacity = made_capacity m.is_vec needed m.capacity form made;
-  builder = builder;
-}
+-- ---- one more of the keys
 
 -- a key differs from those before it
 pub fresh_at : (keys : List ℕ) (i : ℕ) → IsDistinct eqb keys → i < length keys → NonePasses (eqb (get_or keys i 0)) (take i keys)
@@ -148,17 +109,8 @@ fresh_at keys i distinct within =
     none_at (eqb (get_or keys i 0)) (take i keys) (λ j d before.
     let below : j < i = let size = length-take i keys in omega arith in
     let same : get_or (take i keys) j d ≡ get_or keys j 0 = get_or-take i keys j d below ∙ get_or_default keys j d 0 (omega arith) in
-    ne_eqb _ _ (λ e. eqb-false (get_or keys j 0) (get_or keys i 0) (apart_from_distinct eqb keys j i 0 distinct below within) (sym same ∙ sym e)))
-
--- once capacity was needed it is a table
-pub table_of_filled : (rule : Rule) (needed : ℕ) (keys : List ℕ) (m : State ℕ ℕ Counting) → IsFilled rule needed keys m
-    → 0 < max needed (length keys) → IsTable rule (twins keys) (capacity_for (max needed (length keys))) m
-table_of_filled rule needed keys m filled some = record {
-  form = filled.form ∙ ne_eqb _ 0 (λ e. omega arith);
-  pairs = filled.pairs;
-  capacity = filled.capacity;
-  builder = filled.builder;
-}
+    ne_eqb _ _ (λ e. eqb-false (get_or keys j 0) (get_or keys i 0) (apart_from_distinct eqb keys j i 0 distinct below within)
+    (sym same ∙ sym e)))
 
 -- ---- a table after a call
 
@@ -168,9 +120,10 @@ with_by : (left : Bool) (n old new : ℕ)
 with_by true n old new after = after
 with_by false n old new after = after
 
-module _ (rule : Rule) (held : List (ℕ × ℕ)) (capacity : ℕ) (k : ℕ) (old : State ℕ ℕ Counting) (table : IsTable rule held capacity old) (new : State ℕ ℕ Counting) where
+module _ (rule : Rule) (held : List (ℕ × ℕ)) (capacity : ℕ) (k : ℕ) (old : State ℕ ℕ Counting) (table : IsTableOf rule held capacity old)
+    (new : State ℕ ℕ Counting) where
   -- after a removal
-  pub table_without : WithPairs old (take_out eqb old.pairs k) new → IsTable rule (take_out eqb held k) capacity new
+  pub table_without : WithPairs old (take_out eqb old.pairs k) new → IsTableOf rule (take_out eqb held k) capacity new
   table_without after = record {
     form = after.form ∙ table.form;
     pairs = after.pairs ∙ ap (λ ps. take_out eqb ps k) table.pairs;
@@ -181,20 +134,23 @@ module _ (rule : Rule) (held : List (ℕ × ℕ)) (capacity : ℕ) (k : ℕ) (ol
   -- after a new key was inserted
   pub table_with : (v : ℕ) → holds eqb held k ≡ false → new.pairs ≡ put eqb old.pairs k v → new.is_vec ≡ is_vec_after 0 old
       → HasCapacityAfter 0 old (insert_needs 0 eqb old k) new → new.builder ≡ old.builder
-      → IsTable rule (put eqb held k v) (if nat_lt (length held) capacity then capacity else capacity_for (length held + 1)) new
+      → IsTableOf rule (put eqb held k v) (if nat_lt (length held) capacity then capacity else capacity_for (length held + 1)) new
   table_with v absent pairs form grows builder =
       let full : is_full 0 old ≡ false = ap (λ is_vec. is_vec && (length old.pairs == 0)) table.form in
       let table_still : new.is_vec ≡ false = form ∙ ap (λ is_vec. is_vec && not (is_vec && (length old.pairs == 0))) table.form in
       let none : holds eqb old.pairs k ≡ false = ap (λ ps. holds eqb ps k) table.pairs ∙ absent in
       let made = after_in_table old new (insert_needs 0 eqb old k) table_still grows in
       let needed : insert_needs 0 eqb old k ≡ (if nat_lt (length old.pairs) old.capacity then None else Some (length old.pairs + 1)) =
-      ap (λ b. if b then Some (0 + 1) else (if holds eqb old.pairs k then None else (if nat_lt (length old.pairs) old.capacity then None else Some (length old.pairs + 1)))) full
+      ap (λ b. if b then Some (0 + 1)
+      else (if holds eqb old.pairs k then None
+      else (if nat_lt (length old.pairs) old.capacity then None else Some (length old.pairs + 1)))) full
       ∙ ap (λ b. if b then None else (if nat_lt (length old.pairs) old.capacity then None else Some (length old.pairs + 1))) none in
       record {
         form = table_still;
         pairs = pairs ∙ ap (λ ps. put eqb ps k v) table.pairs;
         capacity =
-            with_by (nat_lt (length old.pairs) old.capacity) (length old.pairs) old.capacity new.capacity (subst (λ size. MatchOption size (new.capacity ≡ old.capacity) (λ n. new.capacity ≡ capacity_for n)) needed made)
+            with_by (nat_lt (length old.pairs) old.capacity) (length old.pairs) old.capacity new.capacity
+            (subst (λ size. MatchOption size (new.capacity ≡ old.capacity) (λ n. new.capacity ≡ capacity_for n)) needed made)
             ∙ ap (λ ps. if nat_lt (length ps) old.capacity then old.capacity else capacity_for (length ps + 1)) table.pairs
             ∙ ap (λ n. if nat_lt (length held) n then n else capacity_for (length held + 1)) table.capacity;
         builder = ap (λ b. b.rule) builder ∙ table.builder;

@@ -1,4 +1,4 @@
-//! What callers build in a loop: counts of words, and values gathered by key, each with all that there is to say of it.
+//! What callers build in a loop: counts of words, and values gathered by key.
 ghost use Rattle.std.specs.Prelude.{◌≡◌, true, IfOk, OnOk, map};
 ghost use Rattle.std.specs.List.{list_any};
 ghost use Rattle.std.specs.Map.{keys_of};
@@ -48,35 +48,6 @@ pub fn count_texts(alloc: Global, words: &[&str]) -> Result<HashMap<String, u64>
         *counts.entry(String::from_str(alloc, word)?)?.or_insert(0) += 1;
     }
     Ok(counts)
-}
-
-/// The same by texts that are lent.
-pub fn count_lent_texts<'a>(
-    alloc: Global,
-    words: &[&'a str],
-) -> Result<HashMap<&'a str, u64>, Refusal>
-    ensures { IfOk result (λ counts. CountsEach bytes_eq (map (λ word. word.now) words.now)
-        (keyed_by (λ key. key.now) counts.pairs)) }
-{
-    let mut counts = HashMap::new(alloc);
-    for word in words {
-        *counts.entry(*word)?.or_insert(0) += 1;
-    }
-    Ok(counts)
-}
-
-/// The items of each key, in order, where the pairs are used up.
-pub fn group_owned<K: Eq + Hash + Drop>(
-    alloc: Global,
-    pairs: Vec<(K, u64)>,
-) -> Result<HashMap<K, Vec<u64>>, Refusal>
-    ensures { IfOk result (λ groups. GroupsEach K.eq (λ v. v.items) pairs.items groups.pairs) }
-{
-    let mut groups = HashMap::new(alloc);
-    for (key, item) in pairs {
-        groups.entry(key)?.or_insert(Vec::new(alloc)).push(item)?;
-    }
-    Ok(groups)
 }
 
 /// Stores a pair. Its key is among the keys then, at the end where none equal to it was held.

@@ -1,5 +1,5 @@
-//! What callers build on `drain`, proved from its public contract alone: the oldest pair of a map that is then empty, and all
-//! pairs as a list.
+//! What callers build on `drain`, proved from its public contract alone: the first pair of a map that is then empty, and all
+//! pairs in a list.
 ghost use Rattle.std.specs.Prelude.{◌≡◌, [], IfOk, slice_get};
 ghost use Rattle.halfbrown.specs.State.{WithPairs};
 
@@ -15,16 +15,6 @@ pub fn take_first<K: Eq + Hash + Drop, V: Drop, S: BuildHasher, L: Limit>(
     ensures emptied { WithPairs map.old [] map.new }
 {
     map.drain().next()
-}
-
-/// All pairs, in order.
-pub fn take_all<K: Eq + Hash + Drop, V: Drop, S: BuildHasher, L: Limit>(
-    alloc: Global,
-    map: &mut LimitedHashMap<K, V, S, L>,
-) -> Result<Vec<(K, V)>, AllocError>
-    ensures { IfOk result (λ pairs. pairs.items ≡ map.old.pairs) }
-{
-    map.drain().collect(alloc)
 }
 
 /// All pairs, in order, one at a time.

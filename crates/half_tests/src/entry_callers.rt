@@ -8,27 +8,6 @@ use halfbrown::{
 };
 use std::hash::{BuildHasher, Hash};
 
-/// Counts a key once more. Returns false where its count is the greatest number, and then nothing changes.
-pub fn count<K: Eq + Hash + Drop, S: BuildHasher, L: Limit>(
-    counts: &mut LimitedHashMap<K, u64, S, L>,
-    key: K,
-) -> Result<bool, Refusal>
-    ensures counted { IfOk result (λ counted. counted ≡ true → value_of K.eq counts.new.pairs key
-        ≡ Some (unwrap_or (value_of K.eq counts.old.pairs key) 0 + 1)) }
-    ensures kept { IfOk result (λ counted. counted ≡ false → value_of K.eq counts.new.pairs key
-        ≡ Some (2 ^ 64 - 1)) }
-    ensures others { OnOk result ((other : K) → K.eq key other ≡ false
-        → value_of K.eq counts.new.pairs other ≡ value_of K.eq counts.old.pairs other) }
-    ensures err { OnErr result (counts.new ≡ counts.old) }
-{
-    let count = counts.entry(key)?.or_insert(0);
-    if *count == u64::MAX {
-        return Ok(false);
-    }
-    *count += 1;
-    Ok(true)
-}
-
 /// Counts a key once more, up to the greatest number.
 pub fn count_up<K: Eq + Hash + Drop, S: BuildHasher, L: Limit>(
     counts: &mut LimitedHashMap<K, u64, S, L>,

@@ -1,26 +1,10 @@
 //! What callers conclude from the equality of maps, proved from its public contracts alone.
 ghost use Rattle.std.specs.Prelude.{◌≡◌, ◌+◌, true, false, nat_eq, length, IsTrue};
-ghost use Rattle.halfbrown.specs.Equality.{same_pairs, same_value};
+ghost use Rattle.halfbrown.specs.Equality.{same_pairs};
 ghost use Rattle.halfbrown.specs.Pairs.{value_of};
 
 use halfbrown::{Limit, LimitedHashMap, Tally, laws};
 use std::hash::{BuildHasher, Hash};
-
-/// Whether a map still says what it said when a copy was made, which may be of another form: each key has an equal value, or
-/// none in both.
-pub fn unchanged_since<K: Eq + Hash, V: PartialEq, S: BuildHasher, L: Limit, M: Limit>(
-    copy: &LimitedHashMap<K, V, S, M>,
-    map: &LimitedHashMap<K, V, S, L>,
-) -> bool
-    ensures values { IsTrue result → (key : K) → IsTrue (same_value K.eq V.eq map.now.pairs copy.now.pairs key) }
-    ensures len { IsTrue result → length map.now.pairs ≡ length copy.now.pairs }
-{
-    laws::equality::<K, V>();
-    // These tell the prover what holds of every map, and do nothing.
-    let _ = map.len();
-    let _ = copy.len();
-    map.same_pairs(copy)
-}
 
 /// Whether two maps give each name the same age.
 pub fn same_ages<S: BuildHasher, T: BuildHasher, L: Limit, M: Limit>(

@@ -1,5 +1,5 @@
 //! What callers do with errors: `?` takes those of the map and those of std to one type.
-ghost use Rattle.std.specs.Prelude.{◌≡◌, Some, nat_eq, OnOk, OnErr, IfOk, IfErr, vec_len};
+ghost use Rattle.std.specs.Prelude.{◌≡◌, Some, nat_eq, OnOk, IfOk, IfErr};
 ghost use Rattle.std.specs.IoError.{error_kind};
 ghost use Rattle.std.specs.declared.io.ErrorKind.TheVariants.{OutOfMemory};
 ghost use Rattle.halfbrown.specs.Pairs.{value_of};
@@ -9,21 +9,19 @@ use std::alloc::Global;
 use std::hash::BuildHasher;
 use std::io;
 
-/// Stores an age, and writes the name out. The text may be refused, its place in the list and the pair.
-pub fn store_and_write<S: BuildHasher, L: Limit>(
-    alloc: Global,
+/// Makes the capacity enough for two ages more, and stores Ada's and Ben's. Two errors, one type: `?` converts both.
+pub fn add_two<S: BuildHasher, L: Limit>(
     ages: &mut LimitedHashMap<u64, u32, S, L>,
-    name: u64,
-    age: u32,
-) -> Result<Vec<String>, Refusal>
-    ensures written { IfOk result (λ names. vec_len names ≡ 1) }
-    ensures stored { OnOk result (value_of nat_eq ages.new.pairs name ≡ Some age) }
-    ensures err { OnErr result (ages.new ≡ ages.old) }
+    ada: u32,
+    ben: u32,
+) -> Result<(), Refusal>
+    ensures ada { OnOk result (value_of nat_eq ages.new.pairs 1 ≡ Some ada) }
+    ensures ben { OnOk result (value_of nat_eq ages.new.pairs 2 ≡ Some ben) }
 {
-    let mut names = Vec::new(alloc);
-    names.push(format!(in alloc; "{name}")?)?;
-    ages.insert(name, age)?;
-    Ok(names)
+    ages.reserve(2)?;
+    ages.insert(1, ada)?;
+    ages.insert(2, ben)?;
+    Ok(())
 }
 
 /// A number in words, in a list. Where only std's calls may fail, the reason is known.

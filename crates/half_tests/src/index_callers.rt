@@ -1,9 +1,7 @@
-//! What callers build on the calls by index, proved from their public contracts alone: a stack of names, a value that is
-//! written at the index that was found, and a removal that is made in two steps.
+//! What callers build on the calls by index, proved from their public contracts alone: a stack of names, a removal by
+//! the index that was found, and a value that is set by its index.
 ghost use Rattle.std.specs.Prelude.{◌≡◌, ◌<◌, ◌++◌, false, length, option_to_list, IfSome};
-ghost use Rattle.std.specs.Map.Iter.{deref_pair};
-ghost use Rattle.std.specs.Option.{option_map};
-ghost use Rattle.half_store.specs.Pairs.{set_value};
+ghost use Rattle.halfbrown.specs.Pairs.{set_value};
 ghost use Rattle.halfbrown.specs.Pairs.{pair_of, holds, take_out};
 
 use halfbrown::{Limit, LimitedHashMap};
@@ -18,17 +16,6 @@ pub fn forget_last<N: Eq + Hash + Drop, M: Drop, S: BuildHasher, L: Limit>(
     ensures forgotten { IfSome result (λ pair. holds N.eq scope.new.pairs pair.0 ≡ false) }
 {
     scope.pop()
-}
-
-/// The pair of a key, by its index.
-pub fn pair_by_index<'a, K: Eq + Hash, V, S: BuildHasher, L: Limit>(
-    map: &'a LimitedHashMap<K, V, S, L>,
-    key: &K,
-) -> Option<(&'a K, &'a V)>
-    ensures { option_map deref_pair result ≡ pair_of K.eq map.now.pairs key.now }
-{
-    let index = map.get_index_of(key)?;
-    map.get_index(index)
 }
 
 /// Removes the pair of a key, by its index, as `remove_entry` does.

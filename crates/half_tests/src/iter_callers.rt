@@ -1,6 +1,6 @@
-//! What callers build on iteration, proved from its public contracts alone: sums, counts and lists of what is held, and values
+//! What callers build on iteration, proved from its public contracts alone: sums and counts of what is held, a list, and values
 //! that are all written.
-ghost use Rattle.std.specs.Prelude.{◌≡◌, ◌+◌, ◌/◌, ◌^◌, ◌<◌, ◌≤◌, ◌==◌, count_by, map, min, sum, IfOk, MatchOption};
+ghost use Rattle.std.specs.Prelude.{◌≡◌, ◌+◌, ◌/◌, ◌^◌, ◌<◌, ◌==◌, count_by, map, min, sum, IfOk};
 ghost use Rattle.std.specs.Map.{keys_of, values_of};
 
 use halfbrown::{Limit, LimitedHashMap};
@@ -37,16 +37,6 @@ pub fn votes_for<K: Eq + Hash, S: BuildHasher, L: Limit>(
     ensures { result ≡ count_by (λ vote. vote == candidate) (values_of votes.now.pairs) }
 {
     votes.iter().filter(|(_, vote)| **vote == candidate).count()
-}
-
-/// The keys, in their order.
-pub fn listed<S: BuildHasher, L: Limit>(
-    alloc: Global,
-    map: &LimitedHashMap<u64, u64, S, L>,
-) -> Result<Vec<u64>, AllocError>
-    ensures { IfOk result (λ list. list.items ≡ keys_of map.now.pairs) }
-{
-    map.keys().copied().collect(alloc)
 }
 
 /// The pairs, in their order.

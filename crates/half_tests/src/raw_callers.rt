@@ -6,8 +6,7 @@ ghost use Rattle.std.specs.Option.{UnwrapsOrElse, option_map};
 ghost use Rattle.halfbrown.specs.Costs.{switch_asked};
 ghost use Rattle.halfbrown.specs.Pairs.{value_of, pair_of};
 
-use half_store::Tally;
-use halfbrown::{Limit, LimitedHashMap, LimitedRawEntryMut, Refusal};
+use halfbrown::{Limit, LimitedHashMap, LimitedRawEntryMut, Refusal, Tally};
 use std::hash::{BuildHasher, Hash};
 
 /// The value that is cached for a key, which is computed where there is none. The key is hashed once, before all else: the

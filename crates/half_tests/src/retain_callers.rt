@@ -5,7 +5,7 @@ ghost use Rattle.std.specs.Prelude.{◌≡◌, ◌/◌, nat_le, filter, map};
 use halfbrown::{Limit, LimitedHashMap};
 use std::hash::{BuildHasher, Hash};
 
-/// Keeps the goods of which there are so many at least, in their order.
+/// Keeps the goods whose count is at least this, in their order.
 pub fn keep_from<K: Eq + Hash + Drop, S: BuildHasher, L: Limit>(
     stock: &mut LimitedHashMap<K, u64, S, L>,
     least: u64,

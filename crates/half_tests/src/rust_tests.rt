@@ -1,22 +1,17 @@
-//! The tests and the examples of the Rust crate: where each is, with its meaning kept. Here are those whose keys or values are
-//! texts or characters, which scripts have not.
+//! The tests and the examples of the Rust crate, each with its meaning kept. Their keys and values are texts and characters,
+//! which scripts have not.
 //!
 //! | test of the Rust crate | is |
 //! |---|---|
-//! | `test_hashmap` | `written_pairs`; `hashmap` in scripts |
-//! | `scale_up`, `scale_up_via_no_check` | `tests/scripts/switch.txt` |
-//! | `scale_up_via_entry`, `scale_up_mixed` | `tests/scripts/switch.txt` |
-//! | `str_key` | `forms_of_keys::a_text_key_is_indexed_by_a_text` |
-//! | `add_remove` | `one_pair`; `remove` in scripts |
+//! | `test_hashmap` | `written_pairs` |
+//! | `scale_up`, `scale_up_via_no_check`, `scale_up_via_entry`, `scale_up_mixed` | `tests/scripts/switch.txt` |
+//! | `str_key`, `add_remove` | `one_pair` |
 //!
 //! | example of the call | is |
 //! |---|---|
-//! | `new`, `with_capacity`, `vec_with_capacity` | `examples::making`; `made` in scripts |
-//! | `with_hasher`, `with_capacity_and_hasher`, `hasher` | `examples::{making, what_a_map_says_of_itself}`; `made` in scripts |
-//! | `capacity`, `reserve`, `shrink_to_fit` | `tests/scripts/capacity_calls.txt`; `try_reserve` is what `reserve` does |
+//! | `new`, `with_capacity`, `with_hasher`, `hasher`, `retain`, .. | the example in the documentation of that call |
 //! | `keys`, `values`, `values_mut`, `iter`, `iter_mut` | `going_over_three` |
 //! | `len`, `is_empty`, `drain`, `clear` | `counting_and_emptying` |
-//! | `retain` | `examples::keeping_some`; `retain` in scripts |
 //! | `insert`, `get`, `contains_key`, `get_mut`, `remove`, `remove_entry` | `one_pair` |
 //! | `entry` | `characters_are_counted` |
 //! | `Entry`: `or_insert`, `or_insert_with`, `or_default`, `key`, `and_modify` | `ponies_by_entries` |
@@ -24,16 +19,12 @@
 //! | `OccupiedEntry::replace_entry_with` | `a_lost_pair_is_gone` |
 //! | `VacantEntry`: `key`, `into_key`, `insert` | `absent_ponies` |
 //! | `RawEntryMut`: `insert`, `or_insert`, `and_modify` | `ponies_by_raw_entries` |
-//! | `RawEntryMut::or_insert_with` | `raw_examples::inserting`; `raw KEY or_insert_with` in scripts |
 //! | `hashmap!` | `written_pairs` |
 
 use crate::drain_callers::take_first;
-use halfbrown::{Entry, HashMap, Refusal, hashmap};
-use std::alloc::Global;
+use halfbrown::{Entry, HashMap, hashmap};
 use std::test::Fail;
 use test_support::asserts::{assert_same, assert_same_at, assert_true};
-
-type Numbers = HashMap<u64, u64>;
 
 type Letters = HashMap<u64, &'static str>;
 
@@ -48,24 +39,14 @@ fn written_pairs(rt: HostRuntime) -> Result<(), Fail> {
     assert_same(names.len(), 2, "two names")?;
     assert_same(names.get(&1).copied(), Some("one"), "the first")?;
     assert_same(names.get(&3).copied(), None, "no third")?;
-    let inner: Numbers = hashmap! {in alloc; 0 => 1 + 2,}?;
-    let nested: HashMap<u64, Numbers> = hashmap! {in alloc; 1 => inner}?;
+    let nested: HashMap<u64, Letters> = hashmap! {in alloc; 1 => names}?;
     assert_same(nested.len(), 1, "a map of maps")
-}
-
-// "a" is 1, "b" is 2 and "c" is 3.
-fn three(alloc: Global) -> Result<Ponies, Refusal> {
-    let mut map = Ponies::new(alloc);
-    for (text, value) in [("a", 1), ("b", 2), ("c", 3)] {
-        map.insert(text, value)?;
-    }
-    Ok(map)
 }
 
 #[test]
 fn going_over_three(rt: HostRuntime) -> Result<(), Fail> {
     let alloc = rt.alloc();
-    let mut map = three(alloc)?;
+    let mut map: Ponies = hashmap! {in alloc; "a" => 1, "b" => 2, "c" => 3}?;
     let keys = map.keys().copied().collect::<Vec<&str>>(alloc)?;
     assert_same(keys.as_slice(), ["a", "b", "c"].as_slice(), "the keys")?;
     for value in map.values_mut() {
@@ -98,19 +79,23 @@ fn counting_and_emptying(rt: HostRuntime) -> Result<(), Fail> {
 
 #[test]
 fn one_pair(rt: HostRuntime) -> Result<(), Fail> {
-    let mut map = Letters::new(rt.alloc());
-    assert_same(map.insert(1, "z")?, None, "new")?;
-    assert_same(map.insert(1, "a")?, Some("z"), "the value before")?;
-    assert_same(map.get(&1).copied(), Some("a"), "held")?;
-    assert_same(map.get(&2).copied(), None, "not held")?;
-    assert_true(map.contains_key(&1) && !map.contains_key(&2), "the same")?;
-    if let Some(value) = map.get_mut(&1) {
-        *value = "b";
+    let mut map = HashMap::<String, u64>::new(rt.alloc());
+    let key = || String::from_str(rt.alloc(), "hello");
+    assert_same(map.insert(key()?, 41)?, None, "new")?;
+    assert_same(map.insert(key()?, 42)?, Some(41), "the value before")?;
+    assert_same(map.get("hello").copied(), Some(42), "held")?;
+    let value = if map.contains_key("hello") {
+        map["hello"]
+    } else {
+        0
+    };
+    assert_same(value, 42, "by a text")?;
+    assert_same(map.get("goodbye").copied(), None, "not held")?;
+    if let Some(value) = map.get_mut("hello") {
+        *value = 43;
     }
-    assert_same(map.remove(&1), Some("b"), "written, and removed")?;
-    assert_same(map.remove(&1), None, "gone")?;
-    map.insert(1, "a")?;
-    assert_same(map.remove_entry(&1), Some((1, "a")), "removed with its key")
+    assert_same(map.remove("hello"), Some(43), "written, and removed")?;
+    assert_true(map.remove_entry("hello").is_none(), "gone")
 }
 
 #[test]
@@ -121,12 +106,9 @@ fn characters_are_counted(rt: HostRuntime) -> Result<(), Fail> {
         *count = count.saturating_add(1);
     }
     assert_same(times.len(), 13, "the characters")?;
-    let counts = [('s', 2), ('t', 3), ('u', 1), (' ', 4)];
-    for (character, count) in &counts {
-        let counted = times.get(character).copied();
-        assert_same_at(*character, counted, Some(*count), "how often")?;
-    }
-    assert_same(times.get(&'y').copied(), None, "no y")
+    let counts = ['s', 't', 'u', ' ', 'y'].map(|it| times.get(&it).copied());
+    let expected = [Some(2), Some(3), Some(1), Some(4), None];
+    assert_same(counts, expected, "how often")
 }
 
 #[test]
@@ -140,19 +122,9 @@ fn ponies_by_entries(rt: HostRuntime) -> Result<(), Fail> {
             .or_insert(42);
         assert_same(value, expected, "made, and changed")?;
     }
-    let count = map.entry(PONIES)?.or_insert(10);
-    *count = count.saturating_mul(2);
-    assert_same(map.get(PONIES).copied(), Some(86), "twice as many")
-}
-
-#[test]
-fn values_of_entries_are_made(rt: HostRuntime) -> Result<(), Fail> {
-    let alloc = rt.alloc();
-    let mut texts = HashMap::<&str, &str>::new(alloc);
-    let text = *texts.entry(PONIES)?.or_insert_with(|| "hoho");
-    assert_same(text, "hoho", "made")?;
-    let mut perhaps = HashMap::<&str, Option<u64>>::new(alloc);
-    assert_same(*perhaps.entry(PONIES)?.or_default(), None, "by default")
+    let made = *map.entry("horseyland")?.or_insert_with(|| 37);
+    assert_same(made, 37, "made")?;
+    assert_same(*map.entry("neverland")?.or_default(), 0, "by default")
 }
 
 #[test]
@@ -165,7 +137,6 @@ fn held_ponies(rt: HostRuntime) -> Result<(), Fail> {
         assert_same(entry.insert(24), 22, "ten more")?;
         *entry.into_mut() = 34;
     }
-    assert_same(map.get(PONIES).copied(), Some(34), "and twelve")?;
     if let Entry::Occupied(entry) = map.entry(PONIES)? {
         assert_same(entry.remove(), 34, "the last value")?;
     }
@@ -180,15 +151,15 @@ fn held_ponies(rt: HostRuntime) -> Result<(), Fail> {
 // The keys have an owner: a caller whose key type holds a reference gets no proof of `replace_entry_with`.
 #[test]
 fn a_lost_pair_is_gone(rt: HostRuntime) -> Result<(), Fail> {
-    let alloc = rt.alloc();
-    let mut map = HashMap::<String, u64>::new(alloc);
-    map.insert(String::from_str(alloc, PONIES)?, 42)?;
-    if let Entry::Occupied(entry) = map.entry(String::from_str(alloc, PONIES)?)? {
+    let mut map = HashMap::<String, u64>::new(rt.alloc());
+    let key = || String::from_str(rt.alloc(), PONIES);
+    map.insert(key()?, 42)?;
+    if let Entry::Occupied(entry) = map.entry(key()?)? {
         let left = entry.replace_entry_with(|_, value| value.checked_add(1));
         assert_same(left.key().as_str(), PONIES, "the key stays")?;
     }
     assert_same(map.get(PONIES).copied(), Some(43), "one more")?;
-    if let Entry::Occupied(entry) = map.entry(String::from_str(alloc, PONIES)?)? {
+    if let Entry::Occupied(entry) = map.entry(key()?)? {
         let left = entry.replace_entry_with(|_, _| None);
         assert_same(left.key().as_str(), PONIES, "the entry has the key")?;
     }
@@ -221,8 +192,5 @@ fn ponies_by_raw_entries(rt: HostRuntime) -> Result<(), Fail> {
             .or_insert(PONIES, 42);
         assert_same(*value, expected, "made, and changed")?;
     }
-    let (_, value) = map.raw_entry_mut()?.from_key(&PONIES).or_insert(PONIES, 10);
-    *value = value.saturating_mul(2);
-    assert_same(map.get(PONIES).copied(), Some(86), "twice as many")?;
     assert_same(map.len(), 1, "the horses are gone")
 }

@@ -1,9 +1,115 @@
-//! The small libraries of `half_uses`, in use.
+//! The libraries of `half_uses`, in use: each public call once.
 
-mod cache;
-mod documents;
-mod interner;
-mod labels;
-mod object;
-mod scopes;
-mod words;
+use half_uses::cache::Cache;
+use half_uses::interner::Interner;
+use half_uses::labels::Labels;
+use half_uses::object::Object;
+use half_uses::scopes::Scopes;
+use half_uses::words::{count_words, report};
+use halfbrown::Tally;
+use std::alloc::Global;
+use std::cell::Cell;
+use std::test::Fail;
+use test_support::asserts::{assert_same, assert_same_at, assert_true};
+use test_support::builders::{Counting, Rule};
+
+// Of ten values, for which the table grows twice.
+#[test]
+fn a_cache_hashes_each_key_once(rt: HostRuntime) -> Result<(), Fail> {
+    let asked = Cell::new(0);
+    let builder = Counting::new(Rule::Plain, &asked);
+    let mut squares = Cache::<u64, u64, Counting<'_>>::new(rt.alloc(), builder);
+    let mut tally = Tally::new();
+    for number in 0..10u64 {
+        let key = squares.hashed(number);
+        let square = squares.get_or_insert_with(key, || number * number, &mut tally)?;
+        assert_same_at(number, square, number * number, "computed")?;
+        assert_same_at(number, asked.replace(0), 1, "hashed by `hashed` alone")?;
+    }
+    for number in 0..10u64 {
+        let key = squares.hashed(number);
+        let square = squares.get(&key, &mut tally).copied();
+        assert_same_at(number, square, Some(number * number), "cached")?;
+        let removed = squares.remove(&key, &mut tally);
+        assert_same_at(number, removed, square, "forgotten")?;
+        assert_same_at(number, asked.replace(0), 1, "hashed by `hashed` alone")?;
+    }
+    Ok(())
+}
+
+#[test]
+fn an_interner_numbers_texts(rt: HostRuntime) -> Result<(), Fail> {
+    let mut names = Interner::new(rt.alloc());
+    let numbers = (names.intern("x")?, names.intern("y")?, names.intern("x")?);
+    assert_same(numbers, (0, 1, 0), "in order")?;
+    assert_same(names.resolve(1), Some("y"), "and back")?;
+    assert_same(names.get("y"), Some(1), "stored")?;
+    assert_same(names.len(), 2, "each once")
+}
+
+fn labels_of(alloc: Global, names: &[u64]) -> Result<Labels<u64>, Fail> {
+    let mut labels = Labels::new(alloc);
+    for name in names {
+        labels.add(*name)?;
+    }
+    Ok(labels)
+}
+
+#[test]
+fn labels_are_a_set(rt: HostRuntime) -> Result<(), Fail> {
+    let mut labels = labels_of(rt.alloc(), &[1, 2, 3])?;
+    let others = labels_of(rt.alloc(), &[3, 4, 1, 3])?;
+    assert_true(!labels.is_subset(&others), "2 is not there")?;
+    labels.add_all(&others)?;
+    assert_true(others.is_subset(&labels), "all of them are there")?;
+    assert_true(labels.has(&2) && labels.len() == 4, "1 to 4")?;
+    let same = labels_of(rt.alloc(), &[4, 3, 2, 1])?;
+    assert_true(labels.is_same(&same), "in any order")
+}
+
+// {"id": 7, "size": 2, "id": 8}
+fn object(alloc: Global) -> Result<Object<String, u64>, Fail> {
+    let mut object = Object::new(alloc);
+    for (name, value) in [("id", 7), ("size", 2), ("id", 8)] {
+        object.set(String::from_str(alloc, name)?, value)?;
+    }
+    Ok(object)
+}
+
+#[test]
+fn an_object_has_members_in_order(rt: HostRuntime) -> Result<(), Fail> {
+    let alloc = rt.alloc();
+    let mut members = object(alloc)?;
+    let text = format!(in alloc; "{members:?}")?;
+    assert_same(text.as_str(), r#"{"id": 8, "size": 2}"#, "the last value")?;
+    assert_same(members.get("size").copied(), Some(2), "by a text")?;
+    assert_true(members.has_same_members(&object(alloc)?), "the same")?;
+    assert_true(members.remove("id"), "it was there")?;
+    let first = members.members().next().map(|member| *member.1);
+    assert_same((members.len(), first), (1, Some(2)), "the size is left")
+}
+
+#[test]
+fn an_inner_scope_hides_the_outer_until_it_is_left(rt: HostRuntime) -> Result<(), Fail> {
+    let mut scopes = Scopes::<&str, u64>::new(rt.alloc());
+    scopes.declare("x", 1)?;
+    scopes.declare("y", 2)?;
+    scopes.enter()?;
+    assert_same(scopes.declare("x", 10)?, None, "new in this scope")?;
+    let seen = ["x", "y", "z"].map(|name| scopes.resolve(&name).copied());
+    assert_same(seen, [Some(10), Some(2), None], "through two scopes")?;
+    assert_true(scopes.leave(), "the inner one")?;
+    assert_same(scopes.resolve(&"x").copied(), Some(1), "the outer x")?;
+    assert_true(!scopes.leave(), "the outermost is not left")
+}
+
+#[test]
+fn words_are_counted_in_order(rt: HostRuntime) -> Result<(), Fail> {
+    let counts = count_words(rt.alloc(), " to be\u{a0}or\tnot\n\nto be ")?;
+    let lines = report(rt.alloc(), &counts)?;
+    assert_same(
+        lines.as_str(),
+        "to 2\nbe 2\nor 1\nnot 1\n",
+        "as they first come",
+    )
+}

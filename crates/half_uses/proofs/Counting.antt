@@ -1,5 +1,6 @@
 -- Counting: what one item more makes of the counts.
-use Rattle.std.proofs.Common.{◌≡◌, ℕ, ◌+◌, Bool, true, false, cond, not, ◌||◌, List, [], ◌∷◌, ◌++◌, map, filter, Option, None, Some, unwrap_or, refl, sym, ap, ◌∙◌, append-nil, arith}
+use Rattle.std.proofs.Common.{◌≡◌, ℕ, ◌+◌, Bool, true, false, cond, not, ◌||◌, List, [], ◌∷◌, ◌++◌, map, filter, Option, None, Some}
+use Rattle.std.proofs.Common.{unwrap_or, refl, sym, ap, ◌∙◌, append-nil, arith}
 use Rattle.std.proofs.lemmas.List.Elements.{filter-append}
 use Rattle.std.proofs.lemmas.List.Sums.{sum_by-cons, sum_by_push}
 use Rattle.std.proofs.lemmas.Map.Keys.{IsDistinct-head, IsDistinct-tail}
@@ -43,13 +44,15 @@ module _ {K : Type 0} (eq : K → K → Bool) (laws : IsEquivalence eq) where
       let rest = filter (others x) firsts in
       let gone : others x k ≡ false = ap not (laws.symm x k ∙ same) in
       ap (λ l. x ∷ l) (filter_either (others x) (has eq firsts k) firsts (firsts ++ k ∷ [])
-      ∙ ap (cond (has eq firsts k) rest) (filter-append (others x) firsts (k ∷ []) ∙ ap (λ b. rest ++ cond b (k ∷ []) []) gone ∙ append-nil rest)
+      ∙ ap (cond (has eq firsts k) rest)
+      (filter-append (others x) firsts (k ∷ []) ∙ ap (λ b. rest ++ cond b (k ∷ []) []) gone ∙ append-nil rest)
       ∙ cond_same (has eq firsts k) rest)
       ∙ sym (ap (λ b. cond (b || has eq rest k) (x ∷ rest) (x ∷ rest ++ k ∷ [])) same)
   first_after x k firsts false apart =
       let rest = filter (others x) firsts in
       let kept : others x k ≡ true = ap not (laws.symm x k ∙ apart) in
-      let alike : has eq rest k ≡ has eq firsts k = any-filter_same (eq k) (others x) true (λ q same. ap not (laws.symm x q ∙ sym (laws.congr k q x same) ∙ apart)) firsts in
+      let alike : has eq rest k ≡ has eq firsts k =
+      any-filter_same (eq k) (others x) true (λ q same. ap not (laws.symm x q ∙ sym (laws.congr k q x same) ∙ apart)) firsts in
       ap (λ l. x ∷ l) (filter_either (others x) (has eq firsts k) firsts (firsts ++ k ∷ [])
       ∙ ap (cond (has eq firsts k) rest) (filter-append (others x) firsts (k ∷ []) ∙ ap (λ b. rest ++ cond b (k ∷ []) []) kept))
       ∙ cons_either (has eq firsts k) x rest (rest ++ k ∷ [])
@@ -61,10 +64,12 @@ module _ {K : Type 0} (eq : K → K → Bool) (laws : IsEquivalence eq) where
   first_keys_push [] k = refl
   first_keys_push (x ∷ ks) k = ap (λ l. x ∷ filter (others x) l) (first_keys_push ks k) ∙ first_after x k (first_keys eq ks) (eq k x) refl
 
-  has_past : (k x : K) (firsts : List K) (b : Bool) → eq k x ≡ b → (eq k x || has eq (filter (others x) firsts) k) ≡ (eq k x || has eq firsts k)
+  has_past : (k x : K) (firsts : List K) (b : Bool) → eq k x ≡ b
+      → (eq k x || has eq (filter (others x) firsts) k) ≡ (eq k x || has eq firsts k)
   has_past k x firsts true same = ap (λ b. b || has eq (filter (others x) firsts) k) same ∙ sym (ap (λ b. b || has eq firsts k) same)
   has_past k x firsts false apart =
-      ap (λ b. eq k x || b) (any-filter_same (eq k) (others x) true (λ q same. ap not (laws.symm x q ∙ sym (laws.congr k q x same) ∙ apart)) firsts)
+      ap (λ b. eq k x || b)
+      (any-filter_same (eq k) (others x) true (λ q same. ap not (laws.symm x q ∙ sym (laws.congr k q x same) ∙ apart)) firsts)
 
   -- an item comes first somewhere exactly where it comes
   has_first_keys : (ks : List K) (k : K) → has eq (first_keys eq ks) k ≡ has eq ks k
@@ -73,7 +78,8 @@ module _ {K : Type 0} (eq : K → K → Bool) (laws : IsEquivalence eq) where
 
   -- ---- the value of an item
 
-  value_of_first : (f : K → ℕ) (k x : K) (rest : Option ℕ) (held : Bool) → (eq k x ≡ true → f x ≡ f k) → rest ≡ cond held (Some (f k)) None → (b : Bool) → eq k x ≡ b
+  value_of_first : (f : K → ℕ) (k x : K) (rest : Option ℕ) (held : Bool) → (eq k x ≡ true → f x ≡ f k) → rest ≡ cond held (Some (f k)) None
+      → (b : Bool) → eq k x ≡ b
       → cond (eq k x) (Some (f x)) rest ≡ cond (eq k x || held) (Some (f k)) None
   value_of_first f k x rest held alike is true same =
       ap (λ b. cond b (Some (f x)) rest) same ∙ ap Some (alike same) ∙ sym (ap (λ b. cond (b || held) (Some (f k)) None) same)
@@ -102,7 +108,8 @@ module _ {K : Type 0} (eq : K → K → Bool) (laws : IsEquivalence eq) where
 
   absent_count : (ks : List K) (k : K) → has eq ks k ≡ false → count_by (eq k) ks ≡ 0
   absent_count [] k absent = refl
-  absent_count (x ∷ ks) k absent = sum_by-cons (λ q. cond (eq k q) 1 0) x ks ∙ none_past (eq k x) (has eq ks k) (count_by (eq k) ks) absent (absent_count ks k)
+  absent_count (x ∷ ks) k absent = sum_by-cons (λ q. cond (eq k q) 1 0) x ks
+      ∙ none_past (eq k x) (has eq ks k) (count_by (eq k) ks) absent (absent_count ks k)
 
   or_zero : (b : Bool) (n : ℕ) → (b ≡ false → n ≡ 0) → unwrap_or (cond b (Some n) None) 0 ≡ n
   or_zero true n none = refl
@@ -115,13 +122,17 @@ module _ {K : Type 0} (eq : K → K → Bool) (laws : IsEquivalence eq) where
   -- ---- one more
 
   module _ (f g : K → ℕ) (k : K) (n : ℕ) (here : (q : K) → eq k q ≡ true → g q ≡ n) (there : (q : K) → eq k q ≡ false → g q ≡ f q) where
-    unchanged : (x : K) (ks : List K) → eq k x ≡ true → AllByRecursion (λ q. eq x q ≡ false) ks → map (with_count f) ks ≡ map (with_count g) ks
+    unchanged : (x : K) (ks : List K) → eq k x ≡ true → AllByRecursion (λ q. eq x q ≡ false) ks
+        → map (with_count f) ks ≡ map (with_count g) ks
     unchanged x [] same apart = refl
     unchanged x (q ∷ ks) same apart =
-        ap (λ m. (q, m) ∷ map (with_count f) ks) (sym (there q (laws.congr k x q same ∙ apart.0))) ∙ ap (λ l. (q, g q) ∷ l) (unchanged x ks same apart.1)
+        ap (λ m. (q, m) ∷ map (with_count f) ks) (sym (there q (laws.congr k x q same ∙ apart.0)))
+        ∙ ap (λ l. (q, g q) ∷ l) (unchanged x ks same apart.1)
 
-    put_head : (x : K) (ks : List K) → IsDistinct eq (x ∷ ks) → put eq (map (with_count f) ks) k n ≡ map (with_count g) (with_label eq ks k) → (b : Bool) → eq k x ≡ b
-        → cond (eq k x) ((x, n) ∷ map (with_count f) ks) ((x, f x) ∷ put eq (map (with_count f) ks) k n) ≡ map (with_count g) (with_label eq (x ∷ ks) k)
+    put_head : (x : K) (ks : List K) → IsDistinct eq (x ∷ ks) → put eq (map (with_count f) ks) k n ≡ map (with_count g) (with_label eq ks k)
+        → (b : Bool) → eq k x ≡ b
+        → cond (eq k x) ((x, n) ∷ map (with_count f) ks) ((x, f x) ∷ put eq (map (with_count f) ks) k n)
+        ≡ map (with_count g) (with_label eq (x ∷ ks) k)
     put_head x ks distinct rest true same =
         ap (λ b. cond b ((x, n) ∷ map (with_count f) ks) ((x, f x) ∷ put eq (map (with_count f) ks) k n)) same
         ∙ ap (λ m. (x, m) ∷ map (with_count f) ks) (sym (here x same))
@@ -137,7 +148,8 @@ module _ {K : Type 0} (eq : K → K → Bool) (laws : IsEquivalence eq) where
     put_count : (ks : List K) → IsDistinct eq ks → put eq (map (with_count f) ks) k n ≡ map (with_count g) (with_label eq ks k)
     put_count [] distinct = ap (λ m. (k, m) ∷ []) (sym (here k (laws.refl k)))
     put_count (x ∷ ks) distinct =
-        put_step eq (x, f x) (map (with_count f) ks) k n ∙ put_head x ks distinct (put_count ks (IsDistinct-tail eq x ks distinct)) (eq k x) refl
+        put_step eq (x, f x) (map (with_count f) ks) k n
+        ∙ put_head x ks distinct (put_count ks (IsDistinct-tail eq x ks distinct)) (eq k x) refl
 
   keys_of_counts : (f : K → ℕ) (ks : List K) → keys_of (map (with_count f) ks) ≡ ks
   keys_of_counts f [] = refl
@@ -150,10 +162,12 @@ module _ {K : Type 0} (eq : K → K → Bool) (laws : IsEquivalence eq) where
   count_of_push ks k q = sum_by_push (λ x. cond (eq q x) 1 0) ks k
 
   -- one more of an item that came so often
-  pub counted_push : (ks : List K) (k : K) → IsDistinct eq (first_keys eq ks) → put eq (counted eq ks) k (count_by (eq k) ks + 1) ≡ counted eq (ks ++ k ∷ [])
+  pub counted_push : (ks : List K) (k : K) → IsDistinct eq (first_keys eq ks)
+      → put eq (counted eq ks) k (count_by (eq k) ks + 1) ≡ counted eq (ks ++ k ∷ [])
   counted_push ks k distinct =
       put_count (λ q. count_by (eq q) ks) (λ q. count_by (eq q) (ks ++ k ∷ [])) k (count_by (eq k) ks + 1)
-      (λ q same. count_of_push ks k q ∙ ap (λ b. count_by (eq q) ks + cond b 1 0) (laws.symm q k ∙ same) ∙ ap (λ n. n + 1) (count_of_equal ks k q same))
+      (λ q same. count_of_push ks k q ∙ ap (λ b. count_by (eq q) ks + cond b 1 0) (laws.symm q k ∙ same)
+      ∙ ap (λ n. n + 1) (count_of_equal ks k q same))
       (λ q apart. count_of_push ks k q ∙ ap (λ b. count_by (eq q) ks + cond b 1 0) (laws.symm q k ∙ apart) ∙ omega arith)
       (first_keys eq ks) distinct
       ∙ ap (map (with_count (λ q. count_by (eq q) (ks ++ k ∷ [])))) (sym (first_keys_push ks k))

@@ -1,5 +1,6 @@
 -- Texts by number: the texts of a map's keys, and what one text more makes of their numbers.
-use Rattle.std.proofs.Common.{◌≡◌, ℕ, suc, Bool, true, false, cond, List, [], ◌∷◌, ◌++◌, length, map, slice_get, get_or, Option, None, Some, is_some, bytes_eq, string_bytes, String, IfSome, refl, sym, ap, ◌∙◌}
+use Rattle.std.proofs.Common.{◌≡◌, ℕ, suc, Bool, true, false, cond, List, [], ◌∷◌, ◌++◌, length, map, slice_get, get_or, Option, None, Some}
+use Rattle.std.proofs.Common.{is_some, bytes_eq, string_bytes, String, IfSome, refl, sym, ap, ◌∙◌}
 use Rattle.std.proofs.lemmas.List.{map_push}
 use Rattle.std.proofs.lemmas.Option.{slice_get-get_or, slice_get-map}
 use Rattle.std.specs.Cmp.Lexicographic.{bytes_decides, nat_list_eq_equiv}
@@ -7,11 +8,10 @@ use Rattle.std.specs.List.{IsDistinct}
 use Rattle.std.specs.Map.{keys_of}
 use Rattle.std.specs.Option.{option_map}
 use Rattle.std.specs.String.{string_eq, string_eq_equiv}
-use Rattle.half_store.specs.Pairs.{index_of}
-use Rattle.halfbrown.proofs.Indices.{first_of_index, first_within, first_passes, absent_of_index}
-use Rattle.halfbrown.proofs.PairIndices.{index_of_pair}
+use Rattle.halfbrown.specs.Pairs.{index_of, holds, put}
+use Rattle.halfbrown.proofs.lemmas.pairs.Indices.{first_of_index, first_within, first_passes, absent_of_index}
+use Rattle.halfbrown.proofs.lemmas.pairs.PairIndices.{index_of_pair}
 use Rattle.halfbrown.specs.Lookup.{IsAbsent}
-use Rattle.halfbrown.specs.Pairs.{holds, put}
 use Rattle.half_uses.specs.Interner.{number_of, with_text}
 
 -- ---- the place of the first that passes a test
@@ -51,7 +51,8 @@ text_of_number texts text i is =
     slice_get-get_or texts i [] (first_within (bytes_eq text) texts i first)
     ∙ ap Some (sym ((bytes_decides text (get_or texts i [])).0 (first_passes (bytes_eq text) texts i [] first)))
 
-pub text_where_found : (texts : List (List ℕ)) (text : List ℕ) (found : Option ℕ) → found ≡ number_of texts text → IfSome found (λ i. slice_get texts i ≡ Some text)
+pub text_where_found : (texts : List (List ℕ)) (text : List ℕ) (found : Option ℕ) → found ≡ number_of texts text
+    → IfSome found (λ i. slice_get texts i ≡ Some text)
 text_where_found texts text None is = tt
 text_where_found texts text (Some i) is = text_of_number texts text i (sym is)
 
@@ -74,25 +75,32 @@ module _ {Z V : Type 0} where
   texts_of pairs = map string_bytes (keys_of pairs)
 
   -- the index of a text's key is the number of the text
-  pub index_of_text : (pairs : List (String Z × V)) (text : List ℕ) → index_of (λ key. bytes_eq text (string_bytes key)) (keys_of pairs) ≡ number_of (texts_of pairs) text
+  pub index_of_text : (pairs : List (String Z × V)) (text : List ℕ)
+      → index_of (λ key. bytes_eq text (string_bytes key)) (keys_of pairs) ≡ number_of (texts_of pairs) text
   index_of_text pairs text = sym (index_of-map string_bytes (bytes_eq text) (keys_of pairs))
 
-  texts_push : (pairs : List (String Z × V)) (key : String Z) (v : V) → texts_of (pairs ++ (key, v) ∷ []) ≡ texts_of pairs ++ string_bytes key ∷ []
+  texts_push : (pairs : List (String Z × V)) (key : String Z) (v : V)
+      → texts_of (pairs ++ (key, v) ∷ []) ≡ texts_of pairs ++ string_bytes key ∷ []
   texts_push pairs key v = ap (map string_bytes) (map_push (λ p. p.0) pairs (key, v)) ∙ map_push string_bytes (keys_of pairs) key
 
   -- a key that is distinct from all before has the number of its index
-  pub number_of_key : (pairs : List (String Z × V)) (i : ℕ) (pair : String Z × V) → IsDistinct string_eq (keys_of pairs) → slice_get pairs i ≡ Some pair
+  pub number_of_key : (pairs : List (String Z × V)) (i : ℕ) (pair : String Z × V) → IsDistinct string_eq (keys_of pairs)
+      → slice_get pairs i ≡ Some pair
       → number_of (texts_of pairs) (string_bytes pair.0) ≡ Some i
   number_of_key pairs i pair distinct at =
       sym (index_of_text pairs (string_bytes pair.0)) ∙ (index_of_pair string_eq string_eq_equiv pairs i pair distinct at).index_is
 
-  pub text_of_key : (pairs : List (String Z × V)) (i : ℕ) (pair : String Z × V) → slice_get pairs i ≡ Some pair → slice_get (texts_of pairs) i ≡ Some (string_bytes pair.0)
+  pub text_of_key : (pairs : List (String Z × V)) (i : ℕ) (pair : String Z × V) → slice_get pairs i ≡ Some pair
+      → slice_get (texts_of pairs) i ≡ Some (string_bytes pair.0)
   text_of_key pairs i pair at =
-      slice_get-map string_bytes (keys_of pairs) i ∙ ap (option_map string_bytes) (slice_get-map (λ p. p.0) pairs i ∙ ap (option_map (λ p. p.0)) at)
+      slice_get-map string_bytes (keys_of pairs) i
+      ∙ ap (option_map string_bytes) (slice_get-map (λ p. p.0) pairs i ∙ ap (option_map (λ p. p.0)) at)
 
-  module _ (pairs : List (String Z × V)) (texts : List (List ℕ)) (key : String Z) (text : List ℕ) (are : texts_of pairs ≡ texts) (stored : string_bytes key ≡ text) (new : number_of texts text ≡ None) where
+  module _ (pairs : List (String Z × V)) (texts : List (List ℕ)) (key : String Z) (text : List ℕ) (are : texts_of pairs ≡ texts)
+      (stored : string_bytes key ≡ text) (new : number_of texts text ≡ None) where
     absent : IsAbsent (string_eq key) pairs
-    absent = absent_of_index (string_eq key) pairs (sym (index_of_text pairs (string_bytes key) ∙ (λ i. number_of (are i) (stored i)) ∙ new))
+    absent = absent_of_index (string_eq key) pairs
+        (sym (index_of_text pairs (string_bytes key) ∙ (λ i. number_of (are i) (stored i)) ∙ new))
 
     -- a text that has no number is no key
     pub absent_key : holds string_eq pairs key ≡ false

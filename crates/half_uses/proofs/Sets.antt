@@ -1,5 +1,6 @@
 -- Sets of labels: what their keys and their look-ups have in common, and what the labels of two sets are.
-use Rattle.std.proofs.Common.{◌≡◌, Bool, true, false, cond, List, [], ◌∷◌, ◌++◌, ◌||◌, inl, inr, Option, None, Some, is_some, not, Result, Ok, Err, OnOk, OnErr, sym, ap, ◌∙◌, refl}
+use Rattle.std.proofs.Common.{◌≡◌, Bool, true, false, cond, List, [], ◌∷◌, ◌++◌, ◌||◌, inl, inr, Option, None, Some, is_some, not, Result}
+use Rattle.std.proofs.Common.{Ok, Err, OnOk, OnErr, sym, ap, ◌∙◌, refl}
 use Rattle.std.proofs.lemmas.Bool.{cases_Bool}
 use Rattle.std.proofs.lemmas.List.{map_push}
 use Rattle.std.proofs.lemmas.List.Folds.{list_any-append}
@@ -48,7 +49,8 @@ module _ {T V : Type 0} (eq : T → T → Bool) (pairs : List (T × V)) (k : T) 
       ∙ ap (λ b. cond b (keys_of pairs) (keys_of pairs ++ k ∷ [])) held_is_had
 
 module _ {T : Type 0} (eq : T → T → Bool) where
-  pub with_labels_push : (labels more : List T) (k : T) → with_labels eq labels (more ++ k ∷ []) ≡ with_label eq (with_labels eq labels more) k
+  pub with_labels_push : (labels more : List T) (k : T)
+      → with_labels eq labels (more ++ k ∷ []) ≡ with_label eq (with_labels eq labels more) k
   with_labels_push labels [] k = refl
   with_labels_push labels (l ∷ more) k = with_labels_push (with_label eq labels l) more k
 
@@ -87,7 +89,8 @@ module _ {T : Type 0} (eq : T → T → Bool) (laws : IsEquivalence eq) where
   pub kept_in_all : (labels more : List T) (q : T) → has eq labels q ≡ true → has eq (with_labels eq labels more) q ≡ true
   kept_in_all labels more q held = has_with_labels labels more q ∙ ap (λ b. b || has eq more q) held
 
-  pub kept_before : (old before after more : List T) → after ≡ before → before ≡ with_labels eq old more → (q : T) → has eq old q ≡ true → has eq after q ≡ true
+  pub kept_before : (old before after more : List T) → after ≡ before → before ≡ with_labels eq old more → (q : T) → has eq old q ≡ true
+      → has eq after q ≡ true
   kept_before old before after more e f q held = ap (λ labels. has eq labels q) (e ∙ f) ∙ kept_in_all old more q held
 
   pub kept_either : {E : Type 0} (r : Result (Unit {0}) E) (old after more : List T) → OnOk r (after ≡ with_labels eq old more)

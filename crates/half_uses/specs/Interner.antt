@@ -1,6 +1,6 @@
 -- Texts with numbers, as the list of the texts in the order of their numbers.
 use Rattle.std.specs.Prelude.{ℕ, List, [], ◌∷◌, ◌++◌, Option, bytes_eq, is_some, if◌then◌else◌}
-use Rattle.half_store.specs.Pairs.{index_of}
+use Rattle.halfbrown.specs.Pairs.{index_of}
 
 -- the number of a text: the place of the first text that equals it
 abbrev pub number_of : List (List ℕ) → List ℕ → Option ℕ

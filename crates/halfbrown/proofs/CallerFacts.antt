@@ -1,5 +1,7 @@
 -- What follows of changed lists of pairs, for callers: the set `map_facts` has those that `grind` applies, and `using` takes it.
-use Rattle.std.proofs.Common.{◌≡◌, ℕ, suc, ◌+◌, ◌<◌, ◌≤◌, Bool, true, false, cond, ◌||◌, ◌⊎◌, inl, inr, List, [], ◌∷◌, ◌++◌, length, take, get_or, slice_get, Option, None, Some, is_some, IsSome, unwrap_or, count_by, refl, sym, ap, subst, ◌∙◌, true≢false, append-nil, arith}
+use Rattle.std.proofs.Common.{◌≡◌, ℕ, suc, ◌+◌, ◌<◌, ◌≤◌, Bool, true, false, cond, ◌||◌, ◌⊎◌, inl, inr, List, [], ◌∷◌, ◌++◌, length, take}
+use Rattle.std.proofs.Common.{get_or, slice_get, Option, None, Some, is_some, IsSome, unwrap_or, count_by, refl, sym, ap, subst, ◌∙◌}
+use Rattle.std.proofs.Common.{true≢false, append-nil, arith}
 use Rattle.std.specs.Cmp.{IsEquivalence}
 use Rattle.std.specs.List.{IsDistinct, filter, list_any}
 use Rattle.std.specs.Map.{keys_of, values_of, lookup, lookup_entry}
@@ -15,8 +17,8 @@ use Rattle.half_store.specs.Pairs.{index_of, swap_remove_at}
 use Rattle.halfbrown.specs.Pairs.{IsForm, value_of, holds, holds_by, put, set_by, take_out_by}
 use Rattle.halfbrown.specs.Updates.{HasPut}
 use Rattle.halfbrown.proofs.CallerLemmas.{value_of_equal}
-use Rattle.halfbrown.proofs.Indices.{value_of_entry}
-use Rattle.halfbrown.proofs.SwapOut.{map-swap_remove_at}
+use Rattle.halfbrown.proofs.lemmas.pairs.Indices.{value_of_entry}
+use Rattle.halfbrown.proofs.lemmas.pairs.SwapRemove.{map-swap_remove_at}
 use Rattle.halfbrown.specs.Gathering.{add_key, first_of_each, CountsEach, GroupsEach}
 
 -- ---- whether a key is held, and where
@@ -56,10 +58,22 @@ module _ {K V : Type 0} (test : K → Bool) where
       → cond b (Some p.1) (lookup test ps) ≡ Some v → IsPlaced (p ∷ ps) v
   placed_by p ps v more true passes found =
       let same : p.1 ≡ v = cc in
-      record { index = 0; key = p.0; at = ap (λ w. Some (p.0, w)) same; passes = passes; first = ap (λ b. cond b (Some 0) (option_map suc (index_of test (keys_of ps)))) passes }
+      record {
+        index = 0;
+        key = p.0;
+        at = ap (λ w. Some (p.0, w)) same;
+        passes = passes;
+        first = ap (λ b. cond b (Some 0) (option_map suc (index_of test (keys_of ps)))) passes;
+      }
   placed_by p ps v more false fails found =
       let m = more found in
-      record { index = suc m.index; key = m.key; at = m.at; passes = m.passes; first = ap (λ b. cond b (Some 0) (option_map suc (index_of test (keys_of ps)))) fails ∙ ap (option_map suc) m.first }
+      record {
+        index = suc m.index;
+        key = m.key;
+        at = m.at;
+        passes = m.passes;
+        first = ap (λ b. cond b (Some 0) (option_map suc (index_of test (keys_of ps)))) fails ∙ ap (option_map suc) m.first;
+      }
 
   -- where a value is found its pair stands at an index
   pub place_of_value : (ps : List (K × V)) (v : V) → lookup test ps ≡ Some v → IsPlaced ps v
@@ -99,7 +113,8 @@ module _ {K V : Type 0} (eq : K → K → Bool) where
 -- ---- after a value was set
 
 module _ {K V : Type 0} (eq : K → K → Bool) (laws : IsEquivalence eq) (test : K → Bool) (form : IsForm eq test) where
-  set_here : (b : Bool) (w v : V) (rest : Option V) → cond b (Some v) rest ≡ cond b (option_map (λ _. v) (cond b (Some w) rest)) (cond b (Some w) rest)
+  set_here : (b : Bool) (w v : V) (rest : Option V)
+      → cond b (Some v) rest ≡ cond b (option_map (λ _. v) (cond b (Some w) rest)) (cond b (Some w) rest)
   set_here true w v rest = refl
   set_here false w v rest = refl
 
@@ -137,7 +152,8 @@ module _ {K V : Type 0} (eq : K → K → Bool) (laws : IsEquivalence eq) (test 
 
 -- ---- a filter, as `retain` leaves
 
-keys_kept : {K V : Type 0} (f : K → Bool) (p : K × V) (ps : List (K × V)) → keys_of (filter (λ p. f p.0) ps) ≡ filter f (keys_of ps) → (b : Bool)
+keys_kept : {K V : Type 0} (f : K → Bool) (p : K × V) (ps : List (K × V)) → keys_of (filter (λ p. f p.0) ps) ≡ filter f (keys_of ps)
+    → (b : Bool)
     → keys_of (cond b (p ∷ filter (λ p. f p.0) ps) (filter (λ p. f p.0) ps)) ≡ cond b (p.0 ∷ filter f (keys_of ps)) (filter f (keys_of ps))
 keys_kept f p ps more true = ap (λ ks. p.0 ∷ ks) more
 keys_kept f p ps more false = more
@@ -155,7 +171,8 @@ module _ {K V : Type 0} (eq : K → K → Bool) (laws : IsEquivalence eq) (f : K
   kept_by : (p : K × V) (ps : List (K × V)) (q : K) → IsDistinct eq (keys_of (p ∷ ps))
       → lookup (eq q) (filter f ps) ≡ option_map (λ p. p.1) (option_filter f (lookup_entry (eq q) ps))
       → (b c : Bool) → eq q p.0 ≡ b → f p ≡ c
-      → lookup (eq q) (cond c (p ∷ filter f ps) (filter f ps)) ≡ option_map (λ p. p.1) (option_filter f (cond b (Some p) (lookup_entry (eq q) ps)))
+      → lookup (eq q) (cond c (p ∷ filter f ps) (filter f ps))
+      ≡ option_map (λ p. p.1) (option_filter f (cond b (Some p) (lookup_entry (eq q) ps)))
   kept_by p ps q distinct more true true same kept =
       ap (λ b. cond b (Some p.1) (lookup (eq q) (filter f ps))) same ∙ sym (ap (λ b. option_map (λ p. p.1) (cond b (Some p) None)) kept)
   kept_by p ps q distinct more true false same gone =
@@ -191,7 +208,8 @@ module _ {K V : Type 0} {eq : K → K → Bool} (laws : IsEquivalence eq) (old n
 -- the keys after a put
 pub keys_after_put : {K V : Type 0} {eq : K → K → Bool} (old new : List (K × V)) (k : K) (v : V) → HasPut eq old k v new
     → HasPut eq old k v new × (keys_of new ≡ add_key eq (keys_of old) k)
-keys_after_put {eq = eq} old new k v put = (put, put.keys ∙ ap (λ b. cond b (keys_of old) (keys_of old ++ k ∷ [])) (holds_by-any (eq k) old))
+keys_after_put {eq = eq} old new k v put =
+    (put, put.keys ∙ ap (λ b. cond b (keys_of old) (keys_of old ++ k ∷ [])) (holds_by-any (eq k) old))
 
 pub ruleset map_facts = (after_put, keys_after_put, holds_by-any, put_value_held, put_new, nat_eq_equiv)
 
@@ -225,7 +243,8 @@ module _ {K : Type 0} {eq : K → K → Bool} (laws : IsEquivalence eq) where
   pub counted_step : (xs : List K) (i : ℕ) {old new : List (K × ℕ)} {k : K} {v : ℕ} → CountsEach eq (take i xs) old → HasPut eq old k v new
       → i < length xs → k ≡ get_or xs i k → v ≡ unwrap_or (value_of eq old k) 0 + 1 → CountsEach eq (take (i + 1) xs) new
   counted_step xs i {old} {new} {k} {v} before puts within item more =
-      subst (λ ys. CountsEach eq ys new) (ap (λ x. take i xs ++ x ∷ []) item ∙ sym (take_more xs i k within)) (counted_more (take i xs) before puts more)
+      subst (λ ys. CountsEach eq ys new) (ap (λ x. take i xs ++ x ∷ []) item ∙ sym (take_more xs i k within))
+      (counted_more (take i xs) before puts more)
 
   -- no count is more than there are items, so that one more fits
   pub count_fits : {xs : List K} {ps : List (K × ℕ)} → CountsEach eq xs ps → (q : K) → unwrap_or (value_of eq ps q) 0 ≤ length xs
@@ -236,7 +255,8 @@ module _ {K : Type 0} {eq : K → K → Bool} (laws : IsEquivalence eq) where
 group_push : {K X : Type 0} (eq : K → K → Bool) (q : K) (xs : List (K × X)) (x : K × X)
     → values_of (filter (λ x. eq q x.0) (xs ++ x ∷ [])) ≡ values_of (filter (λ x. eq q x.0) xs) ++ values_of (cond (eq q x.0) (x ∷ []) [])
 group_push eq q xs x =
-    ap values_of (filter-append (λ x. eq q x.0) xs (x ∷ [])) ∙ map-append (λ p. p.1) (filter (λ x. eq q x.0) xs) (cond (eq q x.0) (x ∷ []) [])
+    ap values_of (filter-append (λ x. eq q x.0) xs (x ∷ []))
+    ∙ map-append (λ p. p.1) (filter (λ x. eq q x.0) xs) (cond (eq q x.0) (x ∷ []) [])
 
 module _ {K X V : Type 0} {eq : K → K → Bool} (laws : IsEquivalence eq) (read : V → List X) where
   groups_by : (xs : List (K × X)) (x : X) {old new : List (K × V)} {k : K} {v : V} → HasPut eq old k v new
@@ -258,7 +278,8 @@ module _ {K X V : Type 0} {eq : K → K → Bool} (laws : IsEquivalence eq) (rea
   unwrapped (Some v) d empty = refl
 
   -- a put of the values of a key with one more gathers one item more; d, which has none, is put where the key is new
-  pub grouped_more : (xs : List (K × X)) (x : X) (d : V) {old new : List (K × V)} {k : K} {v : V} → GroupsEach eq read xs old → HasPut eq old k v new
+  pub grouped_more : (xs : List (K × X)) (x : X) (d : V) {old new : List (K × V)} {k : K} {v : V} → GroupsEach eq read xs old
+      → HasPut eq old k v new
       → read d ≡ [] → read v ≡ read (unwrap_or (value_of eq old k) d) ++ x ∷ [] → GroupsEach eq read (xs ++ (k, x) ∷ []) new
   grouped_more xs x d {old} {new} {k} {v} before puts empty more =
       let added = more ∙ ap (λ l. l ++ x ∷ []) (unwrapped (value_of eq old k) d empty) in
@@ -269,8 +290,10 @@ module _ {K X V : Type 0} {eq : K → K → Bool} (laws : IsEquivalence eq) (rea
       }
 
   -- the same in a loop over a slice
-  pub grouped_step : (xs : List (K × X)) (i : ℕ) (x : X) (d : V) {old new : List (K × V)} {k : K} {v : V} → GroupsEach eq read (take i xs) old
-      → HasPut eq old k v new → i < length xs → (k, x) ≡ get_or xs i (k, x) → read d ≡ [] → read v ≡ read (unwrap_or (value_of eq old k) d) ++ x ∷ []
+  pub grouped_step : (xs : List (K × X)) (i : ℕ) (x : X) (d : V) {old new : List (K × V)} {k : K} {v : V}
+      → GroupsEach eq read (take i xs) old
+      → HasPut eq old k v new → i < length xs → (k, x) ≡ get_or xs i (k, x) → read d ≡ []
+      → read v ≡ read (unwrap_or (value_of eq old k) d) ++ x ∷ []
       → GroupsEach eq read (take (i + 1) xs) new
   grouped_step xs i x d {old} {new} {k} {v} before puts within item empty more =
       subst (λ ys. GroupsEach eq read ys new) (ap (λ y. take i xs ++ y ∷ []) item ∙ sym (take_more xs i (k, x) within))

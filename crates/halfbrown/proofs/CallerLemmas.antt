@@ -1,5 +1,6 @@
 -- What callers read off a list of pairs after a put or a removal: which key has which value, and how many pairs there are.
-use Rattle.std.proofs.Common.{◌≡◌, ℕ, suc, ◌+◌, Bool, true, false, cond, List, [], ◌∷◌, ◌++◌, length, get_or, Option, None, Some, is_some, Result, Ok, Err, OnOk, refl, sym, ap, subst, ◌∙◌, arith, true≢false}
+use Rattle.std.proofs.Common.{◌≡◌, ℕ, suc, ◌+◌, Bool, true, false, cond, List, [], ◌∷◌, ◌++◌, length, get_or, Option, None, Some, is_some}
+use Rattle.std.proofs.Common.{Result, Ok, Err, OnOk, refl, sym, ap, subst, ◌∙◌, arith, true≢false}
 use Rattle.std.specs.Cmp.{IsEquivalence}
 use Rattle.std.specs.List.{IsDistinct}
 use Rattle.std.specs.List.Sorted.{IsPermutation}
@@ -15,8 +16,8 @@ use Rattle.std.proofs.lemmas.Option.{slice_get_within, get_or_from_slice_get}
 use Rattle.half_store.specs.Pairs.{index_of, swap_remove_at}
 use Rattle.halfbrown.specs.Pairs.{IsForm, value_of, holds, put, take_out, set_by, take_out_by}
 use Rattle.halfbrown.specs.Updates.{HasPut, HasRemoved, HasRemovedBy}
-use Rattle.halfbrown.proofs.Indices.{IsFirst, first_of_index, first_passes, first_within, index_found, absent_of_index}
-use Rattle.halfbrown.proofs.SwapOut.{IsPermutation-swap_remove_at, length-swap_remove_at}
+use Rattle.halfbrown.proofs.lemmas.pairs.Indices.{IsFirst, first_of_index, first_passes, first_within, index_found, absent_of_index}
+use Rattle.halfbrown.proofs.lemmas.pairs.SwapRemove.{IsPermutation-swap_remove_at, length-swap_remove_at}
 
 put_over : {V : Type 0} (b : Bool) (v w : V) (other : Option V) → cond b (Some v) other ≡ cond b (Some v) (cond b (Some w) other)
 put_over true v w other = refl
@@ -98,7 +99,8 @@ module _ {K V : Type 0} (eq : K → K → Bool) where
   len_taken ps k = len_taken_by ps k (index_of (eq k) (keys_of ps)) refl
 
 module _ {K : Type 0} (eq : K → K → Bool) (laws : IsEquivalence eq) where
-  form_apart_by : (test : K → Bool) → IsForm eq test → (k : K) → test k ≡ false → (x : K) → eq k x ≡ true → (b : Bool) → test x ≡ b → test x ≡ false
+  form_apart_by : (test : K → Bool) → IsForm eq test → (k : K) → test k ≡ false → (x : K) → eq k x ≡ true → (b : Bool) → test x ≡ b
+      → test x ≡ false
   form_apart_by test form k fails x same false e = e
   form_apart_by test form k fails x same true e =
       absurd (true≢false (sym (form x k e ∙ laws.symm x k ∙ same) ∙ fails))
@@ -134,7 +136,8 @@ module _ {K V : Type 0} (eq : K → K → Bool) (laws : IsEquivalence eq) where
       sym (found_permuted ys xs (distinct_permuted xs ys distinct permuted) (IsPermutation-sym xs ys permuted) q v is) ∙ was
 
   -- a look-up does not depend on the order of distinct pairs
-  pub lookup_permuted : (xs ys : List (K × V)) → IsDistinct eq (keys_of xs) → IsPermutation xs ys → (q : K) → lookup (eq q) ys ≡ lookup (eq q) xs
+  pub lookup_permuted : (xs ys : List (K × V)) → IsDistinct eq (keys_of xs) → IsPermutation xs ys → (q : K)
+      → lookup (eq q) ys ≡ lookup (eq q) xs
   lookup_permuted xs ys distinct permuted q = permuted_by xs ys distinct permuted q (lookup (eq q) xs) (lookup (eq q) ys) refl refl
 
   form_permuted_by : (xs ys : List (K × V)) → IsDistinct eq (keys_of xs) → IsPermutation xs ys → (test : K → Bool) → IsForm eq test
@@ -152,7 +155,8 @@ module _ {K V : Type 0} (eq : K → K → Bool) (laws : IsEquivalence eq) where
   -- nor does what a form finds
   pub form_permuted : (xs ys : List (K × V)) → IsDistinct eq (keys_of xs) → IsPermutation xs ys → (test : K → Bool) → IsForm eq test
       → lookup test ys ≡ lookup test xs
-  form_permuted xs ys distinct permuted test form = form_permuted_by xs ys distinct permuted test form (lookup test xs) (lookup test ys) refl refl
+  form_permuted xs ys distinct permuted test form =
+      form_permuted_by xs ys distinct permuted test form (lookup test xs) (lookup test ys) refl refl
 
   -- ---- a put
 
@@ -161,7 +165,8 @@ module _ {K V : Type 0} (eq : K → K → Bool) (laws : IsEquivalence eq) where
   put_behind p k q v rest other true same = ap (λ b. cond b (Some p.1) (Some v)) (sym (laws.congr k q p.0 same) ∙ other)
   put_behind p k q v rest other false apart = refl
 
-  put_by : (p : K × V) (ps : List (K × V)) (k : K) (v : V) (q : K) → value_of eq (put eq ps k v) q ≡ cond (eq k q) (Some v) (value_of eq ps q)
+  put_by : (p : K × V) (ps : List (K × V)) (k : K) (v : V) (q : K)
+      → value_of eq (put eq ps k v) q ≡ cond (eq k q) (Some v) (value_of eq ps q)
       → (b : Bool) → eq k p.0 ≡ b
       → value_of eq (cond b ((p.0, v) ∷ ps) (p ∷ put eq ps k v)) q ≡ cond (eq k q) (Some v) (value_of eq (p ∷ ps) q)
   put_by p ps k v q more true at =
@@ -201,7 +206,8 @@ module _ {K V : Type 0} (eq : K → K → Bool) (laws : IsEquivalence eq) where
   other_of_put ps k v q other = lookup_put ps k v q ∙ ap (λ b. cond b (Some v) (value_of eq ps q)) other
 
   -- a form that stands for the key finds the value
-  pub put_same : (ps : List (K × V)) (k : K) (v : V) (test : K → Bool) → IsForm eq test → test k ≡ true → lookup test (put eq ps k v) ≡ Some v
+  pub put_same : (ps : List (K × V)) (k : K) (v : V) (test : K → Bool) → IsForm eq test → test k ≡ true
+      → lookup test (put eq ps k v) ≡ Some v
   put_same ps k v test form passes =
       let same : test ≡ eq k = λ i x. form k x passes i in
       ap (λ t. lookup t (put eq ps k v)) same ∙ value_of_put ps k v
@@ -239,7 +245,8 @@ module _ {K V : Type 0} (eq : K → K → Bool) (laws : IsEquivalence eq) where
   split_first (p ∷ ps) k i first = record {
     removed = get_or (p ∷ ps) i p;
     same = ap (eq k) (sym (get_or-map (λ p. p.0) (p ∷ ps) i p)) ∙ first_passes (eq k) (keys_of (p ∷ ps)) i p.0 first;
-    order = IsPermutation-swap_remove_at (p ∷ ps) i p (omega (arith, first_within (eq k) (keys_of (p ∷ ps)) i first, length-keys_of (p ∷ ps)));
+    order = IsPermutation-swap_remove_at (p ∷ ps) i p
+        (omega (arith, first_within (eq k) (keys_of (p ∷ ps)) i first, length-keys_of (p ∷ ps)));
   }
 
   module _ (ps : List (K × V)) (distinct : IsDistinct eq (keys_of ps)) (k : K) where
@@ -247,16 +254,20 @@ module _ {K V : Type 0} (eq : K → K → Bool) (laws : IsEquivalence eq) where
     absent_by absent q true same = value_of_equal ps k q same ∙ absent
     absent_by absent q false other = refl
 
-    split_by : (left : List (K × V)) → IsSplit ps k left → (q : K) (b : Bool) → eq k q ≡ b → value_of eq left q ≡ cond b None (value_of eq ps q)
+    split_by : (left : List (K × V)) → IsSplit ps k left → (q : K) (b : Bool) → eq k q ≡ b
+        → value_of eq left q ≡ cond b None (value_of eq ps q)
     split_by left split q true same =
         let p = split.removed in
-        lookup-none (eq q) left (none_past_head laws q p left (distinct_permuted ps (p ∷ left) distinct split.order) (sym (laws.congr k q p.0 same) ∙ split.same))
+        lookup-none (eq q) left
+        (none_past_head laws q p left (distinct_permuted ps (p ∷ left) distinct split.order)
+        (sym (laws.congr k q p.0 same) ∙ split.same))
     split_by left split q false other =
         let p = split.removed in
         let apart : eq q p.0 ≡ false = laws.symm q p.0 ∙ sym (laws.congr k p.0 q split.same) ∙ other in
         ap (λ b. cond b (Some p.1) (value_of eq left q)) (sym apart) ∙ lookup_permuted ps (p ∷ left) distinct split.order q
 
-    taken_by : (index : Option ℕ) → index ≡ index_of (eq k) (keys_of ps) → (q : K) → value_of eq (take_out eq ps k) q ≡ cond (eq k q) None (value_of eq ps q)
+    taken_by : (index : Option ℕ) → index ≡ index_of (eq k) (keys_of ps) → (q : K)
+        → value_of eq (take_out eq ps k) q ≡ cond (eq k q) None (value_of eq ps q)
     taken_by (Some i) is q =
         let left = split_first ps k i (first_of_index (eq k) (keys_of ps) i (sym is)) in
         ap (λ l. value_of eq l q) (index_found (eq k) ps i is).take_is ∙ split_by (swap_remove_at ps i) left q (eq k q) refl
@@ -306,7 +317,8 @@ module _ {K V : Type 0} (eq : K → K → Bool) (laws : IsEquivalence eq) where
 
   -- ---- a removal by a test
 
-  module _ (test : K → Bool) (one_class : (k other : K) → test k ≡ true → test other ≡ eq k other) (ps : List (K × V)) (distinct : IsDistinct eq (keys_of ps)) where
+  module _ (test : K → Bool) (one_class : (k other : K) → test k ≡ true → test other ≡ eq k other) (ps : List (K × V))
+      (distinct : IsDistinct eq (keys_of ps)) where
     -- a key that passes decides which others do
     test_is : (k : K) → test k ≡ true → test ≡ eq k
     test_is k passes = λ i other. one_class k other passes i

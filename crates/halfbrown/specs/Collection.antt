@@ -4,8 +4,9 @@ use Rattle.std.specs.Iterator.{Yields}
 use Rattle.std.specs.Map.{keys_of}
 use Rattle.half_store.specs.declared.refusal.Refusal.{Refusal}
 use Rattle.halfbrown.specs.Costs.{Cost, no_cost, add_costs, insert_cost}
-use Rattle.halfbrown.specs.Growth.{making_needs, insert_needs, HasCapacityMade, IsGrantable, IsRefusal}
+use Rattle.halfbrown.specs.Growth.{making_needs, insert_needs, IsRefusal}
 use Rattle.halfbrown.specs.Insertion.{Puts}
+use Rattle.halfbrown.specs.Making.{IsMade}
 use Rattle.halfbrown.specs.Pairs.{put, value_of}
 use Rattle.halfbrown.specs.State.{State, IsState}
 
@@ -57,14 +58,6 @@ module _ {K V S : Type 0} (limit : ℕ) (eq : K → K → Bool) (hash : S → K 
     pub cost_is : cost ≡ add_costs spent (insert_cost limit eq hash new key false)
 
   module _ (is_default : S → Type 0) (needed : ℕ) where
-    -- an empty map with capacity for so many pairs, and the default builder of its type
-    pub record IsMade (m : State K V S) : Type 0 where
-      pub form : m.is_vec ≡ nat_le needed limit
-      pub pairs : m.pairs ≡ []
-      pub capacity : HasCapacityMade needed m
-      pub builder : is_default m.builder
-      pub grantable : IsGrantable (making_needs needed)
-
     -- a map of these items: it was made with capacity for so many pairs, and the items were inserted one after another, at this cost
     pub record IsCollection (items : List (K × V)) (m : State K V S) (cost : Cost) : Type 0 where
       pub pairs : m.pairs ≡ collected eq items
@@ -72,13 +65,13 @@ module _ {K V S : Type 0} (limit : ℕ) (eq : K → K → Bool) (hash : S → K 
       pub values : (k : K) → value_of eq m.pairs k ≡ last_value_of eq items k
       pub builder : is_default m.builder
       pub made : State K V S
-      pub is_made : IsMade made
+      pub is_made : IsMade is_default (nat_le needed limit) needed made
       pub inserted : InsertsAll made items m cost
 
     -- a map that was made with capacity for so many pairs, and then an insertion that was refused
     pub record IsRefusedItem (given : List (K × V) → Type 0) (why : Refusal) (cost : Cost) : Type 0 where
       pub made : State K V S
-      pub is_made : IsMade made
+      pub is_made : IsMade is_default (nat_le needed limit) needed made
       pub reached : State K V S
       pub insertion : IsRefusedInsertion given made why reached cost
 

@@ -1,5 +1,5 @@
 -- What the calls cost: how often a key is hashed, how many keys are compared, and how many buckets are read.
-use Rattle.std.specs.Prelude.{◌≡◌, ℕ, ◌+◌, ◌-◌, ◌≤◌, Bool, true, false, not, ◌&&◌, List, [], ◌∷◌, length, map, count_by, ◌==◌, nat_lt, if◌then◌else◌}
+use Rattle.std.specs.Prelude.{◌≡◌, ℕ, ◌+◌, ◌-◌, ◌≤◌, Bool, true, false, not, ◌&&◌, List, [], ◌∷◌, length, map, count_by, Option, is_some, ◌==◌, nat_lt, if◌then◌else◌}
 use Rattle.std.specs.Hash.{HashWrites}
 use Rattle.std.specs.declared.hash.Hasher as hasher
 use Rattle.std.specs.declared.hash.BuildHasher as builder
@@ -10,7 +10,7 @@ use Rattle.half_store.specs.Reach.{reach, HomesApart}
 use Rattle.half_store.specs.Capacity.{buckets_of, capacity_for}
 use Rattle.half_store.specs.Work.{Work, first_match_cost}
 use Rattle.halfbrown.specs.State.{State}
-use Rattle.halfbrown.specs.Pairs.{holds, holds_by}
+use Rattle.halfbrown.specs.Pairs.{holds}
 use Rattle.halfbrown.specs.Growth.{is_full, is_vec_after}
 
 -- the hash that the builder gives a key, from what std says of builder, hasher and key
@@ -60,104 +60,75 @@ search_asked is_vec = if is_vec then 0 else 1
 
 module _ {K V : Type 0} (hash : K → ℕ) where
   -- the held keys of this hash: a search for it in a table compares no other
-  abbrev pub candidates_by : List (K × V) → ℕ → ℕ
-  candidates_by pairs sought = count_by (λ q. hash q == sought) (keys_of pairs)
+  abbrev pub candidates : List (K × V) → ℕ → ℕ
+  candidates pairs sought = count_by (λ q. hash q == sought) (keys_of pairs)
 
   -- the length of an unsuccessful probe for this hash in a table of this capacity; a vector has no buckets
-  abbrev pub probe_length_by : Bool → ℕ → List (K × V) → ℕ → ℕ
-  probe_length_by is_vec capacity pairs sought = if is_vec then 0 else reach (map hash (keys_of pairs)) (buckets_of capacity) sought
-
-  -- the held keys of the hash of k
-  abbrev pub candidates : List (K × V) → K → ℕ
-  candidates pairs k = candidates_by pairs (hash k)
-
-  -- the length of an unsuccessful probe for k in a table of this capacity; a vector has no buckets
-  abbrev pub probe_length : Bool → ℕ → List (K × V) → K → ℕ
-  probe_length is_vec capacity pairs k = probe_length_by is_vec capacity pairs (hash k)
+  abbrev pub probe_length : Bool → ℕ → List (K × V) → ℕ → ℕ
+  probe_length is_vec capacity pairs sought = if is_vec then 0 else reach (map hash (keys_of pairs)) (buckets_of capacity) sought
 
   -- no two held keys of a table of this capacity have the same home bucket
   abbrev pub NoHomeIsShared : ℕ → List (K × V) → Type 0
   NoHomeIsShared capacity pairs = HomesApart (map hash (keys_of pairs)) (buckets_of capacity)
 
--- the comparisons of a search in a vector: in order, up to and with the key that passes, or all
-abbrev pub comparisons_in_order_by : {K V : Type 0} → (K → Bool) → List (K × V) → ℕ
-comparisons_in_order_by test pairs = first_match_cost (index_of test (keys_of pairs)) (length pairs)
+  -- a search under this hash that found this index, or none
+  module _ (sought : ℕ) (found : Option ℕ) where
+    -- its comparisons: in a vector exactly those in order, up to and with the key that it found, or all; in a table exactly all candidates
+    -- where it found none, and at least one of them where it found one
+    abbrev pub search_compares : Bool → List (K × V) → Range
+    search_compares is_vec pairs =
+        if is_vec then exactly (first_match_cost found (length pairs))
+        else (if is_some found then between 1 (candidates pairs sought) else exactly (candidates pairs sought))
 
--- the same of the key that equals k
-abbrev pub comparisons_in_order : {K V : Type 0} → (K → K → Bool) → List (K × V) → K → ℕ
-comparisons_in_order eq pairs k = comparisons_in_order_by (eq k) pairs
+    -- the buckets that it reads: none in a vector; in a table exactly an unsuccessful probe where it found none, and at least one and fewer
+    -- than that where it found one
+    abbrev pub search_looks : Bool → ℕ → List (K × V) → Range
+    search_looks is_vec capacity pairs =
+        let probe = probe_length is_vec capacity pairs sought in
+        if is_vec then exactly 0 else (if is_some found then between 1 (probe - 1) else exactly probe)
 
--- a search for the key that passes the test, under this hash, where `hash` gives those of the held keys
-module _ {K V : Type 0} (test : K → Bool) (hash : K → ℕ) (sought : ℕ) where
-  -- its comparisons: in a vector exactly those in order; in a table exactly all candidates where no key passes, and at least one of them
-  -- where one does
-  abbrev pub search_compares_by : Bool → List (K × V) → Range
-  search_compares_by is_vec pairs =
-      if is_vec then exactly (comparisons_in_order_by test pairs)
-      else (if holds_by test pairs then between 1 (candidates_by hash pairs sought) else exactly (candidates_by hash pairs sought))
+    -- what it costs, where the builder is asked so often
+    abbrev pub search_cost : ℕ → Bool → ℕ → List (K × V) → Cost
+    search_cost asked is_vec capacity pairs =
+        record { asked = asked; compared = search_compares is_vec pairs; looked = search_looks is_vec capacity pairs }
 
-  -- the buckets that it reads: none in a vector; in a table exactly an unsuccessful probe where no key passes, and at least one and fewer
-  -- than that where one does
-  abbrev pub search_looks_by : Bool → ℕ → List (K × V) → Range
-  search_looks_by is_vec capacity pairs =
-      let probe = probe_length_by hash is_vec capacity pairs sought in
-      if is_vec then exactly 0 else (if holds_by test pairs then between 1 (probe - 1) else exactly probe)
+-- what one search in the map cost that found this index, or none, under this hash, by the tally before it and after, where the builder was
+-- asked so often
+pub record SearchCosts {K V S : Type 0} (hash : S → K → ℕ) (sought : ℕ) (m : State K V S) (found : Option ℕ) (asked : ℕ) (before after : Work) : Type 0 where
+  pub grew : GrewBy (search_cost (hash m.builder) sought found asked m.is_vec m.capacity m.pairs) before after
+  pub looked_once : m.is_vec ≡ false → is_some found ≡ true → NoHomeIsShared (hash m.builder) m.capacity m.pairs
+      → after.looked ≡ before.looked + 1
+  pub short : probe_length (hash m.builder) m.is_vec m.capacity m.pairs sought ≤ length m.pairs + 1
 
-  -- what it costs
-  abbrev pub search_cost_by : Bool → ℕ → List (K × V) → Cost
-  search_cost_by is_vec capacity pairs =
-      record { asked = search_asked is_vec; compared = search_compares_by is_vec pairs; looked = search_looks_by is_vec capacity pairs }
-
--- a search for the key that equals k
-module _ {K V : Type 0} (eq : K → K → Bool) (hash : K → ℕ) where
-  abbrev pub search_compares : Bool → List (K × V) → K → Range
-  search_compares is_vec pairs k = search_compares_by (eq k) hash (hash k) is_vec pairs
-
-  abbrev pub search_looks : Bool → ℕ → List (K × V) → K → Range
-  search_looks is_vec capacity pairs k = search_looks_by (eq k) hash (hash k) is_vec capacity pairs
-
-  abbrev pub search_cost : Bool → ℕ → List (K × V) → K → Cost
-  search_cost is_vec capacity pairs k = search_cost_by (eq k) hash (hash k) is_vec capacity pairs
-
--- what one search in the map for the key that passes the test, under this hash, cost, by the tally before it and after
-module _ {K V S : Type 0} (test : K → Bool) (hash : S → K → ℕ) (sought : ℕ) (m : State K V S) where
-  -- where the builder was asked so often
-  pub record SearchCostsAsking (asked : ℕ) (before after : Work) : Type 0 where
-    pub grew : GrewBy (record (search_cost_by test (hash m.builder) sought m.is_vec m.capacity m.pairs) { asked = asked }) before after
-    pub looked_once : m.is_vec ≡ false → holds_by test m.pairs ≡ true → NoHomeIsShared (hash m.builder) m.capacity m.pairs → after.looked ≡ before.looked + 1
-    pub short : probe_length_by (hash m.builder) m.is_vec m.capacity m.pairs sought ≤ length m.pairs + 1
-
-  -- where the search hashed its key
-  abbrev pub SearchCostsBy : Work → Work → Type 0
-  SearchCostsBy before after = SearchCostsAsking (search_asked m.is_vec) before after
-
-  -- where the hash was handed in: the builder is not asked
-  abbrev pub HashedSearchCostsBy : Work → Work → Type 0
-  HashedSearchCostsBy before after = SearchCostsAsking 0 before after
-
--- what one search in the map by a form of a key cost, by the tally before it and after, where the form stands for the keys that it is equivalent to
+-- what one search in the map by a form of a key cost, by the tally before it and after, where the form stands for the keys that it is
+-- equivalent to
 module _ {S H K Q V : Type 0} (b : builder.Ghosts S H) (h : hasher.Ghosts H) (held : K → HashWrites) (sought : Q → HashWrites) (equivalent : Q → K → Bool) (key : Q) (m : State K V S) where
+  -- where the builder was asked so often
+  abbrev pub CostsSearchAsking : ℕ → Work → Work → Type 0
+  CostsSearchAsking asked before after =
+      SearchCosts (key_hash b h held) (key_hash b h sought m.builder key) m (index_of (equivalent key) (keys_of m.pairs)) asked before after
+
   -- where the search hashed it, as it does in a table
   abbrev pub CostsSearch : Work → Work → Type 0
-  CostsSearch before after = SearchCostsBy (equivalent key) (key_hash b h held) (key_hash b h sought m.builder key) m before after
+  CostsSearch before after = CostsSearchAsking (search_asked m.is_vec) before after
 
   -- where its hash was handed in: the builder is not asked
   abbrev pub CostsHashedSearch : Work → Work → Type 0
-  CostsHashedSearch before after = HashedSearchCostsBy (equivalent key) (key_hash b h held) (key_hash b h sought m.builder key) m before after
+  CostsHashedSearch before after = CostsSearchAsking 0 before after
 
 module _ {K V S : Type 0} (eq : K → K → Bool) (hash : S → K → ℕ) where
   -- what a search for k in the map costs
   abbrev pub search_cost_of : State K V S → K → Cost
-  search_cost_of m k = search_cost eq (hash m.builder) m.is_vec m.capacity m.pairs k
+  search_cost_of m k = search_cost (hash m.builder) (hash m.builder k) (index_of (eq k) (keys_of m.pairs)) (search_asked m.is_vec) m.is_vec m.capacity m.pairs
 
   -- what one search for k in the map cost, by the tally before it and after
-  abbrev pub SearchCosts : State K V S → K → Work → Work → Type 0
-  SearchCosts m k before after = SearchCostsBy (eq k) hash (hash m.builder k) m before after
+  abbrev pub KeySearchCosts : State K V S → K → Work → Work → Type 0
+  KeySearchCosts m k before after = SearchCosts hash (hash m.builder k) m (index_of (eq k) (keys_of m.pairs)) (search_asked m.is_vec) before after
 
   -- what searches in the map for these keys, one after another, cost, by the tally before the first and after the last
   unfoldable pub SearchesCost : State K V S → List K → Work → Work → Type 0
   SearchesCost m [] before after = after ≡ before
-  SearchesCost m (k ∷ ks) before after = (between : Work) × SearchCosts m k before between × SearchesCost m ks between after
+  SearchesCost m (k ∷ ks) before after = (between : Work) × KeySearchCosts m k before between × SearchesCost m ks between after
 
 module _ {K V S : Type 0} (limit : ℕ) where
   -- how often a granted switching call hashes for its switch: once for each pair of a full vector
@@ -187,16 +158,23 @@ module _ {K V S : Type 0} (limit : ℕ) where
   module _ (eq : K → K → Bool) (hash : S → K → ℕ) where
     -- the buckets that the insertion probe of a new key k reads, once the capacity is enough
     abbrev pub insertion_probe_looks : State K V S → K → ℕ
-    insertion_probe_looks m k = probe_length (hash m.builder) (is_vec_after limit m) (capacity_grown m) m.pairs k
+    insertion_probe_looks m k = probe_length (hash m.builder) (is_vec_after limit m) (capacity_grown m) m.pairs (hash m.builder k)
+
+    -- the comparisons of a search for k in the form that a granted switch leaves, and the buckets that it reads, with this capacity
+    abbrev pub switched_compares : State K V S → K → Range
+    switched_compares m k = search_compares (hash m.builder) (hash m.builder k) (index_of (eq k) (keys_of m.pairs)) (is_vec_after limit m) m.pairs
+
+    abbrev pub switched_looks : State K V S → ℕ → K → Range
+    switched_looks m capacity k = search_looks (hash m.builder) (hash m.builder k) (index_of (eq k) (keys_of m.pairs)) (is_vec_after limit m) capacity m.pairs
 
     -- what an insertion of k costs: the switch hashes each key, one search follows in the form that it left, and, where a new key made
     -- the table grow, one insertion probe; a refused switch costs nothing
     abbrev pub insert_cost : State K V S → K → Bool → Cost
     insert_cost m k granted = record {
       asked = insert_asked m granted;
-      compared = if is_switch_refused m granted then exactly 0 else search_compares eq (hash m.builder) (is_vec_after limit m) m.pairs k;
+      compared = if is_switch_refused m granted then exactly 0 else switched_compares m k;
       looked = if is_switch_refused m granted then exactly 0 else add_ranges
-          (search_looks eq (hash m.builder) (is_vec_after limit m) (capacity_switched m) m.pairs k)
+          (switched_looks m (capacity_switched m) k)
           (exactly (if granted && not (holds eq m.pairs k) && addition_grows m then insertion_probe_looks m k else 0));
     }
 
@@ -212,9 +190,9 @@ module _ {K V S : Type 0} (limit : ℕ) where
     abbrev pub raw_insert_cost : State K V S → K → Bool → Cost
     raw_insert_cost m k granted = record {
       asked = if granted then switch_asked m + search_asked (is_vec_after limit m) + (if holds eq m.pairs k then 0 else search_asked (is_vec_after limit m)) else 0;
-      compared = if granted then search_compares eq (hash m.builder) (is_vec_after limit m) m.pairs k else exactly 0;
+      compared = if granted then switched_compares m k else exactly 0;
       looked = if granted then add_ranges
-          (search_looks eq (hash m.builder) (is_vec_after limit m) (capacity_grown m) m.pairs k)
+          (switched_looks m (capacity_grown m) k)
           (exactly (if holds eq m.pairs k then 0 else insertion_probe_looks m k))
           else exactly 0;
     }

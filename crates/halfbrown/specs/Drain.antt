@@ -28,20 +28,21 @@ module _ {K V S L H : Type 0} {e : eq.Ghosts K} {h : hash.Ghosts K} {b : builder
   abbrev pub lender : LimitedDrain K V S L (StoreState K V) H e h b w l p → GName
   lender d = d.map.ghost_name
 
-  -- old and new borrow the same map, and leave it in the same form, with the same capacity and builder
+  -- old and new borrow the same map, and leave it in the same form, with the same capacity, memory and builder
   pub record Keeps (old new : LimitedDrain K V S L (StoreState K V) H e h b w l p) : Type 0 where
     pub map : new.map ≡ old.map
     pub form : new.pairs.is_vec ≡ old.pairs.is_vec
     pub capacity : new.pairs.capacity ≡ old.pairs.capacity
+    pub columns : new.pairs.columns ≡ old.pairs.columns
 
   -- `next` took s to t, and returned r: the first pair that was still to come; or None, and nothing changed
-  abbrev pub Steps : LimitedDrain K V S L (StoreState K V) H e h b w l p → Option (K × V) → LimitedDrain K V S L (StoreState K V) H e h b w l p → Type 0
-  Steps s r t = MatchOption r ((rest s ≡ []) × (t ≡ s)) (λ x. (rest s ≡ x ∷ rest t) × Keeps s t)
+  abbrev pub DrainSteps : LimitedDrain K V S L (StoreState K V) H e h b w l p → Option (K × V) → LimitedDrain K V S L (StoreState K V) H e h b w l p → Type 0
+  DrainSteps s r t = MatchOption r ((rest s ≡ []) × (t ≡ s)) (λ x. (rest s ≡ x ∷ rest t) × Keeps s t)
 
   -- each call of `next` gives the next pair
   abbrev pub RunsInOrder : LimitedDrain K V S L (StoreState K V) H e h b w l p → Type 0
-  RunsInOrder s = YieldsInOrder Steps rest
+  RunsInOrder s = YieldsInOrder DrainSteps rest
 
   -- each state that calls of `next` lead to keeps what the first keeps
   abbrev pub KeepsAlong : LimitedDrain K V S L (StoreState K V) H e h b w l p → Type 0
-  KeepsAlong s = (ps : List (K × V)) (t : LimitedDrain K V S L (StoreState K V) H e h b w l p) → Yields Steps s ps t → Keeps s t
+  KeepsAlong s = (ps : List (K × V)) (t : LimitedDrain K V S L (StoreState K V) H e h b w l p) → Yields DrainSteps s ps t → Keeps s t

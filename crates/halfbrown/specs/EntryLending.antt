@@ -1,7 +1,7 @@
 -- What a map, or an entry, ends as once a value that was lent through an entry comes back.
-use Rattle.std.specs.Prelude.{◌≡◌, ℕ, zero, suc, ◌<◌, List, [], ◌∷◌, length, ⊤, Result}
+use Rattle.std.specs.Prelude.{◌≡◌, ℕ, zero, suc, ◌<◌, List, [], ◌∷◌, length, ⊤, Option, Result}
 use Rattle.std.proofs.Common.{refl, sym, ap, subst}
-use Rattle.std.specs.Borrow.{Fml, RattleType, MutBor, follows, follows_so, RestsIfErr}
+use Rattle.std.specs.Borrow.{Fml, RattleType, MutBor, follows, follows_so, RestsIfErr, RestsIfNone}
 use Rattle.std.specs.declared.cmp.PartialEq as eq
 use Rattle.std.specs.declared.hash.Hash as hash
 use Rattle.std.specs.declared.hash.Hasher as hasher
@@ -40,6 +40,10 @@ module _ (K V S L H : RattleType) {e : eq.Ghosts K.Denot} {h : hash.Ghosts K.Den
   -- where no entry was made the map is as it was
   abbrev pub RestsIfRefused : {E : Type 0} → MutBor (State K.Denot V.Denot S.Denot) → Result (LimitedEntry K.Denot V.Denot S.Denot L.Denot H.Denot e h b w l) E → Fml
   RestsIfRefused m r = RestsIfErr (the_row K V S L H e h b w l) m (λ entry. (map_ref entry).ghost_name) r (λ n. n ≡ m.now)
+
+  -- where there is no entry the map is as it was
+  abbrev pub RestsIfNoEntry : MutBor (State K.Denot V.Denot S.Denot) → Option (LimitedOccupiedEntry K.Denot V.Denot S.Denot L.Denot H.Denot e h b w l) → Fml
+  RestsIfNoEntry m r = RestsIfNone (the_row K V S L H e h b w l) m (λ o. o.map.ghost_name) r (λ n. n ≡ m.now)
 
   -- the entry has the last value written through the reference
   abbrev pub OccupiedLends : MutBor (LimitedOccupiedEntry K.Denot V.Denot S.Denot L.Denot H.Denot e h b w l) → MutBor V.Denot → Fml

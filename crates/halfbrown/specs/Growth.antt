@@ -1,5 +1,5 @@
 -- Where a call needs more capacity, how much, and what the capacity is afterwards.
-use Rattle.std.specs.Prelude.{◌≡◌, ℕ, ◌+◌, ◌^◌, ◌<◌, ◌≤◌, ◌⊎◌, Bool, not, ◌&&◌, ◌||◌, ◌==◌, nat_lt, nat_le, length, Option, None, Some, IfNone, IfSome, MatchBool, MatchOption, if◌then◌else◌}
+use Rattle.std.specs.Prelude.{◌≡◌, ℕ, ◌+◌, ◌^◌, ◌<◌, ◌≤◌, ◌⊎◌, Bool, not, ◌&&◌, ◌||◌, ◌==◌, nat_lt, nat_le, min, max, length, Option, None, Some, IfNone, IfSome, MatchBool, MatchOption, if◌then◌else◌}
 use Rattle.half_store.specs.declared.refusal.Refusal.{Refusal}
 use Rattle.half_store.specs.Refusal.{refusal_of}
 use Rattle.half_store.specs.Capacity.{capacity_for, grown_capacity}
@@ -18,6 +18,11 @@ HasCapacityAfter limit old needs new =
     MatchOption needs (new.capacity ≡ old.capacity)
     (λ n. MatchBool new.is_vec (new.capacity ≡ grown_capacity limit old.capacity n) (new.capacity ≡ capacity_for n))
 
+-- the columns' memory after a granted call: where it needs no more capacity, the same; else each column has memory for as many pairs as fit,
+-- and gives none back
+abbrev pub HasColumnsAfter : {K V S : Type 0} → State K V S → Option ℕ → State K V S → Type 0
+HasColumnsAfter old needs new = MatchOption needs (new.columns ≡ old.columns) (λ n. new.columns ≡ max old.columns new.capacity)
+
 -- the capacity that a reservation for so many pairs in all needs, where there is less
 abbrev pub reserve_needs : {K V S : Type 0} → ℕ → State K V S → ℕ → Option ℕ
 reserve_needs limit m total = let most = allowed limit m.is_vec total in if nat_lt m.capacity most then Some most else None
@@ -32,6 +37,12 @@ abbrev pub HasCapacityShrunk : {K V S : Type 0} → ℕ → State K V S → Stat
 HasCapacityShrunk limit old new =
     (new.capacity ≡ (if new.is_vec then length old.pairs else capacity_for (length old.pairs)))
     ⊎ ((0 < length old.pairs) × (new.capacity ≡ allowed limit new.is_vec old.capacity))
+
+-- the columns' memory after `shrink_to_fit`: for no more than the pairs in a vector, and than the capacity in a table, or, where memory was
+-- refused, what it was
+abbrev pub HasColumnsShrunk : {K V S : Type 0} → State K V S → State K V S → Type 0
+HasColumnsShrunk old new =
+    (new.columns ≡ min (if new.is_vec then length old.pairs else new.capacity) old.columns) ⊎ (new.columns ≡ old.columns)
 
 -- the capacity that a constructor for so many pairs needs
 abbrev pub making_needs : ℕ → Option ℕ
@@ -76,6 +87,7 @@ module _ {K V S : Type 0} (limit : ℕ) where
     pub pairs : new.pairs ≡ old.pairs
     pub form : new.is_vec ≡ old.is_vec
     pub capacity : HasCapacityAfter limit old (reserve_needs limit old (length old.pairs + additional)) new
+    pub columns : HasColumnsAfter old (reserve_needs limit old (length old.pairs + additional)) new
     pub enough : allowed limit old.is_vec (length old.pairs + additional) ≤ new.capacity
     pub grantable : IsGrantable (reserve_needs limit old (length old.pairs + additional))
     pub builder : new.builder ≡ old.builder
@@ -85,4 +97,5 @@ module _ {K V S : Type 0} (limit : ℕ) where
     pub pairs : new.pairs ≡ old.pairs
     pub form : new.is_vec ≡ vec_shrunk limit old.is_vec (length old.pairs)
     pub capacity : HasCapacityShrunk limit old new
+    pub columns : HasColumnsShrunk old new
     pub builder : new.builder ≡ old.builder

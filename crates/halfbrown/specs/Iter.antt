@@ -1,2 +1,71 @@
--- The words of the iterators, as `half_iter` has them.
-pub use Rattle.half_iter.specs.Iter.{pairs_left, IterSteps, iter_mut_left, iter_mut_name, IsEven, keys_left, values_left, values_mut_left, values_mut_name, ValuesMutSteps, ShowsPairsInOrder, ShowsPairValuesInOrder, ShowsKeysInOrder, ShowsValuesInOrder}
+-- What the iterators of a map have left, how they step, and what their runs show.
+use Rattle.std.specs.Prelude.{◌≡◌, List, Option, length, zip}
+use Rattle.std.specs.Borrow.{Bor, GName, MutBor}
+use Rattle.std.specs.Iterator.{YieldsFirstBy, YieldsFirstRef}
+use Rattle.std.specs.Iterator.Runs.{EveryRun, ItemsMapTo, YieldsRefsInOrder}
+use Rattle.std.specs.Map.{values_of}
+use Rattle.std.specs.Map.Iter.{deref_pair}
+use Rattle.std.specs.Slice.Iter as slice
+use Rattle.halfbrown.specs.declared.iter.Iter.{Iter}
+use Rattle.halfbrown.specs.declared.iter.iter_mut.IterMut.{IterMut}
+use Rattle.halfbrown.specs.declared.iter.keys.Keys.{Keys}
+use Rattle.halfbrown.specs.declared.iter.values.Values.{Values}
+use Rattle.halfbrown.specs.declared.iter.values_mut.ValuesMut.{ValuesMut}
+
+module _ {K V : Type 0} where
+  -- the pairs that an `Iter` has left
+  abbrev pub pairs_left : Iter K V → List (K × V)
+  pairs_left s = zip (slice.iter_rest s.keys) (slice.iter_rest s.values)
+
+  -- a call of its `next` at s gave r and left t
+  abbrev pub IterSteps : Iter K V → Option (Bor K × Bor V) → Iter K V → Type 0
+  IterSteps = YieldsFirstBy deref_pair pairs_left
+
+  -- the pairs that an `IterMut` has left
+  abbrev pub iter_mut_left : IterMut K V → List (K × V)
+  iter_mut_left s = zip (slice.iter_rest s.keys) (slice.iter_mut_rest s.values)
+
+  -- the name of its loan
+  abbrev pub iter_mut_name : IterMut K V → GName
+  iter_mut_name s = slice.iter_mut_name s.values
+
+  -- it has as many keys left as values, so that `next` may be called
+  abbrev pub IsEven : IterMut K V → Type 0
+  IsEven s = length (slice.iter_mut_rest s.values) ≡ length (slice.iter_rest s.keys)
+
+  -- the keys that a `Keys` has left
+  abbrev pub keys_left : Keys K V → List K
+  keys_left s = slice.iter_rest s.keys
+
+  -- the values that a `Values` has left
+  abbrev pub values_left : Values K V → List V
+  values_left s = slice.iter_rest s.values
+
+  -- the values that a `ValuesMut` has left
+  abbrev pub values_mut_left : ValuesMut K V → List V
+  values_mut_left s = slice.iter_mut_rest s.values
+
+  -- the name of its loan
+  abbrev pub values_mut_name : ValuesMut K V → GName
+  values_mut_name s = slice.iter_mut_name s.values
+
+  -- a call of its `next` at s gave r and left t
+  abbrev pub ValuesMutSteps : ValuesMut K V → Option (MutBor V) → ValuesMut K V → Type 0
+  ValuesMutSteps s r t = slice.iter_mut_steps s.values r t.values
+
+module _ (K V : Type 0) where
+  -- each run of an `Iter` shows the pairs that it had left, in order
+  abbrev pub ShowsPairsInOrder : Type 0
+  ShowsPairsInOrder = EveryRun (IterSteps {K = K} {V = V}) (λ p. ItemsMapTo p deref_pair (pairs_left p.from))
+
+  -- each run of an `Iter` shows their values, in order
+  abbrev pub ShowsPairValuesInOrder : Type 0
+  ShowsPairValuesInOrder = EveryRun (IterSteps {K = K} {V = V}) (λ p. ItemsMapTo p (λ x. x.1.now) (values_of (pairs_left p.from)))
+
+  -- each run of a `Keys` shows the keys that it had left, in order
+  abbrev pub ShowsKeysInOrder : Type 0
+  ShowsKeysInOrder = YieldsRefsInOrder (YieldsFirstRef keys_left) (keys_left {K = K} {V = V})
+
+  -- each run of a `Values` shows the values that it had left, in order
+  abbrev pub ShowsValuesInOrder : Type 0
+  ShowsValuesInOrder = YieldsRefsInOrder (YieldsFirstRef values_left) (values_left {K = K} {V = V})

@@ -7,7 +7,7 @@ use Rattle.halfbrown.specs.State.{State, state, IsTableCapacity}
 
 -- the state that these fields make: a vector has no more capacity than the limit
 abbrev pub state_in : {K V S : Type 0} → ℕ → StoreState K V → S → State K V S
-state_in limit store builder = state store.is_vec store.pairs (allowed limit store.is_vec store.capacity) builder store.contents
+state_in limit store builder = state store.is_vec store.pairs (allowed limit store.is_vec store.capacity) store.columns builder store.contents
 
 -- what the fields keep
 pub record IsKept {K V : Type 0} (eq : K → K → Bool) (hash : K → ℕ) (limit : ℕ) (store : StoreState K V) : Type 0 where

@@ -1,24 +1,22 @@
 -- Capacity for one pair more: what each call that adds a pair makes first, and what adding the pair there leaves.
-use Rattle.std.specs.Prelude.{◌≡◌, ℕ, ◌+◌, ◌<◌, nat_lt, Bool, [], ◌∷◌, ◌++◌, length, Option, if◌then◌else◌}
+use Rattle.std.specs.Prelude.{◌≡◌, ℕ, ◌+◌, ◌<◌, nat_lt, Bool, [], ◌∷◌, ◌++◌, length, Option, Result, Ok, Err, if◌then◌else◌}
 use Rattle.half_store.specs.Capacity.{capacity_for}
 use Rattle.half_store.specs.Store.{IsVacancy, filled}
-use Rattle.half_store.specs.declared.store.lookup.Lookup.{Lookup}
-use Rattle.half_store.specs.declared.store.lookup.Lookup.TheVariants.{Found, Missing}
-use Rattle.half_store.specs.declared.store.lookup.Vacancy.{Vacancy}
-use Rattle.halfbrown.specs.Costs.{probe_length_by}
-use Rattle.halfbrown.specs.Growth.{is_vec_after, IsGrantable, HasCapacityAfter}
+use Rattle.half_store.specs.declared.store.vacancy.Vacancy.{Vacancy}
+use Rattle.halfbrown.specs.Costs.{probe_length}
+use Rattle.halfbrown.specs.Growth.{is_vec_after, IsGrantable, HasCapacityAfter, HasColumnsAfter}
 use Rattle.halfbrown.specs.Lookup.{IsIndexOf, IsAbsent}
 use Rattle.halfbrown.specs.State.{State, state, contents_of}
 
 module _ {K V S : Type 0} where
   -- the map with one pair more, which is added here
   abbrev pub pushed : State K V S → K → V → Vacancy → State K V S
-  pushed m k v vacancy = state m.is_vec (m.pairs ++ (k, v) ∷ []) m.capacity m.builder (filled m.is_vec (contents_of m) vacancy)
+  pushed m k v vacancy = state m.is_vec (m.pairs ++ (k, v) ∷ []) m.capacity m.columns m.builder (filled m.is_vec (contents_of m) vacancy)
 
   -- the buckets that making capacity for a pair of this hash reads, whose vacancy is known: where the table grows, those of an insertion probe
   abbrev pub growth_looks : (K → ℕ) → State K V S → ℕ → Bool → ℕ
   growth_looks hash m h granted =
-      if nat_lt (length m.pairs) m.capacity then 0 else (if granted then probe_length_by hash m.is_vec (capacity_for (length m.pairs + 1)) m.pairs h else 0)
+      if nat_lt (length m.pairs) m.capacity then 0 else (if granted then probe_length hash m.is_vec (capacity_for (length m.pairs + 1)) m.pairs h else 0)
 
   -- a granted call that makes capacity for an insertion, and needed this much capacity for it: the same pairs, and a full vector has become a
   -- table
@@ -26,6 +24,7 @@ module _ {K V S : Type 0} where
     pub pairs : new.pairs ≡ old.pairs
     pub form : new.is_vec ≡ is_vec_after limit old
     pub capacity : HasCapacityAfter limit old needs new
+    pub columns : HasColumnsAfter old needs new
     pub grantable : IsGrantable needs
     pub builder : new.builder ≡ old.builder
 
@@ -37,6 +36,6 @@ module _ {K V S : Type 0} where
       pub vacant : IsVacancy m.is_vec (contents_of m) (hash m.builder k) vacancy
 
     -- all is ready for an insertion of k: its index is found, or a vacancy for its pair
-    abbrev pub IsReadyFor : State K V S → K → Lookup → Type 0
-    IsReadyFor m k (Found index) = IsIndexOf (eq k) m.pairs index
-    IsReadyFor m k (Missing vacancy) = HasVacancyFor m k vacancy
+    abbrev pub IsReadyFor : State K V S → K → Result ℕ Vacancy → Type 0
+    IsReadyFor m k (Ok index) = IsIndexOf (eq k) m.pairs index
+    IsReadyFor m k (Err vacancy) = HasVacancyFor m k vacancy

@@ -14,7 +14,7 @@ use Rattle.half_store.specs.Work.{Work, asked_more}
 use Rattle.halfbrown.specs.declared.entry.LimitedOccupiedEntry.{LimitedOccupiedEntry}
 use Rattle.halfbrown.specs.declared.limit.Limit as limits
 use Rattle.halfbrown.specs.declared.raw_entry.LimitedRawEntryMut.{LimitedRawEntryMut}
-use Rattle.halfbrown.specs.Costs.{probe_length_by, search_asked}
+use Rattle.halfbrown.specs.Costs.{probe_length, search_asked}
 use Rattle.halfbrown.specs.Entry as entries
 use Rattle.halfbrown.specs.Pairs.{holds_by, set_by, put_by, take_out_by}
 use Rattle.halfbrown.specs.State.{State, IsState, WithPairs}
@@ -128,7 +128,7 @@ module _ {F K V R : Type 0} (g : Once F (Bor K × (MutBor V × Unit {0})) (R × 
 module _ {K V S : Type 0} (hash : S → K → ℕ) (m : State K V S) where
   -- after one insertion probe for this hash
   abbrev pub after_probe : ℕ → Work → Work
-  after_probe sought before = looked_more before (probe_length_by (hash m.builder) m.is_vec m.capacity m.pairs sought)
+  after_probe sought before = looked_more before (probe_length (hash m.builder) m.is_vec m.capacity m.pairs sought)
 
   -- after the key was hashed, in a table, and one insertion probe made for it
   abbrev pub after_adding : K → Work → Work

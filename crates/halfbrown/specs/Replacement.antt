@@ -60,4 +60,4 @@ module _ {K V S L H : Type 0} {e : eq.Ghosts K} {h : hash.Ghosts K} {b : builder
   -- one insertion probe where the pair is gone, and nothing else
   abbrev pub ReplacementCosts : (S → K → ℕ) → LimitedEntry K V S L H e h b w l → Work → Work → Type 0
   ReplacementCosts hash result before after = IfSome (entry_key result) (λ key. after ≡ looked_more before
-      (if is_occupied result then 0 else probe_length (hash (map_of result).builder) (map_of result).is_vec (map_of result).capacity (map_of result).pairs key))
+      (if is_occupied result then 0 else probe_length (hash (map_of result).builder) (map_of result).is_vec (map_of result).capacity (map_of result).pairs (hash (map_of result).builder key)))

@@ -1,18 +1,48 @@
--- Whole runs.
-use Rattle.std.specs.Prelude.{◌≡◌, ℕ, Bool, List, [], ◌∷◌}
+-- Whole runs: lists of steps.
+use Rattle.std.specs.Prelude.{◌≡◌, ℕ, Bool, List, [], ◌∷◌, map}
+use Rattle.std.specs.List.{list_any}
 use Rattle.halfbrown.specs.declared.run.Command.{Command}
 use Rattle.halfbrown.specs.declared.run.Reply.{Reply}
 use Rattle.halfbrown.specs.State.{State, IsState}
-use Rattle.halfbrown.specs.Step.{Steps, is_refused}
+use Rattle.halfbrown.specs.Step.{Step, IsStep, is_refused, is_shrink}
 use Rattle.halfbrown.specs.Costs.{Cost, no_cost, add_costs}
 use Rattle.halfbrown.specs.RunCost.{command_cost}
 
-module _ {K V S : Type 0} (limit : ℕ) (eq : K → K → Bool) (hash : S → K → ℕ) where
-  -- from old to new the commands may have these replies, one step after another, and the cost is the sum of the steps' costs
-  abbrev pub Runs : State K V S → List (Command K V) → List (Reply K V) → State K V S → Cost → Type 0
-  Runs old [] [] new cost = (new ≡ old) × (cost ≡ no_cost)
-  Runs old (command ∷ commands) (reply ∷ replies) new cost =
-      (next : State K V S) × (rest : Cost) × Steps limit eq old command reply next × IsState eq limit next × Runs next commands replies new rest
-      × (cost ≡ add_costs (command_cost limit eq hash old command (is_refused reply)) rest)
-  Runs old [] (reply ∷ replies) new cost = ⊥
-  Runs old (command ∷ commands) [] new cost = ⊥
+-- whether `Shrink` is among the commands
+abbrev pub shrinks : {K V : Type 0} → List (Command K V) → Bool
+shrinks commands = list_any is_shrink commands
+
+module _ {K V S : Type 0} where
+  -- the commands of the steps, in order
+  abbrev pub commands_of : List (Step K V S) → List (Command K V)
+  commands_of steps = map (λ s. s.command) steps
+
+  -- the replies of the steps, in order
+  abbrev pub replies_of : List (Step K V S) → List (Reply K V)
+  replies_of steps = map (λ s. s.reply) steps
+
+module _ {K V S : Type 0} (limit : ℕ) (eq : K → K → Bool) where
+  -- the steps lead from old to new: each begins where the one before it ended, is one that its command may take, and leaves what holds of
+  -- every map
+  abbrev pub Lead : State K V S → List (Step K V S) → State K V S → Type 0
+  Lead old [] new = new ≡ old
+  Lead old (s ∷ steps) new = (s.before ≡ old) × IsStep limit eq s × IsState eq limit s.after × Lead s.after steps new
+
+  module _ (hash : S → K → ℕ) where
+    -- what a step costs
+    abbrev pub step_cost : Step K V S → Cost
+    step_cost s = command_cost limit eq hash s.before s.command (is_refused s.reply)
+
+    -- what the steps cost together
+    abbrev pub cost_of : List (Step K V S) → Cost
+    cost_of [] = no_cost
+    cost_of (s ∷ steps) = add_costs (step_cost s) (cost_of steps)
+
+    -- there are steps that lead from old to new, and have these commands and these replies, and together this cost
+    pub record Runs (old : State K V S) (commands : List (Command K V)) (replies : List (Reply K V)) (new : State K V S) (cost : Cost)
+        : Type 0 where
+      pub steps : List (Step K V S)
+      pub lead : Lead old steps new
+      pub commands_are : commands ≡ commands_of steps
+      pub replies_are : replies ≡ replies_of steps
+      pub cost_is : cost ≡ cost_of steps

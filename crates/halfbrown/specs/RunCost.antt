@@ -1,7 +1,7 @@
 -- What a command costs.
 use Rattle.std.specs.Prelude.{ℕ, Bool, not, if◌then◌else◌}
 use Rattle.halfbrown.specs.declared.run.Command.{Command}
-use Rattle.halfbrown.specs.declared.run.Command.TheVariants.{Insert, InsertNew, EntryOrInsert, RawOrInsert, Get, Remove, Clear, Reserve, Shrink, IsVec, Len}
+use Rattle.halfbrown.specs.declared.run.Command.TheVariants.{Insert, InsertNew, EntryOrInsert, RawOrInsert, Get, Remove}
 use Rattle.halfbrown.specs.Costs.{Cost, no_cost, add_costs, search_cost_of, insert_cost, raw_insert_cost, new_key_cost}
 use Rattle.halfbrown.specs.Pairs.{holds}
 use Rattle.halfbrown.specs.State.{State}
@@ -16,8 +16,4 @@ module _ {K V S : Type 0} (limit : ℕ) (eq : K → K → Bool) (hash : S → K 
   command_cost m (RawOrInsert k v) refused = raw_insert_cost limit eq hash m k (not refused)
   command_cost m (Get k) refused = search_cost_of eq hash m k
   command_cost m (Remove k) refused = search_cost_of eq hash m k
-  command_cost m Clear refused = no_cost
-  command_cost m (Reserve additional) refused = no_cost
-  command_cost m Shrink refused = no_cost
-  command_cost m IsVec refused = no_cost
-  command_cost m Len refused = no_cost
+  command_cost m command refused = no_cost

@@ -1,11 +1,11 @@
 -- What one command replies and does.
-use Rattle.std.specs.Prelude.{◌≡◌, ℕ, ◌+◌, Bool, List, [], length, Option, None, Some, is_some, unwrap_or, MatchBool, if◌then◌else◌}
+use Rattle.std.specs.Prelude.{◌≡◌, ℕ, ◌+◌, Bool, true, false, not, ◌&&◌, nat_le, List, [], length, Option, None, Some, is_some, unwrap_or, MatchBool, if◌then◌else◌}
 use Rattle.half_store.specs.declared.refusal.Refusal.{Refusal}
 use Rattle.halfbrown.specs.declared.run.Command.{Command}
 use Rattle.halfbrown.specs.declared.run.Command.TheVariants.{Insert, InsertNew, EntryOrInsert, RawOrInsert, Get, Remove, Clear, Reserve, Shrink, IsVec, Len}
 use Rattle.halfbrown.specs.declared.run.Reply.{Reply}
 use Rattle.halfbrown.specs.declared.run.Reply.TheVariants.{Was, Added, Present, Value, Found, Removed, Done, Form, Length, Refused}
-use Rattle.halfbrown.specs.Growth.{vec_shrunk, insert_needs, new_key_needs, reserve_needs, IsRefusal, Reserves, Shrinks}
+use Rattle.halfbrown.specs.Growth.{is_full, vec_shrunk, insert_needs, new_key_needs, reserve_needs, IsRefusal, Reserves, Shrinks}
 use Rattle.halfbrown.specs.Insertion.{Puts}
 use Rattle.halfbrown.specs.Pairs.{value_of, pair_of, holds, take_out}
 use Rattle.halfbrown.specs.State.{State, WithPairs}
@@ -44,13 +44,11 @@ module _ {K V S : Type 0} (limit : ℕ) (eq : K → K → Bool) where
   Leaves old (InsertNew k v) new = MatchBool (holds eq old.pairs k) (new ≡ old) (Puts limit eq old k v (new_key_needs limit old) new)
   Leaves old (EntryOrInsert k v) new = Puts limit eq old k (value_or eq old.pairs k v) (insert_needs limit eq old k) new
   Leaves old (RawOrInsert k v) new = Puts limit eq old k (value_or eq old.pairs k v) (new_key_needs limit old) new
-  Leaves old (Get k) new = new ≡ old
   Leaves old (Remove k) new = WithPairs old (take_out eq old.pairs k) new
   Leaves old Clear new = WithPairs old [] new
   Leaves old (Reserve additional) new = Reserves limit old additional new
   Leaves old Shrink new = Shrinks limit old new
-  Leaves old IsVec new = new ≡ old
-  Leaves old Len new = new ≡ old
+  Leaves old command new = new ≡ old
 
   -- from old, the command may have this reply and leave new: a refused command comes back, with the reason, and has changed nothing
   abbrev pub Steps : State K V S → Command K V → Reply K V → State K V S → Type 0
@@ -65,3 +63,39 @@ refusal_in reply = None
 -- whether the reply is a refusal
 abbrev pub is_refused : {K V : Type 0} → Reply K V → Bool
 is_refused reply = is_some (refusal_in reply)
+
+-- whether the reply says that a pair was put
+abbrev pub is_put : {K V : Type 0} → Reply K V → Bool
+is_put (Was before) = true
+is_put Added = true
+is_put (Value value) = true
+is_put reply = false
+
+-- whether the command is `Shrink`
+abbrev pub is_shrink : {K V : Type 0} → Command K V → Bool
+is_shrink Shrink = true
+is_shrink command = false
+
+-- one command of a run: the map before it, the command, its reply, and the map after it
+pub record Step (K V S : Type 0) : Type 0 where
+  pub before : State K V S
+  pub command : Command K V
+  pub reply : Reply K V
+  pub after : State K V S
+
+module _ {K V S : Type 0} (limit : ℕ) where
+  -- the step is one that its command may take
+  abbrev pub IsStep : (K → K → Bool) → Step K V S → Type 0
+  IsStep eq s = Steps limit eq s.before s.command s.reply s.after
+
+  -- whether the step put a pair into a full vector, and so made it a table
+  abbrev pub switches : Step K V S → Bool
+  switches s = is_put s.reply && is_full limit s.before
+
+  -- whether the step made a table a vector: it is a `Shrink`, and the limit allows the pairs
+  abbrev pub goes_back : Step K V S → Bool
+  goes_back s = is_shrink s.command && not s.before.is_vec && nat_le (length s.before.pairs) limit
+
+  -- whether the form is the vector after a step that changed it; none where the step did not
+  abbrev pub form_changed : Step K V S → Option Bool
+  form_changed s = if switches s then Some false else if goes_back s then Some true else None

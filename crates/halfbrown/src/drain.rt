@@ -15,6 +15,7 @@ use std::iter::FusedIterator;
 /// fn count(pairs: Drain<'_, u64, u32, 32>) -> usize {
 ///     pairs.len()
 /// }
+/// assert_eq!(rt; count(ages.drain()), 2);
 /// ```
 pub type Drain<'a, K, V, const N: usize, S = DefaultHashBuilder> = LimitedDrain<
     'a,
@@ -24,14 +25,8 @@ pub type Drain<'a, K, V, const N: usize, S = DefaultHashBuilder> = LimitedDrain<
     UpTo<N>,
 >;
 
-/// The pairs that `LimitedHashMap::drain` takes out of a map, in order. It says how many are left, and stays at its end.
-/// Once it is dropped the map holds no pair.
-///
-/// ```
-/// for pair in map.drain() {
-///     pairs.push(pair)?;
-/// }
-/// ```
+/// The pairs that `LimitedHashMap::drain` takes out of a map, in order. It knows how many are left. Once it is dropped
+/// the map holds no pair.
 pub struct LimitedDrain<
     'a,
     K: Eq + Hash,
@@ -64,17 +59,17 @@ impl<'a, K: Eq + Hash + Drop, V: Drop, S: BuildHasher, L: Limit, P: IntoStore<K,
 impl<K: Eq + Hash, V, S: BuildHasher, L: Limit> LimitedHashMap<K, V, S, L> {
     ghost use Rattle.halfbrown.specs.Drain.{rest, lender, map_after, RunsInOrder, KeepsAlong};
 
-    /// Takes all pairs out and returns them, in order. Once what it returns is dropped, also before its end, the map holds
-    /// no pair: those that were not taken from it are dropped too. The form, the capacity and the builder stay.
+    /// Takes all pairs out, and returns them in order. Once what it returns is dropped, even before its end, the map
+    /// holds no pair: those that were left are dropped too. The form, the capacity and the builder stay.
     ///
-    /// It needs no memory, and nothing is hashed or compared. The order of the pairs is turned round first, and in a table
-    /// the buckets are emptied at the end; each step does no more than to move its pair.
+    /// It needs no memory, and nothing is hashed or compared. The pairs are put in the opposite order first, and in a
+    /// table the buckets are emptied at the end. Each step only moves its pair.
     ///
     /// ```
     /// let mut pairs = ages.drain();
-    /// let first = pairs.next(); // 1 and 36
+    /// assert_eq!(rt; pairs.next(), Some((1, 36)));
     /// drop(pairs); // and with it the other pairs
-    /// let count = ages.len(); // 0
+    /// assert!(rt; ages.is_empty());
     /// ```
     pub fn drain(&mut self) -> LimitedDrain<'_, K, V, S, L>
         ensures pairs { rest result ≡ self.old.pairs }
@@ -91,11 +86,11 @@ impl<K: Eq + Hash, V, S: BuildHasher, L: Limit> LimitedHashMap<K, V, S, L> {
 
 impl<'a, K: Eq + Hash + Drop, V: Drop, S: BuildHasher, L: Limit> Iterator
     for LimitedDrain<'a, K, V, S, L> {
-    ghost use Rattle.halfbrown.specs.Drain.{rest, Steps};
+    ghost use Rattle.halfbrown.specs.Drain.{rest, DrainSteps};
 
     type Item = (K, V);
 
-    ghost next_gives = { Steps };
+    ghost next_gives = { DrainSteps };
 
     ghost remaining = { λ s. at_most (length (rest s)) };
 

@@ -19,10 +19,11 @@ use std::hash::{BuildHasher, Hash};
 /// The entry of a key in a map that stores up to `N` pairs in a vector.
 ///
 /// ```
-/// let age = match ages.entry(5)? {
+/// let age = match ages.entry(3)? {
 ///     Entry::Occupied(entry) => entry.remove(),
-///     Entry::Vacant(entry) => *entry.insert(13),
-/// }; // 13
+///     Entry::Vacant(entry) => *entry.insert(5),
+/// };
+/// assert_eq!(rt; age, 5);
 /// ```
 pub type Entry<'a, K, V, const N: usize, S = DefaultHashBuilder> = LimitedEntry<
     'a,
@@ -50,7 +51,7 @@ pub type OccupiedEntry<'a, K, V, const N: usize, S = DefaultHashBuilder> = Limit
 /// The entry of a key that is not held, in a map that stores up to `N` pairs in a vector.
 ///
 /// ```
-/// fn sought(entry: &VacantEntry<'_, u64, u32, 32>) -> u64 {
+/// fn key_of(entry: &VacantEntry<'_, u64, u32, 32>) -> u64 {
 ///     *entry.key()
 /// }
 /// ```
@@ -62,23 +63,10 @@ pub type VacantEntry<'a, K, V, const N: usize, S = DefaultHashBuilder> = Limited
     UpTo<N>,
 >;
 
-/// The entry of a key, by `LimitedHashMap::entry`. The map has been searched, and the capacity is enough for the pair where it is
-/// not held; so nothing fails after that, nothing is hashed and no key is compared.
+/// The entry of a key, which `LimitedHashMap::entry` returns. The map has been searched, and has capacity for the pair
+/// where the key is not held. So no call on the entry fails, hashes a key or compares two.
 ///
-/// In a function of maps of any limit it is matched by this name:
-///
-/// ```
-/// match labels.entry(label)? {
-///     LimitedEntry::Occupied(entry) => {
-///         entry.remove();
-///         Ok(false)
-///     }
-///     LimitedEntry::Vacant(entry) => {
-///         entry.insert(());
-///         Ok(true)
-///     }
-/// }
-/// ```
+/// A function of maps of any limit matches `LimitedEntry::Occupied(entry)` and `LimitedEntry::Vacant(entry)`.
 #[derive(Drop)]
 pub enum LimitedEntry<'a, K: Eq + Hash, V, S: BuildHasher, L: Limit> {
     /// The key is held.
@@ -87,7 +75,7 @@ pub enum LimitedEntry<'a, K: Eq + Hash, V, S: BuildHasher, L: Limit> {
     Vacant(LimitedVacantEntry<'a, K, V, S, L>),
 }
 
-/// The pair of a held key: what an entry has where its key is held, and a raw entry where its search found a pair.
+/// The pair of a held key, in the entry of the key or in a raw entry whose search found it.
 #[derive(Drop)]
 pub struct LimitedOccupiedEntry<'a, K: Eq + Hash, V, S: BuildHasher, L: Limit> {
     pub(crate) map: &'a mut LimitedHashMap<K, V, S, L>,

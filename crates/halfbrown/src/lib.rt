@@ -1,35 +1,28 @@
 //! A map from keys to values in two forms: few pairs are stored in a vector and searched by `==`, many in a hash table.
 //!
-//! What callers build on it, each proved from the clauses of the public calls alone:
-//!
-//! A name in a scope within another means what the inner scope says, and where it says nothing what the outer does:
-//!
 //! ```
-//! match inner.get(name) {
-//!     Some(meaning) => Some(meaning),
-//!     None => outer.get(name),
-//! }
+//! let alloc = rt.alloc();
+//! let mut ages = HashMap::<u64, u32>::new(alloc);
+//! ages.insert(1, 36)?;
+//! ages.insert(2, 41)?;
 //! ```
 //!
-//! A set of labels. A label that is added again changes nothing, and needs no memory:
+//! Every example of this crate begins with these lines: `rt` is the `HostRuntime`, and `ages` holds two pairs.
+//!
+//! Each call that hashes or compares keys, or probes buckets, has a counted form too, such as `get_counted` for `get`.
+//! It does the same, and its contract states how much work that is, in the numbers of a `Tally`. When the program runs
+//! a tally takes no bytes, and counting costs nothing.
 //!
 //! ```
-//! if labels.contains_key(&label) {
-//!     return Ok(false);
-//! }
-//! labels.insert_nocheck(label, ())?;
-//! Ok(true)
-//! ```
-//!
-//! A cache whose look-ups are counted. A key is hashed once in a table, and never in a vector:
-//!
-//! ```
-//! cache.get_counted(key, tally)
+//! let mut tally = Tally::new();
+//! assert_eq!(rt; ages.get_counted(&1, &mut tally), Some(&36));
 //! ```
 #![tactic(auto)]
 
 mod drain;
 mod entry;
+mod equivalent;
+mod iter;
 mod limit;
 mod macros;
 mod map;
@@ -41,9 +34,9 @@ pub use drain::{Drain, LimitedDrain};
 pub use entry::{
     Entry, LimitedEntry, LimitedOccupiedEntry, LimitedVacantEntry, OccupiedEntry, VacantEntry,
 };
-pub use half_equivalent::Equivalent;
-pub use half_iter::{IntoIter, Iter, IterMut, Keys, Values, ValuesMut};
+pub use equivalent::Equivalent;
 pub use half_store::{Refusal, Tally};
+pub use iter::{IntoIter, Iter, IterMut, Keys, Values, ValuesMut};
 pub use limit::{Limit, UpTo};
 pub use map::{DefaultHashBuilder, HashMap, LimitedHashMap, SizedHashMap, laws};
 pub use raw_entry::{

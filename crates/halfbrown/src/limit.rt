@@ -3,14 +3,14 @@ ghost use Rattle.std.specs.Prelude.{ℕ};
 
 /// The most pairs that a map holds in a vector.
 ///
-/// It is a type and no const parameter of the map, so that types that borrow a map can be proved; users write the
+/// It is a type, and not a const parameter of the map, so that types that borrow a map can be proved. Users write the
 /// number, as in `SizedHashMap<K, V, S, 5>`. A function of maps of any limit has it as a parameter:
 ///
 /// ```
-/// pub fn has_label<K: Eq + Hash, S: BuildHasher, L: Limit>(
-///     labels: &LimitedHashMap<K, (), S, L>,
-///     label: &K,
-/// ) -> bool
+/// fn knows<S: BuildHasher, L: Limit>(ages: &LimitedHashMap<u64, u32, S, L>, id: u64) -> bool {
+///     ages.contains_key(&id)
+/// }
+/// assert!(rt; knows(&ages, 1));
 /// ```
 pub trait Limit {
     ghost LIMIT: { ℕ };
@@ -21,7 +21,8 @@ pub trait Limit {
 /// A limit of `N` pairs.
 ///
 /// ```
-/// type Few = LimitedHashMap<u64, u32, DefaultHashBuilder, UpTo<8>>; // up to eight pairs in a vector
+/// let few = LimitedHashMap::<u64, u32, DefaultHashBuilder, UpTo<8>>::with_capacity(alloc, 9)?;
+/// assert!(rt; few.is_map());
 /// ```
 #[derive(Clone, Copy, Debug, PartialEq, Eq)]
 pub struct UpTo<const N: usize>;

@@ -1,14 +1,11 @@
 //! `hashmap!`.
 
-/// A `HashMap` of the written pairs, with the default builder: `HashMap::from_array` of them, in order. It is a `Result`,
-/// and a last comma is allowed. Of no pairs it is an empty vector, takes no memory and is never refused.
+/// A `HashMap` of the written pairs with the default builder, made by `HashMap::from_array`. It is a `Result`. A last
+/// comma is allowed. Without pairs it is an empty vector, takes no memory and never fails.
 ///
 /// ```
-/// let names: Names = hashmap! {in alloc; 1 => "one", 2 => "two"}?; // two names
-/// ```
-///
-/// ```
-/// let none: Names = hashmap! {in alloc;}?; // no names
+/// let names: HashMap<u64, &'static str> = hashmap! {in alloc; 1 => "one", 2 => "two"}?;
+/// assert_eq!(rt; names.get(&2), Some(&"two"));
 /// ```
 #[macro_export]
 macro_rules! hashmap {

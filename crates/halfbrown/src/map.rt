@@ -31,60 +31,32 @@ use std::marker::{Model, PhantomData};
 /// The builder that `new` uses. Its seed is fixed.
 pub type DefaultHashBuilder = BuildHasherDefault<FoldHasher>;
 
-/// A map that stores up to `N` pairs in a vector. The builder stands before the number; where a call makes the map, `_` leaves
-/// it to the call, and `new` takes the default one:
+/// A map that stores up to `N` pairs in a vector. The builder comes before the number, and `_` leaves it to the call
+/// that makes the map:
 ///
 /// ```
 /// let mut scope = SizedHashMap::<u64, u32, _, 8>::new(alloc);
-/// ```
-///
-/// ```
-/// type Scope = SizedHashMap<u64, u32, DefaultHashBuilder, 8>;
+/// scope.insert(1, 36)?;
+/// assert!(rt; scope.is_vec());
 /// ```
 pub type SizedHashMap<K, V, S, const N: usize> = LimitedHashMap<K, V, S, UpTo<N>>;
 
-/// A map that stores up to 32 pairs in a vector.
-///
-/// ```
-/// type Ages = HashMap<u64, u32>;
-/// ```
-///
-/// Another builder is handed in, and is the third argument of the type:
-///
-/// ```
-/// Ok(HashMap::with_hasher(alloc, RandomState::new(rt)?))
-/// ```
+/// A map that stores up to 32 pairs in a vector. Another builder is the third argument of the type, and `with_hasher` takes it.
 pub type HashMap<K, V, S = DefaultHashBuilder> = LimitedHashMap<K, V, S, UpTo<32>>;
 
-/// A map in two forms. Up to the limit its pairs are stored in a vector and searched by `==`, and nothing is hashed. A
-/// switching call on as many pairs as the limit makes it a hash table. One call goes back: `shrink_to_fit`, where no more
-/// pairs are held than the limit.
+/// A map in two forms. Up to the limit its pairs are stored in a vector, which is searched by `==`, and nothing is
+/// hashed. A full vector becomes a hash table at the next insertion or entry that succeeds, even for a key that is
+/// already held. Only `shrink_to_fit` turns it back, whenever no more pairs are held than the limit.
 ///
-/// In both forms the pairs keep the order of their insertion, until a removal moves the last one to the index that
+/// In both forms the pairs keep the order of their insertion, until a removal moves the last pair to the index that
 /// became free.
 ///
-/// A search costs this. In a vector it compares keys, in order, up to the one that it finds, and hashes nothing. In a
-/// table it hashes the key once, probes from its home bucket on, and compares no key of another hash; a search that finds
-/// nothing reads exactly as many buckets as the home buckets of the held keys decide, whatever the history.
+/// A search in a vector compares keys in order, up to the one that it finds, and hashes nothing. A search in a table
+/// hashes the key once, probes from its home bucket on, and compares only keys of the same hash. How many buckets it
+/// reads where it finds nothing is decided by the home buckets of the held keys, whatever the history.
 ///
-/// Its limit `L` is a type, and no number: for 8 pairs write `UpTo<8>`, or take the name `SizedHashMap`, which is given the
-/// number:
-///
-/// ```
-/// type Few = LimitedHashMap<u64, u32, DefaultHashBuilder, UpTo<8>>; // up to eight pairs in a vector
-/// ```
-///
-/// ```
-/// type Scope = SizedHashMap<u64, u32, DefaultHashBuilder, 8>;
-/// ```
-///
-/// A function of maps of every limit has it as a parameter, `L: Limit`. Most users need neither, and write `HashMap`:
-///
-/// ```
-/// let mut ages = HashMap::<u64, u32>::new(alloc);
-/// ages.insert(1, 36)?;
-/// let age = ages.get(&1).copied(); // 36
-/// ```
+/// Its limit `L` is a type, `UpTo<8>` for 8 pairs. `SizedHashMap` takes the number instead. A function of maps of every limit has
+/// `L: Limit` as a parameter. Most users need neither, and write `HashMap`.
 pub struct LimitedHashMap<
     K: Eq + Hash,
     V,
@@ -129,7 +101,7 @@ impl<K: Eq + Hash, V, S: BuildHasher, L: Limit> LimitedHashMap<K, V, S, L> {
     /// How many pairs are held.
     ///
     /// ```
-    /// let count = ages.len(); // 2
+    /// assert_eq!(rt; ages.len(), 2);
     /// ```
     #[inline(always)]
     pub fn len(&self) -> usize
@@ -137,13 +109,13 @@ impl<K: Eq + Hash, V, S: BuildHasher, L: Limit> LimitedHashMap<K, V, S, L> {
         ensures small { result < 2 ^ 63 }
         ensures state { IsState K.eq L.LIMIT self.now }
     {
-        self.store.len()
+        self.columns().len()
     }
 
     /// Whether no pair is held.
     ///
     /// ```
-    /// let none = ages.is_empty(); // false
+    /// assert!(rt; !ages.is_empty());
     /// ```
     #[inline(always)]
     pub fn is_empty(&self) -> bool
@@ -156,6 +128,7 @@ impl<K: Eq + Hash, V, S: BuildHasher, L: Limit> LimitedHashMap<K, V, S, L> {
     ///
     /// ```
     /// let hash = ages.hasher().hash_one(&1u64); // the hash that a table of these ages stores for 1
+    /// assert_eq!(rt; hash, DefaultHashBuilder::new().hash_one(&1u64));
     /// ```
     #[inline(always)]
     pub fn hasher(&self) -> &S
@@ -167,7 +140,8 @@ impl<K: Eq + Hash, V, S: BuildHasher, L: Limit> LimitedHashMap<K, V, S, L> {
     /// How many pairs fit before more memory is needed. In a vector it is at most the limit.
     ///
     /// ```
-    /// let capacity = ages.capacity(); // 4, since it was made for so many
+    /// let ages = HashMap::<u64, u32>::with_capacity(alloc, 4)?;
+    /// assert_eq!(rt; ages.capacity(), 4);
     /// ```
     #[inline(always)]
     pub fn capacity(&self) -> usize
@@ -180,7 +154,7 @@ impl<K: Eq + Hash, V, S: BuildHasher, L: Limit> LimitedHashMap<K, V, S, L> {
     ///
     /// ```
     /// ages.clear();
-    /// let count = ages.len(); // 0
+    /// assert!(rt; ages.is_empty());
     /// ```
     pub fn clear(&mut self)
     where

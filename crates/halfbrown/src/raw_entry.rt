@@ -14,9 +14,10 @@ use std::hash::{BuildHasher, Hash};
 /// Look-ups by a known hash or by a match on keys, in a map that stores up to `N` pairs in a vector.
 ///
 /// ```
-/// fn known(ages: RawEntryBuilder<'_, u64, u32, 32>) -> bool {
-///     ages.from_key(&1).is_some()
+/// fn age_of_1(ages: RawEntryBuilder<'_, u64, u32, 32>) -> Option<u32> {
+///     ages.from_key(&1).map(|(_, age)| *age)
 /// }
+/// assert_eq!(rt; age_of_1(ages.raw_entry()), Some(36));
 /// ```
 pub type RawEntryBuilder<'a, K, V, const N: usize, S = DefaultHashBuilder> = LimitedRawEntryBuilder<
     'a,
@@ -29,7 +30,11 @@ pub type RawEntryBuilder<'a, K, V, const N: usize, S = DefaultHashBuilder> = Lim
 /// What a raw entry is made from, in a map that stores up to `N` pairs in a vector.
 ///
 /// ```
-/// fn leave_all(_ages: RawEntryBuilderMut<'_, u64, u32, 32>) {}
+/// fn entry_of_1(ages: RawEntryBuilderMut<'_, u64, u32, 32>) -> RawEntryMut<'_, u64, u32, 32> {
+///     ages.from_key(&1)
+/// }
+/// entry_of_1(ages.raw_entry_mut()?).and_modify(|_, age| *age = 37);
+/// assert_eq!(rt; ages.get(&1), Some(&37));
 /// ```
 pub type RawEntryBuilderMut<'a, K, V, const N: usize, S = DefaultHashBuilder> =
     LimitedRawEntryBuilderMut<'a, K, V, S, UpTo<N>>;
@@ -37,10 +42,11 @@ pub type RawEntryBuilderMut<'a, K, V, const N: usize, S = DefaultHashBuilder> =
 /// A raw entry of a map that stores up to `N` pairs in a vector.
 ///
 /// ```
-/// let age = match ages.raw_entry_mut()?.from_key(&1) {
+/// let age = match ages.raw_entry_mut()?.from_key(&3) {
 ///     RawEntryMut::Occupied(entry) => entry.remove(),
-///     RawEntryMut::Vacant(_vacant) => 0,
+///     RawEntryMut::Vacant(entry) => *entry.insert(3, 5).1,
 /// };
+/// assert_eq!(rt; age, 5);
 /// ```
 pub type RawEntryMut<'a, K, V, const N: usize, S = DefaultHashBuilder> = LimitedRawEntryMut<
     'a,
@@ -50,7 +56,8 @@ pub type RawEntryMut<'a, K, V, const N: usize, S = DefaultHashBuilder> = Limited
     UpTo<N>,
 >;
 
-/// The raw entry of a pair that was found, in a map that stores up to `N` pairs in a vector: an occupied entry, as that of a key.
+/// The raw entry of a pair that was found, in a map that stores up to `N` pairs in a vector: an occupied entry, like
+/// that of a key.
 ///
 /// ```
 /// fn take(entry: RawOccupiedEntryMut<'_, u64, u32, 32>) -> u32 {
@@ -66,27 +73,19 @@ pub type LimitedRawOccupiedEntryMut<'a, K, V, S, L> = LimitedOccupiedEntry<'a, K
 /// The raw entry where no pair was found, in a map that stores up to `N` pairs in a vector.
 ///
 /// ```
-/// fn leave(_entry: RawVacantEntryMut<'_, u64, u32, 32>) {}
+/// let RawEntryMut::Vacant(entry) = ages.raw_entry_mut()?.from_key(&3) else { unreachable!() };
+/// let vacant: RawVacantEntryMut<'_, u64, u32, 32> = entry;
 /// ```
 pub type RawVacantEntryMut<'a, K, V, const N: usize, S = DefaultHashBuilder> =
     LimitedRawVacantEntryMut<'a, K, V, S, UpTo<N>>;
 
 /// Look-ups by a known hash or by a match on keys. `LimitedHashMap::raw_entry` makes it.
-///
-/// ```
-/// let hash = ages.hasher().hash_one(&1u64);
-/// let pair = ages.raw_entry().from_key_hashed_nocheck(hash, &1); // 1 and 36; nothing more is hashed
-/// ```
 #[derive(Drop)]
 pub struct LimitedRawEntryBuilder<'a, K: Eq + Hash, V, S: BuildHasher, L: Limit> {
     map: &'a LimitedHashMap<K, V, S, L>,
 }
 
 /// What a raw entry is made from: a map with capacity for one pair more. `LimitedHashMap::raw_entry_mut` makes it.
-///
-/// ```
-/// let entry = ages.raw_entry_mut()?.from_key(&1);
-/// ```
 #[derive(Drop)]
 pub enum LimitedRawEntryBuilderMut<'a, K: Eq + Hash, V, S: BuildHasher, L: Limit> {
     #[doc(hidden)]
@@ -102,13 +101,6 @@ pub struct Prepared<'a, K: Eq + Hash, V, S: BuildHasher, L: Limit> {
 
 /// A raw entry: the pair that a search found, or a vacancy for any pair whose key is not held. The map has capacity for it, so
 /// nothing fails after that.
-///
-/// ```
-/// let age = match ages.raw_entry_mut()?.from_key(&5) {
-///     RawEntryMut::Occupied(entry) => entry.remove(),
-///     RawEntryMut::Vacant(entry) => *entry.insert(5, 13).1,
-/// }; // 13
-/// ```
 #[derive(Drop)]
 pub enum LimitedRawEntryMut<'a, K: Eq + Hash, V, S: BuildHasher, L: Limit> {
     /// A pair was found.

@@ -12,15 +12,11 @@ use std::{fmt, io};
 /// `?` converts it into a `Refusal` or an `io::Error`, and drops the pair:
 ///
 /// ```
-/// ages.insert(3, 5)?;
-/// ages.reserve(1)?;
-/// ```
-///
-/// ```
-/// let pair = ages
-///     .insert(4, 8)
-///     .err()
-///     .map(|refused| (refused.key, refused.value)); // none, or 4 and 8
+/// fn add(ages: &mut HashMap<u64, u32>, id: u64, age: u32) -> Result<(), Refusal> {
+///     ages.insert(id, age)?;
+///     ages.reserve(1)
+/// }
+/// assert_eq!(rt; add(&mut ages, 3, 5), Ok(()));
 /// ```
 #[derive(Debug, Drop)]
 pub struct Refused<K, V> {
@@ -57,15 +53,11 @@ impl<K: Drop, V: Drop> From<Refused<K, V>> for io::Error {
 
 /// A key for which no entry was made, and why. The map is unchanged.
 ///
-/// `?` converts it into a `Refusal` or an `io::Error`, and drops the key:
+/// `?` converts it into a `Refusal` or an `io::Error`, and drops the key. A caller that needs the key takes it:
 ///
 /// ```
-/// *ages.entry(5)?.or_insert(0) = 13;
-/// ages.reserve(1)?;
-/// ```
-///
-/// ```
-/// let key = ages.entry(6).err().map(|refused| refused.key); // none, or 6
+/// let key = ages.entry(3).err().map(|refused| refused.key); // `Some(3)` where it is refused
+/// assert_eq!(rt; key, None);
 /// ```
 #[derive(Debug, Drop)]
 pub struct RefusedKey<K> {

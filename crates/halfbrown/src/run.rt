@@ -1,12 +1,9 @@
 //! Whole runs: a list of commands, done one after another, with a reply to each.
 ghost use Rattle.std.specs.Prelude.{◌≡◌, ◌+◌, ◌*◌, ◌≤◌, true, false, [], length, vec_capacity, IsOk, IfOk, IfErr, OnErr};
 ghost use Rattle.halfbrown.specs.Costs.{Cost, GrewBy, key_hash};
-ghost use Rattle.halfbrown.specs.Run.{Runs};
+ghost use Rattle.halfbrown.specs.Run.{Runs, shrinks};
 ghost use Rattle.halfbrown.specs.RunCost.{command_cost};
-ghost use Rattle.halfbrown.specs.RunLaws.{shrinks};
 ghost use Rattle.halfbrown.specs.Step.{Steps, is_refused};
-
-pub mod laws;
 
 use crate::{Limit, LimitedHashMap, Refused, RefusedKey};
 use half_store::{Refusal, Tally};
@@ -67,12 +64,14 @@ pub enum Reply<K, V> {
 
 /// Runs the commands in order, and returns a reply to each.
 ///
-/// Memory for all replies is allocated first; where that fails the error has the commands, and nothing was done. The reply
-/// to a command that fails says so, and the run goes on. It costs what its commands cost.
+/// Memory for all replies is allocated first. Where that fails, the error has the commands, and nothing was done. The
+/// reply to a command that fails says so, and the run goes on. It costs what its commands cost.
 ///
 /// ```
+/// let mut ages = HashMap::<u64, u32>::new(alloc);
 /// let commands = vec![in alloc; Command::Insert(1, 36), Command::Get(1), Command::Len]?;
-/// let replies = run(alloc, &mut ages, commands); // Was(None), Found(Some(36)), Length(1)
+/// let replies = run(alloc, &mut ages, commands);
+/// assert_eq!(rt; replies, Ok(vec![in alloc; Reply::Was(None), Reply::Found(Some(36)), Reply::Length(1)]?));
 /// ```
 pub fn run<K: Eq + Hash + Drop, V: Copy, S: BuildHasher, L: Limit>(
     alloc: Global,
@@ -92,18 +91,13 @@ pub fn run<K: Eq + Hash + Drop, V: Copy, S: BuildHasher, L: Limit>(
 }
 
 /// `run`, with the work of all commands counted.
-///
-/// ```
-/// let commands = vec![in alloc; Command::Remove(1), Command::IsVec]?;
-/// let replies = run_counted(alloc, &mut ages, commands, &mut tally); // the pair of 1, and true
-/// ```
 pub fn run_counted<K: Eq + Hash + Drop, V: Copy, S: BuildHasher, L: Limit>(
     alloc: Global,
     map: &mut LimitedHashMap<K, V, S, L>,
     commands: Vec<Command<K, V>>,
     tally: &mut Tally,
 ) -> Result<Vec<Reply<K, V>>, Vec<Command<K, V>>>
-    // The replies and the map afterwards are a run of one list of pairs, and the tally grew by what the run costs.
+    // There are steps that lead from the old map to the new one, with these commands and replies, and the tally grew by what they cost.
     ensures run { IfOk result (λ replies. (cost : Cost)
         × Runs L.LIMIT K.eq (key_hash S.BuildHasher S.Hasher.Hasher K.hash_input) map.old
         commands.items replies.items map.new cost × GrewBy cost tally.old tally.new) }
@@ -146,10 +140,7 @@ fn step<K: Eq + Hash + Drop, V: Copy, S: BuildHasher, L: Limit>(
         map.old command (is_refused result)) tally.old tally.new }
 {
     match command {
-        Command::Insert(key, value) => match map.insert_counted(key, value, tally) {
-            Ok(old) => Reply::Was(old),
-            Err(Refused { key, value, why }) => Reply::Refused(Command::Insert(key, value), why),
-        },
+        Command::Insert(key, value) => insert(map, key, value, tally),
         Command::InsertNew(key, value) => insert_new(map, key, value, tally),
         Command::EntryOrInsert(key, value) => entry_or_insert(map, key, value, tally),
         Command::RawOrInsert(key, value) => raw_or_insert(map, key, value, tally),
@@ -157,10 +148,7 @@ fn step<K: Eq + Hash + Drop, V: Copy, S: BuildHasher, L: Limit>(
             map.clear();
             Reply::Done
         }
-        Command::Reserve(additional) => match map.reserve(additional) {
-            Ok(()) => Reply::Done,
-            Err(why) => Reply::Refused(Command::Reserve(additional), why),
-        },
+        Command::Reserve(additional) => reserve(map, additional),
         Command::Shrink => {
             map.shrink_to_fit();
             Reply::Form(map.is_vec())
@@ -169,6 +157,23 @@ fn step<K: Eq + Hash + Drop, V: Copy, S: BuildHasher, L: Limit>(
         Command::Remove(key) => Reply::Removed(map.remove_entry_counted(&key, tally)),
         Command::IsVec => Reply::Form(map.is_vec()),
         Command::Len => Reply::Length(map.len()),
+    }
+}
+
+// Inserts a pair, or replaces the value of its key.
+fn insert<K: Eq + Hash + Drop, V, S: BuildHasher, L: Limit>(
+    map: &mut LimitedHashMap<K, V, S, L>,
+    key: K,
+    value: V,
+    tally: &mut Tally,
+) -> Reply<K, V>
+    ensures step { Steps L.LIMIT K.eq map.old (Command.Insert key value) result map.new }
+    ensures cost { GrewBy (command_cost L.LIMIT K.eq (key_hash S.BuildHasher S.Hasher.Hasher K.hash_input)
+        map.old (Command.Insert key value) (is_refused result)) tally.old tally.new }
+{
+    match map.insert_counted(key, value, tally) {
+        Ok(old) => Reply::Was(old),
+        Err(Refused { key, value, why }) => Reply::Refused(Command::Insert(key, value), why),
     }
 }
 
@@ -227,5 +232,18 @@ fn raw_or_insert<K: Eq + Hash + Drop, V: Copy, S: BuildHasher, L: Limit>(
             Reply::Value(*entry.get())
         }
         Err(why) => Reply::Refused(Command::RawOrInsert(key, value), why),
+    }
+}
+
+// Makes the capacity enough for more pairs.
+fn reserve<K: Eq + Hash, V, S: BuildHasher, L: Limit>(
+    map: &mut LimitedHashMap<K, V, S, L>,
+    additional: usize,
+) -> Reply<K, V>
+    ensures { Steps L.LIMIT K.eq map.old (Command.Reserve additional) result map.new }
+{
+    match map.reserve(additional) {
+        Ok(()) => Reply::Done,
+        Err(why) => Reply::Refused(Command::Reserve(additional), why),
     }
 }

@@ -1,7 +1,8 @@
 -- A new buffer before a reader or a writer leaves its bytes as they are.
 use Rattle.std.proofs.Common.{◌≡◌, ℕ, eqb, cond, List, [], Some, None, refl, ap, ◌∙◌, append-nil}
 use Rattle.std.specs.Prelude.{Option}
-use Rattle.std.specs.Io.Buffered.{reader_remaining, reader_inner, reader_buffer, reader_capacity, writer_contents, writer_inner, writer_buffer}
+use Rattle.std.specs.Io.Buffered.{reader_remaining, reader_inner, reader_buffer, reader_capacity, writer_contents, writer_inner}
+use Rattle.std.specs.Io.Buffered.{writer_buffer}
 use Rattle.std.specs.Io.KnownBytes.{prepend_known, append_known}
 use Rattle.std.proofs.KnownBytes.{prepend_known-nil}
 use Rattle.std.specs.declared.io.buffered.BufReader.{BufReader}

@@ -1,5 +1,6 @@
 -- A line that is too long for a request is answered as its first bytes are.
-use Rattle.std.proofs.Common.{◌≡◌, ◌≢◌, ℕ, ◌+◌, ◌≤◌, ◌<◌, true, false, Bool, eqb, eqb-true, eq-eqb, List, [], ◌∷◌, ◌++◌, length, refl, ap, subst, inl, inr, ◌⊎◌, arith, length-append, length-take-le, take_all}
+use Rattle.std.proofs.Common.{◌≡◌, ◌≢◌, ℕ, ◌+◌, ◌≤◌, ◌<◌, true, false, Bool, eqb, eqb-true, eq-eqb, List, [], ◌∷◌, ◌++◌, length, refl, ap}
+use Rattle.std.proofs.Common.{subst, inl, inr, ◌⊎◌, arith, length-append, length-take-le, take_all}
 use Rattle.std.specs.Prelude.{codes}
 use Rattle.std.proofs.lemmas.Bool.{cases_lt}
 use Rattle.halfbrown.specs.State.{State}

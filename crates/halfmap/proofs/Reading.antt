@@ -1,5 +1,6 @@
 -- Reading a line part by part.
-use Rattle.std.proofs.Common.{◌≡◌, ◌≢◌, ℕ, zero, suc, ◌-◌, ◌≤◌, Bool, true, false, List, [], ◌∷◌, ◌++◌, All, Result, Ok, Err, IfSome, length, take, refl, sym, ap, ◌∙◌, arith, append-nil, length-take-le}
+use Rattle.std.proofs.Common.{◌≡◌, ◌≢◌, ℕ, zero, suc, ◌-◌, ◌≤◌, Bool, true, false, List, [], ◌∷◌, ◌++◌, All, Result, Ok, Err, IfSome}
+use Rattle.std.proofs.Common.{length, take, refl, sym, ap, ◌∙◌, arith, append-nil, length-take-le}
 use Rattle.std.specs.Prelude.{Option, IsErr, OnErr}
 use Rattle.std.specs.Io.{StartsWith}
 use Rattle.std.specs.Io.BufRead.{DropsConsumable}
@@ -44,7 +45,8 @@ no_flag (Ok b) h e = cc
 no_flag (Err x) h e = cc
 
 -- the first n bytes that were shown were taken
-pub reads_shown : {E : Type 0} (old rested new : Option (List ℕ)) (buffered : Option ℕ) (shown : List ℕ) (n : ℕ) (ended : Bool) (r : Result Bool E) → r ≡ Ok ended
+pub reads_shown : {E : Type 0} (old rested new : Option (List ℕ)) (buffered : Option ℕ) (shown : List ℕ) (n : ℕ) (ended : Bool)
+    (r : Result Bool E) → r ≡ Ok ended
     → IsPartOfLine shown n ended → IfSome old (λ xs. StartsWith xs shown) → IfSome old (λ xs. length shown ≡ 0 → xs ≡ []) → Keeps old rested
     → IfSome old (λ _. IfSome buffered (λ k. length shown ≤ k)) → DropsConsumable rested new buffered n
     → ReadsPart old new (take n shown) r

@@ -1,5 +1,6 @@
 -- A session, line by line.
-use Rattle.std.proofs.Common.{◌≡◌, ℕ, ◌<◌, Bool, true, false, cond, eqb, List, [], ◌∷◌, ◌++◌, length, refl, sym, ap, subst, ◌∙◌, arith, append_assoc, append-nil, length-take, Some, None, IfSome}
+use Rattle.std.proofs.Common.{◌≡◌, ℕ, ◌<◌, Bool, true, false, cond, eqb, List, [], ◌∷◌, ◌++◌, length, refl, sym, ap, subst, ◌∙◌, arith}
+use Rattle.std.proofs.Common.{append_assoc, append-nil, length-take, Some, None, IfSome}
 use Rattle.std.specs.Prelude.{Option, IsTrue, ◌↔◌}
 use Rattle.std.specs.Io.BufRead.{take_through, drop_through}
 use Rattle.std.specs.Io.KnownBytes.{Keeps, Appends}
@@ -16,7 +17,8 @@ use Rattle.halfmap.specs.declared.lines.TheConstants.{KEPT_BYTES}
 
 -- the first line of a text, and the others
 next_by : (b : Bool) (x : ℕ) (xs : List ℕ) → in_front x (lines_of xs) ≡ (x ∷ take_through 10 xs) ∷ lines_of (drop_through 10 xs)
-    → cond b ((x ∷ []) ∷ lines_of xs) (in_front x (lines_of xs)) ≡ cond b (x ∷ []) (x ∷ take_through 10 xs) ∷ lines_of (cond b xs (drop_through 10 xs))
+    → cond b ((x ∷ []) ∷ lines_of xs) (in_front x (lines_of xs))
+    ≡ cond b (x ∷ []) (x ∷ take_through 10 xs) ∷ lines_of (cond b xs (drop_through 10 xs))
 next_by true x xs e = refl
 next_by false x xs e = e
 
@@ -31,14 +33,16 @@ first_line (x ∷ xs) line some e = lines_next x xs ∙ ap (λ l. l ∷ lines_of
 -- one line more
 module _ {S : Type 0} where
   session_more : (lines : List (List ℕ)) (answers : List Answer) (line : List ℕ) (answer : Answer) (old middle new : State ℕ ℕ S)
-      → Session lines old answers middle → AnswersLine line middle answer new → Session (lines ++ line ∷ []) old (answers ++ answer ∷ []) new
+      → Session lines old answers middle → AnswersLine line middle answer new
+      → Session (lines ++ line ∷ []) old (answers ++ answer ∷ []) new
   session_more [] [] line answer old middle new e a = (new, subst (λ m. AnswersLine line m answer new) e a, refl)
   session_more [] (x ∷ xs) line answer old middle new e a = absurd e
   session_more (l ∷ ls) [] line answer old middle new e a = absurd e
   session_more (l ∷ ls) (x ∷ xs) line answer old middle new s a = (s.0, s.1, session_more ls xs line answer s.0 middle new s.2 a)
 
 output_more : (answers : List Answer) (answer : Answer) → output_of answers ++ line_of answer ≡ output_of (answers ++ answer ∷ [])
-output_more answers answer = sym (flat_map-append line_of answers (answer ∷ []) ∙ ap (λ l. output_of answers ++ l) (append-nil (line_of answer)))
+output_more answers answer =
+    sym (flat_map-append line_of answers (answer ∷ []) ∙ ap (λ l. output_of answers ++ l) (append-nil (line_of answer)))
 
 -- what the known input has had taken from it: these whole lines
 abbrev pub LinesTaken : Option (List ℕ) → List (List ℕ) → Option (List ℕ) → Type 0
@@ -88,7 +92,8 @@ module _ {S : Type 0} where
   pub serves_nothing : (input : Option (List ℕ)) (map : State ℕ ℕ S) (out : Option (List ℕ)) → IsServed input input map map out out
   serves_nothing input map out = record { lines = []; answers = []; taken = none_taken input; session = refl; written = Appends-nil out }
 
-  pub serves_line : (input rest new : Option (List ℕ)) (old middle last : State ℕ ℕ S) (before after flushed more : Option (List ℕ)) (line : List ℕ) (answer : Answer)
+  pub serves_line : (input rest new : Option (List ℕ)) (old middle last : State ℕ ℕ S) (before after flushed more : Option (List ℕ))
+      (line : List ℕ) (answer : Answer)
       → IsServed input rest old middle before after → Keeps after flushed → 0 < length line → ReadsLine rest new line
       → AnswersLine line middle answer last → Appends flushed more (line_of answer) → IsServed input new old last before more
   serves_line input rest new old middle last before after flushed more line answer s keeps some r a w = record {
@@ -97,11 +102,13 @@ module _ {S : Type 0} where
     taken = line_taken input rest new s.lines line some s.taken r;
     session = session_more s.lines s.answers line answer old middle last s.session a;
     written = subst (Appends before more) (output_more s.answers answer)
-        (Appends-trans before flushed more (output_of s.answers) (line_of answer) (Appends-kept before after flushed (output_of s.answers) s.written keeps) w);
+        (Appends-trans before flushed more (output_of s.answers) (line_of answer)
+        (Appends-kept before after flushed (output_of s.answers) s.written keeps) w);
   }
 
   pub serves_all : (input rest new : Option (List ℕ)) (old last : State ℕ ℕ S) (before after flushed : Option (List ℕ)) (line : List ℕ)
-      → IsServed input rest old last before after → Keeps after flushed → length line ≡ 0 → ReadsLine rest new line → Serves input old last before flushed
+      → IsServed input rest old last before after → Keeps after flushed → length line ≡ 0 → ReadsLine rest new line
+      → Serves input old last before flushed
   serves_all input rest new old last before after flushed line s keeps none r = record {
     lines = s.lines;
     answers = s.answers;
@@ -125,6 +132,7 @@ serves_by input given first last before was after left e f empty vector no_capac
     answers = s.answers;
     all_lines = subst (λ known. IfSome known (λ text. s.lines ≡ lines_of text)) e s.all_lines;
     session = s.session;
-    written = subst (λ known. Appends known left (output_of s.answers)) f (Appends-kept before after left (output_of s.answers) s.written keeps);
+    written = subst (λ known. Appends known left (output_of s.answers)) f
+        (Appends-kept before after left (output_of s.answers) s.written keeps);
   };
 }

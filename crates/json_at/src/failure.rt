@@ -1,5 +1,5 @@
 //! Why nothing is printed.
-use document::Error;
+use crate::document::Error;
 use std::{fmt, io};
 
 /// Why no value was printed.

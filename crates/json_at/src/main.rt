@@ -2,10 +2,11 @@
 //! whole document. Members stay in their order, and of those of one name the last value wins, at the place of the first.
 #![tactic(auto)]
 
+mod document;
 mod failure;
 
+use crate::document::{Document, Scratch};
 use crate::failure::Failure;
-use document::{Document, Scratch};
 use std::alloc::Global;
 use std::io::Read;
 use std::process::ExitCode;

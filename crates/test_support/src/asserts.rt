@@ -44,13 +44,3 @@ pub fn assert_true(is_true: bool, what: &str) -> Result<(), Fail>
     }
     Err(Fail::new(format_args!("it is false: {what}")))
 }
-
-/// Fails where it is false, and says at which key, call or the like.
-pub fn assert_true_at<A: Debug + Drop>(at: A, is_true: bool, what: &str) -> Result<(), Fail>
-    ensures { OnOk result (is_true ≡ true) }
-{
-    if is_true {
-        return Ok(());
-    }
-    Err(Fail::new(format_args!("{at:?}: it is false: {what}")))
-}

@@ -2,140 +2,130 @@
 
 use crate::kinds::{Named, Number};
 use crate::words::Name;
-use halfbrown::{Refusal, Refused, RefusedKey};
-use std::fmt;
+use halfbrown::{Refusal, RefusedKey};
+use std::{fmt, io};
 
-/// What came back from a call. Keys and values are dropped by then, and these are their names and numbers.
+/// The answer of a call: words, a key and a value, each where it has one. Keys and values are dropped by then, and it has
+/// their names and numbers.
 #[derive(Clone, Copy)]
-pub(crate) enum Answer {
-    None,
-    Value(u64),
-    Index(usize),
-    Was(u64),
-    WasKey(Name),
-    Key(Name),
-    Pair(Name, u64),
-    Truth(bool),
-    Done,
-    Added,
-    AddedValue(u64),
-    AddedPair(Name, u64),
-    Held,
-    NotHeld,
-    Occupied,
-    OccupiedPair(Name, u64),
-    Vacant,
-    VacantKey(Name),
-    Lost(Name),
-    HandedKey(Name),
-    HandedPair(Name, u64),
-    Refused(Refusal),
-    RefusedKey(Refusal, Name),
-    RefusedPair(Refusal, Name, u64),
+pub(crate) struct Answer {
+    words: &'static str,
+    key: Option<Name>,
+    value: Option<u64>,
+}
+
+/// An answer of these words, to which a key or a value may be added.
+pub(crate) fn said(words: &'static str) -> Answer {
+    Answer {
+        words,
+        key: None,
+        value: None,
+    }
 }
 
 impl Answer {
-    /// The pair, or none.
-    pub(crate) fn of_pair<K: Named, V: Number>(pair: Option<(&K, &V)>) -> Answer {
-        match pair {
-            Some((key, value)) => Answer::Pair(key.name(), value.number()),
-            None => Answer::None,
+    /// With this key.
+    pub(crate) fn key<K: Named>(self, key: &K) -> Answer {
+        Answer {
+            key: Some(key.name()),
+            ..self
         }
     }
 
-    /// The value, or none.
-    pub(crate) fn of_value<V: Number>(value: Option<&V>) -> Answer {
-        match value {
-            Some(value) => Answer::Value(value.number()),
-            None => Answer::None,
+    /// With this value.
+    pub(crate) fn value<V: Number>(self, value: &V) -> Answer {
+        Answer {
+            value: Some(value.number()),
+            ..self
         }
     }
 
-    /// The index, or none.
-    pub(crate) fn of_index(index: Option<usize>) -> Answer {
-        match index {
-            Some(index) => Answer::Index(index),
-            None => Answer::None,
-        }
-    }
-
-    /// The value that was there before, or none.
-    pub(crate) fn of_old<V: Number>(old: Option<&V>) -> Answer {
-        match old {
-            Some(old) => Answer::Was(old.number()),
-            None => Answer::None,
-        }
-    }
-
-    /// Done, or refused.
-    pub(crate) fn of_done(done: Result<(), Refusal>) -> Answer {
-        match done {
-            Ok(()) => Answer::Done,
-            Err(why) => Answer::Refused(why),
-        }
-    }
-
-    /// A pair that was handed back.
-    pub(crate) fn of_refused<K: Named, V: Number>(refused: &Refused<K, V>) -> Answer {
-        Answer::RefusedPair(refused.why, refused.key.name(), refused.value.number())
-    }
-
-    /// What was answered, or a key that was handed back.
-    pub(crate) fn or_refused_key<K: Named + Drop>(
-        answered: Result<Answer, RefusedKey<K>>,
-    ) -> Answer {
-        match answered {
-            Ok(answer) => answer,
-            Err(refused) => Answer::RefusedKey(refused.why, refused.key.name()),
-        }
-    }
-
-    /// What was answered, or why it was refused.
-    pub(crate) fn or_refused(answered: Result<Answer, Refusal>) -> Answer {
-        match answered {
-            Ok(answer) => answer,
-            Err(why) => Answer::Refused(why),
-        }
+    /// With this pair.
+    pub(crate) fn pair<K: Named, V: Number>(self, key: &K, value: &V) -> Answer {
+        self.key(key).value(value)
     }
 }
 
-/// A reason in one word.
-pub(crate) fn reason(why: Refusal) -> &'static str {
-    match why {
-        Refusal::Memory => "memory",
-        Refusal::Size => "size",
+/// The pair, or none.
+pub(crate) fn of_pair<K: Named, V: Number>(pair: Option<(&K, &V)>) -> Answer {
+    match pair {
+        Some((key, value)) => said("").pair(key, value),
+        None => said("none"),
+    }
+}
+
+/// A pair that was removed, or none.
+pub(crate) fn of_removed<K: Named + Drop, V: Number + Drop>(removed: Option<(K, V)>) -> Answer {
+    match removed {
+        Some((key, value)) => said("").pair(&key, &value),
+        None => said("none"),
+    }
+}
+
+/// The value, or none.
+pub(crate) fn of_value<V: Number>(value: Option<&V>) -> Answer {
+    match value {
+        Some(value) => said("").value(value),
+        None => said("none"),
+    }
+}
+
+/// What was answered, or none.
+pub(crate) fn or_none(answered: Option<Answer>) -> Answer {
+    answered.unwrap_or(said("none"))
+}
+
+/// An index.
+pub(crate) fn of_index(index: usize) -> Answer {
+    said("").value(&(index as u64))
+}
+
+/// True or false.
+pub(crate) fn of_bool(truth: bool) -> Answer {
+    said(if truth { "true" } else { "false" })
+}
+
+/// Why a call was refused.
+pub(crate) fn refused(why: Refusal) -> Answer {
+    said(match why {
+        Refusal::Memory => "refused memory",
+        Refusal::Size => "refused size",
+    })
+}
+
+/// What was answered, or why it was refused.
+pub(crate) fn or_refused(answered: Result<Answer, Refusal>) -> Answer {
+    match answered {
+        Ok(answer) => answer,
+        Err(why) => refused(why),
+    }
+}
+
+/// What was answered, or a key that was handed back.
+pub(crate) fn or_refused_key<K: Named + Drop>(answered: Result<Answer, RefusedKey<K>>) -> Answer {
+    match answered {
+        Ok(answer) => answer,
+        Err(back) => refused(back.why).key(&back.key),
     }
 }
 
 impl fmt::Display for Answer {
     fn fmt<W: fmt::Write>(&self, f: &mut fmt::Formatter<W>) -> fmt::Result {
-        match self {
-            Answer::None => write!(f, "none"),
-            Answer::Value(value) => write!(f, "{value}"),
-            Answer::Index(index) => write!(f, "{index}"),
-            Answer::Was(old) => write!(f, "was {old}"),
-            Answer::WasKey(key) => write!(f, "was {key}"),
-            Answer::Key(key) => write!(f, "{key}"),
-            Answer::Pair(key, value) => write!(f, "{key}={value}"),
-            Answer::Truth(truth) => write!(f, "{truth}"),
-            Answer::Done => write!(f, "done"),
-            Answer::Added => write!(f, "added"),
-            Answer::AddedValue(value) => write!(f, "added {value}"),
-            Answer::AddedPair(key, value) => write!(f, "added {key}={value}"),
-            Answer::Held => write!(f, "held"),
-            Answer::NotHeld => write!(f, "not held"),
-            Answer::Occupied => write!(f, "occupied"),
-            Answer::OccupiedPair(key, value) => write!(f, "occupied {key}={value}"),
-            Answer::Vacant => write!(f, "vacant"),
-            Answer::VacantKey(key) => write!(f, "vacant {key}"),
-            Answer::Lost(key) => write!(f, "lost {key}"),
-            Answer::HandedKey(key) => write!(f, "handed {key}"),
-            Answer::HandedPair(key, value) => write!(f, "handed {key}={value}"),
-            Answer::Refused(why) => write!(f, "refused {}", reason(*why)),
-            Answer::RefusedKey(why, key) => write!(f, "refused {} {key}", reason(*why)),
-            Answer::RefusedPair(why, key, value) => {
-                write!(f, "refused {} {key}={value}", reason(*why))
-            }
+        let words = self.words;
+        let gap = if words.is_empty() { "" } else { " " };
+        match (self.key, self.value) {
+            (Some(key), Some(value)) => write!(f, "{words}{gap}{key}={value}"),
+            (Some(key), None) => write!(f, "{words}{gap}{key}"),
+            (None, Some(value)) => write!(f, "{words}{gap}{value}"),
+            (None, None) => write!(f, "{words}"),
         }
     }
+}
+
+/// Prints what stands between two parts of a list, and nothing before the first.
+pub(crate) fn print_gap(rt: &impl Print, is_first: &mut bool, gap: &str) -> io::Result<()> {
+    if std::mem::replace(is_first, false) {
+        return Ok(());
+    }
+    print!(rt; "{gap}")
 }

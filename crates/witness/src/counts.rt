@@ -1,7 +1,5 @@
 //! What builders, keys and values count of their own work, and how often closures are called.
 
-use crate::keys::Key;
-use crate::words::Name;
 use std::cell::Cell;
 use test_support::builders::{Counting, Rule};
 
@@ -12,7 +10,8 @@ pub(crate) struct Counts {
     comparisons: Cell<u64>,
     dropped_keys: Cell<u64>,
     dropped_values: Cell<u64>,
-    calls: Cell<u64>,
+    // None where no closure is handed in.
+    calls: Cell<Option<u64>>,
 }
 
 impl Counts {
@@ -23,18 +22,13 @@ impl Counts {
             comparisons: Cell::new(0),
             dropped_keys: Cell::new(0),
             dropped_values: Cell::new(0),
-            calls: Cell::new(0),
+            calls: Cell::new(None),
         }
     }
 
     /// A builder whose hashes are counted here.
     pub(crate) fn builder(&self, rule: Rule) -> Counting<'_> {
         Counting::new(rule, &self.hashes)
-    }
-
-    /// The key that is written so, counted here.
-    pub(crate) fn key(&self, name: Name) -> Key<'_> {
-        Key::new(name, self)
     }
 
     /// Two keys were compared.
@@ -52,16 +46,23 @@ impl Counts {
         add_one(&self.dropped_values);
     }
 
+    /// The same counts, for a closure that the line hands in.
+    pub(crate) fn of_closure(&self) -> &Counts {
+        self.calls.set(Some(0));
+        self
+    }
+
     /// A closure of the line was called.
     pub(crate) fn count_call(&self) {
-        add_one(&self.calls);
+        let calls = self.calls.get().unwrap_or(0);
+        self.calls.set(Some(calls.saturating_add(1)));
     }
 
     /// Begins a line.
     pub(crate) fn begin(&self) {
         self.take_work();
         self.take_dropped();
-        self.calls.set(0);
+        self.calls.set(None);
     }
 
     /// How often the builder made a hash and keys were compared. Both begin anew.
@@ -74,8 +75,8 @@ impl Counts {
         (self.dropped_keys.replace(0), self.dropped_values.replace(0))
     }
 
-    /// How often closures of the line were called.
-    pub(crate) fn calls(&self) -> u64 {
+    /// How often the closure of the line was called, where it hands one in.
+    pub(crate) fn calls(&self) -> Option<u64> {
         self.calls.get()
     }
 }

@@ -1,8 +1,6 @@
 //! What the calls of a script need of its keys and values.
 
-use crate::counts::Counts;
 use crate::words::Name;
-use test_support::builders::{Counting, Rule};
 
 /// A key of a script.
 pub(crate) trait Named {
@@ -17,12 +15,9 @@ pub(crate) trait Number {
 
     /// Makes it this number.
     fn set(&mut self, number: u64);
-}
 
-/// A value that a line makes.
-pub(crate) trait OfNumber<'a>: Number {
-    /// The value of this number, which counts here what it counts.
-    fn of_number(number: u64, counts: &'a Counts) -> Self;
+    /// Another value, of this number.
+    fn like(&self, number: u64) -> Self;
 }
 
 /// Adds to a value, modulo 2^64.
@@ -36,25 +31,6 @@ pub(crate) fn added_to<V: Number>(mut value: V, more: u64) -> V {
     value
 }
 
-/// A builder of a script.
-pub(crate) trait Ruled {
-    /// How it hashes.
-    fn rule(&self) -> Rule;
-
-    /// Makes it hash so.
-    fn set_rule(&mut self, rule: Rule);
-}
-
-impl Ruled for Counting<'_> {
-    fn rule(&self) -> Rule {
-        self.rule
-    }
-
-    fn set_rule(&mut self, rule: Rule) {
-        self.rule = rule;
-    }
-}
-
 impl Number for u64 {
     fn number(&self) -> u64 {
         *self
@@ -63,10 +39,8 @@ impl Number for u64 {
     fn set(&mut self, number: u64) {
         *self = number;
     }
-}
 
-impl<'a> OfNumber<'a> for u64 {
-    fn of_number(number: u64, _counts: &'a Counts) -> u64 {
+    fn like(&self, number: u64) -> u64 {
         number
     }
 }

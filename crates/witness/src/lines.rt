@@ -1,204 +1,203 @@
-//! Reads what a line asks for.
+//! A line after the first one: finds its call by the words, and makes it.
 
-use crate::call::{Call, Inspection, Items, Keyed, Line, Maker, Manner, PlainCall, Whole};
-use crate::commands::parse_commands;
-use crate::entry_lines::{of_entry, of_raw};
-use crate::indices::parse_at_index;
-use crate::search_lines::of_key;
-use crate::shown::parse_shown;
-use crate::walk_steps::parse_walk;
-use crate::whole::parse_same;
-use crate::words::{count, key_name, number};
-use std::alloc::{AllocError, Global};
+use crate::answer::Answer;
+use crate::keys::{Id, Key};
+use crate::kinds::Number;
+use crate::player::Player;
+use crate::words::{Form, count, key_name, number, parse_form, parse_which};
+use halfbrown::Limit;
+use std::alloc::AllocError;
+use std::fmt::Debug;
+use std::hash::BuildHasher;
+use std::io;
+use test_support::builders::Counting;
 
-/// Reads a line. None where it is no call.
-pub(crate) fn parse(alloc: Global, line: &str) -> Result<Option<Line>, AllocError> {
-    let (is_refused, rest) = after_word(line, "refused ");
-    let (is_counted, rest) = after_word(rest, "counted ");
-    let Some(call) = parse_call(alloc, rest)? else {
-        return Ok(None);
-    };
-    if is_counted && !call.may_be_counted() {
-        return Ok(None);
-    }
-    let manner = Manner {
-        is_refused,
-        is_counted,
-    };
-    Ok(Some(Line { call, manner }))
-}
-
-// Whether the line begins so, and the rest of it.
-fn after_word<'a>(line: &'a str, word: &str) -> (bool, &'a str) {
-    match line.strip_prefix(word) {
-        Some(rest) => (true, rest),
-        None => (false, line),
+impl<'a, R: Print, V, S: BuildHasher, L: Limit> Player<'a, R, Key<'a>, V, S, L> {
+    /// The key that a word writes.
+    pub(crate) fn key(&self, word: &str) -> Option<Key<'a>> {
+        Some(Key::new(key_name(word)?, self.counts))
     }
 }
 
-fn parse_call(alloc: Global, line: &str) -> Result<Option<Call>, AllocError> {
-    let words: Vec<&str> = line.split(" ").collect(alloc)?;
-    match words.as_slice() {
-        ["walk", rest @ ..] => of_walk(alloc, rest),
-        ["run", rest @ ..] => of_run(alloc, rest),
-        [call, rest @ ..] => match first_of_items(call, rest) {
-            Some((call, items)) => with_items(alloc, call, items),
-            None => Ok(of_words(call, rest)),
-        },
-        [] => Ok(None),
-    }
-}
-
-// A call with a list of pairs, and the words of the list.
-fn first_of_items<'a, 'b>(call: &str, words: &'a [&'b str]) -> Option<(Items, &'a [&'b str])> {
-    let items = match call {
-        "extend" => Items::Extend,
-        "from_iter" => Items::FromIter,
-        "from_array" => Items::FromArray,
-        "hashmap" => Items::Hashmap,
-        "collect" => Items::Collect,
-        _ => return first_with_operand(call, words),
-    };
-    Some((items, words))
-}
-
-// The same where a word stands before the list.
-fn first_with_operand<'a, 'b>(call: &str, words: &'a [&'b str]) -> Option<(Items, &'a [&'b str])> {
-    let (operand, rest) = words.split_first()?;
-    let items = match call {
-        "from_iter_hint" => Items::FromIterHint(count(operand)?),
-        "made" => Items::Made(Maker::of_word(operand)?),
-        _ => return None,
-    };
-    Some((items, rest))
-}
-
-fn of_walk(alloc: Global, words: &[&str]) -> Result<Option<Call>, AllocError> {
-    Ok(match parse_walk(alloc, words)? {
-        Some(walk) => Some(Call::Inspection(Inspection::Walk(walk))),
-        None => None,
-    })
-}
-
-fn of_run(alloc: Global, words: &[&str]) -> Result<Option<Call>, AllocError> {
-    Ok(match parse_commands(alloc, words)? {
-        Some(commands) => Some(Call::Plain(PlainCall::Run(commands))),
-        None => None,
-    })
-}
-
-fn with_items(alloc: Global, call: Items, words: &[&str]) -> Result<Option<Call>, AllocError> {
-    let mut items = Vec::new(alloc);
-    for pair in words.chunks(2) {
-        let [key, value] = pair else {
-            return Ok(None);
-        };
-        let (Some(key), Some(value)) = (key_name(key), number(value)) else {
-            return Ok(None);
-        };
-        items.push((key, value))?;
-    }
-    if items.len() > call.most() {
-        return Ok(None);
-    }
-    Ok(Some(Call::Items(call, items)))
-}
-
-fn of_words(call: &str, rest: &[&str]) -> Option<Call> {
-    if let Some(whole) = of_whole(call, rest) {
-        return Some(Call::Whole(whole));
-    }
-    if let Some(at_index) = parse_at_index(call, rest) {
-        return Some(Call::AtIndex(at_index));
-    }
-    if let Some(inspection) = of_inspection(call, rest) {
-        return Some(Call::Inspection(inspection));
-    }
-    match rest {
-        [key, "or_default"] if call == "entry" => {
-            Some(Call::Plain(PlainCall::OrDefault(key_name(key)?)))
+impl<'a, R: Print, V: Number + Clone + PartialEq + Debug + Drop, L: Limit> Player<
+    'a,
+    R,
+    Key<'a>,
+    V,
+    Counting<'a>,
+    L,
+> {
+    /// Makes the call that the words ask for, and prints the answer. None where they ask for none.
+    pub(crate) fn perform(&mut self, words: &[&str]) -> Option<io::Result<()>> {
+        let (call, operands) = words.split_first()?;
+        match *call {
+            "walk" => return self.walk(operands),
+            "error" => return self.print_error(operands),
+            "extend" | "from_iter" | "from_array" | "hashmap" | "collect" => {
+                return self.parse_and_perform(call, "", operands);
+            }
+            "from_iter_hint" | "made" => {
+                let (operand, items) = operands.split_first()?;
+                return self.parse_and_perform(call, operand, items);
+            }
+            _ => {}
         }
-        rest => Some(Call::Keyed(of_keyed(call, rest)?)),
-    }
-}
-
-fn of_inspection(call: &str, rest: &[&str]) -> Option<Inspection> {
-    if let Some(shown) = parse_shown(call, rest) {
-        return Some(Inspection::Shown(shown));
-    }
-    if let Some(same) = parse_same(call, rest) {
-        return Some(Inspection::Same(same));
-    }
-    match (call, rest) {
-        ("pairs", []) => Some(Inspection::Pairs),
-        _ => None,
-    }
-}
-
-fn of_keyed(call: &str, rest: &[&str]) -> Option<Keyed> {
-    match call {
-        "error" => of_error(rest),
-        "entry" => {
-            let (key, action) = rest.split_first()?;
-            of_entry(key_name(key)?, action)
+        if let Some(printed) = self.print(call, operands) {
+            return Some(printed);
         }
-        "raw" => {
-            let (key, action) = rest.split_first()?;
-            of_raw(key_name(key)?, action)
+        let answer = self.answer(call, operands)?;
+        Some(print!(self.rt; "{answer}"))
+    }
+
+    fn print_error(&mut self, words: &[&str]) -> Option<io::Result<()>> {
+        match words {
+            [call, operand] => match *call {
+                "entry" => Some(self.print_entry_error(self.key(operand)?)),
+                "reserve" => Some(self.print_reserve_error(count(operand)?)),
+                _ => None,
+            },
+            ["insert", key, value] => {
+                let (key, value) = self.pair(key, value)?;
+                Some(self.print_insert_error(key, value))
+            }
+            _ => None,
         }
-        call => of_key(call, rest),
     }
-}
 
-fn of_error(words: &[&str]) -> Option<Keyed> {
-    match words {
-        ["insert", key, value] => Some(Keyed::InsertError(key_name(key)?, number(value)?)),
-        ["entry", key] => Some(Keyed::EntryError(key_name(key)?)),
-        _ => None,
-    }
-}
-
-fn of_whole(call: &str, rest: &[&str]) -> Option<Whole> {
-    match rest {
-        [] => of_one_word(call),
-        [operand] => of_operand(call, operand),
-        [divisor, more] if call == "retain" => {
-            Some(Whole::Retain(number(divisor)?, number(more)?))
+    fn parse_and_perform(
+        &mut self,
+        call: &str,
+        operand: &str,
+        words: &[&str],
+    ) -> Option<io::Result<()>> {
+        match self.parse_items(words) {
+            Ok(items) => self.perform_items(call, operand, items?),
+            Err(err) => Some(Err(err.into())),
         }
-        _ => None,
     }
-}
 
-fn of_one_word(call: &str) -> Option<Whole> {
-    Some(match call {
-        "clear" => Whole::Clear,
-        "shrink_to_fit" => Whole::ShrinkToFit,
-        "state" => Whole::State,
-        "iter" => Whole::Iter,
-        "keys" => Whole::Keys,
-        "values" => Whole::Values,
-        "into_iter" => Whole::IntoIter,
-        "drop" => Whole::Drop,
-        "clone" => Whole::Clone,
-        "swap" => Whole::Swap,
-        "same" => Whole::Same,
-        "eq" => Whole::Eq,
-        "debug" => Whole::Debug,
-        "raw_entry_debug" => Whole::RawEntryDebug,
-        "raw_entry_mut" => Whole::RawEntryMut,
-        "raw_entry_mut_debug" => Whole::RawEntryMutDebug,
-        _ => return None,
-    })
-}
+    // The pair that two words write.
+    fn pair(&self, key: &str, value: &str) -> Option<(Key<'a>, V)> {
+        Some((self.key(key)?, self.value(number(value)?)))
+    }
 
-fn of_operand(call: &str, operand: &str) -> Option<Whole> {
-    Some(match call {
-        "reserve" => Whole::Reserve(count(operand)?),
-        "iter_mut" => Whole::IterMut(number(operand)?),
-        "values_mut" => Whole::ValuesMut(number(operand)?),
-        "values_slice_mut" => Whole::ValuesSliceMut(number(operand)?),
-        "drain" => Whole::Drain(count(operand)?),
-        "make" => Whole::Make(count(operand)?),
-        _ => return None,
-    })
+    // The pairs that the words write. None where a word is missing or wrong.
+    fn parse_items(&self, words: &[&str]) -> Result<Option<Vec<(Key<'a>, V)>>, AllocError> {
+        let mut items = Vec::new(self.alloc);
+        for pair in words.chunks(2) {
+            let [key, value] = pair else {
+                return Ok(None);
+            };
+            let Some(item) = self.pair(key, value) else {
+                return Ok(None);
+            };
+            items.push(item)?;
+        }
+        Ok(Some(items))
+    }
+
+    // The calls that print more than an answer.
+    fn print(&mut self, call: &str, operands: &[&str]) -> Option<io::Result<()>> {
+        match operands {
+            [] => match call {
+                "state" => Some(self.print_own()),
+                "pairs" => Some(self.print_both()),
+                _ => self.print_first(call),
+            },
+            [taken] => match call {
+                "drain" => Some(self.print_drained(count(taken)?)),
+                _ => None,
+            },
+            [key, "debug"] => match call {
+                "entry" => Some(self.print_entry(self.key(key)?)),
+                "raw" => Some(self.print_raw_entry(self.key(key)?)),
+                _ => None,
+            },
+            [limit, rule] => match call {
+                "same_as" => self.print_same(limit, rule, false),
+                "same_from" => self.print_same(limit, rule, true),
+                _ => None,
+            },
+            _ => None,
+        }
+    }
+
+    fn answer(&mut self, call: &str, operands: &[&str]) -> Option<Answer> {
+        match call {
+            "entry" => {
+                let (key, operands) = operands.split_first()?;
+                let (action, operands) = operands.split_first()?;
+                self.entry(self.key(key)?, action, operands)
+            }
+            "raw" => {
+                let (key, operands) = operands.split_first()?;
+                let (action, operands) = operands.split_first()?;
+                self.raw(self.key(key)?, action, operands)
+            }
+            _ => match operands {
+                [] => self.answer_alone(call),
+                [operand] => self.answer_one(call, operand),
+                [first, second] => self.answer_two(call, first, second),
+                _ => None,
+            },
+        }
+    }
+
+    fn answer_alone(&mut self, call: &str) -> Option<Answer> {
+        match call {
+            "first" => Some(self.first()),
+            "last" => Some(self.last()),
+            "pop" => Some(self.pop()),
+            _ => self.whole(call),
+        }
+    }
+
+    fn answer_one(&mut self, call: &str, operand: &str) -> Option<Answer> {
+        Some(match call {
+            "get_index" => self.get_index(count(operand)?),
+            "swap_remove_index" => self.swap_remove_index(count(operand)?),
+            "reserve" => self.reserve(count(operand)?),
+            "iter_mut" => self.iter_mut(number(operand)?),
+            "values_mut" => self.values_mut(number(operand)?),
+            "values_slice_mut" => self.values_slice_mut(number(operand)?),
+            _ => {
+                return match parse_form(operand)? {
+                    Form::Key(name) => self.search_key(call, Key::new(name, self.counts)),
+                    Form::Id(id) => self.search(call, Id(id)),
+                };
+            }
+        })
+    }
+
+    fn answer_two(&mut self, call: &str, first: &str, second: &str) -> Option<Answer> {
+        match call {
+            "insert" => {
+                let (key, value) = self.pair(first, second)?;
+                Some(self.insert(key, value))
+            }
+            "insert_nocheck" => {
+                let (key, value) = self.pair(first, second)?;
+                Some(self.insert_nocheck(key, value))
+            }
+            "get_mut" => self.write(first, number(second)?),
+            "get_index_mut" => {
+                let (index, value) = (count(first)?, self.value(number(second)?));
+                Some(self.get_index_mut(index, value))
+            }
+            "get_index_entry" => {
+                let (index, value) = (count(first)?, self.value(number(second)?));
+                Some(self.get_index_entry(index, value))
+            }
+            "retain" => Some(self.retain(number(first)?, number(second)?)),
+            _ => self.search_match(call, number(first)?, parse_which(second)?),
+        }
+    }
+
+    fn write(&mut self, form: &str, number: u64) -> Option<Answer> {
+        let value = self.value(number);
+        Some(match parse_form(form)? {
+            Form::Key(name) => self.get_mut_key(Key::new(name, self.counts), value),
+            Form::Id(id) => self.get_mut(Id(id), value),
+        })
+    }
 }

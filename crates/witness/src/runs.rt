@@ -1,129 +1,151 @@
 //! The calls on maps whose values are plain numbers alone: a run of commands, and `or_default`.
 
-use crate::answer::{Answer, reason};
-use crate::call::{Manner, PlainCall};
-use crate::entries_with::or_default;
+use crate::answer::{Answer, or_refused_key, print_gap, refused, said};
 use crate::keys::Key;
 use crate::kinds::Named;
-use crate::maps::{Maps, mark};
-use crate::words::Name;
-use halfbrown::run::{run, run_counted};
-use halfbrown::{Command, Reply, Tally};
+use crate::player::Player;
+use crate::words::{count, number};
+use halfbrown::run::run;
+use halfbrown::{Command, Limit, Reply};
 use std::alloc::AllocError;
+use std::hash::BuildHasher;
 use std::io;
 
-/// Makes the call, and prints the answer.
-pub(crate) fn perform<const N: usize>(
-    rt: &impl Print,
-    maps: &mut Maps<'_, u64, N>,
-    call: PlainCall,
-    manner: Manner,
-) -> io::Result<()> {
-    match call {
-        PlainCall::Run(commands) => perform_run(rt, maps, commands.as_slice(), manner),
-        PlainCall::OrDefault(name) => {
-            mark(rt, manner.is_refused)?;
-            let key = maps.key(name);
-            let answered = or_default(&mut maps.a, key, manner.is_counted);
-            print!(rt; "{}", Answer::or_refused_key(answered))
+/// A command on the maps of a script.
+type Ordered<'a> = Command<Key<'a>, u64>;
+
+impl<'a, R: Print, S: BuildHasher, L: Limit> Player<'a, R, Key<'a>, u64, S, L> {
+    /// Makes the call, and prints the answer. None where there is none.
+    pub(crate) fn perform_plain(&mut self, words: &[&str]) -> Option<io::Result<()>> {
+        match words {
+            ["run", commands @ ..] => match self.parse_commands(commands) {
+                Ok(commands) => Some(self.print_run(commands?)),
+                Err(err) => Some(Err(err.into())),
+            },
+            ["entry", key, "or_default"] => Some(self.print_or_default(self.key(key)?)),
+            _ => None,
         }
     }
-}
 
-// Runs the commands, and prints the replies.
-fn perform_run<'a, const N: usize>(
-    rt: &impl Print,
-    maps: &mut Maps<'a, u64, N>,
-    commands: &[Command<Name, u64>],
-    manner: Manner,
-) -> io::Result<()> {
-    let commands = with_keys(maps, commands)?;
-    mark(rt, manner.is_refused)?;
-    let ran = if manner.is_counted {
-        run_counted(maps.alloc, &mut maps.a, commands, &mut Tally::new())
-    } else {
-        run(maps.alloc, &mut maps.a, commands)
-    };
-    let Ok(replies) = ran else {
-        return print!(rt; "refused memory");
-    };
-    print!(rt; "[")?;
-    let mut is_first = true;
-    for reply in replies.as_slice() {
-        if !std::mem::replace(&mut is_first, false) {
-            print!(rt; "; ")?;
+    fn print_or_default(&mut self, key: Key<'a>) -> io::Result<()> {
+        let answered = self.or_default(key);
+        print!(self.rt; "{}", or_refused_key(answered))
+    }
+
+    // None where a command is unknown, or a word of it is missing or wrong.
+    fn parse_commands(&self, words: &[&str]) -> Result<Option<Vec<Ordered<'a>>>, AllocError> {
+        let mut commands = Vec::new(self.alloc);
+        // How many words of the last command are still to come.
+        let mut to_come = 0;
+        for index in 0..words.len() {
+            if to_come > 0 {
+                to_come -= 1;
+                continue;
+            }
+            let Some((command, operands)) = self.first_command(&words[index..]) else {
+                return Ok(None);
+            };
+            to_come = operands;
+            commands.push(command)?;
         }
-        print_reply(rt, reply)?;
+        Ok(Some(commands))
     }
-    print!(rt; "]")
+
+    // The first command, and how many operands it has.
+    fn first_command(&self, words: &[&str]) -> Option<(Ordered<'a>, usize)> {
+        let (call, operands) = words.split_first()?;
+        if let Some(command) = alone(call) {
+            return Some((command, 0));
+        }
+        let (first, rest) = operands.split_first()?;
+        if let Some(command) = self.with_operand(call, first) {
+            return Some((command, 1));
+        }
+        let value = number(rest.first()?)?;
+        Some((with_pair(call, self.key(first)?, value)?, 2))
+    }
+
+    fn with_operand(&self, call: &str, operand: &str) -> Option<Ordered<'a>> {
+        Some(match call {
+            "reserve" => Command::Reserve(count(operand)?),
+            "get" => Command::Get(self.key(operand)?),
+            "remove" => Command::Remove(self.key(operand)?),
+            _ => return None,
+        })
+    }
+
+    // Runs the commands, and prints the replies.
+    fn print_run(&mut self, commands: Vec<Ordered<'a>>) -> io::Result<()> {
+        let alloc = self.marked_alloc();
+        let Ok(replies) = run(alloc, &mut self.a, commands) else {
+            return print!(self.rt; "refused memory");
+        };
+        print!(self.rt; "[")?;
+        let mut is_first = true;
+        for reply in replies.as_slice() {
+            print_gap(self.rt, &mut is_first, "; ")?;
+            print!(self.rt; "{}", of_reply(reply))?;
+            if let Reply::Refused(command, _) = reply {
+                print_command(self.rt, command)?;
+            }
+        }
+        print!(self.rt; "]")
+    }
 }
 
-fn with_keys<'a, const N: usize>(
-    maps: &Maps<'a, u64, N>,
-    commands: &[Command<Name, u64>],
-) -> Result<Vec<Command<Key<'a>, u64>>, AllocError> {
-    let mut keyed = Vec::new(maps.alloc);
-    for command in commands {
-        keyed.push(with_key(maps, *command))?;
-    }
-    Ok(keyed)
+fn alone<'a>(call: &str) -> Option<Ordered<'a>> {
+    Some(match call {
+        "clear" => Command::Clear,
+        "shrink" => Command::Shrink,
+        "is_vec" => Command::IsVec,
+        "len" => Command::Len,
+        _ => return None,
+    })
 }
 
-fn with_key<'a, const N: usize>(
-    maps: &Maps<'a, u64, N>,
-    command: Command<Name, u64>,
-) -> Command<Key<'a>, u64> {
-    match command {
-        Command::Insert(name, value) => Command::Insert(maps.key(name), value),
-        Command::InsertNew(name, value) => Command::InsertNew(maps.key(name), value),
-        Command::EntryOrInsert(name, value) => Command::EntryOrInsert(maps.key(name), value),
-        Command::RawOrInsert(name, value) => Command::RawOrInsert(maps.key(name), value),
-        Command::Get(name) => Command::Get(maps.key(name)),
-        Command::Remove(name) => Command::Remove(maps.key(name)),
-        Command::Clear => Command::Clear,
-        Command::Reserve(more) => Command::Reserve(more),
-        Command::Shrink => Command::Shrink,
-        Command::IsVec => Command::IsVec,
-        Command::Len => Command::Len,
-    }
+fn with_pair<'a>(call: &str, key: Key<'a>, value: u64) -> Option<Ordered<'a>> {
+    Some(match call {
+        "insert" => Command::Insert(key, value),
+        "insert_new" => Command::InsertNew(key, value),
+        "entry_or_insert" => Command::EntryOrInsert(key, value),
+        "raw_or_insert" => Command::RawOrInsert(key, value),
+        _ => return None,
+    })
 }
 
-fn print_reply<K: Named>(rt: &impl Print, reply: &Reply<K, u64>) -> io::Result<()> {
+fn of_reply<K: Named>(reply: &Reply<K, u64>) -> Answer {
     match reply {
-        Reply::Was(Some(old)) => print!(rt; "was {old}"),
-        Reply::Was(None) => print!(rt; "was none"),
-        Reply::Added => print!(rt; "added"),
-        Reply::Present(key, value) => print!(rt; "present {}={value}", key.name()),
-        Reply::Value(value) => print!(rt; "value {value}"),
-        Reply::Found(Some(value)) => print!(rt; "found {value}"),
-        Reply::Found(None) => print!(rt; "found none"),
-        Reply::Removed(Some((key, value))) => print!(rt; "removed {}={value}", key.name()),
-        Reply::Removed(None) => print!(rt; "removed none"),
-        Reply::Done => print!(rt; "done"),
-        Reply::Form(is_vec) => print!(rt; "form {is_vec}"),
-        Reply::Length(len) => print!(rt; "length {len}"),
-        Reply::Refused(command, why) => {
-            print!(rt; "refused {} ", reason(*why))?;
-            print_command(rt, command)
-        }
+        Reply::Was(Some(old)) => said("was").value(old),
+        Reply::Was(None) => said("was none"),
+        Reply::Added => said("added"),
+        Reply::Present(key, value) => said("present").pair(key, value),
+        Reply::Value(value) => said("value").value(value),
+        Reply::Found(Some(value)) => said("found").value(value),
+        Reply::Found(None) => said("found none"),
+        Reply::Removed(Some((key, value))) => said("removed").pair(key, value),
+        Reply::Removed(None) => said("removed none"),
+        Reply::Done => said("done"),
+        Reply::Form(is_vec) => said(if *is_vec { "form true" } else { "form false" }),
+        Reply::Length(len) => said("length").value(&(*len as u64)),
+        Reply::Refused(_, why) => refused(*why),
     }
 }
 
-// A command as it is written.
+// A command as it is written, after a space.
 fn print_command<K: Named>(rt: &impl Print, command: &Command<K, u64>) -> io::Result<()> {
     match command {
-        Command::Insert(key, value) => print!(rt; "insert {} {value}", key.name()),
-        Command::InsertNew(key, value) => print!(rt; "insert_new {} {value}", key.name()),
+        Command::Insert(key, value) => print!(rt; " insert {} {value}", key.name()),
+        Command::InsertNew(key, value) => print!(rt; " insert_new {} {value}", key.name()),
         Command::EntryOrInsert(key, value) => {
-            print!(rt; "entry_or_insert {} {value}", key.name())
+            print!(rt; " entry_or_insert {} {value}", key.name())
         }
-        Command::RawOrInsert(key, value) => print!(rt; "raw_or_insert {} {value}", key.name()),
-        Command::Get(key) => print!(rt; "get {}", key.name()),
-        Command::Remove(key) => print!(rt; "remove {}", key.name()),
-        Command::Clear => print!(rt; "clear"),
-        Command::Reserve(more) => print!(rt; "reserve {more}"),
-        Command::Shrink => print!(rt; "shrink"),
-        Command::IsVec => print!(rt; "is_vec"),
-        Command::Len => print!(rt; "len"),
+        Command::RawOrInsert(key, value) => print!(rt; " raw_or_insert {} {value}", key.name()),
+        Command::Get(key) => print!(rt; " get {}", key.name()),
+        Command::Remove(key) => print!(rt; " remove {}", key.name()),
+        Command::Clear => print!(rt; " clear"),
+        Command::Reserve(more) => print!(rt; " reserve {more}"),
+        Command::Shrink => print!(rt; " shrink"),
+        Command::IsVec => print!(rt; " is_vec"),
+        Command::Len => print!(rt; " len"),
     }
 }

@@ -1,210 +1,134 @@
-//! Searches by a form of a key, in a map of any keys.
-
+//! Searches by a form of a key, and by a hash and a match.
 ghost use Rattle.std.specs.Prelude.{◌≡◌};
 ghost use Rattle.halfbrown.specs.Pairs.{holds_by};
 
-use crate::answer::Answer;
-use crate::call::Search;
+use crate::answer::{Answer, of_bool, of_index, of_pair, of_removed, of_value, or_refused, said};
 use crate::counts::Counts;
 use crate::kinds::{Named, Number};
-use halfbrown::{Equivalent, Limit, LimitedHashMap, LimitedRawEntryMut, Refusal, Tally};
+use crate::player::Player;
+use crate::words::Which;
+use halfbrown::{Equivalent, Limit, LimitedHashMap, LimitedRawEntryMut, Refusal};
 use std::hash::{BuildHasher, Hash};
 
-/// Makes the search. What is asked of the map before it, and a hash that is made for it, is not counted.
-pub(crate) fn perform<
-    K: Eq + Hash + Named + Drop,
-    V: Number + Drop,
-    S: BuildHasher,
-    L: Limit,
-    Q: Equivalent<K>,
->(
-    map: &mut LimitedHashMap<K, V, S, L>,
-    counts: &Counts,
-    form: Q,
-    search: Search,
-    is_counted: bool,
-) -> Answer {
-    match search {
-        Search::Remove => remove(map, form, is_counted),
-        Search::RemoveEntry => remove_entry(map, form, is_counted),
-        Search::RemoveEntryHashed => remove_entry_hashed(map, counts, form, is_counted),
-        Search::RawEntry => raw_entry(map, form, is_counted),
-        Search::RawEntryHashed => raw_entry_hashed(map, counts, form, is_counted),
-        Search::RawFind => Answer::or_refused(raw_find(map, form, is_counted)),
-        Search::RawFindHashed => {
-            Answer::or_refused(raw_find_hashed(map, counts, form, is_counted))
-        }
-        _ => read(map, counts, form, search, is_counted),
+// A hash that is made for a call is not counted.
+impl<R: Print, K: Eq + Hash + Named + Drop, V: Number + Drop, S: BuildHasher, L: Limit> Player<
+    '_,
+    R,
+    K,
+    V,
+    S,
+    L,
+> {
+    /// Makes the search of this name by a key.
+    pub(crate) fn search_key(&mut self, call: &str, key: K) -> Option<Answer> {
+        self.search(call, &key)
     }
-}
 
-fn read<K: Eq + Hash + Named + Drop, V: Number + Drop, S: BuildHasher, L: Limit, Q: Equivalent<K>>(
-    map: &LimitedHashMap<K, V, S, L>,
-    counts: &Counts,
-    form: Q,
-    search: Search,
-    is_counted: bool,
-) -> Answer {
-    match (search, is_counted) {
-        (Search::Get, false) => Answer::of_value(map.get(form)),
-        (Search::Get, true) => Answer::of_value(map.get_counted(form, &mut Tally::new())),
-        (Search::GetKeyValue, false) => Answer::of_pair(map.get_key_value(form)),
-        (Search::GetKeyValue, true) => {
-            Answer::of_pair(map.get_key_value_counted(form, &mut Tally::new()))
-        }
-        (Search::ContainsKey, false) => Answer::Truth(map.contains_key(form)),
-        (Search::ContainsKey, true) => {
-            Answer::Truth(map.contains_key_counted(form, &mut Tally::new()))
-        }
-        (Search::GetIndexOf, false) => Answer::of_index(map.get_index_of(form)),
-        (Search::GetIndexOf, true) => {
-            Answer::of_index(map.get_index_of_counted(form, &mut Tally::new()))
-        }
-        (_, is_counted) => index(map, counts, form, is_counted),
+    /// Makes the search of this name.
+    pub(crate) fn search<Q: Equivalent<K>>(&mut self, call: &str, form: Q) -> Option<Answer> {
+        Some(match call {
+            "get" => of_value(self.open().get(form)),
+            "get_key_value" => of_pair(self.open().get_key_value(form)),
+            "contains_key" => of_bool(self.open().contains_key(form)),
+            "get_index_of" => self.get_index_of(form),
+            "index" => self.index(form),
+            "remove" => self.remove(form),
+            "remove_entry" => self.remove_entry(form),
+            "remove_entry_hashed" => self.remove_entry_hashed(form),
+            "raw_entry" => of_pair(self.open().raw_entry().from_key(form)),
+            "raw_entry_hashed" => self.raw_entry_hashed(form),
+            "raw_find" => or_refused(self.raw_find(form)),
+            "raw_find_hashed" => or_refused(self.raw_find_hashed(form)),
+            _ => return None,
+        })
     }
-}
 
-fn index<K: Eq + Hash + Named + Drop, V: Number + Drop, S: BuildHasher, L: Limit, Q: Equivalent<K>>(
-    map: &LimitedHashMap<K, V, S, L>,
-    counts: &Counts,
-    form: Q,
-    is_counted: bool,
-) -> Answer {
-    if !holds(map, counts, form) {
-        return Answer::NotHeld;
+    fn get_index_of<Q: Equivalent<K>>(&mut self, form: Q) -> Answer {
+        match self.open().get_index_of(form) {
+            Some(index) => of_index(index),
+            None => said("none"),
+        }
     }
-    if is_counted {
-        Answer::Value(map.index_counted(form, &mut Tally::new()).number())
-    } else {
-        Answer::Value(map[form].number())
+
+    // Only where the key is held.
+    fn index<Q: Equivalent<K>>(&mut self, form: Q) -> Answer {
+        let counts = self.counts;
+        let map = self.open();
+        if !is_held(map, counts, form) {
+            return said("not held");
+        }
+        said("").value(&map[form])
     }
-}
 
-fn remove<
-    K: Eq + Hash + Named + Drop,
-    V: Number + Drop,
-    S: BuildHasher,
-    L: Limit,
-    Q: Equivalent<K>,
->(map: &mut LimitedHashMap<K, V, S, L>, form: Q, is_counted: bool) -> Answer {
-    of_removed_value(if is_counted {
-        map.remove_counted(form, &mut Tally::new())
-    } else {
-        map.remove(form)
-    })
-}
+    fn remove<Q: Equivalent<K>>(&mut self, form: Q) -> Answer {
+        let removed = self.open().remove(form);
+        of_value(removed.as_ref())
+    }
 
-fn remove_entry<
-    K: Eq + Hash + Named + Drop,
-    V: Number + Drop,
-    S: BuildHasher,
-    L: Limit,
-    Q: Equivalent<K>,
->(map: &mut LimitedHashMap<K, V, S, L>, form: Q, is_counted: bool) -> Answer {
-    of_removed_pair(if is_counted {
-        map.remove_entry_counted(form, &mut Tally::new())
-    } else {
-        map.remove_entry(form)
-    })
-}
+    fn remove_entry<Q: Equivalent<K>>(&mut self, form: Q) -> Answer {
+        of_removed(self.open().remove_entry(form))
+    }
 
-fn remove_entry_hashed<
-    K: Eq + Hash + Named + Drop,
-    V: Number + Drop,
-    S: BuildHasher,
-    L: Limit,
-    Q: Equivalent<K>,
->(map: &mut LimitedHashMap<K, V, S, L>, counts: &Counts, form: Q, is_counted: bool) -> Answer {
-    let hash = map.hasher().hash_one(form);
-    counts.take_work();
-    of_removed_pair(if is_counted {
-        map.remove_entry_hashed_nocheck_counted(hash, form, &mut Tally::new())
-    } else {
-        map.remove_entry_hashed_nocheck(hash, form)
-    })
-}
+    fn remove_entry_hashed<Q: Equivalent<K>>(&mut self, form: Q) -> Answer {
+        let counts = self.counts;
+        let map = self.open();
+        let hash = map.hasher().hash_one(form);
+        counts.take_work();
+        of_removed(map.remove_entry_hashed_nocheck(hash, form))
+    }
 
-fn raw_entry<
-    K: Eq + Hash + Named + Drop,
-    V: Number + Drop,
-    S: BuildHasher,
-    L: Limit,
-    Q: Equivalent<K>,
->(map: &LimitedHashMap<K, V, S, L>, form: Q, is_counted: bool) -> Answer {
-    Answer::of_pair(if is_counted {
-        map.raw_entry().from_key_counted(form, &mut Tally::new())
-    } else {
-        map.raw_entry().from_key(form)
-    })
-}
+    fn raw_entry_hashed<Q: Equivalent<K>>(&mut self, form: Q) -> Answer {
+        let counts = self.counts;
+        let map = self.open();
+        let hash = map.hasher().hash_one(form);
+        counts.take_work();
+        of_pair(map.raw_entry().from_key_hashed_nocheck(hash, form))
+    }
 
-fn raw_entry_hashed<
-    K: Eq + Hash + Named + Drop,
-    V: Number + Drop,
-    S: BuildHasher,
-    L: Limit,
-    Q: Equivalent<K>,
->(map: &LimitedHashMap<K, V, S, L>, counts: &Counts, form: Q, is_counted: bool) -> Answer {
-    let hash = map.hasher().hash_one(form);
-    counts.take_work();
-    let entries = map.raw_entry();
-    Answer::of_pair(if is_counted {
-        entries.from_key_hashed_nocheck_counted(hash, form, &mut Tally::new())
-    } else {
-        entries.from_key_hashed_nocheck(hash, form)
-    })
-}
+    pub(crate) fn raw_find<Q: Equivalent<K>>(&mut self, form: Q) -> Result<Answer, Refusal> {
+        Ok(of_found(self.open().raw_entry_mut()?.from_key(form)))
+    }
 
-fn raw_find<
-    K: Eq + Hash + Named + Drop,
-    V: Number + Drop,
-    S: BuildHasher,
-    L: Limit,
-    Q: Equivalent<K>,
->(map: &mut LimitedHashMap<K, V, S, L>, form: Q, is_counted: bool) -> Result<Answer, Refusal> {
-    Ok(of_found(if is_counted {
-        let tally = &mut Tally::new();
-        let entries = map.raw_entry_mut_counted(tally)?;
-        entries.from_key_counted(form, tally)
-    } else {
-        map.raw_entry_mut()?.from_key(form)
-    }))
-}
+    fn raw_find_hashed<Q: Equivalent<K>>(&mut self, form: Q) -> Result<Answer, Refusal> {
+        let counts = self.counts;
+        let map = self.open();
+        let hash = map.hasher().hash_one(form);
+        counts.take_work();
+        Ok(of_found(map.raw_entry_mut()?.from_key_hashed_nocheck(hash, form)))
+    }
 
-fn raw_find_hashed<
-    K: Eq + Hash + Named + Drop,
-    V: Number + Drop,
-    S: BuildHasher,
-    L: Limit,
-    Q: Equivalent<K>,
->(
-    map: &mut LimitedHashMap<K, V, S, L>,
-    counts: &Counts,
-    form: Q,
-    is_counted: bool,
-) -> Result<Answer, Refusal> {
-    let hash = map.hasher().hash_one(form);
-    counts.take_work();
-    Ok(of_found(if is_counted {
-        let tally = &mut Tally::new();
-        let entries = map.raw_entry_mut_counted(tally)?;
-        entries.from_key_hashed_nocheck_counted(hash, form, tally)
-    } else {
-        map.raw_entry_mut()?.from_key_hashed_nocheck(hash, form)
-    }))
-}
+    /// Makes the search of this name, by a hash and the keys that its match accepts.
+    pub(crate) fn search_match(&mut self, call: &str, hash: u64, which: Which) -> Option<Answer> {
+        match call {
+            "raw_entry_match" => Some(self.raw_entry_match(hash, which)),
+            "raw_find_match" => Some(or_refused(self.raw_find_match(hash, which))),
+            _ => None,
+        }
+    }
 
-fn of_removed_value<V: Number + Drop>(removed: Option<V>) -> Answer {
-    Answer::of_value(removed.as_ref())
-}
+    fn raw_entry_match(&mut self, hash: u64, which: Which) -> Answer {
+        let counts = self.counts;
+        let entries = self.open().raw_entry();
+        of_pair(entries.from_hash(hash, |held| accepts(which, counts, held)))
+    }
 
-/// A pair that was removed, or none.
-pub(crate) fn of_removed_pair<K: Named + Drop, V: Number + Drop>(
-    removed: Option<(K, V)>,
-) -> Answer {
-    match removed {
-        Some((key, value)) => Answer::Pair(key.name(), value.number()),
-        None => Answer::None,
+    fn raw_find_match(&mut self, hash: u64, which: Which) -> Result<Answer, Refusal> {
+        let counts = self.counts;
+        let entries = self.open().raw_entry_mut()?;
+        Ok(of_found(entries.from_hash(hash, |held| accepts(which, counts, held))))
+    }
+
+    /// Writes a value where the key is held, by the key.
+    pub(crate) fn get_mut_key(&mut self, key: K, value: V) -> Answer {
+        self.get_mut(&key, value)
+    }
+
+    /// Writes a value where the key is held.
+    pub(crate) fn get_mut<Q: Equivalent<K>>(&mut self, form: Q, value: V) -> Answer {
+        match self.open().get_mut(form) {
+            Some(held) => said("was").value(&std::mem::replace(held, value)),
+            None => said("none"),
+        }
     }
 }
 
@@ -215,36 +139,24 @@ pub(crate) fn of_found<K: Eq + Hash + Named, V: Number, S: BuildHasher, L: Limit
     match entry {
         LimitedRawEntryMut::Occupied(entry) => {
             let (stored, held) = entry.get_key_value();
-            Answer::OccupiedPair(stored.name(), held.number())
+            said("occupied").pair(stored, held)
         }
-        LimitedRawEntryMut::Vacant(_vacant) => Answer::Vacant,
+        LimitedRawEntryMut::Vacant(_vacant) => said("vacant"),
     }
 }
 
-/// Writes a value where the key is held.
-pub(crate) fn write<
-    K: Eq + Hash + Named + Drop,
-    V: Number + Drop,
-    S: BuildHasher,
-    L: Limit,
-    Q: Equivalent<K>,
->(map: &mut LimitedHashMap<K, V, S, L>, form: Q, value: V, is_counted: bool) -> Answer {
-    let lent = if is_counted {
-        map.get_mut_counted(form, &mut Tally::new())
-    } else {
-        map.get_mut(form)
-    };
-    match lent {
-        Some(held) => {
-            let old = std::mem::replace(held, value);
-            Answer::Was(old.number())
-        }
-        None => Answer::None,
+// Each call is one comparison.
+fn accepts<K: Named>(which: Which, counts: &Counts, held: &K) -> bool {
+    counts.count_comparison();
+    match which {
+        Which::Any => true,
+        Which::None => false,
+        Which::Id(id) => held.name().id == id,
     }
 }
 
-// Whether the key is held, which is not counted.
-fn holds<K: Eq + Hash + Named + Drop, V: Number + Drop, S: BuildHasher, L: Limit, Q: Equivalent<K>>(
+/// Whether the key is held, which is not counted.
+pub(crate) fn is_held<K: Eq + Hash, V, S: BuildHasher, L: Limit, Q: Equivalent<K>>(
     map: &LimitedHashMap<K, V, S, L>,
     counts: &Counts,
     form: Q,

@@ -4,7 +4,7 @@ ghost use Rattle.std.specs.Cmp.Rules.{comparing};
 ghost use Rattle.std.proofs.Common.{rules};
 
 use crate::counts::Counts;
-use crate::kinds::{Number, OfNumber};
+use crate::kinds::Number;
 use std::alloc::AllocError;
 use std::fmt;
 
@@ -12,6 +12,13 @@ use std::fmt;
 pub(crate) struct Owned<'a> {
     number: u64,
     counts: &'a Counts,
+}
+
+impl<'a> Owned<'a> {
+    /// The number 0, which counts here.
+    pub(crate) fn zero(counts: &'a Counts) -> Owned<'a> {
+        Owned { number: 0, counts }
+    }
 }
 
 impl Number for Owned<'_> {
@@ -22,11 +29,12 @@ impl Number for Owned<'_> {
     fn set(&mut self, number: u64) {
         self.number = number;
     }
-}
 
-impl<'a> OfNumber<'a> for Owned<'a> {
-    fn of_number(number: u64, counts: &'a Counts) -> Owned<'a> {
-        Owned { number, counts }
+    fn like(&self, number: u64) -> Self {
+        Owned {
+            number,
+            counts: self.counts,
+        }
     }
 }
 

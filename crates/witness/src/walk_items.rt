@@ -1,41 +1,23 @@
 //! The iterators of a map, and how what they give is printed.
 ghost use Rattle.std.specs.Iterator.{IsFinite};
 
-use crate::kinds::{Named, Number};
-use crate::words::Name;
+use crate::answer::{Answer, print_gap, said};
+use crate::kinds::{Named, Number, add_to};
 use halfbrown::{IntoIter, Iter, Keys, Limit, LimitedDrain, Values, ValuesMut};
-use std::fmt::Debug;
+use std::fmt::{Debug, Display};
 use std::hash::{BuildHasher, Hash};
-use std::{fmt, io};
-
-/// What an iterator gave, as it is printed.
-#[derive(Clone, Copy)]
-pub(crate) enum Piece {
-    Pair(Name, u64),
-    Key(Name),
-    Value(u64),
-}
-
-impl fmt::Display for Piece {
-    fn fmt<W: fmt::Write>(&self, f: &mut fmt::Formatter<W>) -> fmt::Result {
-        match self {
-            Piece::Pair(key, value) => write!(f, "{key}={value}"),
-            Piece::Key(key) => write!(f, "{key}"),
-            Piece::Value(value) => write!(f, "{value}"),
-        }
-    }
-}
+use std::io;
 
 /// An iterator of a walk. The calls that not every kind has do nothing where they are left out.
 pub(crate) trait Walked: ExactSizeIterator {
     /// `next`.
-    fn step(&mut self) -> Option<Piece>;
+    fn step(&mut self) -> Option<Answer>;
 
     /// Goes over what is left in a `for` loop, of so many items at most, and prints their list.
     fn print_rest<R: Print>(&mut self, rt: &R, most: usize) -> io::Result<()>;
 
     /// `next`, and 1 is added to the value.
-    fn add(&mut self) -> Option<Piece> {
+    fn add(&mut self) -> Option<Answer> {
         None
     }
 
@@ -55,39 +37,35 @@ pub(crate) trait Walked: ExactSizeIterator {
     }
 }
 
-pub(crate) fn of_pair<K: Named, V: Number>(pair: (&K, &V)) -> Piece {
+pub(crate) fn of_pair<K: Named, V: Number>(pair: (&K, &V)) -> Answer {
     let (key, value) = pair;
-    Piece::Pair(key.name(), value.number())
+    said("").pair(key, value)
 }
 
-pub(crate) fn of_written_pair<K: Named, V: Number>(pair: (&K, &mut V)) -> Piece {
+pub(crate) fn of_written_pair<K: Named, V: Number>(pair: (&K, &mut V)) -> Answer {
     let (key, value) = pair;
-    Piece::Pair(key.name(), value.number())
+    said("").pair(key, value)
 }
 
-pub(crate) fn of_owned_pair<K: Named + Drop, V: Number + Drop>(pair: (K, V)) -> Piece {
+pub(crate) fn of_owned_pair<K: Named + Drop, V: Number + Drop>(pair: (K, V)) -> Answer {
     let (key, value) = pair;
-    Piece::Pair(key.name(), value.number())
+    said("").pair(&key, &value)
 }
 
-pub(crate) fn of_key<K: Named>(key: &K) -> Piece {
-    Piece::Key(key.name())
+pub(crate) fn of_key<K: Named>(key: &K) -> Answer {
+    said("").key(key)
 }
 
-pub(crate) fn of_value<V: Number>(value: &V) -> Piece {
-    Piece::Value(value.number())
+pub(crate) fn of_value<V: Number>(value: &V) -> Answer {
+    said("").value(value)
 }
 
-fn of_written_value<V: Number>(value: &mut V) -> Piece {
-    Piece::Value(value.number())
+fn of_written_value<V: Number>(value: &mut V) -> Answer {
+    said("").value(value)
 }
 
-pub(crate) fn add_one<V: Number>(value: &mut V) {
-    value.set(value.number().wrapping_add(1));
-}
-
-// The list of the items, or of the first of them where there are more than the most.
-pub(crate) fn print_items<I: Iterator, F: Fn(I::Item) -> Piece>(
+/// Prints the list of the items, or of the first of them where there are more than the most.
+pub(crate) fn print_items<I: Iterator, A: Display + Drop, F: Fn(I::Item) -> A>(
     rt: &impl Print,
     items: &mut I,
     most: usize,
@@ -104,15 +82,7 @@ pub(crate) fn print_items<I: Iterator, F: Fn(I::Item) -> Piece>(
     print!(rt; "]")
 }
 
-// Prints what stands between two elements of a list.
-fn print_gap(rt: &impl Print, is_first: &mut bool) -> io::Result<()> {
-    if std::mem::replace(is_first, false) {
-        return Ok(());
-    }
-    print!(rt; " ")
-}
-
-fn print_first<I: Iterator, F: Fn(I::Item) -> Piece>(
+fn print_first<I: Iterator, A: Display + Drop, F: Fn(I::Item) -> A>(
     rt: &impl Print,
     items: &mut I,
     most: usize,
@@ -124,10 +94,10 @@ fn print_first<I: Iterator, F: Fn(I::Item) -> Piece>(
 {
     let mut is_first = true;
     let mut left = most;
-    for item in items {
-        let piece = shown(item);
-        print_gap(rt, &mut is_first)?;
-        print!(rt; "{piece}")?;
+    for item in &mut *items {
+        let answer = shown(item);
+        print_gap(rt, &mut is_first, " ")?;
+        print!(rt; "{answer}")?;
         left = left.saturating_sub(1);
         if left == 0 {
             break;
@@ -137,7 +107,7 @@ fn print_first<I: Iterator, F: Fn(I::Item) -> Piece>(
 }
 
 impl<K: Named + Debug, V: Number + Debug> Walked for Iter<'_, K, V> {
-    fn step(&mut self) -> Option<Piece> {
+    fn step(&mut self) -> Option<Answer> {
         Some(of_pair(self.next()?))
     }
 
@@ -155,7 +125,7 @@ impl<K: Named + Debug, V: Number + Debug> Walked for Iter<'_, K, V> {
 }
 
 impl<K: Named, V> Walked for Keys<'_, K, V> {
-    fn step(&mut self) -> Option<Piece> {
+    fn step(&mut self) -> Option<Answer> {
         Some(of_key(self.next()?))
     }
 
@@ -169,7 +139,7 @@ impl<K: Named, V> Walked for Keys<'_, K, V> {
 }
 
 impl<K, V: Number> Walked for Values<'_, K, V> {
-    fn step(&mut self) -> Option<Piece> {
+    fn step(&mut self) -> Option<Answer> {
         Some(of_value(self.next()?))
     }
 
@@ -183,7 +153,7 @@ impl<K, V: Number> Walked for Values<'_, K, V> {
 }
 
 impl<K, V: Number> Walked for ValuesMut<'_, K, V> {
-    fn step(&mut self) -> Option<Piece> {
+    fn step(&mut self) -> Option<Answer> {
         Some(of_written_value(self.next()?))
     }
 
@@ -191,15 +161,15 @@ impl<K, V: Number> Walked for ValuesMut<'_, K, V> {
         print_items(rt, self, most, of_written_value)
     }
 
-    fn add(&mut self) -> Option<Piece> {
+    fn add(&mut self) -> Option<Answer> {
         let value = self.next()?;
-        add_one(value);
+        add_to(value, 1);
         Some(of_value(value))
     }
 }
 
 impl<K: Named + Drop, V: Number + Drop> Walked for IntoIter<K, V> {
-    fn step(&mut self) -> Option<Piece> {
+    fn step(&mut self) -> Option<Answer> {
         Some(of_owned_pair(self.next()?))
     }
 
@@ -214,7 +184,7 @@ impl<K: Named + Drop, V: Number + Drop> Walked for IntoIter<K, V> {
 
 impl<K: Eq + Hash + Named + Drop, V: Number + Drop, S: BuildHasher, L: Limit> Walked
     for LimitedDrain<'_, K, V, S, L> {
-    fn step(&mut self) -> Option<Piece> {
+    fn step(&mut self) -> Option<Answer> {
         Some(of_owned_pair(self.next()?))
     }
 
@@ -223,7 +193,7 @@ impl<K: Eq + Hash + Named + Drop, V: Number + Drop, S: BuildHasher, L: Limit> Wa
     }
 
     // Written here too, since the proof of the one in the trait does not reach a type that holds a map.
-    fn add(&mut self) -> Option<Piece> {
+    fn add(&mut self) -> Option<Answer> {
         None
     }
 }

@@ -3,8 +3,9 @@ ghost use Rattle.std.specs.Prelude.{◌≡◌, false, length};
 ghost use Rattle.std.specs.Iterator.{at_most};
 ghost use Rattle.halfbrown.specs.Iter.{iter_mut_left, IsEven};
 
-use crate::kinds::{Named, Number};
-use crate::walk_items::{Piece, Walked, add_one, of_pair, of_written_pair, print_items};
+use crate::answer::Answer;
+use crate::kinds::{Named, Number, add_to};
+use crate::walk_items::{Walked, of_pair, of_written_pair, print_items};
 use halfbrown::IterMut;
 use std::io;
 
@@ -55,7 +56,7 @@ impl<K, V> ExactSizeIterator for Writing<'_, K, V> {
 }
 
 impl<K: Named, V: Number> Walked for Writing<'_, K, V> {
-    fn step(&mut self) -> Option<Piece> {
+    fn step(&mut self) -> Option<Answer> {
         Some(of_written_pair(self.next()?))
     }
 
@@ -63,9 +64,9 @@ impl<K: Named, V: Number> Walked for Writing<'_, K, V> {
         print_items(rt, self, most, of_written_pair)
     }
 
-    fn add(&mut self) -> Option<Piece> {
+    fn add(&mut self) -> Option<Answer> {
         let (key, value) = self.next()?;
-        add_one(value);
+        add_to(value, 1);
         Some(of_pair((key, value)))
     }
 }

@@ -1,148 +1,135 @@
-//! The whole state of both maps, and the first compared with a map of another limit and rule.
+//! The calls on a map as a whole.
 
-use crate::call::Manner;
-use crate::counts::Counts;
-use crate::first::{rule_name, rule_of};
-use crate::kinds::{Named, Number, Ruled};
-use crate::lists::print_pairs;
-use crate::maps::{Maps, form_name, mark};
-use halfbrown::{Limit, LimitedHashMap, Tally, UpTo};
-use std::alloc::{AllocError, Global};
+use crate::answer::{Answer, of_bool, or_refused, refused, said};
+use crate::first::rule_name;
+use crate::keys::Key;
+use crate::kinds::{Named, Number, add_to};
+use crate::player::{Player, print_map};
+use halfbrown::{Limit, LimitedHashMap, Refusal};
 use std::hash::{BuildHasher, Hash};
 use std::io;
-use test_support::builders::Rule;
+use test_support::builders::Counting;
 
-/// A comparison with a map of this limit and rule, which holds clones of the pairs of the second map.
-#[derive(Clone, Copy)]
-pub(crate) struct Same {
-    limit: OtherLimit,
-    rule: Rule,
-    // Whether the call is made on the other map, with the first one.
-    is_from: bool,
-}
-
-#[derive(Clone, Copy)]
-enum OtherLimit {
-    Zero,
-    Five,
-    Most,
-}
-
-/// Reads a comparison.
-pub(crate) fn parse_same(call: &str, words: &[&str]) -> Option<Same> {
-    let is_from = match call {
-        "same_as" => false,
-        "same_from" => true,
-        _ => return None,
-    };
-    let [limit, rule] = words else {
-        return None;
-    };
-    let limit = match *limit {
-        "0" => OtherLimit::Zero,
-        "5" => OtherLimit::Five,
-        "18446744073709551615" => OtherLimit::Most,
-        _ => return None,
-    };
-    let rule = rule_of(rule)?;
-    Some(Same {
-        limit,
-        rule,
-        is_from,
-    })
-}
-
-/// Makes the other map, compares it with the first one, and prints the answer. Only the comparison is counted.
-pub(crate) fn print_same<V: PartialEq + Clone + Drop, const N: usize>(
-    rt: &impl Print,
-    maps: &Maps<'_, V, N>,
-    same: Same,
-    manner: Manner,
-) -> io::Result<()> {
-    let is_same = match same.limit {
-        OtherLimit::Zero => is_same_at::<V, UpTo<0>, N>(rt, maps, same, manner)?,
-        OtherLimit::Five => is_same_at::<V, UpTo<5>, N>(rt, maps, same, manner)?,
-        OtherLimit::Most => is_same_at::<V, UpTo<18446744073709551615>, N>(rt, maps, same, manner)?,
-    };
-    print!(rt; "{is_same}")
-}
-
-fn is_same_at<V: PartialEq + Clone + Drop, M: Limit, const N: usize>(
-    rt: &impl Print,
-    maps: &Maps<'_, V, N>,
-    same: Same,
-    manner: Manner,
-) -> io::Result<bool> {
-    let other: LimitedHashMap<_, _, _, M> = copy_with_rule(maps.alloc, &maps.b, same.rule)?;
-    maps.counts.take_work();
-    mark(rt, manner.is_refused)?;
-    Ok(if same.is_from {
-        compare(&other, &maps.a, manner.is_counted)
-    } else {
-        compare(&maps.a, &other, manner.is_counted)
-    })
-}
-
-fn compare<K: Eq + Hash, V: PartialEq, S: BuildHasher, L: Limit, M: Limit>(
-    one: &LimitedHashMap<K, V, S, L>,
-    other: &LimitedHashMap<K, V, S, M>,
-    is_counted: bool,
-) -> bool {
-    if is_counted {
-        one.same_pairs_counted(other, &mut Tally::new())
-    } else {
-        one.same_pairs(other)
+impl<'a, R: Print, V: Number + Drop + Clone + PartialEq, L: Limit> Player<
+    'a,
+    R,
+    Key<'a>,
+    V,
+    Counting<'a>,
+    L,
+> {
+    /// Makes the call of this name, which has no operand.
+    pub(crate) fn whole(&mut self, call: &str) -> Option<Answer> {
+        match call {
+            "clear" => self.open().clear(),
+            "shrink_to_fit" => self.open().shrink_to_fit(),
+            "drop" => drop(self.take()),
+            "swap" => self.swap(),
+            "clone" => return Some(or_refused(self.clone_first())),
+            "same" => return Some(self.same()),
+            "eq" => return Some(self.eq()),
+            "raw_entry_mut" => return Some(or_refused(self.raw_entry_mut())),
+            _ => return None,
+        }
+        Some(said("done"))
     }
-}
 
-// A map of another limit and this rule, of clones of the pairs in their order.
-fn copy_with_rule<
-    K: Eq + Hash + Clone + Drop,
-    V: Clone + Drop,
-    S: BuildHasher + Ruled + Clone + Drop,
-    L: Limit,
-    M: Limit,
->(
-    alloc: Global,
-    map: &LimitedHashMap<K, V, S, L>,
-    rule: Rule,
-) -> Result<LimitedHashMap<K, V, S, M>, AllocError> {
-    let mut builder = map.hasher().clone()?;
-    builder.set_rule(rule);
-    let mut copy = LimitedHashMap::with_hasher(alloc, builder);
-    for (key, value) in map {
-        if copy.insert(key.clone()?, value.clone()?).is_err() {
-            return Err(AllocError);
+    fn swap(&mut self) {
+        self.mark();
+        std::mem::swap(&mut self.a, &mut self.b);
+    }
+
+    fn clone_first(&mut self) -> Result<Answer, Refusal> {
+        self.mark();
+        self.b = self.a.clone()?;
+        Ok(said("done"))
+    }
+
+    fn same(&mut self) -> Answer {
+        self.mark();
+        of_bool(self.a.same_pairs(&self.b))
+    }
+
+    fn eq(&mut self) -> Answer {
+        self.mark();
+        of_bool(self.a == self.b)
+    }
+
+    // Raw entries that are dropped unused.
+    fn raw_entry_mut(&mut self) -> Result<Answer, Refusal> {
+        let _unused = self.open().raw_entry_mut()?;
+        Ok(said("done"))
+    }
+
+    /// `reserve`.
+    pub(crate) fn reserve(&mut self, more: usize) -> Answer {
+        match self.open().reserve(more) {
+            Ok(()) => said("done"),
+            Err(why) => refused(why),
         }
     }
-    Ok(copy)
-}
 
-/// Prints all that both maps hold, and looks each key up. Nothing of it is counted.
-pub(crate) fn print_both<K: Eq + Hash + Named, V: Number, S: BuildHasher + Ruled, L: Limit>(
-    rt: &impl Print,
-    counts: &Counts,
-    a: &LimitedHashMap<K, V, S, L>,
-    b: &LimitedHashMap<K, V, S, L>,
-) -> io::Result<()> {
-    print!(rt; "a ")?;
-    print_map(rt, a)?;
-    print!(rt; " b ")?;
-    print_map(rt, b)?;
-    print_lost(rt, a)?;
-    print_lost(rt, b)?;
-    counts.take_work();
-    Ok(())
-}
+    /// Adds a number to each value by `iter_mut`.
+    pub(crate) fn iter_mut(&mut self, more: u64) -> Answer {
+        for (_, value) in self.open().iter_mut() {
+            add_to(value, more);
+        }
+        said("done")
+    }
 
-fn print_map<K: Eq + Hash + Named, V: Number, S: BuildHasher + Ruled, L: Limit>(
-    rt: &impl Print,
-    map: &LimitedHashMap<K, V, S, L>,
-) -> io::Result<()> {
-    let (rule, form) = (rule_name(map.hasher().rule()), form_name(map.is_vec()));
-    let (len, capacity) = (map.len(), map.capacity());
-    print!(rt; "{rule} {form} {len} {capacity} ")?;
-    print_pairs(rt, map)
+    /// Adds a number to each value by `values_mut`.
+    pub(crate) fn values_mut(&mut self, more: u64) -> Answer {
+        for value in self.open().values_mut() {
+            add_to(value, more);
+        }
+        said("done")
+    }
+
+    /// Adds a number to each value by `values_slice_mut`.
+    pub(crate) fn values_slice_mut(&mut self, more: u64) -> Answer {
+        for value in self.open().values_slice_mut() {
+            add_to(value, more);
+        }
+        said("done")
+    }
+
+    /// Adds a number to each value, and drops the pairs whose id and value add up to a multiple of the divisor.
+    pub(crate) fn retain(&mut self, divisor: u64, more: u64) -> Answer {
+        let counts = self.counts.of_closure();
+        self.open().retain(|key, value| {
+            counts.count_call();
+            add_to(value, more);
+            let sum = key.name().id.wrapping_add(value.number());
+            sum.checked_rem(divisor) != Some(0)
+        });
+        said("called").value(&counts.calls().unwrap_or(0))
+    }
+
+    /// Prints what the first map says of itself.
+    pub(crate) fn print_own(&mut self) -> io::Result<()> {
+        self.mark();
+        let map = &self.a;
+        print!(self.rt;
+            "is_empty={} is_vec={} is_map={} rule={}",
+            map.is_empty(),
+            map.is_vec(),
+            map.is_map(),
+            rule_name(map.hasher().rule)
+        )
+    }
+
+    /// Prints all that both maps hold, and looks each key up. Nothing of it is counted.
+    pub(crate) fn print_both(&mut self) -> io::Result<()> {
+        self.mark();
+        print!(self.rt; "a {} ", rule_name(self.a.hasher().rule))?;
+        print_map(self.rt, &self.a)?;
+        print!(self.rt; " b {} ", rule_name(self.b.hasher().rule))?;
+        print_map(self.rt, &self.b)?;
+        print_lost(self.rt, &self.a)?;
+        print_lost(self.rt, &self.b)?;
+        self.counts.take_work();
+        Ok(())
+    }
 }
 
 // The keys whose value, looked up, is not the one beside them.

@@ -1,59 +1,16 @@
-//! Reading and writing the pair at an entry index.
+//! Writing the pair at an entry index.
 ghost use Rattle.std.specs.Prelude.{◌≡◌, ◌<◌, Some, length, slice_get};
 ghost use Rattle.std.specs.Borrow.{sem};
 ghost use Rattle.std.specs.Map.{keys_of, values_of};
 ghost use Rattle.half_store.specs.Pairs.{set_key, set_value};
-ghost use Rattle.half_store.specs.Store.{with_pairs};
+ghost use Rattle.half_store.specs.Store.{store_with_pairs};
 
 use super::Store;
 
 impl<K, V> Store<K, V> {
     ghost use Rattle.half_store.specs.StoreLending.{StoreLendsValue};
 
-    /// The key of the pair at this index.
-    ///
-    /// ```
-    /// let id = *ages.key_at(1); // 2
-    /// ```
-    #[inline(always)]
-    pub fn key_at(&self, index: usize) -> &K
-        requires { index < length self.now.pairs }
-        ensures { slice_get (keys_of self.now.pairs) index ≡ Some result.now }
-    {
-        &self.columns.keys()[index]
-    }
-
-    /// Its value.
-    ///
-    /// ```
-    /// let age = *ages.value_at(1); // 41
-    /// ```
-    #[inline(always)]
-    pub fn value_at(&self, index: usize) -> &V
-        requires { index < length self.now.pairs }
-        ensures { slice_get (values_of self.now.pairs) index ≡ Some result.now }
-    {
-        self.columns.value_at(index)
-    }
-
-    /// Its key and its value.
-    ///
-    /// ```
-    /// let pair = ages.pair_at(1); // 2 and 41
-    /// ```
-    #[inline(always)]
-    pub fn pair_at(&self, index: usize) -> (&K, &V)
-        requires { index < length self.now.pairs }
-        ensures { slice_get self.now.pairs index ≡ Some (result.0.now, result.1.now) }
-    {
-        self.columns.pair_at(index)
-    }
-
-    /// Its value, to be written.
-    ///
-    /// ```
-    /// *ages.value_at_mut(1) = 42;
-    /// ```
+    /// The value of the pair at this index, to be written.
     #[inline(always)]
     pub fn value_at_mut(&mut self, index: usize) -> &mut V
         requires { index < length self.old.pairs }
@@ -64,10 +21,6 @@ impl<K, V> Store<K, V> {
     }
 
     /// Its key and its value, the value to be written.
-    ///
-    /// ```
-    /// *ages.pair_at_mut(1).1 = 44;
-    /// ```
     #[inline(always)]
     pub fn pair_at_mut(&mut self, index: usize) -> (&K, &mut V)
         requires { index < length self.old.pairs }
@@ -78,29 +31,21 @@ impl<K, V> Store<K, V> {
     }
 
     /// Replaces its value, and returns the old one.
-    ///
-    /// ```
-    /// let before = ages.set_value(1, 43); // 42
-    /// ```
     #[inline(always)]
     pub fn set_value(&mut self, index: usize, value: V) -> V
         requires { index < length self.old.pairs }
         ensures old { slice_get (values_of self.old.pairs) index ≡ Some result }
-        ensures after { self.new ≡ with_pairs self.old (set_value self.old.pairs index value) }
+        ensures after { self.new ≡ store_with_pairs self.old (set_value self.old.pairs index value) }
     {
         self.columns.replace_value(index, value)
     }
 
     /// Replaces its key, which must have the same hash, and returns the old one.
-    ///
-    /// ```
-    /// let before = ages.set_key(1, 2); // 2
-    /// ```
     #[inline(always)]
     pub fn set_key(&mut self, index: usize, key: K) -> K
         requires { index < length self.old.pairs }
         ensures old { slice_get (keys_of self.old.pairs) index ≡ Some result }
-        ensures after { self.new ≡ with_pairs self.old (set_key self.old.pairs index key) }
+        ensures after { self.new ≡ store_with_pairs self.old (set_key self.old.pairs index key) }
     {
         self.columns.replace_key(index, key)
     }

@@ -6,34 +6,26 @@ ghost use Rattle.std.specs.Map.Calls.{CalledAtPair, TakesPair, CallableOnEachPai
 ghost use Rattle.std.specs.Option.{option_map};
 ghost use Rattle.half_store.specs.Pairs.{swap_remove_at};
 ghost use Rattle.half_store.specs.Replaced.{Replaces};
-ghost use Rattle.half_store.specs.Store.{pushed, IsVacancy, KeepsForm};
+ghost use Rattle.half_store.specs.Store.{store_pushed, IsVacancy, KeepsForm};
 
 use super::Store;
-use super::lookup::Vacancy;
+use super::vacancy::Vacancy;
 
 impl<K, V> Store<K, V> {
     /// Adds a pair at the end, at a vacancy for its hash. The capacity must be enough for it. It reads no bucket.
-    ///
-    /// ```
-    /// ages.push(1, 36, vacancy);
-    /// ```
     #[inline(always)]
     pub fn push(&mut self, key: K, value: V, vacancy: Vacancy)
         requires capacity { length self.old.pairs < self.old.capacity }
         requires vacant { IsVacancy self.old.is_vec self.old.contents vacancy.hash vacancy }
-        ensures { self.new ≡ pushed self.old key value vacancy }
+        ensures { self.new ≡ store_pushed self.old key value vacancy }
     {
-        if let Some(table) = &mut self.index {
+        if let Some(table) = &mut self.table {
             table.add_at(vacancy.hash, vacancy.bucket);
         }
         self.columns.push(key, value);
     }
 
     /// Removes the pair at this index. The last pair takes its index.
-    ///
-    /// ```
-    /// let pair = ages.swap_remove(0); // 1 and 36; the pair of 2 has index 0 now
-    /// ```
     #[inline(always)]
     pub fn swap_remove(&mut self, index: usize) -> (K, V)
         requires { index < length self.old.pairs }
@@ -42,7 +34,7 @@ impl<K, V> Store<K, V> {
         ensures hashes { self.old.is_vec ≡ false → self.new.hashes ≡ swap_remove_at self.old.hashes index }
         ensures form { KeepsForm self.old self.new }
     {
-        if let Some(table) = &mut self.index {
+        if let Some(table) = &mut self.table {
             table.remove(index);
         }
         self.columns.swap_remove(index)
@@ -50,10 +42,6 @@ impl<K, V> Store<K, V> {
 
     /// Hands the value of the pair at this index to `f`, with its key. Where `f` returns a value the pair has that one, and
     /// else it is removed, and its key returned with its hash, which is 0 in a vector: the last pair takes its index.
-    ///
-    /// ```
-    /// let removed = ages.replace_with(0, |_, age| age.checked_sub(1)); // none, unless the age was 0
-    /// ```
     #[inline]
     pub fn replace_with<F: FnOnce(&K, V) -> Option<V>>(
         &mut self,
@@ -73,7 +61,7 @@ impl<K, V> Store<K, V> {
         ensures form { KeepsForm self.old self.new }
     {
         let key = self.columns.replace_with(index, f)?;
-        let hash = match &mut self.index {
+        let hash = match &mut self.table {
             Some(table) => table.remove(index),
             None => 0,
         };
@@ -81,10 +69,6 @@ impl<K, V> Store<K, V> {
     }
 
     /// Calls `f` at each pair, in order, and keeps those that it accepts, in their order, with the values that it left.
-    ///
-    /// ```
-    /// ages.retain(|_, age| *age < 40); // the pair of 2 is gone, whose age is 44
-    /// ```
     pub fn retain<F: FnMut(&K, &mut V) -> bool>(&mut self, f: F)
     where
         K: Drop,
@@ -97,7 +81,7 @@ impl<K, V> Store<K, V> {
             → self.new.hashes ≡ map hash (keys_of self.new.pairs) }
         ensures form { KeepsForm self.old self.new }
     {
-        match &mut self.index {
+        match &mut self.table {
             Some(table) => table.retain(&mut self.columns, f),
             None => self.columns.retain(f),
         }

@@ -1,6 +1,6 @@
 //! A store whose pairs are taken out, from first to last.
 ghost use Rattle.std.specs.Prelude.{◌≡◌, ◌^◌, ◌<◌, [], ◌∷◌, length, MatchOption};
-ghost use Rattle.half_store.specs.Pairs.{no_pairs};
+ghost use Rattle.half_store.specs.Columns.{no_pairs};
 ghost use Rattle.half_store.specs.Store.{vector_of, KeepsForm};
 
 use super::Store;
@@ -14,7 +14,7 @@ pub struct Drained<K, V> {
     // last first
     columns: VecMap<K, V>,
     // of the pairs that were there
-    index: Option<Table>,
+    table: Option<Table>,
 }
 
 impl<K, V> Model for Drained<K, V> {
@@ -24,29 +24,19 @@ impl<K, V> Model for Drained<K, V> {
 
     ghost coded = { store_code K.code V.code };
 
-    ghost view = { λ d. drained_of d.columns d.index };
+    ghost view = { λ d. drained_of d.columns d.table };
 
-    ghost invariant = { λ d. IsDrained d.columns d.index };
+    ghost invariant = { λ d. IsDrained d.columns d.table };
 }
 
-/// What becomes a store again: `Drained` alone. It is a trait for types that have it beside a reference, of which a proof
-/// knows what they leave behind it only where they own no memory but that of a type parameter.
-///
-/// ```
-/// fn emptied<D: IntoStore<u64, u32>>(drained: D) -> Store<u64, u32> {
-///     drained.into_store()
-/// }
-/// ```
+/// What becomes a store again: `Drained` alone. A workaround: the prover cannot see through the drop of a struct that owns
+/// memory and also borrows; behind a type parameter it can.
 pub trait IntoStore<K, V> {
     ghost use Rattle.half_store.specs.Store.{StoreState};
 
     ghost store: { Self → StoreState K V };
 
     /// The store again, with no pair. Those that are left are dropped.
-    ///
-    /// ```
-    /// ages = drained.into_store();
-    /// ```
     fn into_store(self) -> Store<K, V>
     where
         K: Drop,
@@ -60,10 +50,6 @@ impl<K, V> Store<K, V> {
     /// Takes all pairs out, and the memory with them. A vector with no pairs and no memory is left.
     ///
     /// It turns the order of the pairs round, so that each of them is taken out for what it costs to move it.
-    ///
-    /// ```
-    /// let mut drained = ages.drain();
-    /// ```
     pub fn drain(&mut self) -> Drained<K, V>
         ensures pairs { result.pairs ≡ self.old.pairs }
         ensures form { KeepsForm self.old result }
@@ -75,17 +61,13 @@ impl<K, V> Store<K, V> {
         columns.reverse();
         Drained {
             columns,
-            index: self.index.take(),
+            table: self.table.take(),
         }
     }
 }
 
 impl<K, V> Drained<K, V> {
     /// How many pairs are still to be taken out.
-    ///
-    /// ```
-    /// let count = drained.len(); // 2
-    /// ```
     #[inline(always)]
     pub fn len(&self) -> usize
         ensures len { result ≡ length self.now.pairs }
@@ -95,10 +77,6 @@ impl<K, V> Drained<K, V> {
     }
 
     /// Takes the first one out.
-    ///
-    /// ```
-    /// let first = drained.pop_front(); // 1 and 36
-    /// ```
     #[inline(always)]
     pub fn pop_front(&mut self) -> Option<(K, V)>
         ensures first { MatchOption result ((self.old.pairs ≡ []) × (self.new ≡ self.old))
@@ -120,12 +98,12 @@ impl<K, V> IntoStore<K, V> for Drained<K, V> {
     {
         let Drained {
             mut columns,
-            mut index,
+            mut table,
         } = self;
-        if let Some(table) = &mut index {
+        if let Some(table) = &mut table {
             table.clear();
         }
         columns.clear();
-        Store { columns, index }
+        Store { columns, table }
     }
 }

@@ -3,50 +3,52 @@ ghost use Rattle.std.specs.Prelude.{◌≡◌, ℕ, ◌+◌, ◌<◌, ◌≤◌,
 ghost use Rattle.std.specs.Borrow.{Bor};
 ghost use Rattle.std.specs.Fn.{FnReturnsAt};
 ghost use Rattle.std.specs.Map.{keys_of};
+ghost use Rattle.std.specs.Result.{result_ok};
 ghost use Rattle.half_store.specs.Capacity.{buckets_of};
 ghost use Rattle.half_store.specs.Probe.{AddsFinding, after_missing, looked_more};
 ghost use Rattle.half_store.specs.Reach.{reach};
-ghost use Rattle.half_store.specs.Search.{ReturnsAt, Finds, found_index};
+ghost use Rattle.half_store.specs.Search.{ReturnsAt, Finds};
 ghost use Rattle.half_store.specs.Store.{IsVacancy};
 ghost use Rattle.half_store.specs.Work.{compared_more, first_match_cost};
 
 use super::Store;
-use super::lookup::{Lookup, Vacancy};
+use super::vacancy::Vacancy;
 use crate::Tally;
-use crate::table::probe::Probe;
+use crate::vecmap::search::first_match;
 
 impl<K, V> Store<K, V> {
     /// Searches for a key that `matches` accepts: in a vector for the first, in a table among the keys of this hash.
-    ///
-    /// ```
-    /// let found = ages.find(11, &|id: &u64| *id == 2, &mut tally); // index 1
-    /// ```
     #[inline(always)]
-    pub fn find<F: Fn(&K) -> bool>(&self, hash: u64, matches: &F, tally: &mut Tally) -> Lookup
+    pub fn find<F: Fn(&K) -> bool>(
+        &self,
+        hash: u64,
+        matches: &F,
+        tally: &mut Tally,
+    ) -> Result<usize, Vacancy>
         requires { (key : Bor K) (index : ℕ) → slice_get (keys_of self.now.pairs) index ≡ Some key.now
             → F.pre matches.now key }
         ensures found { Finds (FnReturnsAt F.Fn matches.now) hash self.now result }
         ensures vector_cost { self.now.is_vec ≡ true
-            → tally.new ≡ compared_more (first_match_cost (found_index result) (length self.now.pairs)) tally.old }
-        ensures found_cost { self.now.is_vec ≡ false → IfSome (found_index result) (λ _.
+            → tally.new ≡ compared_more (first_match_cost (result_ok result) (length self.now.pairs)) tally.old }
+        ensures found_cost { self.now.is_vec ≡ false → IfSome (result_ok result) (λ _.
             AddsFinding self.now.hashes (buckets_of self.now.capacity) hash tally.old tally.new) }
-        ensures missing_cost { self.now.is_vec ≡ false → IfNone (found_index result)
+        ensures missing_cost { self.now.is_vec ≡ false → IfNone (result_ok result)
             (tally.new ≡ after_missing self.now.hashes (buckets_of self.now.capacity) hash tally.old) }
         ensures short { self.now.is_vec ≡ false
             → reach self.now.hashes (buckets_of self.now.capacity) hash ≤ length self.now.hashes + 1 }
     {
         // A test for each form, since a closure with one call is inlined there.
         // It comes before the keys are read, so that LLVM can join it to the test before the hash.
-        let Some(table) = &self.index else {
+        let Some(table) = &self.table else {
             let keys = self.columns.keys();
             let matches_at = |index: usize| -> bool
                 requires within { index < length keys.now }
                 requires callable { (key : Bor K) → slice_get keys.now index ≡ Some key.now → F.pre matches.now key }
                 ensures { ReturnsAt (FnReturnsAt F.Fn matches.entry.now) keys.entry.now index result }
             { matches(&keys[index]) };
-            return match self.columns.find(&matches_at, tally) {
-                Some(index) => Lookup::Found(index),
-                None => Lookup::Missing(Vacancy { hash, bucket: 0 }),
+            return match first_match(keys.len(), &matches_at, tally) {
+                Some(index) => Ok(index),
+                None => Err(Vacancy { hash, bucket: 0 }),
             };
         };
         let keys = self.columns.keys();
@@ -56,18 +58,12 @@ impl<K, V> Store<K, V> {
             ensures { ReturnsAt (FnReturnsAt F.Fn matches.entry.now) keys.entry.now index result }
         { matches(&keys[index]) };
         match table.find(hash, &matches_at, tally) {
-            Probe::Found(index) => Lookup::Found(index),
-            Probe::Vacant(bucket) => Lookup::Missing(Vacancy { hash, bucket }),
-            // The capacity is 0, and growth makes a probe needed.
-            Probe::NoBuckets => Lookup::Missing(Vacancy { hash, bucket: 0 }),
+            Ok(index) => Ok(index),
+            Err(bucket) => Err(Vacancy { hash, bucket }),
         }
     }
 
     /// Where a pair of this hash may be added. In a table its bucket is probed for.
-    ///
-    /// ```
-    /// let vacancy = ages.vacancy_for(11, &mut tally);
-    /// ```
     #[inline(always)]
     pub fn vacancy_for(&self, hash: u64, tally: &mut Tally) -> Vacancy
         requires { length self.now.pairs < self.now.capacity }
@@ -76,7 +72,7 @@ impl<K, V> Store<K, V> {
         ensures cost { tally.new ≡ looked_more tally.old
             (if self.now.is_vec then 0 else reach self.now.hashes (buckets_of self.now.capacity) hash) }
     {
-        let bucket = match &self.index {
+        let bucket = match &self.table {
             Some(table) => table.insertion_probe(hash, tally),
             None => 0,
         };

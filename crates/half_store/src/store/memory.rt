@@ -1,24 +1,18 @@
-//! The capacity of a store: making it, and giving it back. On error nothing changes.
-ghost use Rattle.std.specs.Prelude.{◌≡◌, ◌+◌, ◌^◌, ◌<◌, ◌≤◌, ◌⊎◌, ◌||◌, false, []};
+//! The capacity of a store: making it, and giving it back. All memory is had before anything changes.
+ghost use Rattle.std.specs.Prelude.{◌≡◌, ◌+◌, ◌^◌, ◌<◌, ◌≤◌, ◌⊎◌, ◌||◌, false, [], min, max};
 ghost use Rattle.std.specs.Prelude.{length, nat_le, IsOk, IfOk, OnOk, OnErr, IfErr, if◌then◌else◌};
 ghost use Rattle.std.specs.List.{AllZip};
 ghost use Rattle.half_store.specs.Capacity.{capacity_for};
-ghost use Rattle.half_store.specs.Pairs.{memory_for, grown_memory, IsShrunkMemory, IsPartlyGrown};
 ghost use Rattle.half_store.specs.Refusal.{refusal_of};
-ghost use Rattle.half_store.specs.Store.{allowed, capacity_within, reserved, reserved_capacity, in_memory};
+ghost use Rattle.half_store.specs.Store.{allowed, capacity_within, reserved, reserved_capacity};
 
 use super::Store;
-use crate::capacity::capacity_for;
 use crate::refusal::check_size;
 use crate::{Refusal, Table, VecMap};
 use std::alloc::Global;
 
 impl<K, V> Store<K, V> {
     /// No pairs, with capacity for so many: a vector with exactly this capacity where the limit allows them, else a table.
-    ///
-    /// ```
-    /// let mut ages: Store<u64, u32> = Store::with_capacity(alloc, 2, 32)?; // a vector
-    /// ```
     pub fn with_capacity(
         alloc: Global,
         capacity: usize,
@@ -28,7 +22,7 @@ impl<K, V> Store<K, V> {
         ensures pairs { IfOk result (λ s. s.pairs ≡ []) }
         ensures hashes { IfOk result (λ s. s.hashes ≡ []) }
         ensures capacity { IfOk result (λ s. s.capacity ≡ (if s.is_vec then capacity else capacity_for capacity)) }
-        ensures memory { IfOk result (λ s. s.memory ≡ memory_for s.capacity) }
+        ensures columns { IfOk result (λ s. s.columns ≡ s.capacity) }
         ensures series { IfOk result (λ s. s.is_vec ≡ false → s.capacity ≡ capacity_for s.capacity) }
         ensures exceeds { IfOk result (λ s. s.is_vec ≡ false → limit < s.capacity) }
         ensures granted { OnOk result (capacity ≤ 2 ^ 60) }
@@ -39,23 +33,19 @@ impl<K, V> Store<K, V> {
         if capacity <= limit {
             return Ok(Store {
                 columns: VecMap::with_capacity(alloc, capacity)?,
-                index: None,
+                table: None,
             });
         }
         let table = Table::with_capacity(alloc, capacity)?;
         Ok(Store {
             columns: VecMap::with_capacity(alloc, table.capacity())?,
-            index: Some(table),
+            table: Some(table),
         })
     }
 
     /// Makes the capacity enough for so many pairs more, in a vector for no more in all than the limit.
     ///
     /// Where it is not enough yet, a table gets the least of its series that is, and a vector grows as `VecMap::grow` says.
-    ///
-    /// ```
-    /// ages.reserve(20, 32)?; // capacity 22
-    /// ```
     #[inline(never)]
     pub fn reserve(&mut self, additional: usize, limit: usize) -> Result<(), Refusal>
         ensures pairs { self.new.pairs ≡ self.old.pairs }
@@ -66,20 +56,18 @@ impl<K, V> Store<K, V> {
             → self.new ≡ self.old) }
         ensures grown { OnOk result (capacity_within limit self.old < reserved limit self.old additional
             → self.new.capacity ≡ reserved_capacity limit self.old additional) }
-        ensures memory { OnOk result (capacity_within limit self.old < reserved limit self.old additional
-            → self.new.memory ≡ grown_memory (reserved_capacity limit self.old additional) self.old.memory) }
+        ensures columns { OnOk result (capacity_within limit self.old < reserved limit self.old additional
+            → self.new.columns ≡ max self.old.columns (reserved_capacity limit self.old additional)) }
         ensures more { self.old.capacity ≤ self.new.capacity }
         ensures series { self.new.is_vec ≡ false → self.new.capacity ≡ capacity_for self.new.capacity }
         ensures granted { OnOk result (capacity_within limit self.old < reserved limit self.old additional
             → reserved limit self.old additional ≤ 2 ^ 60) }
         ensures refused { IfErr result (λ why. (capacity_within limit self.old < reserved limit self.old additional)
             × (why ≡ refusal_of (reserved limit self.old additional))) }
-        ensures err { OnErr result (self.new ≡ in_memory self.old self.new.memory) }
-        ensures partly { OnErr result (IsPartlyGrown (reserved_capacity limit self.old additional)
-            self.old.memory self.new.memory) }
+        ensures err { OnErr result (self.new ≡ self.old) }
     {
         let len = self.columns.len();
-        let Some(table) = &mut self.index else {
+        let Some(table) = &mut self.table else {
             let needed = len.saturating_add(additional).min(limit);
             return self.columns.grow(needed, limit);
         };
@@ -89,18 +77,14 @@ impl<K, V> Store<K, V> {
         let Some(needed) = len.checked_add(additional) else {
             return Err(Refusal::Size);
         };
-        // The columns may have more capacity than the table, which decides: so they grow first.
-        check_size(needed)?;
-        self.columns.reserve(capacity_for(needed))?;
-        table.reserve(needed)
+        let fresh = Table::with_capacity(self.columns.allocator(), needed)?;
+        self.columns.reserve(fresh.capacity())?;
+        table.move_to(fresh);
+        Ok(())
     }
 
     /// Makes a table of no more pairs than the limit a vector, and shrinks the capacity to the least that the pairs fit.
     /// Where memory is refused it stays; going back needs none, nor does a store with no pairs.
-    ///
-    /// ```
-    /// ages.shrink_to_fit(32); // a vector with capacity 2
-    /// ```
     pub fn shrink_to_fit(&mut self, limit: usize)
         requires { self.old.is_vec ≡ false → limit < self.old.capacity }
         ensures pairs { self.new.pairs ≡ self.old.pairs }
@@ -110,15 +94,15 @@ impl<K, V> Store<K, V> {
             else capacity_for (length self.old.pairs)))
             ⊎ ((0 < length self.old.pairs)
             × (allowed limit self.new.is_vec self.new.capacity ≡ allowed limit self.new.is_vec self.old.capacity)) }
-        ensures memory { IsShrunkMemory (if self.new.is_vec then length self.old.pairs else self.new.capacity)
-            self.old.memory self.new.memory }
+        ensures columns { (self.new.columns ≡ min (if self.new.is_vec then length self.old.pairs else self.new.capacity)
+            self.old.columns) ⊎ (self.new.columns ≡ self.old.columns) }
         ensures series { self.new.is_vec ≡ false → self.new.capacity ≡ capacity_for self.new.capacity }
         ensures fits { self.new.is_vec ≡ false → length self.old.pairs ≤ self.new.capacity }
     {
         if self.columns.len() <= limit {
-            self.index = None;
+            self.table = None;
         }
-        match &mut self.index {
+        match &mut self.table {
             Some(table) => {
                 table.shrink_to_fit();
                 self.columns.shrink_to(table.capacity());
@@ -129,10 +113,6 @@ impl<K, V> Store<K, V> {
 
     /// Clones of the pairs in the same form, with the same stored hashes. A table has the same capacity, and a vector none to
     /// spare.
-    ///
-    /// ```
-    /// let copy = ages.clone()?;
-    /// ```
     pub fn clone(&self) -> Result<Store<K, V>, Refusal>
     where
         K: Clone,
@@ -142,20 +122,20 @@ impl<K, V> Store<K, V> {
             self.now.pairs s.pairs) }
         ensures capacity { IfOk result (λ s. s.capacity
             ≡ (if self.now.is_vec then length self.now.pairs else self.now.capacity)) }
-        ensures memory { IfOk result (λ s. s.memory ≡ memory_for s.capacity) }
+        ensures columns { IfOk result (λ s. s.columns ≡ s.capacity) }
         ensures hashes { IfOk result (λ s. s.hashes ≡ self.now.hashes) }
         ensures refused { IfErr result (λ why. why ≡ Refusal.Memory) }
     {
-        let Some(table) = &self.index else {
+        let Some(table) = &self.table else {
             return Ok(Store {
                 columns: self.columns.clone_with_capacity(self.columns.len())?,
-                index: None,
+                table: None,
             });
         };
         let copy = table.copy()?;
         Ok(Store {
             columns: self.columns.clone_with_capacity(table.capacity())?,
-            index: Some(copy),
+            table: Some(copy),
         })
     }
 }

@@ -1,20 +1,15 @@
-//! The change of form: a vector gets an index.
-ghost use Rattle.std.specs.Prelude.{◌≡◌, ◌^◌, ◌≤◌, true, [], length, IfOk, OnOk, OnErr, IfErr};
+//! The change of form: a vector gets a table.
+ghost use Rattle.std.specs.Prelude.{◌≡◌, ◌^◌, ◌≤◌, true, [], length, max, IfOk, OnOk, OnErr, IfErr};
 ghost use Rattle.half_store.specs.Capacity.{capacity_of, capacity_for};
-ghost use Rattle.half_store.specs.Pairs.{grown_memory, IsPartlyGrown};
 ghost use Rattle.half_store.specs.Refusal.{refusal_of};
-ghost use Rattle.half_store.specs.Store.{table_of, in_memory};
+ghost use Rattle.half_store.specs.Store.{table_of};
 
 use super::Store;
 use crate::{Refusal, Table};
 
 impl<K, V> Store<K, V> {
-    /// An empty index with capacity for so many pairs, for which the columns get the same capacity. On error nothing changes.
-    ///
-    /// ```
-    /// let mut index = ages.new_index(33)?;
-    /// ```
-    pub fn new_index(&mut self, needed: usize) -> Result<Table, Refusal>
+    /// An empty table with capacity for so many pairs, for which the columns get the same capacity. On error nothing changes.
+    pub fn new_table(&mut self, needed: usize) -> Result<Table, Refusal>
         requires { self.old.is_vec ≡ true }
         ensures form { self.new.is_vec ≡ true }
         ensures pairs { self.new.pairs ≡ self.old.pairs }
@@ -23,29 +18,23 @@ impl<K, V> Store<K, V> {
         ensures enough { OnOk result (needed ≤ capacity_for needed) }
         ensures series { OnOk result (capacity_for needed ≡ capacity_for (capacity_for needed)) }
         ensures backed { OnOk result (capacity_for needed ≤ self.new.capacity) }
-        ensures memory { OnOk result (self.new.memory ≡ grown_memory (capacity_for needed) self.old.memory) }
+        ensures columns { OnOk result (self.new.columns ≡ max self.old.columns (capacity_for needed)) }
         ensures granted { OnOk result (needed ≤ 2 ^ 60) }
         ensures refused { IfErr result (λ why. why ≡ refusal_of needed) }
-        ensures err { OnErr result (self.new ≡ in_memory self.old self.new.memory) }
-        ensures partly { OnErr result (IsPartlyGrown (capacity_for needed) self.old.memory self.new.memory) }
+        ensures err { OnErr result (self.new ≡ self.old) }
     {
-        let index = Table::with_capacity(self.columns.allocator(), needed)?;
-        self.columns.reserve(index.capacity())?;
-        Ok(index)
+        let table = Table::with_capacity(self.columns.allocator(), needed)?;
+        self.columns.reserve(table.capacity())?;
+        Ok(table)
     }
 
-    /// Makes a vector a table with this index, which has the hash of each pair, in order.
-    ///
-    /// ```
-    /// ages.switch_to(index);
-    /// ```
-    pub fn switch_to(&mut self, index: Table)
+    /// Makes a vector one with this table, which has the hash of each pair, in order.
+    pub fn switch_to(&mut self, table: Table)
         requires vector { self.old.is_vec ≡ true }
-        requires len { length index.hashes ≡ length self.old.pairs }
-        requires backed { capacity_of index.buckets ≤ self.old.capacity }
-        ensures { self.new ≡ table_of
-            (record { pairs = self.old.pairs; capacity = self.old.capacity; memory = self.old.memory }) index }
+        requires len { length table.hashes ≡ length self.old.pairs }
+        requires backed { capacity_of table.buckets ≤ self.old.capacity }
+        ensures { self.new ≡ table_of (record { pairs = self.old.pairs; capacity = self.old.columns }) table }
     {
-        self.index = Some(index);
+        self.table = Some(table);
     }
 }

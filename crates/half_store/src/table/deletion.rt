@@ -1,10 +1,10 @@
 //! Backward-shift deletion: after a removal the pairs that follow move back, so that no tombstone is needed. No tally counts
 //! the buckets that it reads.
-ghost use Rattle.std.specs.Prelude.{◌≡◌, ◌-◌, ◌<◌, ◌≤◌, length, Some, slice_get, slice_set, slice_index, vec_capacity};
+ghost use Rattle.std.specs.Prelude.{◌≡◌, ◌+◌, ◌-◌, ◌<◌, ◌≤◌, length, Some, slice_get, slice_set, slice_index, vec_capacity};
 ghost use Rattle.std.specs.List.{swap_remove};
 ghost use Rattle.half_store.specs.Reach.{probe_distance, IsNearer};
 ghost use Rattle.half_store.specs.Capacity.{IsBucketCount};
-ghost use Rattle.half_store.specs.TableLayout.{IsIndexed, IsIndexedButFor, IsBucketOf};
+ghost use Rattle.half_store.specs.TableLayout.{IsIndexed, IsIndexedButFor};
 
 use super::probe::{home, next};
 use crate::words::Words;
@@ -37,7 +37,8 @@ pub(super) fn remove_in<B: Words>(buckets: &mut B, hashes: &mut Vec<u64>, index:
 fn bucket_of<B: Words>(buckets: &B, hashes: &[u64], index: usize) -> usize
     requires indexed { IsIndexed hashes.now (B.words buckets.now) }
     requires within { index < length hashes.now }
-    ensures at { IsBucketOf hashes.now (B.words buckets.now) index result }
+    ensures within { result < length (B.words buckets.now) }
+    ensures at { slice_index (B.words buckets.now) result ≡ index + 1 }
     ensures near { IsNearer hashes.now (length (B.words buckets.now)) (slice_index hashes.now index) result }
 {
     let count = buckets.count();

@@ -1,26 +1,16 @@
 //! Linear probing: from the home bucket of a hash upwards. A probe reads stored hashes and nothing else, and counts each
 //! bucket that it reads.
-ghost use Rattle.std.specs.Prelude.{◌≡◌, ℕ, ◌+◌, ◌<◌, ◌≤◌, ◌==◌, true, false};
+ghost use Rattle.std.specs.Prelude.{◌≡◌, ℕ, ◌+◌, ◌-◌, ◌<◌, ◌≤◌, ◌==◌, true, false};
 ghost use Rattle.std.specs.Prelude.{Some, length, count_by, slice_index, IfOk, IfErr, OnOk, OnErr};
 ghost use Rattle.half_store.specs.Reach.{home, bucket_after};
+ghost use Rattle.half_store.specs.Buckets.{slots_by, WithinHashes};
 ghost use Rattle.half_store.specs.Capacity.{IsBucketCount};
 ghost use Rattle.half_store.specs.Probe.{looked_more};
-ghost use Rattle.half_store.specs.Slots.{slot_at, stored, distance_from_home, IsVacancyFor, IsFoundAt, SomeVacant, ProbeInvariant};
+ghost use Rattle.half_store.specs.Slots.{slot_at, stored, distance_from_home, IsVacancyFor, EndsAtPair, SomeVacant, ProbeInvariant};
 
 use crate::Tally;
 use crate::buckets::Buckets;
 use crate::counting::{compare, look};
-
-/// Where a probe for a pair ended.
-#[derive(Clone, Copy, Debug, PartialEq, Eq)]
-pub enum Probe {
-    /// At the pair with this entry index, which was accepted.
-    Found(usize),
-    /// None was accepted. The probe ended at this bucket, which is empty.
-    Vacant(usize),
-    /// There are no buckets.
-    NoBuckets,
-}
 
 /// The home bucket of a hash, where each probe for it begins.
 #[inline(always)]
@@ -46,37 +36,35 @@ pub(crate) fn next(bucket: usize, count: usize) -> usize
 
 /// Probes up from the home bucket to a pair that is accepted, or else to the first empty bucket.
 ///
-/// `matches` is called with the entry indices of those pairs alone whose whole hash is equal. Returns the bucket and the entry
-/// index of the pair, or the empty bucket.
+/// `matches` is called with the entry indices of those pairs alone whose whole hash is equal. Returns the entry index of the
+/// pair, or the empty bucket.
 #[inline(always)]
 pub fn search<P: Buckets, F: Fn(usize) -> bool>(
     buckets: &P,
     hash: u64,
     matches: &F,
     tally: &mut Tally,
-) -> Result<(usize, usize), usize>
-    requires whole { P.is_whole buckets.now }
-    requires count { IsBucketCount (length (P.slots buckets.now)) }
-    requires vacant { SomeVacant (P.slots buckets.now) }
-    requires ordered { ProbeInvariant (P.slots buckets.now) }
-    requires callable { (bucket : ℕ) → slot_at (P.slots buckets.now) bucket ≡ Some hash
-        → F.pre matches.now (slice_index (P.entry_of buckets.now) bucket) }
-    ensures found { IfOk result (λ place. IsFoundAt (P.slots buckets.now) hash place.0) }
-    ensures index { IfOk result (λ place. place.1 ≡ slice_index (P.entry_of buckets.now) place.0) }
-    ensures accepted { IfOk result (λ place. F.post matches.now place.1 true) }
-    ensures vacancy { IfErr result (IsVacancyFor (P.slots buckets.now) hash) }
-    ensures refused { OnErr result ((bucket : ℕ) → slot_at (P.slots buckets.now) bucket ≡ Some hash
-        → F.post matches.now (slice_index (P.entry_of buckets.now) bucket) false) }
+) -> Result<usize, usize>
+    requires whole { WithinHashes (P.hashes buckets.now) (P.words buckets.now) }
+    requires count { IsBucketCount (length (P.words buckets.now)) }
+    requires vacant { SomeVacant (slots_by (P.hashes buckets.now) (P.words buckets.now)) }
+    requires ordered { ProbeInvariant (slots_by (P.hashes buckets.now) (P.words buckets.now)) }
+    requires callable { (bucket : ℕ) → slot_at (slots_by (P.hashes buckets.now) (P.words buckets.now)) bucket ≡ Some hash
+        → F.pre matches.now (slice_index (P.words buckets.now) bucket - 1) }
+    ensures found { IfOk result (λ index. EndsAtPair (P.hashes buckets.now) (P.words buckets.now) hash index
+        tally.old.looked tally.new.looked) }
+    ensures accepted { IfOk result (λ index. F.post matches.now index true) }
+    ensures vacancy { IfErr result (IsVacancyFor (slots_by (P.hashes buckets.now) (P.words buckets.now)) hash) }
+    ensures refused { OnErr result ((bucket : ℕ) → slot_at (slots_by (P.hashes buckets.now) (P.words buckets.now)) bucket ≡ Some hash
+        → F.post matches.now (slice_index (P.words buckets.now) bucket - 1) false) }
     ensures asked { tally.new.asked ≡ tally.old.asked }
-    ensures looked_found { IfOk result (λ place. tally.new.looked ≡ tally.old.looked
-        + (distance_from_home (P.slots buckets.now) hash place.0 + 1)) }
     ensures looked_missing { IfErr result (λ bucket. tally.new.looked ≡ tally.old.looked
-        + (distance_from_home (P.slots buckets.now) hash bucket + 1)) }
+        + (distance_from_home (slots_by (P.hashes buckets.now) (P.words buckets.now)) hash bucket + 1)) }
     ensures compared_some { OnOk result (tally.old.compared + 1 ≤ tally.new.compared) }
     ensures compared_most { tally.new.compared ≤ tally.old.compared
-        + count_by (stored (λ held. held == hash)) (P.slots buckets.now) }
+        + count_by (stored (λ held. held == hash)) (slots_by (P.hashes buckets.now) (P.words buckets.now)) }
     ensures compared_all { OnErr result (tally.new.compared ≡ tally.old.compared
-        + count_by (stored (λ held. held == hash)) (P.slots buckets.now)) }
+        + count_by (stored (λ held. held == hash)) (slots_by (P.hashes buckets.now) (P.words buckets.now))) }
 {
     let count = buckets.count();
     let mut bucket = home(hash, count);
@@ -85,7 +73,7 @@ pub fn search<P: Buckets, F: Fn(usize) -> bool>(
             None => return Err(bucket),
             Some((index, held)) => {
                 if held == hash && compare(matches, index, tally) {
-                    return Ok((bucket, index));
+                    return Ok(index);
                 }
             }
         }
@@ -96,11 +84,12 @@ pub fn search<P: Buckets, F: Fn(usize) -> bool>(
 /// Probes up from the home bucket to the first empty bucket.
 #[inline(always)]
 pub fn first_empty<P: Buckets>(buckets: &P, hash: u64, tally: &mut Tally) -> usize
-    requires whole { P.is_whole buckets.now }
-    requires count { IsBucketCount (length (P.slots buckets.now)) }
-    requires vacant { SomeVacant (P.slots buckets.now) }
-    ensures vacancy { IsVacancyFor (P.slots buckets.now) hash result }
-    ensures cost { tally.new ≡ looked_more tally.old (distance_from_home (P.slots buckets.now) hash result + 1) }
+    requires whole { WithinHashes (P.hashes buckets.now) (P.words buckets.now) }
+    requires count { IsBucketCount (length (P.words buckets.now)) }
+    requires vacant { SomeVacant (slots_by (P.hashes buckets.now) (P.words buckets.now)) }
+    ensures vacancy { IsVacancyFor (slots_by (P.hashes buckets.now) (P.words buckets.now)) hash result }
+    ensures cost { tally.new ≡ looked_more tally.old
+        (distance_from_home (slots_by (P.hashes buckets.now) (P.words buckets.now)) hash result + 1) }
 {
     let count = buckets.count();
     let mut bucket = home(hash, count);

@@ -1,4 +1,4 @@
-//! Keeping the pairs that a closure accepts, in the columns and in the index over them.
+//! Keeping the pairs that a closure accepts, in the columns and in the table over them.
 ghost use Rattle.std.specs.Prelude.{◌≡◌, ℕ, ◌≤◌, length, map};
 ghost use Rattle.std.specs.Map.{keys_of};
 ghost use Rattle.std.specs.Map.Calls.{CalledAtPair, TakesPair, CallableOnEachPair, RetainsPairs};
@@ -6,15 +6,10 @@ ghost use Rattle.std.specs.Map.Calls.{CalledAtPair, TakesPair, CallableOnEachPai
 use super::Table;
 use super::rehash::rehash;
 use crate::VecMap;
-use crate::words::FourByteLimit;
 
-impl<L: FourByteLimit> Table<L> {
+impl Table {
     /// Calls `f` at each of these pairs, whose index this is, and keeps those that it accepts, as `VecMap::retain` does. The
     /// buckets stay, and no memory is taken.
-    ///
-    /// ```
-    /// table.retain(&mut ages, |_, age| *age < 40); // one pair is left, and one hash
-    /// ```
     pub fn retain<K: Drop, V: Drop, F: FnMut(&K, &mut V) -> bool>(
         &mut self,
         pairs: &mut VecMap<K, V>,
@@ -25,7 +20,6 @@ impl<L: FourByteLimit> Table<L> {
         ensures kept { RetainsPairs (CalledAtPair F.FnMut) f pairs.old.pairs pairs.new.pairs }
         ensures len { length pairs.new.pairs ≤ length pairs.old.pairs }
         ensures capacity { pairs.new.capacity ≡ pairs.old.capacity }
-        ensures memory { pairs.new.memory ≡ pairs.old.memory }
         ensures hashes { (hash : K → ℕ) → self.old.hashes ≡ map hash (keys_of pairs.old.pairs)
             → self.new.hashes ≡ map hash (keys_of pairs.new.pairs) }
         ensures even { length self.new.hashes ≡ length pairs.new.pairs }

@@ -15,10 +15,6 @@ impl<K, V> VecMap<K, V> {
     }
 
     /// The keys, in order.
-    ///
-    /// ```
-    /// let keys = ages.keys(); // 1 and 2
-    /// ```
     #[inline(always)]
     pub fn keys(&self) -> &[K]
         ensures keys { result.now ≡ keys_of self.now.pairs }
@@ -28,10 +24,6 @@ impl<K, V> VecMap<K, V> {
     }
 
     /// The values, in order.
-    ///
-    /// ```
-    /// let values = ages.values(); // 36 and 41
-    /// ```
     #[inline(always)]
     pub fn values(&self) -> &[V]
         ensures values { result.now ≡ values_of self.now.pairs }
@@ -41,10 +33,6 @@ impl<K, V> VecMap<K, V> {
     }
 
     /// The values, in order, to be written.
-    ///
-    /// ```
-    /// ages.values_mut().reverse(); // 41 and 36
-    /// ```
     #[inline(always)]
     pub fn values_mut(&mut self) -> &mut [V]
         ensures* writes_back { sem 𝓛 (ColumnsLendValues K.row V.row self.entry result) }
@@ -55,10 +43,6 @@ impl<K, V> VecMap<K, V> {
     }
 
     /// The keys and the values, in order, the values to be written.
-    ///
-    /// ```
-    /// ages.columns_mut().1.fill(45); // 45 and 45
-    /// ```
     #[inline(always)]
     pub fn columns_mut(&mut self) -> (&[K], &mut [V])
         ensures* writes_back { sem 𝓛 (ColumnsLendValues K.row V.row self.entry result.1) }
@@ -70,10 +54,6 @@ impl<K, V> VecMap<K, V> {
     }
 
     /// The keys and the values, in order, each in a vector of its own.
-    ///
-    /// ```
-    /// let (keys, values) = ages.into_columns(); // 1 and 2; 45 and 45
-    /// ```
     #[inline(always)]
     pub fn into_columns(self) -> (Vec<K>, Vec<V>)
         ensures keys { result.0.items ≡ keys_of self.pairs }

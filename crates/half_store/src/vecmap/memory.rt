@@ -1,13 +1,12 @@
-//! The capacity of the two columns: making it, and giving it back.
+//! The capacity of the two columns: making it, and giving it back. All memory is had before anything changes.
 ghost use Rattle.std.specs.Prelude.{◌≡◌, ◌^◌, ◌<◌, ◌≤◌, ◌⊎◌, max, min, [], length, IsOk, IfOk, OnOk, OnErr, IfErr};
 ghost use Rattle.std.specs.List.{AllZip};
 ghost use Rattle.half_store.specs.Capacity.{grown_capacity};
-ghost use Rattle.half_store.specs.Pairs.{memory_for, grown_memory, columns_in, IsShrunkMemory, IsPartlyGrown};
 ghost use Rattle.half_store.specs.Refusal.{refusal_of};
 
 use super::VecMap;
 use crate::Refusal;
-use crate::column::{clone_all, reserve_in_all, shrink_column};
+use crate::column::{clone_all, grow, move_to};
 use crate::refusal::check_size;
 use std::alloc::{AllocError, Global};
 
@@ -16,14 +15,9 @@ const FIRST_CAPACITY: usize = 8;
 
 impl<K, V> VecMap<K, V> {
     /// No pairs, with exactly this capacity.
-    ///
-    /// ```
-    /// let mut ages: VecMap<u64, u32> = VecMap::with_capacity(alloc, 2)?;
-    /// ```
     pub fn with_capacity(alloc: Global, capacity: usize) -> Result<VecMap<K, V>, AllocError>
         ensures pairs { IfOk result (λ m. m.pairs ≡ []) }
         ensures capacity { IfOk result (λ m. m.capacity ≡ capacity) }
-        ensures memory { IfOk result (λ m. m.memory ≡ memory_for capacity) }
         ensures needed { capacity ≡ 0 → IsOk result }
     {
         let keys = Vec::with_capacity(alloc, capacity)?;
@@ -37,10 +31,6 @@ impl<K, V> VecMap<K, V> {
     }
 
     /// Clones of the pairs, in order, with exactly this capacity. Both columns get their memory before anything is cloned.
-    ///
-    /// ```
-    /// let copy = ages.clone_with_capacity(5)?; // the same two ages, and capacity 5
-    /// ```
     pub fn clone_with_capacity(&self, capacity: usize) -> Result<VecMap<K, V>, AllocError>
     where
         K: Clone,
@@ -49,7 +39,6 @@ impl<K, V> VecMap<K, V> {
         ensures pairs { IfOk result (λ m. AllZip (λ p q. K.is_clone p.0 q.0 × V.is_clone p.1 q.1)
             self.now.pairs m.pairs) }
         ensures capacity { IfOk result (λ m. m.capacity ≡ capacity) }
-        ensures memory { IfOk result (λ m. m.memory ≡ memory_for capacity) }
     {
         let alloc = *self.keys.allocator();
         let keys = Vec::with_capacity(alloc, capacity)?;
@@ -59,70 +48,66 @@ impl<K, V> VecMap<K, V> {
         Ok(VecMap { keys, values })
     }
 
-    /// How many pairs fit before more memory is needed: the smaller capacity of the two columns.
-    ///
-    /// ```
-    /// let capacity = ages.capacity(); // 2
-    /// ```
+    /// How many pairs fit before more memory is needed.
     #[inline(always)]
     pub fn capacity(&self) -> usize
-        ensures { result ≡ self.now.capacity }
+        ensures value { result ≡ self.now.capacity }
+        ensures fits { length self.now.pairs ≤ result }
     {
-        self.keys.capacity().min(self.values.capacity())
+        self.keys.capacity()
     }
 
     /// Shrinks the capacity to `needed` pairs, or to those that are held. Where memory is refused it stays; down to nothing
     /// it needs no memory.
-    ///
-    /// ```
-    /// ages.shrink_to(3); // capacity 3
-    /// ```
     pub fn shrink_to(&mut self, needed: usize)
         ensures pairs { self.new.pairs ≡ self.old.pairs }
         ensures capacity { (self.new.capacity ≡ min (max needed (length self.old.pairs)) self.old.capacity)
             ⊎ (self.new.capacity ≡ self.old.capacity) }
-        ensures memory { IsShrunkMemory (max needed (length self.old.pairs)) self.old.memory self.new.memory }
         ensures frees { length self.old.pairs ≡ 0 → needed ≡ 0 → self.new.capacity ≡ 0 }
-        ensures frees_both { length self.old.pairs ≡ 0 → needed ≡ 0 → self.new.memory ≡ memory_for 0 }
     {
         let kept = needed.max(self.len());
-        let _ = shrink_column(&mut self.keys, kept);
-        let _ = shrink_column(&mut self.values, kept);
+        if kept < self.capacity() {
+            if let Ok(fresh) = VecMap::with_capacity(self.allocator(), kept) {
+                self.move_to(fresh);
+            }
+        }
     }
 
-    /// Makes the capacity enough for `needed` pairs in all, and no greater where that needs memory.
-    ///
-    /// Both columns get their memory before anything else happens. The column with the smaller capacity grows last, so
-    /// that on error nothing changes but that the other one may have grown.
-    ///
-    /// ```
-    /// ages.reserve(10)?; // capacity 10
-    /// ```
+    /// Makes the capacity enough for `needed` pairs in all, and no greater where that needs memory. On error nothing changes.
     #[inline(never)]
     pub fn reserve(&mut self, needed: usize) -> Result<(), AllocError>
         ensures pairs { self.new.pairs ≡ self.old.pairs }
         ensures ok { OnOk result (self.new.capacity ≡ max self.old.capacity needed) }
-        ensures memory { OnOk result (self.new.memory ≡ grown_memory needed self.old.memory) }
-        ensures err { OnErr result (self.new ≡ columns_in self.old self.new.memory) }
-        ensures partly { OnErr result (IsPartlyGrown needed self.old.memory self.new.memory) }
+        ensures err { OnErr result (self.new ≡ self.old) }
         ensures needed { OnErr result (self.old.capacity < needed) }
     {
-        if self.keys.capacity() <= self.values.capacity() {
-            reserve_in_all(&mut self.values, needed)?;
-            reserve_in_all(&mut self.keys, needed)
-        } else {
-            reserve_in_all(&mut self.keys, needed)?;
-            reserve_in_all(&mut self.values, needed)
+        if self.capacity() < needed {
+            let values = Vec::with_capacity(self.allocator(), needed)?;
+            // The last block, which may grow where it is.
+            if let Err(refused) = grow(&mut self.keys, needed) {
+                values.destroy_empty();
+                return Err(refused);
+            }
+            move_to(&mut self.values, values);
         }
+        Ok(())
+    }
+
+    // Moves the pairs into columns that have room for them. Each column's old memory is freed as soon as it is empty.
+    fn move_to(&mut self, fresh: VecMap<K, V>)
+        requires empty { fresh.pairs ≡ [] }
+        requires fits { length self.old.pairs ≤ fresh.capacity }
+        ensures pairs { self.new.pairs ≡ self.old.pairs }
+        ensures capacity { self.new.capacity ≡ fresh.capacity }
+    {
+        let VecMap { keys, values } = fresh;
+        move_to(&mut self.keys, keys);
+        move_to(&mut self.values, values);
     }
 
     /// Makes the capacity enough for `needed` pairs in all. Where that needs memory it grows to twice what it was, but at
     /// least to eight pairs and what is needed, so that many insertions cost few growths, and never past `limit`. Where it
     /// needs none, nothing changes.
-    ///
-    /// ```
-    /// ages.grow(3, 32)?; // capacity 8: the least that a growth makes
-    /// ```
     #[inline(never)]
     pub fn grow(&mut self, needed: usize, limit: usize) -> Result<(), Refusal>
         requires { needed ≤ limit }
@@ -130,14 +115,10 @@ impl<K, V> VecMap<K, V> {
         ensures ok { OnOk result (needed ≤ self.new.capacity) }
         ensures grown { OnOk result (self.old.capacity < needed
             → self.new.capacity ≡ grown_capacity limit self.old.capacity needed) }
-        ensures memory { OnOk result (self.old.capacity < needed
-            → self.new.memory ≡ grown_memory (grown_capacity limit self.old.capacity needed) self.old.memory) }
         ensures keeps_capacity { self.old.capacity ≤ self.new.capacity }
         ensures within_limit { self.new.capacity ≤ max self.old.capacity limit }
         ensures unneeded { needed ≤ self.old.capacity → self.new ≡ self.old }
-        ensures err { OnErr result (self.new ≡ columns_in self.old self.new.memory) }
-        ensures partly { OnErr result (IsPartlyGrown (grown_capacity limit self.old.capacity needed)
-            self.old.memory self.new.memory) }
+        ensures err { OnErr result (self.new ≡ self.old) }
         ensures needed { OnErr result (self.old.capacity < needed) }
         ensures size { IfErr result (λ why. why ≡ refusal_of needed) }
         ensures within_size { OnOk result (self.old.capacity < needed → needed ≤ 2 ^ 60) }

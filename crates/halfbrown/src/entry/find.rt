@@ -1,26 +1,29 @@
-//! Making the entry of a key.
-ghost use Rattle.std.specs.Prelude.{is_ok};
+//! Making the entry of a key, or of the pair at an index.
+ghost use Rattle.std.specs.Prelude.{◌≡◌, ◌<◌, ◌↔◌, IfSome, IsSome, is_ok, length, slice_get};
 ghost use Rattle.std.specs.Borrow.{sem};
 ghost use Rattle.halfbrown.specs.Costs.{key_hash, InsertCosts};
-ghost use Rattle.halfbrown.specs.Entry.{MakesEntry};
-ghost use Rattle.halfbrown.specs.EntryLending.{RestsIfRefused};
+ghost use Rattle.halfbrown.specs.Entry.{MakesEntry, Occupied, entry_pair, map_of, map_ref, with_value};
+ghost use Rattle.halfbrown.specs.EntryLending.{RestsIfNoEntry, RestsIfRefused};
+ghost use Rattle.halfbrown.specs.Pairs.{set_value};
+ghost use Rattle.halfbrown.specs.State.{with_pairs};
 
 use super::{LimitedEntry, LimitedOccupiedEntry, LimitedVacantEntry};
 use crate::{Limit, LimitedHashMap, RefusedKey};
-use half_store::{Lookup, Tally};
+use half_store::Tally;
 use std::hash::{BuildHasher, Hash};
 
 impl<K: Eq + Hash, V, S: BuildHasher, L: Limit> LimitedHashMap<K, V, S, L> {
-    /// The entry of a key, through which its pair is read, written, removed or added with no further search. Where an equal
-    /// key is held the given one is dropped. A full vector becomes a table first, in both cases.
+    /// Returns the entry of a key, through which its pair is read, written, removed or added without another search.
+    /// Where an equal key is held, the given key is dropped. A full vector becomes a table first, in both cases.
     ///
-    /// Fails only where more capacity is needed: by the switch, and by a new key where none is left. Then nothing changes, and
-    /// the error has the key. No call on the entry fails.
+    /// Fails only where more capacity is needed: for the switch, or for a new key where none is left. Then nothing
+    /// changes, and the error has the key. No call on the entry fails.
     ///
     /// It costs what `insert` costs. No call on the entry hashes a key or compares two.
     ///
     /// ```
-    /// let age = *ages.entry(1)?.or_insert(36); // 36
+    /// *ages.entry(3)?.or_insert(0) = 5;
+    /// assert_eq!(rt; ages.get(&3), Some(&5));
     /// ```
     #[inline(always)]
     pub fn entry(&mut self, key: K) -> Result<LimitedEntry<'_, K, V, S, L>, RefusedKey<K>>
@@ -34,10 +37,6 @@ impl<K: Eq + Hash, V, S: BuildHasher, L: Limit> LimitedHashMap<K, V, S, L> {
 
     /// `entry`, with its work counted: one search, one hash for each pair at a switch, and one insertion probe where a new
     /// key makes the table grow.
-    ///
-    /// ```
-    /// let age = *ages.entry_counted(1, &mut tally)?.or_insert(0); // 36
-    /// ```
     #[inline(always)]
     pub fn entry_counted(
         &mut self,
@@ -52,16 +51,39 @@ impl<K: Eq + Hash, V, S: BuildHasher, L: Limit> LimitedHashMap<K, V, S, L> {
             key (is_ok result) tally.old tally.new }
     {
         match self.prepare(&key, tally) {
-            Ok(Lookup::Found(index)) => Ok(LimitedEntry::Occupied(LimitedOccupiedEntry {
-                map: self,
-                index,
-            })),
-            Ok(Lookup::Missing(vacancy)) => Ok(LimitedEntry::Vacant(LimitedVacantEntry {
+            Ok(Ok(index)) => Ok(LimitedEntry::Occupied(LimitedOccupiedEntry { map: self, index })),
+            Ok(Err(vacancy)) => Ok(LimitedEntry::Vacant(LimitedVacantEntry {
                 map: self,
                 key,
                 vacancy,
             })),
             Err(why) => Err(RefusedKey { key, why }),
+        }
+    }
+    /// Returns the entry of the pair at this index, or none where the index is not below `len`. Nothing is hashed or
+    /// compared, and no memory is needed.
+    ///
+    /// ```
+    /// if let Some(mut entry) = ages.get_index_entry(1) {
+    ///     *entry.get_key_value_mut().1 = 42;
+    /// }
+    /// assert_eq!(rt; ages.get(&2), Some(&42));
+    /// ```
+    #[inline(always)]
+    #[tactic(auto, unfolding(crate::specs::Entry::with_value))]
+    pub fn get_index_entry(&mut self, index: usize) -> Option<LimitedOccupiedEntry<'_, K, V, S, L>>
+        ensures* unchanged { sem 𝓛 (RestsIfNoEntry K.row V.row S.row L.row S.Hasher.row self.entry result) }
+        ensures same_map { IfSome result (λ o. (map_ref (Occupied o)).ghost_name ≡ self.entry.ghost_name) }
+        ensures map { IfSome result (λ o. map_of (Occupied o) ≡ self.old) }
+        ensures pair { IfSome result (λ o. entry_pair (Occupied o) ≡ slice_get self.old.pairs index) }
+        ensures writes { IfSome result (λ o. (value : V)
+            → with_value (Occupied o) value ≡ with_pairs self.old (set_value self.old.pairs index value)) }
+        ensures held { IsSome result ↔ (index < length self.old.pairs) }
+    {
+        if index < self.len() {
+            Some(LimitedOccupiedEntry { map: self, index })
+        } else {
+            None
         }
     }
 }

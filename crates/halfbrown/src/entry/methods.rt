@@ -14,7 +14,7 @@ impl<'a, K: Eq + Hash, V, S: BuildHasher, L: Limit> LimitedEntry<'a, K, V, S, L>
     /// The stored key where it is held, else the key that the entry was made for.
     ///
     /// ```
-    /// let key = *ages.entry(1)?.key(); // 1
+    /// assert_eq!(rt; *ages.entry(1)?.key(), 1);
     /// ```
     #[inline(always)]
     pub fn key(&self) -> &K
@@ -26,11 +26,13 @@ impl<'a, K: Eq + Hash, V, S: BuildHasher, L: Limit> LimitedEntry<'a, K, V, S, L>
         }
     }
 
-    /// Adds the pair with this value where the key is not held. Returns the value that is held now, to be written for as
-    /// long as the map is borrowed. A value that is held already stays, and the given one is dropped. It costs nothing.
+    /// Adds the pair with this value where the key is not held. A value that is already held stays, and the given one
+    /// is dropped. Returns the value that is held now, to be written for as long as the map is borrowed. It costs
+    /// nothing.
     ///
     /// ```
-    /// *ages.entry(2)?.or_insert(0) = 41;
+    /// assert_eq!(rt; *ages.entry(2)?.or_insert(0), 41);
+    /// assert_eq!(rt; *ages.entry(3)?.or_insert(5), 5);
     /// ```
     #[inline(always)]
     pub fn or_insert(self, default: V) -> &'a mut V
@@ -45,10 +47,10 @@ impl<'a, K: Eq + Hash, V, S: BuildHasher, L: Limit> LimitedEntry<'a, K, V, S, L>
         }
     }
 
-    /// `or_insert`, with a value that is made only where the key is not held.
+    /// `or_insert` with a value that is made only where the key is not held.
     ///
     /// ```
-    /// let age = *ages.entry(3)?.or_insert_with(|| 5); // 5
+    /// assert_eq!(rt; *ages.entry(3)?.or_insert_with(|| 5), 5);
     /// ```
     #[inline(always)]
     pub fn or_insert_with<F: FnOnce() -> V>(self, default: F) -> &'a mut V
@@ -62,10 +64,10 @@ impl<'a, K: Eq + Hash, V, S: BuildHasher, L: Limit> LimitedEntry<'a, K, V, S, L>
         }
     }
 
-    /// `or_insert` of the type's default value, which is made only where the key is not held.
+    /// `or_insert` with the type's default value, which is made only where the key is not held.
     ///
     /// ```
-    /// let age = *ages.entry(4)?.or_default(); // 0
+    /// assert_eq!(rt; *ages.entry(3)?.or_default(), 0);
     /// ```
     #[inline(always)]
     pub fn or_default(self) -> &'a mut V
@@ -83,7 +85,8 @@ impl<'a, K: Eq + Hash, V, S: BuildHasher, L: Limit> LimitedEntry<'a, K, V, S, L>
     /// Changes the value where the key is held, and returns the entry. Where it is not held `f` is not called.
     ///
     /// ```
-    /// let age = *ages.entry(4)?.and_modify(|age| *age = 8).or_insert(0); // 8
+    /// ages.entry(1)?.and_modify(|age| *age = 37).or_insert(0);
+    /// assert_eq!(rt; ages.get(&1), Some(&37));
     /// ```
     #[inline(always)]
     pub fn and_modify<F: FnOnce(&mut V)>(self, f: F) -> LimitedEntry<'a, K, V, S, L>

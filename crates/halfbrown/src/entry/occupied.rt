@@ -1,4 +1,8 @@
-//! The calls of an occupied entry, of a key or a raw one.
+//! The calls of an occupied entry, of a key or a raw one. In the examples it is the entry of 1:
+//!
+//! ```
+//! let Entry::Occupied(mut entry) = ages.entry(1)? else { unreachable!() };
+//! ```
 ghost use Rattle.std.specs.Prelude.{◌≡◌, ◌<◌, true, Some, IfSome, length, slice_get};
 ghost use Rattle.std.specs.Borrow.{sem};
 ghost use Rattle.half_store.specs.Pairs.{swap_remove_at};
@@ -16,19 +20,19 @@ impl<'a, K: Eq + Hash, V, S: BuildHasher, L: Limit> LimitedOccupiedEntry<'a, K, 
     /// The stored key.
     ///
     /// ```
-    /// let key = *entry.key(); // 5
+    /// assert_eq!(rt; *entry.key(), 1);
     /// ```
     #[inline(always)]
     pub fn key(&self) -> &K
         ensures { entry_key (Occupied self.now) ≡ Some result.now }
     {
-        self.map.key_at(self.index)
+        self.map.columns().key_at(self.index)
     }
 
     /// The stored key. It cannot be written, since its hash may not change: `insert_key` replaces it by an equal one.
     ///
     /// ```
-    /// let key = *entry.key_mut(); // 5
+    /// assert_eq!(rt; *entry.key_mut(), 1);
     /// ```
     #[inline(always)]
     pub fn key_mut(&mut self) -> &K
@@ -41,7 +45,7 @@ impl<'a, K: Eq + Hash, V, S: BuildHasher, L: Limit> LimitedOccupiedEntry<'a, K, 
     /// The stored key, for as long as the map is borrowed.
     ///
     /// ```
-    /// let key = *entry.into_key(); // 5
+    /// assert_eq!(rt; *entry.into_key(), 1);
     /// ```
     #[inline(always)]
     pub fn into_key(self) -> &'a K
@@ -53,7 +57,7 @@ impl<'a, K: Eq + Hash, V, S: BuildHasher, L: Limit> LimitedOccupiedEntry<'a, K, 
     /// The index of its pair in the order of the pairs.
     ///
     /// ```
-    /// let index = entry.index(); // 1
+    /// assert_eq!(rt; entry.index(), 0);
     /// ```
     #[inline(always)]
     pub fn index(&self) -> usize
@@ -68,19 +72,20 @@ impl<'a, K: Eq + Hash, V, S: BuildHasher, L: Limit> LimitedOccupiedEntry<'a, K, 
     /// Its value.
     ///
     /// ```
-    /// let age = *entry.get(); // 13
+    /// assert_eq!(rt; *entry.get(), 36);
     /// ```
     #[inline(always)]
     pub fn get(&self) -> &V
         ensures { entry_value (Occupied self.now) ≡ Some result.now }
     {
-        self.map.value_at(self.index)
+        self.map.columns().value_at(self.index)
     }
 
     /// Its value, to be written.
     ///
     /// ```
-    /// *entry.get_mut() = 14;
+    /// *entry.get_mut() = 37;
+    /// assert_eq!(rt; *entry.get(), 37);
     /// ```
     #[inline(always)]
     pub fn get_mut(&mut self) -> &mut V
@@ -95,10 +100,11 @@ impl<'a, K: Eq + Hash, V, S: BuildHasher, L: Limit> LimitedOccupiedEntry<'a, K, 
     /// Its value, to be written for as long as the map is borrowed.
     ///
     /// ```
-    /// *entry.into_mut() = 16;
+    /// *entry.into_mut() = 37;
+    /// assert_eq!(rt; ages.get(&1), Some(&37));
     /// ```
     #[inline(always)]
-    #[tactic(auto, using(crate::proofs::Entries::occupied_writes))]
+    #[tactic(auto, using(crate::proofs::lemmas::entry::Methods::occupied_writes))]
     pub fn into_mut(self) -> &'a mut V
         ensures* writes_back { sem 𝓛 (EntryLends K.row V.row S.row L.row S.Hasher.row (Occupied self.entry) result) }
         ensures value { entry_value (Occupied self.entry) ≡ Some result.now }
@@ -110,19 +116,21 @@ impl<'a, K: Eq + Hash, V, S: BuildHasher, L: Limit> LimitedOccupiedEntry<'a, K, 
     /// The stored key and its value.
     ///
     /// ```
-    /// let pair = entry.get_key_value(); // 5 and 14
+    /// assert_eq!(rt; entry.get_key_value(), (&1, &36));
     /// ```
     #[inline(always)]
     pub fn get_key_value(&self) -> (&K, &V)
         ensures { entry_pair (Occupied self.now) ≡ Some (result.0.now, result.1.now) }
     {
-        self.map.pair_at(self.index)
+        self.map.columns().pair_at(self.index)
     }
 
     /// The stored key, and its value to be written.
     ///
     /// ```
-    /// *entry.get_key_value_mut().1 = 15;
+    /// let (_, age) = entry.get_key_value_mut();
+    /// *age = 37;
+    /// assert_eq!(rt; *entry.get(), 37);
     /// ```
     #[inline(always)]
     pub fn get_key_value_mut(&mut self) -> (&K, &mut V)
@@ -137,7 +145,9 @@ impl<'a, K: Eq + Hash, V, S: BuildHasher, L: Limit> LimitedOccupiedEntry<'a, K, 
     /// The stored key, and its value to be written, for as long as the map is borrowed.
     ///
     /// ```
-    /// *entry.into_key_value().1 = 17;
+    /// let (_, age) = entry.into_key_value();
+    /// *age = 37;
+    /// assert_eq!(rt; ages.get(&1), Some(&37));
     /// ```
     #[inline(always)]
     pub fn into_key_value(self) -> (&'a K, &'a mut V)
@@ -150,7 +160,8 @@ impl<'a, K: Eq + Hash, V, S: BuildHasher, L: Limit> LimitedOccupiedEntry<'a, K, 
     /// Replaces its value, and returns the old one. The stored key stays.
     ///
     /// ```
-    /// let before = entry.insert(15); // 14
+    /// assert_eq!(rt; entry.insert(37), 36);
+    /// assert_eq!(rt; *entry.get(), 37);
     /// ```
     #[inline(always)]
     pub fn insert(&mut self, value: V) -> V
@@ -164,10 +175,10 @@ impl<'a, K: Eq + Hash, V, S: BuildHasher, L: Limit> LimitedOccupiedEntry<'a, K, 
         old
     }
 
-    /// Replaces the stored key by an equal one, and returns it. The value stays.
+    /// Replaces the stored key by an equal one, and returns the old one. The value stays.
     ///
     /// ```
-    /// let before = entry.insert_key(5); // 5
+    /// assert_eq!(rt; entry.insert_key(1), 1);
     /// ```
     #[inline(always)]
     pub fn insert_key(&mut self, key: K) -> K
@@ -185,7 +196,8 @@ impl<'a, K: Eq + Hash, V, S: BuildHasher, L: Limit> LimitedOccupiedEntry<'a, K, 
     /// Removes the pair, and returns its value. The last pair takes its index. No bucket is probed.
     ///
     /// ```
-    /// let age = entry.remove(); // 16
+    /// assert_eq!(rt; entry.remove(), 36);
+    /// assert!(rt; !ages.contains_key(&1));
     /// ```
     #[inline]
     pub fn remove(self) -> V
@@ -202,7 +214,8 @@ impl<'a, K: Eq + Hash, V, S: BuildHasher, L: Limit> LimitedOccupiedEntry<'a, K, 
     /// Removes the pair, and returns the stored key and the value. The last pair takes its index. No bucket is probed.
     ///
     /// ```
-    /// let pair = entry.remove_entry(); // 4 and 8
+    /// assert_eq!(rt; entry.remove_entry(), (1, 36));
+    /// assert!(rt; !ages.contains_key(&1));
     /// ```
     #[inline]
     pub fn remove_entry(self) -> (K, V)

@@ -11,15 +11,18 @@ use half_store::Tally;
 use std::hash::{BuildHasher, Hash};
 
 impl<'a, K: Eq + Hash, V, S: BuildHasher, L: Limit> LimitedOccupiedEntry<'a, K, V, S, L> {
-    /// Hands the stored key and its value to `f`, and the key gets the value that `f` returns: in a vector its pair goes
-    /// last, and the last pair takes its index; in a table it keeps its index.
+    /// Passes the stored key and its value to `f`, and stores the value that `f` returns. In a vector the pair then
+    /// goes last, and the last pair takes its index. In a table it keeps its index.
     ///
-    /// Where `f` returns none the pair is removed, and the last pair takes its index. The entry is vacant then and has the
-    /// stored key, and an insertion through it needs no more capacity. In a table that costs one insertion probe, since a
-    /// removal moves the empty buckets.
+    /// Where `f` returns `None` the pair is removed, and the last pair takes its index. The entry that is returned is
+    /// vacant and has the stored key, and an insertion through it needs no more capacity. In a table that costs one
+    /// insertion probe, since a removal moves the empty buckets.
     ///
     /// ```
-    /// let left = entry.replace_entry_with(|_, age| age.checked_sub(21)); // 0
+    /// if let Entry::Occupied(entry) = ages.entry(1)? {
+    ///     entry.replace_entry_with(|_, age| age.checked_sub(6));
+    /// }
+    /// assert_eq!(rt; ages.get(&1), Some(&30));
     /// ```
     #[inline]
     pub fn replace_entry_with<F: FnOnce(&K, V) -> Option<V>>(
@@ -34,10 +37,6 @@ impl<'a, K: Eq + Hash, V, S: BuildHasher, L: Limit> LimitedOccupiedEntry<'a, K, 
     }
 
     /// `replace_entry_with`, with its work counted: one insertion probe where the pair is removed from a table.
-    ///
-    /// ```
-    /// let left = entry.replace_entry_with_counted(|_, age| age.checked_sub(1), &mut tally); // vacant
-    /// ```
     #[inline]
     pub fn replace_entry_with_counted<F: FnOnce(&K, V) -> Option<V>>(
         self,

@@ -1,4 +1,8 @@
-//! The calls of a vacant entry.
+//! The calls of a vacant entry. In the examples it is the entry of 3:
+//!
+//! ```
+//! let Entry::Vacant(entry) = ages.entry(3)? else { unreachable!() };
+//! ```
 ghost use Rattle.std.specs.Prelude.{◌≡◌, Some};
 ghost use Rattle.std.specs.Borrow.{sem};
 ghost use Rattle.halfbrown.specs.Entry.{Vacant, entry_key, map_of};
@@ -12,7 +16,7 @@ impl<'a, K: Eq + Hash, V, S: BuildHasher, L: Limit> LimitedVacantEntry<'a, K, V,
     /// The key that the entry was made for.
     ///
     /// ```
-    /// let key = *entry.key(); // 6
+    /// assert_eq!(rt; *entry.key(), 3);
     /// ```
     #[inline(always)]
     pub fn key(&self) -> &K
@@ -24,7 +28,8 @@ impl<'a, K: Eq + Hash, V, S: BuildHasher, L: Limit> LimitedVacantEntry<'a, K, V,
     /// The key that the entry was made for. The map stays as it is.
     ///
     /// ```
-    /// let key = entry.into_key(); // 6
+    /// assert_eq!(rt; entry.into_key(), 3);
+    /// assert!(rt; !ages.contains_key(&3));
     /// ```
     #[inline(always)]
     pub fn into_key(self) -> K
@@ -34,11 +39,12 @@ impl<'a, K: Eq + Hash, V, S: BuildHasher, L: Limit> LimitedVacantEntry<'a, K, V,
         self.key
     }
 
-    /// Adds the pair at the end, and returns the value, to be written for as long as the map is borrowed. It needs no more
-    /// capacity, and in a table it takes the bucket where the search for the key ended: nothing is probed.
+    /// Adds the pair at the end, and returns its value, to be written for as long as the map is borrowed. It needs no
+    /// more capacity and probes nothing: in a table the pair goes into the bucket where the search for the key ended.
     ///
     /// ```
-    /// *entry.insert(0) = 21;
+    /// *entry.insert(0) = 5;
+    /// assert_eq!(rt; ages.get(&3), Some(&5));
     /// ```
     #[inline(always)]
     pub fn insert(self, value: V) -> &'a mut V

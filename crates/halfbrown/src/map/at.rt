@@ -8,36 +8,19 @@ ghost use Rattle.halfbrown.specs.Updates.{HasKeyReplaced};
 
 use super::LimitedHashMap;
 use crate::Limit;
+use half_store::VecMap;
 use std::hash::{BuildHasher, Hash};
 
 impl<K: Eq + Hash, V, S: BuildHasher, L: Limit> LimitedHashMap<K, V, S, L> {
     ghost use Rattle.halfbrown.specs.Lending.{LendsValueAt};
 
-    /// The stored key of the pair at this index.
+    /// The keys and the values, by index.
     #[inline(always)]
-    pub(crate) fn key_at(&self, index: usize) -> &K
-        requires { index < length self.now.pairs }
-        ensures { slice_get (keys_of self.now.pairs) index ≡ Some result.now }
+    pub(crate) fn columns(&self) -> &VecMap<K, V>
+        ensures pairs { result.now.pairs ≡ self.now.pairs }
+        ensures state { IsState K.eq L.LIMIT self.now }
     {
-        self.store.key_at(index)
-    }
-
-    /// The value of the pair at this index.
-    #[inline(always)]
-    pub(crate) fn value_at(&self, index: usize) -> &V
-        requires { index < length self.now.pairs }
-        ensures { slice_get (values_of self.now.pairs) index ≡ Some result.now }
-    {
-        self.store.value_at(index)
-    }
-
-    /// The stored key of the pair at this index, and its value.
-    #[inline(always)]
-    pub(crate) fn pair_at(&self, index: usize) -> (&K, &V)
-        requires { index < length self.now.pairs }
-        ensures { slice_get self.now.pairs index ≡ Some (result.0.now, result.1.now) }
-    {
-        self.store.pair_at(index)
+        self.store.columns()
     }
 
     /// The stored key of the pair at this index, and its value, to be written.

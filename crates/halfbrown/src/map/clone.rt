@@ -13,15 +13,16 @@ use std::marker::PhantomData;
 impl<K: Eq + Hash, V, S: BuildHasher, L: Limit> LimitedHashMap<K, V, S, L> {
     /// A map of the same form, with clones of the pairs in the same order and a clone of the builder.
     ///
-    /// A table's clone has the same capacity, and the same hashes stored: nothing is hashed or compared. A vector's clone
-    /// has no capacity to spare.
+    /// A clone of a table has the same capacity and the same stored hashes, and nothing is hashed or compared. A clone
+    /// of a vector has no capacity to spare.
     ///
-    /// A clone of a key must equal the key, and a clone of the builder must hash as the builder does. Fails with `Memory`
-    /// alone: where memory is refused here, or to a clone of a key, of a value or of the builder.
+    /// A clone of a key must equal the key, and a clone of the builder must hash as the builder does. Fails only with
+    /// `Memory`: where memory is refused here, or to a clone of a key, of a value or of the builder.
     ///
     /// ```
     /// let mut copy = ages.clone()?;
-    /// copy.insert(1, 37)?; // in `ages` 1 keeps its age
+    /// copy.insert(1, 37)?;
+    /// assert_eq!(rt; ages.get(&1), Some(&36));
     /// ```
     pub fn clone(&self) -> Result<Self, Refusal>
     where
@@ -36,7 +37,8 @@ impl<K: Eq + Hash, V, S: BuildHasher, L: Limit> LimitedHashMap<K, V, S, L> {
             → m.pairs ≡ self.now.pairs) }
         ensures capacity { IfOk result (λ m. m.capacity
             ≡ (if self.now.is_vec then length self.now.pairs else self.now.capacity)) }
-        ensures hasher { IfOk result (λ m. S.is_clone self.now.builder m.builder) }
+        ensures columns { IfOk result (λ m. m.columns ≡ m.capacity) }
+        ensures builder { IfOk result (λ m. S.is_clone self.now.builder m.builder) }
         ensures refused { IfErr result (λ why. why ≡ Refusal.Memory) }
         ensures state { IfOk result (IsState K.eq L.LIMIT) }
     {

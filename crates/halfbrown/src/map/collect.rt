@@ -18,15 +18,18 @@ impl<K: Eq + Hash + Drop, V: Drop, S: BuildHasher + Default + Drop, L: Limit> Li
     S,
     L,
 > {
-    /// A map of these items, with the builder type's own default.
+    /// A map of these items, with the default of the builder's type.
     ///
-    /// It is made with capacity for as many pairs as the items' lower size hint says, and is a table where that is more than
-    /// the limit. Then each item is inserted, in order: of equal keys the first stays, with the last value.
+    /// It is made with capacity for the items' lower size hint, so it is a table where that is more than the limit.
+    /// Then each item is inserted, in order: of equal keys the first stays, with the last value.
     ///
-    /// The items must end. Fails as `with_capacity` and `insert` do, and then drops what was collected and the rest.
+    /// The items must end. Fails as `with_capacity` and `insert` do, and then drops what was collected and the
+    /// remaining items.
     ///
     /// ```
-    /// let ages = Ages::from_iter(alloc, [(1, 36), (2, 41), (1, 37)])?; // 1 is 37, and then 2 is 41
+    /// let ages = HashMap::<u64, u32>::from_iter(alloc, [(1, 36), (2, 41), (1, 37)])?;
+    /// assert_eq!(rt; ages.len(), 2);
+    /// assert_eq!(rt; ages.first(), Some((&1, &37)));
     /// ```
     pub fn from_iter<I: IntoIterator<Item = (K, V)>>(
         alloc: Global,
@@ -50,11 +53,6 @@ impl<K: Eq + Hash + Drop, V: Drop, S: BuildHasher + Default + Drop, L: Limit> Li
     }
 
     /// `from_iter`, with its work counted: that of the insertions.
-    ///
-    /// ```
-    /// let mut tally = Tally::new();
-    /// let ages = Ages::from_iter_counted(alloc, [(1, 36), (2, 41)], &mut tally)?; // one comparison
-    /// ```
     pub fn from_iter_counted<I: IntoIterator<Item = (K, V)>>(
         alloc: Global,
         items: I,
@@ -80,10 +78,11 @@ impl<K: Eq + Hash + Drop, V: Drop, S: BuildHasher + Default + Drop, L: Limit> Li
         LimitedHashMap::collect(alloc, hint, items, tally)
     }
 
-    /// A map of these pairs, with the builder type's own default: `from_iter` of the array, which `hashmap!` calls.
+    /// A map of these pairs, with the default of the builder's type: `from_iter` of an array. `hashmap!` calls it.
     ///
     /// ```
-    /// let ages = Ages::from_array(alloc, [(1, 36), (2, 41)])?; // two ages
+    /// let ages = HashMap::<u64, u32>::from_array(alloc, [(1, 36), (2, 41)])?;
+    /// assert_eq!(rt; ages.len(), 2);
     /// ```
     pub fn from_array<const N: usize>(alloc: Global, pairs: [(K, V); N]) -> Result<Self, Refusal>
         ensures collected { IfOk result (λ m. (cost : Cost)
@@ -174,6 +173,13 @@ impl<K: Eq + Hash + Drop, V: Drop, S: BuildHasher, L: Limit> Extend<(K, V)>
     ghost extend_gives = { λ old items new. (cost : Cost)
         × InsertsAll L.LIMIT K.eq (key_hash S.BuildHasher S.Hasher.Hasher K.hash_input) old items new cost };
 
+    /// Inserts each item, in order. The items must end. On error the items before the refused one stay.
+    ///
+    /// ```
+    /// ages.extend([(2, 42), (3, 5)])?;
+    /// assert_eq!(rt; ages.len(), 3);
+    /// assert_eq!(rt; ages.get(&2), Some(&42));
+    /// ```
     fn extend<I: IntoIterator<Item = (K, V)>>(&mut self, items: I) -> Result<(), AllocError> {
         match self.insert_all(items.into_iter(), &mut Tally::new()) {
             Ok(()) => Ok(()),

@@ -9,12 +9,13 @@ impl<K: Eq + Hash + Debug, V: Debug, S: BuildHasher, L: Limit> Debug
     /// Prints the pairs in order, as std prints a map.
     ///
     /// ```
-    /// let text = format!(in alloc; "{ages:?}")?; // {1: 36, 2: 41}
+    /// let text = format!(in alloc; "{ages:?}")?;
+    /// assert_eq!(rt; text.as_str(), "{1: 36, 2: 41}");
     /// ```
     fn fmt<W: Write>(&self, f: &mut Formatter<W>) -> Result {
         let mut out = f.debug_map();
         for index in 0..self.len() {
-            let (key, value) = self.pair_at(index);
+            let (key, value) = self.columns().pair_at(index);
             out.entry(key, value);
         }
         out.finish()

@@ -1,7 +1,7 @@
 //! Whether two maps hold the same pairs, in any order and whatever their forms.
 ghost use Rattle.std.specs.Prelude.{◌≡◌};
 ghost use Rattle.std.specs.List.{list_all};
-ghost use Rattle.halfbrown.specs.Costs.{key_hash, SearchCosts, SearchesCost};
+ghost use Rattle.halfbrown.specs.Costs.{key_hash, KeySearchCosts, SearchesCost};
 ghost use Rattle.halfbrown.specs.Equality.{same_pairs, holds_pair, keys_while_same, searched_keys};
 ghost use Rattle.halfbrown.specs.EqualityLaws.{same_maps_per, same_maps_equiv};
 
@@ -11,14 +11,16 @@ use half_store::Tally;
 use std::hash::{BuildHasher, Hash};
 
 impl<K: Eq + Hash, V: PartialEq, S: BuildHasher, L: Limit> LimitedHashMap<K, V, S, L> {
-    /// Returns whether both maps hold equal keys with equal values, in any order. The other map may have another limit and
-    /// another builder, and be in another form.
+    /// Returns whether both maps hold equal keys with equal values, in any order. The other map may have another limit,
+    /// another builder and another form.
     ///
-    /// Where the lengths differ it costs nothing, and else at most one search in the other map for each pair of this one. What
-    /// follows of the answer is in `laws::equality`.
+    /// Where the lengths differ it costs nothing. Else it costs at most one search in the other map for each pair of
+    /// this one. `laws::equality` says what follows from the answer.
     ///
     /// ```
-    /// let same = ages.same_pairs(&theirs); // true: the same ages, in a table
+    /// let theirs = SizedHashMap::<u64, u32, DefaultHashBuilder, 0>::from_array(alloc, [(2, 41), (1, 36)])?;
+    /// assert!(rt; theirs.is_map());
+    /// assert!(rt; ages.same_pairs(&theirs));
     /// ```
     #[inline]
     pub fn same_pairs<S2: BuildHasher, M: Limit>(&self, other: &LimitedHashMap<K, V, S2, M>) -> bool
@@ -27,13 +29,9 @@ impl<K: Eq + Hash, V: PartialEq, S: BuildHasher, L: Limit> LimitedHashMap<K, V, 
         self.same_pairs_counted(other, &mut Tally::new())
     }
 
-    /// `same_pairs`, with its work counted: no search where the lengths differ, else one in the other map for each pair of
-    /// this one, in order, up to and with the first that is not held there. Values are compared too, which is not counted.
-    /// What this is at most, and in a vector, is in `laws::cost_of_equality`.
-    ///
-    /// ```
-    /// let same = ages.same_pairs_counted(&theirs, &mut tally); // true, after two searches in a table
-    /// ```
+    /// `same_pairs`, with its work counted: nothing where the lengths differ, else one search in the other map for each
+    /// pair of this one, in order, up to the first that is not held there. Comparisons of values are not counted.
+    /// `laws::cost_of_equality` has bounds.
     pub fn same_pairs_counted<S2: BuildHasher, M: Limit>(
         &self,
         other: &LimitedHashMap<K, V, S2, M>,
@@ -61,7 +59,7 @@ impl<K: Eq + Hash, V: PartialEq, S: BuildHasher, L: Limit> LimitedHashMap<K, V, 
             (keys_while_same K.eq V.eq self.now.pairs other.now.pairs) tally.old tally.new }
     {
         for index in 0..self.len() {
-            let (key, value) = self.pair_at(index);
+            let (key, value) = self.columns().pair_at(index);
             if !other.holds_pair(key, value, tally) {
                 return false;
             }
@@ -73,7 +71,7 @@ impl<K: Eq + Hash, V: PartialEq, S: BuildHasher, L: Limit> LimitedHashMap<K, V, 
     #[inline(always)]
     fn holds_pair(&self, key: &K, value: &V, tally: &mut Tally) -> bool
         ensures held { result ≡ holds_pair K.eq V.eq self.now.pairs (key.now, value.now) }
-        ensures cost { SearchCosts K.eq (key_hash S.BuildHasher S.Hasher.Hasher K.hash_input) self.now key.now
+        ensures cost { KeySearchCosts K.eq (key_hash S.BuildHasher S.Hasher.Hasher K.hash_input) self.now key.now
             tally.old tally.new }
     {
         match self.get_counted(key, tally) {
@@ -92,7 +90,8 @@ impl<K: Eq + Hash, V: PartialEq, S: BuildHasher, L: Limit> PartialEq
     /// Returns whether both maps hold equal keys with equal values, in any order, as `same_pairs` does.
     ///
     /// ```
-    /// let same = ages == again; // true
+    /// let others = HashMap::from_array(alloc, [(2, 41), (1, 36)])?;
+    /// assert!(rt; ages == others);
     /// ```
     #[inline]
     fn eq(&self, other: &Self) -> bool {

@@ -3,28 +3,28 @@ ghost use Rattle.std.specs.Prelude.{◌≡◌, ◌<◌, ℕ, Some, false, slice_
 ghost use Rattle.std.specs.Borrow.{Bor};
 ghost use Rattle.std.specs.Fn.{FnReturnsAt};
 ghost use Rattle.std.specs.Map.{keys_of};
-ghost use Rattle.half_store.specs.Search.{found_index};
-ghost use Rattle.halfbrown.specs.Costs.{key_hash, CostsSearch, CostsHashedSearch};
+ghost use Rattle.std.specs.Result.{result_ok};
+ghost use Rattle.halfbrown.specs.Costs.{key_hash, SearchCosts, CostsSearch, CostsHashedSearch};
 ghost use Rattle.halfbrown.specs.Lookup.{LooksUp};
-ghost use Rattle.halfbrown.specs.Match.{Matches, MatchCosts};
+ghost use Rattle.halfbrown.specs.Match.{Matches};
 ghost use Rattle.halfbrown.specs.State.{IsState};
 
 use super::LimitedHashMap;
 use crate::{Equivalent, Limit};
-use half_store::{Lookup, Tally};
+use half_store::{Tally, Vacancy};
 use std::hash::{BuildHasher, Hash};
 
 impl<K: Eq + Hash, V, S: BuildHasher, L: Limit> LimitedHashMap<K, V, S, L> {
     /// Searches for a key: in a vector by `==` alone, in a table among the keys of its hash.
     #[inline(always)]
-    pub(crate) fn find<Q: Equivalent<K>>(&self, key: Q, tally: &mut Tally) -> Lookup
+    pub(crate) fn find<Q: Equivalent<K>>(&self, key: Q, tally: &mut Tally) -> Result<usize, Vacancy>
         ensures found { LooksUp (Q.equivalent key)
             (key_hash S.BuildHasher S.Hasher.Hasher Q.hash_input self.now.builder key) self.now result }
         ensures cost { CostsSearch S.BuildHasher S.Hasher.Hasher K.hash_input Q.hash_input Q.equivalent key
             self.now tally.old tally.new }
         ensures state { IsState K.eq L.LIMIT self.now }
     {
-        let hash = self.hash_to_store(&key, tally);
+        let hash = self.hash_in_table(&key, tally);
         self.find_hashed(hash, key, tally)
     }
 
@@ -35,7 +35,7 @@ impl<K: Eq + Hash, V, S: BuildHasher, L: Limit> LimitedHashMap<K, V, S, L> {
         hash: u64,
         key: Q,
         tally: &mut Tally,
-    ) -> Lookup
+    ) -> Result<usize, Vacancy>
         requires { self.now.is_vec ≡ false
             → hash ≡ key_hash S.BuildHasher S.Hasher.Hasher Q.hash_input self.now.builder key }
         ensures found { LooksUp (Q.equivalent key)
@@ -57,13 +57,13 @@ impl<K: Eq + Hash, V, S: BuildHasher, L: Limit> LimitedHashMap<K, V, S, L> {
         hash: u64,
         matches: &F,
         tally: &mut Tally,
-    ) -> Lookup
+    ) -> Result<usize, Vacancy>
         requires { (key : Bor K) (index : ℕ) → slice_get (keys_of self.now.pairs) index ≡ Some key.now
             → F.pre matches.now key }
         ensures found { Matches (FnReturnsAt F.Fn matches.now)
             (key_hash S.BuildHasher S.Hasher.Hasher K.hash_input) hash self.now result }
-        ensures cost { MatchCosts (key_hash S.BuildHasher S.Hasher.Hasher K.hash_input) hash self.now
-            (found_index result) tally.old tally.new }
+        ensures cost { SearchCosts (key_hash S.BuildHasher S.Hasher.Hasher K.hash_input) hash self.now
+            (result_ok result) 0 tally.old tally.new }
         ensures state { IsState K.eq L.LIMIT self.now }
     {
         self.store.find(hash, matches, tally)

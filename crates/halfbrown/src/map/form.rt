@@ -1,12 +1,12 @@
-//! The form of a map: a vector or a table. It is asked for here alone: where a full vector becomes a table, where a key is hashed,
-//! which a vector does not do, and where a pair goes whose value was replaced.
-ghost use Rattle.std.specs.Prelude.{◌≡◌, ◌+◌, ◌≤◌, ◌<◌, ◌^◌, ◌↔◌, true, false, [], length, map, IsTrue};
+//! The form of a map, a vector or a table, and what depends on it: the switch of a full vector, the hash of a key, and
+//! where a pair goes whose value was replaced. Nothing else asks for the form.
+ghost use Rattle.std.specs.Prelude.{◌≡◌, ◌+◌, ◌≤◌, ◌<◌, ◌^◌, ◌↔◌, true, false, [], length, map, max, IsTrue};
 ghost use Rattle.std.specs.Prelude.{OnOk, OnErr, IfErr, is_ok, if◌then◌else◌};
 ghost use Rattle.half_store.specs.Capacity.{capacity_for, capacity_of};
 ghost use Rattle.half_store.specs.Refusal.{refusal_of};
 ghost use Rattle.half_store.specs.Work.{asked_more};
 ghost use Rattle.halfbrown.specs.Costs.{key_hash, search_asked, switch_asked, capacity_switched};
-ghost use Rattle.halfbrown.specs.Growth.{is_full, is_vec_after, IsRefusal, IsGrantable, HasCapacityAfter, switch_needs};
+ghost use Rattle.halfbrown.specs.Growth.{is_full, is_vec_after, IsRefusal, IsGrantable, HasCapacityAfter, HasColumnsAfter, switch_needs};
 ghost use Rattle.halfbrown.specs.Replacement.{MovesLast};
 ghost use Rattle.halfbrown.specs.State.{IsState};
 
@@ -19,7 +19,7 @@ impl<K: Eq + Hash, V, S: BuildHasher, L: Limit> LimitedHashMap<K, V, S, L> {
     /// Whether the form is the vector.
     ///
     /// ```
-    /// let is_vector = ages.is_vec(); // true: two pairs, and the limit is 32
+    /// assert!(rt; ages.is_vec()); // two pairs, and the limit is 32
     /// ```
     #[inline(always)]
     pub fn is_vec(&self) -> bool
@@ -32,7 +32,7 @@ impl<K: Eq + Hash, V, S: BuildHasher, L: Limit> LimitedHashMap<K, V, S, L> {
     /// Whether the form is the table.
     ///
     /// ```
-    /// let is_table = ages.is_map(); // false
+    /// assert!(rt; !ages.is_map());
     /// ```
     #[inline(always)]
     pub fn is_map(&self) -> bool
@@ -45,9 +45,10 @@ impl<K: Eq + Hash, V, S: BuildHasher, L: Limit> LimitedHashMap<K, V, S, L> {
     #[inline(always)]
     pub(crate) fn switch_if_full(&mut self, tally: &mut Tally) -> Result<(), Refusal>
         ensures pairs { self.new.pairs ≡ self.old.pairs }
-        ensures hasher { self.new.builder ≡ self.old.builder }
+        ensures builder { self.new.builder ≡ self.old.builder }
         ensures form { OnOk result (self.new.is_vec ≡ is_vec_after L.LIMIT self.old) }
         ensures capacity { OnOk result (HasCapacityAfter L.LIMIT self.old (switch_needs L.LIMIT self.old) self.new) }
+        ensures columns { OnOk result (HasColumnsAfter self.old (switch_needs L.LIMIT self.old) self.new) }
         ensures switched { OnOk result (self.new.capacity ≡ capacity_switched L.LIMIT self.old) }
         ensures same { is_full L.LIMIT self.old ≡ false → self.new ≡ self.old }
         ensures not_full { OnOk result (is_full L.LIMIT self.new ≡ false) }
@@ -60,7 +61,7 @@ impl<K: Eq + Hash, V, S: BuildHasher, L: Limit> LimitedHashMap<K, V, S, L> {
             else tally.old) }
         ensures state { IsState K.eq L.LIMIT self.new }
     {
-        if !self.store.is_vec() || self.store.len() < L::LIMIT {
+        if !self.store.is_vec() || self.columns().len() < L::LIMIT {
             return Ok(());
         }
         self.switch(tally)
@@ -71,9 +72,10 @@ impl<K: Eq + Hash, V, S: BuildHasher, L: Limit> LimitedHashMap<K, V, S, L> {
     fn switch(&mut self, tally: &mut Tally) -> Result<(), Refusal>
         requires { is_full L.LIMIT self.old ≡ true }
         ensures pairs { self.new.pairs ≡ self.old.pairs }
-        ensures hasher { self.new.builder ≡ self.old.builder }
+        ensures builder { self.new.builder ≡ self.old.builder }
         ensures form { OnOk result (self.new.is_vec ≡ false) }
         ensures capacity { OnOk result (self.new.capacity ≡ capacity_for (L.LIMIT + 1)) }
+        ensures columns { OnOk result (self.new.columns ≡ max self.old.columns self.new.capacity) }
         ensures capacity_left { OnOk result (length self.new.pairs < self.new.capacity) }
         ensures err { OnErr result (self.new ≡ self.old) }
         ensures refused { IfErr result (λ why. why ≡ refusal_of (L.LIMIT + 1)) }
@@ -82,15 +84,15 @@ impl<K: Eq + Hash, V, S: BuildHasher, L: Limit> LimitedHashMap<K, V, S, L> {
         ensures state { IsState K.eq L.LIMIT self.new }
     {
         let needed = L::LIMIT.saturating_add(1);
-        let mut index = self.store.new_index(needed)?;
-        store_hashes(&self.builder, self.store.keys(), &mut index, tally);
-        self.store.switch_to(index);
+        let mut table = self.store.new_table(needed)?;
+        store_hashes(&self.builder, self.columns().keys(), &mut table, tally);
+        self.store.switch_to(table);
         Ok(())
     }
 
     /// The hash of a key in a table. In a vector nothing is hashed, and it is 0.
     #[inline(always)]
-    pub(crate) fn hash_to_store<Q: Hash>(&self, key: &Q, tally: &mut Tally) -> u64
+    pub(crate) fn hash_in_table<Q: Hash>(&self, key: &Q, tally: &mut Tally) -> u64
         ensures hash { self.now.is_vec ≡ false
             → result ≡ key_hash S.BuildHasher S.Hasher.Hasher Q.hash_input self.now.builder key.now }
         ensures work { tally.new ≡ asked_more (search_asked self.now.is_vec) tally.old }

@@ -10,7 +10,7 @@ ghost use Rattle.halfbrown.specs.State.{IsState};
 
 use super::LimitedHashMap;
 use crate::{Equivalent, Limit};
-use half_store::{Lookup, Tally};
+use half_store::Tally;
 use std::hash::{BuildHasher, Hash};
 use std::ops::Index;
 
@@ -20,7 +20,8 @@ impl<K: Eq + Hash, V, S: BuildHasher, L: Limit> LimitedHashMap<K, V, S, L> {
     /// Returns the value of the held key that equals this one. It costs one search.
     ///
     /// ```
-    /// let age = ages.get(&1).copied(); // 36
+    /// assert_eq!(rt; ages.get(&1), Some(&36));
+    /// assert_eq!(rt; ages.get(&3), None);
     /// ```
     #[inline(always)]
     pub fn get<Q: Equivalent<K>>(&self, key: Q) -> Option<&V>
@@ -31,10 +32,6 @@ impl<K: Eq + Hash, V, S: BuildHasher, L: Limit> LimitedHashMap<K, V, S, L> {
 
     /// `get`, with its work counted: one hash in a table and none in a vector, and in a table no key of another hash is
     /// compared.
-    ///
-    /// ```
-    /// let age = ages.get_counted(&1, &mut tally).copied(); // 36
-    /// ```
     #[inline(always)]
     pub fn get_counted<Q: Equivalent<K>>(&self, key: Q, tally: &mut Tally) -> Option<&V>
         ensures value { option_copied result ≡ lookup (Q.equivalent key) self.now.pairs }
@@ -42,16 +39,14 @@ impl<K: Eq + Hash, V, S: BuildHasher, L: Limit> LimitedHashMap<K, V, S, L> {
             self.now tally.old tally.new }
         ensures state { IsState K.eq L.LIMIT self.now }
     {
-        match self.find(key, tally) {
-            Lookup::Found(index) => Some(self.store.value_at(index)),
-            Lookup::Missing(_) => None,
-        }
+        let index = self.find(key, tally).ok()?;
+        Some(self.columns().value_at(index))
     }
 
     /// Returns the stored key that equals this one, and its value. It costs one search.
     ///
     /// ```
-    /// let pair = ages.get_key_value(&1); // 1 and 36
+    /// assert_eq!(rt; ages.get_key_value(&1), Some((&1, &36)));
     /// ```
     #[inline(always)]
     pub fn get_key_value<Q: Equivalent<K>>(&self, key: Q) -> Option<(&K, &V)>
@@ -61,10 +56,6 @@ impl<K: Eq + Hash, V, S: BuildHasher, L: Limit> LimitedHashMap<K, V, S, L> {
     }
 
     /// `get_key_value`, with its work counted: that of one search.
-    ///
-    /// ```
-    /// let pair = ages.get_key_value_counted(&2, &mut tally); // none
-    /// ```
     #[inline(always)]
     pub fn get_key_value_counted<Q: Equivalent<K>>(
         &self,
@@ -76,10 +67,8 @@ impl<K: Eq + Hash, V, S: BuildHasher, L: Limit> LimitedHashMap<K, V, S, L> {
             self.now tally.old tally.new }
         ensures state { IsState K.eq L.LIMIT self.now }
     {
-        match self.find(key, tally) {
-            Lookup::Found(index) => Some(self.store.pair_at(index)),
-            Lookup::Missing(_) => None,
-        }
+        let index = self.find(key, tally).ok()?;
+        Some(self.columns().pair_at(index))
     }
 
     /// Returns the value of the held key that equals this one, to be written. It costs one search.
@@ -88,6 +77,7 @@ impl<K: Eq + Hash, V, S: BuildHasher, L: Limit> LimitedHashMap<K, V, S, L> {
     /// if let Some(age) = ages.get_mut(&1) {
     ///     *age = 37;
     /// }
+    /// assert_eq!(rt; ages.get(&1), Some(&37));
     /// ```
     #[inline(always)]
     pub fn get_mut<Q: Equivalent<K>>(&mut self, key: Q) -> Option<&mut V>
@@ -99,12 +89,6 @@ impl<K: Eq + Hash, V, S: BuildHasher, L: Limit> LimitedHashMap<K, V, S, L> {
     }
 
     /// `get_mut`, with its work counted: that of one search.
-    ///
-    /// ```
-    /// if let Some(age) = ages.get_mut_counted(&1, &mut tally) {
-    ///     *age = 38;
-    /// }
-    /// ```
     #[inline(always)]
     pub fn get_mut_counted<Q: Equivalent<K>>(&mut self, key: Q, tally: &mut Tally) -> Option<&mut V>
         ensures* writes_back { sem 𝓛 (LendsValueBy K.row V.row S.row L.row S.Hasher.row K.Hash S.BuildHasher
@@ -115,15 +99,16 @@ impl<K: Eq + Hash, V, S: BuildHasher, L: Limit> LimitedHashMap<K, V, S, L> {
         ensures state { IsState K.eq L.LIMIT self.old }
     {
         match self.find(key, tally) {
-            Lookup::Found(index) => Some(self.value_at_mut(index)),
-            Lookup::Missing(_) => None,
+            Ok(index) => Some(self.value_at_mut(index)),
+            Err(_) => None,
         }
     }
 
     /// Returns whether a key equal to this one is held. It costs one search.
     ///
     /// ```
-    /// let known = ages.contains_key(&1); // true
+    /// assert!(rt; ages.contains_key(&1));
+    /// assert!(rt; !ages.contains_key(&3));
     /// ```
     #[inline(always)]
     pub fn contains_key<Q: Equivalent<K>>(&self, key: Q) -> bool
@@ -133,10 +118,6 @@ impl<K: Eq + Hash, V, S: BuildHasher, L: Limit> LimitedHashMap<K, V, S, L> {
     }
 
     /// `contains_key`, with its work counted: that of one search.
-    ///
-    /// ```
-    /// let known = ages.contains_key_counted(&2, &mut tally); // false
-    /// ```
     #[inline(always)]
     pub fn contains_key_counted<Q: Equivalent<K>>(&self, key: Q, tally: &mut Tally) -> bool
         ensures held { result ≡ holds_by (Q.equivalent key) self.now.pairs }
@@ -144,21 +125,10 @@ impl<K: Eq + Hash, V, S: BuildHasher, L: Limit> LimitedHashMap<K, V, S, L> {
             self.now tally.old tally.new }
         ensures state { IsState K.eq L.LIMIT self.now }
     {
-        match self.find(key, tally) {
-            Lookup::Found(_) => true,
-            Lookup::Missing(_) => false,
-        }
+        self.find(key, tally).is_ok()
     }
 
     /// `map[key]`, with its work counted: that of one search. A key equal to this one must be held.
-    ///
-    /// ```
-    /// let age = if ages.contains_key(&1) {
-    ///     *ages.index_counted(&1, &mut tally)
-    /// } else {
-    ///     0
-    /// }; // 38
-    /// ```
     #[inline(always)]
     pub fn index_counted<Q: Equivalent<K>>(&self, key: Q, tally: &mut Tally) -> &V
         requires { IsTrue (holds_by (Q.equivalent key) self.now.pairs) }
@@ -167,8 +137,8 @@ impl<K: Eq + Hash, V, S: BuildHasher, L: Limit> LimitedHashMap<K, V, S, L> {
             self.now tally.old tally.new }
     {
         match self.find(key, tally) {
-            Lookup::Found(index) => self.store.value_at(index),
-            Lookup::Missing(_) => unreachable!(),
+            Ok(index) => self.columns().value_at(index),
+            Err(_) => unreachable!(),
         }
     }
 
@@ -195,7 +165,8 @@ impl<K: Eq + Hash, V, S: BuildHasher, L: Limit, Q: Equivalent<K>> Index<Q>
     /// Returns the value of the held key that equals this one, which must be held. It costs one search.
     ///
     /// ```
-    /// let age = if ages.contains_key(&1) { ages[&1] } else { 0 }; // 38
+    /// let age = if ages.contains_key(&1) { ages[&1] } else { 0 };
+    /// assert_eq!(rt; age, 36);
     /// ```
     #[inline(always)]
     fn index(&self, key: Q) -> &V {

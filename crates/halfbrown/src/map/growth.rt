@@ -9,15 +9,16 @@ use half_store::Refusal;
 use std::hash::{BuildHasher, Hash};
 
 impl<K: Eq + Hash, V, S: BuildHasher, L: Limit> LimitedHashMap<K, V, S, L> {
-    /// Makes the capacity enough for so many pairs more: in a table for all of them, in a vector for no more in all than the
-    /// limit, since the insertion after that switches, and allocates. The capacity never falls. Nothing is hashed.
+    /// Makes the capacity enough for this many more pairs. A vector gets capacity for no more pairs than the limit,
+    /// since the insertion after that switches, and allocates. The capacity never falls. Nothing is hashed.
     ///
-    /// Where the capacity is not enough yet, a table gets the least of its series that is, and a vector twice what it had, but
-    /// at least eight and what is needed, and at most the limit. Fails with `Size` for more than 2^60 pairs in all, and with
-    /// `Memory` where that is refused; on error nothing changes.
+    /// Where the capacity is not enough yet, a table gets the least of its series that is. A vector gets twice what it
+    /// had, but at least eight and what is needed, and at most the limit. Fails with `Size` for more than 2^60 pairs in
+    /// all, and with `Memory` where memory is refused. On error nothing changes.
     ///
     /// ```
-    /// ages.reserve(20)?; // twenty more ages need no more memory
+    /// ages.reserve(20)?; // the next twenty insertions need no more memory
+    /// assert!(rt; ages.capacity() >= 22);
     /// ```
     #[inline(never)]
     pub fn reserve(&mut self, additional: usize) -> Result<(), Refusal>
@@ -30,15 +31,19 @@ impl<K: Eq + Hash, V, S: BuildHasher, L: Limit> LimitedHashMap<K, V, S, L> {
         self.store.reserve(additional, L::LIMIT)
     }
 
-    /// Makes a table that holds no more pairs than the limit a vector again, and shrinks the capacity to the least that the
-    /// pairs fit: in a table the least of its series. The pairs keep their order. Nothing is hashed or compared.
+    /// Makes a table that holds no more pairs than the limit a vector again, and shrinks the capacity to the least that
+    /// the pairs fit. For a table that is the least of its series. The pairs keep their order. Nothing is hashed or
+    /// compared.
     ///
-    /// Going back needs no memory, and always succeeds. Smaller columns and a smaller table need some: where it is refused they
-    /// stay as they are. An empty map needs none, and has capacity 0 afterwards.
+    /// Going back to a vector needs no memory, and always succeeds. Smaller columns and a smaller table need some, and
+    /// stay as they are where it is refused. An empty map needs none, and has capacity 0 afterwards.
     ///
     /// ```
+    /// let mut ages = HashMap::<u64, u32>::with_capacity(alloc, 100)?; // a table
+    /// ages.insert(1, 36)?;
     /// ages.shrink_to_fit();
-    /// let is_vector = ages.is_vec(); // true: no more ages are held than the limit
+    /// assert!(rt; ages.is_vec());
+    /// assert_eq!(rt; ages.capacity(), 1);
     /// ```
     pub fn shrink_to_fit(&mut self)
         ensures after { Shrinks L.LIMIT self.old self.new }

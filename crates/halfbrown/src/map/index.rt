@@ -1,5 +1,4 @@
-//! Pairs by their index in the order of the pairs: reading one, writing its value, finding that of a key, and removing the pair at
-//! one.
+//! Pairs by their index in the order of the pairs: read, written, found by a key, and removed.
 ghost use Rattle.std.specs.Prelude.{◌≡◌, ◌-◌, ◌<◌, ◌↔◌, ◌++◌, IsSome, length, option_to_list, slice_get};
 ghost use Rattle.std.specs.Borrow.{sem};
 ghost use Rattle.std.specs.Map.{keys_of, values_of};
@@ -13,17 +12,18 @@ ghost use Rattle.halfbrown.specs.State.{IsState};
 
 use super::LimitedHashMap;
 use crate::{Equivalent, Limit};
-use half_store::{Lookup, Tally};
+use half_store::Tally;
 use std::hash::{BuildHasher, Hash};
 
 impl<K: Eq + Hash, V, S: BuildHasher, L: Limit> LimitedHashMap<K, V, S, L> {
     ghost use Rattle.halfbrown.specs.Lending.{LendsValueIfAt};
 
-    /// Returns the pair at this index in the order of the pairs, or none where the index is not below `len`. Nothing is hashed and
-    /// no key is compared.
+    /// Returns the pair at this index in the order of the pairs, or none where the index is not below `len`. Nothing is
+    /// hashed or compared.
     ///
     /// ```
-    /// let pair = ages.get_index(1); // 2 and 41
+    /// assert_eq!(rt; ages.get_index(1), Some((&2, &41)));
+    /// assert_eq!(rt; ages.get_index(2), None);
     /// ```
     #[inline(always)]
     pub fn get_index(&self, index: usize) -> Option<(&K, &V)>
@@ -31,19 +31,20 @@ impl<K: Eq + Hash, V, S: BuildHasher, L: Limit> LimitedHashMap<K, V, S, L> {
         ensures held { IsSome result ↔ (index < length self.now.pairs) }
     {
         if index < self.len() {
-            Some(self.pair_at(index))
+            Some(self.columns().pair_at(index))
         } else {
             None
         }
     }
 
-    /// Returns the value of the pair at this index, to be written, or none where the index is not below `len`. `get_index` has its
-    /// key. Nothing is hashed and no key is compared.
+    /// Returns the value of the pair at this index, to be written, or none where the index is not below `len`. Nothing
+    /// is hashed or compared.
     ///
     /// ```
     /// if let Some(age) = ages.get_index_mut(1) {
     ///     *age = 42;
     /// }
+    /// assert_eq!(rt; ages.get(&2), Some(&42));
     /// ```
     #[inline(always)]
     pub fn get_index_mut(&mut self, index: usize) -> Option<&mut V>
@@ -60,10 +61,10 @@ impl<K: Eq + Hash, V, S: BuildHasher, L: Limit> LimitedHashMap<K, V, S, L> {
         }
     }
 
-    /// Returns the first pair, or none where the map is empty. Nothing is hashed and no key is compared.
+    /// Returns the first pair, or none where the map is empty. Nothing is hashed or compared.
     ///
     /// ```
-    /// let pair = ages.first(); // 1 and 36
+    /// assert_eq!(rt; ages.first(), Some((&1, &36)));
     /// ```
     #[inline(always)]
     pub fn first(&self) -> Option<(&K, &V)>
@@ -73,10 +74,10 @@ impl<K: Eq + Hash, V, S: BuildHasher, L: Limit> LimitedHashMap<K, V, S, L> {
         self.get_index(0)
     }
 
-    /// Returns the last pair, or none where the map is empty. Nothing is hashed and no key is compared.
+    /// Returns the last pair, or none where the map is empty. Nothing is hashed or compared.
     ///
     /// ```
-    /// let pair = ages.last(); // 3 and 5
+    /// assert_eq!(rt; ages.last(), Some((&2, &41)));
     /// ```
     #[inline(always)]
     pub fn last(&self) -> Option<(&K, &V)>
@@ -89,7 +90,7 @@ impl<K: Eq + Hash, V, S: BuildHasher, L: Limit> LimitedHashMap<K, V, S, L> {
     /// Returns the index of the pair whose key equals this one, or none where no such key is held. It costs one search.
     ///
     /// ```
-    /// let index = ages.get_index_of(&2); // 1
+    /// assert_eq!(rt; ages.get_index_of(&2), Some(1));
     /// ```
     #[inline(always)]
     pub fn get_index_of<Q: Equivalent<K>>(&self, key: Q) -> Option<usize>
@@ -100,10 +101,6 @@ impl<K: Eq + Hash, V, S: BuildHasher, L: Limit> LimitedHashMap<K, V, S, L> {
     }
 
     /// `get_index_of`, with its work counted: that of one search.
-    ///
-    /// ```
-    /// let index = ages.get_index_of_counted(&4, &mut tally); // none
-    /// ```
     #[inline(always)]
     pub fn get_index_of_counted<Q: Equivalent<K>>(&self, key: Q, tally: &mut Tally) -> Option<usize>
         ensures index { result ≡ index_of (Q.equivalent key) (keys_of self.now.pairs) }
@@ -112,17 +109,15 @@ impl<K: Eq + Hash, V, S: BuildHasher, L: Limit> LimitedHashMap<K, V, S, L> {
             self.now tally.old tally.new }
         ensures state { IsState K.eq L.LIMIT self.now }
     {
-        match self.find(key, tally) {
-            Lookup::Found(index) => Some(index),
-            Lookup::Missing(_) => None,
-        }
+        self.find(key, tally).ok()
     }
 
-    /// Removes the pair at this index, and returns it. The last pair takes its index. Where the index is not below `len` nothing
-    /// changes. Nothing is hashed and no key is compared; no memory is needed, and the form and the capacity stay.
+    /// Removes the pair at this index, and returns it. The last pair takes its index. Where the index is not below
+    /// `len`, nothing changes. The form and the capacity stay. Nothing is hashed or compared, and no memory is needed.
     ///
     /// ```
-    /// let pair = ages.swap_remove_index(0); // 1 and 36; the pair of 3 has index 0 now
+    /// assert_eq!(rt; ages.swap_remove_index(0), Some((1, 36)));
+    /// assert_eq!(rt; ages.get_index_of(&2), Some(0));
     /// ```
     #[inline]
     pub fn swap_remove_index(&mut self, index: usize) -> Option<(K, V)>
@@ -135,11 +130,11 @@ impl<K: Eq + Hash, V, S: BuildHasher, L: Limit> LimitedHashMap<K, V, S, L> {
         }
     }
 
-    /// Removes the last pair, and returns it, or none where the map is empty. The order of the others stays. Nothing is hashed and no
-    /// key is compared; no memory is needed, and the form and the capacity stay.
+    /// Removes the last pair, and returns it, or none where the map is empty. The form and the capacity stay. Nothing
+    /// is hashed or compared, and no memory is needed.
     ///
     /// ```
-    /// let pair = ages.pop(); // 2 and 42
+    /// assert_eq!(rt; ages.pop(), Some((2, 41)));
     /// ```
     #[inline]
     pub fn pop(&mut self) -> Option<(K, V)>

@@ -11,26 +11,23 @@ ghost use Rattle.halfbrown.specs.State.{IsState, WithPairs, contents_of};
 
 use super::LimitedHashMap;
 use crate::{Limit, Refused};
-use half_store::{Lookup, Tally, Vacancy};
+use half_store::{Tally, Vacancy};
 use std::hash::{BuildHasher, Hash};
 
 impl<K: Eq + Hash, V, S: BuildHasher, L: Limit> LimitedHashMap<K, V, S, L> {
     /// Gives the key this value, and returns its old one.
     ///
-    /// Where an equal key is held the pair keeps that key and its index, and the given key is dropped; else the pair is added
-    /// at the end. A full vector becomes a table first, in both cases.
+    /// Where an equal key is held, that key stays at its index, and the given key is dropped. Else the pair is added at
+    /// the end. A full vector becomes a table first, in both cases.
     ///
-    /// Fails only where more capacity is needed: by the switch, and by a new key where none is left. Then nothing changes,
-    /// and the error has the pair.
+    /// Fails only where more capacity is needed: for the switch, or for a new key where none is left. Then nothing
+    /// changes, and the error has the pair.
     ///
-    /// It costs one search, and the switch one hash for each pair. Growth hashes nothing.
-    ///
-    /// ```
-    /// let before = ages.insert(1, 36)?; // none
-    /// ```
+    /// It costs one search, and a switch hashes each key once. Growth hashes nothing.
     ///
     /// ```
-    /// let before = ages.insert(1, 37)?; // 36
+    /// assert_eq!(rt; ages.insert(3, 5)?, None);
+    /// assert_eq!(rt; ages.insert(3, 6)?, Some(5));
     /// ```
     #[inline(always)]
     pub fn insert(&mut self, key: K, value: V) -> Result<Option<V>, Refused<K, V>>
@@ -42,11 +39,6 @@ impl<K: Eq + Hash, V, S: BuildHasher, L: Limit> LimitedHashMap<K, V, S, L> {
     }
 
     /// `insert`, with its work counted.
-    ///
-    /// ```
-    /// let mut tally = Tally::new();
-    /// let before = ages.insert_counted(1, 38, &mut tally)?; // 37
-    /// ```
     #[inline(always)]
     pub fn insert_counted(
         &mut self,
@@ -61,8 +53,8 @@ impl<K: Eq + Hash, V, S: BuildHasher, L: Limit> LimitedHashMap<K, V, S, L> {
             key (is_ok result) tally.old tally.new }
     {
         match self.prepare(&key, tally) {
-            Ok(Lookup::Found(index)) => Ok(Some(self.set_at(index, value))),
-            Ok(Lookup::Missing(vacancy)) => {
+            Ok(Ok(index)) => Ok(Some(self.set_at(index, value))),
+            Ok(Err(vacancy)) => {
                 self.push(key, value, vacancy);
                 Ok(None)
             }
@@ -70,14 +62,15 @@ impl<K: Eq + Hash, V, S: BuildHasher, L: Limit> LimitedHashMap<K, V, S, L> {
         }
     }
 
-    /// Adds a pair whose key is not held, without a search for it.
+    /// Adds a pair without a search for its key, which must not be held.
     ///
     /// Fails as `insert` of a new key does. It compares no key, and in a table it hashes the key once.
     ///
     /// ```
-    /// if !ages.contains_key(&2) {
-    ///     ages.insert_nocheck(2, 41)?;
+    /// if !ages.contains_key(&3) {
+    ///     ages.insert_nocheck(3, 5)?;
     /// }
+    /// assert_eq!(rt; ages.get(&3), Some(&5));
     /// ```
     #[inline(always)]
     pub fn insert_nocheck(&mut self, key: K, value: V) -> Result<(), Refused<K, V>>
@@ -88,12 +81,6 @@ impl<K: Eq + Hash, V, S: BuildHasher, L: Limit> LimitedHashMap<K, V, S, L> {
     }
 
     /// `insert_nocheck`, with its work counted: the hashes of the switch, and one hash in a table; no key is compared.
-    ///
-    /// ```
-    /// if !ages.contains_key_counted(&3, &mut tally) {
-    ///     ages.insert_nocheck_counted(3, 5, &mut tally)?;
-    /// }
-    /// ```
     #[inline(always)]
     pub fn insert_nocheck_counted(
         &mut self,

@@ -5,8 +5,7 @@ ghost use Rattle.std.specs.Map.Iter.{GivesInOrder, ShowsValuesInOrder};
 ghost use Rattle.halfbrown.specs.State.{IsState};
 
 use super::LimitedHashMap;
-use crate::Limit;
-use half_iter::{IntoIter, Iter};
+use crate::{IntoIter, Iter, Limit};
 use std::hash::{BuildHasher, Hash};
 use std::iter::IntoIterator;
 
@@ -21,6 +20,15 @@ impl<'a, K: Eq + Hash, V, S: BuildHasher, L: Limit> IntoIterator
     ghost into_iter_gives = { λ map it. (pairs_left it ≡ map.now.pairs) × (length map.now.pairs < 2 ^ 63)
         × ShowsPairsInOrder K V × ShowsPairValuesInOrder K V × IsState K.eq L.LIMIT map.now };
 
+    /// The pairs, each as `(&K, &V)`, in order, as `iter` lends them.
+    ///
+    /// ```
+    /// let mut oldest = 0;
+    /// for (_, age) in &ages {
+    ///     oldest = oldest.max(*age);
+    /// }
+    /// assert_eq!(rt; oldest, 41);
+    /// ```
     #[inline(always)]
     fn into_iter(self) -> Iter<'a, K, V> {
         self.iter()
@@ -60,7 +68,7 @@ impl<K: Eq + Hash + Drop, V: Drop, S: BuildHasher + Drop, L: Limit> IntoIterator
     ghost into_iter_gives = { λ map it. (it ≡ map.pairs) × (length map.pairs < 2 ^ 63) × GivesInOrder (K × V)
         × ShowsValuesInOrder (λ (pair : K × V). pair) × IsState K.eq L.LIMIT map };
 
-    // The builder and the index are dropped at once: the iterator has the two columns alone.
+    // The builder and the table are dropped at once: the iterator has the two columns alone.
     fn into_iter(self) -> IntoIter<K, V> {
         let LimitedHashMap {
             store,

@@ -9,8 +9,7 @@ ghost use Rattle.halfbrown.specs.State.{IsState, with_pairs};
 ghost use Rattle.halfbrown.specs.Updates.{HasValues};
 
 use super::LimitedHashMap;
-use crate::Limit;
-use half_iter::{Iter, IterMut, Keys, Values, ValuesMut};
+use crate::{Iter, IterMut, Keys, Limit, Values, ValuesMut};
 use std::hash::{BuildHasher, Hash};
 
 impl<K: Eq + Hash, V, S: BuildHasher, L: Limit> LimitedHashMap<K, V, S, L> {
@@ -20,22 +19,12 @@ impl<K: Eq + Hash, V, S: BuildHasher, L: Limit> LimitedHashMap<K, V, S, L> {
     ghost use Rattle.halfbrown.specs.Iter.{values_mut_left, values_mut_name, ValuesMutSteps};
     ghost use Rattle.halfbrown.specs.Lending.{LendsValues};
 
-    /// The pairs, each as `(&K, &V)`, in order. Nothing is hashed and no key is compared, here and in all of iteration.
+    /// The pairs, each as `(&K, &V)`, in order. Iteration hashes nothing and compares no keys.
     ///
     /// ```
     /// let mut pairs = ages.iter();
-    /// let count = pairs.len(); // 2
-    /// let first = pairs.next(); // 1 and 36
-    /// ```
-    ///
-    /// In a loop:
-    ///
-    /// ```
-    /// for (id, age) in &ages {
-    ///     if *age > 40 {
-    ///         found = Some(*id);
-    ///     }
-    /// }
+    /// assert_eq!(rt; pairs.len(), 2);
+    /// assert_eq!(rt; pairs.next(), Some((&1, &36)));
     /// ```
     #[inline(always)]
     pub fn iter(&self) -> Iter<'_, K, V>
@@ -45,13 +34,14 @@ impl<K: Eq + Hash, V, S: BuildHasher, L: Limit> LimitedHashMap<K, V, S, L> {
         ensures values_run { ShowsPairValuesInOrder K V }
         ensures state { IsState K.eq L.LIMIT self.now }
     {
-        Iter::new(self.store.keys(), self.store.values())
+        let columns = self.columns();
+        Iter::new(columns.keys(), columns.values())
     }
 
     /// The keys, in order.
     ///
     /// ```
-    /// let first = ages.keys().next(); // 1
+    /// assert_eq!(rt; ages.keys().next(), Some(&1));
     /// ```
     #[inline(always)]
     pub fn keys(&self) -> Keys<'_, K, V>
@@ -60,13 +50,13 @@ impl<K: Eq + Hash, V, S: BuildHasher, L: Limit> LimitedHashMap<K, V, S, L> {
         ensures runs { ShowsKeysInOrder K V }
         ensures state { IsState K.eq L.LIMIT self.now }
     {
-        Keys::new(self.store.keys())
+        Keys::new(self.columns().keys())
     }
 
     /// The values, in order.
     ///
     /// ```
-    /// let first = ages.values().next(); // 36
+    /// assert_eq!(rt; ages.values().next(), Some(&36));
     /// ```
     #[inline(always)]
     pub fn values(&self) -> Values<'_, K, V>
@@ -75,15 +65,18 @@ impl<K: Eq + Hash, V, S: BuildHasher, L: Limit> LimitedHashMap<K, V, S, L> {
         ensures runs { ShowsValuesInOrder K V }
         ensures state { IsState K.eq L.LIMIT self.now }
     {
-        Values::new(self.store.values())
+        Values::new(self.columns().values())
     }
 
     /// The pairs, each as `(&K, &mut V)`, in order. The keys cannot be written.
     ///
     /// ```
     /// for (id, age) in ages.iter_mut() {
-    ///     *age = *id;
+    ///     if *id == 1 {
+    ///         *age = 37;
+    ///     }
     /// }
+    /// assert_eq!(rt; ages.get(&1), Some(&37));
     /// ```
     #[inline(always)]
     pub fn iter_mut(&mut self) -> IterMut<'_, K, V>
@@ -104,8 +97,9 @@ impl<K: Eq + Hash, V, S: BuildHasher, L: Limit> LimitedHashMap<K, V, S, L> {
     ///
     /// ```
     /// for age in ages.values_mut() {
-    ///     *age = 1;
+    ///     *age = 0;
     /// }
+    /// assert_eq!(rt; ages.get(&2), Some(&0));
     /// ```
     #[inline(always)]
     pub fn values_mut(&mut self) -> ValuesMut<'_, K, V>
@@ -120,11 +114,12 @@ impl<K: Eq + Hash, V, S: BuildHasher, L: Limit> LimitedHashMap<K, V, S, L> {
         ValuesMut::new(self.store.values_mut())
     }
 
-    /// The values, in order, as a slice to be written. What a proof knows of the slice at the end it knows of the map, where
-    /// after a loop over `values_mut` it knows the keys alone.
+    /// The values, in order, as a slice to be written. What a proof knows of the slice at the end, it knows of the map.
+    /// After a loop over `values_mut` it knows only the keys.
     ///
     /// ```
-    /// ages.values_slice_mut().fill(2);
+    /// ages.values_slice_mut().fill(0);
+    /// assert_eq!(rt; ages.get(&2), Some(&0));
     /// ```
     #[inline(always)]
     pub fn values_slice_mut(&mut self) -> &mut [V]

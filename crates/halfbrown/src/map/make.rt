@@ -1,6 +1,6 @@
 //! Making a map.
-ghost use Rattle.std.specs.Prelude.{◌≡◌, true, [], min, nat_le, IfOk, IfErr, OnOk};
-ghost use Rattle.halfbrown.specs.Growth.{making_needs, HasCapacityMade, IsRefusal, IsGrantable};
+ghost use Rattle.std.specs.Prelude.{◌≡◌, true, min, nat_le, IfOk};
+ghost use Rattle.halfbrown.specs.Making.{IsNew, Makes};
 ghost use Rattle.halfbrown.specs.State.{IsState};
 
 use super::{DefaultHashBuilder, LimitedHashMap};
@@ -11,56 +11,48 @@ use std::hash::{BuildHasher, BuildHasherDefault, Hash};
 use std::marker::PhantomData;
 
 impl<K: Eq + Hash, V, L: Limit> LimitedHashMap<K, V, DefaultHashBuilder, L> {
-    /// An empty vector with the default builder. It takes no memory. For another builder: `with_hasher`.
+    /// An empty vector with the default builder. It takes no memory. `with_hasher` takes another builder.
     ///
     /// ```
-    /// let ages = Ages::new(alloc); // an empty vector
+    /// let ages = HashMap::<u64, u32>::new(alloc);
+    /// assert!(rt; ages.is_empty() && ages.is_vec());
     /// ```
     pub fn new(alloc: Global) -> Self
-        ensures form { result.is_vec ≡ true }
-        ensures pairs { result.pairs ≡ [] }
-        ensures capacity { result.capacity ≡ 0 }
-        ensures hasher { ⟦<DefaultHashBuilder as Default>⟧.is_default result.builder }
+        ensures made { IsNew ⟦<DefaultHashBuilder as Default>⟧.is_default result }
         ensures state { IsState K.eq L.LIMIT result }
     {
         LimitedHashMap::with_hasher(alloc, BuildHasherDefault::new())
     }
 
-    /// An empty map with the default builder and capacity for so many pairs: a vector where the limit allows them, else a
-    /// table. For another builder: `with_capacity_and_hasher`.
+    /// An empty map with the default builder and capacity for this many pairs: a vector where the limit allows them,
+    /// else a table. `with_capacity_and_hasher` takes another builder.
     ///
-    /// A vector has exactly this capacity, a table the least of its series that is enough. Fails with `Size` for more than
-    /// 2^60 pairs, and with `Memory` where that is refused; for no pairs it takes none and never fails.
+    /// A vector has exactly this capacity, and a table the least of 3, 6, 12, 24 and so on that is enough. Fails with
+    /// `Size` for more than 2^60 pairs, and with `Memory` where memory is refused. For no pairs it takes none, and
+    /// never fails.
     ///
     /// ```
-    /// let small = Ages::with_capacity(alloc, 32)?; // a vector
-    /// let large = Ages::with_capacity(alloc, 33)?; // a table
+    /// let small = HashMap::<u64, u32>::with_capacity(alloc, 32)?;
+    /// let large = HashMap::<u64, u32>::with_capacity(alloc, 33)?;
+    /// assert!(rt; small.is_vec() && large.is_map());
     /// ```
     pub fn with_capacity(alloc: Global, capacity: usize) -> Result<Self, Refusal>
-        ensures form { IfOk result (λ m. m.is_vec ≡ nat_le capacity L.LIMIT) }
-        ensures pairs { IfOk result (λ m. m.pairs ≡ []) }
-        ensures capacity { IfOk result (HasCapacityMade capacity) }
-        ensures hasher { IfOk result (λ m. ⟦<DefaultHashBuilder as Default>⟧.is_default m.builder) }
-        ensures granted { OnOk result (IsGrantable (making_needs capacity)) }
-        ensures refused { IfErr result (IsRefusal (making_needs capacity)) }
+        ensures makes { Makes ⟦<DefaultHashBuilder as Default>⟧.is_default (nat_le capacity L.LIMIT) capacity result }
         ensures state { IfOk result (IsState K.eq L.LIMIT) }
     {
         LimitedHashMap::with_capacity_and_hasher(alloc, capacity, BuildHasherDefault::new())
     }
 
-    /// An empty vector with the default builder and capacity for so many pairs, or for as many as the limit allows. It
-    /// still becomes a table at the limit. Fails as `with_capacity` does.
+    /// An empty vector with the default builder and capacity for this many pairs, or for as many as the limit allows.
+    /// It still becomes a table at the limit. Fails as `with_capacity` does.
     ///
     /// ```
-    /// let ages = Ages::vec_with_capacity(alloc, 100)?; // a vector with capacity 32
+    /// let ages = HashMap::<u64, u32>::vec_with_capacity(alloc, 100)?;
+    /// assert!(rt; ages.is_vec());
+    /// assert_eq!(rt; ages.capacity(), 32);
     /// ```
     pub fn vec_with_capacity(alloc: Global, capacity: usize) -> Result<Self, Refusal>
-        ensures form { IfOk result (λ m. m.is_vec ≡ true) }
-        ensures pairs { IfOk result (λ m. m.pairs ≡ []) }
-        ensures capacity { IfOk result (HasCapacityMade (min capacity L.LIMIT)) }
-        ensures hasher { IfOk result (λ m. ⟦<DefaultHashBuilder as Default>⟧.is_default m.builder) }
-        ensures granted { OnOk result (IsGrantable (making_needs (min capacity L.LIMIT))) }
-        ensures refused { IfErr result (IsRefusal (making_needs (min capacity L.LIMIT))) }
+        ensures makes { Makes ⟦<DefaultHashBuilder as Default>⟧.is_default true (min capacity L.LIMIT) result }
         ensures state { IfOk result (IsState K.eq L.LIMIT) }
     {
         LimitedHashMap::with_capacity(alloc, capacity.min(L::LIMIT))
@@ -71,13 +63,11 @@ impl<K: Eq + Hash, V, S: BuildHasher, L: Limit> LimitedHashMap<K, V, S, L> {
     /// An empty vector with this builder. It takes no memory.
     ///
     /// ```
-    /// let ages = Ages::with_hasher(alloc, DefaultHashBuilder::new()); // an empty vector
+    /// let ages = HashMap::<u64, u32, _>::with_hasher(alloc, RandomState::new(&rt)?);
+    /// assert!(rt; ages.is_empty());
     /// ```
     pub fn with_hasher(alloc: Global, builder: S) -> Self
-        ensures form { result.is_vec ≡ true }
-        ensures pairs { result.pairs ≡ [] }
-        ensures capacity { result.capacity ≡ 0 }
-        ensures hasher { result.builder ≡ builder }
+        ensures made { IsNew (λ b. b ≡ builder) result }
         ensures state { IsState K.eq L.LIMIT result }
     {
         LimitedHashMap {
@@ -90,26 +80,25 @@ impl<K: Eq + Hash, V, S: BuildHasher, L: Limit> LimitedHashMap<K, V, S, L> {
     /// An empty vector with the builder type's own default. It takes no memory.
     ///
     /// ```
-    /// let ages = Ages::default(alloc); // an empty vector
+    /// let ages = HashMap::<u64, u32>::default(alloc);
+    /// assert!(rt; ages.is_empty());
     /// ```
     pub fn default(alloc: Global) -> Self
     where
         S: Default,
-        ensures form { result.is_vec ≡ true }
-        ensures pairs { result.pairs ≡ [] }
-        ensures capacity { result.capacity ≡ 0 }
-        ensures hasher { S.is_default result.builder }
+        ensures made { IsNew S.is_default result }
         ensures state { IsState K.eq L.LIMIT result }
     {
         LimitedHashMap::with_hasher(alloc, S::default())
     }
 
-    /// An empty map with this builder and capacity for so many pairs: a vector where the limit allows them, else a table.
-    /// Fails as `with_capacity` does.
+    /// An empty map with this builder and capacity for this many pairs: a vector where the limit allows them, else a
+    /// table. Fails as `with_capacity` does.
     ///
     /// ```
     /// let builder = DefaultHashBuilder::new();
-    /// let ages = Ages::with_capacity_and_hasher(alloc, 100, builder)?; // a table with capacity 192
+    /// let ages = HashMap::<u64, u32>::with_capacity_and_hasher(alloc, 100, builder)?;
+    /// assert_eq!(rt; ages.capacity(), 192);
     /// ```
     pub fn with_capacity_and_hasher(
         alloc: Global,
@@ -118,12 +107,7 @@ impl<K: Eq + Hash, V, S: BuildHasher, L: Limit> LimitedHashMap<K, V, S, L> {
     ) -> Result<Self, Refusal>
     where
         S: Drop,
-        ensures form { IfOk result (λ m. m.is_vec ≡ nat_le capacity L.LIMIT) }
-        ensures pairs { IfOk result (λ m. m.pairs ≡ []) }
-        ensures capacity { IfOk result (HasCapacityMade capacity) }
-        ensures hasher { IfOk result (λ m. m.builder ≡ builder) }
-        ensures granted { OnOk result (IsGrantable (making_needs capacity)) }
-        ensures refused { IfErr result (IsRefusal (making_needs capacity)) }
+        ensures makes { Makes (λ b. b ≡ builder) (nat_le capacity L.LIMIT) capacity result }
         ensures state { IfOk result (IsState K.eq L.LIMIT) }
     {
         Ok(LimitedHashMap {

@@ -3,7 +3,7 @@ ghost use Rattle.std.specs.Prelude.{◌≡◌, ◌<◌, false, length, OnOk, OnE
 ghost use Rattle.half_store.specs.Probe.{looked_more};
 ghost use Rattle.half_store.specs.Store.{IsVacancy};
 ghost use Rattle.half_store.specs.Work.{asked_more};
-ghost use Rattle.halfbrown.specs.Costs.{key_hash, probe_length_by, switch_asked, new_key_cost, GrewBy, InsertCosts};
+ghost use Rattle.halfbrown.specs.Costs.{key_hash, probe_length, switch_asked, new_key_cost, GrewBy, InsertCosts};
 ghost use Rattle.halfbrown.specs.Growth.{is_full, addition_needs, insert_needs, new_key_needs, IsRefusal};
 ghost use Rattle.halfbrown.specs.Pairs.{holds};
 ghost use Rattle.halfbrown.specs.Preparation.{IsReadyFor, HasVacancyFor, Prepares, growth_looks};
@@ -11,13 +11,17 @@ ghost use Rattle.halfbrown.specs.State.{IsState, contents_of};
 
 use super::LimitedHashMap;
 use crate::Limit;
-use half_store::{Lookup, Refusal, Tally, Vacancy};
+use half_store::{Refusal, Tally, Vacancy};
 use std::hash::{BuildHasher, Hash};
 
 impl<K: Eq + Hash, V, S: BuildHasher, L: Limit> LimitedHashMap<K, V, S, L> {
     /// Switches a full map and searches for a key; where it is not held, makes capacity for its pair.
     #[inline(always)]
-    pub(crate) fn prepare(&mut self, key: &K, tally: &mut Tally) -> Result<Lookup, Refusal>
+    pub(crate) fn prepare(
+        &mut self,
+        key: &K,
+        tally: &mut Tally,
+    ) -> Result<Result<usize, Vacancy>, Refusal>
         ensures ok { OnOk result (Prepares L.LIMIT self.old (insert_needs L.LIMIT K.eq self.old key.now) self.new) }
         ensures ready { IfOk result (IsReadyFor K.eq
             (key_hash S.BuildHasher S.Hasher.Hasher K.hash_input) self.new key.now) }
@@ -29,8 +33,8 @@ impl<K: Eq + Hash, V, S: BuildHasher, L: Limit> LimitedHashMap<K, V, S, L> {
     {
         self.switch_if_full(tally)?;
         match self.find(key, tally) {
-            Lookup::Found(index) => Ok(Lookup::Found(index)),
-            Lookup::Missing(vacancy) => Ok(Lookup::Missing(self.make_capacity_at(vacancy, tally)?)),
+            Ok(index) => Ok(Ok(index)),
+            Err(vacancy) => Ok(Err(self.make_capacity_at(vacancy, tally)?)),
         }
     }
 
@@ -50,7 +54,7 @@ impl<K: Eq + Hash, V, S: BuildHasher, L: Limit> LimitedHashMap<K, V, S, L> {
         ensures state { IsState K.eq L.LIMIT self.new }
     {
         self.switch_if_full(tally)?;
-        let hash = self.hash_to_store(key, tally);
+        let hash = self.hash_in_table(key, tally);
         self.make_capacity()?;
         Ok(self.vacancy_for(hash, tally))
     }
@@ -76,7 +80,7 @@ impl<K: Eq + Hash, V, S: BuildHasher, L: Limit> LimitedHashMap<K, V, S, L> {
     pub(crate) fn vacancy_for(&self, hash: u64, tally: &mut Tally) -> Vacancy
         requires capacity { length self.now.pairs < self.now.capacity }
         ensures vacant { IsVacancy self.now.is_vec (contents_of self.now) hash result }
-        ensures work { tally.new ≡ looked_more tally.old (probe_length_by
+        ensures work { tally.new ≡ looked_more tally.old (probe_length
             (key_hash S.BuildHasher S.Hasher.Hasher K.hash_input self.now.builder)
             self.now.is_vec self.now.capacity self.now.pairs hash) }
     {

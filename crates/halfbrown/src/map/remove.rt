@@ -9,7 +9,7 @@ ghost use Rattle.halfbrown.specs.State.{IsState, WithPairs};
 
 use super::LimitedHashMap;
 use crate::{Equivalent, Limit};
-use half_store::{Lookup, Tally};
+use half_store::Tally;
 use std::hash::{BuildHasher, Hash};
 
 impl<K: Eq + Hash, V, S: BuildHasher, L: Limit> LimitedHashMap<K, V, S, L> {
@@ -17,7 +17,8 @@ impl<K: Eq + Hash, V, S: BuildHasher, L: Limit> LimitedHashMap<K, V, S, L> {
     /// one search.
     ///
     /// ```
-    /// let age = ages.remove(&1); // 36
+    /// assert_eq!(rt; ages.remove(&1), Some(36));
+    /// assert_eq!(rt; ages.remove(&1), None);
     /// ```
     #[inline(always)]
     pub fn remove<Q: Equivalent<K>>(&mut self, key: Q) -> Option<V>
@@ -30,10 +31,6 @@ impl<K: Eq + Hash, V, S: BuildHasher, L: Limit> LimitedHashMap<K, V, S, L> {
     }
 
     /// `remove`, with its work counted: that of one search.
-    ///
-    /// ```
-    /// let age = ages.remove_counted(&2, &mut tally); // 41
-    /// ```
     #[inline(always)]
     pub fn remove_counted<Q: Equivalent<K>>(&mut self, key: Q, tally: &mut Tally) -> Option<V>
     where
@@ -51,7 +48,7 @@ impl<K: Eq + Hash, V, S: BuildHasher, L: Limit> LimitedHashMap<K, V, S, L> {
     /// its index. It costs one search.
     ///
     /// ```
-    /// let pair = ages.remove_entry(&3); // 3 and 5
+    /// assert_eq!(rt; ages.remove_entry(&1), Some((1, 36)));
     /// ```
     #[inline(always)]
     pub fn remove_entry<Q: Equivalent<K>>(&mut self, key: Q) -> Option<(K, V)>
@@ -62,10 +59,6 @@ impl<K: Eq + Hash, V, S: BuildHasher, L: Limit> LimitedHashMap<K, V, S, L> {
     }
 
     /// `remove_entry`, with its work counted: that of one search.
-    ///
-    /// ```
-    /// let pair = ages.remove_entry_counted(&4, &mut tally); // 4 and 8
-    /// ```
     #[inline(always)]
     pub fn remove_entry_counted<Q: Equivalent<K>>(
         &mut self,
@@ -77,16 +70,16 @@ impl<K: Eq + Hash, V, S: BuildHasher, L: Limit> LimitedHashMap<K, V, S, L> {
         ensures cost { CostsSearch S.BuildHasher S.Hasher.Hasher K.hash_input Q.hash_input Q.equivalent key
             self.old tally.old tally.new }
     {
-        let to_store = self.hash_to_store(&key, tally);
-        self.remove_hashed(to_store, key, tally)
+        let hash = self.hash_in_table(&key, tally);
+        self.remove_hashed(hash, key, tally)
     }
 
-    /// `remove_entry`, by a hash that is known, which must be the builder's hash of the key. Nothing is hashed. No memory is needed,
-    /// where `raw_entry_mut` may ask for some.
+    /// `remove_entry` by a hash that is known, which must be the builder's hash of the key. Nothing is hashed. It needs
+    /// no memory, while `raw_entry_mut` may need some.
     ///
     /// ```
-    /// let hash = ages.hasher().hash_one(&5u64);
-    /// let pair = ages.remove_entry_hashed_nocheck(hash, &5); // 5 and 13
+    /// let hash = ages.hasher().hash_one(&1u64);
+    /// assert_eq!(rt; ages.remove_entry_hashed_nocheck(hash, &1), Some((1, 36)));
     /// ```
     #[inline(always)]
     pub fn remove_entry_hashed_nocheck<Q: Equivalent<K>>(
@@ -103,11 +96,6 @@ impl<K: Eq + Hash, V, S: BuildHasher, L: Limit> LimitedHashMap<K, V, S, L> {
     }
 
     /// `remove_entry_hashed_nocheck`, with its work counted: that of one search, with no hash.
-    ///
-    /// ```
-    /// let hash = ages.hasher().hash_one(&6u64);
-    /// let pair = ages.remove_entry_hashed_nocheck_counted(hash, &6, &mut tally); // 6 and 21
-    /// ```
     #[inline(always)]
     pub fn remove_entry_hashed_nocheck_counted<Q: Equivalent<K>>(
         &mut self,
@@ -142,8 +130,8 @@ impl<K: Eq + Hash, V, S: BuildHasher, L: Limit> LimitedHashMap<K, V, S, L> {
             self.old tally.old tally.new }
     {
         match self.find_hashed(hash, key, tally) {
-            Lookup::Found(index) => Some(self.take_at(index)),
-            Lookup::Missing(_) => None,
+            Ok(index) => Some(self.take_at(index)),
+            Err(_) => None,
         }
     }
 

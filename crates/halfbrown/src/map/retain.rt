@@ -8,16 +8,18 @@ use crate::Limit;
 use std::hash::{BuildHasher, Hash};
 
 impl<K: Eq + Hash, V, S: BuildHasher, L: Limit> LimitedHashMap<K, V, S, L> {
-    /// Keeps the pairs that `f` accepts. It is called at each pair once, from first to last, and may change the value; the
-    /// pairs that it accepts stay in their order, with the values that it left.
+    /// Keeps the pairs that `f` accepts. `f` is called once at each pair, from first to last, and may change the value.
+    /// The pairs that it accepts stay in their order, with the values that it left.
     ///
-    /// The form, the capacity and the builder stay. No memory is taken, nothing is hashed and no keys are compared.
+    /// The form, the capacity and the builder stay. No memory is taken, and nothing is hashed or compared.
     ///
     /// ```
     /// ages.retain(|_, age| {
     ///     *age = age.saturating_add(1);
     ///     *age < 40
     /// }); // those who are below 40 in a year, with their ages then
+    /// assert_eq!(rt; ages.len(), 1);
+    /// assert_eq!(rt; ages.get(&1), Some(&37));
     /// ```
     pub fn retain<F: FnMut(&K, &mut V) -> bool>(&mut self, f: F)
     where
@@ -28,6 +30,7 @@ impl<K: Eq + Hash, V, S: BuildHasher, L: Limit> LimitedHashMap<K, V, S, L> {
         ensures len { length self.new.pairs ≤ length self.old.pairs }
         ensures form { self.new.is_vec ≡ self.old.is_vec }
         ensures capacity { self.new.capacity ≡ self.old.capacity }
+        ensures columns { self.new.columns ≡ self.old.columns }
         ensures builder { self.new.builder ≡ self.old.builder }
         ensures state { IsState K.eq L.LIMIT self.new }
     {

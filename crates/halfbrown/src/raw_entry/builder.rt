@@ -12,14 +12,14 @@ ghost use Rattle.halfbrown.specs.RawSearch.{ReadsPair};
 
 use super::LimitedRawEntryBuilder;
 use crate::{Equivalent, Limit};
-use half_store::{Lookup, Tally};
+use half_store::Tally;
 use std::hash::{BuildHasher, Hash};
 
 impl<'a, K: Eq + Hash, V, S: BuildHasher, L: Limit> LimitedRawEntryBuilder<'a, K, V, S, L> {
     /// Returns the stored key that equals this one, and its value. It costs one search.
     ///
     /// ```
-    /// let pair = ages.raw_entry().from_key(&1); // 1 and 36
+    /// assert_eq!(rt; ages.raw_entry().from_key(&1), Some((&1, &36)));
     /// ```
     #[inline(always)]
     pub fn from_key<Q: Equivalent<K>>(self, key: Q) -> Option<(&'a K, &'a V)>
@@ -29,10 +29,6 @@ impl<'a, K: Eq + Hash, V, S: BuildHasher, L: Limit> LimitedRawEntryBuilder<'a, K
     }
 
     /// `from_key`, with its work counted: that of one search.
-    ///
-    /// ```
-    /// let pair = ages.raw_entry().from_key_counted(&2, &mut tally); // none
-    /// ```
     #[inline(always)]
     pub fn from_key_counted<Q: Equivalent<K>>(
         self,
@@ -44,16 +40,16 @@ impl<'a, K: Eq + Hash, V, S: BuildHasher, L: Limit> LimitedRawEntryBuilder<'a, K
             (map_in self.entry) tally.old tally.new }
     {
         match self.map.find(key, tally) {
-            Lookup::Found(index) => Some(self.map.pair_at(index)),
-            Lookup::Missing(_) => None,
+            Ok(index) => Some(self.map.columns().pair_at(index)),
+            Err(_) => None,
         }
     }
 
-    /// `from_key`, by a hash that is known, which must be the builder's hash of the key. Nothing is hashed.
+    /// `from_key` by a hash that is known, which must be the builder's hash of the key. Nothing is hashed.
     ///
     /// ```
     /// let hash = ages.hasher().hash_one(&1u64);
-    /// let pair = ages.raw_entry().from_key_hashed_nocheck(hash, &1); // 1 and 36
+    /// assert_eq!(rt; ages.raw_entry().from_key_hashed_nocheck(hash, &1), Some((&1, &36)));
     /// ```
     #[inline(always)]
     pub fn from_key_hashed_nocheck<Q: Equivalent<K>>(
@@ -68,13 +64,6 @@ impl<'a, K: Eq + Hash, V, S: BuildHasher, L: Limit> LimitedRawEntryBuilder<'a, K
     }
 
     /// `from_key_hashed_nocheck`, with its work counted: that of one search, with no hash.
-    ///
-    /// ```
-    /// let hash = ages.hasher().hash_one(&2u64);
-    /// let pair = ages
-    ///     .raw_entry()
-    ///     .from_key_hashed_nocheck_counted(hash, &2, &mut tally); // none
-    /// ```
     #[inline(always)]
     pub fn from_key_hashed_nocheck_counted<Q: Equivalent<K>>(
         self,
@@ -88,19 +77,19 @@ impl<'a, K: Eq + Hash, V, S: BuildHasher, L: Limit> LimitedRawEntryBuilder<'a, K
             (map_in self.entry) tally.old tally.new }
     {
         match self.map.find_hashed(hash, key, tally) {
-            Lookup::Found(index) => Some(self.map.pair_at(index)),
-            Lookup::Missing(_) => None,
+            Ok(index) => Some(self.map.columns().pair_at(index)),
+            Err(_) => None,
         }
     }
 
-    /// Returns a pair whose key `is_match` accepts: in a vector the first, whatever the hash, in a table one among those of this
-    /// hash, and none exactly where there is none. Any hash may be given.
+    /// Returns a pair whose key `is_match` accepts, and none exactly where there is none. In a vector it is the first
+    /// such pair, whatever the hash. In a table it is one among those of this hash. Any hash may be given.
     ///
-    /// `is_match` is called with keys that are held, in a table with those of this hash alone.
+    /// `is_match` is called only with held keys, and in a table only with those of this hash.
     ///
     /// ```
     /// let hash = ages.hasher().hash_one(&1u64);
-    /// let pair = ages.raw_entry().from_hash(hash, |age| *age == 1); // 1 and 36
+    /// assert_eq!(rt; ages.raw_entry().from_hash(hash, |id| *id == 1), Some((&1, &36)));
     /// ```
     #[inline(always)]
     pub fn from_hash<F: Fn(&K) -> bool>(self, hash: u64, is_match: F) -> Option<(&'a K, &'a V)>
@@ -113,10 +102,6 @@ impl<'a, K: Eq + Hash, V, S: BuildHasher, L: Limit> LimitedRawEntryBuilder<'a, K
     }
 
     /// `from_hash`, with its work counted: that of one search, with no hash.
-    ///
-    /// ```
-    /// let pair = ages.raw_entry().from_hash_counted(5, |_| false, &mut tally); // none
-    /// ```
     #[inline(always)]
     pub fn from_hash_counted<F: Fn(&K) -> bool>(
         self,
@@ -131,9 +116,7 @@ impl<'a, K: Eq + Hash, V, S: BuildHasher, L: Limit> LimitedRawEntryBuilder<'a, K
         ensures cost { FindingCosts (key_hash S.BuildHasher S.Hasher.Hasher K.hash_input) hash (map_in self.entry)
             (option_map deref_pair result) tally.old tally.new }
     {
-        match self.map.find_match(hash, &is_match, tally) {
-            Lookup::Found(index) => Some(self.map.pair_at(index)),
-            Lookup::Missing(_) => None,
-        }
+        let index = self.map.find_match(hash, &is_match, tally).ok()?;
+        Some(self.map.columns().pair_at(index))
     }
 }

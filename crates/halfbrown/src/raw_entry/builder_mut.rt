@@ -11,7 +11,7 @@ ghost use Rattle.halfbrown.specs.RawSearch.{Searches, SearchesByMatch};
 
 use super::{LimitedRawEntryBuilderMut, LimitedRawEntryMut, LimitedRawVacantEntryMut};
 use crate::{Equivalent, Limit, LimitedOccupiedEntry};
-use half_store::{Lookup, Tally};
+use half_store::Tally;
 use std::hash::{BuildHasher, Hash};
 
 impl<'a, K: Eq + Hash, V, S: BuildHasher, L: Limit> LimitedRawEntryBuilderMut<'a, K, V, S, L> {
@@ -21,7 +21,8 @@ impl<'a, K: Eq + Hash, V, S: BuildHasher, L: Limit> LimitedRawEntryBuilderMut<'a
     /// let age = match ages.raw_entry_mut()?.from_key(&1) {
     ///     RawEntryMut::Occupied(entry) => *entry.into_mut(),
     ///     RawEntryMut::Vacant(_vacant) => 0,
-    /// }; // 36
+    /// };
+    /// assert_eq!(rt; age, 36);
     /// ```
     #[inline]
     pub fn from_key<Q: Equivalent<K>>(self, key: Q) -> LimitedRawEntryMut<'a, K, V, S, L>
@@ -31,10 +32,6 @@ impl<'a, K: Eq + Hash, V, S: BuildHasher, L: Limit> LimitedRawEntryBuilderMut<'a
     }
 
     /// `from_key`, with its work counted: that of one search.
-    ///
-    /// ```
-    /// let entry = ages.raw_entry_mut()?.from_key_counted(&1, &mut tally);
-    /// ```
     #[inline]
     pub fn from_key_counted<Q: Equivalent<K>>(
         self,
@@ -47,21 +44,20 @@ impl<'a, K: Eq + Hash, V, S: BuildHasher, L: Limit> LimitedRawEntryBuilderMut<'a
     {
         let LimitedRawEntryBuilderMut::Ready(ready) = self;
         match ready.map.find(key, tally) {
-            Lookup::Found(index) => LimitedRawEntryMut::Occupied(LimitedOccupiedEntry {
+            Ok(index) => LimitedRawEntryMut::Occupied(LimitedOccupiedEntry {
                 map: ready.map,
                 index,
             }),
-            Lookup::Missing(_) => LimitedRawEntryMut::Vacant(LimitedRawVacantEntryMut {
-                map: ready.map,
-            }),
+            Err(_) => LimitedRawEntryMut::Vacant(LimitedRawVacantEntryMut { map: ready.map }),
         }
     }
 
-    /// `from_key`, by a hash that is known, which must be the builder's hash of the key. Nothing is hashed.
+    /// `from_key` by a hash that is known, which must be the builder's hash of the key. Nothing is hashed.
     ///
     /// ```
     /// let hash = ages.hasher().hash_one(&1u64);
-    /// let entry = ages.raw_entry_mut()?.from_key_hashed_nocheck(hash, &1);
+    /// let entry = ages.raw_entry_mut()?.from_key_hashed_nocheck(hash, &1).insert(1, 37);
+    /// assert_eq!(rt; *entry.get(), 37);
     /// ```
     #[inline]
     pub fn from_key_hashed_nocheck<Q: Equivalent<K>>(
@@ -76,13 +72,6 @@ impl<'a, K: Eq + Hash, V, S: BuildHasher, L: Limit> LimitedRawEntryBuilderMut<'a
     }
 
     /// `from_key_hashed_nocheck`, with its work counted: that of one search, with no hash.
-    ///
-    /// ```
-    /// let hash = ages.hasher().hash_one(&1u64);
-    /// let entry = ages
-    ///     .raw_entry_mut()?
-    ///     .from_key_hashed_nocheck_counted(hash, &1, &mut tally);
-    /// ```
     #[inline]
     pub fn from_key_hashed_nocheck_counted<Q: Equivalent<K>>(
         self,
@@ -97,24 +86,23 @@ impl<'a, K: Eq + Hash, V, S: BuildHasher, L: Limit> LimitedRawEntryBuilderMut<'a
     {
         let LimitedRawEntryBuilderMut::Ready(ready) = self;
         match ready.map.find_hashed(hash, key, tally) {
-            Lookup::Found(index) => LimitedRawEntryMut::Occupied(LimitedOccupiedEntry {
+            Ok(index) => LimitedRawEntryMut::Occupied(LimitedOccupiedEntry {
                 map: ready.map,
                 index,
             }),
-            Lookup::Missing(_) => LimitedRawEntryMut::Vacant(LimitedRawVacantEntryMut {
-                map: ready.map,
-            }),
+            Err(_) => LimitedRawEntryMut::Vacant(LimitedRawVacantEntryMut { map: ready.map }),
         }
     }
 
-    /// The entry of a pair whose key `is_match` accepts: in a vector of the first, whatever the hash, in a table of one among those
-    /// of this hash. It is vacant exactly where there is none. Any hash may be given.
+    /// The entry of a pair whose key `is_match` accepts, which is vacant exactly where there is none. In a vector it is
+    /// the first such pair, whatever the hash. In a table it is one among those of this hash. Any hash may be given.
     ///
-    /// `is_match` is called with keys that are held, in a table with those of this hash alone.
+    /// `is_match` is called only with held keys, and in a table only with those of this hash.
     ///
     /// ```
     /// let hash = ages.hasher().hash_one(&1u64);
-    /// let entry = ages.raw_entry_mut()?.from_hash(hash, |age| *age == 1);
+    /// ages.raw_entry_mut()?.from_hash(hash, |id| *id == 1).and_modify(|_, age| *age = 37);
+    /// assert_eq!(rt; ages.get(&1), Some(&37));
     /// ```
     #[inline]
     pub fn from_hash<F: Fn(&K) -> bool>(
@@ -131,12 +119,6 @@ impl<'a, K: Eq + Hash, V, S: BuildHasher, L: Limit> LimitedRawEntryBuilderMut<'a
     }
 
     /// `from_hash`, with its work counted: that of one search, with no hash.
-    ///
-    /// ```
-    /// let entry = ages
-    ///     .raw_entry_mut()?
-    ///     .from_hash_counted(5, |_| false, &mut tally);
-    /// ```
     #[inline]
     pub fn from_hash_counted<F: Fn(&K) -> bool>(
         self,
@@ -153,13 +135,11 @@ impl<'a, K: Eq + Hash, V, S: BuildHasher, L: Limit> LimitedRawEntryBuilderMut<'a
     {
         let LimitedRawEntryBuilderMut::Ready(ready) = self;
         match ready.map.find_match(hash, &is_match, tally) {
-            Lookup::Found(index) => LimitedRawEntryMut::Occupied(LimitedOccupiedEntry {
+            Ok(index) => LimitedRawEntryMut::Occupied(LimitedOccupiedEntry {
                 map: ready.map,
                 index,
             }),
-            Lookup::Missing(_) => LimitedRawEntryMut::Vacant(LimitedRawVacantEntryMut {
-                map: ready.map,
-            }),
+            Err(_) => LimitedRawEntryMut::Vacant(LimitedRawVacantEntryMut { map: ready.map }),
         }
     }
 }

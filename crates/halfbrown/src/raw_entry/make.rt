@@ -16,7 +16,7 @@ impl<K: Eq + Hash, V, S: BuildHasher, L: Limit> LimitedHashMap<K, V, S, L> {
     /// Look-ups by a known hash, or by a match on keys. It costs nothing.
     ///
     /// ```
-    /// let pair = ages.raw_entry().from_key(&1); // 1 and 36
+    /// assert_eq!(rt; ages.raw_entry().from_key(&2), Some((&2, &41)));
     /// ```
     #[inline(always)]
     pub fn raw_entry(&self) -> LimitedRawEntryBuilder<'_, K, V, S, L>
@@ -25,13 +25,15 @@ impl<K: Eq + Hash, V, S: BuildHasher, L: Limit> LimitedHashMap<K, V, S, L> {
         LimitedRawEntryBuilder { map: self }
     }
 
-    /// What raw entries are made from: pairs by a known hash or by a match on keys, to be read, written, removed or added.
+    /// Makes what a raw entry is searched through: by a known hash or by a match on keys, to read, write, remove or add
+    /// a pair.
     ///
-    /// Whatever is searched afterwards, a full vector becomes a table first, and the capacity is made enough for one pair more.
-    /// Fails only where more capacity is needed, and then nothing changes. No call on the entry fails.
+    /// A full vector becomes a table first, and the capacity is made enough for one more pair, whatever is searched
+    /// afterwards. Fails only where more capacity is needed, and then nothing changes. No call on the entry fails.
     ///
     /// ```
-    /// let age = *ages.raw_entry_mut()?.from_key(&1).or_insert(1, 36).1; // 36
+    /// let (_, age) = ages.raw_entry_mut()?.from_key(&3).or_insert(3, 5);
+    /// assert_eq!(rt; *age, 5);
     /// ```
     #[inline]
     pub fn raw_entry_mut(&mut self) -> Result<LimitedRawEntryBuilderMut<'_, K, V, S, L>, Refusal>
@@ -42,12 +44,6 @@ impl<K: Eq + Hash, V, S: BuildHasher, L: Limit> LimitedHashMap<K, V, S, L> {
     }
 
     /// `raw_entry_mut`, with its work counted: one hash for each pair at a switch, and nothing else.
-    ///
-    /// ```
-    /// let entry = ages
-    ///     .raw_entry_mut_counted(&mut tally)?
-    ///     .from_key_counted(&1, &mut tally);
-    /// ```
     #[inline]
     pub fn raw_entry_mut_counted(
         &mut self,

@@ -14,11 +14,12 @@ use half_store::Tally;
 use std::hash::{BuildHasher, Hash};
 
 impl<'a, K: Eq + Hash, V, S: BuildHasher, L: Limit> LimitedRawEntryMut<'a, K, V, S, L> {
-    /// Gives the pair that was found this value, and drops the given key; where none was found, adds the pair, whose key must not
-    /// be held. Returns its entry.
+    /// Gives the pair that was found this value, and drops the given key. Where none was found, adds the pair, whose
+    /// key must not be held. Returns the pair's entry.
     ///
     /// ```
     /// let entry = ages.raw_entry_mut()?.from_key(&1).insert(1, 37);
+    /// assert_eq!(rt; *entry.get(), 37);
     /// ```
     #[inline]
     pub fn insert(self, key: K, value: V) -> LimitedOccupiedEntry<'a, K, V, S, L>
@@ -32,13 +33,6 @@ impl<'a, K: Eq + Hash, V, S: BuildHasher, L: Limit> LimitedRawEntryMut<'a, K, V,
     }
 
     /// `insert`, with its work counted: nothing where a pair was found, and else that of a vacant entry's `insert`.
-    ///
-    /// ```
-    /// let entry = ages
-    ///     .raw_entry_mut()?
-    ///     .from_key(&1)
-    ///     .insert_counted(1, 38, &mut tally);
-    /// ```
     #[inline]
     pub fn insert_counted(
         self,
@@ -63,15 +57,12 @@ impl<'a, K: Eq + Hash, V, S: BuildHasher, L: Limit> LimitedRawEntryMut<'a, K, V,
         }
     }
 
-    /// Adds the pair where none was found, whose key must not be held. Returns the entry of the pair that is held now: a value that
-    /// is held already stays, and the given pair is dropped.
+    /// Adds the pair where none was found. Its key must not be held then. A pair that was found stays, and the given
+    /// one is dropped. Returns the entry of the pair that is held now.
     ///
     /// ```
-    /// let age = *ages
-    ///     .raw_entry_mut()?
-    ///     .from_key(&2)
-    ///     .or_insert_entry(2, 41)
-    ///     .get(); // 41
+    /// let entry = ages.raw_entry_mut()?.from_key(&2).or_insert_entry(2, 0);
+    /// assert_eq!(rt; *entry.get(), 41);
     /// ```
     #[inline]
     pub fn or_insert_entry(
@@ -89,13 +80,6 @@ impl<'a, K: Eq + Hash, V, S: BuildHasher, L: Limit> LimitedRawEntryMut<'a, K, V,
     }
 
     /// `or_insert_entry`, with its work counted: nothing where a pair was found, and else that of a vacant entry's `insert`.
-    ///
-    /// ```
-    /// let entry = ages
-    ///     .raw_entry_mut()?
-    ///     .from_key(&2)
-    ///     .or_insert_entry_counted(2, 41, &mut tally);
-    /// ```
     #[inline]
     pub fn or_insert_entry_counted(
         self,
@@ -123,11 +107,13 @@ impl<'a, K: Eq + Hash, V, S: BuildHasher, L: Limit> LimitedRawEntryMut<'a, K, V,
         }
     }
 
-    /// Adds the pair where none was found, whose key must not be held. Returns the stored key and the value that is held now, to
-    /// be written for as long as the map is borrowed: a value that is held already stays, and the given pair is dropped.
+    /// Adds the pair where none was found. Its key must not be held then. A pair that was found stays, and the given
+    /// one is dropped. Returns the stored key, and the value that is held now, to be written for as long as the map is
+    /// borrowed.
     ///
     /// ```
-    /// *ages.raw_entry_mut()?.from_key(&3).or_insert(3, 5).1 = 6;
+    /// *ages.raw_entry_mut()?.from_key(&3).or_insert(3, 0).1 = 5;
+    /// assert_eq!(rt; ages.get(&3), Some(&5));
     /// ```
     #[inline]
     pub fn or_insert(self, default_key: K, default_value: V) -> (&'a K, &'a mut V)
@@ -141,13 +127,6 @@ impl<'a, K: Eq + Hash, V, S: BuildHasher, L: Limit> LimitedRawEntryMut<'a, K, V,
     }
 
     /// `or_insert`, with its work counted: nothing where a pair was found, and else that of a vacant entry's `insert`.
-    ///
-    /// ```
-    /// let pair = ages
-    ///     .raw_entry_mut()?
-    ///     .from_key(&3)
-    ///     .or_insert_counted(3, 5, &mut tally);
-    /// ```
     #[inline]
     pub fn or_insert_counted(
         self,
@@ -173,14 +152,11 @@ impl<'a, K: Eq + Hash, V, S: BuildHasher, L: Limit> LimitedRawEntryMut<'a, K, V,
         }
     }
 
-    /// `or_insert`, with a pair that is made only where none was found.
+    /// `or_insert` with a pair that is made only where none was found.
     ///
     /// ```
-    /// let age = *ages
-    ///     .raw_entry_mut()?
-    ///     .from_key(&4)
-    ///     .or_insert_with(|| (4, 8))
-    ///     .1; // 8
+    /// let (_, age) = ages.raw_entry_mut()?.from_key(&3).or_insert_with(|| (3, 5));
+    /// assert_eq!(rt; *age, 5);
     /// ```
     #[inline]
     pub fn or_insert_with<F: FnOnce() -> (K, V)>(self, default: F) -> (&'a K, &'a mut V)
@@ -193,13 +169,6 @@ impl<'a, K: Eq + Hash, V, S: BuildHasher, L: Limit> LimitedRawEntryMut<'a, K, V,
     }
 
     /// `or_insert_with`, with its work counted: nothing where a pair was found, and else that of a vacant entry's `insert`.
-    ///
-    /// ```
-    /// let pair = ages
-    ///     .raw_entry_mut()?
-    ///     .from_key(&4)
-    ///     .or_insert_with_counted(|| (4, 8), &mut tally);
-    /// ```
     #[inline]
     pub fn or_insert_with_counted<F: FnOnce() -> (K, V)>(
         self,
@@ -225,10 +194,8 @@ impl<'a, K: Eq + Hash, V, S: BuildHasher, L: Limit> LimitedRawEntryMut<'a, K, V,
     /// Changes the value of the pair that was found, and returns the entry. Where none was found `f` is not called.
     ///
     /// ```
-    /// let entry = ages
-    ///     .raw_entry_mut()?
-    ///     .from_key(&4)
-    ///     .and_modify(|_, age| *age = 9);
+    /// ages.raw_entry_mut()?.from_key(&1).and_modify(|_, age| *age = 37);
+    /// assert_eq!(rt; ages.get(&1), Some(&37));
     /// ```
     #[inline]
     pub fn and_modify<F: FnOnce(&K, &mut V)>(self, f: F) -> LimitedRawEntryMut<'a, K, V, S, L>

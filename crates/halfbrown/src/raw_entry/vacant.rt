@@ -1,4 +1,9 @@
-//! The calls of a vacant raw entry.
+//! The calls of a vacant raw entry. In the examples a search for 3 has found none:
+//!
+//! ```
+//! let hash = ages.hasher().hash_one(&3u64);
+//! let RawEntryMut::Vacant(entry) = ages.raw_entry_mut()?.from_key(&3) else { unreachable!() };
+//! ```
 ghost use Rattle.std.specs.Prelude.{◌≡◌, false};
 ghost use Rattle.halfbrown.specs.Costs.{key_hash};
 ghost use Rattle.halfbrown.specs.Pairs.{holds};
@@ -10,11 +15,12 @@ use half_store::Tally;
 use std::hash::{BuildHasher, Hash};
 
 impl<'a, K: Eq + Hash, V, S: BuildHasher, L: Limit> LimitedRawVacantEntryMut<'a, K, V, S, L> {
-    /// Adds a pair at the end, whose key must not be held. Returns the stored key, and the value, to be written for as long as the
-    /// map is borrowed. In a table the key is hashed once, and one insertion probe made.
+    /// Adds a pair at the end. Its key must not be held. Returns the stored key, and the value, to be written for as
+    /// long as the map is borrowed. In a table the key is hashed once, and one insertion probe is made.
     ///
     /// ```
-    /// *entry.insert(5, 0).1 = 21;
+    /// *entry.insert(3, 0).1 = 5;
+    /// assert_eq!(rt; ages.get(&3), Some(&5));
     /// ```
     #[inline]
     pub fn insert(self, key: K, value: V) -> (&'a K, &'a mut V)
@@ -25,10 +31,6 @@ impl<'a, K: Eq + Hash, V, S: BuildHasher, L: Limit> LimitedRawVacantEntryMut<'a,
     }
 
     /// `insert`, with its work counted: one hash and one insertion probe in a table, and nothing in a vector.
-    ///
-    /// ```
-    /// let pair = entry.insert_counted(5, 21, &mut tally); // 5 and 21
-    /// ```
     #[inline]
     pub fn insert_counted(self, key: K, value: V, tally: &mut Tally) -> (&'a K, &'a mut V)
         requires { holds K.eq (raw_map (Vacant self)).pairs key ≡ false }
@@ -40,10 +42,11 @@ impl<'a, K: Eq + Hash, V, S: BuildHasher, L: Limit> LimitedRawVacantEntryMut<'a,
             .into_key_value()
     }
 
-    /// `insert`, which returns the pair's entry.
+    /// `insert`, but returns the pair's entry.
     ///
     /// ```
-    /// let entry = entry.insert_entry(5, 21);
+    /// let entry = entry.insert_entry(3, 5);
+    /// assert_eq!(rt; *entry.get(), 5);
     /// ```
     #[inline]
     pub fn insert_entry(self, key: K, value: V) -> LimitedOccupiedEntry<'a, K, V, S, L>
@@ -54,10 +57,6 @@ impl<'a, K: Eq + Hash, V, S: BuildHasher, L: Limit> LimitedRawVacantEntryMut<'a,
     }
 
     /// `insert_entry`, with its work counted: that of `insert`.
-    ///
-    /// ```
-    /// let entry = entry.insert_entry_counted(5, 21, &mut tally);
-    /// ```
     #[inline]
     pub fn insert_entry_counted(
         self,
@@ -70,14 +69,15 @@ impl<'a, K: Eq + Hash, V, S: BuildHasher, L: Limit> LimitedRawVacantEntryMut<'a,
         ensures cost { tally.new ≡ after_adding (key_hash S.BuildHasher S.Hasher.Hasher K.hash_input)
             (raw_map (Vacant self.entry)) key tally.old }
     {
-        let hash = self.map.hash_to_store(&key, tally);
+        let hash = self.map.hash_in_table(&key, tally);
         self.add(hash, key, value, tally)
     }
 
-    /// `insert`, by a hash that is known, which must be the builder's hash of the key. Nothing is hashed.
+    /// `insert` by a hash that is known, which must be the builder's hash of the key. Nothing is hashed.
     ///
     /// ```
-    /// let pair = entry.insert_hashed_nocheck(hash, 5, 21); // 5 and 21
+    /// *entry.insert_hashed_nocheck(hash, 3, 0).1 = 5;
+    /// assert_eq!(rt; ages.get(&3), Some(&5));
     /// ```
     #[inline]
     pub fn insert_hashed_nocheck(self, hash: u64, key: K, value: V) -> (&'a K, &'a mut V)
@@ -89,10 +89,6 @@ impl<'a, K: Eq + Hash, V, S: BuildHasher, L: Limit> LimitedRawVacantEntryMut<'a,
     }
 
     /// `insert_hashed_nocheck`, with its work counted: one insertion probe in a table, and nothing in a vector.
-    ///
-    /// ```
-    /// let pair = entry.insert_hashed_nocheck_counted(hash, 5, 21, &mut tally); // 5 and 21
-    /// ```
     #[inline]
     pub fn insert_hashed_nocheck_counted(
         self,
@@ -110,10 +106,11 @@ impl<'a, K: Eq + Hash, V, S: BuildHasher, L: Limit> LimitedRawVacantEntryMut<'a,
         self.add(hash, key, value, tally).into_key_value()
     }
 
-    /// `insert_hashed_nocheck`, which returns the pair's entry.
+    /// `insert_hashed_nocheck`, but returns the pair's entry.
     ///
     /// ```
-    /// let entry = entry.insert_entry_hashed_nocheck(hash, 5, 21);
+    /// let entry = entry.insert_entry_hashed_nocheck(hash, 3, 5);
+    /// assert_eq!(rt; *entry.get(), 5);
     /// ```
     #[inline]
     pub fn insert_entry_hashed_nocheck(
@@ -130,10 +127,6 @@ impl<'a, K: Eq + Hash, V, S: BuildHasher, L: Limit> LimitedRawVacantEntryMut<'a,
     }
 
     /// `insert_entry_hashed_nocheck`, with its work counted: that of `insert_hashed_nocheck`.
-    ///
-    /// ```
-    /// let entry = entry.insert_entry_hashed_nocheck_counted(hash, 5, 21, &mut tally);
-    /// ```
     #[inline]
     pub fn insert_entry_hashed_nocheck_counted(
         self,
@@ -151,10 +144,11 @@ impl<'a, K: Eq + Hash, V, S: BuildHasher, L: Limit> LimitedRawVacantEntryMut<'a,
         self.add(hash, key, value, tally)
     }
 
-    /// `insert_hashed_nocheck`, with a function that hashes keys. It is not called, since hashes are stored.
+    /// `insert_hashed_nocheck` with a function that hashes keys. The function is not called, since hashes are stored.
     ///
     /// ```
-    /// let pair = entry.insert_with_hasher(hash, 5, 21, |_| hash); // 5 and 21
+    /// *entry.insert_with_hasher(hash, 3, 0, |_| hash).1 = 5;
+    /// assert_eq!(rt; ages.get(&3), Some(&5));
     /// ```
     #[inline]
     pub fn insert_with_hasher<F: Fn(&K) -> u64>(
@@ -172,10 +166,6 @@ impl<'a, K: Eq + Hash, V, S: BuildHasher, L: Limit> LimitedRawVacantEntryMut<'a,
     }
 
     /// `insert_with_hasher`, with its work counted: that of `insert_hashed_nocheck`.
-    ///
-    /// ```
-    /// let pair = entry.insert_with_hasher_counted(hash, 5, 21, |_| hash, &mut tally); // 5 and 21
-    /// ```
     #[inline]
     pub fn insert_with_hasher_counted<F: Fn(&K) -> u64>(
         self,

@@ -1,6 +1,7 @@
 use Rattle.std.proofs.Common.{◌≡◌, ◌*◌, inr, refl, ◌∙◌, arith}
 use Rattle.half_store.specs.Capacity.{more_buckets, buckets_for}
-use Rattle.half_store.proofs.CapacityLemmas.{buckets_for-is, four-le_count, more_buckets-count, more_buckets-some, more_buckets-least, capacity_of-below}
+use Rattle.half_store.proofs.lemmas.capacity.{buckets_for-is, four-le_count, more_buckets-count, more_buckets-some, more_buckets-least}
+use Rattle.half_store.proofs.lemmas.capacity.{capacity_of-below}
 use Rattle.half_store.proofs.capacity.buckets_for.Goals as goal
 
 pub returns-then-needed-eq0-clause-value : goal.returns-then-needed-eq0-clause-value

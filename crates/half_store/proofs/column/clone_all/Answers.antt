@@ -16,8 +16,10 @@ pub loop-item-preserved : goal.loop-item-preserved
 loop-item-preserved g c =
     let within : c.loop-item.item-index < length c.args.from.now = omega arith in
     record {
-      items = subst (λ ys. AllZip g.T.Clone.is_clone (take (c.loop-item.item-index + 1) c.args.from.now) ys) (sym c.push_reserved.ensures.items)
-          (all_zip_more g.T.Clone.is_clone c.args.from.now c.loop-item.to.items c.loop-item.item-index c.item-item.result c.in_ok-clone.field-0 within c.item-item.is c.loop-item.invariant.items c.in_ok-clone.ensures.cases);
+      items = subst (λ ys. AllZip g.T.Clone.is_clone (take (c.loop-item.item-index + 1) c.args.from.now) ys)
+          (sym c.push_reserved.ensures.items)
+          (all_zip_more g.T.Clone.is_clone c.args.from.now c.loop-item.to.items c.loop-item.item-index c.item-item.result
+          c.in_ok-clone.field-0 within c.item-item.is c.loop-item.invariant.items c.in_ok-clone.ensures.cases);
       len = omega (arith, c.push_reserved.ensures.len);
       inside = omega arith;
       capacity = omega (arith, c.push_reserved.ensures.capacity);
@@ -25,7 +27,8 @@ loop-item-preserved g c =
 
 pub returns : goal.returns
 returns g c = record {
-  items = subst (λ xs. AllZip g.T.Clone.is_clone xs c.loop-item.to.items) (take_all c.loop-item.item-index c.args.from.now c.loop-item-test.false) c.loop-item.invariant.items;
+  items = subst (λ xs. AllZip g.T.Clone.is_clone xs c.loop-item.to.items)
+      (take_all c.loop-item.item-index c.args.from.now c.loop-item-test.false) c.loop-item.invariant.items;
   len = omega arith;
   capacity = c.loop-item.invariant.capacity;
 }

@@ -10,6 +10,7 @@ pub loop-word-preserved : goal.loop-word-preserved
 loop-word-preserved c =
     search (
       rules,
-      counted_text_step (λ word. word.now) c.args.words.now c.loop-word.word-index (record { ref_ptr = (0, 0); now = [] }) c.loop-word.invariant
+      counted_text_step (λ word. word.now) c.args.words.now c.loop-word.word-index (record { ref_ptr = (0, 0); now = [] })
+          c.loop-word.invariant
           (c.in_ok-counts.ensures.makes.writes.puts (c.or_insert.result.now + 1)),
     )

@@ -8,6 +8,8 @@ loop-value-preserved c =
     let xs = c.args.values.now in
     let i = c.loop-value.value-index in
     (λ j. set (c.loop-value.invariant j) i (c.min.ensures j))
-    ∙ ap (λ n. set (map capped (take i xs) ++ drop i xs) i (min n c.args.most)) (ap (λ l. get_or l i 0) c.loop-value.invariant ∙ next_of_prefix capped xs i 0 (omega (arith, c.loop-value.auto.value-index-end, c.loop-value-test.true)))
+    ∙ ap (λ n. set (map capped (take i xs) ++ drop i xs) i (min n c.args.most))
+    (ap (λ l. get_or l i 0) c.loop-value.invariant
+    ∙ next_of_prefix capped xs i 0 (omega (arith, c.loop-value.auto.value-index-end, c.loop-value-test.true)))
     ∙ longer_prefix capped xs i 0 (omega (arith, c.loop-value.auto.value-index-end, c.loop-value-test.true))
     ∙ ap (λ m. map capped (take m xs) ++ drop m xs) (sym (add-one i))

@@ -3,4 +3,4 @@ use Rattle.half_tests.proofs.worked.table_of.Given as goal
 use Rattle.half_tests.proofs.Tables.{IsFilled}
 
 abbrev pub invariant-loop-key : goal.invariant-loop-key
-invariant-loop-key l = IsFilled l.fn.rule l.fn.capacity (take l.key-index l.keys) l.map
+invariant-loop-key l = IsFilled l.fn.rule (take l.key-index l.keys) l.map

@@ -1,5 +1,11 @@
 use Rattle.halfbrown.proofs.run.step.Goals as goal
 
+pub returns-in-Insert-clause-step : goal.returns-in-Insert-clause-step
+returns-in-Insert-clause-step g c = rw c.in-Insert.is c.insert.ensures.step
+
+pub returns-in-Insert-clause-cost : goal.returns-in-Insert-clause-cost
+returns-in-Insert-clause-cost g c = rw c.in-Insert.is c.insert.ensures.cost
+
 pub returns-in-InsertNew-clause-step : goal.returns-in-InsertNew-clause-step
 returns-in-InsertNew-clause-step g c = rw c.in-InsertNew.is c.insert_new.ensures.step
 

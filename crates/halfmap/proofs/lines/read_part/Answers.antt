@@ -11,7 +11,11 @@ pub returns-in-Err-2 : goal.returns-in-Err-2
 returns-in-Err-2 g c = ([], keeps_nothing _ _ _ refl, reads_nothing _ _ _ c.fill_buf.follows.holds-at-none.0 (λ e. cc))
 
 pub returns-in_err-keep : goal.returns-in_err-keep
-returns-in_err-keep g c = ([], keeps_nothing _ _ _ c.in_err-keep.ensures.err, reads_nothing _ _ _ c.fill_buf.follows.holds-at-none.0 (no_flag _ c.from_residual.ensures.0))
+returns-in_err-keep g c = (
+  [],
+  keeps_nothing _ _ _ c.in_err-keep.ensures.err,
+  reads_nothing _ _ _ c.fill_buf.follows.holds-at-none.0 (no_flag _ c.from_residual.ensures.0),
+)
 
 pub returns : goal.returns
 returns g c =
@@ -21,5 +25,6 @@ returns g c =
     let filled = subst (FillKeeps _ known room) c.in-Ok.is c.fill_buf.follows.holds-at-none in (
       take c.part_of_line-len.result.0 c.in-Ok.bytes.now,
       c.in_ok-keep.ensures.ok,
-      reads_shown _ known _ room c.in-Ok.bytes.now _ _ _ refl c.part_of_line-len.ensures c.in-Ok.ensures.front c.in-Ok.ensures.end filled.0 filled.1 c.consume.ensures.bytes,
+      reads_shown _ known _ room c.in-Ok.bytes.now _ _ _ refl c.part_of_line-len.ensures c.in-Ok.ensures.front c.in-Ok.ensures.end filled.0
+          filled.1 c.consume.ensures.bytes,
     )

@@ -18,5 +18,7 @@ loop-preserved g c =
     let read = c.in_ok-read_line.ensures in
     let some = some_line _ _ read.line.0 read.line.1 read.more c.if-not-branch.false in
     let answer = c.in_ok-answer_line.ensures in
-    let answers = subst (λ (line : List ℕ). AnswersLine line c.loop.map answer.0 c.answer_line.new.map) (c.as_slice.ensures.value ∙ read.line.1) answer.1 in
-    serves_line _ _ _ _ _ _ _ _ _ _ read.line.0 answer.0 c.loop.invariant c.write_before_waiting.ensures.kept some read.line.2 (answers_line _ _ _ _ answers) answer.2
+    let answers = subst (λ (line : List ℕ). AnswersLine line c.loop.map answer.0 c.answer_line.new.map)
+    (c.as_slice.ensures.value ∙ read.line.1) answer.1 in
+    serves_line _ _ _ _ _ _ _ _ _ _ read.line.0 answer.0 c.loop.invariant c.write_before_waiting.ensures.kept some read.line.2
+    (answers_line _ _ _ _ answers) answer.2

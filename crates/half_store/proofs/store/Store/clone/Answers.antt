@@ -3,7 +3,7 @@ use Rattle.std.proofs.lemmas.List.Elements.{length_all_zip}
 use Rattle.std.specs.List.{AllZip}
 use Rattle.half_store.specs.Capacity.{capacity_of}
 use Rattle.half_store.specs.Store.{IsStore}
-use Rattle.half_store.proofs.Stores.{vector_view, table_view}
+use Rattle.half_store.proofs.lemmas.store.States.{vector_view, table_view}
 use Rattle.half_store.proofs.store.Store.clone.Goals as goal
 
 pub invariant_of-result-2 : goal.invariant_of-result-2

@@ -1,6 +1,5 @@
-use Rattle.half_store.proofs.BucketsSeen.{buckets_seen}
-use Rattle.half_store.proofs.IndexLemmas.{index-shows}
+use Rattle.half_store.proofs.lemmas.table.Layout.{buckets_seen}
 use Rattle.half_store.proofs.table.Table.add.Goals as goal
 
 pub returns-clause-capacity : goal.returns-clause-capacity
-returns-clause-capacity g c = buckets_seen (index-shows c.self.invariant.indexed.index c.self.view_is)
+returns-clause-capacity c = buckets_seen _ _ c.self.invariant.indexed c.self.view_is

@@ -1,13 +1,13 @@
-use Rattle.std.proofs.Common.{ℕ, [], replicate, refl, ap, arith}
+use Rattle.std.proofs.Common.{ℕ, refl, ap, arith}
 use Rattle.std.proofs.lemmas.List.{length-replicate}
 use Rattle.half_store.specs.Capacity.{capacity_of}
-use Rattle.half_store.proofs.IndexLemmas.{IsIndexed-empty, IsTable-as}
+use Rattle.half_store.proofs.lemmas.table.Layout.{IsIndexed-empty, IsTable-as}
 use Rattle.half_store.proofs.table.Table.empty.Goals as goal
 
 pub invariant_of-result : goal.invariant_of-result
-invariant_of-result g c =
+invariant_of-result c =
     let m : ℕ = c.args.buckets in
     let same = ap capacity_of (length-replicate {A = ℕ} m 0) in
     let words = c.in_ok-buckets.ensures in
-    IsTable-as [] (replicate m 0) c.in_ok-hashes.ensures.items words.words refl (IsIndexed-empty m c.requires)
+    IsTable-as c.in_ok-hashes.ensures.items words.words refl (IsIndexed-empty m c.requires)
     (omega (arith, same, words.fits)) (omega (arith, same, c.capacity_of.ensures, c.in_ok-hashes.ensures.exact))

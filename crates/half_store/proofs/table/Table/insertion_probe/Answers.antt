@@ -1,29 +1,43 @@
-use Rattle.std.proofs.Common.{ap}
+use Rattle.std.proofs.Common.{sym, ap, arith}
 use Rattle.half_store.specs.Words.{words_of}
-use Rattle.half_store.proofs.BucketsSeen.{buckets_seen}
-use Rattle.half_store.proofs.IndexLemmas.{shows_lent, laid_out}
+use Rattle.half_store.proofs.lemmas.table.Layout.{IsIndexed-as, index-vacant, view_lent, count_seen, buckets_seen}
+use Rattle.half_store.proofs.lemmas.table.Find.{probing_cost}
 use Rattle.half_store.proofs.table.Table.insertion_probe.Goals as goal
 
-pub probe_in-requires-clause-layout : goal.probe_in-requires-clause-layout
-probe_in-requires-clause-layout g c = laid_out (shows_lent c.self.invariant c.self.view_is c.as_slice-hashes.ensures.value (ap words_of c.in-FourBytes.is))
-
-pub returns-in-FourBytes-clause-vacancy : goal.returns-in-FourBytes-clause-vacancy
-returns-in-FourBytes-clause-vacancy g c = c.probe_in.ensures.vacancy c.args.self.now (shows_lent c.self.invariant c.self.view_is c.as_slice-hashes.ensures.value (ap words_of c.in-FourBytes.is))
+pub first_empty-requires-clause-vacant : goal.first_empty-requires-clause-vacant
+first_empty-requires-clause-vacant c =
+    let words = ap words_of c.in-FourBytes.is in
+    let view = view_lent c.self.view_is c.as_slice-hashes.ensures.value words in
+    index-vacant (IsIndexed-as c.as_slice-hashes.ensures.value (sym words) c.self.invariant.indexed)
+    (omega (arith, count_seen _ _ view, c.requires))
 
 pub returns-in-FourBytes-clause-cost : goal.returns-in-FourBytes-clause-cost
-returns-in-FourBytes-clause-cost g c = c.probe_in.ensures.cost c.args.self.now (shows_lent c.self.invariant c.self.view_is c.as_slice-hashes.ensures.value (ap words_of c.in-FourBytes.is))
+returns-in-FourBytes-clause-cost c =
+    let words = ap words_of c.in-FourBytes.is in
+    let view = view_lent c.self.view_is c.as_slice-hashes.ensures.value words in
+    let ended = c.first_empty in
+    probing_cost (IsIndexed-as c.as_slice-hashes.ensures.value
+    (sym words) c.self.invariant.indexed) c.args.hash view ended.result c.args.tally.now ended.new.tally
+    ended.ensures.vacancy ended.ensures.cost
 
 pub returns-in-FourBytes-clause-buckets : goal.returns-in-FourBytes-clause-buckets
-returns-in-FourBytes-clause-buckets g c = buckets_seen (shows_lent c.self.invariant c.self.view_is c.as_slice-hashes.ensures.value (ap words_of c.in-FourBytes.is))
+returns-in-FourBytes-clause-buckets c = buckets_seen _ _ c.self.invariant.indexed c.self.view_is
 
-pub probe_in-requires-in-EightBytes-clause-layout : goal.probe_in-requires-in-EightBytes-clause-layout
-probe_in-requires-in-EightBytes-clause-layout g c = laid_out (shows_lent c.self.invariant c.self.view_is c.as_slice-hashes.ensures.value (ap words_of c.in-EightBytes.is))
-
-pub returns-in-EightBytes-clause-vacancy : goal.returns-in-EightBytes-clause-vacancy
-returns-in-EightBytes-clause-vacancy g c = c.probe_in-in-EightBytes.ensures.vacancy c.args.self.now (shows_lent c.self.invariant c.self.view_is c.as_slice-hashes.ensures.value (ap words_of c.in-EightBytes.is))
+pub first_empty-requires-in-EightBytes-clause-vacant : goal.first_empty-requires-in-EightBytes-clause-vacant
+first_empty-requires-in-EightBytes-clause-vacant c =
+    let words = ap words_of c.in-EightBytes.is in
+    let view = view_lent c.self.view_is c.as_slice-hashes.ensures.value words in
+    index-vacant (IsIndexed-as c.as_slice-hashes.ensures.value (sym words) c.self.invariant.indexed)
+    (omega (arith, count_seen _ _ view, c.requires))
 
 pub returns-in-EightBytes-clause-cost : goal.returns-in-EightBytes-clause-cost
-returns-in-EightBytes-clause-cost g c = c.probe_in-in-EightBytes.ensures.cost c.args.self.now (shows_lent c.self.invariant c.self.view_is c.as_slice-hashes.ensures.value (ap words_of c.in-EightBytes.is))
+returns-in-EightBytes-clause-cost c =
+    let words = ap words_of c.in-EightBytes.is in
+    let view = view_lent c.self.view_is c.as_slice-hashes.ensures.value words in
+    let ended = c.first_empty-in-EightBytes in
+    probing_cost (IsIndexed-as c.as_slice-hashes.ensures.value
+    (sym words) c.self.invariant.indexed) c.args.hash view ended.result c.args.tally.now ended.new.tally
+    ended.ensures.vacancy ended.ensures.cost
 
 pub returns-in-EightBytes-clause-buckets : goal.returns-in-EightBytes-clause-buckets
-returns-in-EightBytes-clause-buckets g c = buckets_seen (shows_lent c.self.invariant c.self.view_is c.as_slice-hashes.ensures.value (ap words_of c.in-EightBytes.is))
+returns-in-EightBytes-clause-buckets c = buckets_seen _ _ c.self.invariant.indexed c.self.view_is

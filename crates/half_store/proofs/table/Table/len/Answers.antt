@@ -1,10 +1,9 @@
 use Rattle.std.proofs.Common.{arith}
-use Rattle.half_store.proofs.IndexLemmas.{index-within}
-use Rattle.half_store.proofs.WordLemmas.{most-le}
+use Rattle.half_store.proofs.lemmas.words.{most-le}
 use Rattle.half_store.proofs.table.Table.len.Goals as goal
 
 pub returns-clause-small : goal.returns-clause-small
-returns-clause-small g c =
+returns-clause-small c =
     let t = c.self.inside in
     let x = c.self.invariant in
-    omega (arith, c.len.ensures, t.hashes.ok, index-within x.indexed.index, x.fits, most-le t.buckets)
+    omega (arith, c.len.ensures, t.hashes.ok, x.indexed.room, x.fits, most-le t.buckets)

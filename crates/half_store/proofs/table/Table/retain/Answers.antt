@@ -1,10 +1,9 @@
-use Rattle.std.proofs.Common.{◌≡◌, ℕ, List, ◌++◌, length, take, drop, replicate, refl, sym, ap, subst, ◌∙◌, arith}
+use Rattle.std.proofs.Common.{◌≡◌, ℕ, List, ◌++◌, length, take, drop, refl, sym, ap, subst, ◌∙◌, arith}
 use Rattle.std.proofs.lemmas.List.{take_at, length-replicate}
-use Rattle.half_store.specs.Capacity.{capacity_of, IsBucketCount}
+use Rattle.half_store.specs.Capacity.{capacity_of}
 use Rattle.half_store.specs.TableLayout.{IsTable}
 use Rattle.half_store.specs.Words.{words_of, most_of}
-use Rattle.half_store.proofs.BucketLemmas.{length-slots_by}
-use Rattle.half_store.proofs.IndexLemmas.{IsTable-as, index-buckets}
+use Rattle.half_store.proofs.lemmas.table.Layout.{IsTable-as}
 use Rattle.half_store.proofs.table.Table.retain.Goals as goal
 
 pub invariant_of-self-2 : goal.invariant_of-self-2
@@ -12,7 +11,7 @@ invariant_of-self-2 g c =
     let x = c.self.invariant in
     let m : ℕ = length (words_of c.self.inside.buckets) in
     let same = ap capacity_of (c.rehash.ensures.len ∙ ap length c.clear.ensures.words ∙ length-replicate {A = ℕ} m 0) in
-    IsTable-as c.as_slice.result.now (words_of c.rehash.new.buckets) (sym c.as_slice.ensures.value) refl (c.rehash.ensures.most ∙ c.clear.ensures.most) c.rehash.ensures.indexed
+    IsTable-as (sym c.as_slice.ensures.value) refl (c.rehash.ensures.most ∙ c.clear.ensures.most) c.rehash.ensures.indexed
     (omega (arith, same, x.fits)) (omega (arith, same, x.exact, c.truncate.ensures.capacity))
 
 -- a column whose front part is written as it was
@@ -23,22 +22,15 @@ pub invariant_of-self : goal.invariant_of-self
 invariant_of-self g c =
     let t = c.self.inside in
     let long : length c.retain_with.new.self.pairs ≡ length c.args.pairs.now.pairs =
-    omega (arith, c.len.ensures.len, c.if-len.true, c.len-2.ensures, t.hashes.ok.0, ap (λ s. length s.hashes) c.self.view_is, c.requires.len) in
+    omega (
+      arith,
+      c.len.ensures.len,
+      c.if-len.true,
+      c.len-2.ensures,
+      t.hashes.ok.0,
+      ap (λ s. length s.hashes) c.self.view_is,
+      c.requires.len,
+    ) in
     let same = c.retain_with.ensures.same long ∙ c.as_mut_slice.ensures.value in
     subst (λ hashes. IsTable hashes (words_of t.buckets) (most_of t.buckets) t.hashes.cap)
     (sym (same_front t.hashes.items c.retain_with.new.hashes t.hashes.len same (omega (arith, t.hashes.ok.0)))) c.self.invariant
-
-pub returns-then-len-clause-buckets : goal.returns-then-len-clause-buckets
-returns-then-len-clause-buckets g c =
-    let t = c.self.inside in
-    length-slots_by _ (words_of t.buckets) ∙ sym (length-slots_by t.hashes.items (words_of t.buckets)) ∙ ap (λ s. s.buckets) c.self.view_is
-
-pub rehash-requires-clause-count : goal.rehash-requires-clause-count
-rehash-requires-clause-count g c =
-    let m : ℕ = length (words_of c.self.inside.buckets) in
-    subst IsBucketCount (sym (ap length c.clear.ensures.words ∙ length-replicate {A = ℕ} m 0)) (index-buckets c.self.invariant.indexed.index)
-
-pub rehash-requires-clause-empty : goal.rehash-requires-clause-empty
-rehash-requires-clause-empty g c =
-    let m : ℕ = length (words_of c.self.inside.buckets) in
-    c.clear.ensures.words ∙ ap (λ n. replicate n 0) (sym (ap length c.clear.ensures.words ∙ length-replicate {A = ℕ} m 0))

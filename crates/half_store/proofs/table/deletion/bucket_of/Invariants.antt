@@ -1,18 +1,20 @@
-use Rattle.std.proofs.Common.{◌≡◌, ℕ, ◌-◌, ◌<◌, ◌≤◌, length, slice_index}
-use Rattle.half_store.specs.Reach.{home, probe_distance, bucket_after}
-use Rattle.half_store.specs.TableLayout.{IsBucketOf}
+use Rattle.std.proofs.Common.{◌≡◌, ℕ, suc, ◌-◌, ◌<◌, ◌≤◌, length, slice_index}
+use Rattle.half_store.specs.Reach.{home, probe_distance}
 use Rattle.half_store.proofs.table.deletion.bucket_of.Given as goal
 
 -- the pair's bucket is still ahead
 abbrev pub invariant-loop-bucket : goal.invariant-loop-bucket
-invariant-loop-bucket g l = record {
-  passed : ℕ;
-  inside : l.bucket < length (g.B.Words.words l.buckets);
-  at : l.bucket ≡ bucket_after (length (g.B.Words.words l.buckets)) (home (length (g.B.Words.words l.buckets)) (slice_index l.hashes l.index)) passed;
-  ahead : (target : ℕ) → IsBucketOf l.hashes (g.B.Words.words l.buckets) l.index target → passed ≤ probe_distance (length (g.B.Words.words l.buckets)) (home (length (g.B.Words.words l.buckets)) (slice_index l.hashes l.index)) target;
-}
+invariant-loop-bucket g l =
+    let m = length (g.B.Words.words l.buckets) in
+    let start = home m (slice_index l.hashes l.index) in
+    record {
+      inside : l.bucket < m;
+      ahead : (target : ℕ) → slice_index (g.B.Words.words l.buckets) target ≡ suc l.index
+          → probe_distance m start l.bucket ≤ probe_distance m start target;
+    }
 
 -- the buckets ahead, once round
 abbrev pub decreases-loop-bucket : goal.decreases-loop-bucket
 decreases-loop-bucket g l =
-    length (g.B.Words.words l.buckets) - probe_distance (length (g.B.Words.words l.buckets)) (home (length (g.B.Words.words l.buckets)) (slice_index l.hashes l.index)) l.bucket
+    let m = length (g.B.Words.words l.buckets) in
+    m - probe_distance m (home m (slice_index l.hashes l.index)) l.bucket

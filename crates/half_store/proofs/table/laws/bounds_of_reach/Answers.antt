@@ -1,4 +1,5 @@
-use Rattle.half_store.proofs.TableLaws.{no_buckets_law, nothing_held_law, one_bucket_law, shared_home_law, short_law, once_round_law}
+use Rattle.half_store.proofs.lemmas.table.Laws.{no_buckets_law, nothing_held_law, one_bucket_law, shared_home_law, short_law}
+use Rattle.half_store.proofs.lemmas.table.Laws.{once_round_law}
 use Rattle.half_store.proofs.table.laws.bounds_of_reach.Goals as goal
 
 pub returns-clause-no_buckets : goal.returns-clause-no_buckets

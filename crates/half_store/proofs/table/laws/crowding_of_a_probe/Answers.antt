@@ -1,4 +1,4 @@
-use Rattle.half_store.proofs.TableLaws.{crowding_law, stops_law}
+use Rattle.half_store.proofs.lemmas.table.Laws.{crowding_law, stops_law}
 use Rattle.half_store.proofs.table.laws.crowding_of_a_probe.Goals as goal
 
 pub returns-clause-crowded : goal.returns-clause-crowded

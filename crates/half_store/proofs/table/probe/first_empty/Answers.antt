@@ -1,44 +1,39 @@
-use Rattle.std.proofs.Common.{◌+◌, sym, ◌∙◌, arith}
-use Rattle.half_store.proofs.SlotsLemmas.{none_read, some_read, Probes-start, Probes-probe_distance, Probes-vacancy, Probes-next, Probes-ahead}
-use Rattle.half_store.proofs.WorkLemmas.{looked_more-zero, looked_more-one}
+use Rattle.std.proofs.Common.{sym, ap, ◌∙◌, arith}
+use Rattle.half_store.specs.Probe.{looked_more}
+use Rattle.half_store.specs.Reach.{home, bucket_after}
+use Rattle.half_store.proofs.lemmas.table.Buckets.{length-slots_by}
+use Rattle.half_store.proofs.lemmas.table.Slots.{some_read, home_distance, Probes-start, Probes-distance, Probes-next, Probes-ahead}
+use Rattle.half_store.proofs.lemmas.tally.{looked_more-zero, looked_more-one}
 use Rattle.half_store.proofs.table.probe.first_empty.Goals as goal
 
 pub loop-bucket-init : goal.loop-bucket-init
 loop-bucket-init g c =
-    let slots = g.P.Buckets.slots c.args.buckets.now in
-    let same = c.count-count.ensures in
+    let same = c.count-count.ensures
+    ∙ sym (length-slots_by (g.P.Buckets.hashes c.args.buckets.now) (g.P.Buckets.words c.args.buckets.now)) in
+    let at = c.home-bucket.ensures.value ∙ ap (λ m. home m c.args.hash) same in
     record {
-      passed = 0;
-      probe = Probes-start slots c.args.hash c.home-bucket.result (omega arith) (rw (← same) c.home-bucket.ensures.value);
-      counted = looked_more-zero c.args.tally.now;
+      probe = Probes-start _ c.args.hash c.home-bucket.result (omega arith) at;
+      counted = looked_more-zero c.args.tally.now
+          ∙ ap (looked_more c.args.tally.now) (sym (home_distance _ c.args.hash c.home-bucket.result (omega arith) at));
     }
-
-pub returns-clause-vacancy : goal.returns-clause-vacancy
-returns-clause-vacancy g c =
-    let slots = g.P.Buckets.slots c.args.buckets.now in
-    let same = c.count-count.ensures in
-    Probes-vacancy slots c.args.hash c.loop-bucket.bucket c.loop-bucket.invariant.passed c.loop-bucket.invariant.probe c.requires.vacant (none_read c.look.result c.look.ensures.hash (sym c.loop-bucket-test.ensures))
-
-pub returns-clause-cost : goal.returns-clause-cost
-returns-clause-cost g c =
-    let slots = g.P.Buckets.slots c.args.buckets.now in
-    let same = c.count-count.ensures in
-    let at = Probes-probe_distance slots c.args.hash c.loop-bucket.bucket c.loop-bucket.invariant.passed c.loop-bucket.invariant.probe c.requires.vacant in
-    rw at (c.look.ensures.counted ∙ looked_more-one c.args.tally.now c.loop-bucket.tally c.loop-bucket.invariant.passed c.loop-bucket.invariant.counted)
 
 pub loop-bucket-preserved : goal.loop-bucket-preserved
 loop-bucket-preserved g c =
-    let slots = g.P.Buckets.slots c.args.buckets.now in
-    let same = c.count-count.ensures in
+    let same = c.count-count.ensures
+    ∙ sym (length-slots_by (g.P.Buckets.hashes c.args.buckets.now) (g.P.Buckets.words c.args.buckets.now)) in
+    let probe = c.loop-bucket.invariant.probe in
+    let full = some_read c.look.result c.look.ensures.hash (sym c.loop-bucket-test.ensures) in
+    let e = c.next-bucket.ensures.value ∙ ap (λ m. bucket_after m c.loop-bucket.bucket 1) same in
     record {
-      passed = c.loop-bucket.invariant.passed + 1;
-      probe = Probes-next slots c.args.hash c.loop-bucket.bucket c.loop-bucket.invariant.passed c.loop-bucket.invariant.probe c.requires.vacant c.next-bucket.result (some_read c.look.result c.look.ensures.hash (sym c.loop-bucket-test.ensures)) (omega arith) (rw (← same) c.next-bucket.ensures.value);
-      counted = c.look.ensures.counted ∙ looked_more-one c.args.tally.now c.loop-bucket.tally c.loop-bucket.invariant.passed c.loop-bucket.invariant.counted;
+      probe = Probes-next probe c.requires.vacant c.next-bucket.result full e;
+      counted = c.look.ensures.counted ∙ looked_more-one c.args.tally.now c.loop-bucket.tally _ c.loop-bucket.invariant.counted
+          ∙ ap (looked_more c.args.tally.now) (sym (Probes-distance probe c.requires.vacant c.next-bucket.result full e));
     }
 
 pub loop-bucket-smaller : goal.loop-bucket-smaller
 loop-bucket-smaller g c =
-    let slots = g.P.Buckets.slots c.args.buckets.now in
-    let same = c.count-count.ensures in
-    Probes-ahead slots c.args.hash c.loop-bucket.bucket c.loop-bucket.invariant.passed c.loop-bucket.invariant.probe c.requires.vacant c.next-bucket.result
-    (some_read c.look.result c.look.ensures.hash (sym c.loop-bucket-test.ensures)) (omega arith) (rw (← same) c.next-bucket.ensures.value)
+    let same = c.count-count.ensures
+    ∙ sym (length-slots_by (g.P.Buckets.hashes c.args.buckets.now) (g.P.Buckets.words c.args.buckets.now)) in
+    Probes-ahead c.loop-bucket.invariant.probe c.requires.vacant c.next-bucket.result
+    (some_read c.look.result c.look.ensures.hash (sym c.loop-bucket-test.ensures))
+    (c.next-bucket.ensures.value ∙ ap (λ m. bucket_after m c.loop-bucket.bucket 1) same)

@@ -1,4 +1,4 @@
-use Rattle.half_store.proofs.MaskLemmas.{mask_mod}
+use Rattle.half_store.proofs.lemmas.table.Mask.{mask_mod}
 use Rattle.half_store.proofs.table.probe.home.Goals as goal
 
 pub returns-clause-value : goal.returns-clause-value

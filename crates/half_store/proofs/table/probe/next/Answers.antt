@@ -1,4 +1,4 @@
-use Rattle.half_store.proofs.MaskLemmas.{mask_next}
+use Rattle.half_store.proofs.lemmas.table.Mask.{mask_next}
 use Rattle.half_store.proofs.table.probe.next.Goals as goal
 
 pub returns-clause-value : goal.returns-clause-value

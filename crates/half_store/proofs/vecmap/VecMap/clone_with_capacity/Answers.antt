@@ -1,7 +1,7 @@
 use Rattle.std.proofs.Common.{subst, arith}
 use Rattle.std.specs.List.{AllZip, zip}
-use Rattle.half_store.proofs.Columns.{opened}
-use Rattle.half_store.proofs.Zip.{all_zip-zip}
+use Rattle.half_store.proofs.lemmas.vecmap.Columns.{opened}
+use Rattle.half_store.proofs.lemmas.vecmap.Zip.{all_zip-zip}
 use Rattle.half_store.proofs.vecmap.VecMap.clone_with_capacity.Goals as goal
 
 pub clone_all-requires-clause-fits : goal.clone_all-requires-clause-fits

@@ -1,10 +1,14 @@
 use Rattle.std.proofs.Common.{sym, refl, ◌∙◌, arith}
 use Rattle.std.specs.List.{length_refill}
-use Rattle.half_store.proofs.Columns.{opened, written}
+use Rattle.half_store.proofs.lemmas.vecmap.Columns.{opened, written}
 use Rattle.half_store.proofs.vecmap.VecMap.columns_mut.Goals as goal
 
 pub invariant_of-self-lent : goal.invariant_of-self-lent
-invariant_of-self-lent g c = λ w. sym (length_refill c.self.inside.values.len c.self.inside.values.items _ c.self.inside.values.ok.0) ∙ c.self.inside.values.ok.0 ∙ c.self.invariant
+invariant_of-self-lent g c = λ w. record {
+  length = sym (length_refill c.self.inside.values.len c.self.inside.values.items _ c.self.inside.values.ok.0) ∙ c.self.inside.values.ok.0
+      ∙ c.self.invariant.length;
+  capacity = c.self.invariant.capacity;
+}
 
 pub returns : goal.returns
 returns g c =

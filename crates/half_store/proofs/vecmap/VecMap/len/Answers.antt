@@ -1,5 +1,5 @@
 use Rattle.std.proofs.Common.{◌∙◌, arith}
-use Rattle.half_store.proofs.Columns.{opened}
+use Rattle.half_store.proofs.lemmas.vecmap.Columns.{opened}
 use Rattle.half_store.proofs.vecmap.VecMap.len.Goals as goal
 
 pub returns : goal.returns

@@ -1,17 +1,22 @@
 use Rattle.std.proofs.Common.{get_or, refl, sym, ap, ◌∙◌, arith}
 use Rattle.std.specs.List.{slice_get}
-use Rattle.half_store.proofs.Columns.{opened, pairs_are}
-use Rattle.half_store.proofs.Zip.{slice_get_at, zip-set_value}
+use Rattle.half_store.proofs.lemmas.vecmap.Columns.{opened, pairs_are}
+use Rattle.half_store.proofs.lemmas.vecmap.Zip.{slice_get_at, zip-set_value}
 use Rattle.half_store.specs.Pairs.{set_value}
 use Rattle.half_store.proofs.vecmap.VecMap.replace_value.Goals as goal
 
 pub index_mut-requires : goal.index_mut-requires
-index_mut-requires g c = omega (arith, (opened c.self.inside.keys c.self.inside.values c.args.self.now c.self.view_is c.self.invariant).values_len, c.requires)
+index_mut-requires g c =
+    omega (arith, (opened c.self.inside.keys c.self.inside.values c.args.self.now c.self.view_is c.self.invariant).values_len, c.requires)
 
 pub returns : goal.returns
 returns g c =
     let o = opened c.self.inside.keys c.self.inside.values c.args.self.now c.self.view_is c.self.invariant in
     record {
-      old = ap (λ l. slice_get l c.args.index) (sym o.values_are) ∙ slice_get_at c.self.inside.values.items c.args.index _ (omega (arith, o.values_length, c.requires)) (c.replace.ensures.value ∙ c.index_mut.ensures.value ∙ ap (get_or c.self.inside.values.items c.args.index) (sym c.replace.ensures.value));
-      after = pairs_are o (zip-set_value c.self.inside.keys.items c.self.inside.values.items c.args.index c.replace.new.dest ∙ (λ j. set_value (o.pairs j) c.args.index (c.replace.ensures.after j))) refl refl;
+      old = ap (λ l. slice_get l c.args.index) (sym o.values_are)
+          ∙ slice_get_at c.self.inside.values.items c.args.index _ (omega (arith, o.values_length, c.requires))
+          (c.replace.ensures.value ∙ c.index_mut.ensures.value
+          ∙ ap (get_or c.self.inside.values.items c.args.index) (sym c.replace.ensures.value));
+      after = pairs_are o (zip-set_value c.self.inside.keys.items c.self.inside.values.items c.args.index c.replace.new.dest
+          ∙ (λ j. set_value (o.pairs j) c.args.index (c.replace.ensures.after j))) refl;
     }

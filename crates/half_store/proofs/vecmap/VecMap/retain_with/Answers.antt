@@ -2,18 +2,27 @@ use Rattle.std.proofs.Common.{◌≡◌, ◌∙◌, length, map, take, drop, sym
 use Rattle.std.proofs.lemmas.List.{take_at}
 use Rattle.std.proofs.lemmas.Map.Made.{keys_of-zip}
 use Rattle.std.specs.List.{zip}
-use Rattle.half_store.proofs.Columns.{opened}
-use Rattle.half_store.proofs.Zip.{length-zip}
+use Rattle.half_store.proofs.lemmas.vecmap.Columns.{opened}
+use Rattle.half_store.proofs.lemmas.vecmap.Zip.{length-zip}
 use Rattle.half_store.proofs.vecmap.VecMap.retain_with.Given as given
 use Rattle.half_store.proofs.vecmap.VecMap.retain_with.Goals as goal
 
 even : (g : given.Over) (c : goal.After-truncate-2 g) → length c.truncate-2.new.self.items ≡ length c.truncate.new.self.items
 even g c =
     let o = opened c.self.inside.keys c.self.inside.values c.args.self.now c.self.view_is c.self.invariant in
-    omega (arith, c.truncate.new.self.ok, c.truncate-2.new.self.ok, c.truncate.ensures.len, c.truncate-2.ensures.len, o.keys_len, o.values_len)
+    omega (
+      arith,
+      c.truncate.new.self.ok,
+      c.truncate-2.new.self.ok,
+      c.truncate.ensures.len,
+      c.truncate-2.ensures.len,
+      o.keys_len,
+      o.values_len,
+    )
 
 -- as many pairs as were accepted
-count : (g : given.Over) (c : goal.After-truncate-2 g) → length (zip c.truncate.new.self.items c.truncate-2.new.self.items) ≡ c.retain_in_columns-kept.result
+count : (g : given.Over) (c : goal.After-truncate-2 g)
+    → length (zip c.truncate.new.self.items c.truncate-2.new.self.items) ≡ c.retain_in_columns-kept.result
 count g c =
     length-zip c.truncate.new.self.items c.truncate-2.new.self.items (even g c)
     ∙ omega (arith, c.truncate.new.self.ok, c.truncate.ensures.len, c.retain_in_columns-kept.ensures.within, c.as_mut_slice.ensures.len)
@@ -28,11 +37,13 @@ returns-clause-hashes g c =
     let o = opened c.self.inside.keys c.self.inside.values c.args.self.now c.self.view_is c.self.invariant in
     let told = c.retain_in_columns-kept in
     let n = told.result in
-    let all = take_at told.new.keys (drop (length told.new.keys) c.self.inside.keys.items) c.self.inside.keys.len (omega (arith, told.auto.keys, c.as_mut_slice.ensures.len)) in
+    let all = take_at told.new.keys (drop (length told.new.keys) c.self.inside.keys.items) c.self.inside.keys.len
+    (omega (arith, told.auto.keys, c.as_mut_slice.ensures.len)) in
     λ hash same.
     ap (λ m. take m told.new.hashes) (count g c)
     ∙ told.ensures.hashes hash (same ∙ ap (map hash) (sym (c.as_mut_slice.ensures.value ∙ o.keys_are)))
-    ∙ ap (map hash) (sym (keys_of-zip c.truncate.new.self.items c.truncate-2.new.self.items (even g c) ∙ c.truncate.ensures.items ∙ ap (take n) all))
+    ∙ ap (map hash) (sym
+    (keys_of-zip c.truncate.new.self.items c.truncate-2.new.self.items (even g c) ∙ c.truncate.ensures.items ∙ ap (take n) all))
 
 pub returns-clause-same : goal.returns-clause-same
 returns-clause-same g c =

@@ -1,6 +1,6 @@
 use Rattle.std.proofs.Common.{ap, ◌∙◌}
 use Rattle.std.specs.Option.{option_map}
-use Rattle.halfbrown.proofs.Indices.{value_of_entry}
+use Rattle.halfbrown.proofs.lemmas.pairs.Indices.{value_of_entry}
 use Rattle.halfbrown.specs.Pairs.{value_of}
 use Rattle.half_uses.proofs.cache.Cache.remove.Goals as goal
 

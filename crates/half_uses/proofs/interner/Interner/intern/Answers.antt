@@ -5,7 +5,8 @@ use Rattle.half_uses.specs.Interner.{number_of}
 
 pub returns-clause-number : goal.returns-clause-number
 returns-clause-number c =
-    ap (λ texts. number_of texts c.args.text.now) c.in_ok-push.ensures.after ∙ number_of_new c.args.self.now c.args.text.now (sym c.in_default.ensures.number)
+    ap (λ texts. number_of texts c.args.text.now) c.in_ok-push.ensures.after
+    ∙ number_of_new c.args.self.now c.args.text.now (sym c.in_default.ensures.number)
     ∙ ap Some (sym c.len-number.ensures)
 
 pub returns-clause-resolves : goal.returns-clause-resolves

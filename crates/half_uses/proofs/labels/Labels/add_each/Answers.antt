@@ -15,6 +15,7 @@ loop-label-preserved g c = (
 
 pub returns-in_err-add-clause-kept : goal.returns-in_err-add-clause-kept
 returns-in_err-add-clause-kept g c =
-    let kept = kept_before g.T.PartialEq.eq g.met.T.Eq.laws c.args.self.now c.loop-label.self c.add.new.self (map (λ label. label.now) c.loop-label.yielded)
+    let kept = kept_before g.T.PartialEq.eq g.met.T.Eq.laws c.args.self.now c.loop-label.self c.add.new.self
+    (map (λ label. label.now) c.loop-label.yielded)
     c.in_err-add.ensures.err c.loop-label.invariant.2 in
     search (rules, kept)

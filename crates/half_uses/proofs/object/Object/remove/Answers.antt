@@ -4,5 +4,6 @@ use Rattle.half_uses.proofs.object.Object.remove.Goals as goal
 
 pub returns-clause-after : goal.returns-clause-after
 returns-clause-after g c =
-    filter_same_pairs _ (λ member. not (g.Q.Equivalent.equivalent c.args.name member.0)) _ (λ k v b w f call. search rules) _ _ c.retain.ensures.kept
+    filter_same_pairs _ (λ member. not (g.Q.Equivalent.equivalent c.args.name member.0)) _ (λ k v b w f call. search rules) _ _
+    c.retain.ensures.kept
     ∙ ap (filter (λ member. not (g.Q.Equivalent.equivalent c.args.name member.0))) c.self.view_is

@@ -1,5 +1,5 @@
 use Rattle.std.proofs.Common.{refl}
-use Rattle.halfbrown.proofs.Drains.{same_drain}
+use Rattle.halfbrown.proofs.lemmas.drain.{same_drain}
 use Rattle.halfbrown.proofs.drain.LimitedDrainIterator.next.Goals as goal
 
 pub returns-in_err-pair-clause-steps : goal.returns-in_err-pair-clause-steps

@@ -1,5 +1,5 @@
 use Rattle.std.proofs.Common.{refl}
-use Rattle.halfbrown.proofs.Entries.{lent_within, lent_entry, written_entry}
+use Rattle.halfbrown.proofs.lemmas.entry.Methods.{lent_within, lent_entry, written_entry}
 use Rattle.halfbrown.proofs.entry.LimitedOccupiedEntry.get_mut.Goals as goal
 
 pub invariant_of-self-lent : goal.invariant_of-self-lent

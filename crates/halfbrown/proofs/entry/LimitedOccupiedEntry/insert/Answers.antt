@@ -1,4 +1,4 @@
-use Rattle.halfbrown.proofs.Entries.{written_as}
+use Rattle.halfbrown.proofs.lemmas.entry.Methods.{written_as}
 use Rattle.halfbrown.proofs.entry.LimitedOccupiedEntry.insert.Goals as goal
 
 pub returns-clause-written : goal.returns-clause-written

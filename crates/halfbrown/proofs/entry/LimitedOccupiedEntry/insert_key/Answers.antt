@@ -1,5 +1,5 @@
 use Rattle.std.proofs.Common.{refl}
-use Rattle.halfbrown.proofs.Entries.{rekeyed_within, rekeyed_entry}
+use Rattle.halfbrown.proofs.lemmas.entry.Methods.{rekeyed_within, rekeyed_entry}
 use Rattle.halfbrown.proofs.entry.LimitedOccupiedEntry.insert_key.Goals as goal
 
 pub invariant_of-self : goal.invariant_of-self

@@ -1,5 +1,5 @@
 use Rattle.std.proofs.Common.{refl}
-use Rattle.halfbrown.proofs.EntryReplacements.{loses_pair, still_within, keeps, settled_within}
+use Rattle.halfbrown.proofs.lemmas.entry.Replace.{loses_pair, still_within, keeps, settled_within}
 use Rattle.halfbrown.proofs.entry.LimitedOccupiedEntry.replace_entry_with_counted.Goals as goal
 
 pub returns-in-Some-clause-replaced : goal.returns-in-Some-clause-replaced
@@ -14,12 +14,14 @@ settle-index-requires g c = still_within c.args.self c.replace_at.new.self c.in-
 
 pub invariant_of-result-in-None : goal.invariant_of-result-in-None
 invariant_of-result-in-None g c = record {
-  within = settled_within c.args.self c.replace_at.new.self c.in-None.ensures.replaces c.in-None.ensures.after _ _ c.settle-index.ensures.vector c.settle-index.ensures.table;
+  within = settled_within c.args.self c.replace_at.new.self c.in-None.ensures.replaces c.in-None.ensures.after _ _
+      c.settle-index.ensures.vector c.settle-index.ensures.table;
 }
 
 pub returns-in-None-clause-replaced : goal.returns-in-None-clause-replaced
 returns-in-None-clause-replaced g c = record {
-  replaces = keeps c.args.self c.replace_at.new.self c.in-None.ensures.replaces c.in-None.ensures.after _ _ c.settle-index.ensures.vector c.settle-index.ensures.table _;
+  replaces = keeps c.args.self c.replace_at.new.self c.in-None.ensures.replaces c.in-None.ensures.after _ _ c.settle-index.ensures.vector
+      c.settle-index.ensures.table _;
   same_map = refl;
   state = c.settle-index.ensures.state;
 }

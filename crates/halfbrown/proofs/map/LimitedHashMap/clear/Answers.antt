@@ -1,11 +1,14 @@
 use Rattle.halfbrown.specs.Costs.{key_hash}
-use Rattle.halfbrown.proofs.Kept.{kept_none, state_of}
+use Rattle.halfbrown.proofs.lemmas.map.Layout.{kept_none, state_of}
 use Rattle.halfbrown.proofs.map.LimitedHashMap.clear.Goals as goal
 
 pub invariant_of-self : goal.invariant_of-self
 invariant_of-self g c =
     let told = c.clear.ensures in
-    kept_none g.K.PartialEq.eq (key_hash g.S.BuildHasher g.S.Hasher.Hasher g.K.Hash.hash_input c.self.inside.builder) g.L.Limit.LIMIT c.self.inside.store c.clear.new.self c.self.invariant told.form told.pairs told.hashes
+    kept_none g.K.PartialEq.eq (key_hash g.S.BuildHasher g.S.Hasher.Hasher g.K.Hash.hash_input c.self.inside.builder) g.L.Limit.LIMIT
+    c.self.inside.store c.clear.new.self c.self.invariant told.form told.pairs told.hashes
 
 pub returns-clause-state : goal.returns-clause-state
-returns-clause-state g c = state_of g.K.PartialEq.eq (key_hash g.S.BuildHasher g.S.Hasher.Hasher g.K.Hash.hash_input c.self.inside.builder) g.L.Limit.LIMIT c.clear.new.self c.self.inside.builder (invariant_of-self g c)
+returns-clause-state g c =
+    state_of g.K.PartialEq.eq (key_hash g.S.BuildHasher g.S.Hasher.Hasher g.K.Hash.hash_input c.self.inside.builder) g.L.Limit.LIMIT
+    c.clear.new.self c.self.inside.builder (invariant_of-self g c)

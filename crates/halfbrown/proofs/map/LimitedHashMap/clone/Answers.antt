@@ -6,8 +6,8 @@ use Rattle.std.specs.Map.{keys_of}
 use Rattle.half_store.specs.Hash.{hash_by}
 use Rattle.halfbrown.specs.Clone.{ClonesAreLawful}
 use Rattle.halfbrown.specs.Costs.{key_hash}
-use Rattle.halfbrown.proofs.Clones.{keys_zip, zip_held, map-zip, kept_cloned}
-use Rattle.halfbrown.proofs.Kept.{state_of}
+use Rattle.halfbrown.proofs.lemmas.map.Clone.{keys_zip, zip_held, map-zip, kept_cloned}
+use Rattle.halfbrown.proofs.lemmas.map.Layout.{state_of}
 use Rattle.halfbrown.proofs.map.LimitedHashMap.clone.Goals as goal
 
 pub invariant_of-result : goal.invariant_of-result
@@ -25,19 +25,23 @@ invariant_of-result g c =
     let cloned = c.in_ok-store.ensures in
     let held = keys_zip C D old.pairs new.pairs cloned.pairs in
     let lawful = subst (λ m. ClonesAreLawful eq hash_all C g.S.Clone.is_clone m) (sym c.self.view_is) c.requires.lawful in
-    let alike : AllZip (λ k l. eq k l ≡ true) (keys_of old.pairs) (keys_of new.pairs) = zip_held C (λ k l. eq k l ≡ true) (keys_of old.pairs) (keys_of new.pairs) lawful.keys held in
+    let alike : AllZip (λ k l. eq k l ≡ true) (keys_of old.pairs) (keys_of new.pairs) =
+    zip_held C (λ k l. eq k l ≡ true) (keys_of old.pairs) (keys_of new.pairs) lawful.keys held in
     let hashed : old.is_vec ≡ false → map also_hash (keys_of new.pairs) ≡ map hash (keys_of old.pairs) =
     λ table. map-zip hash also_hash (keys_of old.pairs) (keys_of new.pairs)
     (zip_held C (λ k l. also_hash l ≡ hash k) (keys_of old.pairs) (keys_of new.pairs)
-    (λ k l inside is_clone. ap (hash_by g.S.BuildHasher g.S.Hasher.Hasher after) (sym (g.met.K.Hash.respects_eq k l (lawful.keys k l inside is_clone)))
+    (λ k l inside is_clone. ap (hash_by g.S.BuildHasher g.S.Hasher.Hasher after)
+    (sym (g.met.K.Hash.respects_eq k l (lawful.keys k l inside is_clone)))
     ∙ lawful.builder after k table c.in_ok-builder.ensures.cases inside) held) in
     kept_cloned eq g.met.K.Eq.laws hash also_hash g.L.Limit.LIMIT old new c.self.invariant cloned.form
     (AllZip-long (λ p q. C p.0 q.0 × D p.1 q.1) old.pairs new.pairs cloned.pairs) alike hashed cloned.capacity cloned.hashes
 
 pub returns-clause-same : goal.returns-clause-same
 returns-clause-same g c keys values =
-    entries_from_clone g.K.Clone.is_clone g.V.Clone.is_clone keys values c.self.inside.store.pairs c.in_ok-store.store.pairs c.in_ok-store.ensures.pairs ∙ ap (λ m. m.pairs) c.self.view_is
+    entries_from_clone g.K.Clone.is_clone g.V.Clone.is_clone keys values c.self.inside.store.pairs c.in_ok-store.store.pairs
+    c.in_ok-store.ensures.pairs ∙ ap (λ m. m.pairs) c.self.view_is
 
 pub returns-clause-state : goal.returns-clause-state
 returns-clause-state g c =
-    state_of g.K.PartialEq.eq (key_hash g.S.BuildHasher g.S.Hasher.Hasher g.K.Hash.hash_input c.in_ok-builder.builder) g.L.Limit.LIMIT c.in_ok-store.store c.in_ok-builder.builder (invariant_of-result g c)
+    state_of g.K.PartialEq.eq (key_hash g.S.BuildHasher g.S.Hasher.Hasher g.K.Hash.hash_input c.in_ok-builder.builder) g.L.Limit.LIMIT
+    c.in_ok-store.store c.in_ok-builder.builder (invariant_of-result g c)

@@ -1,8 +1,9 @@
-use Rattle.std.proofs.Common.{refl, inl, inr, sym, subst, arith}
-use Rattle.halfbrown.specs.Collection.{Gives, IsMade, IsRefusedCollection}
+use Rattle.std.proofs.Common.{nat_le, refl, inl, inr, sym, subst, arith}
+use Rattle.halfbrown.specs.Collection.{Gives, IsRefusedCollection}
 use Rattle.halfbrown.specs.Costs.{key_hash, Cost, GrewBy, no_cost}
-use Rattle.halfbrown.proofs.Collections.{at_error, collection_of, inserts_asked, inserts_state}
-use Rattle.halfbrown.proofs.RunLemmas.{spent_none}
+use Rattle.halfbrown.specs.Making.{IsMade}
+use Rattle.halfbrown.proofs.lemmas.map.Collect.{at_error, collection_of, inserts_asked, inserts_state}
+use Rattle.halfbrown.proofs.lemmas.run.Runs.{spent_none}
 use Rattle.halfbrown.proofs.map.LimitedHashMap.collect.Goals as goal
 
 pub returns-in_err-map-clause-refused : goal.returns-in_err-map-clause-refused
@@ -14,7 +15,7 @@ returns-in_err-map-clause-refused g c =
     let before = c.args.tally.now in
     (at_error c.from_residual.result c.in_err-map.field-0.0 (Unit {0})
     (λ why. (cost : Cost) × IsRefusedCollection L E H g.S.Default.is_default c.args.capacity given why cost × GrewBy cost before before)
-    c.from_residual.ensures (no_cost, inl (c.in_err-map.ensures.refused, refl), spent_none before)).1
+    c.from_residual.ensures (no_cost, inl (c.in_err-map.ensures.makes.refused, refl), spent_none before)).1
 
 pub returns-in_err-insert_all-clause-refused : goal.returns-in_err-insert_all-clause-refused
 returns-in_err-insert_all-clause-refused g c =
@@ -26,12 +27,14 @@ returns-in_err-insert_all-clause-refused g c =
     let after = c.insert_all.new.tally in
     let refused = c.in_err-insert_all.ensures.refused in
     let made = c.in_ok-map.map in
-    let is_made : IsMade L E H g.S.Default.is_default c.args.capacity made = record {
-      form = c.in_ok-map.ensures.form;
-      pairs = c.in_ok-map.ensures.pairs;
-      capacity = c.in_ok-map.ensures.capacity;
-      builder = subst g.S.Default.is_default (sym c.in_ok-map.ensures.hasher) c.default.ensures;
-      grantable = c.in_ok-map.ensures.granted;
+    let told = c.in_ok-map.ensures.makes.ok in
+    let is_made : IsMade g.S.Default.is_default (nat_le c.args.capacity L) c.args.capacity made = record {
+      form = told.form;
+      pairs = told.pairs;
+      capacity = told.capacity;
+      columns = told.columns;
+      builder = subst g.S.Default.is_default (sym told.builder) c.default.ensures;
+      grantable = told.grantable;
     } in
     (at_error c.from_residual-in_err-insert_all.result c.in_err-insert_all.field-0.0 (Unit {0})
     (λ why. (cost : Cost) × IsRefusedCollection L E H g.S.Default.is_default c.args.capacity given why cost × GrewBy cost before after)
@@ -44,23 +47,32 @@ returns-clause-collected g c =
     let E = g.K.PartialEq.eq in
     let H = key_hash g.S.BuildHasher g.S.Hasher.Hasher g.K.Hash.hash_input in
     let made = c.in_ok-map.map in
-    let is_made : IsMade L E H g.S.Default.is_default c.args.capacity made = record {
-      form = c.in_ok-map.ensures.form;
-      pairs = c.in_ok-map.ensures.pairs;
-      capacity = c.in_ok-map.ensures.capacity;
-      builder = subst g.S.Default.is_default (sym c.in_ok-map.ensures.hasher) c.default.ensures;
-      grantable = c.in_ok-map.ensures.granted;
+    let told = c.in_ok-map.ensures.makes.ok in
+    let is_made : IsMade g.S.Default.is_default (nat_le c.args.capacity L) c.args.capacity made = record {
+      form = told.form;
+      pairs = told.pairs;
+      capacity = told.capacity;
+      columns = told.columns;
+      builder = subst g.S.Default.is_default (sym told.builder) c.default.ensures;
+      grantable = told.grantable;
     } in
-    let all = c.in_ok-insert_all.ensures.ok in
-    (all.0, all.1, all.2, collection_of L E H g.met.K.Eq.laws g.S.Default.is_default c.args.capacity made c.insert_all.new.self all.0 all.1 is_made all.3, all.4)
+    let all = c.in_ok-insert_all.ensures.ok in (
+      all.0,
+      all.1,
+      all.2,
+      collection_of L E H g.met.K.Eq.laws g.S.Default.is_default c.args.capacity made c.insert_all.new.self all.0 all.1 is_made all.3,
+      all.4,
+    )
 
 pub returns-clause-nothing_hashed : goal.returns-clause-nothing_hashed
 returns-clause-nothing_hashed g c form =
     let all = c.in_ok-insert_all.ensures.ok in
-    let nothing = inserts_asked g.L.Limit.LIMIT g.K.PartialEq.eq (key_hash g.S.BuildHasher g.S.Hasher.Hasher g.K.Hash.hash_input) c.in_ok-map.map c.insert_all.new.self all.0 all.1 all.3 form in
+    let nothing = inserts_asked g.L.Limit.LIMIT g.K.PartialEq.eq (key_hash g.S.BuildHasher g.S.Hasher.Hasher g.K.Hash.hash_input)
+    c.in_ok-map.map c.insert_all.new.self all.0 all.1 all.3 form in
     omega (arith, all.4.asked, nothing.1)
 
 pub returns-clause-state : goal.returns-clause-state
 returns-clause-state g c =
     let all = c.in_ok-insert_all.ensures.ok in
-    inserts_state g.L.Limit.LIMIT g.K.PartialEq.eq (key_hash g.S.BuildHasher g.S.Hasher.Hasher g.K.Hash.hash_input) c.in_ok-map.map c.insert_all.new.self all.0 all.1 all.3 c.in_ok-map.ensures.state
+    inserts_state g.L.Limit.LIMIT g.K.PartialEq.eq (key_hash g.S.BuildHasher g.S.Hasher.Hasher g.K.Hash.hash_input) c.in_ok-map.map
+    c.insert_all.new.self all.0 all.1 all.3 c.in_ok-map.ensures.state

@@ -1,4 +1,4 @@
-use Rattle.halfbrown.proofs.Drains.{runs, keeps_along}
+use Rattle.halfbrown.proofs.lemmas.drain.{runs, keeps_along}
 use Rattle.halfbrown.proofs.map.LimitedHashMap.drain.Goals as goal
 
 pub returns-clause-runs : goal.returns-clause-runs

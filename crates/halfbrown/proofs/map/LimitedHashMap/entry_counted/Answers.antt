@@ -1,17 +1,18 @@
 use Rattle.std.proofs.Common.{refl, subst}
 use Rattle.halfbrown.specs.Costs.{key_hash}
 use Rattle.halfbrown.specs.Preparation.{IsReadyFor}
-use Rattle.halfbrown.proofs.Entries.{found_entry, found_writes, found_removes, missing_entry, missing_writes, missing_removes}
+use Rattle.halfbrown.proofs.lemmas.entry.Methods.{found_entry, found_writes, found_removes, missing_entry, missing_writes, missing_removes}
 use Rattle.halfbrown.proofs.map.LimitedHashMap.entry_counted.Goals as goal
 
-pub returns-in-Ok-Found : goal.returns-in-Ok-Found
-returns-in-Ok-Found g c =
+pub returns-in-Ok-Ok : goal.returns-in-Ok-Ok
+returns-in-Ok-Ok g c =
     let same = g.K.PartialEq.eq in
     let laws = g.met.K.Eq.laws in
     let limit = g.L.Limit.LIMIT in
     let key = c.args.key in
-    let prepared = c.in-Ok-Found.ensures.ok in
-    let at = subst (IsReadyFor same (key_hash g.S.BuildHasher g.S.Hasher.Hasher g.K.Hash.hash_input) c.prepare.new.self key) c.in-Ok-Found.field-0-is c.in-Ok-Found.ensures.ready in (
+    let prepared = c.in-Ok-Ok.ensures.ok in
+    let at = subst (IsReadyFor same (key_hash g.S.BuildHasher g.S.Hasher.Hasher g.K.Hash.hash_input) c.prepare.new.self key)
+    c.in-Ok-Ok.field-0-is c.in-Ok-Ok.ensures.ready in (
       (refl, λ n. refl, tt),
       record {
         unchanged = tt;
@@ -24,17 +25,18 @@ returns-in-Ok-Found g c =
           returned = tt;
           state = c.prepare.ensures.state;
         };
-        cost = c.in-Ok-Found.ensures.cost;
+        cost = c.in-Ok-Ok.ensures.cost;
       },
     )
 
-pub returns-in-Ok-Missing : goal.returns-in-Ok-Missing
-returns-in-Ok-Missing g c =
+pub returns-in-Ok-Err : goal.returns-in-Ok-Err
+returns-in-Ok-Err g c =
     let same = g.K.PartialEq.eq in
     let laws = g.met.K.Eq.laws in
     let limit = g.L.Limit.LIMIT in
-    let prepared = c.in-Ok-Missing.ensures.ok in
-    let ready = subst (IsReadyFor same (key_hash g.S.BuildHasher g.S.Hasher.Hasher g.K.Hash.hash_input) c.prepare.new.self c.args.key) c.in-Ok-Missing.field-0-is c.in-Ok-Missing.ensures.ready in (
+    let prepared = c.in-Ok-Err.ensures.ok in
+    let ready = subst (IsReadyFor same (key_hash g.S.BuildHasher g.S.Hasher.Hasher g.K.Hash.hash_input) c.prepare.new.self c.args.key)
+    c.in-Ok-Err.field-0-is c.in-Ok-Err.ensures.ready in (
       (refl, λ n. refl, tt),
       record {
         unchanged = tt;
@@ -47,6 +49,6 @@ returns-in-Ok-Missing g c =
           returned = tt;
           state = c.prepare.ensures.state;
         };
-        cost = c.in-Ok-Missing.ensures.cost;
+        cost = c.in-Ok-Err.ensures.cost;
       },
     )

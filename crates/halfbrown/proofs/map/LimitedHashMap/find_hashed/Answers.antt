@@ -1,17 +1,17 @@
-use Rattle.std.proofs.Common.{sym, ap, ◌∙◌}
+use Rattle.std.proofs.Common.{sym, ap, subst, ◌∙◌}
 use Rattle.half_store.specs.Hash.{hash_by}
-use Rattle.halfbrown.specs.Costs.{key_hash}
+use Rattle.halfbrown.specs.Costs.{key_hash, SearchCosts}
 use Rattle.halfbrown.specs.Lookup.{LooksUp}
-use Rattle.half_store.specs.Search.{found_index}
-use Rattle.halfbrown.proofs.Lookups.{costs_by_test, costs_for_other}
-use Rattle.halfbrown.proofs.Matches.{looks_up, found_is_index, found_is_held}
+use Rattle.std.specs.Result.{result_ok}
+use Rattle.halfbrown.proofs.lemmas.map.Find.{costs_for_other, looks_up, found_is_index}
 use Rattle.halfbrown.proofs.map.LimitedHashMap.find_hashed.Goals as goal
 
 pub returns-clause-found : goal.returns-clause-found
 returns-clause-found g c =
     let m = c.args.self.now in
     let test = g.Q.Equivalent.equivalent c.args.key in
-    looks_up test _ (λ k answer returned. returned.says.met ∙ ap test returned.shows) g.K.PartialEq.eq (g.met.Q.Equivalent.stands_for_equals c.args.key)
+    looks_up test _ (λ k answer returned. returned.says.met ∙ ap test returned.shows) g.K.PartialEq.eq
+    (g.met.Q.Equivalent.stands_for_equals c.args.key)
     (key_hash g.S.BuildHasher g.S.Hasher.Hasher g.K.Hash.hash_input) c.args.hash m c.find_match.ensures.state.distinct
     (key_hash g.S.BuildHasher g.S.Hasher.Hasher g.Q.Hash.hash_input m.builder c.args.key) c.requires
     (λ k passes. ap (hash_by g.S.BuildHasher g.S.Hasher.Hasher m.builder) (sym (g.met.Q.Equivalent.hashes_alike c.args.key k passes)))
@@ -24,6 +24,7 @@ returns-clause-cost g c =
     let hashing = key_hash g.S.BuildHasher g.S.Hasher.Hasher g.K.Hash.hash_input in
     let own = key_hash g.S.BuildHasher g.S.Hasher.Hasher g.Q.Hash.hash_input m.builder c.args.key in
     let found : LooksUp test own m c.find_match.result = returns-clause-found g c in
-    costs_by_test hashing own m c.args.tally.now c.find_match.new.tally test (found_index c.find_match.result)
-    (found_is_index test own m c.find_match.result found) (found_is_held test own m c.find_match.result found)
-    (costs_for_other hashing c.args.hash own m c.args.tally.now c.find_match.new.tally (found_index c.find_match.result) c.requires c.find_match.ensures.cost)
+    subst (λ index. SearchCosts hashing own m index 0 c.args.tally.now c.find_match.new.tally)
+    (found_is_index test own m c.find_match.result found)
+    (costs_for_other hashing c.args.hash own m c.args.tally.now c.find_match.new.tally (result_ok c.find_match.result) c.requires
+    c.find_match.ensures.cost)

@@ -1,13 +1,12 @@
 use Rattle.std.proofs.Common.{subst}
 use Rattle.std.specs.Fn.{FnReturnsAt}
-use Rattle.half_store.specs.Search.{found_index}
-use Rattle.halfbrown.specs.Costs.{key_hash}
-use Rattle.halfbrown.specs.Match.{Matches, MatchCosts}
+use Rattle.std.specs.Result.{result_ok}
+use Rattle.halfbrown.specs.Costs.{key_hash, SearchCosts}
+use Rattle.halfbrown.specs.Match.{Matches}
 use Rattle.halfbrown.specs.Layout.{state_in}
 use Rattle.halfbrown.specs.State.{State}
-use Rattle.halfbrown.proofs.Kept.{table_capacity_is}
-use Rattle.halfbrown.proofs.Lookups.{match_costs}
-use Rattle.halfbrown.proofs.Matches.{matches_of}
+use Rattle.halfbrown.proofs.lemmas.map.Layout.{table_capacity_is}
+use Rattle.halfbrown.proofs.lemmas.map.Find.{match_costs, matches_of}
 use Rattle.halfbrown.proofs.map.LimitedHashMap.find_match.Goals as goal
 
 pub returns-clause-found : goal.returns-clause-found
@@ -15,13 +14,17 @@ returns-clause-found g c =
     let hashing = key_hash g.S.BuildHasher g.S.Hasher.Hasher g.K.Hash.hash_input in
     let returns = FnReturnsAt g.F.Fn c.args.matches.now in
     subst (λ (m : State g.row.K.Denot g.row.V.Denot g.row.S.Denot). Matches returns hashing c.args.hash m c.find.result) c.self.view_is
-    (matches_of returns hashing c.args.hash g.L.Limit.LIMIT c.self.inside.store c.self.inside.builder c.self.invariant.hashed c.find.result c.find.ensures.found)
+    (matches_of returns hashing c.args.hash g.L.Limit.LIMIT c.self.inside.store c.self.inside.builder c.self.invariant.hashed c.find.result
+    c.find.ensures.found)
 
 pub returns-clause-cost : goal.returns-clause-cost
 returns-clause-cost g c =
     let hashing = key_hash g.S.BuildHasher g.S.Hasher.Hasher g.K.Hash.hash_input in
     let store = c.self.inside.store in
     let told = c.find.ensures in
-    subst (λ (m : State g.row.K.Denot g.row.V.Denot g.row.S.Denot). MatchCosts hashing c.args.hash m (found_index c.find.result) c.args.tally.now c.find.new.tally) c.self.view_is
-    (match_costs hashing c.args.hash (state_in g.L.Limit.LIMIT store c.self.inside.builder) c.args.tally.now c.find.new.tally store.is_vec (λ i. store.is_vec) (found_index c.find.result) store.hashes store.capacity
-    c.self.invariant.hashed (table_capacity_is g.L.Limit.LIMIT store.is_vec store.capacity) told.vector_cost told.found_cost told.missing_cost told.short)
+    subst (λ (m : State g.row.K.Denot g.row.V.Denot g.row.S.Denot). SearchCosts hashing c.args.hash m (result_ok c.find.result) 0
+    c.args.tally.now c.find.new.tally) c.self.view_is
+    (match_costs hashing c.args.hash (state_in g.L.Limit.LIMIT store c.self.inside.builder) c.args.tally.now c.find.new.tally store.is_vec
+    (λ i. store.is_vec) (result_ok c.find.result) store.hashes store.capacity
+    c.self.invariant.hashed (table_capacity_is g.L.Limit.LIMIT store.is_vec store.capacity) told.vector_cost told.found_cost
+    told.missing_cost told.short)

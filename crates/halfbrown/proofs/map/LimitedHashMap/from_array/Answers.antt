@@ -4,7 +4,7 @@ use Rattle.std.proofs.lemmas.Result.{IfOk-weaker, IfErr-weaker}
 use Rattle.std.specs.Vec.Iter.{into_iter_items, into_iter_steps}
 use Rattle.halfbrown.specs.Collection.{AreFirst, Gives, IsCollection}
 use Rattle.halfbrown.specs.Costs.{key_hash}
-use Rattle.halfbrown.proofs.Collections.{gave_first, refusal_given}
+use Rattle.halfbrown.proofs.lemmas.map.Collect.{gave_first, refusal_given}
 use Rattle.halfbrown.proofs.map.LimitedHashMap.from_array.Goals as goal
 
 pub returns-clause-collected : goal.returns-clause-collected
@@ -13,7 +13,8 @@ returns-clause-collected g c =
     IfOk-weaker c.collect.result _ _
     (λ m h. (
       h.1,
-      subst (λ (xs : List (g.row.K.Denot × g.row.V.Denot)). IsCollection g.L.Limit.LIMIT g.K.PartialEq.eq H g.S.Default.is_default g.row.N xs m h.1)
+      subst (λ (xs : List (g.row.K.Denot × g.row.V.Denot)). IsCollection g.L.Limit.LIMIT g.K.PartialEq.eq H g.S.Default.is_default g.row.N
+          xs m h.1)
           (All-taken c.into_iter.result h.0 h.2 ∙ c.into_iter.ensures.rest ∙ c.in-Ok.ensures.items) h.3,
     ))
     c.collect.ensures.collected
@@ -26,7 +27,8 @@ returns-clause-refused g c =
     IfErr-weaker c.collect.result _ _
     (λ why h. inr (
       h.0,
-      refusal_given g.L.Limit.LIMIT g.K.PartialEq.eq H g.met.K.Eq.laws g.S.Default.is_default g.row.N (Gives into_iter_steps it) (AreFirst c.args.pairs) why h.0
+      refusal_given g.L.Limit.LIMIT g.K.PartialEq.eq H g.met.K.Eq.laws g.S.Default.is_default g.row.N (Gives into_iter_steps it)
+          (AreFirst c.args.pairs) why h.0
           (λ xs gave. (into_iter_items gave.0, sym is_all ∙ gave_first it xs gave.0 gave.1)) h.1,
     ))
     c.collect.ensures.refused

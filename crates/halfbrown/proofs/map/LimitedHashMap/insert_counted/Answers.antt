@@ -1,23 +1,27 @@
 use Rattle.std.proofs.Common.{None, Some, sym, subst, ◌∙◌}
 use Rattle.halfbrown.specs.Costs.{key_hash}
 use Rattle.halfbrown.specs.Preparation.{IsReadyFor}
-use Rattle.halfbrown.proofs.Insertions.{inserted}
+use Rattle.halfbrown.proofs.lemmas.map.Insert.{inserted}
 use Rattle.halfbrown.proofs.map.LimitedHashMap.insert_counted.Goals as goal
 
-pub returns-in-Ok-Found-clause-inserts : goal.returns-in-Ok-Found-clause-inserts
-returns-in-Ok-Found-clause-inserts g c =
+pub returns-in-Ok-Ok-clause-inserts : goal.returns-in-Ok-Ok-clause-inserts
+returns-in-Ok-Ok-clause-inserts g c =
     let eq = g.K.PartialEq.eq in
     let key = c.args.key in
-    let found = c.in-Ok-Found.ensures in
-    let ready = subst (IsReadyFor eq (key_hash g.S.BuildHasher g.S.Hasher.Hasher g.K.Hash.hash_input) c.prepare.new.self key) c.in-Ok-Found.field-0-is found.ready in
-    inserted g.L.Limit.LIMIT eq g.met.K.Eq.laws c.args.self.now c.prepare.new.self c.set_at.new.self key c.args.value _ c.set_at.ensures.after (ready.put_is key c.args.value)
+    let found = c.in-Ok-Ok.ensures in
+    let ready = subst (IsReadyFor eq (key_hash g.S.BuildHasher g.S.Hasher.Hasher g.K.Hash.hash_input) c.prepare.new.self key)
+    c.in-Ok-Ok.field-0-is found.ready in
+    inserted g.L.Limit.LIMIT eq g.met.K.Eq.laws c.args.self.now c.prepare.new.self c.set_at.new.self key c.args.value _
+    c.set_at.ensures.after (ready.put_is key c.args.value)
     found.ok (Some c.set_at.result) (sym c.set_at.ensures.old ∙ sym ready.value) c.set_at.ensures.state
 
-pub returns-in-Ok-Missing-clause-inserts : goal.returns-in-Ok-Missing-clause-inserts
-returns-in-Ok-Missing-clause-inserts g c =
+pub returns-in-Ok-Err-clause-inserts : goal.returns-in-Ok-Err-clause-inserts
+returns-in-Ok-Err-clause-inserts g c =
     let eq = g.K.PartialEq.eq in
     let key = c.args.key in
-    let missing = c.in-Ok-Missing.ensures in
-    let ready = subst (IsReadyFor eq (key_hash g.S.BuildHasher g.S.Hasher.Hasher g.K.Hash.hash_input) c.prepare.new.self key) c.in-Ok-Missing.field-0-is missing.ready in
-    inserted g.L.Limit.LIMIT eq g.met.K.Eq.laws c.args.self.now c.prepare.new.self c.push.new.self key c.args.value _ c.push.ensures.after (ready.absent.put_is key c.args.value)
+    let missing = c.in-Ok-Err.ensures in
+    let ready = subst (IsReadyFor eq (key_hash g.S.BuildHasher g.S.Hasher.Hasher g.K.Hash.hash_input) c.prepare.new.self key)
+    c.in-Ok-Err.field-0-is missing.ready in
+    inserted g.L.Limit.LIMIT eq g.met.K.Eq.laws c.args.self.now c.prepare.new.self c.push.new.self key c.args.value _ c.push.ensures.after
+    (ready.absent.put_is key c.args.value)
     missing.ok None (sym ready.absent.value) c.push.ensures.state

@@ -1,19 +1,24 @@
-use Rattle.std.proofs.Common.{sym, ◌∙◌, arith}
+use Rattle.std.proofs.Common.{slice_get, sym, ap, ◌∙◌, arith}
 use Rattle.halfbrown.specs.Costs.{key_hash}
 use Rattle.halfbrown.specs.Equality.{holds_pair}
-use Rattle.halfbrown.proofs.SearchesCosts.{all_on, all_ends, costs_done, costs_on, costs_last}
+use Rattle.halfbrown.proofs.lemmas.map.Equality.{all_on, all_ends, costs_done, costs_on, costs_last}
 use Rattle.halfbrown.proofs.map.LimitedHashMap.is_held_by.Goals as goal
 
 pub returns-then-not-holds_pair-clause-held : goal.returns-then-not-holds_pair-clause-held
 returns-then-not-holds_pair-clause-held g c =
     let test = holds_pair g.K.PartialEq.eq g.V.PartialEq.eq c.args.other.now.pairs in
-    sym (c.loop-index.invariant.held ∙ all_ends test c.args.self.now.pairs c.loop-index.index (c.pair_at.result.0.now, c.pair_at.result.1.now) c.pair_at.ensures (sym c.holds_pair.ensures.held ∙ c.if-not-holds_pair.true))
+    sym (c.loop-index.invariant.held
+    ∙ all_ends test c.args.self.now.pairs c.loop-index.index (c.pair_at.result.0.now, c.pair_at.result.1.now)
+    (ap (λ ps. slice_get ps c.loop-index.index) (sym c.columns.ensures.pairs) ∙ c.pair_at.ensures)
+    (sym c.holds_pair.ensures.held ∙ c.if-not-holds_pair.true))
 
 pub returns-then-not-holds_pair-clause-cost : goal.returns-then-not-holds_pair-clause-cost
 returns-then-not-holds_pair-clause-cost g c =
     let hash = key_hash g.S2.BuildHasher g.S2.Hasher.Hasher g.K.Hash.hash_input in
     c.loop-index.invariant.cost c.holds_pair.new.tally
-    (costs_last g.K.PartialEq.eq hash c.args.other.now g.V.PartialEq.eq c.args.self.now.pairs c.loop-index.index (c.pair_at.result.0.now, c.pair_at.result.1.now) c.pair_at.ensures
+    (costs_last g.K.PartialEq.eq hash c.args.other.now g.V.PartialEq.eq c.args.self.now.pairs c.loop-index.index
+    (c.pair_at.result.0.now, c.pair_at.result.1.now)
+    (ap (λ ps. slice_get ps c.loop-index.index) (sym c.columns.ensures.pairs) ∙ c.pair_at.ensures)
     c.loop-index.tally c.holds_pair.new.tally c.holds_pair.ensures.cost (sym c.holds_pair.ensures.held ∙ c.if-not-holds_pair.true))
 
 pub loop-index-preserved : goal.loop-index-preserved
@@ -22,9 +27,13 @@ loop-index-preserved g c =
     let hash = key_hash g.S2.BuildHasher g.S2.Hasher.Hasher g.K.Hash.hash_input in
     let held = sym c.holds_pair.ensures.held ∙ c.if-not-holds_pair.false in
     record {
-      held = c.loop-index.invariant.held ∙ all_on test c.args.self.now.pairs c.loop-index.index (c.pair_at.result.0.now, c.pair_at.result.1.now) c.pair_at.ensures held;
+      held = c.loop-index.invariant.held
+          ∙ all_on test c.args.self.now.pairs c.loop-index.index (c.pair_at.result.0.now, c.pair_at.result.1.now)
+          (ap (λ ps. slice_get ps c.loop-index.index) (sym c.columns.ensures.pairs) ∙ c.pair_at.ensures) held;
       cost = λ after more. c.loop-index.invariant.cost after
-          (costs_on g.K.PartialEq.eq hash c.args.other.now g.V.PartialEq.eq c.args.self.now.pairs c.loop-index.index (c.pair_at.result.0.now, c.pair_at.result.1.now) c.pair_at.ensures
+          (costs_on g.K.PartialEq.eq hash c.args.other.now g.V.PartialEq.eq c.args.self.now.pairs c.loop-index.index
+          (c.pair_at.result.0.now, c.pair_at.result.1.now)
+          (ap (λ ps. slice_get ps c.loop-index.index) (sym c.columns.ensures.pairs) ∙ c.pair_at.ensures)
           c.loop-index.tally c.holds_pair.new.tally c.holds_pair.ensures.cost held after more);
     }
 
@@ -32,4 +41,5 @@ pub returns-clause-cost : goal.returns-clause-cost
 returns-clause-cost g c =
     let hash = key_hash g.S2.BuildHasher g.S2.Hasher.Hasher g.K.Hash.hash_input in
     c.loop-index.invariant.cost c.loop-index.tally
-    (costs_done g.K.PartialEq.eq hash c.args.other.now g.V.PartialEq.eq c.args.self.now.pairs c.loop-index.index (omega (arith, c.loop-index-test.false, c.len-index-end.ensures.len)) c.loop-index.tally)
+    (costs_done g.K.PartialEq.eq hash c.args.other.now g.V.PartialEq.eq c.args.self.now.pairs c.loop-index.index
+    (omega (arith, c.loop-index-test.false, c.len-index-end.ensures.len)) c.loop-index.tally)

@@ -8,8 +8,11 @@ use Rattle.halfbrown.proofs.map.LimitedHashMap.is_held_by.Given as goal
 
 abbrev pub invariant-loop-index : goal.invariant-loop-index
 invariant-loop-index g l = record {
-  held : list_all (holds_pair g.K.PartialEq.eq g.V.PartialEq.eq l.other.pairs) l.self.pairs ≡ list_all (holds_pair g.K.PartialEq.eq g.V.PartialEq.eq l.other.pairs) (drop l.index l.self.pairs);
+  held : list_all (holds_pair g.K.PartialEq.eq g.V.PartialEq.eq l.other.pairs) l.self.pairs
+      ≡ list_all (holds_pair g.K.PartialEq.eq g.V.PartialEq.eq l.other.pairs) (drop l.index l.self.pairs);
   cost : (after : Work)
-      → SearchesCost g.K.PartialEq.eq (key_hash g.S2.BuildHasher g.S2.Hasher.Hasher g.K.Hash.hash_input) l.other (keys_while_same g.K.PartialEq.eq g.V.PartialEq.eq (drop l.index l.self.pairs) l.other.pairs) l.tally after
-      → SearchesCost g.K.PartialEq.eq (key_hash g.S2.BuildHasher g.S2.Hasher.Hasher g.K.Hash.hash_input) l.other (keys_while_same g.K.PartialEq.eq g.V.PartialEq.eq l.self.pairs l.other.pairs) l.initial.tally after;
+      → SearchesCost g.K.PartialEq.eq (key_hash g.S2.BuildHasher g.S2.Hasher.Hasher g.K.Hash.hash_input) l.other
+      (keys_while_same g.K.PartialEq.eq g.V.PartialEq.eq (drop l.index l.self.pairs) l.other.pairs) l.tally after
+      → SearchesCost g.K.PartialEq.eq (key_hash g.S2.BuildHasher g.S2.Hasher.Hasher g.K.Hash.hash_input) l.other
+      (keys_while_same g.K.PartialEq.eq g.V.PartialEq.eq l.self.pairs l.other.pairs) l.initial.tally after;
 }

@@ -1,23 +1,25 @@
 use Rattle.std.proofs.Common.{zip, sym, ◌∙◌}
 use Rattle.halfbrown.specs.Costs.{key_hash}
-use Rattle.half_iter.proofs.Runs.{lends_values_in_order}
-use Rattle.halfbrown.proofs.Iterators.{kept_written, lent_values, zip_columns}
+use Rattle.halfbrown.proofs.lemmas.map.Iter.{lends_values_in_order, kept_written, lent_values, zip_columns}
 use Rattle.halfbrown.proofs.map.LimitedHashMap.iter_mut.Goals as goal
 
 pub invariant_of-self-lent : goal.invariant_of-self-lent
 invariant_of-self-lent g c =
-    kept_written g.K.PartialEq.eq (key_hash g.S.BuildHasher g.S.Hasher.Hasher g.K.Hash.hash_input c.self.inside.builder) g.L.Limit.LIMIT c.self.inside.store c.self.invariant
+    kept_written g.K.PartialEq.eq (key_hash g.S.BuildHasher g.S.Hasher.Hasher g.K.Hash.hash_input c.self.inside.builder) g.L.Limit.LIMIT
+    c.self.inside.store c.self.invariant
 
 pub returns : goal.returns
 returns g c =
     let inside = c.self.inside in
-    let lent = lent_values g.K.PartialEq.eq (key_hash g.S.BuildHasher g.S.Hasher.Hasher g.K.Hash.hash_input inside.builder) g.L.Limit.LIMIT inside.store inside.builder c.args.self.now c.self.view_is c.self.invariant
+    let lent = lent_values g.K.PartialEq.eq (key_hash g.S.BuildHasher g.S.Hasher.Hasher g.K.Hash.hash_input inside.builder) g.L.Limit.LIMIT
+    inside.store inside.builder c.args.self.now c.self.view_is c.self.invariant
     c.columns_mut-values.ensures.small in (
       (sym c.new.ensures.name, lent.back),
       record {
         writes_back = tt;
         even = c.new.ensures.even;
-        left = c.new.ensures.left ∙ (λ j. zip (c.columns_mut-values.ensures.keys j) (c.columns_mut-values.ensures.values j)) ∙ zip_columns inside.store.pairs ∙ lent.pairs;
+        left = c.new.ensures.left ∙ (λ j. zip (c.columns_mut-values.ensures.keys j) (c.columns_mut-values.ensures.values j))
+            ∙ zip_columns inside.store.pairs ∙ lent.pairs;
         small = lent.small;
         values_run = lends_values_in_order _;
         written = lent.written;

@@ -1,4 +1,4 @@
-use Rattle.half_iter.proofs.Runs.{shows_keys_in_order}
+use Rattle.halfbrown.proofs.lemmas.map.Iter.{shows_keys_in_order}
 use Rattle.halfbrown.proofs.map.LimitedHashMap.keys.Goals as goal
 
 pub returns-clause-runs : goal.returns-clause-runs

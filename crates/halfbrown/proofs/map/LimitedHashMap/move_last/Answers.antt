@@ -1,17 +1,26 @@
 use Rattle.std.proofs.Common.{[], ◌∷◌, ◌++◌, ap, ◌∙◌, length, arith}
 use Rattle.halfbrown.specs.Pairs.{holds}
-use Rattle.halfbrown.proofs.Replacements.{unheld_after}
-use Rattle.halfbrown.proofs.SwapOut.{length-swap_remove_at}
+use Rattle.halfbrown.proofs.lemmas.map.Replace.{unheld_after}
+use Rattle.halfbrown.proofs.lemmas.pairs.SwapRemove.{length-swap_remove_at}
 use Rattle.halfbrown.proofs.map.LimitedHashMap.move_last.Goals as goal
 
 pub push-requires-clause-capacity : goal.push-requires-clause-capacity
 push-requires-clause-capacity g c =
-    omega (arith, c.requires.within, c.len-last.ensures.state.fits, length-swap_remove_at c.args.self.now.pairs c.args.index (omega (arith, c.requires.within)), ap length c.take_at-key.ensures.after.pairs, c.take_at-key.ensures.after.capacity)
+    omega (
+      arith,
+      c.requires.within,
+      c.len-last.ensures.state.fits,
+      length-swap_remove_at c.args.self.now.pairs c.args.index (omega (arith, c.requires.within)),
+      ap length c.take_at-key.ensures.after.pairs,
+      c.take_at-key.ensures.after.capacity,
+    )
 
 pub push-requires-clause-absent : goal.push-requires-clause-absent
 push-requires-clause-absent g c =
     let eq = g.K.PartialEq.eq in
-    ap (λ ps. holds eq ps c.take_at-key.result.0) c.take_at-key.ensures.after.pairs ∙ unheld_after eq g.met.K.Eq.laws c.args.self.now.pairs c.len-last.ensures.state.distinct c.args.index c.take_at-key.result.0 c.take_at-key.result.1 c.take_at-key.ensures.taken
+    ap (λ ps. holds eq ps c.take_at-key.result.0) c.take_at-key.ensures.after.pairs
+    ∙ unheld_after eq g.met.K.Eq.laws c.args.self.now.pairs c.len-last.ensures.state.distinct c.args.index c.take_at-key.result.0
+    c.take_at-key.result.1 c.take_at-key.ensures.taken
 
 pub returns-clause-moves : goal.returns-clause-moves
 returns-clause-moves g c = record {
@@ -22,8 +31,14 @@ returns-clause-moves g c = record {
       pairs = c.push.ensures.after.pairs ∙ ap (λ ps. ps ++ c.take_at-key.result ∷ []) c.take_at-key.ensures.after.pairs;
       form = c.push.ensures.after.form ∙ c.take_at-key.ensures.after.form;
       capacity = c.push.ensures.after.capacity ∙ c.take_at-key.ensures.after.capacity;
+      columns = c.push.ensures.after.columns ∙ c.take_at-key.ensures.after.columns;
       builder = c.push.ensures.after.builder ∙ c.take_at-key.ensures.after.builder;
     },
   );
-  last_is = omega (arith, c.requires.within, c.len-last.ensures.len, length-swap_remove_at c.args.self.now.pairs c.args.index (omega (arith, c.requires.within)));
+  last_is = omega (
+    arith,
+    c.requires.within,
+    c.len-last.ensures.len,
+    length-swap_remove_at c.args.self.now.pairs c.args.index (omega (arith, c.requires.within)),
+  );
 }

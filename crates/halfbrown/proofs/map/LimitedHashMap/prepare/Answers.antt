@@ -1,24 +1,27 @@
 use Rattle.std.proofs.Common.{sym, ap, ◌∙◌, arith}
 use Rattle.halfbrown.specs.Costs.{key_hash}
 use Rattle.halfbrown.specs.Pairs.{holds}
-use Rattle.halfbrown.proofs.InsertLemmas.{held_costs, missing_costs}
+use Rattle.halfbrown.proofs.lemmas.map.Prepare.{held_costs, missing_costs}
 use Rattle.halfbrown.proofs.map.LimitedHashMap.prepare.Goals as goal
 
-pub returns-in-Found-clause-cost : goal.returns-in-Found-clause-cost
-returns-in-Found-clause-cost g c =
+pub returns-in-Ok-clause-cost : goal.returns-in-Ok-clause-cost
+returns-in-Ok-clause-cost g c =
     let eq = g.K.PartialEq.eq in
     let switched = c.in_ok-switch_if_full.ensures in
-    held_costs g.L.Limit.LIMIT eq (key_hash g.S.BuildHasher g.S.Hasher.Hasher g.K.Hash.hash_input) c.args.self.now c.args.key.now c.switch_if_full.new.self c.args.tally.now c.switch_if_full.new.tally c.find.new.tally
-    switched.form switched.switched switched.pairs switched.hasher switched.work c.in-Found.ensures.cost
-    (ap (λ ps. holds eq ps c.args.key.now) (sym switched.pairs) ∙ c.in-Found.ensures.found.held)
+    held_costs g.L.Limit.LIMIT eq (key_hash g.S.BuildHasher g.S.Hasher.Hasher g.K.Hash.hash_input) c.args.self.now c.args.key.now
+    c.switch_if_full.new.self c.args.tally.now c.switch_if_full.new.tally c.find.new.tally
+    switched.form switched.switched switched.pairs switched.builder switched.work c.in-Ok.ensures.cost
+    (ap (λ ps. holds eq ps c.args.key.now) (sym switched.pairs) ∙ c.in-Ok.ensures.found.held)
 
-pub returns-in_ok-make_capacity_at-in-Missing-clause-cost : goal.returns-in_ok-make_capacity_at-in-Missing-clause-cost
-returns-in_ok-make_capacity_at-in-Missing-clause-cost g c =
+pub returns-in_ok-make_capacity_at-in-Err-clause-cost : goal.returns-in_ok-make_capacity_at-in-Err-clause-cost
+returns-in_ok-make_capacity_at-in-Err-clause-cost g c =
     let eq = g.K.PartialEq.eq in
     let key = c.args.key.now in
     let switched = c.in_ok-switch_if_full.ensures in
-    let missing = c.in-Missing.ensures in
-    missing_costs g.L.Limit.LIMIT eq (key_hash g.S.BuildHasher g.S.Hasher.Hasher g.K.Hash.hash_input) c.args.self.now key c.switch_if_full.new.self c.args.tally.now c.switch_if_full.new.tally c.find.new.tally
-    switched.form switched.switched switched.pairs switched.hasher switched.work missing.cost
-    c.in-Missing.vacancy.hash (λ table. (missing.found.1 (omega (arith, missing.state.table_exceeds table)) table).0) c.make_capacity_at.new.tally c.in_ok-make_capacity_at-in-Missing.ensures.work
+    let missing = c.in-Err.ensures in
+    missing_costs g.L.Limit.LIMIT eq (key_hash g.S.BuildHasher g.S.Hasher.Hasher g.K.Hash.hash_input) c.args.self.now key
+    c.switch_if_full.new.self c.args.tally.now c.switch_if_full.new.tally c.find.new.tally
+    switched.form switched.switched switched.pairs switched.builder switched.work missing.cost
+    c.in-Err.vacancy.hash (λ table. (missing.found.1 (omega (arith, missing.state.table_exceeds table)) table).0)
+    c.make_capacity_at.new.tally c.in_ok-make_capacity_at-in-Err.ensures.work
     (ap (λ ps. holds eq ps key) (sym switched.pairs) ∙ missing.found.0.held)

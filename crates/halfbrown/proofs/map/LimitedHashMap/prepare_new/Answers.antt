@@ -2,9 +2,9 @@ use Rattle.std.proofs.Common.{sym, ap, ◌∙◌}
 use Rattle.halfbrown.specs.Costs.{key_hash}
 use Rattle.halfbrown.specs.Pairs.{holds}
 use Rattle.halfbrown.specs.State.{contents_of}
-use Rattle.halfbrown.proofs.Full.{form_stays}
-use Rattle.halfbrown.proofs.Indices.{absent_of_unheld}
-use Rattle.halfbrown.proofs.Vacancies.{vacancy_for}
+use Rattle.halfbrown.proofs.lemmas.map.Growth.{form_stays}
+use Rattle.halfbrown.proofs.lemmas.pairs.Indices.{absent_of_unheld}
+use Rattle.halfbrown.proofs.lemmas.map.Find.{vacancy_for}
 use Rattle.halfbrown.proofs.map.LimitedHashMap.prepare_new.Goals as goal
 
 pub returns-clause-ready : goal.returns-clause-ready
@@ -16,11 +16,13 @@ returns-clause-ready g c =
     let opened = c.switch_if_full.new.self in
     let now = c.make_capacity.new.self in
     record {
-      absent = absent_of_unheld (eq key) now.pairs (ap (λ ps. holds eq ps key) (prepared.ok.pairs ∙ c.switch_if_full.ensures.pairs) ∙ c.requires);
+      absent = absent_of_unheld (eq key) now.pairs
+          (ap (λ ps. holds eq ps key) (prepared.ok.pairs ∙ c.switch_if_full.ensures.pairs) ∙ c.requires);
       capacity = prepared.capacity;
-      vacant = vacancy_for now.is_vec (contents_of now) c.hash_to_store-hash.result (hash now.builder key)
+      vacant = vacancy_for now.is_vec (contents_of now) c.hash_in_table-hash.result (hash now.builder key)
           (λ form.
-          c.hash_to_store-hash.ensures.hash (form_stays opened.is_vec _ c.in_ok-switch_if_full.ensures.not_full ∙ sym prepared.ok.form ∙ form)
+          c.hash_in_table-hash.ensures.hash
+          (form_stays opened.is_vec _ c.in_ok-switch_if_full.ensures.not_full ∙ sym prepared.ok.form ∙ form)
           ∙ ap (λ s. hash s key) (sym prepared.ok.builder))
           c.vacancy_for.result c.vacancy_for.ensures.vacant;
     }

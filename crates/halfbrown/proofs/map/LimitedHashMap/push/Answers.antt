@@ -4,8 +4,8 @@ use Rattle.halfbrown.specs.Costs.{key_hash}
 use Rattle.halfbrown.specs.Layout.{IsKept}
 use Rattle.halfbrown.specs.Lookup.{IsAbsent}
 use Rattle.halfbrown.specs.State.{contents_of}
-use Rattle.halfbrown.proofs.Indices.{absent_of_unheld}
-use Rattle.halfbrown.proofs.Kept.{kept_pushed, state_of}
+use Rattle.halfbrown.proofs.lemmas.pairs.Indices.{absent_of_unheld}
+use Rattle.halfbrown.proofs.lemmas.map.Layout.{kept_pushed, state_of}
 use Rattle.halfbrown.proofs.map.LimitedHashMap.push.Goals as goal
 
 pub invariant_of-self : goal.invariant_of-self
@@ -15,12 +15,19 @@ invariant_of-self g c =
     let store = c.self.inside.store in
     let key = c.args.key in
     let vacancy = c.args.vacancy in
-    let absent : IsAbsent (eq key) store.pairs = subst (IsAbsent (eq key)) (sym (ap (λ m. m.pairs) c.self.view_is)) (absent_of_unheld (eq key) c.args.self.now.pairs c.requires.absent) in
-    let room : length store.pairs < allowed g.L.Limit.LIMIT store.is_vec store.capacity = omega (arith, c.requires.capacity, ap length (ap (λ m. m.pairs) c.self.view_is), ap (λ m. m.capacity) c.self.view_is) in
+    let absent : IsAbsent (eq key) store.pairs =
+    subst (IsAbsent (eq key)) (sym (ap (λ m. m.pairs) c.self.view_is))
+    (absent_of_unheld (eq key) c.args.self.now.pairs c.requires.absent) in
+    let room : length store.pairs < allowed g.L.Limit.LIMIT store.is_vec store.capacity =
+    omega (arith, c.requires.capacity, ap length (ap (λ m. m.pairs) c.self.view_is), ap (λ m. m.capacity) c.self.view_is) in
     let vacant : IsVacancy store.is_vec store.contents (hash key) vacancy =
-    subst (λ m. IsVacancy m.is_vec (contents_of m) (key_hash g.S.BuildHasher g.S.Hasher.Hasher g.K.Hash.hash_input m.builder key) vacancy) (sym c.self.view_is) c.requires.vacant in
+    subst (λ m. IsVacancy m.is_vec (contents_of m) (key_hash g.S.BuildHasher g.S.Hasher.Hasher g.K.Hash.hash_input m.builder key) vacancy)
+    (sym c.self.view_is) c.requires.vacant in
     subst (IsKept eq hash g.L.Limit.LIMIT) (sym c.push.ensures)
-    (kept_pushed eq hash g.L.Limit.LIMIT g.met.K.Eq.laws store key c.args.value vacancy c.self.invariant absent room (λ table. (vacant table).0))
+    (kept_pushed eq hash g.L.Limit.LIMIT g.met.K.Eq.laws store key c.args.value vacancy c.self.invariant absent room
+    (λ table. (vacant table).0))
 
 pub returns-clause-state : goal.returns-clause-state
-returns-clause-state g c = state_of g.K.PartialEq.eq (key_hash g.S.BuildHasher g.S.Hasher.Hasher g.K.Hash.hash_input c.self.inside.builder) g.L.Limit.LIMIT c.push.new.self c.self.inside.builder (invariant_of-self g c)
+returns-clause-state g c =
+    state_of g.K.PartialEq.eq (key_hash g.S.BuildHasher g.S.Hasher.Hasher g.K.Hash.hash_input c.self.inside.builder) g.L.Limit.LIMIT
+    c.push.new.self c.self.inside.builder (invariant_of-self g c)

@@ -1,15 +1,18 @@
 use Rattle.std.proofs.Common.{◌<◌, sym, subst, ◌∙◌}
 use Rattle.halfbrown.specs.Costs.{key_hash}
 use Rattle.halfbrown.specs.State.{IsTableCapacity}
-use Rattle.halfbrown.proofs.Kept.{kept_made, state_of}
+use Rattle.halfbrown.proofs.lemmas.map.Layout.{kept_made, state_of}
 use Rattle.halfbrown.proofs.map.LimitedHashMap.put_back.Goals as goal
 
 pub invariant_of-self : goal.invariant_of-self
 invariant_of-self g c =
     let told = c.into_store.ensures in
-    kept_made g.K.PartialEq.eq (key_hash g.S.BuildHasher g.S.Hasher.Hasher g.K.Hash.hash_input c.self.inside.builder) g.L.Limit.LIMIT c.into_store.result told.pairs told.hashes
+    kept_made g.K.PartialEq.eq (key_hash g.S.BuildHasher g.S.Hasher.Hasher g.K.Hash.hash_input c.self.inside.builder) g.L.Limit.LIMIT
+    c.into_store.result told.pairs told.hashes
     (λ table. subst IsTableCapacity (sym told.form.capacity) (c.requires.series (sym told.form.form ∙ table)))
     (λ table. subst (λ n. g.L.Limit.LIMIT < n) (sym told.form.capacity) (c.requires.exceeds (sym told.form.form ∙ table)))
 
 pub returns-clause-state : goal.returns-clause-state
-returns-clause-state g c = state_of g.K.PartialEq.eq (key_hash g.S.BuildHasher g.S.Hasher.Hasher g.K.Hash.hash_input c.self.inside.builder) g.L.Limit.LIMIT c.into_store.result c.self.inside.builder (invariant_of-self g c)
+returns-clause-state g c =
+    state_of g.K.PartialEq.eq (key_hash g.S.BuildHasher g.S.Hasher.Hasher g.K.Hash.hash_input c.self.inside.builder) g.L.Limit.LIMIT
+    c.into_store.result c.self.inside.builder (invariant_of-self g c)

@@ -1,8 +1,8 @@
 use Rattle.std.proofs.Common.{arith}
 use Rattle.std.specs.Map.Calls.{CalledAtPair}
 use Rattle.halfbrown.specs.Costs.{key_hash}
-use Rattle.halfbrown.proofs.Kept.{kept_as, state_of}
-use Rattle.halfbrown.proofs.Retained.{IsDistinct-retained}
+use Rattle.halfbrown.proofs.lemmas.map.Layout.{kept_as, state_of}
+use Rattle.halfbrown.proofs.lemmas.map.Retain.{IsDistinct-retained}
 use Rattle.halfbrown.proofs.map.LimitedHashMap.retain.Goals as goal
 
 pub invariant_of-self : goal.invariant_of-self
@@ -18,4 +18,6 @@ invariant_of-self g c =
     (λ table. told.hashes table hash (c.self.invariant.hashed table))
 
 pub returns-clause-state : goal.returns-clause-state
-returns-clause-state g c = state_of g.K.PartialEq.eq (key_hash g.S.BuildHasher g.S.Hasher.Hasher g.K.Hash.hash_input c.self.inside.builder) g.L.Limit.LIMIT c.retain.new.self c.self.inside.builder (invariant_of-self g c)
+returns-clause-state g c =
+    state_of g.K.PartialEq.eq (key_hash g.S.BuildHasher g.S.Hasher.Hasher g.K.Hash.hash_input c.self.inside.builder) g.L.Limit.LIMIT
+    c.retain.new.self c.self.inside.builder (invariant_of-self g c)

@@ -4,8 +4,8 @@ use Rattle.half_store.specs.Hash.{hash_by}
 use Rattle.halfbrown.specs.Costs.{key_hash}
 use Rattle.halfbrown.specs.Layout.{IsKept}
 use Rattle.halfbrown.specs.Updates.{HasKeyReplaced}
-use Rattle.halfbrown.proofs.Kept.{kept_key, state_of}
-use Rattle.halfbrown.proofs.Rekeyed.{equal_at, has_key_replaced}
+use Rattle.halfbrown.proofs.lemmas.map.Layout.{kept_key, state_of}
+use Rattle.halfbrown.proofs.lemmas.pairs.Keys.{equal_at, has_key_replaced}
 use Rattle.halfbrown.proofs.map.LimitedHashMap.set_key_at.Goals as goal
 
 pub invariant_of-self : goal.invariant_of-self
@@ -16,13 +16,17 @@ invariant_of-self g c =
     let old = c.set_key.result in
     let key = c.args.key in
     let at = c.set_key.ensures.old in
-    let same : eq old key ≡ true = equal_at eq g.met.K.Eq.laws old key (ap (λ m. slice_get (keys_of m.pairs) c.args.index) (sym c.self.view_is) ∙ at) c.requires.equal in
+    let same : eq old key ≡ true =
+    equal_at eq g.met.K.Eq.laws old key (ap (λ m. slice_get (keys_of m.pairs) c.args.index) (sym c.self.view_is) ∙ at)
+    c.requires.equal in
     let alike = ap (hash_by g.S.BuildHasher g.S.Hasher.Hasher c.self.inside.builder) (g.met.K.Hash.respects_eq old key same) in
     subst (IsKept eq hash g.L.Limit.LIMIT) (sym c.set_key.ensures.after)
     (kept_key eq hash g.L.Limit.LIMIT g.met.K.Eq.laws store c.args.index old key c.self.invariant at same alike)
 
 pub returns-clause-state : goal.returns-clause-state
-returns-clause-state g c = state_of g.K.PartialEq.eq (key_hash g.S.BuildHasher g.S.Hasher.Hasher g.K.Hash.hash_input c.self.inside.builder) g.L.Limit.LIMIT c.set_key.new.self c.self.inside.builder (invariant_of-self g c)
+returns-clause-state g c =
+    state_of g.K.PartialEq.eq (key_hash g.S.BuildHasher g.S.Hasher.Hasher g.K.Hash.hash_input c.self.inside.builder) g.L.Limit.LIMIT
+    c.set_key.new.self c.self.inside.builder (invariant_of-self g c)
 
 pub returns-clause-replaced : goal.returns-clause-replaced
 returns-clause-replaced g c =
@@ -31,7 +35,9 @@ returns-clause-replaced g c =
     let old = c.set_key.result in
     let key = c.args.key in
     let at = c.set_key.ensures.old in
-    let same : eq old key ≡ true = equal_at eq g.met.K.Eq.laws old key (ap (λ m. slice_get (keys_of m.pairs) c.args.index) (sym c.self.view_is) ∙ at) c.requires.equal in
+    let same : eq old key ≡ true =
+    equal_at eq g.met.K.Eq.laws old key (ap (λ m. slice_get (keys_of m.pairs) c.args.index) (sym c.self.view_is) ∙ at)
+    c.requires.equal in
     let replaced = has_key_replaced eq g.met.K.Eq.laws old key same store.pairs c.args.index at c.self.invariant.distinct in
     subst (λ m. HasKeyReplaced eq m.pairs key c.set_key.new.self.pairs) c.self.view_is
     (subst (λ s. HasKeyReplaced eq store.pairs key s.pairs) (sym c.set_key.ensures.after) replaced)

@@ -1,6 +1,6 @@
 use Rattle.std.proofs.Common.{◌<◌, length, ap, arith}
 use Rattle.halfbrown.specs.Costs.{key_hash}
-use Rattle.halfbrown.proofs.Kept.{kept_taken, state_of}
+use Rattle.halfbrown.proofs.lemmas.map.Layout.{kept_taken, state_of}
 use Rattle.halfbrown.proofs.map.LimitedHashMap.take_at.Goals as goal
 
 pub invariant_of-self : goal.invariant_of-self
@@ -8,7 +8,10 @@ invariant_of-self g c =
     let store = c.self.inside.store in
     let told = c.swap_remove.ensures in
     let within : c.args.index < length store.pairs = omega (arith, c.requires, ap length (ap (λ m. m.pairs) c.self.view_is)) in
-    kept_taken g.K.PartialEq.eq (key_hash g.S.BuildHasher g.S.Hasher.Hasher g.K.Hash.hash_input c.self.inside.builder) g.L.Limit.LIMIT g.met.K.Eq.laws store c.swap_remove.new.self c.args.index c.self.invariant told.form within told.pairs told.hashes
+    kept_taken g.K.PartialEq.eq (key_hash g.S.BuildHasher g.S.Hasher.Hasher g.K.Hash.hash_input c.self.inside.builder) g.L.Limit.LIMIT
+    g.met.K.Eq.laws store c.swap_remove.new.self c.args.index c.self.invariant told.form within told.pairs told.hashes
 
 pub returns-clause-state : goal.returns-clause-state
-returns-clause-state g c = state_of g.K.PartialEq.eq (key_hash g.S.BuildHasher g.S.Hasher.Hasher g.K.Hash.hash_input c.self.inside.builder) g.L.Limit.LIMIT c.swap_remove.new.self c.self.inside.builder (invariant_of-self g c)
+returns-clause-state g c =
+    state_of g.K.PartialEq.eq (key_hash g.S.BuildHasher g.S.Hasher.Hasher g.K.Hash.hash_input c.self.inside.builder) g.L.Limit.LIMIT
+    c.swap_remove.new.self c.self.inside.builder (invariant_of-self g c)

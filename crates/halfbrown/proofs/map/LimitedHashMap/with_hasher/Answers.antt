@@ -1,9 +1,13 @@
 use Rattle.halfbrown.specs.Costs.{key_hash}
-use Rattle.halfbrown.proofs.Kept.{kept_empty, state_of}
+use Rattle.halfbrown.proofs.lemmas.map.Layout.{kept_empty, state_of}
 use Rattle.halfbrown.proofs.map.LimitedHashMap.with_hasher.Goals as goal
 
 pub invariant_of-result : goal.invariant_of-result
-invariant_of-result g c = kept_empty g.K.PartialEq.eq (key_hash g.S.BuildHasher g.S.Hasher.Hasher g.K.Hash.hash_input c.args.builder) g.L.Limit.LIMIT c.new.result c.new.ensures
+invariant_of-result g c =
+    kept_empty g.K.PartialEq.eq (key_hash g.S.BuildHasher g.S.Hasher.Hasher g.K.Hash.hash_input c.args.builder) g.L.Limit.LIMIT c.new.result
+    c.new.ensures
 
 pub returns-clause-state : goal.returns-clause-state
-returns-clause-state g c = state_of g.K.PartialEq.eq (key_hash g.S.BuildHasher g.S.Hasher.Hasher g.K.Hash.hash_input c.args.builder) g.L.Limit.LIMIT c.new.result c.args.builder (invariant_of-result g c)
+returns-clause-state g c =
+    state_of g.K.PartialEq.eq (key_hash g.S.BuildHasher g.S.Hasher.Hasher g.K.Hash.hash_input c.args.builder) g.L.Limit.LIMIT c.new.result
+    c.args.builder (invariant_of-result g c)

@@ -1,6 +1,7 @@
 use Rattle.halfbrown.specs.Costs.{key_hash}
-use Rattle.halfbrown.proofs.SearchesCosts.{comparison_law}
+use Rattle.halfbrown.proofs.lemmas.map.Equality.{comparison_law}
 use Rattle.halfbrown.proofs.map.laws.cost_of_equality.Goals as goal
 
 pub returns : goal.returns
-returns g c = comparison_law g.K.PartialEq.eq g.V.PartialEq.eq g.met.K.Eq.laws (key_hash g.S.BuildHasher g.S.Hasher.Hasher g.K.Hash.hash_input)
+returns g c = comparison_law g.K.PartialEq.eq g.V.PartialEq.eq g.met.K.Eq.laws
+    (key_hash g.S.BuildHasher g.S.Hasher.Hasher g.K.Hash.hash_input)

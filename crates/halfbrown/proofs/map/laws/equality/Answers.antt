@@ -1,5 +1,5 @@
 use Rattle.halfbrown.specs.EqualityLaws.{reflexive, symmetric, transitive, same_pairs-Decides}
-use Rattle.halfbrown.proofs.SamePairs.{order_law, pairs_law}
+use Rattle.halfbrown.proofs.lemmas.map.Equality.{order_law, pairs_law}
 use Rattle.halfbrown.proofs.map.laws.equality.Goals as goal
 
 pub returns-clause-reflexive : goal.returns-clause-reflexive

@@ -1,22 +1,24 @@
 use Rattle.std.proofs.Common.{sym, ap}
 use Rattle.halfbrown.specs.RawEntryBuilder.{ready_ref, ready_map}
-use Rattle.halfbrown.proofs.RawFinds.{found_entry, missing_entry}
+use Rattle.halfbrown.proofs.lemmas.raw_entry.Builder.{found_entry, missing_entry}
 use Rattle.halfbrown.proofs.raw_entry.LimitedRawEntryBuilderMut.from_key_hashed_nocheck_counted.Goals as goal
 
-pub returns-in-Found-clause-searches : goal.returns-in-Found-clause-searches
-returns-in-Found-clause-searches g c = record {
+pub returns-in-Ok-clause-searches : goal.returns-in-Ok-clause-searches
+returns-in-Ok-clause-searches g c = record {
   same_map = ap (λ ready. (ready_ref ready).ghost_name) (sym c.self-1.given.1);
   finds =
-      found_entry g.K.PartialEq.eq g.met.K.Eq.laws (g.Q.Equivalent.equivalent c.args.key) (g.met.Q.Equivalent.stands_for_equals c.args.key) (ready_map c.args.self) _
-      (ap ready_map c.self-1.given.1) c.in-Found.ensures.state.distinct c.in-Found.ensures.found;
-  state = c.in-Found.ensures.state;
+      found_entry g.K.PartialEq.eq g.met.K.Eq.laws (g.Q.Equivalent.equivalent c.args.key) (g.met.Q.Equivalent.stands_for_equals c.args.key)
+      (ready_map c.args.self) _
+      (ap ready_map c.self-1.given.1) c.in-Ok.ensures.state.distinct c.in-Ok.ensures.found;
+  state = c.in-Ok.ensures.state;
 }
 
-pub returns-in-Missing-clause-searches : goal.returns-in-Missing-clause-searches
-returns-in-Missing-clause-searches g c = record {
+pub returns-in-Err-clause-searches : goal.returns-in-Err-clause-searches
+returns-in-Err-clause-searches g c = record {
   same_map = ap (λ ready. (ready_ref ready).ghost_name) (sym c.self-1.given.1);
   finds =
-      missing_entry g.K.PartialEq.eq g.met.K.Eq.laws (g.Q.Equivalent.equivalent c.args.key) (g.met.Q.Equivalent.stands_for_equals c.args.key) (ready_map c.args.self) _
-      (ap ready_map c.self-1.given.1) c.in-Missing.ensures.state.distinct c.in-Missing.ensures.found.0;
-  state = c.in-Missing.ensures.state;
+      missing_entry g.K.PartialEq.eq g.met.K.Eq.laws (g.Q.Equivalent.equivalent c.args.key)
+      (g.met.Q.Equivalent.stands_for_equals c.args.key) (ready_map c.args.self) _
+      (ap ready_map c.self-1.given.1) c.in-Err.ensures.state.distinct c.in-Err.ensures.found.0;
+  state = c.in-Err.ensures.state;
 }

@@ -1,4 +1,4 @@
-use Rattle.halfbrown.proofs.RawEntries.{held_puts}
+use Rattle.halfbrown.proofs.lemmas.raw_entry.Methods.{held_puts}
 use Rattle.halfbrown.proofs.raw_entry.LimitedRawEntryMut.or_insert_entry_counted.Goals as goal
 
 pub returns-in-Occupied-clause-puts : goal.returns-in-Occupied-clause-puts

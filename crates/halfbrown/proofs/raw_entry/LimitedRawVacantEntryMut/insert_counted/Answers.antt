@@ -1,4 +1,4 @@
-use Rattle.halfbrown.proofs.RawEntries.{lent_key, lent_value}
+use Rattle.halfbrown.proofs.lemmas.raw_entry.Methods.{lent_key, lent_value}
 use Rattle.halfbrown.proofs.raw_entry.LimitedRawVacantEntryMut.insert_counted.Goals as goal
 
 pub returns-clause-lends : goal.returns-clause-lends

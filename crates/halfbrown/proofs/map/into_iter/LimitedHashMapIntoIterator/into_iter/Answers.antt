@@ -1,9 +1,8 @@
 use Rattle.std.proofs.Common.{length, zip, ap, subst, ◌∙◌, arith}
 use Rattle.halfbrown.specs.Costs.{key_hash}
 use Rattle.halfbrown.specs.State.{IsState}
-use Rattle.half_iter.proofs.Runs.{gives_in_order, shows_values_in_order}
-use Rattle.halfbrown.proofs.Iterators.{zip_columns}
-use Rattle.halfbrown.proofs.Kept.{state_of}
+use Rattle.halfbrown.proofs.lemmas.map.Iter.{gives_in_order, shows_values_in_order, zip_columns}
+use Rattle.halfbrown.proofs.lemmas.map.Layout.{state_of}
 use Rattle.halfbrown.proofs.map.into_iter.LimitedHashMapIntoIterator.into_iter.Goals as goal
 
 pub returns : goal.returns
@@ -13,7 +12,8 @@ returns g c =
     let hash = key_hash g.S.BuildHasher g.S.Hasher.Hasher g.K.Hash.hash_input inside.builder in
     record {
       into_iter_gives = (
-        c.new.ensures ∙ (λ j. zip (c.into_columns-keys.ensures.keys j) (c.into_columns-keys.ensures.values j)) ∙ zip_columns inside.store.pairs ∙ ap (λ m. m.pairs) c.self.view_is,
+        c.new.ensures ∙ (λ j. zip (c.into_columns-keys.ensures.keys j) (c.into_columns-keys.ensures.values j))
+            ∙ zip_columns inside.store.pairs ∙ ap (λ m. m.pairs) c.self.view_is,
         omega (arith, c.into_columns-keys.ensures.small, ap (λ m. length m.pairs) c.self.view_is),
         gives_in_order,
         shows_values_in_order g.row.K.Denot,

@@ -1,6 +1,0 @@
-use Rattle.std.proofs.Common.{sym, ◌∙◌}
-use Rattle.half_iter.proofs.Columns.{length-zip}
-use Rattle.half_iter.proofs.iter.IterExactSizeIterator.len.Goals as goal
-
-pub returns-clause-value : goal.returns-clause-value
-returns-clause-value g c = c.len.ensures.value ∙ sym (length-zip _ _ c.args.self.now.even)

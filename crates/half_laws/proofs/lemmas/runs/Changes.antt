@@ -1,0 +1,115 @@
+-- What a step does to pairs and capacity: it puts a pair, or keeps the capacity and adds none, or shrinks. A `Reserve` is left out.
+use Rattle.std.proofs.Common.{◌≡◌, ℕ, ◌+◌, ◌≤◌, nat_lt, ◌⊎◌, inl, inr, Bool, true, false, true≢false, cond, length, Option, None, Some, ap}
+use Rattle.std.proofs.Common.{refl, arith, if◌then◌else◌}
+use Rattle.std.specs.Prelude.{IfSome, MatchBool}
+use Rattle.std.proofs.lemmas.Bool.Decides.{nat_tests}
+use Rattle.halfbrown.specs.declared.run.Command.{Command}
+use Rattle.halfbrown.specs.declared.run.Command.TheVariants.{Insert, InsertNew, EntryOrInsert, RawOrInsert, Remove, Clear, Reserve, Shrink}
+use Rattle.halfbrown.specs.declared.run.Reply.{Reply}
+use Rattle.halfbrown.specs.declared.run.Reply.TheVariants.{Refused}
+use Rattle.halfbrown.specs.Growth.{addition_needs, new_key_needs, insert_needs, is_full, Shrinks}
+use Rattle.halfbrown.specs.Insertion.{Puts}
+use Rattle.halfbrown.specs.Pairs.{holds, take_out}
+use Rattle.halfbrown.specs.State.{State}
+use Rattle.halfbrown.specs.Step.{Step, Steps, IsStep, Leaves, value_or, is_shrink}
+use Rattle.halfbrown.proofs.CallerLemmas.{len_taken}
+use Rattle.half_laws.specs.RunLaws.{is_reserve}
+
+not_less : (a b : ℕ) → nat_lt a b ≡ false → b ≤ a
+not_less a b e = grind (arith, nat_tests)
+
+cond_least : (held : Bool) (n len : ℕ) → n + cond held 1 0 ≡ len → n ≤ len
+cond_least true n len e = omega arith
+cond_least false n len e = omega arith
+
+module _ {K V S : Type 0} where
+  -- capacity is asked for one pair more, where none is left
+  abbrev pub IsDue : State K V S → Option ℕ → Type 0
+  IsDue m needs = IfSome needs (λ n. (n ≡ length m.pairs + 1) × (m.capacity ≤ length m.pairs))
+
+  addition_due : (m : State K V S) → IsDue m (addition_needs m)
+  addition_due m = by (nat_lt (length m.pairs) m.capacity) (not_less (length m.pairs) m.capacity) where
+    by : (few : Bool) → (few ≡ false → m.capacity ≤ length m.pairs) → IsDue m (if few then None else Some (length m.pairs + 1))
+    by true h = tt
+    by false h = (refl, h refl)
+
+  held_due : (m : State K V S) (held : Bool) → IsDue m (if held then None else addition_needs m)
+  held_due m true = tt
+  held_due m false = addition_due m
+
+module _ {K V S : Type 0} (limit : ℕ) (eq : K → K → Bool) where
+  -- a pair is put, with as much capacity as is due, or as the switch needs
+  pub record PutsDue (old new : State K V S) : Type 0 where
+    pub key : K
+    pub value : V
+    pub needs : Option ℕ
+    pub due : IsDue old needs
+    pub puts : Puts limit eq old key value (if is_full limit old then Some (limit + 1) else needs) new
+
+  -- form, capacity and memory stay, and no pair is added
+  pub record Keeps (old new : State K V S) : Type 0 where
+    pub form : new.is_vec ≡ old.is_vec
+    pub capacity : new.capacity ≡ old.capacity
+    pub columns : new.columns ≡ old.columns
+    pub len : length new.pairs ≤ length old.pairs
+
+  abbrev pub Changes : State K V S → Command K V → State K V S → Type 0
+  Changes old command new = PutsDue old new ⊎ (Keeps old new ⊎ ((is_shrink command ≡ true) × Shrinks limit old new))
+
+  keeps_all : (old new : State K V S) → new ≡ old → Keeps old new
+  keeps_all old new same = record {
+    form = ap (λ m. m.is_vec) same;
+    capacity = ap (λ m. m.capacity) same;
+    columns = ap (λ m. m.columns) same;
+    len = omega (arith, ap (λ m. length m.pairs) same);
+  }
+
+  puts_due : (old new : State K V S) (k : K) (v : V) (needs : Option ℕ) → IsDue old needs
+      → Puts limit eq old k v (if is_full limit old then Some (limit + 1) else needs) new → PutsDue old new
+  puts_due old new k v needs due puts = record { key = k; value = v; needs = needs; due = due; puts = puts }
+
+  -- by an insertion of k, and of a new key
+  puts_any : (old new : State K V S) (k : K) (v : V) → Puts limit eq old k v (insert_needs limit eq old k) new → PutsDue old new
+  puts_any old new k v =
+      puts_due old new k v (if holds eq old.pairs k then None else addition_needs old) (held_due old (holds eq old.pairs k))
+
+  puts_new : (old new : State K V S) (k : K) (v : V) → Puts limit eq old k v (new_key_needs limit old) new → PutsDue old new
+  puts_new old new k v = puts_due old new k v (addition_needs old) (addition_due old)
+
+  held_changes : (old new : State K V S) (k : K) (v : V) (held : Bool)
+      → MatchBool held (new ≡ old) (Puts limit eq old k v (new_key_needs limit old) new) → Changes old (InsertNew k v) new
+  held_changes old new k v true leaves = inr (inl (keeps_all old new leaves))
+  held_changes old new k v false leaves = inl (puts_new old new k v leaves)
+
+  leaves_changed : (old new : State K V S) (command : Command K V) → is_reserve command ≡ false → Leaves limit eq old command new
+      → Changes old command new
+  leaves_changed old new (Insert k v) none leaves = inl (puts_any old new k v leaves)
+  leaves_changed old new (InsertNew k v) none leaves = held_changes old new k v (holds eq old.pairs k) leaves
+  leaves_changed old new (EntryOrInsert k v) none leaves = inl (puts_any old new k (value_or eq old.pairs k v) leaves)
+  leaves_changed old new (RawOrInsert k v) none leaves = inl (puts_new old new k (value_or eq old.pairs k v) leaves)
+  leaves_changed old new (Remove k) none leaves =
+      let len = cond_least (holds eq old.pairs k) (length (take_out eq old.pairs k)) (length old.pairs) (len_taken eq old.pairs k) in
+      inr (inl (record {
+        form = leaves.form;
+        capacity = leaves.capacity;
+        columns = leaves.columns;
+        len = omega (arith, ap length leaves.pairs, len);
+      }))
+  leaves_changed old new Clear none leaves =
+      inr (inl (record {
+        form = leaves.form;
+        capacity = leaves.capacity;
+        columns = leaves.columns;
+        len = omega (arith, ap length leaves.pairs);
+      }))
+  leaves_changed old new (Reserve additional) none leaves = absurd (true≢false none)
+  leaves_changed old new Shrink none leaves = inr (inr (refl, leaves))
+  leaves_changed old new command none leaves = inr (inl (keeps_all old new leaves))
+
+  changes_by : (old new : State K V S) (command : Command K V) (reply : Reply K V) → Steps limit eq old command reply new
+      → is_reserve command ≡ false → Changes old command new
+  changes_by old new command (Refused back why) step none = inr (inl (keeps_all old new step.2))
+  changes_by old new command reply step none = leaves_changed old new command none step.1
+
+  pub step_changes : (s : Step K V S) → IsStep limit eq s → is_reserve s.command ≡ false → Changes s.before s.command s.after
+  step_changes s step none = changes_by s.before s.after s.command s.reply step none

@@ -1,0 +1,130 @@
+-- The laws of form and of hashes, by induction over the steps.
+use Rattle.std.proofs.Common.{◌≡◌, ◌∙◌, ℕ, ◌+◌, ◌*◌, ◌≤◌, Bool, true, false, not, ◌&&◌, ◌||◌, ◌==◌, List, [], ◌∷◌, length, fold, count_by}
+use Rattle.std.proofs.Common.{cond, Option, None, Some, unwrap_or, ap, refl, arith, if◌then◌else◌}
+use Rattle.std.specs.List.{list_any}
+use Rattle.std.specs.Option.{option_or}
+use Rattle.std.proofs.lemmas.List.Sums.{sum_by-cons}
+use Rattle.halfbrown.specs.Run.{Lead, shrinks, commands_of, cost_of}
+use Rattle.halfbrown.specs.State.{State}
+use Rattle.halfbrown.specs.Step.{Step, is_put, is_shrink, switches, goes_back, form_changed}
+use Rattle.halfbrown.proofs.lemmas.map.Growth.{form_stays}
+use Rattle.halfbrown.proofs.lemmas.run.Runs.{neither, steps_pay_two, table_stays}
+use Rattle.halfbrown.proofs.lemmas.run.Steps.{form_of_step, form_unshrunk, asked_of_step, most_asked, switch_left_most}
+use Rattle.half_laws.specs.RunLaws.{FormLaw, SwitchLaw, TableLaw, OneSwitchLaw, UnswitchedLaw, NothingHashedLaw, HashesLaw}
+use Rattle.half_laws.specs.RunLaws.{AmortizedHashesLaw}
+
+-- the last change counts
+last_of_both : (last earlier : Option Bool) (first : Bool)
+    → unwrap_or last (unwrap_or earlier first) ≡ unwrap_or (option_or last earlier) first
+last_of_both None earlier first = refl
+last_of_both (Some is_vec) earlier first = refl
+
+-- nothing switches where neither a step nor what follows it does
+neither_switches : (v now later : Bool) → ((v && not now) && not later) ≡ (v && not (now || later))
+neither_switches false now later = refl
+neither_switches true true later = refl
+neither_switches true false later = refl
+
+-- a vector that does not switch stays one
+vector_stays : (back : Bool) → unwrap_or (if back then Some true else None) true ≡ true
+vector_stays true = refl
+vector_stays false = refl
+
+-- one switch, or none
+abbrev once_if : Bool → ℕ
+once_if b = cond b 1 0
+
+-- at most two keys, and those of a switch
+most_of_both : (limit later : ℕ) (switched v : Bool) → most_asked limit switched v + limit * later ≤ 2 + limit * (once_if switched + later)
+most_of_both limit later true v = omega arith
+most_of_both limit later false true = omega arith
+most_of_both limit later false false = omega arith
+
+-- a vector that becomes a table has no switch left
+once_less : (v long puts : Bool) → once_if (puts && (v && long)) + once_if (v && not (puts && (v && long))) ≤ once_if v
+once_less true true true = omega arith
+once_less true true false = omega arith
+once_less true false true = omega arith
+once_less true false false = omega arith
+once_less false long true = omega arith
+once_less false long false = omega arith
+
+once_most : (v : Bool) → once_if v ≤ 1
+once_most true = omega arith
+once_most false = omega arith
+
+module _ {K V S : Type 0} (limit : ℕ) (eq : K → K → Bool) where
+  form_after : (first : Bool) (old new : State K V S) (steps : List (Step K V S)) (earlier : Option Bool) → Lead limit eq old steps new
+      → old.is_vec ≡ unwrap_or earlier first
+      → new.is_vec ≡ unwrap_or (fold (λ earlier s. option_or (form_changed limit s) earlier) earlier steps) first
+  form_after first old new [] earlier lead form = ap (λ m. m.is_vec) lead ∙ form
+  form_after first old new (s ∷ steps) earlier lead form =
+      form_after first s.after new steps (option_or (form_changed limit s) earlier) lead.3
+      (form_of_step limit eq s lead.1 ∙ ap (unwrap_or (form_changed limit s)) (ap (λ m. m.is_vec) lead.0 ∙ form)
+      ∙ last_of_both (form_changed limit s) earlier first)
+
+  pub form_law : FormLaw V S limit eq
+  form_law old new steps lead = form_after old.is_vec old new steps None lead refl
+
+  pub switch_law : SwitchLaw V S limit eq
+  switch_law old new [] lead none = ap (λ m. m.is_vec) lead ∙ form_stays old.is_vec false refl
+  switch_law old new (s ∷ steps) lead none =
+      let parts = neither (is_shrink s.command) (shrinks (commands_of steps)) none in
+      let later = list_any (switches limit) steps in
+      switch_law s.after new steps lead.3 parts.1 ∙ ap (λ v. v && not later) (form_unshrunk limit eq s lead.1 parts.0)
+      ∙ neither_switches s.before.is_vec (switches limit s) later ∙ ap (λ m. m.is_vec && not (switches limit s || later)) lead.0
+
+  switches_most : (old new : State K V S) (steps : List (Step K V S)) → Lead limit eq old steps new → shrinks (commands_of steps) ≡ false
+      → count_by (switches limit) steps ≤ once_if old.is_vec
+  switches_most old new [] lead none = omega arith
+  switches_most old new (s ∷ steps) lead none =
+      let parts = neither (is_shrink s.command) (shrinks (commands_of steps)) none in
+      omega (
+        arith,
+        sum_by-cons (λ s. once_if (switches limit s)) s steps,
+        once_less s.before.is_vec (length s.before.pairs == limit) (is_put s.reply),
+        ap once_if (form_unshrunk limit eq s lead.1 parts.0),
+        ap (λ m. once_if m.is_vec) lead.0,
+        switches_most s.after new steps lead.3 parts.1,
+      )
+
+  pub one_switch_law : OneSwitchLaw V S limit eq
+  one_switch_law old new steps lead none = omega (arith, switches_most old new steps lead none, once_most old.is_vec)
+
+  module _ (hash : S → K → ℕ) where
+    pub table_law : TableLaw V S limit eq
+    table_law old new steps lead none =
+        table_stays limit (length steps) (cost_of limit eq hash steps).asked old.is_vec new.is_vec
+        (steps_pay_two limit eq hash old new steps lead none)
+
+    pub nothing_hashed_law : NothingHashedLaw V S limit eq hash
+    nothing_hashed_law old new steps lead none form = ((steps_pay_two limit eq hash old new steps lead none).vector form).1
+
+    pub amortized_hashes_law : AmortizedHashesLaw V S limit eq hash
+    amortized_hashes_law old new steps lead none =
+        omega (arith, (steps_pay_two limit eq hash old new steps lead none).all, switch_left_most limit old.is_vec)
+
+    pub hashes_law : HashesLaw V S limit eq hash
+    hashes_law old new [] lead = omega arith
+    hashes_law old new (s ∷ steps) lead =
+        let later = count_by (switches limit) steps in
+        let count : count_by (switches limit) (s ∷ steps) ≡ once_if (switches limit s) + later =
+        sum_by-cons (λ s. once_if (switches limit s)) s steps in
+        rw count (omega (
+          arith,
+          asked_of_step limit eq hash s lead.1,
+          most_of_both limit later (switches limit s) s.before.is_vec,
+          hashes_law s.after new steps lead.3,
+        ))
+
+    pub unswitched_law : UnswitchedLaw V S limit eq hash
+    unswitched_law old new [] lead form none = (ap (λ m. m.is_vec) lead ∙ form, refl)
+    unswitched_law old new (s ∷ steps) lead form none =
+        let parts = neither (switches limit s) (list_any (switches limit) steps) none in
+        let was = ap (λ m. m.is_vec) lead.0 ∙ form in
+        let stays : unwrap_or (form_changed limit s) s.before.is_vec ≡ unwrap_or (if goes_back limit s then Some true else None) true =
+        λ i. unwrap_or (if parts.0 i then Some false else if goes_back limit s then Some true else None) (was i) in
+        let next : s.after.is_vec ≡ true = form_of_step limit eq s lead.1 ∙ stays ∙ vector_stays (goes_back limit s) in
+        let nothing : most_asked limit (switches limit s) s.before.is_vec ≡ 0 = λ i. most_asked limit (parts.0 i) (was i) in
+        let rest = unswitched_law s.after new steps lead.3 next parts.1 in
+        (rest.0, omega (arith, asked_of_step limit eq hash s lead.1, nothing, rest.1))

@@ -1,0 +1,150 @@
+-- How much capacity and memory a run leaves, by induction over the steps.
+use Rattle.std.proofs.Common.{◌≡◌, ℕ, zero, suc, ◌+◌, ◌*◌, ◌≤◌, max, inl, inr, Bool, true, false, ◌&&◌, List, [], ◌∷◌, length, fold, Option}
+use Rattle.std.proofs.Common.{None, Some, sym, ap, refl, subst, arith, if◌then◌else◌}
+use Rattle.std.specs.Prelude.{MatchBool}
+use Rattle.std.proofs.lemmas.Bool.{cases_lt}
+use Rattle.std.proofs.lemmas.Bool.Decides.{nat_tests}
+use Rattle.half_store.specs.Capacity.{IsBucketCount, capacity_of, more_buckets, buckets_for_more, buckets_for, capacity_for, grown_capacity}
+use Rattle.half_store.specs.Store.{allowed}
+use Rattle.half_store.proofs.lemmas.capacity.{more_buckets-some, buckets_for-least}
+use Rattle.halfbrown.specs.Growth.{is_full, HasCapacityAfter, HasCapacityShrunk, HasColumnsAfter, HasColumnsShrunk}
+use Rattle.halfbrown.specs.Run.{Lead, commands_of}
+use Rattle.halfbrown.specs.State.{State, IsState}
+use Rattle.halfbrown.specs.Step.{Step, IsStep}
+use Rattle.halfbrown.proofs.lemmas.map.Growth.{full_len}
+use Rattle.halfbrown.proofs.lemmas.run.Runs.{neither}
+use Rattle.half_laws.specs.RunLaws.{CapacityLaw, MemoryLaw, is_reserve, reserves}
+use Rattle.half_laws.proofs.lemmas.runs.Changes.{IsDue, Changes, step_changes}
+
+-- the next of the series is twice as large, or 3
+more_most : (n m : ℕ) → IsBucketCount m → capacity_of m ≤ 2 * n + 1 → capacity_of (buckets_for_more n m) ≤ 2 * suc n + 1
+more_most n m count few =
+    elim (cases_lt n (capacity_of m)) [
+      | inl lt ↦ let e : buckets_for_more n m ≡ m = grind (arith, nat_tests) in rw e (omega arith)
+      | inr ge ↦
+          let e : buckets_for_more n m ≡ more_buckets m = grind (arith, nat_tests) in
+          rw e (elim (cases_lt 0 m) [
+            | inl some ↦ rw (more_buckets-some m some) (omega arith)
+            | inr none ↦ let z : m ≡ 0 = omega arith in rw z (omega arith)
+          ])
+    ]
+
+capacity_for-most : (n : ℕ) → capacity_for n ≤ 2 * n + 1
+unfolding buckets_for
+capacity_for-most zero = omega arith
+capacity_for-most (suc n) = more_most n (buckets_for n) (buckets_for-least n).count (capacity_for-most n)
+
+pub first_of_both : (a b : Bool) → (a && b) ≡ true → a ≡ true
+first_of_both true b both = refl
+first_of_both false b both = both
+
+-- the most of all is at least that of the beginning
+most_least : {X : Type 0} (f : X → ℕ) (xs : List X) (n : ℕ) → n ≤ fold (λ most x. max most (f x)) n xs
+most_least f [] n = omega arith
+most_least f (x ∷ xs) n = omega (arith, most_least f xs (max n (f x)))
+
+module _ {K V S : Type 0} (limit : ℕ) (eq : K → K → Bool) where
+  switch_due : (m : State K V S) → IsState eq limit m → (needs : Option ℕ) → IsDue m needs
+      → IsDue m (if is_full limit m then Some (limit + 1) else needs)
+  switch_due m state needs due = by (is_full limit m) (λ e. e) where
+    by : (full : Bool) → (full ≡ true → is_full limit m ≡ true) → IsDue m (if full then Some (limit + 1) else needs)
+    by true h =
+        let len = full_len limit m (h refl) in
+        (omega (arith, len), omega (arith, len, state.vector_capacity (first_of_both m.is_vec _ (h refl))))
+    by false h = due
+
+  -- the capacity after a step: what it was, or at most eight pairs more than twice the pairs
+  abbrev IsModest : State K V S → ℕ → Type 0
+  IsModest old capacity = capacity ≤ max old.capacity (2 * length old.pairs + 8)
+
+  after_most : (old new : State K V S) (needs : Option ℕ) → IsDue old needs → HasCapacityAfter limit old needs new
+      → IsModest old new.capacity
+  after_most old new None due after = omega (arith, after)
+  after_most old new (Some n) due after = by new.is_vec after where
+    by : (is_vec : Bool) → MatchBool is_vec (new.capacity ≡ grown_capacity limit old.capacity n) (new.capacity ≡ capacity_for n)
+        → IsModest old new.capacity
+    by true e = omega (arith, e, due.0, due.1)
+    by false e = omega (arith, e, due.0, capacity_for-most n)
+
+  least_most : (old : State K V S) (is_vec : Bool) → IsModest old (if is_vec then length old.pairs else capacity_for (length old.pairs))
+  least_most old true = omega arith
+  least_most old false = omega (arith, capacity_for-most (length old.pairs))
+
+  allowed_most : (old : State K V S) (is_vec : Bool) → IsModest old (allowed limit is_vec old.capacity)
+  allowed_most old true = omega arith
+  allowed_most old false = omega arith
+
+  shrunk_most : (old new : State K V S) → HasCapacityShrunk limit old new → IsModest old new.capacity
+  shrunk_most old new (inl least) = subst (IsModest old) (sym least) (least_most old new.is_vec)
+  shrunk_most old new (inr kept) = subst (IsModest old) (sym kept.1) (allowed_most old new.is_vec)
+
+  step_most : (s : Step K V S) → IsState eq limit s.before → IsStep limit eq s → is_reserve s.command ≡ false
+      → IsModest s.before s.after.capacity
+  step_most s state step none = by (step_changes limit eq s step none) where
+    by : Changes limit eq s.before s.command s.after → IsModest s.before s.after.capacity
+    by (inl put) = after_most s.before s.after _ (switch_due s.before state put.needs put.due) put.puts.capacity
+    by (inr (inl keeps)) = omega (arith, keeps.capacity)
+    by (inr (inr shrinks)) = shrunk_most s.before s.after shrinks.1.capacity
+
+  -- from a state that holds no more than `top`
+  steps_most : (old new : State K V S) (steps : List (Step K V S)) (top : ℕ) → Lead limit eq old steps new → IsState eq limit old
+      → reserves (commands_of steps) ≡ false → length old.pairs ≤ top
+      → new.capacity ≤ max old.capacity (2 * fold (λ most s. max most (length s.after.pairs)) top steps + 8)
+  steps_most old new [] top lead state none few = omega (arith, ap (λ m. m.capacity) lead)
+  steps_most old new (s ∷ steps) top lead state none few =
+      let parts = neither (is_reserve s.command) (reserves (commands_of steps)) none in
+      let next = max top (length s.after.pairs) in
+      omega (
+        arith,
+        ap (λ m. m.capacity) lead.0,
+        ap (λ m. length m.pairs) lead.0,
+        step_most s (subst (IsState eq limit) (sym lead.0) state) lead.1 parts.0,
+        most_least (λ s. length s.after.pairs) steps next,
+        steps_most s.after new steps next lead.3 lead.2 parts.1 (omega arith),
+      )
+
+  pub capacity_law : CapacityLaw V S limit eq
+  capacity_law old new steps lead state none = steps_most old new steps (length old.pairs) lead state none (omega arith)
+
+  -- the memory of each column after a step: what it was, or the capacity, or for at most eight pairs more than twice the pairs
+  abbrev TakesNoMore : State K V S → ℕ → Type 0
+  TakesNoMore old columns = columns ≤ max (max old.columns old.capacity) (2 * length old.pairs + 8)
+
+  put_takes : (old new : State K V S) (needs : Option ℕ) → HasColumnsAfter old needs new → IsModest old new.capacity
+      → TakesNoMore old new.columns
+  put_takes old new None after most = omega (arith, after)
+  put_takes old new (Some n) after most = omega (arith, after, most)
+
+  shrunk_takes : (old new : State K V S) → HasColumnsShrunk old new → TakesNoMore old new.columns
+  shrunk_takes old new (inl fewer) = omega (arith, fewer)
+  shrunk_takes old new (inr same) = omega (arith, same)
+
+  step_takes : (s : Step K V S) → IsState eq limit s.before → IsStep limit eq s → is_reserve s.command ≡ false
+      → TakesNoMore s.before s.after.columns
+  step_takes s state step none = by (step_changes limit eq s step none) where
+    by : Changes limit eq s.before s.command s.after → TakesNoMore s.before s.after.columns
+    by (inl put) = put_takes s.before s.after _ put.puts.columns (step_most s state step none)
+    by (inr (inl keeps)) = omega (arith, keeps.columns)
+    by (inr (inr shrinks)) = shrunk_takes s.before s.after shrinks.1.columns
+
+  steps_take : (old new : State K V S) (steps : List (Step K V S)) (top : ℕ) → Lead limit eq old steps new → IsState eq limit old
+      → reserves (commands_of steps) ≡ false → length old.pairs ≤ top
+      → new.columns ≤ max (max old.columns old.capacity) (2 * fold (λ most s. max most (length s.after.pairs)) top steps + 8)
+  steps_take old new [] top lead state none few = omega (arith, ap (λ m. m.columns) lead)
+  steps_take old new (s ∷ steps) top lead state none few =
+      let parts = neither (is_reserve s.command) (reserves (commands_of steps)) none in
+      let next = max top (length s.after.pairs) in
+      let before = subst (IsState eq limit) (sym lead.0) state in
+      omega (
+        arith,
+        ap (λ m. m.columns) lead.0,
+        ap (λ m. m.capacity) lead.0,
+        ap (λ m. length m.pairs) lead.0,
+        step_most s before lead.1 parts.0,
+        step_takes s before lead.1 parts.0,
+        most_least (λ s. length s.after.pairs) steps next,
+        steps_take s.after new steps next lead.3 lead.2 parts.1 (omega arith),
+      )
+
+  pub memory_law : MemoryLaw V S limit eq
+  memory_law old new steps lead state none = steps_take old new steps (length old.pairs) lead state none (omega arith)

@@ -1,0 +1,203 @@
+-- How many pairs a run moves: each step pays two, and what a map has paid and not used is its credit.
+use Rattle.std.proofs.Common.{◌≡◌, ◌≢◌, ◌∙◌, ℕ, suc, ◌+◌, ◌-◌, ◌*◌, ◌<◌, ◌≤◌, nat_lt, ◌==◌, inl, inr, Bool, true, false, true≢false, not}
+use Rattle.std.proofs.Common.{◌&&◌, cond, List, [], ◌∷◌, length, sum_by, Option, None, Some, ap, sym, refl, subst, arith, if◌then◌else◌}
+use Rattle.std.specs.Prelude.{MatchBool}
+use Rattle.std.proofs.lemmas.Bool.{cases_lt, cases_Bool, eq-eqb, lt-ltb, le-ltb}
+use Rattle.std.proofs.lemmas.List.Sums.{sum_by-cons}
+use Rattle.half_store.specs.Capacity.{IsBucketCount, capacity_of, more_buckets, buckets_for, capacity_for, grown_capacity}
+use Rattle.half_store.proofs.lemmas.capacity.{more_buckets-some, buckets_for-least, buckets_for-grown, quarter}
+use Rattle.halfbrown.specs.Growth.{is_full, HasCapacityAfter}
+use Rattle.halfbrown.specs.Pairs.{holds, put}
+use Rattle.halfbrown.specs.Run.{Lead, shrinks, commands_of}
+use Rattle.halfbrown.specs.State.{State, IsState, IsTableCapacity}
+use Rattle.halfbrown.specs.Step.{Step, IsStep, is_shrink}
+use Rattle.halfbrown.proofs.CallerLemmas.{len_put}
+use Rattle.halfbrown.proofs.lemmas.map.Growth.{full_len, form_stays}
+use Rattle.halfbrown.proofs.lemmas.run.Runs.{neither}
+use Rattle.halfbrown.proofs.lemmas.run.Steps.{and_false}
+use Rattle.half_laws.specs.RunLaws.{MovesLaw, is_reserve, reserves, moved}
+use Rattle.half_laws.proofs.lemmas.runs.Memory.{first_of_both}
+use Rattle.half_laws.proofs.lemmas.runs.Changes.{IsDue, PutsDue, Changes, step_changes}
+
+-- twice the capacity, where a table grows
+double : (m : ℕ) → IsBucketCount m → 2 * capacity_of m ≤ capacity_of (more_buckets m)
+double m count =
+    elim (cases_lt 0 m) [
+      | inl some ↦ rw (more_buckets-some m some) (let q = quarter m count in omega (arith, q.1))
+      | inr none ↦ omega arith
+    ]
+
+table_doubles : (capacity : ℕ) → IsTableCapacity capacity → 2 * capacity ≤ capacity_for (capacity + 1)
+table_doubles capacity is =
+    let m : ℕ = buckets_for capacity in
+    let count = (buckets_for-least capacity).count in
+    let next : capacity + 1 ≡ suc (capacity_of m) = omega (arith, is) in
+    omega (arith, is, double m count, ap capacity_for next, ap capacity_of (buckets_for-grown m count))
+
+-- what a vector has to pay for: its last growth, and the switch
+abbrev budget : ℕ → Bool → ℕ → ℕ
+budget limit is_vec capacity = if is_vec then (if nat_lt capacity limit then 2 * limit else limit) else 0
+
+budget_low : (limit capacity : ℕ) → capacity < limit → budget limit true capacity ≡ 2 * limit
+budget_low limit capacity low = rw (lt-ltb capacity limit low) refl
+
+budget_high : (limit capacity : ℕ) → limit ≤ capacity → budget limit true capacity ≡ limit
+budget_high limit capacity high = rw (le-ltb capacity limit high) refl
+
+budget_most : (limit : ℕ) (is_vec : Bool) (capacity : ℕ) → budget limit is_vec capacity ≤ 2 * limit
+budget_most limit false capacity = omega arith
+budget_most limit true capacity =
+    elim (cases_lt capacity limit) [
+      | inl low ↦ omega (arith, budget_low limit capacity low)
+      | inr high ↦ omega (arith, budget_high limit capacity high)
+    ]
+
+vector_grows : (limit capacity len more grown : ℕ) → len ≤ capacity → capacity ≤ len → capacity < limit → more ≤ len + 1
+    → grown ≡ grown_capacity limit capacity (len + 1)
+    → len + ((2 * more - grown) + budget limit true grown) ≤ (2 * len - capacity) + budget limit true capacity + 2
+vector_grows limit capacity len more grown fits filled low most is =
+    elim (cases_lt grown limit) [
+      | inl less ↦ omega (arith, is, budget_low limit capacity low, budget_low limit grown less)
+      | inr all ↦ omega (arith, is, budget_low limit capacity low, budget_high limit grown all)
+    ]
+
+-- the Booleans of a form
+not_full_len : (v : Bool) (n limit : ℕ) → v ≡ true → (v && (n == limit)) ≡ false → n ≢ limit
+not_full_len true n limit vec other same = true≢false (sym (eq-eqb n limit same) ∙ other)
+not_full_len false n limit vec other same = true≢false (sym vec)
+
+-- what holds for a form that is known
+on_true : (P Q : Type 0) (b : Bool) → b ≡ true → MatchBool b P Q → P
+on_true P Q true e fact = fact
+on_true P Q false e fact = absurd (true≢false (sym e))
+
+on_false : (P Q : Type 0) (b : Bool) → b ≡ false → MatchBool b P Q → Q
+on_false P Q true e fact = absurd (true≢false e)
+on_false P Q false e fact = fact
+
+cond_most : (held : Bool) (n len : ℕ) → n ≡ cond held len (len + 1) → n ≤ len + 1
+cond_most true n len e = omega arith
+cond_most false n len e = omega arith
+
+moved_by : (same : Bool) (len : ℕ) → (if same then 0 else len) ≤ len
+moved_by true len = omega arith
+moved_by false len = omega arith
+
+module _ {K V S : Type 0} (limit : ℕ) (eq : K → K → Bool) where
+  -- the pairs that are moved between two states
+  abbrev moved_from : State K V S → State K V S → ℕ
+  moved_from old new = if new.capacity == old.capacity then 0 else length old.pairs
+
+  moved_none : (old new : State K V S) → new.capacity ≡ old.capacity → moved_from old new ≡ 0
+  moved_none old new same = rw (eq-eqb new.capacity old.capacity same) refl
+
+  -- what was paid and not used
+  abbrev credit : State K V S → ℕ
+  credit m = (2 * length m.pairs - m.capacity) + budget limit m.is_vec m.capacity
+
+  abbrev Pays : State K V S → State K V S → Type 0
+  Pays old new = moved_from old new + credit new ≤ credit old + 2
+
+  -- a step that adds one pair at most
+  module _ (old new : State K V S) (state : IsState eq limit old) (few : length new.pairs ≤ length old.pairs + 1) where
+    moves : moved_from old new ≤ length old.pairs
+    moves = moved_by (new.capacity == old.capacity) (length old.pairs)
+
+    -- the capacity stays
+    stays_pays : new.is_vec ≡ old.is_vec → new.capacity ≡ old.capacity → Pays old new
+    stays_pays form capacity =
+        omega (arith, moved_none old new capacity, ap (λ v. budget limit v new.capacity) form, ap (budget limit old.is_vec) capacity)
+
+    switch_pays : is_full limit old ≡ true → new.is_vec ≡ false → new.capacity ≡ capacity_for (limit + 1) → Pays old new
+    switch_pays full form capacity =
+        let vec = first_of_both old.is_vec (length old.pairs == limit) full in
+        let len = full_len limit old full in
+        omega (
+          arith,
+          moves,
+          len,
+          state.vector_capacity vec,
+          (buckets_for-least (limit + 1)).serves,
+          ap (λ v. budget limit v new.capacity) form,
+          ap (λ v. budget limit v old.capacity) vec,
+          budget_high limit old.capacity (omega (arith, len)),
+        )
+
+    vector_pays : is_full limit old ≡ false → old.is_vec ≡ true → new.is_vec ≡ old.is_vec → old.capacity ≤ length old.pairs
+        → new.capacity ≡ grown_capacity limit old.capacity (length old.pairs + 1) → Pays old new
+    vector_pays full vec form filled capacity =
+        let apart = not_full_len old.is_vec (length old.pairs) limit vec full in
+        let low : old.capacity < limit = omega (arith, apart, state.vector_capacity vec) in
+        omega (
+          arith,
+          moves,
+          vector_grows limit old.capacity (length old.pairs) (length new.pairs) new.capacity state.fits filled low few capacity,
+          ap (λ v. budget limit v new.capacity) (form ∙ vec),
+          ap (λ v. budget limit v old.capacity) vec,
+        )
+
+    table_pays : old.is_vec ≡ false → new.is_vec ≡ old.is_vec → old.capacity ≤ length old.pairs
+        → new.capacity ≡ capacity_for (length old.pairs + 1) → Pays old new
+    table_pays table form filled capacity =
+        let same : length old.pairs ≡ old.capacity = omega arith in
+        omega (
+          arith,
+          moves,
+          table_doubles old.capacity (state.table_capacity table),
+          ap (λ n. capacity_for (n + 1)) same,
+          ap (λ v. budget limit v new.capacity) (form ∙ table),
+          ap (λ v. budget limit v old.capacity) table,
+        )
+
+    grown_pays : is_full limit old ≡ false → new.is_vec ≡ old.is_vec → (needs : Option ℕ) → IsDue old needs
+        → HasCapacityAfter limit old needs new → Pays old new
+    grown_pays full form None due after = stays_pays form after
+    grown_pays full form (Some n) due after =
+        elim (cases_Bool old.is_vec) [
+          | inl vec ↦
+              let grown = on_true _ _ new.is_vec (form ∙ vec) after in
+              vector_pays full vec form due.1 (grown ∙ ap (grown_capacity limit old.capacity) due.0)
+          | inr table ↦ table_pays table form due.1 (on_false _ _ new.is_vec (form ∙ table) after ∙ ap capacity_for due.0)
+        ]
+
+    put_pays : (put : PutsDue limit eq old new) → Pays old new
+    put_pays put = by (is_full limit old) (λ e. e) (λ e. e) put.puts.form put.puts.capacity where
+      by : (full : Bool) → (full ≡ true → is_full limit old ≡ true) → (full ≡ false → is_full limit old ≡ false)
+          → new.is_vec ≡ (old.is_vec && not full) → HasCapacityAfter limit old (if full then Some (limit + 1) else put.needs) new
+          → Pays old new
+      by true yes_full no_full form after =
+          let table = form ∙ and_false old.is_vec in
+          switch_pays (yes_full refl) table (on_false _ _ new.is_vec table after)
+      by false yes_full no_full form after =
+          grown_pays (no_full refl) (form ∙ sym (form_stays old.is_vec false refl)) put.needs put.due after
+
+  put_few : (old new : State K V S) → PutsDue limit eq old new → length new.pairs ≤ length old.pairs + 1
+  put_few old new put =
+      let most = cond_most (holds eq old.pairs put.key) _ (length old.pairs) (len_put eq old.pairs put.key put.value) in
+      omega (arith, ap length put.puts.pairs, most)
+
+  step_pays : (s : Step K V S) → IsState eq limit s.before → IsStep limit eq s → is_shrink s.command ≡ false → is_reserve s.command ≡ false
+      → Pays s.before s.after
+  step_pays s state step no_shrink no_reserve = by (step_changes limit eq s step no_reserve) where
+    by : Changes limit eq s.before s.command s.after → Pays s.before s.after
+    by (inl put) = put_pays s.before s.after state (put_few s.before s.after put) put
+    by (inr (inl keeps)) = stays_pays s.before s.after state (omega (arith, keeps.len)) keeps.form keeps.capacity
+    by (inr (inr shrinks)) = absurd (true≢false (sym shrinks.0 ∙ no_shrink))
+
+  steps_pay : (old new : State K V S) (steps : List (Step K V S)) → Lead limit eq old steps new → IsState eq limit old
+      → shrinks (commands_of steps) ≡ false → reserves (commands_of steps) ≡ false → sum_by moved steps ≤ 2 * length steps + credit old
+  steps_pay old new [] lead state no_shrink no_reserve = omega arith
+  steps_pay old new (s ∷ steps) lead state no_shrink no_reserve =
+      let shrink = neither (is_shrink s.command) (shrinks (commands_of steps)) no_shrink in
+      let reserve = neither (is_reserve s.command) (reserves (commands_of steps)) no_reserve in
+      omega (
+        arith,
+        sum_by-cons moved s steps,
+        ap credit lead.0,
+        step_pays s (subst (IsState eq limit) (sym lead.0) state) lead.1 shrink.0 reserve.0,
+        steps_pay s.after new steps lead.3 lead.2 shrink.1 reserve.1,
+      )
+
+  pub moves_law : MovesLaw V S limit eq
+  moves_law old new steps lead state no_shrink no_reserve =
+      omega (arith, steps_pay old new steps lead state no_shrink no_reserve, state.fits, budget_most limit old.is_vec old.capacity)

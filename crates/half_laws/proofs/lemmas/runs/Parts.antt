@@ -1,0 +1,57 @@
+-- A run of two lists of commands: its steps are those of the first, and then those of the second.
+use Rattle.std.proofs.Common.{◌≡◌, ◌∙◌, ℕ, Bool, List, [], ◌∷◌, ◌++◌, sym, ap, refl, subst}
+use Rattle.std.proofs.lemmas.List.{map-append}
+use Rattle.halfbrown.specs.declared.run.Command.{Command}
+use Rattle.halfbrown.specs.Costs.{add_costs}
+use Rattle.halfbrown.specs.Run.{Lead, commands_of, replies_of, cost_of}
+use Rattle.halfbrown.specs.State.{State}
+use Rattle.halfbrown.specs.Step.{Step}
+use Rattle.halfbrown.proofs.lemmas.run.Runs.{lead_on, cost_of-append}
+use Rattle.half_laws.specs.RunLaws.{SplitLaw, JoinLaw}
+
+module _ {K V S : Type 0} where
+  -- the steps of the first commands, and those of the second
+  parts_of : (first second : List (Command K V)) (steps : List (Step K V S)) → first ++ second ≡ commands_of steps
+      → (a : List (Step K V S)) × (b : List (Step K V S)) × (steps ≡ a ++ b) × (first ≡ commands_of a) × (second ≡ commands_of b)
+  parts_of [] second steps same = ([], steps, refl, refl, same)
+  parts_of (command ∷ first) second [] same = absurd (cc same)
+  parts_of (command ∷ first) second (s ∷ steps) same =
+      let rest = parts_of first second steps (cc same) in
+      (s ∷ rest.0, rest.1, (λ i. s ∷ rest.2 i), cc (same, rest.3), rest.4)
+
+module _ {K V S : Type 0} (limit : ℕ) (eq : K → K → Bool) where
+  lead_parts : (old new : State K V S) (first second : List (Step K V S)) → Lead limit eq old (first ++ second) new
+      → (between : State K V S) × Lead limit eq old first between × Lead limit eq between second new
+  lead_parts old new [] second lead = (old, refl, lead)
+  lead_parts old new (s ∷ first) second lead =
+      let rest = lead_parts s.after new first second lead.3 in
+      (rest.0, (lead.0, lead.1, lead.2, rest.1), rest.2)
+
+  module _ (hash : S → K → ℕ) where
+    pub split_law : SplitLaw V limit eq hash
+    split_law old first second replies new cost run =
+        let parts = parts_of first second run.steps run.commands_are in
+        let leads = lead_parts old new parts.0 parts.1 (subst (λ steps. Lead limit eq old steps new) parts.2 run.lead) in
+        record {
+          between = leads.0;
+          first_replies = replies_of parts.0;
+          second_replies = replies_of parts.1;
+          first_cost = cost_of limit eq hash parts.0;
+          second_cost = cost_of limit eq hash parts.1;
+          first_runs = record { steps = parts.0; lead = leads.1; commands_are = parts.3; replies_are = refl; cost_is = refl };
+          second_runs = record { steps = parts.1; lead = leads.2; commands_are = parts.4; replies_are = refl; cost_is = refl };
+          replies_are = run.replies_are ∙ ap replies_of parts.2 ∙ map-append (λ s. s.reply) parts.0 parts.1;
+          cost_is = run.cost_is ∙ ap (cost_of limit eq hash) parts.2 ∙ cost_of-append limit eq hash parts.0 parts.1;
+        }
+
+    pub join_law : JoinLaw V limit eq hash
+    join_law old first second replies new cost both =
+        let a = both.first_runs in
+        let b = both.second_runs in
+        record {
+          steps = a.steps ++ b.steps;
+          lead = lead_on limit eq old both.between new a.steps b.steps a.lead b.lead;
+          commands_are = (λ i. a.commands_are i ++ b.commands_are i) ∙ sym (map-append (λ s. s.command) a.steps b.steps);
+          replies_are = both.replies_are ∙ (λ i. a.replies_are i ++ b.replies_are i) ∙ sym (map-append (λ s. s.reply) a.steps b.steps);
+          cost_is = both.cost_is ∙ (λ i. add_costs (a.cost_is i) (b.cost_is i)) ∙ sym (cost_of-append limit eq hash a.steps b.steps);
+        }

@@ -1,0 +1,94 @@
+-- What decides the replies: form and pairs before a command, the command, and the refusal decide its reply, and form and pairs after it.
+use Rattle.std.proofs.Common.{◌≡◌, ◌∙◌, ℕ, Bool, true, false, not, ◌&&◌, ◌==◌, nat_le, List, [], ◌∷◌, length, Option, None, Some, unwrap_or}
+use Rattle.std.proofs.Common.{ap, sym, refl, if◌then◌else◌}
+use Rattle.std.specs.Prelude.{MatchBool}
+use Rattle.half_store.specs.declared.refusal.Refusal.{Refusal}
+use Rattle.halfbrown.specs.declared.run.Command.{Command}
+use Rattle.halfbrown.specs.declared.run.Command.TheVariants.{Insert, InsertNew, EntryOrInsert, RawOrInsert, Remove, Clear, Reserve, Shrink}
+use Rattle.halfbrown.specs.declared.run.Reply.{Reply}
+use Rattle.halfbrown.specs.declared.run.Reply.TheVariants.{Refused}
+use Rattle.halfbrown.specs.Growth.{new_key_needs}
+use Rattle.halfbrown.specs.Insertion.{Puts}
+use Rattle.halfbrown.specs.Pairs.{holds, put, take_out}
+use Rattle.halfbrown.specs.State.{State}
+use Rattle.halfbrown.specs.Step.{Step, Steps, IsStep, Leaves, value_or, granted_reply, refusal_in, is_put, is_shrink}
+use Rattle.halfbrown.proofs.lemmas.run.Steps.{form_of_step}
+use Rattle.half_laws.specs.RunLaws.{IsAlike, RepliesLaw}
+
+module _ {K V : Type 0} (limit : ℕ) (eq : K → K → Bool) where
+  -- the pairs after a granted command
+  abbrev pairs_after : List (K × V) → Command K V → List (K × V)
+  pairs_after pairs (Insert k v) = put eq pairs k v
+  pairs_after pairs (InsertNew k v) = if holds eq pairs k then pairs else put eq pairs k v
+  pairs_after pairs (EntryOrInsert k v) = put eq pairs k (value_or eq pairs k v)
+  pairs_after pairs (RawOrInsert k v) = put eq pairs k (value_or eq pairs k v)
+  pairs_after pairs (Remove k) = take_out eq pairs k
+  pairs_after pairs Clear = []
+  pairs_after pairs command = pairs
+
+  -- reply and pairs, by the refusal
+  abbrev reply_by : Option Refusal → Bool → List (K × V) → Command K V → Reply K V
+  reply_by None is_vec pairs command = granted_reply limit eq is_vec pairs command
+  reply_by (Some why) is_vec pairs command = Refused command why
+
+  abbrev pairs_by : Option Refusal → List (K × V) → Command K V → List (K × V)
+  pairs_by None pairs command = pairs_after pairs command
+  pairs_by (Some why) pairs command = pairs
+
+module _ {K V S : Type 0} (limit : ℕ) (eq : K → K → Bool) where
+  new_pairs : (old new : State K V S) (k : K) (v : V) (held : Bool)
+      → MatchBool held (new ≡ old) (Puts limit eq old k v (new_key_needs limit old) new)
+      → new.pairs ≡ (if held then old.pairs else put eq old.pairs k v)
+  new_pairs old new k v true leaves = ap (λ m. m.pairs) leaves
+  new_pairs old new k v false leaves = leaves.pairs
+
+  pairs_left : (old new : State K V S) (command : Command K V) → Leaves limit eq old command new
+      → new.pairs ≡ pairs_after limit eq old.pairs command
+  pairs_left old new (Insert k v) leaves = leaves.pairs
+  pairs_left old new (InsertNew k v) leaves = new_pairs old new k v (holds eq old.pairs k) leaves
+  pairs_left old new (EntryOrInsert k v) leaves = leaves.pairs
+  pairs_left old new (RawOrInsert k v) leaves = leaves.pairs
+  pairs_left old new (Remove k) leaves = leaves.pairs
+  pairs_left old new Clear leaves = leaves.pairs
+  pairs_left old new (Reserve additional) leaves = leaves.pairs
+  pairs_left old new Shrink leaves = leaves.pairs
+  pairs_left old new command leaves = ap (λ m. m.pairs) leaves
+
+  answered : (old new : State K V S) (command : Command K V) (reply : Reply K V) → Steps limit eq old command reply new
+      → (reply ≡ reply_by limit eq (refusal_in reply) old.is_vec old.pairs command)
+      × (new.pairs ≡ pairs_by limit eq (refusal_in reply) old.pairs command)
+  answered old new command (Refused back why) step = ((λ i. Refused (step.0 i) why), ap (λ m. m.pairs) step.2)
+  answered old new command reply step = (step.0, pairs_left old new command step.1)
+
+  step_alike : (s t : Step K V S) → IsStep limit eq s → IsStep limit eq t → IsAlike s.before t.before → s.command ≡ t.command
+      → refusal_in s.reply ≡ refusal_in t.reply → (s.reply ≡ t.reply) × IsAlike s.after t.after
+  step_alike s t s_step t_step alike command refusal =
+      let s_is = answered s.before s.after s.command s.reply s_step in
+      let t_is = answered t.before t.after t.command t.reply t_step in
+      let reply : s.reply ≡ t.reply =
+      s_is.0 ∙ (λ i. reply_by limit eq (refusal i) (alike.form i) (alike.pairs i) (command i)) ∙ sym t_is.0 in (
+        reply,
+        record {
+          form = form_of_step limit eq s s_step
+              ∙ (λ i. unwrap_or (if is_put (reply i) && (alike.form i && (length (alike.pairs i) == limit)) then Some false
+              else if is_shrink (command i) && not (alike.form i) && nat_le (length (alike.pairs i)) limit then Some true else None)
+              (alike.form i))
+              ∙ sym (form_of_step limit eq t t_step);
+          pairs = s_is.1 ∙ (λ i. pairs_by limit eq (refusal i) (alike.pairs i) (command i)) ∙ sym t_is.1;
+        },
+      )
+
+  same_alike : (a b c d : State K V S) → IsAlike a b → c ≡ a → d ≡ b → IsAlike c d
+  same_alike a b c d alike left right = record {
+    form = ap (λ m. m.is_vec) left ∙ alike.form ∙ sym (ap (λ m. m.is_vec) right);
+    pairs = ap (λ m. m.pairs) left ∙ alike.pairs ∙ sym (ap (λ m. m.pairs) right);
+  }
+
+  pub replies_law : RepliesLaw V S limit eq
+  replies_law a a_new [] a_lead b b_new [] b_lead alike commands refusals = (refl, same_alike a b a_new b_new alike a_lead b_lead)
+  replies_law a a_new [] a_lead b b_new (t ∷ b_steps) b_lead alike commands refusals = absurd (cc commands)
+  replies_law a a_new (s ∷ a_steps) a_lead b b_new [] b_lead alike commands refusals = absurd (cc commands)
+  replies_law a a_new (s ∷ a_steps) a_lead b b_new (t ∷ b_steps) b_lead alike commands refusals =
+      let once = step_alike s t a_lead.1 b_lead.1 (same_alike a b s.before t.before alike a_lead.0 b_lead.0) (cc commands) (cc refusals) in
+      let rest = replies_law s.after a_new a_steps a_lead.3 t.after b_new b_steps b_lead.3 once.1 (cc commands) (cc refusals) in
+      ((λ i. once.0 i ∷ rest.0 i), rest.1)

@@ -1,0 +1,466 @@
+-- What holds of every search.
+use Rattle.std.proofs.Common.{◌≡◌, ℕ, ◌+◌, ◌-◌, ◌<◌, ◌≤◌, ◌==◌, Bool, true, false, not, ◌&&◌, true≢false, inl, inr, refl, sym, ap, ◌∙◌}
+use Rattle.std.proofs.Common.{subst, arith, List, length, map, cond, Option, None, is_some, IsPermutation, if◌then◌else◌}
+use Rattle.std.proofs.lemmas.Bool.{cases_lt, cases_Bool}
+use Rattle.std.proofs.lemmas.List.Sorted.{IsPermutation-map, length_permutation, sum_by-IsPermutation, list_any-IsPermutation}
+use Rattle.std.proofs.lemmas.Map.Entries.{length-keys_of}
+use Rattle.std.proofs.Math.ListN.{length-map}
+use Rattle.std.proofs.lemmas.Map.Made.{is_some-lookup}
+use Rattle.std.specs.Map.{keys_of}
+use Rattle.half_store.specs.Reach.{reach}
+use Rattle.half_store.specs.Capacity.{buckets_of, buckets_for}
+use Rattle.half_store.specs.Pairs.{index_of}
+use Rattle.half_store.specs.Table.{Contents}
+use Rattle.half_store.specs.Work.{Work, first_match_cost}
+use Rattle.half_store.proofs.lemmas.table.Reach.{reach-none}
+use Rattle.half_store.proofs.lemmas.capacity.{four-le_count, buckets_for-least, buckets_of-capacity_of, capacity_for-capacity_of}
+use Rattle.half_store.proofs.lemmas.table.Laws.{history_law as reach_history, crowding_law}
+use Rattle.halfbrown.specs.declared.run.Command.{Command}
+use Rattle.halfbrown.specs.declared.run.Command.TheVariants.{Insert, InsertNew, EntryOrInsert, RawOrInsert, Get, Remove}
+use Rattle.halfbrown.specs.Costs.{Range, Cost, GrewBy, GrewWithin, exactly, between, add_ranges, no_cost, search_asked, candidates}
+use Rattle.halfbrown.specs.Costs.{probe_length, search_compares, search_looks, search_cost, search_cost_of, switched_compares}
+use Rattle.halfbrown.specs.Costs.{switched_looks, insert_cost, raw_insert_cost, new_key_cost, insertion_probe_looks, is_switch_refused}
+use Rattle.halfbrown.specs.Costs.{capacity_switched, capacity_grown, addition_grows, SearchCosts, InsertCosts}
+use Rattle.half_laws.specs.MapLaws.{HoldSamePairs, GrewExactlyBy, HistoryLaw, InsertionHistoryLaw, CrowdedSearchLaw, CrowdedInsertionLaw}
+use Rattle.half_laws.specs.MapLaws.{CrowdedProbeLaw, CrowdedGrowthLaw, CrowdedUncheckedLaw, CommandCostLaw, CommandHashesLaw}
+use Rattle.half_laws.specs.MapLaws.{CommandBucketsLaw, finds_in_vector}
+use Rattle.halfbrown.specs.Growth.{is_full, is_vec_after}
+use Rattle.halfbrown.specs.Pairs.{holds, holds_by}
+use Rattle.halfbrown.specs.RunCost.{command_cost}
+use Rattle.halfbrown.specs.State.{State, state, contents_of, IsState, IsTableCapacity}
+use Rattle.halfbrown.proofs.lemmas.map.Growth.{full_len}
+use Rattle.halfbrown.proofs.lemmas.pairs.Indices.{absent_of_unheld, found_where_held}
+
+-- a table with a capacity has more buckets than that
+buckets-more : (capacity : ℕ) → IsTableCapacity capacity → 0 < buckets_of capacity → capacity < buckets_of capacity
+buckets-more capacity is some =
+    let m : ℕ = buckets_for capacity in
+    let l = buckets_for-least capacity in
+    let same : buckets_of capacity ≡ m = ap buckets_of is ∙ buckets_of-capacity_of m l.count in
+    let four : 4 ≤ m = four-le_count m l.count (omega arith) in
+    omega arith
+
+-- a search in a table reads at most an unsuccessful probe
+looks_most : (held : Bool) (probe : ℕ) → (if held then between 1 (probe - 1) else exactly probe).most ≤ probe
+looks_most true probe = omega arith
+looks_most false probe = omega arith
+
+-- a range of one number
+abbrev IsExact : Range → Type 0
+IsExact range = range.least ≡ range.most
+
+exact_unless_refused : (refused : Bool) (range : Range) → IsExact range → IsExact (if refused then exactly 0 else range)
+exact_unless_refused true range exact = refl
+exact_unless_refused false range exact = exact
+
+-- the work of a cost, where that is exact
+abbrev least_work : Cost → Work
+least_work cost = record { asked = cost.asked; compared = cost.compared.least; looked = cost.looked.least }
+
+grew_exactly : (cost : Cost) (before after : Work) → IsExact cost.compared → IsExact cost.looked → GrewBy cost before after
+    → GrewExactlyBy (least_work cost) before after
+grew_exactly cost before after compared looked grew = record {
+  asked = grew.asked;
+  compared = omega (arith, compared, grew.compared.least, grew.compared.most);
+  looked = omega (arith, looked, grew.looked.least, grew.looked.most);
+}
+
+-- an insertion that makes no capacity grow reads no more than its search
+insertion_most : (refused grows : Bool) (searched : Range) (probe before after : ℕ) → grows ≡ false
+    → GrewWithin (if refused then exactly 0 else add_ranges searched (exactly (if grows then probe else 0))) before after
+    → after ≤ before + searched.most
+insertion_most true grows searched probe before after none grew = omega (arith, grew.most)
+insertion_most false true searched probe before after none grew = absurd (true≢false none)
+insertion_most false false searched probe before after none grew = omega (arith, grew.most)
+
+-- one that makes the capacity grow for its key has searched in vain, and reads one more probe
+growing_reads : (refused granted held grows : Bool) (probe second before after : ℕ) → (granted && not held && grows) ≡ true
+    → (refused && granted) ≡ false
+    → GrewWithin (if refused then exactly 0 else add_ranges (if held then between 1 (probe - 1) else exactly probe)
+    (exactly (if granted && not held && grows then second else 0))) before after
+    → after ≡ before + (probe + second)
+growing_reads refused false held grows probe second before after some none grew = absurd (true≢false (sym some))
+growing_reads refused true true grows probe second before after some none grew = absurd (true≢false (sym some))
+growing_reads refused true false false probe second before after some none grew = absurd (true≢false (sym some))
+growing_reads true true false true probe second before after some none grew = absurd (true≢false none)
+growing_reads false true false true probe second before after some none grew = omega (arith, grew.least, grew.most)
+
+-- a granted call is not refused its switch
+granted_or_refused : (full granted : Bool) → (full && not granted && granted) ≡ false
+granted_or_refused false granted = refl
+granted_or_refused true false = refl
+granted_or_refused true true = refl
+
+-- an insertion without a search reads one probe at most
+unchecked_most : (granted : Bool) (probe before after : ℕ) → GrewWithin (exactly (if granted then probe else 0)) before after
+    → after ≤ before + probe
+unchecked_most true probe before after grew = omega (arith, grew.most)
+unchecked_most false probe before after grew = omega (arith, grew.most)
+
+-- what holds of two numbers holds of the one that is chosen
+of_both : (P : ℕ → Type 0) (b : Bool) (x y : ℕ) → P x → P y → P (if b then x else y)
+of_both P true x y of_x of_y = of_x
+of_both P false x y of_x of_y = of_y
+
+-- a map that does not stay a vector, and is no full one, is a table
+table_of : (is_vec full : Bool) → full ≡ false → (is_vec && not full) ≡ false → is_vec ≡ false
+table_of false full part stays = refl
+table_of true full part stays = absurd (true≢false (sym (ap not part) ∙ stays))
+
+-- a key that is not held is not found in a vector
+never_found : (in_vector held : Bool) → held ≡ false → (in_vector && held) ≡ false
+never_found true held unheld = unheld
+never_found false held unheld = refl
+
+module _ {K V S : Type 0} (hash : S → K → ℕ) where
+  pub crowded_probe_law : CrowdedProbeLaw V hash
+  crowded_probe_law builder capacity pairs sought passed is fits l =
+      let hashes : List ℕ = map (hash builder) (keys_of pairs) in
+      let m : ℕ = buckets_of capacity in
+      let h : ℕ = sought in
+      let some : 0 < m = elim (cases_lt 0 m) [
+        | inl s ↦ s
+        | inr none ↦ absurd (omega (arith, reach-none hashes m h (omega arith)))
+      ] in
+      let few : length hashes < m =
+      omega (arith, buckets-more capacity is some, length-map (keys_of pairs) (hash builder), length-keys_of pairs) in
+      crowding_law hashes m h passed few l
+
+  module _ (limit : ℕ) (eq : K → K → Bool) where
+    pub crowded_search_law : CrowdedSearchLaw V limit eq hash
+    crowded_search_law m sought found asked before after passed state form costs l =
+        let probe : ℕ = probe_length (hash m.builder) false m.capacity m.pairs sought in
+        let grew : GrewWithin (search_looks (hash m.builder) sought found false m.capacity m.pairs) before.looked after.looked =
+        subst (λ b. GrewWithin (search_looks (hash m.builder) sought found b m.capacity m.pairs) before.looked after.looked) form
+        costs.grew.looked in
+        let most = looks_most (is_some found) probe in
+        crowded_probe_law m.builder m.capacity m.pairs sought passed (state.table_capacity form) state.fits (omega (arith, grew.most, most))
+
+    module _ (m : State K V S) (s : IsState eq limit m) (stays : is_vec_after limit m ≡ false) where
+      -- once the form has changed, the capacity is that of a table that the pairs fit
+      switched : IsTableCapacity (capacity_switched limit m) × (length m.pairs ≤ capacity_switched limit m)
+      switched =
+          elim (cases_Bool (is_full limit m)) [
+            | inl full ↦
+                let l = buckets_for-least (limit + 1) in
+                let held = full_len limit m full in
+                rw full (capacity_for-capacity_of (buckets_for (limit + 1)) l.count, omega (arith, l.serves))
+            | inr part ↦
+                let fits = s.fits in
+                rw part (s.table_capacity (table_of m.is_vec (is_full limit m) part stays), fits)
+          ]
+
+      -- and so is the one that is enough for one pair more
+      grown : IsTableCapacity (capacity_grown limit m) × (length m.pairs ≤ capacity_grown limit m)
+      grown =
+          let l = buckets_for-least (length m.pairs + 1) in
+          of_both (λ capacity. IsTableCapacity capacity × (length m.pairs ≤ capacity)) (addition_grows limit m) _ _
+          (capacity_for-capacity_of (buckets_for (length m.pairs + 1)) l.count, omega (arith, l.serves)) switched
+
+    pub crowded_growth_law : CrowdedGrowthLaw V limit eq hash
+    crowded_growth_law m k granted before after s stays grows costs =
+        let is = switched m s stays in
+        let more = grown m s stays in
+        let h : K → ℕ = hash m.builder in
+        let found : Option ℕ = index_of (eq k) (keys_of m.pairs) in
+        let first : ℕ = probe_length h false (capacity_switched limit m) m.pairs (h k) in
+        let second : ℕ = probe_length h false (capacity_grown limit m) m.pairs (h k) in
+        record {
+          first = first;
+          second = second;
+          read = growing_reads (is_switch_refused limit m granted) granted (holds eq m.pairs k) (addition_grows limit m) first second
+              before.looked after.looked grows
+              (granted_or_refused (is_full limit m) granted)
+              (subst (λ b. GrewWithin (if is_switch_refused limit m granted then exactly 0 else add_ranges
+              (if b then between 1 (first - 1) else exactly first)
+              (exactly (if granted && not (holds eq m.pairs k) && addition_grows limit m then second else 0))) before.looked after.looked)
+              (found_where_held (eq k) m.pairs)
+              (subst (λ b. GrewWithin (if is_switch_refused limit m granted then exactly 0 else add_ranges
+              (search_looks h (h k) found b (capacity_switched limit m) m.pairs)
+              (exactly (if granted && not (holds eq m.pairs k)
+              && addition_grows limit m then probe_length h b (capacity_grown limit m) m.pairs (h k) else 0)))
+              before.looked after.looked) stays costs.grew.looked));
+          first_crowded = λ passed l. crowded_probe_law m.builder (capacity_switched limit m) m.pairs (hash m.builder k) passed is.0 is.1 l;
+          second_crowded = λ passed l. crowded_probe_law m.builder (capacity_grown limit m) m.pairs (hash m.builder k) passed more.0 more.1
+              l;
+        }
+
+    pub crowded_unchecked_law : CrowdedUncheckedLaw V limit eq hash
+    crowded_unchecked_law m k granted before after passed s grew l =
+        let probe : Bool → ℕ = λ b. probe_length (hash m.builder) b (capacity_grown limit m) m.pairs (hash m.builder k) in
+        let most : after.looked ≤ before.looked + probe (is_vec_after limit m) =
+        unchecked_most granted (probe (is_vec_after limit m)) before.looked after.looked grew.looked in
+        elim (cases_Bool (is_vec_after limit m)) [
+          | inl vector ↦ absurd (omega (arith, most, ap probe vector))
+          | inr stays ↦
+              let more = grown m s stays in
+              crowded_probe_law m.builder (capacity_grown limit m) m.pairs (hash m.builder k) passed more.0 more.1
+              (omega (arith, most, ap probe stays))
+        ]
+
+    pub crowded_insertion_law : CrowdedInsertionLaw V limit eq hash
+    crowded_insertion_law m k granted before after passed s none costs l =
+        let found : Option ℕ = index_of (eq k) (keys_of m.pairs) in
+        let looks : Bool → Range = λ b. search_looks (hash m.builder) (hash m.builder k) found b (capacity_switched limit m) m.pairs in
+        let read : after.looked ≤ before.looked + (looks (is_vec_after limit m)).most =
+        insertion_most (is_switch_refused limit m granted) _ (looks (is_vec_after limit m)) (insertion_probe_looks limit eq hash m k)
+        before.looked after.looked none costs.grew.looked in
+        elim (cases_Bool (is_vec_after limit m)) [
+          | inl vector ↦ absurd (omega (arith, read, ap (λ b. (looks b).most) vector))
+          | inr stays ↦
+              let is = switched m s stays in
+              let most = looks_most (is_some found)
+              (probe_length (hash m.builder) false (capacity_switched limit m) m.pairs (hash m.builder k)) in
+              crowded_probe_law m.builder (capacity_switched limit m) m.pairs (hash m.builder k) passed is.0 is.1
+              (omega (arith, read, most, ap (λ b. (looks b).most) stays))
+        ]
+
+  keys-permutation : (xs ys : List (K × V)) → IsPermutation xs ys → IsPermutation (keys_of xs) (keys_of ys)
+  keys-permutation xs ys p = IsPermutation-map (λ (e : K × V). e.0) xs ys p
+
+  -- where no key passes the test, a search in a vector compares each key
+  comparisons-unheld : (test : K → Bool) (pairs : List (K × V)) → holds_by test pairs ≡ false
+      → first_match_cost (index_of test (keys_of pairs)) (length pairs) ≡ length pairs
+  comparisons-unheld test pairs unheld = let absent = absent_of_unheld test pairs unheld in
+      ap (λ i. first_match_cost i (length pairs)) absent.index
+
+  -- a search that finds none compares exactly so many keys, and reads exactly so many buckets
+  module _ (test : K → Bool) (h : K → ℕ) (sought : ℕ) (pairs : List (K × V)) (unheld : holds_by test pairs ≡ false) where
+    finds_none : index_of test (keys_of pairs) ≡ None
+    finds_none = let absent = absent_of_unheld test pairs unheld in absent.index
+
+    compares-exact : (is_vec : Bool) → IsExact (search_compares h sought (index_of test (keys_of pairs)) is_vec pairs)
+    compares-exact true = refl
+    compares-exact false = subst (λ found. IsExact (search_compares h sought found false pairs)) (sym finds_none) refl
+
+    looks-exact : (is_vec : Bool) (capacity : ℕ) → IsExact (search_looks h sought (index_of test (keys_of pairs)) is_vec capacity pairs)
+    looks-exact true capacity = refl
+    looks-exact false capacity = subst (λ found. IsExact (search_looks h sought found false capacity pairs)) (sym finds_none) refl
+
+  -- what a search costs by this test, under this hash, that hashed so often
+  abbrev cost_asking : (K → Bool) → ℕ → ℕ → State K V S → Cost
+  cost_asking test sought asked m = search_cost (hash m.builder) sought (index_of test (keys_of m.pairs)) asked m.is_vec m.capacity m.pairs
+
+  search_exactly : (m : State K V S) (test : K → Bool) (sought asked : ℕ) (before after : Work) → holds_by test m.pairs ≡ false
+      → SearchCosts hash sought m (index_of test (keys_of m.pairs)) asked before after
+      → GrewExactlyBy (least_work (cost_asking test sought asked m)) before after
+  search_exactly m test sought asked before after unheld costs =
+      grew_exactly (cost_asking test sought asked m) before after
+      (compares-exact test (hash m.builder) sought m.pairs unheld m.is_vec)
+      (looks-exact test (hash m.builder) sought m.pairs unheld m.is_vec m.capacity) costs.grew
+
+  -- the same pairs in another order
+  module _ (builder : S) (xs ys : List (K × V)) (p : IsPermutation xs ys) (test : K → Bool) (sought : ℕ) where
+    held-same : holds_by test xs ≡ holds_by test ys
+    held-same = is_some-lookup test xs ∙ list_any-IsPermutation test (keys_of xs) (keys_of ys) (keys-permutation xs ys p)
+        ∙ sym (is_some-lookup test ys)
+
+    found-same : is_some (index_of test (keys_of xs)) ≡ is_some (index_of test (keys_of ys))
+    found-same = found_where_held test xs ∙ held-same ∙ sym (found_where_held test ys)
+
+    candidates-same : candidates (hash builder) xs sought ≡ candidates (hash builder) ys sought
+    candidates-same = sym
+        (sum_by-IsPermutation (λ q. cond (hash builder q == sought) 1 0) (keys_of xs) (keys_of ys) (keys-permutation xs ys p))
+
+    reach-same : (m : ℕ) → reach (map (hash builder) (keys_of xs)) m sought ≡ reach (map (hash builder) (keys_of ys)) m sought
+    reach-same m = reach_history (map (hash builder) (keys_of xs)) (map (hash builder) (keys_of ys)) m sought
+        (IsPermutation-map (hash builder) (keys_of xs) (keys_of ys) (keys-permutation xs ys p))
+
+    compares-same : (is_vec : Bool) → (is_vec && holds_by test xs) ≡ false
+        → search_compares (hash builder) sought (index_of test (keys_of xs)) is_vec xs
+        ≡ search_compares (hash builder) sought (index_of test (keys_of ys)) is_vec ys
+    compares-same true unheld =
+        ap exactly (comparisons-unheld test xs unheld ∙ sym (length_permutation xs ys p)
+        ∙ sym (comparisons-unheld test ys (sym held-same ∙ unheld)))
+    compares-same false none = λ i. if found-same i then between 1 (candidates-same i) else exactly (candidates-same i)
+
+    looks-same : (is_vec : Bool) (capacity : ℕ)
+        → search_looks (hash builder) sought (index_of test (keys_of xs)) is_vec capacity xs
+        ≡ search_looks (hash builder) sought (index_of test (keys_of ys)) is_vec capacity ys
+    looks-same true capacity = refl
+    looks-same false capacity = λ i. let probe = reach-same (buckets_of capacity) i in
+        if found-same i then between 1 (probe - 1) else exactly probe
+
+  pub history_law : HistoryLaw V hash
+  history_law a b test sought asked a_before a_after b_before b_after same unheld a_costs b_costs =
+      let alike : cost_asking test sought asked a
+      ≡ cost_asking test sought asked (state b.is_vec a.pairs b.capacity a.columns b.builder (contents_of a)) =
+      λ i. cost_asking test sought asked (state (same.form i) a.pairs (same.capacity i) a.columns (same.builder i) (contents_of a)) in
+      let moved : cost_asking test sought asked (state b.is_vec a.pairs b.capacity a.columns b.builder (contents_of a))
+      ≡ cost_asking test sought asked b = λ i. record {
+        asked = asked;
+        compared = compares-same b.builder a.pairs b.pairs same.pairs test sought b.is_vec
+            (never_found b.is_vec (holds_by test a.pairs) unheld) i;
+        looked = looks-same b.builder a.pairs b.pairs same.pairs test sought b.is_vec b.capacity i;
+      } in (
+        least_work (cost_asking test sought asked b),
+        subst (λ cost. GrewExactlyBy (least_work cost) a_before a_after) (alike ∙ moved)
+            (search_exactly a test sought asked a_before a_after unheld a_costs),
+        search_exactly b test sought asked b_before b_after (sym (held-same b.builder a.pairs b.pairs same.pairs test sought) ∙ unheld)
+            b_costs,
+      )
+
+  module _ (eq : K → K → Bool) where
+    insertion_exactly : (limit : ℕ) (m : State K V S) (k : K) (granted : Bool) (before after : Work) → holds eq m.pairs k ≡ false
+        → InsertCosts limit eq hash m k granted before after
+        → GrewExactlyBy (least_work (insert_cost limit eq hash m k granted)) before after
+    insertion_exactly limit m k granted before after unheld costs =
+        let stays : Bool = is_vec_after limit m in
+        let probe : ℕ = if granted && not (holds eq m.pairs k)
+        && addition_grows limit m then insertion_probe_looks limit eq hash m k else 0 in
+        grew_exactly (insert_cost limit eq hash m k granted) before after
+        (exact_unless_refused (is_switch_refused limit m granted) (switched_compares limit eq hash m k)
+        (compares-exact (eq k) (hash m.builder) (hash m.builder k) m.pairs unheld stays))
+        (exact_unless_refused (is_switch_refused limit m granted)
+        (add_ranges (switched_looks limit eq hash m (capacity_switched limit m) k) (exactly probe))
+        (ap (λ n. n + probe) (looks-exact (eq k) (hash m.builder) (hash m.builder k) m.pairs unheld stays (capacity_switched limit m))))
+        costs.grew
+
+  module _ (limit : ℕ) (eq : K → K → Bool) where
+    module _ (is_vec : Bool) (xs ys : List (K × V)) (capacity some_columns other_columns : ℕ) (builder : S) (some others : Contents)
+        (p : IsPermutation xs ys) where
+      abbrev first : State K V S
+      first = state is_vec xs capacity some_columns builder some
+
+      abbrev second : State K V S
+      second = state is_vec ys capacity other_columns builder others
+
+      long : length xs ≡ length ys
+      long = sym (length_permutation xs ys p)
+
+      held : (k : K) → holds eq xs k ≡ holds eq ys k
+      held k = held-same builder xs ys p (eq k) (hash builder k)
+
+      found : (k : K) → is_some (index_of (eq k) (keys_of xs)) ≡ is_some (index_of (eq k) (keys_of ys))
+      found k = found-same builder xs ys p (eq k) (hash builder k)
+
+      looked : (k : K) (m : ℕ)
+          → reach (map (hash builder) (keys_of xs)) m (hash builder k) ≡ reach (map (hash builder) (keys_of ys)) m (hash builder k)
+      looked k m = reach-same builder xs ys p (eq k) (hash builder k) m
+
+      -- the form after a granted switching call on so many pairs
+      abbrev stays : ℕ → Bool
+      stays n = is_vec && not (is_vec && (n == limit))
+
+      module _ (k : K) where
+        search-compared : (is_vec && holds eq xs k) ≡ false
+            → (search_cost_of eq hash first k).compared ≡ (search_cost_of eq hash second k).compared
+        search-compared none = compares-same builder xs ys p (eq k) (hash builder k) is_vec none
+
+        search-looked : (search_cost_of eq hash first k).looked ≡ (search_cost_of eq hash second k).looked
+        search-looked = simp (found k, looked k)
+
+        -- the search of a switching call
+        searched-alike : (stays (length xs) && holds eq xs k) ≡ false
+            → switched_compares limit eq hash first k ≡ switched_compares limit eq hash second k
+        searched-alike none = compares-same builder xs ys p (eq k) (hash builder k) (stays (length xs)) none
+            ∙ (λ i. search_compares (hash builder) (hash builder k) (index_of (eq k) (keys_of ys)) (stays (long i)) ys)
+
+        module _ (granted : Bool) where
+          insert-asked : (insert_cost limit eq hash first k granted).asked ≡ (insert_cost limit eq hash second k granted).asked
+          insert-asked = simp long
+
+          insert-looked : (insert_cost limit eq hash first k granted).looked ≡ (insert_cost limit eq hash second k granted).looked
+          insert-looked = simp (long, held k, found k, looked k)
+
+          insert-compared : (stays (length xs) && holds eq xs k) ≡ false
+              → (insert_cost limit eq hash first k granted).compared ≡ (insert_cost limit eq hash second k granted).compared
+          insert-compared none = λ i. if is_vec && (long i == limit) && not granted then exactly 0 else searched-alike none i
+
+          insert-same : (stays (length xs) && holds eq xs k) ≡ false
+              → insert_cost limit eq hash first k granted ≡ insert_cost limit eq hash second k granted
+          insert-same none = λ i. record { asked = insert-asked i; compared = insert-compared none i; looked = insert-looked i }
+
+          -- an insertion by a raw entry
+          raw-asked : (raw_insert_cost limit eq hash first k granted).asked ≡ (raw_insert_cost limit eq hash second k granted).asked
+          raw-asked = simp (long, held k)
+
+          raw-looked : (raw_insert_cost limit eq hash first k granted).looked ≡ (raw_insert_cost limit eq hash second k granted).looked
+          raw-looked = simp (long, held k, found k, looked k)
+
+          raw-compared : (stays (length xs) && holds eq xs k) ≡ false
+              → (raw_insert_cost limit eq hash first k granted).compared ≡ (raw_insert_cost limit eq hash second k granted).compared
+          raw-compared none = λ i. if granted then searched-alike none i else exactly 0
+
+          -- an insertion without a search, where the key is not held
+          added-same : (if holds eq xs k then no_cost else new_key_cost limit eq hash first k granted)
+              ≡ (if holds eq ys k then no_cost else new_key_cost limit eq hash second k granted)
+          added-same = simp (long, held k, looked k)
+
+      hashes-same : (command : Command K V) (refused : Bool)
+          → (command_cost limit eq hash first command refused).asked ≡ (command_cost limit eq hash second command refused).asked
+      hashes-same (Insert k v) refused = insert-asked k (not refused)
+      hashes-same (InsertNew k v) refused = ap (λ cost. search_asked is_vec + cost.asked) (added-same k (not refused))
+      hashes-same (EntryOrInsert k v) refused = insert-asked k (not refused)
+      hashes-same (RawOrInsert k v) refused = raw-asked k (not refused)
+      hashes-same command refused = refl
+
+      buckets-same : (command : Command K V) (refused : Bool)
+          → (command_cost limit eq hash first command refused).looked ≡ (command_cost limit eq hash second command refused).looked
+      buckets-same (Insert k v) refused = insert-looked k (not refused)
+      buckets-same (InsertNew k v) refused = λ i. add_ranges (search-looked k i) (added-same k (not refused) i).looked
+      buckets-same (EntryOrInsert k v) refused = insert-looked k (not refused)
+      buckets-same (RawOrInsert k v) refused = raw-looked k (not refused)
+      buckets-same (Get k) refused = search-looked k
+      buckets-same (Remove k) refused = search-looked k
+      buckets-same command refused = refl
+
+      compared-same : (command : Command K V) (refused : Bool) → finds_in_vector limit eq first command ≡ false
+          → (command_cost limit eq hash first command refused).compared ≡ (command_cost limit eq hash second command refused).compared
+      compared-same (Insert k v) refused none = insert-compared k (not refused) none
+      compared-same (InsertNew k v) refused none = λ i. add_ranges (search-compared k none i) (added-same k (not refused) i).compared
+      compared-same (EntryOrInsert k v) refused none = insert-compared k (not refused) none
+      compared-same (RawOrInsert k v) refused none = raw-compared k (not refused) none
+      compared-same (Get k) refused none = search-compared k none
+      compared-same (Remove k) refused none = search-compared k none
+      compared-same command refused none = refl
+
+      cost-same : (command : Command K V) (refused : Bool) → finds_in_vector limit eq first command ≡ false
+          → command_cost limit eq hash first command refused ≡ command_cost limit eq hash second command refused
+      cost-same command refused none =
+          λ i. record {
+            asked = hashes-same command refused i;
+            compared = compared-same command refused none i;
+            looked = buckets-same command refused i;
+          }
+
+    -- two maps of the same form, capacity and builder
+    module _ (a b : State K V S) (same : HoldSamePairs a b) where
+      abbrev moved : State K V S
+      moved = state b.is_vec a.pairs b.capacity a.columns b.builder (contents_of a)
+
+      alike : a ≡ moved
+      alike = λ i. state (same.form i) a.pairs (same.capacity i) a.columns (same.builder i) (contents_of a)
+
+      unheld-too : (k : K) → holds eq a.pairs k ≡ false → holds eq b.pairs k ≡ false
+      unheld-too k unheld = sym (held-same b.builder a.pairs b.pairs same.pairs (eq k) (hash b.builder k)) ∙ unheld
+
+      insertions-alike : (k : K) (granted : Bool) → holds eq a.pairs k ≡ false
+          → insert_cost limit eq hash a k granted ≡ insert_cost limit eq hash b k granted
+      insertions-alike k granted unheld = ap (λ m. insert_cost limit eq hash m k granted) alike
+          ∙ insert-same b.is_vec a.pairs b.pairs b.capacity a.columns b.columns b.builder (contents_of a) (contents_of b) same.pairs k
+          granted (never_found (is_vec_after limit moved) (holds eq a.pairs k) unheld)
+
+    pub insertion_history_law : InsertionHistoryLaw V limit eq hash
+    insertion_history_law a b k granted a_before a_after b_before b_after same unheld a_costs b_costs = (
+      least_work (insert_cost limit eq hash b k granted),
+      subst (λ cost. GrewExactlyBy (least_work cost) a_before a_after) (insertions-alike a b same k granted unheld)
+          (insertion_exactly eq limit a k granted a_before a_after unheld a_costs),
+      insertion_exactly eq limit b k granted b_before b_after (unheld-too a b same k unheld) b_costs,
+    )
+
+    pub command_cost_law : CommandCostLaw V limit eq hash
+    command_cost_law a b command refused same none = ap (λ m. command_cost limit eq hash m command refused) (alike a b same)
+        ∙ cost-same b.is_vec a.pairs b.pairs b.capacity a.columns b.columns b.builder (contents_of a) (contents_of b) same.pairs command
+        refused
+        (subst (λ m. finds_in_vector limit eq m command ≡ false) (alike a b same) none)
+
+    pub command_hashes_law : CommandHashesLaw V limit eq hash
+    command_hashes_law a b command refused same = ap (λ m. (command_cost limit eq hash m command refused).asked) (alike a b same)
+        ∙ hashes-same b.is_vec a.pairs b.pairs b.capacity a.columns b.columns b.builder (contents_of a) (contents_of b) same.pairs command
+        refused
+
+    pub command_buckets_law : CommandBucketsLaw V limit eq hash
+    command_buckets_law a b command refused same = ap (λ m. (command_cost limit eq hash m command refused).looked) (alike a b same)
+        ∙ buckets-same b.is_vec a.pairs b.pairs b.capacity a.columns b.columns b.builder (contents_of a) (contents_of b) same.pairs command
+        refused

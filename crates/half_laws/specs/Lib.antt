@@ -1,0 +1,13 @@
+pub mod MapLaws
+pub mod RunLaws
+-- What callers need of the words below, so that they list this crate alone.
+pub use Rattle.half_store.specs.Capacity
+pub use Rattle.half_store.specs.TableLaws
+pub use Rattle.half_store.specs.Work
+pub use Rattle.halfbrown.specs.Costs
+pub use Rattle.halfbrown.specs.Growth
+pub use Rattle.halfbrown.specs.Pairs
+pub use Rattle.halfbrown.specs.Run
+pub use Rattle.halfbrown.specs.RunCost
+pub use Rattle.halfbrown.specs.State
+pub use Rattle.halfbrown.specs.Step

@@ -1,0 +1,133 @@
+-- What holds of every run: what becomes of the form, what decides the replies, how often keys are hashed, how much capacity is left, how
+-- many pairs are moved, and that runs can be split and joined.
+use Rattle.std.specs.Prelude.{◌≡◌, ℕ, ◌+◌, ◌*◌, ◌≤◌, max, Bool, true, false, not, ◌&&◌, ◌==◌, List, ◌++◌, length, map, fold, sum_by, count_by, Option, None, unwrap_or, if◌then◌else◌}
+use Rattle.std.specs.List.{list_any}
+use Rattle.std.specs.Option.{option_or}
+use Rattle.half_store.specs.declared.refusal.Refusal.{Refusal}
+use Rattle.halfbrown.specs.declared.run.Command.{Command}
+use Rattle.halfbrown.specs.declared.run.Command.TheVariants.{Reserve}
+use Rattle.halfbrown.specs.declared.run.Reply.{Reply}
+use Rattle.halfbrown.specs.Costs.{Cost, add_costs}
+use Rattle.halfbrown.specs.Run.{Lead, Runs, shrinks, commands_of, replies_of, cost_of}
+use Rattle.halfbrown.specs.State.{State, IsState}
+use Rattle.halfbrown.specs.Step.{Step, refusal_in, switches, form_changed}
+
+-- whether the command is `Reserve`
+abbrev pub is_reserve : {K V : Type 0} → Command K V → Bool
+is_reserve (Reserve additional) = true
+is_reserve command = false
+
+-- whether `Reserve` is among the commands
+abbrev pub reserves : {K V : Type 0} → List (Command K V) → Bool
+reserves commands = list_any is_reserve commands
+
+-- two states have the same form, and the same pairs in the same order
+pub record IsAlike {K V S : Type 0} (a b : State K V S) : Type 0 where
+  pub form : a.is_vec ≡ b.is_vec
+  pub pairs : a.pairs ≡ b.pairs
+
+module _ {K V S : Type 0} where
+  -- whether the form is the vector after the last step that changed it; none where no step did
+  abbrev pub last_change : ℕ → List (Step K V S) → Option Bool
+  last_change limit steps = fold (λ earlier s. option_or (form_changed limit s) earlier) None steps
+
+  -- which steps were refused, and why
+  abbrev pub refusals_of : List (Step K V S) → List (Option Refusal)
+  refusals_of steps = map (λ s. refusal_in s.reply) steps
+
+  -- the most pairs that the map held at once
+  abbrev pub most_held : State K V S → List (Step K V S) → ℕ
+  most_held old steps = fold (λ most s. max most (length s.after.pairs)) (length old.pairs) steps
+
+  -- the pairs that growth or the switch moved in a step: all that were held where the capacity changed; nothing else is counted
+  abbrev pub moved : Step K V S → ℕ
+  moved s = if s.after.capacity == s.before.capacity then 0 else length s.before.pairs
+
+module _ {K : Type 0} (V S : Type 0) (limit : ℕ) (eq : K → K → Bool) where
+  -- this holds of each run: of any steps, and of the maps from which and to which they lead
+  abbrev pub EachRun : (State K V S → List (Step K V S) → State K V S → Type 0) → Type 0
+  EachRun Holds = (old new : State K V S) (steps : List (Step K V S)) → Lead limit eq old steps new → Holds old steps new
+
+  -- the form at the end of a run is the one that the last step that changed it left, and where none did the first one
+  abbrev pub FormLaw : Type 0
+  FormLaw = EachRun (λ old steps new. new.is_vec ≡ unwrap_or (last_change limit steps) old.is_vec)
+
+  -- a run without `Shrink` ends with a vector exactly where it began with one and put no pair into a full one
+  abbrev pub SwitchLaw : Type 0
+  SwitchLaw = EachRun (λ old steps new. shrinks (commands_of steps) ≡ false
+      → new.is_vec ≡ (old.is_vec && not (list_any (switches limit) steps)))
+
+  -- without `Shrink`: once a table, always a table
+  abbrev pub TableLaw : Type 0
+  TableLaw = EachRun (λ old steps new. shrinks (commands_of steps) ≡ false → old.is_vec ≡ false → new.is_vec ≡ false)
+
+  -- without `Shrink` a vector becomes a table once at most
+  abbrev pub OneSwitchLaw : Type 0
+  OneSwitchLaw = EachRun (λ old steps new. shrinks (commands_of steps) ≡ false → count_by (switches limit) steps ≤ 1)
+
+  -- two runs of the same commands from states that are alike, in which the same commands are refused for the same reasons, have the
+  -- same replies and end in states that are alike: capacity, builder, hashes and history decide nothing
+  abbrev pub RepliesLaw : Type 0
+  RepliesLaw = EachRun (λ a a_steps a_new. EachRun (λ b b_steps b_new. IsAlike a b
+      → commands_of a_steps ≡ commands_of b_steps → refusals_of a_steps ≡ refusals_of b_steps
+      → (replies_of a_steps ≡ replies_of b_steps) × IsAlike a_new b_new))
+
+  -- without `Reserve` a map has capacity for at most eight pairs more than twice the most that it held at once, or for what it had at first
+  abbrev pub CapacityLaw : Type 0
+  CapacityLaw = EachRun (λ old steps new. IsState eq limit old → reserves (commands_of steps) ≡ false
+      → new.capacity ≤ max old.capacity (2 * most_held old steps + 8))
+
+  -- and each column has memory for no more
+  abbrev pub MemoryLaw : Type 0
+  MemoryLaw = EachRun (λ old steps new. IsState eq limit old → reserves (commands_of steps) ≡ false
+      → new.columns ≤ max (max old.columns old.capacity) (2 * most_held old steps + 8))
+
+  -- without `Shrink` and `Reserve` a run moves at most two pairs for each command, and once those that it began with and twice the limit
+  abbrev pub MovesLaw : Type 0
+  MovesLaw = EachRun (λ old steps new. IsState eq limit old → shrinks (commands_of steps) ≡ false
+      → reserves (commands_of steps) ≡ false → sum_by moved steps ≤ 2 * length steps + (length old.pairs + 2 * limit))
+
+  module _ (hash : S → K → ℕ) where
+    -- a run that begins with a vector and puts no pair into a full one ends with a vector, and has hashed nothing
+    abbrev pub UnswitchedLaw : Type 0
+    UnswitchedLaw = EachRun (λ old steps new. old.is_vec ≡ true → list_any (switches limit) steps ≡ false
+        → (new.is_vec ≡ true) × ((cost_of limit eq hash steps).asked ≡ 0))
+
+    -- a run without `Shrink` that ends with a vector has hashed nothing
+    abbrev pub NothingHashedLaw : Type 0
+    NothingHashedLaw = EachRun (λ old steps new. shrinks (commands_of steps) ≡ false → new.is_vec ≡ true
+        → (cost_of limit eq hash steps).asked ≡ 0)
+
+    -- a run hashes at most two keys for each command, and the limit's number of keys for each switch
+    abbrev pub HashesLaw : Type 0
+    HashesLaw = EachRun (λ old steps new. (cost_of limit eq hash steps).asked ≤ 2 * length steps + limit * count_by (switches limit) steps)
+
+    -- so without `Shrink` a run hashes at most two keys for each command, and the limit's number of keys once
+    abbrev pub AmortizedHashesLaw : Type 0
+    AmortizedHashesLaw = EachRun (λ old steps new. shrinks (commands_of steps) ≡ false
+        → (cost_of limit eq hash steps).asked ≤ 2 * length steps + limit)
+
+module _ {K V S : Type 0} (limit : ℕ) (eq : K → K → Bool) (hash : S → K → ℕ) where
+  -- from old to new the first commands run, and then the second ones; the replies are those of both, and the cost is their sum
+  pub record RunsInTwo (old : State K V S) (first second : List (Command K V)) (replies : List (Reply K V)) (new : State K V S)
+      (cost : Cost) : Type 0 where
+    pub between : State K V S
+    pub first_replies : List (Reply K V)
+    pub second_replies : List (Reply K V)
+    pub first_cost : Cost
+    pub second_cost : Cost
+    pub first_runs : Runs limit eq hash old first first_replies between first_cost
+    pub second_runs : Runs limit eq hash between second second_replies new second_cost
+    pub replies_are : replies ≡ first_replies ++ second_replies
+    pub cost_is : cost ≡ add_costs first_cost second_cost
+
+module _ {K : Type 0} (V : Type 0) {S : Type 0} (limit : ℕ) (eq : K → K → Bool) (hash : S → K → ℕ) where
+  -- a run of commands in two parts is a run of each part
+  abbrev pub SplitLaw : Type 0
+  SplitLaw = (old : State K V S) (first second : List (Command K V)) (replies : List (Reply K V)) (new : State K V S) (cost : Cost)
+      → Runs limit eq hash old (first ++ second) replies new cost → RunsInTwo limit eq hash old first second replies new cost
+
+  -- and where the second begins with the map that the first left, both are one run
+  abbrev pub JoinLaw : Type 0
+  JoinLaw = (old : State K V S) (first second : List (Command K V)) (replies : List (Reply K V)) (new : State K V S) (cost : Cost)
+      → RunsInTwo limit eq hash old first second replies new cost → Runs limit eq hash old (first ++ second) replies new cost

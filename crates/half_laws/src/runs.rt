@@ -1,0 +1,60 @@
+//! What holds of every run, in the words of `run`'s contract: steps lead from one map to another. These functions do nothing: the
+//! laws are their contracts.
+ghost use Rattle.halfbrown.specs.Costs.{key_hash};
+ghost use Rattle.half_laws.specs.RunLaws.{FormLaw, UnswitchedLaw, SwitchLaw, TableLaw, NothingHashedLaw, RepliesLaw, SplitLaw, JoinLaw};
+ghost use Rattle.half_laws.specs.RunLaws.{HashesLaw, OneSwitchLaw, AmortizedHashesLaw, CapacityLaw, MemoryLaw, MovesLaw};
+
+use halfbrown::Limit;
+use std::hash::{BuildHasher, Hash};
+
+/// A run ends in the form that its last change of form left: a table after a pair was put into a full vector, a vector
+/// after a `Shrink` with no more pairs than the limit. Where no command changed the form, it stays. A run that begins
+/// with a vector and puts no pair into a full one hashes nothing.
+pub fn form_of_a_run<K: Eq + Hash, V, S: BuildHasher, L: Limit>()
+    ensures form { FormLaw V S L.LIMIT K.eq }
+    ensures unswitched { UnswitchedLaw V S L.LIMIT K.eq (key_hash S.BuildHasher S.Hasher.Hasher K.hash_input) }
+{}
+
+/// Without `Shrink` no run goes back: it ends with a vector exactly where it began with one and put no pair into a full
+/// one, and then it has hashed nothing. Once a table, always a table.
+pub fn form_without_shrink<K: Eq + Hash, V, S: BuildHasher, L: Limit>()
+    ensures switched { SwitchLaw V S L.LIMIT K.eq }
+    ensures stays_a_table { TableLaw V S L.LIMIT K.eq }
+    ensures nothing_hashed { NothingHashedLaw V S L.LIMIT K.eq (key_hash S.BuildHasher S.Hasher.Hasher K.hash_input) }
+{}
+
+/// The replies of a run are decided by the form, the pairs in order and the refusals: capacity, builder, hashes and
+/// history decide nothing.
+pub fn replies_of_a_run<K: Eq + Hash, V, S: BuildHasher, L: Limit>()
+    ensures { RepliesLaw V S L.LIMIT K.eq }
+{}
+
+/// A run of two lists of commands, one after the other, is a run of the first and then one of the second, and
+/// conversely. The replies are those of both, and the costs add up.
+pub fn parts_of_a_run<K: Eq + Hash, V, S: BuildHasher, L: Limit>()
+    ensures split { SplitLaw V L.LIMIT K.eq (key_hash S.BuildHasher S.Hasher.Hasher K.hash_input) }
+    ensures join { JoinLaw V L.LIMIT K.eq (key_hash S.BuildHasher S.Hasher.Hasher K.hash_input) }
+{}
+
+/// A run hashes at most two keys for each command, and at each switch as many as the limit. Without `Shrink` it
+/// switches at most once, however many commands come.
+pub fn hashes_of_a_run<K: Eq + Hash, V, S: BuildHasher, L: Limit>()
+    ensures hashes { HashesLaw V S L.LIMIT K.eq (key_hash S.BuildHasher S.Hasher.Hasher K.hash_input) }
+    ensures one_switch { OneSwitchLaw V S L.LIMIT K.eq }
+    ensures amortized { AmortizedHashesLaw V S L.LIMIT K.eq (key_hash S.BuildHasher S.Hasher.Hasher K.hash_input) }
+{}
+
+/// After a run without `Reserve` the capacity is at most eight more than twice the most pairs that the map held at
+/// once, or what it was at first. The columns of keys and values have memory for no more, or for what they had at first.
+/// What was inserted and removed on the way leaves no more.
+pub fn capacity_of_a_run<K: Eq + Hash, V, S: BuildHasher, L: Limit>()
+    ensures capacity { CapacityLaw V S L.LIMIT K.eq }
+    ensures memory { MemoryLaw V S L.LIMIT K.eq }
+{}
+
+/// Growth and the switch move all held pairs. Without `Shrink` and `Reserve` a run of n commands so moves at most 2n +
+/// (pairs at the start) + 2 × limit pairs. What is moved where the capacity stays, for example by a removal, is not
+/// counted.
+pub fn moves_of_a_run<K: Eq + Hash, V, S: BuildHasher, L: Limit>()
+    ensures { MovesLaw V S L.LIMIT K.eq }
+{}

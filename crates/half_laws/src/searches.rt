@@ -1,0 +1,31 @@
+//! What holds of every search of a map. These functions do nothing: the laws are their contracts.
+ghost use Rattle.halfbrown.specs.Costs.{key_hash};
+ghost use Rattle.half_laws.specs.MapLaws.{HistoryLaw, InsertionHistoryLaw, CommandCostLaw, CommandHashesLaw, CommandBucketsLaw};
+ghost use Rattle.half_laws.specs.MapLaws.{CrowdedSearchLaw, CrowdedInsertionLaw, CrowdedGrowthLaw, CrowdedUncheckedLaw, CrowdedProbeLaw};
+
+use halfbrown::Limit;
+use std::hash::{BuildHasher, Hash};
+
+/// In two maps of the same form, capacity and builder that hold the same pairs in any order, a search that finds
+/// nothing costs exactly the same, whatever was inserted and removed before: by a key or any form of one, and also by a
+/// known hash. So does an insertion of a key that is not held. A command's cost has the same bounds in both, unless it
+/// finds its key in a vector: then the order of the pairs decides how many keys are compared, and nothing else.
+pub fn cost_without_history<K: Eq + Hash, V, S: BuildHasher, L: Limit>()
+    ensures search { HistoryLaw V (key_hash S.BuildHasher S.Hasher.Hasher K.hash_input) }
+    ensures insertion { InsertionHistoryLaw V L.LIMIT K.eq (key_hash S.BuildHasher S.Hasher.Hasher K.hash_input) }
+    ensures command { CommandCostLaw V L.LIMIT K.eq (key_hash S.BuildHasher S.Hasher.Hasher K.hash_input) }
+    ensures hashes { CommandHashesLaw V L.LIMIT K.eq (key_hash S.BuildHasher S.Hasher.Hasher K.hash_input) }
+    ensures buckets { CommandBucketsLaw V L.LIMIT K.eq (key_hash S.BuildHasher S.Hasher.Hasher K.hash_input) }
+{}
+
+/// The buckets that a search in a table passes, by any form of a key, lie in a stretch of neighbouring buckets, not of
+/// all of them, that is home to at least as many held pairs as it has buckets. So do those that an insertion passes. An
+/// insertion that makes the table grow reads two unsuccessful probes, one before the growth and one after it, and both
+/// pass only such buckets.
+pub fn crowding_of_a_search<K: Eq + Hash, V, S: BuildHasher, L: Limit>()
+    ensures search { CrowdedSearchLaw V L.LIMIT K.eq (key_hash S.BuildHasher S.Hasher.Hasher K.hash_input) }
+    ensures insertion { CrowdedInsertionLaw V L.LIMIT K.eq (key_hash S.BuildHasher S.Hasher.Hasher K.hash_input) }
+    ensures growth { CrowdedGrowthLaw V L.LIMIT K.eq (key_hash S.BuildHasher S.Hasher.Hasher K.hash_input) }
+    ensures unchecked { CrowdedUncheckedLaw V L.LIMIT K.eq (key_hash S.BuildHasher S.Hasher.Hasher K.hash_input) }
+    ensures probe { CrowdedProbeLaw V (key_hash S.BuildHasher S.Hasher.Hasher K.hash_input) }
+{}

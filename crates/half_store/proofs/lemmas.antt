@@ -1,0 +1,7 @@
+-- Lemmas, by the module of src/ whose functions need them.
+pub mod capacity
+pub mod store
+pub mod table
+pub mod tally
+pub mod vecmap
+pub mod words

@@ -1,0 +1,133 @@
+-- Bucket counts and capacities: which count comes next, and which is the least that serves.
+use Rattle.std.proofs.Common.{◌≡◌, ℕ, zero, suc, ◌+◌, ◌-◌, ◌*◌, ◌^◌, ◌<◌, ◌≤◌, max, inl, inr, refl, sym, ap, ◌∙◌, arith}
+use Rattle.std.proofs.Math.Nat.{pow-le-pow_right}
+use Rattle.std.proofs.lemmas.Nat.{pow_pos, pow-add}
+use Rattle.std.proofs.lemmas.Grind.{pow_more}
+use Rattle.std.proofs.lemmas.Bool.{cases_lt}
+use Rattle.std.proofs.lemmas.Bool.Decides.{nat_tests}
+use Rattle.half_store.specs.Capacity.{capacity_of, buckets_of, IsBucketCount, more_buckets, buckets_for_more, buckets_for, IsLeastFor}
+use Rattle.half_store.specs.Capacity.{capacity_for}
+
+-- a bucket count that is not 0 is at least 4
+pub four-le_count : (m : ℕ) → IsBucketCount m → 0 < m → 4 ≤ m
+four-le_count m (inl e) h = absurd (omega arith)
+four-le_count m (inr (k, two, e)) h = let p : 2 ^ 2 ≤ 2 ^ k = pow-le-pow_right {n = 2} (omega arith) two in omega arith
+
+-- a power of two above another is at least twice as large
+pow-double : (i j : ℕ) → 2 ^ i < 2 ^ j → 2 * 2 ^ i ≤ 2 ^ j
+pow-double i j h =
+    elim (cases_lt i j) [
+      | inl lt ↦ let p : 2 ^ (i + 1) ≤ 2 ^ j = pow-le-pow_right {n = 2} (omega arith) (omega arith) in omega (arith, pow_more 2 i)
+      | inr ge ↦ let p : 2 ^ j ≤ 2 ^ i = pow-le-pow_right {n = 2} (omega arith) ge in absurd (omega arith)
+    ]
+
+pub more_buckets-some : (m : ℕ) → 0 < m → more_buckets m ≡ 2 * m
+more_buckets-some m h = grind (arith, nat_tests)
+
+-- the next bucket count is one
+pub more_buckets-count : (m : ℕ) → IsBucketCount m → IsBucketCount (more_buckets m)
+more_buckets-count m (inl e) = inr (2, omega arith, ap more_buckets e)
+more_buckets-count m (inr (k, two, e)) =
+    let p = pow_pos k in
+    inr (k + 1, omega arith, more_buckets-some m (omega arith) ∙ omega (arith, pow_more 2 k))
+
+-- no bucket count lies between one and the next
+pub more_buckets-least : (m other : ℕ) → IsBucketCount m → IsBucketCount other → m < other → more_buckets m ≤ other
+more_buckets-least m other (inl e) c h = rw e (four-le_count other c (omega arith))
+more_buckets-least m other (inr (k, two, e)) (inl z) h = absurd (omega arith)
+more_buckets-least m other (inr (k, two, e)) (inr (j, two_j, f)) h =
+    let p = pow_pos k in
+    let s = more_buckets-some m (omega arith) in
+    let d = pow-double k j (omega arith) in
+    omega arith
+
+-- where the capacity is just filled, the next bucket count has capacity for one more
+pub capacity_of-more : (m : ℕ) → IsBucketCount m → capacity_of m < capacity_of (more_buckets m)
+capacity_of-more m (inl e) = rw e (omega arith)
+capacity_of-more m (inr (k, two, e)) =
+    let f = four-le_count m (inr (k, two, e)) (let p = pow_pos k in omega arith) in
+    rw (more_buckets-some m (omega arith)) (omega arith)
+
+-- more capacity, more buckets
+pub capacity_of-below : (a b : ℕ) → capacity_of a < capacity_of b → a < b
+capacity_of-below a b h = omega arith
+
+pub IsLeastFor-more : (n m : ℕ) → IsLeastFor n m → IsLeastFor (suc n) (buckets_for_more n m)
+IsLeastFor-more n m l =
+    elim (cases_lt n (capacity_of m)) [
+      | inl lt ↦
+          let e : buckets_for_more n m ≡ m = grind (arith, nat_tests) in
+          rw e record { count = l.count; serves = omega arith; least = λ o c s. l.least o c (omega arith) }
+      | inr ge ↦
+          let e : buckets_for_more n m ≡ more_buckets m = grind (arith, nat_tests) in
+          let full : capacity_of m ≡ n = let s = l.serves in omega arith in
+          rw e record {
+            count = more_buckets-count m l.count;
+            serves = let r = capacity_of-more m l.count in omega arith;
+            least = λ o c s. more_buckets-least m o l.count c (capacity_of-below m o (omega arith));
+          }
+    ]
+
+-- the function returns the least bucket count that serves
+pub buckets_for-least : (n : ℕ) → IsLeastFor n (buckets_for n)
+unfolding buckets_for
+buckets_for-least zero = record { count = inl refl; serves = omega arith; least = λ o c s. omega arith }
+buckets_for-least (suc n) = IsLeastFor-more n (buckets_for n) (buckets_for-least n)
+
+-- there is one alone
+pub IsLeastFor-unique : (n a b : ℕ) → IsLeastFor n a → IsLeastFor n b → a ≡ b
+IsLeastFor-unique n a b x y =
+    let p = x.least b y.count y.serves in
+    let q = y.least a x.count x.serves in
+    omega arith
+
+pub buckets_for-is : (n m : ℕ) → IsLeastFor n m → m ≡ buckets_for n
+buckets_for-is n m l = IsLeastFor-unique n m (buckets_for n) l (buckets_for-least n)
+
+-- a bucket count is a multiple of 4
+pub quarter : (m : ℕ) → IsBucketCount m → (q : ℕ) × (m ≡ 4 * q)
+quarter m (inl e) = (0, omega arith)
+quarter m (inr (k, two, e)) =
+    let j = k - 2 in
+    let split : j + 2 ≡ k = omega arith in
+    let p : 2 ^ k ≡ 2 ^ j * 4 = ap (λ x. 2 ^ x) (sym split) ∙ pow-add 2 j 2 in
+    (2 ^ j, omega arith)
+
+-- the capacity tells the buckets
+pub buckets_of-capacity_of : (m : ℕ) → IsBucketCount m → buckets_of (capacity_of m) ≡ m
+buckets_of-capacity_of m c =
+    let q = (quarter m c).0 in
+    let e : m ≡ 4 * q = (quarter m c).1 in
+    rw e (omega arith)
+
+-- where the buckets are just filled, one pair more needs the next bucket count
+pub buckets_for-grown : (m : ℕ) → IsBucketCount m → buckets_for (suc (capacity_of m)) ≡ more_buckets m
+buckets_for-grown m c =
+    let r = capacity_of-more m c in
+    sym (buckets_for-is (suc (capacity_of m)) (more_buckets m)
+    record {
+      count = more_buckets-count m c;
+      serves = omega arith;
+      least = λ o is s. more_buckets-least m o c is (capacity_of-below m o (omega arith));
+    })
+
+-- a bucket count below 2^63 is at most 2^62
+pub count-le : (m : ℕ) → IsBucketCount m → m < 2 ^ 63 → m ≤ 2 ^ 62
+count-le m (inl e) h = omega arith
+count-le m (inr (k, two, e)) h =
+    elim (cases_lt k 63) [
+      | inl l ↦ let low : k ≤ 62 = omega arith in let p : 2 ^ k ≤ 2 ^ 62 = pow-le-pow_right {n = 2} (omega arith) low in omega arith
+      | inr ge ↦ let p : 2 ^ 63 ≤ 2 ^ k = pow-le-pow_right {n = 2} (omega arith) ge in absurd (omega arith)
+    ]
+
+-- the capacity of a bucket count is one of the series
+pub capacity_for-capacity_of : (m : ℕ) → IsBucketCount m → capacity_of m ≡ capacity_for (capacity_of m)
+capacity_for-capacity_of m count =
+    ap capacity_of (buckets_for-is (capacity_of m) m record {
+      count = count;
+      serves = omega arith;
+      least = λ other is serves. elim (cases_lt other m) [
+        | inl below ↦ let next = more_buckets-least other m is count below in let more = capacity_of-more other is in absurd (omega arith)
+        | inr ge ↦ ge
+      ];
+    })

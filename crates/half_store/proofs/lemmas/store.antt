@@ -1,0 +1,3 @@
+-- Lemmas of the store.
+pub mod Drain
+pub mod States

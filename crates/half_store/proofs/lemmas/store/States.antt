@@ -1,0 +1,112 @@
+-- What stays true of a store whose columns change.
+use Rattle.std.proofs.Common.{◌≡◌, ℕ, zero, suc, ◌≤◌, List, [], ◌∷◌, length, Option, None, Some, true, is_none, if◌then◌else◌, refl, sym}
+use Rattle.std.proofs.Common.{ap, subst, ◌∙◌}
+use Rattle.std.proofs.lemmas.Option.{same_Some}
+use Rattle.std.specs.Borrow.{Bor}
+use Rattle.half_store.specs.Capacity.{capacity_of}
+use Rattle.half_store.specs.Columns.{Columns}
+use Rattle.half_store.specs.Pairs.{set_key, set_value, set_values, swap_remove_at}
+use Rattle.half_store.specs.Replaced.{replaced, Replaces}
+use Rattle.half_store.specs.Store.{StoreState, IsStore, KeepsForm, vector_of, table_of, store_of}
+use Rattle.half_store.specs.Table.{TableState}
+
+module _ {K V : Type 0} where
+  pub length-set_value : (ps : List (K × V)) (i : ℕ) (v : V) → length (set_value ps i v) ≡ length ps
+  length-set_value [] i v = refl
+  length-set_value (p ∷ ps) zero v = refl
+  length-set_value (p ∷ ps) (suc i) v = ap suc (length-set_value ps i v)
+
+  pub length-set_key : (ps : List (K × V)) (i : ℕ) (k : K) → length (set_key ps i k) ≡ length ps
+  length-set_key [] i k = refl
+  length-set_key (p ∷ ps) zero k = refl
+  length-set_key (p ∷ ps) (suc i) k = ap suc (length-set_key ps i k)
+
+  pub length-set_values : (ps : List (K × V)) (vs : List V) → length (set_values ps vs) ≡ length ps
+  length-set_values [] vs = refl
+  length-set_values (p ∷ ps) [] = refl
+  length-set_values (p ∷ ps) (v ∷ vs) = ap suc (length-set_values ps vs)
+
+  -- a store with no index is a vector of its columns
+  pub vector_view : (columns : Columns K V) {index : Option TableState} {s : StoreState K V} → index ≡ None → store_of columns index ≡ s
+      → vector_of columns ≡ s
+  vector_view columns is view = ap (store_of columns) (sym is) ∙ view
+
+  -- a store that is a vector has none
+  pub no_index : (columns : Columns K V) (index : Option TableState) {s : StoreState K V} → store_of columns index ≡ s → s.is_vec ≡ true
+      → index ≡ None
+  no_index columns None view is = refl
+  no_index columns (Some t) view is = absurd (cc (ap (λ s. s.is_vec) view, is))
+
+  -- and with one a table of both
+  pub table_view : (columns : Columns K V) (t : TableState) {index : Option TableState} {s : StoreState K V} → index ≡ Some t
+      → store_of columns index ≡ s → table_of columns t ≡ s
+  table_view columns t is view = ap (store_of columns) (sym is) ∙ view
+
+  -- a store has the pairs of its columns
+  pub pairs_of-store : (columns : Columns K V) (index : Option TableState) → (store_of columns index).pairs ≡ columns.pairs
+  pairs_of-store columns None = refl
+  pairs_of-store columns (Some t) = refl
+
+  -- with the same index the form stays, and with the same capacity of the columns all capacities do
+  pub keeps_form : (index : Option TableState) (old new : Columns K V) {s : StoreState K V} → store_of old index ≡ s
+      → new.capacity ≡ old.capacity → KeepsForm s (store_of new index)
+  keeps_form None old new view capacity =
+      record {
+        form = ap (λ s. s.is_vec) view;
+        capacity = capacity ∙ ap (λ s. s.capacity) view;
+        columns = capacity
+            ∙ ap (λ s. s.columns) view;
+      }
+  keeps_form (Some t) old new view capacity =
+      record { form = ap (λ s. s.is_vec) view; capacity = ap (λ s. s.capacity) view; columns = capacity ∙ ap (λ s. s.columns) view }
+
+  -- and of a table that has another index with as many buckets
+  pub table_keeps_form : (old new : Columns K V) {t after : TableState} {index : Option TableState} {s : StoreState K V} → index ≡ Some t
+      → store_of old index ≡ s → after.buckets ≡ t.buckets → new.capacity ≡ old.capacity
+      → KeepsForm s (table_of new after)
+  table_keeps_form old new {t} is view buckets columns =
+      let was = table_view old t is view in
+      record {
+        form = ap (λ s. s.is_vec) was;
+        capacity = ap capacity_of buckets ∙ ap (λ s. s.capacity) was;
+        columns = columns
+            ∙ ap (λ s. s.columns) was;
+      }
+
+  -- as many pairs, with the same capacity, have the same index
+  pub kept_store : (index : Option TableState) (old new : Columns K V) → length new.pairs ≡ length old.pairs → new.capacity ≡ old.capacity
+      → IsStore old index → IsStore new index
+  kept_store None old new len capacity is = tt
+  kept_store (Some t) old new len capacity is =
+      record { len = is.len ∙ sym len; backed = subst (λ n. capacity_of t.buckets ≤ n) (sym capacity) is.backed }
+
+  module _ (old : List (K × V)) (index : ℕ) (new : List (K × V)) (key : K) where
+    kept_by : (answer : Option V) → new ≡ replaced old index answer → None ≡ (if is_none answer then Some key else None) → (v : V)
+        × (answer ≡ Some v) × (new ≡ set_value old index v)
+    kept_by None is removed = absurd cc
+    kept_by (Some v) is removed = (v, refl, is)
+
+    lost_by : (k : K) (answer : Option V) → new ≡ replaced old index answer → Some k ≡ (if is_none answer then Some key else None)
+        → (answer ≡ None) × (new ≡ swap_remove_at old index) × (key ≡ k)
+    lost_by k None is removed = (refl, is, sym (same_Some k key removed))
+    lost_by k (Some v) is removed = absurd cc
+
+  module _ {returns : Bor K → V → Option V → Type 0} {old : List (K × V)} {index : ℕ} {new : List (K × V)} where
+    -- where nothing was removed a value was returned
+    pub kept_value : (r : Replaces returns old index new None) → (v : V) × (r.answer ≡ Some v) × (new ≡ set_value old index v)
+    kept_value r = kept_by old index new r.key r.answer r.pairs r.removed_is
+
+    -- where a key was removed none was
+    pub lost_pair : {k : K} (r : Replaces returns old index new (Some k)) → (r.answer ≡ None) × (new ≡ swap_remove_at old index)
+        × (r.key ≡ k)
+    lost_pair {k} r = lost_by old index new r.key k r.answer r.pairs r.removed_is
+
+  -- what becomes of a pair of the columns becomes of that of the store over them
+  pub replaces_in_store :
+      {returns : Bor K → V → Option V → Type 0} {at : ℕ} {removed : Option K} (old new : Columns K V) (was index : Option TableState)
+      {s : StoreState K V}
+      → store_of old was ≡ s → Replaces returns old.pairs at new.pairs removed
+      → Replaces returns s.pairs at (store_of new index).pairs removed
+  replaces_in_store {returns} {at} {removed} old new was index view r =
+      subst (λ ps. Replaces returns ps at (store_of new index).pairs removed) (sym (pairs_of-store old was) ∙ ap (λ s. s.pairs) view)
+      (subst (λ ps. Replaces returns old.pairs at ps removed) (sym (pairs_of-store new index)) r)

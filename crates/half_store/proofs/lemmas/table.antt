@@ -1,0 +1,13 @@
+-- Lemmas of the table.
+pub mod Buckets
+pub mod Circle
+pub mod Counts
+pub mod Crowding
+pub mod Deletion
+pub mod Find
+pub mod Laws
+pub mod Layout
+pub mod Mask
+pub mod Probe
+pub mod Reach
+pub mod Slots

@@ -1,0 +1,294 @@
+-- Backward-shift deletion: what holds while the probe goes on, and that the order is whole again at its end.
+use Rattle.std.proofs.Common.{◌≡◌, ◌≢◌, ℕ, ◌+◌, ◌-◌, ◌<◌, ◌≤◌, ◌⊎◌, inl, inr, sym, ap, ◌∙◌, subst, arith, List, length, set, slice_index}
+use Rattle.std.proofs.Common.{Option, Some, None}
+use Rattle.std.proofs.lemmas.Bool.{cases_lt, cases_eq}
+use Rattle.std.proofs.lemmas.List.{length-set, set-set}
+use Rattle.std.proofs.lemmas.Option.{same_Some}
+use Rattle.half_store.specs.Buckets.{slot_by, slots_by, EachOnce}
+use Rattle.half_store.specs.Reach.{home, probe_distance, bucket_after}
+use Rattle.half_store.specs.Slots.{slot_at, SomeVacant, ProbeInvariant}
+use Rattle.half_store.specs.TableLayout.{HasGap, IsIndexedButFor}
+use Rattle.half_store.proofs.lemmas.table.Buckets.{length-slots_by, slot_by-at, slot_of_word, slot_of_zero, word_set, word_other, within-at}
+use Rattle.half_store.proofs.lemmas.table.Buckets.{EachOnce-move}
+use Rattle.half_store.proofs.lemmas.table.Circle.{distance_is, after_is, next_farther, probe_distance-lt, distance_same}
+use Rattle.half_store.proofs.lemmas.table.Slots.{slot_set, slot_other, full_from, full-lt, home-lt}
+
+-- a pair that stands outside the stretch from the gap to an empty bucket, and comes before that bucket, comes before the gap
+outside : (m start gap bucket h q : ℕ) → start < m → gap < m → bucket < m → h < m → q < m → q ≢ gap → q ≢ bucket
+    → probe_distance m start gap < probe_distance m start bucket
+    → (probe_distance m start q ≤ probe_distance m start gap) ⊎ (probe_distance m start bucket ≤ probe_distance m start q)
+    → probe_distance m h q < probe_distance m h bucket → probe_distance m h q < probe_distance m h gap
+outside m start gap bucket h q in_start in_gap in_bucket in_h in_q off_gap off_bucket order (inl near) before =
+    omega (
+      arith,
+      distance_is m start gap in_start,
+      distance_is m start bucket in_start,
+      distance_is m start q in_start,
+      distance_is m h q in_h,
+      distance_is m h bucket in_h,
+      distance_is m h gap in_h,
+    )
+outside m start gap bucket h q in_start in_gap in_bucket in_h in_q off_gap off_bucket order (inr far) before =
+    omega (
+      arith,
+      distance_is m start gap in_start,
+      distance_is m start bucket in_start,
+      distance_is m start q in_start,
+      distance_is m h q in_h,
+      distance_is m h bucket in_h,
+      distance_is m h gap in_h,
+    )
+
+-- a pair at this bucket comes before another bucket on the way from its home
+abbrev Before : ℕ → ℕ → ℕ → ℕ → Type 0
+Before m hash at other = probe_distance m (home m hash) at < probe_distance m (home m hash) other
+
+-- what the buckets contain, where the gap counts as empty
+abbrev around : List ℕ → List ℕ → ℕ → List (Option ℕ)
+around hashes words gap = slots_by hashes (set words gap 0)
+
+-- from bucket `start` on the probe has passed full buckets, and is at this one; the gap is among them, or at `start`
+pub record Shifts (m : ℕ) (hashes words : List ℕ) (start gap bucket : ℕ) : Type 0 where
+  pub each : EachOnce (length hashes) (set words gap 0)
+  pub size : length words ≡ m
+  pub start_in : start < m
+  pub gap_in : gap < m
+  pub bucket_in : bucket < m
+  pub behind : probe_distance m start gap < probe_distance m start bucket
+  -- an empty bucket is still ahead
+  pub ahead : (vacant : ℕ) × (vacant < m) × (slot_at (around hashes words gap) vacant ≡ None)
+      × (probe_distance m start bucket ≤ probe_distance m start vacant)
+  -- the order is broken by no empty bucket but the gap
+  pub others : (at vacant hash : ℕ) → slot_at (around hashes words gap) at ≡ Some hash → vacant < m
+      → slot_at (around hashes words gap) vacant ≡ None → vacant ≢ gap → Before m hash at vacant
+  -- and not by the gap, as far as the probe has come
+  pub passed : (at hash : ℕ) → slot_at (around hashes words gap) at ≡ Some hash → probe_distance m start gap < probe_distance m start at
+      → probe_distance m start at < probe_distance m start bucket → Before m hash at gap
+
+pub Shifts-start : (m : ℕ) (hashes words : List ℕ) (start bucket : ℕ) → length words ≡ m → IsIndexedButFor hashes (set words start 0) start
+    → bucket ≡ bucket_after m start 1 → Shifts m hashes words start start bucket
+Shifts-start m hashes words start bucket size x e =
+    let v = x.gap.another in
+    let apart = v.3 in
+    let long : length (around hashes words start) ≡ m = length-slots_by hashes (set words start 0) ∙ length-set words start 0 ∙ size in
+    let in_start : start < m = omega (arith, x.gap.within) in
+    let in_v : v.0 < m = omega (arith, v.1) in
+    let bucket_is = after_is m start 1 in
+    let to_bucket = distance_is m start bucket in_start in
+    let to_start = distance_is m start start in_start in
+    let to_v = distance_is m start v.0 in_start in
+    record {
+      each = x.each;
+      size = size;
+      start_in = in_start;
+      gap_in = in_start;
+      bucket_in = omega arith;
+      behind = omega arith;
+      ahead = (v.0, in_v, v.2, omega arith);
+      others = λ at w hash is in_w none ne.
+          subst (λ n. Before n hash at w) long (x.gap.others at w hash is (omega arith) none ne);
+      passed = λ at hash is far near. absurd (omega arith);
+    }
+
+module _ {m : ℕ} {hashes words : List ℕ} {start gap bucket : ℕ} (s : Shifts m hashes words start gap bucket) where
+  abbrev slots : List (Option ℕ)
+  slots = around hashes words gap
+
+  long : length slots ≡ m
+  long = length-slots_by hashes (set words gap 0) ∙ length-set words gap 0 ∙ s.size
+
+  within : (q hash : ℕ) → slot_at slots q ≡ Some hash → q < m
+  within q hash is = omega (arith, full-lt slots q (full_from _ hash is), long)
+
+  not_gap : (q hash : ℕ) → slot_at slots q ≡ Some hash → q ≢ gap
+  not_gap q hash is same =
+      let none = slot_of_zero hashes (set words gap 0) gap (word_set words gap 0 (omega (arith, s.gap_in, s.size))) in
+      full_from _ hash is (ap (slot_at slots) same ∙ none)
+
+  apart : bucket ≢ gap
+  apart same = absurd (omega (arith, s.behind, ap (probe_distance m start) same))
+
+  -- the gap is so far back, at first by one bucket
+  pub gap_distance : probe_distance m gap bucket + probe_distance m start gap ≡ probe_distance m start bucket
+  gap_distance =
+      omega (
+        arith,
+        s.behind,
+        s.bucket_in,
+        s.gap_in,
+        s.start_in,
+        distance_is m start gap s.start_in,
+        distance_is m start bucket s.start_in,
+        distance_is m gap bucket s.gap_in,
+      )
+
+  pub first_distance : bucket ≡ bucket_after m gap 1 → probe_distance m gap bucket ≡ 1
+  first_distance e = omega (arith, apart, s.gap_in, s.bucket_in, after_is m gap 1, distance_is m gap bucket s.gap_in)
+
+  word_is : slice_index (set words gap 0) bucket ≡ slice_index words bucket
+  word_is = word_other words gap bucket 0 apart
+
+  pub word_within : slice_index words bucket ≤ length hashes
+  word_within = omega (arith, within-at (length hashes) (set words gap 0) bucket s.each.within, word_is)
+
+  -- the probe ends at an empty bucket: the order is whole
+  pub Shifts-end : slice_index words bucket ≡ 0 → ProbeInvariant slots
+  Shifts-end zero_word = record {
+    before = λ q v h is in_v none_v.
+        let none = slot_of_zero hashes (set words gap 0) bucket (word_is ∙ zero_word) in
+        let in_q = within q h is in
+        let in_h = home-lt m h (omega arith) in
+        let not_bucket : q ≢ bucket = λ same. full_from _ h is (ap (slot_at slots) same ∙ none) in
+        let before = s.others q bucket h is s.bucket_in none apart in
+        let beyond = outside m start gap bucket (home m h) q s.start_in s.gap_in s.bucket_in in_h in_q
+        (not_gap q h is) not_bucket s.behind in
+        subst (λ n. Before n h q v) (sym long)
+        (elim (cases_eq v gap) [
+          | inr ne ↦ s.others q v h is (omega (arith, long)) none_v ne
+          | inl e ↦ subst (Before m h q) (sym e)
+              (elim (cases_lt (probe_distance m start gap) (probe_distance m start q)) [
+                | inr low ↦ beyond (inl low) before
+                | inl after ↦ elim (cases_lt (probe_distance m start q) (probe_distance m start bucket)) [
+                  | inl near ↦ s.passed q h is after near
+                  | inr far ↦ beyond (inr far) before
+                ]
+              ])
+        ]);
+  }
+
+  module _ (next : ℕ) (some : slice_index words bucket ≢ 0) (e : next ≡ bucket_after m bucket 1) where
+    abbrev index : ℕ
+    index = slice_index words bucket - 1
+
+    abbrev hash : ℕ
+    hash = slice_index hashes index
+
+    is : slot_at slots bucket ≡ Some hash
+    is = slot_of_word hashes (set words gap 0) bucket index (omega (arith, word_within)) (word_is ∙ omega arith)
+
+    in_home : home m hash < m
+    in_home = home-lt m hash (omega (arith, s.bucket_in))
+
+    -- the empty bucket is ahead of a full one too
+    farther : probe_distance m start bucket < probe_distance m start s.ahead.0
+    farther =
+        let v = s.ahead in
+        elim (cases_eq (probe_distance m start bucket) (probe_distance m start v.0)) [
+          | inr ne ↦ omega (arith, v.3)
+          | inl same ↦ absurd (full_from _ hash is
+              (ap (slot_at slots) (distance_same m start s.start_in bucket v.0 s.bucket_in v.1 same) ∙ v.2))
+        ]
+
+    next-lt : next < m
+    next-lt = omega (arith, after_is m bucket 1, s.bucket_in)
+
+    pub one_farther : probe_distance m start next ≡ probe_distance m start bucket + 1
+    one_farther = next_farther m start bucket s.ahead.0 next s.start_in s.bucket_in s.ahead.1 farther e
+
+    pub fewer_ahead : m - probe_distance m start next < m - probe_distance m start bucket
+    fewer_ahead = omega (arith, one_farther, farther, probe_distance-lt m start s.start_in s.ahead.0 s.ahead.1)
+
+    -- the pair at the bucket stays: its home is after the gap
+    pub Shifts-stay : probe_distance m (home m hash) bucket < probe_distance m gap bucket → Shifts m hashes words start gap next
+    Shifts-stay stays = record {
+      each = s.each;
+      size = s.size;
+      start_in = s.start_in;
+      gap_in = s.gap_in;
+      bucket_in = next-lt;
+      behind = omega (arith, one_farther, s.behind);
+      ahead = (s.ahead.0, s.ahead.1, s.ahead.2, omega (arith, one_farther, farther));
+      others = s.others;
+      passed = λ q h at_q after close.
+          elim (cases_eq (probe_distance m start q) (probe_distance m start bucket)) [
+            | inr ne ↦ s.passed q h at_q after (omega (arith, one_farther))
+            | inl same ↦
+                let here : q ≡ bucket = distance_same m start s.start_in q bucket (within q h at_q) s.bucket_in same in
+                let hash_is : hash ≡ h = same_Some hash h (sym is ∙ ap (slot_at slots) (sym here) ∙ at_q) in
+                let ok : Before m hash bucket gap =
+                omega (
+                  arith,
+                  distance_is m (home m hash) bucket in_home,
+                  distance_is m gap bucket s.gap_in,
+                  distance_is m (home m hash) gap in_home,
+                ) in
+                subst (λ k. Before m k q gap) hash_is (subst (λ p. Before m hash p gap) (sym here) ok)
+          ];
+    }
+
+    -- the pair at the bucket is moved into the gap: it does not pass its home
+    pub Shifts-move : probe_distance m gap bucket ≤ probe_distance m (home m hash) bucket
+        → Shifts m hashes (set words gap (slice_index words bucket)) start bucket next
+    Shifts-move moves =
+        let word : ℕ = slice_index words bucket in
+        let words' : List ℕ = set words gap word in
+        let left : List ℕ = set words gap 0 in
+        let slots' : List (Option ℕ) = around hashes words' bucket in
+        let long' : length words' ≡ m = length-set words gap word ∙ s.size in
+        let in_left : length left ≡ m = length-set words gap 0 ∙ s.size in
+        let from : slot_at slots' bucket ≡ None =
+        slot_of_zero hashes (set words' bucket 0) bucket (word_set words' bucket 0 (omega (arith, s.bucket_in, long'))) in
+        let written : slice_index (set words' bucket 0) gap ≡ word =
+        word_other words' bucket gap 0 (λ same. apart (sym same)) ∙ word_set words gap word (omega (arith, s.gap_in, s.size)) in
+        let to : slot_at slots' gap ≡ Some hash =
+        slot_of_word hashes (set words' bucket 0) gap index (omega (arith, word_within)) (written ∙ omega arith) in
+        let other : (q : ℕ) → q ≢ bucket → q ≢ gap → slot_at slots' q ≡ slot_at slots q = λ q nb ng.
+        slot_by-at hashes (set words' bucket 0) q
+        ∙ ap (slot_by hashes) (word_other words' bucket q 0 nb ∙ word_other words gap q word ng ∙ sym (word_other words gap q 0 ng))
+        ∙ sym (slot_by-at hashes left q) in
+        let off : (q : ℕ) → probe_distance m start q ≢ probe_distance m start s.ahead.0 → s.ahead.0 ≢ q =
+        λ q ne same. ne (ap (probe_distance m start) (sym same)) in
+        let none = word_set words gap 0 (omega (arith, s.gap_in, s.size)) in
+        let same : set words' bucket 0 ≡ set (set left gap (slice_index left bucket)) bucket 0 =
+        ap (λ y. set y bucket 0) (sym (set-set words gap 0 word) ∙ ap (set left gap) (sym word_is)) in
+        record {
+          each = subst (EachOnce (length hashes)) (sym same)
+              (EachOnce-move s.each bucket gap (omega (arith, s.bucket_in, in_left)) (omega (arith, s.gap_in, in_left)) apart none);
+          size = long';
+          start_in = s.start_in;
+          gap_in = s.bucket_in;
+          bucket_in = next-lt;
+          behind = omega (arith, one_farther);
+          ahead = (
+            s.ahead.0,
+            s.ahead.1,
+            other s.ahead.0 (off bucket (omega (arith, farther))) (off gap (omega (arith, farther, s.behind))) ∙ s.ahead.2,
+            omega (arith, one_farther, farther),
+          );
+          others = λ q w h at_q in_w none_w nb.
+              let ng : w ≢ gap = λ e. full_from _ hash to (ap (slot_at slots') (sym e) ∙ none_w) in
+              let old : slot_at slots w ≡ None = sym (other w nb ng) ∙ none_w in
+              elim (cases_eq q gap) [
+                | inr nq ↦ s.others q w h (sym (other q (λ e. full_from _ h at_q (ap (slot_at slots') e ∙ from)) nq) ∙ at_q) in_w old ng
+                | inl at ↦
+                    let hash_is : hash ≡ h = same_Some hash h (sym to ∙ ap (slot_at slots') (sym at) ∙ at_q) in
+                    let before = s.others bucket w hash is in_w old ng in
+                    let ok : Before m hash gap w =
+                    omega (
+                      arith,
+                      distance_is m (home m hash) bucket in_home,
+                      distance_is m gap bucket s.gap_in,
+                      distance_is m (home m hash) gap in_home,
+                    ) in
+                    subst (λ k. Before m k q w) hash_is (subst (λ p. Before m hash p w) (sym at) ok)
+              ];
+          passed = λ q h at_q after close. absurd (omega (arith, one_farther));
+        }
+
+-- a bucket that is emptied is the only gap
+pub HasGap-remove : (slots : List (Option ℕ)) → ProbeInvariant slots → SomeVacant slots → (bucket : ℕ) → slot_at slots bucket ≢ None
+    → HasGap (set slots bucket None) bucket
+HasGap-remove slots ordered (v, in_v, none_v) bucket full =
+    let same : length (set slots bucket None) ≡ length slots = length-set slots bucket None in
+    let in_bucket = full-lt slots bucket full in
+    let emptied : slot_at (set slots bucket None) bucket ≡ None = slot_set slots bucket None in_bucket in
+    let other : (q : ℕ) → q ≢ bucket → slot_at (set slots bucket None) q ≡ slot_at slots q = λ q ne. slot_other slots bucket q None ne in
+    let apart : v ≢ bucket = λ e. full (ap (slot_at slots) (sym e) ∙ none_v) in
+    record {
+      within = omega arith;
+      vacant = emptied;
+      another = (v, omega arith, other v apart ∙ none_v, apart);
+      others = λ q w h is in_w none_w np.
+          let nq : q ≢ bucket = λ e. full_from _ h is (ap (slot_at (set slots bucket None)) e ∙ emptied) in
+          subst (λ n. Before n h q w) (sym same) (ordered.before q w h (sym (other q nq) ∙ is) (omega arith) (sym (other w np) ∙ none_w));
+    }

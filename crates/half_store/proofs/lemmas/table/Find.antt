@@ -1,0 +1,132 @@
+-- What a search of a table finds, and what a probe costs.
+use Rattle.std.proofs.Common.{◌≡◌, ℕ, ◌+◌, ◌-◌, ◌<◌, ◌≤◌, Bool, true, false, inl, inr, refl, sym, ap, ◌∙◌, subst, arith, List, length}
+use Rattle.std.proofs.Common.{slice_index, Option, Some, count_by, ◌==◌}
+use Rattle.std.specs.List.{slice_get}
+use Rattle.std.specs.Prelude.{Result, Ok, Err, IfOk, IfErr, OnOk, OnErr}
+use Rattle.std.proofs.lemmas.Bool.{cases_eq}
+use Rattle.std.proofs.lemmas.List.Sums.{count_by-le-length}
+use Rattle.std.proofs.lemmas.Option.{slice_get_within, get_or_from_slice_get}
+use Rattle.half_store.specs.Buckets.{slots_by}
+use Rattle.half_store.specs.Reach.{probe_distance, reach}
+use Rattle.half_store.specs.Probe.{after_missing, looked_more}
+use Rattle.half_store.specs.Slots.{slot_at, stored, IsVacancyFor, EndsAtPair, distance_from_home}
+use Rattle.half_store.specs.Table.{TableState, table_state}
+use Rattle.half_store.specs.TableLayout.{IsIndexed}
+use Rattle.half_store.specs.TableSearch.{FindsInTable}
+use Rattle.half_store.specs.Work.{Work}
+use Rattle.half_store.proofs.lemmas.table.Buckets.{length-slots_by, slot_of_word, word_of_slot, some_bucket}
+use Rattle.half_store.proofs.lemmas.table.Circle.{distance_self}
+use Rattle.half_store.proofs.lemmas.table.Layout.{index-counted, index-vacant, at_home, buckets_seen}
+use Rattle.half_store.proofs.lemmas.table.Slots.{full_from, full-lt}
+use Rattle.half_store.proofs.lemmas.table.Probe.{reach_at_vacancy, reach_past_pair, reach_short}
+use Rattle.half_store.proofs.lemmas.table.Reach.{reach-none}
+use Rattle.half_store.proofs.lemmas.tally.{same_work}
+
+module _ {hashes words : List ℕ} (x : IsIndexed hashes words) (hash : ℕ) where
+  abbrev slots : List (Option ℕ)
+  slots = slots_by hashes words
+
+  abbrev held : ℕ
+  held = count_by (stored (λ h. h == hash)) slots
+
+  -- an insertion probe
+  pub probing_cost : {t : TableState} → table_state hashes slots ≡ t → (p : ℕ) (old new : Work) → IsVacancyFor slots hash p
+      → new ≡ looked_more old (distance_from_home slots hash p + 1) → new ≡ looked_more old (reach t.hashes t.buckets hash)
+  probing_cost view p old new w e =
+      subst (λ (t : TableState). new ≡ looked_more old (reach t.hashes t.buckets hash)) view
+      (e ∙ ap (looked_more old) (sym (reach_at_vacancy slots x.ordered hashes (index-counted x) hash p w)))
+
+  -- the entry index at a bucket of this hash has this hash
+  index_at : (p : ℕ) → slot_at slots p ≡ Some hash → slice_get hashes (slice_index words p - 1) ≡ Some hash
+  index_at p is =
+      let found = word_of_slot hashes words p hash is in
+      let index : slice_index words p - 1 ≡ found.0 = omega (arith, found.1) in
+      ap (slice_get hashes) index ∙ found.2
+
+  -- what holds of what stands in each bucket of this hash holds of each entry index of this hash
+  each_index : (P : ℕ → Type 0) → ((p : ℕ) → slot_at slots p ≡ Some hash → P (slice_index words p - 1)) → (index : ℕ)
+      → slice_get hashes index ≡ Some hash → P index
+  each_index P each index is =
+      let within = slice_get_within hashes index hash is in
+      let b = some_bucket x.each index within in
+      let entry : slice_index words b.0 - 1 ≡ index = omega (arith, b.2) in
+      subst P entry (each b.0 (slot_of_word hashes words b.0 index within b.2 ∙ ap Some (get_or_from_slice_get hashes index hash 0 is)))
+
+  -- no probe reads more buckets than one past the held pairs
+  short : reach hashes (length slots) hash ≤ length hashes + 1
+  short =
+      elim (cases_eq (length slots) 0) [
+        | inl none ↦ omega (arith, reach-none hashes (length slots) hash none)
+        | inr some ↦ reach_short slots x.ordered hashes (index-counted x) hash
+            (index-vacant x (omega (arith, length-slots_by hashes words)))
+      ]
+
+  -- a search where there are no buckets
+  pub finds_none : (returns : ℕ → Bool → Type 0) (w : Work) → length words ≡ 0
+      → FindsInTable returns (table_state hashes slots) hash (Err 0) w w
+  finds_none returns w none =
+      let long = length-slots_by hashes words in
+      let room = x.room in
+      record {
+        found = tt;
+        accepted = tt;
+        refused = λ index is. absurd (omega (arith, slice_get_within hashes index hash is));
+        vacancy = λ some. absurd (omega arith);
+        missing_cost = same_work w (after_missing hashes (length slots) hash w) refl
+            (omega (arith, count_by-le-length (λ h. h == hash) hashes))
+            (omega (arith, reach-none hashes (length slots) hash (omega arith)));
+        found_cost = tt;
+        short = short;
+        buckets = buckets_seen hashes words x refl;
+      }
+
+  -- what a search says of the slots, where there are some, is what callers see
+  pub finds : (returns : ℕ → Bool → Type 0) (result : Result ℕ ℕ) (old new : Work)
+      → IfOk result (λ index. EndsAtPair hashes words hash index old.looked new.looked) → IfOk result (λ index. returns index true)
+      → IfErr result (IsVacancyFor slots hash)
+      → OnErr result ((p : ℕ) → slot_at slots p ≡ Some hash → returns (slice_index words p - 1) false)
+      → new.asked ≡ old.asked → IfErr result (λ p. new.looked ≡ old.looked + (distance_from_home slots hash p + 1))
+      → OnOk result (old.compared + 1 ≤ new.compared) → new.compared ≤ old.compared + held
+      → OnErr result (new.compared ≡ old.compared + held)
+      → FindsInTable returns (table_state hashes slots) hash result old new
+  finds returns (Ok index) old new ends accepted vacancy refused asked looked some most all =
+      let p = ends.bucket in
+      let in_p : p < length slots = full-lt slots p (full_from _ hash ends.found.found) in
+      let vacant = index-vacant x (omega (arith, length-slots_by hashes words)) in
+      let far = reach_past_pair slots x.ordered hashes (index-counted x) hash p ends.found.found vacant in
+      let same = index-counted x (λ h. h == hash) in
+      let read = ends.looked in
+      record {
+        found = ap (slice_get hashes) ends.entry ∙ index_at p ends.found.found;
+        accepted = accepted;
+        refused = tt;
+        vacancy = tt;
+        missing_cost = tt;
+        found_cost = record {
+          asked = asked;
+          compared_some = some;
+          compared_most = omega arith;
+          looked_some = omega arith;
+          looked_most = omega arith;
+          looked_once = λ apart.
+              let none : distance_from_home slots hash p ≡ 0 =
+              ap (λ b. probe_distance (length slots) b p) (at_home x apart vacant p hash ends.found.found)
+              ∙ distance_self (length slots) p in_p in
+              omega arith;
+        };
+        short = short;
+        buckets = buckets_seen hashes words x refl;
+      }
+  finds returns (Err bucket) old new ends accepted vacancy refused asked looked some most all =
+      let read = reach_at_vacancy slots x.ordered hashes (index-counted x) hash bucket vacancy in
+      let same = index-counted x (λ h. h == hash) in
+      record {
+        found = tt;
+        accepted = tt;
+        refused = each_index (λ index. returns index false) refused;
+        vacancy = λ buckets. vacancy;
+        missing_cost = same_work new (after_missing hashes (length slots) hash old) asked (omega arith) (omega arith);
+        found_cost = tt;
+        short = short;
+        buckets = buckets_seen hashes words x refl;
+      }

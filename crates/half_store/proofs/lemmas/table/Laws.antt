@@ -1,0 +1,251 @@
+-- What holds of `reach` for every list of held hashes.
+use Rattle.std.proofs.Common.{◌≡◌, ℕ, zero, suc, ◌-◌, ◌<◌, ◌≤◌, true, false, nat_lt, inl, inr, refl, sym, ap, ◌∙◌, subst, arith, List, []}
+use Rattle.std.proofs.Common.{length, get_or, sum_by, Contains, IsPermutation}
+use Rattle.std.proofs.lemmas.Bool.{cases_lt, cases_eq, cases_Bool, lt-ltb, both_ways}
+use Rattle.std.proofs.lemmas.List.Sorted.{sum_by-IsPermutation}
+use Rattle.std.proofs.lemmas.List.Sums.{get_or-le-sum_by}
+use Rattle.half_store.specs.Reach.{home, probe_distance, bucket_after, load, loaded_within, is_loaded, loaded_run, reach, IsLoaded}
+use Rattle.half_store.specs.TableLaws.{IsCrowded, PassesLoaded, ReachHistoryLaw, NoBucketsLaw, NothingHeldLaw, OneBucketLaw, SharedHomeLaw}
+use Rattle.half_store.specs.TableLaws.{ShortLaw, OnceRoundLaw, CrowdingLaw, StopsLaw}
+use Rattle.half_store.proofs.lemmas.table.Circle.{distance_is, distance_self, after_is, bucket_after-zero, after_next, bucket_after-lt}
+use Rattle.half_store.proofs.lemmas.table.Counts.{tick, tick_yes}
+use Rattle.half_store.proofs.lemmas.table.Crowding.{load-le, loaded_from, run_leads}
+use Rattle.half_store.proofs.lemmas.table.Reach.{is_loaded-yes, loaded_run-is, reach-none, reach-some}
+use Rattle.half_store.proofs.lemmas.table.Slots.{home-lt}
+
+-- hashes in another order load each stretch as much
+load-permutation : (some others : List ℕ) (m last size : ℕ) → IsPermutation some others → load others m last size ≡ load some m last size
+unfolding load
+load-permutation some others m last size p = sum_by-IsPermutation (λ x. tick (nat_lt (probe_distance m (home m x) last) size)) some others p
+
+loaded_within-permutation : (some others : List ℕ) (m last most : ℕ) → IsPermutation some others
+    → loaded_within some m last most ≡ loaded_within others m last most
+unfolding loaded_within
+loaded_within-permutation some others m last zero p = refl
+loaded_within-permutation some others m last (suc most) p =
+    rw (load-permutation some others m last (suc most) p, loaded_within-permutation some others m last most p) refl
+
+loaded_run-permutation : (some others : List ℕ) (m most bucket : ℕ) → IsPermutation some others
+    → loaded_run some m most bucket ≡ loaded_run others m most bucket
+unfolding loaded_run
+loaded_run-permutation some others m zero bucket p = refl
+loaded_run-permutation some others m (suc most) bucket p =
+    rw (loaded_within-permutation some others m bucket (m - 1) p, loaded_run-permutation some others m most (bucket_after m bucket 1) p)
+    refl
+
+pub history_law : ReachHistoryLaw
+history_law some others m hash p =
+    elim (cases_lt 0 m) [
+      | inl h ↦ reach-some some m hash h ∙ ap suc (loaded_run-permutation some others m (m - 1) (home m hash) p)
+          ∙ sym (reach-some others m hash h)
+      | inr z ↦ reach-none some m hash (omega arith) ∙ sym (reach-none others m hash (omega arith))
+    ]
+
+module _ (hashes : List ℕ) (m : ℕ) where
+  pub loaded_run-le : (most bucket : ℕ) → loaded_run hashes m most bucket ≤ most
+  unfolding loaded_run
+  loaded_run-le zero bucket = omega arith
+  loaded_run-le (suc most) bucket =
+      elim (cases_Bool (is_loaded hashes m bucket)) [
+        | inl e ↦ rw e (omega (arith, loaded_run-le most (bucket_after m bucket 1)))
+        | inr e ↦ rw e (omega arith)
+      ]
+
+  -- each bucket of the run is loaded
+  loaded_run-loaded : (most b : ℕ) → b < m → most < m → (k : ℕ) → k < loaded_run hashes m most b
+      → is_loaded hashes m (bucket_after m b k) ≡ true
+  unfolding loaded_run
+  loaded_run-loaded zero b in_b in_most k l = absurd (omega arith)
+  loaded_run-loaded (suc most) b in_b in_most k l =
+      elim (cases_Bool (is_loaded hashes m b)) [
+        | inr e ↦ let l' = rw e at l in absurd (omega arith)
+        | inl e ↦
+            let l' : k < suc (loaded_run hashes m most (bucket_after m b 1)) = rw e at l in
+            elim (cases_eq k 0) [
+              | inl z ↦ rw (z, bucket_after-zero m b in_b) e
+              | inr ne ↦
+                  let j : ℕ = k - 1 in
+                  let one : suc j ≡ k = omega arith in
+                  let rest = loaded_run-loaded most (bucket_after m b 1) (bucket_after-lt m b in_b 1 (omega arith)) (omega arith) j
+                  (omega arith) in
+                  subst (λ n. is_loaded hashes m (bucket_after m b n) ≡ true) one
+                  (rw (← after_next m b in_b j (omega (arith, loaded_run-le most (bucket_after m b 1)))) rest)
+            ]
+      ]
+
+  -- the bucket that follows a run that did not go on to the end is not
+  loaded_run-stops : (most b : ℕ) → b < m → most < m → loaded_run hashes m most b < most
+      → is_loaded hashes m (bucket_after m b (loaded_run hashes m most b)) ≡ false
+  unfolding loaded_run
+  loaded_run-stops zero b in_b in_most l = absurd (omega arith)
+  loaded_run-stops (suc most) b in_b in_most l =
+      elim (cases_Bool (is_loaded hashes m b)) [
+        | inr e ↦ rw (e, bucket_after-zero m b in_b) e
+        | inl e ↦
+            let l' : suc (loaded_run hashes m most (bucket_after m b 1)) < suc most = rw e at l in
+            let in_next = bucket_after-lt m b in_b 1 (omega arith) in
+            let rest = loaded_run-stops most (bucket_after m b 1) in_next (omega arith) (omega arith) in
+            rw (e, ← after_next m b in_b (loaded_run hashes m most (bucket_after m b 1)) (omega arith)) rest
+      ]
+
+  pub not_loaded : (last : ℕ) → is_loaded hashes m last ≡ false → IsLoaded hashes m last → ⊥
+  not_loaded last e loaded = both_ways (is_loaded hashes m last) e (is_loaded-yes hashes m last loaded)
+
+  pub unloaded : (last : ℕ) → (IsLoaded hashes m last → ⊥) → is_loaded hashes m last ≡ false
+  unloaded last free =
+      elim (cases_Bool (is_loaded hashes m last)) [
+        | inr e ↦ e
+        | inl e ↦ absurd (free (loaded_from hashes m last e))
+      ]
+
+  -- a run of as many loaded buckets as the table has would be home to as many hashes
+  full_circle : (b : ℕ) → b < m → length hashes < m → ((k : ℕ) → k < m → is_loaded hashes m (bucket_after m b k) ≡ true) → ⊥
+  full_circle b in_b few run =
+      let last : ℕ = bucket_after m b (m - 1) in
+      let lead = run_leads hashes m last (bucket_after-lt m b in_b (m - 1) (omega arith)) few m
+      (λ back l.
+      let same : bucket_after m last (m - back) ≡ bucket_after m b (m - 1 - back) =
+      omega (arith, after_is m b (m - 1), after_is m last (m - back), after_is m b (m - 1 - back)) in
+      rw same (run (m - 1 - back) (omega arith))) in
+      absurd (omega (arith, lead.1, lead.2))
+
+  -- the bucket that a probe passed last, where `d` are passed
+  crowded_run : (hash d : ℕ) → 0 < m → length hashes < m → d ≤ loaded_run hashes m (m - 1) (home m hash) → IsCrowded hashes m hash d
+  crowded_run hash d some few long =
+      let b : ℕ = home m hash in
+      let in_b : b < m = home-lt m hash some in
+      let most = loaded_run-le (m - 1) b in
+      let last : ℕ = bucket_after m b (d - 1) in
+      let in_last : last < m = bucket_after-lt m b in_b (d - 1) (omega arith) in
+      let lead = run_leads hashes m last in_last few d
+      (λ back l.
+      let same : bucket_after m last (m - back) ≡ bucket_after m b (d - 1 - back) =
+      omega (arith, after_is m b (d - 1), after_is m last (m - back), after_is m b (d - 1 - back)) in
+      rw same (loaded_run-loaded (m - 1) b in_b (omega arith) (d - 1 - back) (omega arith))) in
+      record {
+        last = last;
+        size = lead.0;
+        within = in_last;
+        partial = lead.2;
+        long = lead.1;
+        covers = λ step l. omega (
+          arith,
+          lead.1,
+          after_is m b (d - 1),
+          after_is m b step,
+          distance_is m (bucket_after m b step) last (bucket_after-lt m b in_b step (omega arith)),
+        );
+        crowded = lead.3;
+      }
+
+pub no_buckets_law : NoBucketsLaw
+no_buckets_law hashes hash = reach-none hashes 0 hash refl
+
+pub crowding_law : CrowdingLaw
+crowding_law hashes m hash passed few l =
+    let some : 0 < m = omega arith in
+    crowded_run hashes m hash passed some few (omega (arith, reach-some hashes m hash some))
+
+pub once_round_law : OnceRoundLaw
+once_round_law hashes m hash =
+    elim (cases_lt 0 m) [
+      | inl some ↦ omega (arith, reach-some hashes m hash some, loaded_run-le hashes m (m - 1) (home m hash))
+      | inr none ↦ omega (arith, reach-none hashes m hash (omega arith))
+    ]
+
+pub short_law : ShortLaw
+short_law hashes m hash =
+    elim (cases_lt (length hashes) m) [
+      | inr ge ↦ omega (arith, once_round_law hashes m hash)
+      | inl few ↦
+          let some : 0 < m = omega arith in
+          let run : ℕ = loaded_run hashes m (m - 1) (home m hash) in
+          let c = crowded_run hashes m hash run some few (omega arith) in
+          let long = c.long in
+          let crowded = c.crowded in
+          omega (arith, reach-some hashes m hash some, load-le hashes m c.last c.size)
+    ]
+
+-- a probe reads one bucket where the first is not loaded, and one alone
+pub one_bucket_law : OneBucketLaw
+one_bucket_law hashes m hash some =
+    let b : ℕ = home m hash in
+    let in_b : b < m = home-lt m hash some in
+    let start : bucket_after m b 0 ≡ b = bucket_after-zero m b in_b in
+    let is : reach hashes m hash ≡ suc (loaded_run hashes m (m - 1) b) = reach-some hashes m hash some in (
+      λ one (loaded : IsLoaded hashes m b).
+          let part : 1 < m = omega (arith, loaded.1, loaded.2) in
+          let none : loaded_run hashes m (m - 1) b ≡ 0 = omega arith in
+          let at = loaded_run-stops hashes m (m - 1) b in_b (omega arith) (omega arith) in
+          not_loaded hashes m b (subst (λ n. is_loaded hashes m n ≡ false) start (rw none at at)) loaded,
+      λ free.
+          let none = loaded_run-is hashes m (m - 1) 0 b in_b (omega arith) (omega arith) (λ k l. absurd (omega arith))
+          (λ l. rw start (unloaded hashes m b free)) in
+          omega arith,
+    )
+
+pub nothing_held_law : NothingHeldLaw
+nothing_held_law m hash some =
+    (one_bucket_law [] m hash some).1
+    (λ (loaded : IsLoaded [] m (home m hash)). absurd (omega (arith, loaded.1, loaded.3, load-le [] m (home m hash) loaded.0)))
+
+-- a bucket that is home to a hash has a load
+home-load : (hashes : List ℕ) (m held : ℕ) → 0 < m → Contains hashes held → 1 ≤ load hashes m (home m held) 1
+unfolding load
+home-load hashes m held some (k, in_k, is) =
+    let test : ℕ → ℕ = λ x. tick (nat_lt (probe_distance m (home m x) (home m held)) 1) in
+    let own : test held ≡ 1 = tick_yes _ (lt-ltb _ _ (omega (arith, distance_self m (home m held) (home-lt m held some)))) in
+    let part : test (get_or hashes k held) ≤ sum_by test hashes = get_or-le-sum_by test hashes k held in_k in
+    let same : test (get_or hashes k held) ≡ test held = ap test is in
+    omega arith
+
+pub shared_home_law : SharedHomeLaw
+shared_home_law hashes m hash held more contained same =
+    let some : 0 < m = omega arith in
+    let full : 1 ≤ load hashes m (home m hash) 1 = subst (λ b. 1 ≤ load hashes m b 1) same (home-load hashes m held some contained) in
+    elim (cases_eq (reach hashes m hash) 1) [
+      | inl one ↦ absurd ((one_bucket_law hashes m hash some).0 one (1, omega arith, more, full))
+      | inr ne ↦ omega (arith, reach-some hashes m hash some)
+    ]
+
+module _ (hashes : List ℕ) (m hash passed : ℕ) (few : length hashes < m) where
+  abbrev b : ℕ
+  b = home m hash
+
+  in_b : b < m
+  in_b = home-lt m hash (omega arith)
+
+  abbrev run : ℕ
+  run = loaded_run hashes m (m - 1) b
+
+  stops_then : run ≡ passed → PassesLoaded hashes m hash passed
+  stops_then e = record {
+    loaded = λ step l. loaded_from hashes m (bucket_after m b step)
+        (loaded_run-loaded hashes m (m - 1) b in_b (omega arith) step (omega arith));
+    ended = λ loaded. elim (cases_lt run (m - 1)) [
+      | inl l ↦ not_loaded hashes m (bucket_after m b run) (loaded_run-stops hashes m (m - 1) b in_b (omega arith) l) (rw e loaded)
+      | inr ge ↦
+          full_circle hashes m b in_b few (λ k l. elim (cases_lt k run) [
+            | inl below ↦ loaded_run-loaded hashes m (m - 1) b in_b (omega arith) k below
+            | inr past ↦
+                let at : passed ≡ k = omega (arith, loaded_run-le hashes m (m - 1) b) in
+                subst (λ n. is_loaded hashes m (bucket_after m b n) ≡ true) at (is_loaded-yes hashes m (bucket_after m b passed) loaded)
+          ])
+    ];
+  }
+
+  stops_back : PassesLoaded hashes m hash passed → run ≡ passed
+  stops_back p =
+      let all : (k : ℕ) → k < passed
+      → is_loaded hashes m (bucket_after m b k) ≡ true = λ k l. is_loaded-yes hashes m (bucket_after m b k) (p.loaded k l) in
+      elim (cases_lt passed m) [
+        | inr ge ↦ absurd (full_circle hashes m b in_b few (λ k l. all k (omega arith)))
+        | inl l ↦ loaded_run-is hashes m (m - 1) passed b in_b (omega arith) (omega arith) all
+            (λ short. unloaded hashes m (bucket_after m b passed) p.ended)
+      ]
+
+-- a probe ends at the first bucket that is not loaded
+pub stops_law : StopsLaw
+stops_law hashes m hash passed few =
+    let is : reach hashes m hash ≡ suc (loaded_run hashes m (m - 1) (home m hash)) = reach-some hashes m hash (omega arith) in
+    (λ e. stops_then hashes m hash passed few (omega arith), λ p. let r = stops_back hashes m hash passed few p in omega arith)

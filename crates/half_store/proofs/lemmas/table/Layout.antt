@@ -1,0 +1,298 @@
+-- The index of a table: what its buckets say of its hashes, a pair that is added, one that is removed, and no pair at all.
+use Rattle.std.proofs.Common.{◌≡◌, ◌≢◌, ℕ, zero, suc, ◌+◌, ◌-◌, ◌<◌, ◌≤◌, Bool, true, inl, inr, refl, sym, ap, ◌∙◌, subst, arith, List, []}
+use Rattle.std.proofs.Common.{◌∷◌, ◌++◌, length, set, get_or, slice_index, replicate, Option, Some, None}
+use Rattle.std.specs.List.{swap_remove}
+use Rattle.std.proofs.lemmas.Bool.{cases_lt, cases_eq}
+use Rattle.std.proofs.lemmas.List.{length-set, length_push, length-replicate, length-take, get_or-take, get_or_append_left, get_or_push}
+use Rattle.std.proofs.lemmas.List.{get_or-replicate, get_or_past}
+use Rattle.std.proofs.lemmas.List.Sums.{count_by-le-length}
+use Rattle.std.proofs.lemmas.Option.{same_Some, slice_get-get_or, slice_get_within, get_or_from_slice_get}
+use Rattle.half_store.specs.Buckets.{slot_by, slots_by, EachOnce}
+use Rattle.half_store.specs.Capacity.{capacity_of, buckets_of, IsBucketCount}
+use Rattle.half_store.specs.Reach.{home, probe_distance, reach, IsNearer, HomesApart}
+use Rattle.half_store.specs.Slots.{slot_at, stored, IsVacancyFor, SomeVacant, ProbeInvariant}
+use Rattle.half_store.specs.Table.{TableState, table_state}
+use Rattle.half_store.specs.TableLayout.{HasGap, IsIndexed, IsIndexedButFor, IsTable}
+use Rattle.half_store.proofs.lemmas.table.Buckets.{length-slots_by, slot_by-at, slots_by-set, slots_by-same, slot_of_word, slot_of_zero}
+use Rattle.half_store.proofs.lemmas.table.Buckets.{word_of_slot, zero_of_slot, word_set, word_other, word-lt, within-at, same_bucket}
+use Rattle.half_store.proofs.lemmas.table.Buckets.{EachOnce-add, EachOnce-remove, EachOnce-empty, length-remove, remove-at, remove-last}
+use Rattle.half_store.proofs.lemmas.table.Buckets.{remove-other, count_each}
+use Rattle.half_store.proofs.lemmas.capacity.{four-le_count, buckets_of-capacity_of}
+use Rattle.half_store.proofs.lemmas.table.Circle.{distance_is, distance_self, distance_same}
+use Rattle.half_store.proofs.lemmas.table.Counts.{count_to, count_to-same, count_to-le, count_to-all, count_by-count_to}
+use Rattle.half_store.proofs.lemmas.table.Deletion.{HasGap-remove}
+use Rattle.half_store.proofs.lemmas.table.Probe.{SameCounts, reach_past_pair}
+use Rattle.half_store.proofs.lemmas.table.Slots.{slot_cases, slot_set, slot_other, full_from, full-lt, home-lt, first_none, passes_stored}
+
+-- a pair that is added where its probe ended keeps the probe invariant
+ordered-add : (slots : List (Option ℕ)) (p h : ℕ) → IsVacancyFor slots h p → ProbeInvariant slots → ProbeInvariant (set slots p (Some h))
+ordered-add slots p h w o =
+    let m : ℕ = length slots in
+    let in_p : p < m = w.within in
+    let same : length (set slots p (Some h)) ≡ m = length-set slots p (Some h) in
+    let now : slot_at (set slots p (Some h)) p ≡ Some h = slot_set slots p (Some h) in_p in
+    record {
+      before = λ q v g is in_v none.
+          let v_old : v ≢ p = λ e. full_from _ h now (ap (slot_at (set slots p (Some h))) (sym e) ∙ none) in
+          let in_v' : v < m = omega arith in
+          let none' : slot_at slots v ≡ None = sym (slot_other slots p v (Some h) v_old) ∙ none in
+          subst (λ n. probe_distance n (home n g) q < probe_distance n (home n g) v) (sym same)
+          (elim (cases_eq q p) [
+            | inr ne ↦ o.before q v g (sym (slot_other slots p q (Some h) ne) ∙ is) in_v' none'
+            | inl e ↦
+                let hash : h ≡ g = same_Some h g (sym now ∙ ap (slot_at (set slots p (Some h))) (sym e) ∙ is) in
+                let to_p : IsVacancyFor slots g p = subst (λ k. IsVacancyFor slots k p) hash w in
+                subst (λ x. probe_distance m (home m g) x < probe_distance m (home m g) v) (sym e)
+                (elim (cases_lt (probe_distance m (home m g) p) (probe_distance m (home m g) v)) [
+                  | inl less ↦ less
+                  | inr ge ↦ elim (cases_eq (probe_distance m (home m g) v) (probe_distance m (home m g) p)) [
+                    | inl at ↦ absurd (v_old (distance_same m (home m g) (home-lt m g (omega arith)) v p in_v' in_p at))
+                    | inr off ↦ absurd (to_p.passed v in_v' (omega arith) none')
+                  ]
+                ])
+          ]);
+    }
+
+-- what `swap_remove` leaves, entry index by entry index
+length-swap_remove : (xs : List ℕ) (i last : ℕ) → suc last ≡ length xs → length (swap_remove xs i 0) ≡ last
+length-swap_remove xs i last e =
+    let x : ℕ = get_or xs (length xs - 1) 0 in
+    length-take (length xs - 1) (set xs i x) ∙ omega (arith, length-set xs i x)
+
+swap_remove-at : (xs : List ℕ) (i last : ℕ) → suc last ≡ length xs → i < last → slice_index (swap_remove xs i 0) i ≡ slice_index xs last
+swap_remove-at xs i last e l =
+    let x : ℕ = get_or xs (length xs - 1) 0 in
+    let end : length xs - 1 ≡ last = omega arith in
+    get_or-take (length xs - 1) (set xs i x) i 0 (omega arith) ∙ word_set xs i x (omega arith) ∙ ap (slice_index xs) end
+
+swap_remove-other : (xs : List ℕ) (i k last : ℕ) → suc last ≡ length xs → k < last → k ≢ i
+    → slice_index (swap_remove xs i 0) k ≡ slice_index xs k
+swap_remove-other xs i k last e l ne =
+    let x : ℕ = get_or xs (length xs - 1) 0 in
+    get_or-take (length xs - 1) (set xs i x) k 0 (omega arith) ∙ word_other xs i k x ne
+
+module _ {hashes words : List ℕ} (x : IsIndexed hashes words) where
+  abbrev slots : List (Option ℕ)
+  slots = slots_by hashes words
+
+  long : length slots ≡ length words
+  long = length-slots_by hashes words
+
+  -- counting the stored hashes is counting the full buckets
+  pub index-counted : SameCounts hashes slots
+  index-counted test =
+      let passes : ℕ → Bool = λ word. stored test (slot_by hashes word) in
+      count_by-count_to test hashes 0
+      ∙ count_to-same (λ i. test (slice_index hashes i)) (λ i. passes (suc i)) (length hashes)
+      (λ i l. ap (stored test) (sym (slice_get-get_or hashes i 0 l)))
+      ∙ sym (count_each passes refl (length hashes) words x.each) ∙ count_by-count_to passes words 0
+      ∙ count_to-same (λ p. passes (slice_index words p)) (λ p. stored test (slot_at slots p)) (length words)
+      (λ p l. ap (stored test) (sym (slot_by-at hashes words p)))
+      ∙ ap (count_to (λ p. stored test (slot_at slots p))) (sym long) ∙ sym (count_by-count_to (stored test) slots None)
+
+  -- where there are buckets, one is empty
+  pub index-vacant : 0 < length words → SomeVacant slots
+  index-vacant some =
+      elim (first_none slots (λ k. k) (length slots)) [
+        | inr (k, l, none, before) ↦ (k, l, none)
+        | inl all ↦
+            let any : ℕ → Bool = λ h. true in
+            let full = count_to-le (λ p. true) (λ p. stored any (slot_at slots p)) (length slots) (λ p in_p e.
+            elim (slot_cases (slot_at slots p))
+            [ inl z ↦ absurd (all p in_p z) | inr (h, is) ↦ passes_stored slots any (slot_at slots p) h is refl ]) in
+            let held = count_by-le-length any hashes in
+            let four = four-le_count (length words) x.count some in
+            let room = x.room in
+            absurd (omega (arith, long, count_to-all (length slots), index-counted any, count_by-count_to (stored any) slots None))
+      ]
+
+  -- where no two hashes share a home, each stands there: `bound` counts the steps from an empty bucket
+  at_home_below : HomesApart hashes (length slots) → (e : ℕ) → e < length slots → slot_at slots e ≡ None →
+      (bound p h : ℕ) → probe_distance (length slots) e p < bound → slot_at slots p ≡ Some h → home (length slots) h ≡ p
+  at_home_below apart e in_e none zero p h few is = absurd (omega arith)
+  at_home_below apart e in_e none (suc bound) p h few is =
+      let m : ℕ = length slots in
+      let q : ℕ = home m h in
+      let in_p : p < m = full-lt slots p (full_from _ h is) in
+      let in_q : q < m = home-lt m h (omega arith) in
+      elim (slot_cases (slot_at slots q)) [
+        | inl z ↦ absurd (let before = x.ordered.before p q h is in_q z in omega (arith, distance_self m q in_q))
+        | inr (g, at_q) ↦ elim (cases_eq q p) [
+          | inl same ↦ same
+          | inr ne ↦
+              let before = x.ordered.before p e h is in_e none in
+              let nearer : probe_distance m e q < bound =
+              omega (arith, distance_is m q p in_q, distance_is m q e in_q, distance_is m e p in_e, distance_is m e q in_e) in
+              let home_q = at_home_below apart e in_e none bound q g nearer at_q in
+              let i = word_of_slot hashes words p h is in
+              let j = word_of_slot hashes words q g at_q in
+              let hash_i = get_or_from_slice_get hashes i.0 h 0 i.2 in
+              let hash_j = get_or_from_slice_get hashes j.0 g 0 j.2 in
+              let in_i = slice_get_within hashes i.0 h i.2 in
+              let in_j = slice_get_within hashes j.0 g j.2 in
+              elim (cases_lt i.0 j.0) [
+                | inl l ↦ absurd (apart i.0 j.0 0 l in_j (ap (home m) hash_i ∙ sym home_q ∙ ap (home m) (sym hash_j)))
+                | inr ge ↦ elim (cases_lt j.0 i.0) [
+                  | inl l ↦ absurd (apart j.0 i.0 0 l in_i (ap (home m) hash_j ∙ home_q ∙ ap (home m) (sym hash_i)))
+                  | inr le ↦ same_bucket x.each q p i.0 (j.1 ∙ omega arith) i.1
+                ]
+              ]
+        ]
+      ]
+
+  pub at_home : HomesApart hashes (length slots) → SomeVacant slots → (p h : ℕ) → slot_at slots p ≡ Some h → home (length slots) h ≡ p
+  at_home apart (e, in_e, none) p h is = at_home_below apart e in_e none (suc (probe_distance (length slots) e p)) p h (omega arith) is
+
+  -- a probe from the pair's home bucket comes to it sooner than an unsuccessful one ends
+  pub nearer : (index bucket : ℕ) → index < length hashes → slice_index words bucket ≡ suc index
+      → IsNearer hashes (length words) (slice_index hashes index) bucket
+  nearer index bucket in_hashes word =
+      let hash : ℕ = slice_index hashes index in
+      let vacant = index-vacant (let l = word-lt words bucket (omega arith) in omega arith) in
+      let past = reach_past_pair slots x.ordered hashes index-counted hash bucket
+      (slot_of_word hashes words bucket index in_hashes word) vacant in
+      subst (λ m. probe_distance m (home m hash) bucket + 1 < reach hashes m hash) long (omega (arith, past))
+
+  module _ (p h : ℕ) (w : IsVacancyFor slots h p) where
+    abbrev hashes' : List ℕ
+    hashes' = hashes ++ h ∷ []
+
+    abbrev words' : List ℕ
+    words' = set words p (suc (length hashes))
+
+    -- a stored hash that is added leaves the others
+    more-by : (word : ℕ) → word ≤ length hashes → slot_by hashes' word ≡ slot_by hashes word
+    more-by zero l = refl
+    more-by (suc i) l =
+        let in_old : i < length hashes = omega arith in
+        slice_get-get_or hashes' i 0 (omega (arith, length_push hashes h)) ∙ ap Some (get_or_append_left hashes (h ∷ []) 0 i in_old)
+        ∙ sym (slice_get-get_or hashes i 0 in_old)
+
+    pub slots-add : slots_by hashes' words' ≡ set slots p (Some h)
+    slots-add =
+        slots_by-set hashes' words p (suc (length hashes))
+        ∙ ap (λ s. set s p (slot_by hashes' (suc (length hashes))))
+        (slots_by-same hashes' hashes words words refl
+        (λ q. more-by (slice_index words q) (within-at (length hashes) words q x.each.within)))
+        ∙ ap (set slots p) (slice_get-get_or hashes' (length hashes) 0 (omega (arith, length_push hashes h))
+        ∙ ap Some (get_or_push hashes h 0 (length hashes) refl))
+
+    -- one pair more, at a vacancy for its hash
+    pub IsIndexed-add : length hashes < capacity_of (length words) → IsIndexed hashes' words'
+    IsIndexed-add few =
+        let more : suc (length hashes) ≡ length hashes' = omega (arith, length_push hashes h) in
+        let same : length words ≡ length words' = sym (length-set words p (suc (length hashes))) in
+        let in_p : p < length words = omega (arith, w.within, long) in
+        record {
+          count = subst IsBucketCount same x.count;
+          room = subst (λ m. length hashes' ≤ capacity_of m) same (omega arith);
+          each = subst (λ n. EachOnce n words') more (EachOnce-add x.each p in_p (zero_of_slot hashes words p x.each.within w.vacant));
+          ordered = subst ProbeInvariant (sym slots-add) (ordered-add slots p h w x.ordered);
+        }
+
+  -- the pair of this entry index is taken out, and the last pair gets its index
+  module _ (index last bucket last_bucket : ℕ) (is_last : suc last ≡ length hashes) (at : slice_index words bucket ≡ suc index)
+      (at_last : slice_index words last_bucket ≡ suc last) where
+    abbrev hashes° : List ℕ
+    hashes° = swap_remove hashes index 0
+
+    abbrev words° : List ℕ
+    words° = set (set words last_bucket (suc index)) bucket 0
+
+    each : EachOnce (suc last) words
+    each = subst (λ n. EachOnce n words) (sym is_last) x.each
+
+    length-hashes° : length hashes° ≡ last
+    length-hashes° = length-swap_remove hashes index last is_last
+
+    -- the word of another bucket has the hash that it had
+    other-by : (q word : ℕ) → q ≢ bucket → q ≢ last_bucket → slice_index words q ≡ word → slot_by hashes° word ≡ slot_by hashes word
+    other-by q zero nb nl e = refl
+    other-by q (suc i) nb nl e =
+        let not_index : i ≢ index = λ same. nb (same_bucket each q bucket index (e ∙ ap suc same) at) in
+        let not_last : i ≢ last = λ same. nl (same_bucket each q last_bucket last (e ∙ ap suc same) at_last) in
+        let few : i < last = omega (arith, within-at (suc last) words q each.within) in
+        slice_get-get_or hashes° i 0 (omega (arith, length-hashes°)) ∙ ap Some (swap_remove-other hashes index i last is_last few not_index)
+        ∙ sym (slice_get-get_or hashes i 0 (omega arith))
+
+    slot-remove : (q : ℕ) → slot_by hashes° (slice_index words° q) ≡ slot_by hashes (slice_index (set words bucket 0) q)
+    slot-remove q =
+        elim (cases_eq q bucket) [
+          | inl e ↦
+              ap (λ b. slot_by hashes° (slice_index words° b)) e ∙ ap (slot_by hashes°) (remove-at each index bucket last_bucket at at_last)
+              ∙ sym (ap (λ b. slot_by hashes (slice_index (set words bucket 0) b)) e
+              ∙ ap (slot_by hashes) (word_set words bucket 0 (word-lt words bucket (omega arith))))
+          | inr nb ↦
+              let old : slice_index (set words bucket 0) q ≡ slice_index words q = word_other words bucket q 0 nb in
+              elim (cases_eq q last_bucket) [
+                | inr nl ↦
+                    ap (slot_by hashes°) (remove-other each index bucket last_bucket at at_last q nb nl)
+                    ∙ other-by q (slice_index words q) nb nl refl ∙ ap (slot_by hashes) (sym old)
+                | inl e ↦
+                    let apart : last_bucket ≢ bucket = λ same. nb (e ∙ same) in
+                    let not_last : index ≢ last = λ same. apart (same_bucket each last_bucket bucket last at_last (at ∙ ap suc same)) in
+                    let few : index < last = omega (arith, within-at (suc last) words bucket each.within) in
+                    ap (λ b. slot_by hashes° (slice_index words° b)) e
+                    ∙ ap (slot_by hashes°) (remove-last each index bucket last_bucket at at_last apart)
+                    ∙ slice_get-get_or hashes° index 0 (omega (arith, length-hashes°))
+                    ∙ ap Some (swap_remove-at hashes index last is_last few)
+                    ∙ sym (ap (slot_by hashes) (old ∙ ap (slice_index words) e ∙ at_last) ∙ slice_get-get_or hashes last 0 (omega arith))
+              ]
+        ]
+
+    -- what the backward shift begins with
+    pub IsIndexed-remove : IsIndexedButFor hashes° words° bucket
+    IsIndexed-remove =
+        let same = length-remove each index bucket last_bucket at at_last in
+        let slots-remove : slots_by hashes° words° ≡ set slots bucket None =
+        slots_by-same hashes° hashes words° (set words bucket 0) (same ∙ sym (length-set words bucket 0)) slot-remove
+        ∙ slots_by-set hashes words bucket 0 in
+        let in_index : index < length hashes = omega (arith, within-at (suc last) words bucket each.within) in
+        let full = full_from _ _ (slot_of_word hashes words bucket index in_index at) in
+        let vacant = index-vacant (let l = word-lt words bucket (omega arith) in omega arith) in
+        record {
+          room = subst (λ m. length hashes° ≤ capacity_of m) (sym same) (let room = x.room in omega (arith, length-hashes°));
+          each = subst (λ n. EachOnce n words°) (sym length-hashes°) (EachOnce-remove each index bucket last_bucket at at_last);
+          gap = subst (λ s. HasGap s bucket) (sym slots-remove) (HasGap-remove slots x.ordered vacant bucket full);
+        }
+
+-- no pair
+pub IsIndexed-empty : (count : ℕ) → IsBucketCount count → IsIndexed [] (replicate count 0)
+IsIndexed-empty count b =
+    let zeros : List ℕ = replicate count 0 in
+    let long : length zeros ≡ count = length-replicate {A = ℕ} count 0 in
+    let zero_at : (q : ℕ) → slice_index zeros q ≡ 0 =
+    λ q. elim (cases_lt q count) [ inl l ↦ get_or-replicate count q 0 0 l | inr past ↦ get_or_past zeros q 0 (omega arith) ] in
+    record {
+      count = subst IsBucketCount (sym long) b;
+      room = omega arith;
+      each = EachOnce-empty count;
+      ordered = record { before = λ q v h is in_v none. absurd (full_from _ h is (slot_of_zero [] zeros q (zero_at q))) };
+    }
+
+-- equal columns
+pub IsIndexed-as : {hashes hashes' words words' : List ℕ} → hashes' ≡ hashes → words' ≡ words → IsIndexed hashes words
+    → IsIndexed hashes' words'
+IsIndexed-as {hashes} {hashes'} {words} {words'} h w x = subst (λ y. IsIndexed y words') (sym h) (subst (IsIndexed hashes) (sym w) x)
+
+-- equal columns, with the capacity that they want
+pub IsTable-as : {hashes words hashes' words' : List ℕ} {most most' capacity : ℕ} → hashes' ≡ hashes → words' ≡ words → most' ≡ most
+    → IsIndexed hashes words → capacity_of (length words) ≤ most → capacity ≡ capacity_of (length words)
+    → IsTable hashes' words' most' capacity
+IsTable-as h w m x fits exact =
+    let same = ap capacity_of (ap length w) in
+    record { indexed = IsIndexed-as h w x; fits = omega (arith, same, m); exact = omega (arith, same, exact) }
+
+-- the columns of a table, as they are lent, are its value
+pub view_lent : {hashes hs words ws : List ℕ} {t : TableState} → table_state hs (slots_by hs ws) ≡ t → hashes ≡ hs → ws ≡ words
+    → table_state hashes (slots_by hashes words) ≡ t
+view_lent view h w = (λ i. table_state (h i) (slots_by (h i) (sym w i))) ∙ view
+
+-- a table has as many buckets as words, and they are those of its capacity
+pub count_seen : (hashes words : List ℕ) {t : TableState} → table_state hashes (slots_by hashes words) ≡ t → length words ≡ t.buckets
+count_seen hashes words view = sym (length-slots_by hashes words) ∙ ap (λ v. v.buckets) view
+
+pub buckets_seen : (hashes words : List ℕ) {t : TableState} → IsIndexed hashes words → table_state hashes (slots_by hashes words) ≡ t
+    → t.buckets ≡ buckets_of (capacity_of t.buckets)
+buckets_seen hashes words x view =
+    subst (λ m. m ≡ buckets_of (capacity_of m)) (count_seen hashes words view) (sym (buckets_of-capacity_of (length words) x.count))

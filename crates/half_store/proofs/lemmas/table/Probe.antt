@@ -1,0 +1,251 @@
+-- Where probes end, and what they read and compare, over the held hashes alone.
+use Rattle.std.proofs.Common.{◌≡◌, ◌≢◌, ℕ, ◌+◌, ◌-◌, ◌<◌, ◌≤◌, Bool, true, false, nat_lt, ◌==◌, ◌&&◌, inl, inr, refl, sym, ap, ◌∙◌, subst}
+use Rattle.std.proofs.Common.{arith, List, length, Option, Some, None, count_by}
+use Rattle.std.proofs.lemmas.Bool.{cases_lt, cases_eq, cases_Bool, lt-ltb, le-ltb, eq-eqb, ne_eqb, and_parts, and_from, and_left, and_right}
+use Rattle.std.proofs.lemmas.Option.{same_Some}
+use Rattle.std.proofs.lemmas.List.Sums.{count_by-le-length}
+use borrow.Author.Tests.{ltb-true, eqb-true}
+use Rattle.half_store.specs.Reach.{home, probe_distance, bucket_after, load, is_loaded, reach}
+use Rattle.half_store.specs.Slots.{slot_at, stored, FullBefore, IsVacancyFor, SomeVacant, ProbeInvariant, distance_from_home}
+use Rattle.half_store.proofs.lemmas.table.Circle.{probe_distance-lt, bucket_after-lt, probe_distance-bucket_after}
+use Rattle.half_store.proofs.lemmas.table.Circle.{bucket_after-probe_distance, distance_same}
+use Rattle.half_store.proofs.lemmas.table.Counts.{count_to, count_to-same, count_to-le, count_to_more, count_to-none, count_by-count_to}
+use Rattle.half_store.proofs.lemmas.table.Counts.{ahead_size}
+use Rattle.half_store.proofs.lemmas.table.Reach.{is_loaded-yes, is_loaded-no, loaded_run-is, reach-some}
+use Rattle.half_store.specs.Work.{Work, one_looked, one_compared}
+use Rattle.half_store.proofs.lemmas.table.Slots.{Probes, home_distance, Probes-start, Probes-vacancy, Probes-distance, Probes-next}
+use Rattle.half_store.proofs.lemmas.table.Slots.{slot_cases, full_from, home-lt, full-lt, vacancy_for, full_loaded, vacant_unloaded}
+use Rattle.half_store.proofs.lemmas.table.Slots.{stored_passes, passes_stored}
+
+-- the hashes are those that are stored, counted by each test
+abbrev pub SameCounts : List ℕ → List (Option ℕ) → Type 0
+SameCounts hashes slots = (test : ℕ → Bool) → count_by test hashes ≡ count_by (stored test) slots
+
+module _ (slots : List (Option ℕ)) where
+  abbrev m : ℕ
+  m = length slots
+
+  -- is the bucket one of the first d from `start`, with this hash?
+  abbrev passes : ℕ → ℕ → ℕ → ℕ → Bool
+  passes start hash d p = nat_lt (probe_distance m start p) d && stored (λ held. held == hash) (slot_at slots p)
+
+  -- how many pairs of this hash lie in the first d buckets from `start`
+  abbrev pub passed : ℕ → ℕ → ℕ → ℕ
+  passed start hash d = count_to (passes start hash d) m
+
+  pub passed-zero : (start hash : ℕ) → passed start hash 0 ≡ 0
+  passed-zero start hash = count_to-none (passes start hash 0) m (λ p l. and_left _ _ (le-ltb (probe_distance m start p) 0 (omega arith)))
+
+  same_and : (a b c : Bool) → a ≡ b → (a && c) ≡ (b && c)
+  same_and a b c e = ap (λ x. x && c) e
+
+  same_order : (s d : ℕ) → s ≢ d → nat_lt s d ≡ nat_lt s (d + 1)
+  same_order s d ne = elim (cases_lt s d)
+      [ inl l ↦ lt-ltb s d l ∙ sym (lt-ltb s (d + 1) (omega arith)) | inr g ↦ le-ltb s d g ∙ sym (le-ltb s (d + 1) (omega arith)) ]
+
+  pub passed-skip : (start hash d p : ℕ) → start < m → p < m → probe_distance m start p ≡ d
+      → stored (λ held. held == hash) (slot_at slots p) ≡ false → passed start hash (d + 1) ≡ passed start hash d
+  passed-skip start hash d p in_start in_p at other =
+      sym (count_to-same (passes start hash d) (passes start hash (d + 1)) m (λ q in_q.
+      elim (cases_eq (probe_distance m start q) d) [
+        | inl e ↦
+            let same : q ≡ p = distance_same m start in_start q p in_q in_p (e ∙ sym at) in
+            let none : stored (λ held. held == hash) (slot_at slots q) ≡ false =
+            ap (λ x. stored (λ held. held == hash) (slot_at slots x)) same ∙ other in
+            and_right _ _ none ∙ sym (and_right _ _ none)
+        | inr ne ↦ same_and _ _ _ (same_order _ _ ne)
+      ]))
+
+  pub passed-one : (start hash d p : ℕ) → start < m → p < m → probe_distance m start p ≡ d → slot_at slots p ≡ Some hash
+      → passed start hash (d + 1) ≡ passed start hash d + 1
+  passed-one start hash d p in_start in_p at is =
+      count_to_more (passes start hash d) (passes start hash (d + 1)) m p in_p
+      (and_left _ _ (le-ltb (probe_distance m start p) d (omega arith)))
+      (and_from _ _ (lt-ltb (probe_distance m start p) (d + 1) (omega arith))
+      (passes_stored slots (λ held. held == hash) (slot_at slots p) hash is (eq-eqb hash hash refl)))
+      (λ q in_q ne. same_and _ _ _ (same_order _ _ (λ e. ne (distance_same m start in_start q p in_q in_p (e ∙ sym at)))))
+
+  pub passed-le : (start hash d : ℕ) → passed start hash d ≤ count_by (stored (λ held. held == hash)) slots
+  passed-le start hash d =
+      omega (
+        arith,
+        count_to-le (passes start hash d) (λ q. stored (λ held. held == hash) (slot_at slots q)) m
+            (λ q in_q e. (and_parts _ _ e).1),
+        count_by-count_to (stored (λ held. held == hash)) slots None,
+      )
+
+module _ (slots : List (Option ℕ)) (ordered : ProbeInvariant slots) where
+  -- a pair that a probe comes to lies before where the probe for its hash ends
+  pub found-before : (hash p v : ℕ) → slot_at slots p ≡ Some hash → IsVacancyFor slots hash v
+      → distance_from_home slots hash p < distance_from_home slots hash v
+  found-before hash p v is w = ordered.before p v hash is w.within w.vacant
+
+  -- all pairs of the hash lie before where the probe ends
+  pub passed-all : (hash p : ℕ) → IsVacancyFor slots hash p
+      → passed slots (home (m slots) hash) hash (distance_from_home slots hash p) ≡ count_by (stored (λ held. held == hash)) slots
+  passed-all hash p w =
+      count_to-same (passes slots (home (m slots) hash) hash (distance_from_home slots hash p))
+      (λ q. stored (λ held. held == hash) (slot_at slots q)) (m slots) (λ q in_q.
+      elim (cases_Bool (stored (λ held. held == hash) (slot_at slots q))) [
+        | inl yes_q ↦
+            let s = stored_passes slots (λ held. held == hash) (slot_at slots q) yes_q in
+            let is : slot_at slots q ≡ Some hash = s.1 ∙ ap Some (eqb-true _ _ s.2) in
+            and_from _ _ (lt-ltb _ _ (found-before hash q p is w)) yes_q ∙ sym yes_q
+        | inr no_q ↦ and_right _ _ no_q ∙ sym no_q
+      ])
+      ∙ sym (count_by-count_to (stored (λ held. held == hash)) slots None)
+
+  module _ (hashes : List ℕ) (counted : SameCounts hashes slots) where
+    loaded_where_full : (b : ℕ) → slot_at slots b ≢ None → SomeVacant slots → is_loaded hashes (m slots) b ≡ true
+    unfolding load
+    loaded_where_full b full v =
+        let l = full_loaded slots ordered b (full-lt slots b full) full v in
+        is_loaded-yes hashes (m slots) b
+        (l.0, l.1, l.2, rw (counted (λ hash. nat_lt (probe_distance (m slots) (home (m slots) hash) b) l.0)) l.3)
+
+    unloaded_where_vacant : (b : ℕ) → b < (m slots) → slot_at slots b ≡ None → is_loaded hashes (m slots) b ≡ false
+    unfolding load
+    unloaded_where_vacant b in_b none =
+        is_loaded-no hashes (m slots) b
+        (λ size one small. rw (counted (λ hash. nat_lt (probe_distance (m slots) (home (m slots) hash) b) size))
+        (vacant_unloaded slots ordered b in_b none size one small))
+
+    full_on_the_way : (b p : ℕ) → b < (m slots) → p < (m slots) → FullBefore slots b p → (k : ℕ) → k < probe_distance (m slots) b p
+        → slot_at slots (bucket_after (m slots) b k) ≢ None
+    full_on_the_way b p in_b in_p full k l =
+        let s = probe_distance-lt (m slots) b in_b p in_p in
+        full (bucket_after (m slots) b k) (bucket_after-lt (m slots) b in_b k (omega arith))
+        (subst (λ n. n < probe_distance (m slots) b p) (sym (probe_distance-bucket_after (m slots) b in_b k (omega arith))) l)
+
+    -- a probe that ends at an empty bucket has read what `reach` says
+    pub reach_at_vacancy : (hash p : ℕ) → IsVacancyFor slots hash p → reach hashes (m slots) hash ≡ distance_from_home slots hash p + 1
+    reach_at_vacancy hash p w =
+        let in_p : p < (m slots) = w.within in
+        let b : ℕ = home (m slots) hash in
+        let in_b : b < (m slots) = home-lt (m slots) hash (omega arith) in
+        let d : ℕ = probe_distance (m slots) b p in
+        let l : d < (m slots) = probe_distance-lt (m slots) b in_b p in_p in
+        let v : SomeVacant slots = (p, in_p, w.vacant) in
+        let run : (k : ℕ) → k < d
+        → is_loaded hashes (m slots) (bucket_after (m slots) b k) ≡ true =
+        λ k x. loaded_where_full (bucket_after (m slots) b k) (full_on_the_way b p in_b in_p w.passed k x) v in
+        let stop : is_loaded hashes (m slots) (bucket_after (m slots) b d) ≡ false =
+        ap (is_loaded hashes (m slots)) (bucket_after-probe_distance (m slots) b in_b p in_p) ∙ unloaded_where_vacant p in_p w.vacant in
+        let r = loaded_run-is hashes (m slots) ((m slots) - 1) d b in_b (omega arith) (omega arith) run (λ x. stop) in
+        reach-some hashes (m slots) hash (omega arith) ∙ omega arith
+
+    -- a probe that comes to a pair of its hash has not come so far
+    pub reach_past_pair : (hash p : ℕ) → slot_at slots p ≡ Some hash → SomeVacant slots
+        → distance_from_home slots hash p + 2 ≤ reach hashes (m slots) hash
+    reach_past_pair hash p is v =
+        let w = vacancy_for slots hash v in
+        let near = found-before hash p w.0 is w.1 in
+        omega (arith, reach_at_vacancy hash w.0 w.1)
+
+    -- as many buckets are full as pairs are held
+    pub reach_short : (hash : ℕ) → SomeVacant slots → reach hashes (m slots) hash ≤ length hashes + 1
+    reach_short hash v =
+        let w = vacancy_for slots hash v in
+        let p : ℕ = w.0 in
+        let in_p : p < (m slots) = w.1.within in
+        let b : ℕ = home (m slots) hash in
+        let in_b : b < (m slots) = home-lt (m slots) hash (omega arith) in
+        let back : ℕ = probe_distance (m slots) b p in
+        let l : back < (m slots) = probe_distance-lt (m slots) b in_b p in_p in
+        let all : ℕ → Bool = λ h. true in
+        let full : (q : ℕ) → q < (m slots) → nat_lt (probe_distance (m slots) b q) back ≡ true
+        → stored all (slot_at slots q) ≡ true = λ q in_q near.
+        elim (slot_cases (slot_at slots q)) [
+          | inl z ↦ absurd (w.1.passed q in_q (ltb-true _ _ near) z)
+          | inr (h, is) ↦ passes_stored slots all (slot_at slots q) h is refl
+        ] in
+        let some = count_to-le (λ q. nat_lt (probe_distance (m slots) b q) back) (λ q. stored all (slot_at slots q)) (m slots) full in
+        let ahead = ahead_size (m slots) b back in_b (omega arith) in
+        let held = count_by-le-length all hashes in
+        let e = counted all in
+        let f = count_by-count_to (stored all) slots None in
+        omega (arith, reach_at_vacancy hash p w.1)
+
+-- a search has passed full buckets, each counted; each pair of the hash among them was compared once, and refused
+pub record Searches (slots : List (Option ℕ)) (hash : ℕ) (Refused : ℕ → Type 0) (bucket : ℕ) (old new : Work) : Type 0 where
+  pub probe : Probes slots hash bucket
+  pub asked : new.asked ≡ old.asked
+  pub looked : new.looked ≡ old.looked + distance_from_home slots hash bucket
+  pub compared : new.compared ≡ old.compared + passed slots (home (length slots) hash) hash (distance_from_home slots hash bucket)
+  pub refused : (other : ℕ) → slot_at slots other ≡ Some hash → distance_from_home slots hash other < distance_from_home slots hash bucket
+      → Refused other
+
+pub Searches-start : (slots : List (Option ℕ)) (hash : ℕ) (Refused : ℕ → Type 0) (bucket : ℕ) (w : Work) → bucket < length slots
+    → bucket ≡ home (length slots) hash
+    → Searches slots hash Refused bucket w w
+Searches-start slots hash Refused bucket w in_bucket e =
+    let none = home_distance slots hash bucket in_bucket e in
+    record {
+      probe = Probes-start slots hash bucket in_bucket e;
+      asked = refl;
+      looked = omega arith;
+      compared = omega (arith, ap (passed slots (home (length slots) hash) hash) none, passed-zero slots (home (length slots) hash) hash);
+      refused = λ o is near. absurd (omega arith);
+    }
+
+module _ {slots : List (Option ℕ)} {hash : ℕ} {Refused : ℕ → Type 0} {bucket : ℕ} {old now : Work}
+    (s : Searches slots hash Refused bucket old now) where
+  abbrev far : ℕ
+  far = distance_from_home slots hash bucket
+
+  start_in : home (length slots) hash < length slots
+  start_in = home-lt (length slots) hash (omega (arith, s.probe.inside))
+
+  module _ (vacant : SomeVacant slots) (next : ℕ) (new : Work) (e : next ≡ bucket_after (length slots) bucket 1) where
+    goes_on : slot_at slots bucket ≢ None → new.asked ≡ now.asked → new.looked ≡ now.looked + 1
+        → new.compared ≡ old.compared + passed slots (home (length slots) hash) hash (far + 1)
+        → (slot_at slots bucket ≡ Some hash → Refused bucket) → Searches slots hash Refused next old new
+    goes_on full asked looked compared here =
+        let one = Probes-distance s.probe vacant next full e in
+        record {
+          probe = Probes-next s.probe vacant next full e;
+          asked = asked ∙ s.asked;
+          looked = omega (arith, looked, s.looked);
+          compared = omega (arith, compared, ap (passed slots (home (length slots) hash) hash) one);
+          refused = λ o is near. elim (cases_eq (distance_from_home slots hash o) far) [
+            | inr ne ↦ s.refused o is (omega arith)
+            | inl at ↦
+                let same = distance_same (length slots) (home (length slots) hash) start_in o bucket
+                (full-lt slots o (full_from _ hash is)) s.probe.inside at in
+                subst Refused (sym same) (here (ap (slot_at slots) (sym same) ∙ is))
+          ];
+        }
+
+    -- the bucket holds another hash
+    pub Searches-skip : (held : ℕ) → slot_at slots bucket ≡ Some held → held ≢ hash → new ≡ one_looked now
+        → Searches slots hash Refused next old new
+    Searches-skip held is other work =
+        let same = passed-skip slots (home (length slots) hash) hash far bucket start_in s.probe.inside refl
+        (ap (stored (λ h. h == hash)) is ∙ ne_eqb held hash other) in
+        goes_on (full_from _ held is) (ap (λ (w : Work). w.asked) work) (ap (λ (w : Work). w.looked) work)
+        (omega (arith, ap (λ (w : Work). w.compared) work, s.compared, same))
+        (λ z. absurd (other (same_Some held hash (sym is ∙ z))))
+
+    -- the bucket holds a pair of the hash, which was refused
+    pub Searches-refused : slot_at slots bucket ≡ Some hash → Refused bucket → new ≡ one_compared (one_looked now)
+        → Searches slots hash Refused next old new
+    Searches-refused is no_match work =
+        let more = passed-one slots (home (length slots) hash) hash far bucket start_in s.probe.inside refl is in
+        goes_on (full_from _ hash is) (ap (λ (w : Work). w.asked) work) (ap (λ (w : Work). w.looked) work)
+        (omega (arith, ap (λ (w : Work). w.compared) work, s.compared, more))
+        (λ z. no_match)
+
+  -- the bucket holds a pair of the hash: at most as many comparisons as there are such pairs
+  pub Searches-found : slot_at slots bucket ≡ Some hash → now.compared + 1 ≤ old.compared + count_by (stored (λ held. held == hash)) slots
+  Searches-found is =
+      omega (
+        arith,
+        s.compared,
+        passed-one slots (home (length slots) hash) hash far bucket start_in s.probe.inside refl is,
+        passed-le slots (home (length slots) hash) hash (far + 1),
+      )
+
+  module _ (ordered : ProbeInvariant slots) (none : slot_at slots bucket ≡ None) where
+    -- the bucket is empty: each pair of the hash was compared
+    pub Searches-missing : now.compared ≡ old.compared + count_by (stored (λ held. held == hash)) slots
+    Searches-missing = omega (arith, s.compared, passed-all slots ordered hash bucket (Probes-vacancy s.probe none))

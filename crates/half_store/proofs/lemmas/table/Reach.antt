@@ -1,0 +1,79 @@
+-- How far a probe goes, said of loads alone.
+use Rattle.std.proofs.Common.{◌≡◌, ℕ, zero, suc, ◌-◌, ◌<◌, ◌≤◌, Bool, true, false, leb, ◌||◌, inl, inr, refl, ap, subst, arith, List}
+use Rattle.std.proofs.lemmas.Bool.{cases_eq, le-leb, lt-leb, ne_eqb, false≢true}
+use Rattle.half_store.specs.Reach.{home, bucket_after, load, loaded_within, is_loaded, loaded_run, reach, IsLoaded}
+use Rattle.half_store.proofs.lemmas.table.Circle.{bucket_after-zero, after_next, bucket_after-lt}
+
+module _ (hashes : List ℕ) (m : ℕ) where
+  or_right : (a b : Bool) → b ≡ true → (a || b) ≡ true
+  or_right true b e = refl
+  or_right false b e = e
+
+  or_left : (a b : Bool) → a ≡ true → (a || b) ≡ true
+  or_left true b e = refl
+  or_left false b e = absurd (false≢true e)
+
+  or_neither : (a b : Bool) → a ≡ false → b ≡ false → (a || b) ≡ false
+  or_neither true b e f = e
+  or_neither false b e f = f
+
+  pub loaded_within-yes : (last size most : ℕ) → 1 ≤ size → size ≤ most → size ≤ load hashes m last size
+      → loaded_within hashes m last most ≡ true
+  unfolding loaded_within
+  loaded_within-yes last size zero one small full = absurd (omega arith)
+  loaded_within-yes last size (suc most) one small full =
+      elim (cases_eq size (suc most)) [
+        | inl e ↦ or_left (leb (suc most) (load hashes m last (suc most))) (loaded_within hashes m last most)
+            (le-leb _ _ (subst (λ n. n ≤ load hashes m last n) e full))
+        | inr ne ↦ or_right (leb (suc most) (load hashes m last (suc most))) (loaded_within hashes m last most)
+            (loaded_within-yes last size most one (omega arith) full)
+      ]
+
+  pub loaded_within-no : (last most : ℕ) → ((size : ℕ) → 1 ≤ size → size ≤ most → load hashes m last size < size)
+      → loaded_within hashes m last most ≡ false
+  unfolding loaded_within
+  loaded_within-no last zero h = refl
+  loaded_within-no last (suc most) h =
+      or_neither (leb (suc most) (load hashes m last (suc most))) (loaded_within hashes m last most)
+      (lt-leb _ _ (h (suc most) (omega arith) (omega arith))) (loaded_within-no last most (λ size one small. h size one (omega arith)))
+
+  pub is_loaded-yes : (last : ℕ) → IsLoaded hashes m last → is_loaded hashes m last ≡ true
+  is_loaded-yes last (size, one, small, full) = loaded_within-yes last size (m - 1) one (omega arith) full
+
+  pub is_loaded-no : (last : ℕ) → ((size : ℕ) → 1 ≤ size → size < m → load hashes m last size < size) → is_loaded hashes m last ≡ false
+  is_loaded-no last h = loaded_within-no last (m - 1) (λ size one small. h size one (omega arith))
+
+  -- the run of loaded buckets from b on, where d of them are loaded and the next is not
+  pub loaded_run-is : (most d b : ℕ) → b < m → most < m → d ≤ most → ((k : ℕ) → k < d → is_loaded hashes m (bucket_after m b k) ≡ true)
+      → (d < most → is_loaded hashes m (bucket_after m b d) ≡ false) → loaded_run hashes m most b ≡ d
+  unfolding loaded_run
+  loaded_run-is zero d b in_b in_most small run stop = omega arith
+  loaded_run-is (suc most) zero b in_b in_most small run stop =
+      let e : is_loaded hashes m b ≡ false = rw (← bucket_after-zero m b in_b) (stop (omega arith)) in
+      rw e refl
+  loaded_run-is (suc most) (suc d) b in_b in_most small run stop =
+      let e : is_loaded hashes m b ≡ true = rw (← bucket_after-zero m b in_b) (run 0 (omega arith)) in
+      let rest = loaded_run-is most d (bucket_after m b 1) (bucket_after-lt m b in_b 1 (omega arith)) (omega arith) (omega arith)
+      (λ k h. rw (after_next m b in_b k (omega arith)) (run (suc k) (omega arith)))
+      (λ h. rw (after_next m b in_b d (omega arith)) (stop (omega arith))) in
+      rw e (ap suc rest)
+
+  -- and where d of them are loaded
+  pub loaded_run-ge : (most d b : ℕ) → b < m → most < m → d ≤ most → ((k : ℕ) → k < d → is_loaded hashes m (bucket_after m b k) ≡ true)
+      → d ≤ loaded_run hashes m most b
+  unfolding loaded_run
+  loaded_run-ge most zero b in_b in_most small run = omega arith
+  loaded_run-ge zero (suc d) b in_b in_most small run = omega arith
+  loaded_run-ge (suc most) (suc d) b in_b in_most small run =
+      let e : is_loaded hashes m b ≡ true = rw (← bucket_after-zero m b in_b) (run 0 (omega arith)) in
+      let rest = loaded_run-ge most d (bucket_after m b 1) (bucket_after-lt m b in_b 1 (omega arith)) (omega arith) (omega arith)
+      (λ k h. rw (after_next m b in_b k (omega arith)) (run (suc k) (omega arith))) in
+      rw e (omega arith)
+
+  pub reach-none : (hash : ℕ) → m ≡ 0 → reach hashes m hash ≡ 0
+  unfolding reach
+  reach-none hash e = rw e refl
+
+  pub reach-some : (hash : ℕ) → 0 < m → reach hashes m hash ≡ suc (loaded_run hashes m (m - 1) (home m hash))
+  unfolding reach
+  reach-some hash h = rw (ne_eqb m 0 (λ e. omega arith)) refl

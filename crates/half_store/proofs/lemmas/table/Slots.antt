@@ -1,0 +1,208 @@
+-- Full buckets are loaded, empty ones are not; so a probe ends where `reach` says.
+use Rattle.std.proofs.Common.{◌≡◌, ◌≢◌, ℕ, zero, suc, ◌+◌, ◌-◌, ◌<◌, ◌≤◌, Bool, true, false, ltb, nat_lt, ◌⊎◌, inl, inr, refl, sym, ap, ◌∙◌}
+use Rattle.std.proofs.Common.{subst, arith, List, length, set, Option, Some, None, is_some, count_by}
+use Rattle.std.proofs.lemmas.Bool.{cases_lt, cases_eq, lt-ltb, false≢true, true≢false}
+use Rattle.std.proofs.lemmas.Nat.{mod_below}
+use Rattle.std.proofs.lemmas.List.{get_or_past, get_or-set_same, get_or-set_other}
+use borrow.Author.Tests.{ltb-true}
+use Rattle.std.specs.Prelude.{option_map}
+use Rattle.half_store.specs.Reach.{home, probe_distance, bucket_after}
+use Rattle.half_store.specs.Slots.{slot_at, stored, FullBefore, IsVacancyFor, SomeVacant, ProbeInvariant, distance_from_home}
+use Rattle.half_store.proofs.lemmas.table.Circle.{probe_distance-lt, distance_self, bucket_after-lt, next_farther}
+use Rattle.half_store.proofs.lemmas.table.Circle.{probe_distance-bucket_after, bucket_after-probe_distance, distance_same, down-lt}
+use Rattle.half_store.proofs.lemmas.table.Circle.{probe_distance-down, down-probe_distance, home_in_stretch, nearer_than_home, after_is}
+use Rattle.half_store.proofs.lemmas.table.Counts.{count_to, count_to-le, count_to-lt, count_by-count_to, stretch_size}
+
+pub slot_cases : (o : Option ℕ) → (o ≡ None) ⊎ ((hash : ℕ) × (o ≡ Some hash))
+slot_cases None = inl refl
+slot_cases (Some h) = inr (h, refl)
+
+pub some≢none : (h : ℕ) → Some h ≡ None → ⊥
+some≢none h e = cc
+
+-- a bucket that holds a hash is not empty
+pub full_from : (o : Option ℕ) (h : ℕ) → o ≡ Some h → o ≢ None
+full_from o h e z = some≢none h (sym e ∙ z)
+
+-- a bucket that was read is empty, or full
+pub none_read : (o : Option (ℕ × ℕ)) {slot : Option ℕ} → option_map (λ p. p.1) o ≡ slot → is_some o ≡ false → slot ≡ None
+none_read None e none = sym e
+none_read (Some p) e none = absurd (true≢false none)
+
+pub some_read : (o : Option (ℕ × ℕ)) {slot : Option ℕ} → option_map (λ p. p.1) o ≡ slot → is_some o ≡ true → slot ≢ None
+some_read None e some z = false≢true some
+some_read (Some p) e some z = some≢none p.1 (e ∙ z)
+
+-- a bucket that was written, and each other one
+pub slot_set : (slots : List (Option ℕ)) (p : ℕ) (o : Option ℕ) → p < length slots → slot_at (set slots p o) p ≡ o
+slot_set slots p o l = get_or-set_same slots p o None l
+
+pub slot_other : (slots : List (Option ℕ)) (p q : ℕ) (o : Option ℕ) → q ≢ p → slot_at (set slots p o) q ≡ slot_at slots q
+slot_other slots p q o ne = get_or-set_other slots p q o None ne
+
+pub home-lt : (m h : ℕ) → 0 < m → home m h < m
+home-lt m h p = mod_below h m p
+
+module _ (slots : List (Option ℕ)) where
+  abbrev m : ℕ
+  m = length slots
+
+  -- full buckets lie within
+  pub full-lt : (p : ℕ) → slot_at slots p ≢ None → p < m
+  full-lt p full = elim (cases_lt p m) [ inl l ↦ l | inr g ↦ absurd (full (get_or_past slots p None g)) ]
+
+  -- the first empty bucket among those that f lists
+  pub first_none : (f : ℕ → ℕ) (n : ℕ)
+      → ((k : ℕ) → k < n → slot_at slots (f k) ≢ None) ⊎
+      ((k : ℕ) × (k < n) × (slot_at slots (f k) ≡ None) × ((j : ℕ) → j < k → slot_at slots (f j) ≢ None))
+  first_none f zero = inl (λ k l. absurd (omega arith))
+  first_none f (suc n) =
+      elim (first_none f n) [
+        | inr (k, l, none, before) ↦ inr (k, omega arith, none, before)
+        | inl all ↦ elim (slot_cases (slot_at slots (f n))) [
+          | inl none ↦ inr (n, omega arith, none, all)
+          | inr (h, is) ↦ inl (λ k l. elim (cases_eq k n)
+              [ inl e ↦ subst (λ i. slot_at slots (f i) ≢ None) (sym e) (full_from _ h is) | inr ne ↦ all k (omega arith) ])
+        ]
+      ]
+
+  -- a probe from b that ends at an empty bucket
+  pub probe_ends : (b : ℕ) → b < m → SomeVacant slots → (p : ℕ) × (p < m) × (slot_at slots p ≡ None) × FullBefore slots b p
+  probe_ends b in_b (v, in_v, none_v) =
+      elim (first_none (λ k. bucket_after m b k) m) [
+        | inl all ↦ absurd (all (probe_distance m b v) (probe_distance-lt m b in_b v in_v)
+            (ap (slot_at slots) (bucket_after-probe_distance m b in_b v in_v) ∙ none_v))
+        | inr (k, l, none, before) ↦ (
+          bucket_after m b k,
+          bucket_after-lt m b in_b k (omega arith),
+          none,
+          λ o in_o nearer. subst (λ q. slot_at slots q ≢ None) (bucket_after-probe_distance m b in_b o in_o)
+              (before (probe_distance m b o) (subst (λ n. probe_distance m b o < n) (probe_distance-bucket_after m b in_b k l) nearer)),
+        )
+      ]
+
+  pub vacancy_for : (hash : ℕ) → SomeVacant slots → (p : ℕ) × IsVacancyFor slots hash p
+  vacancy_for hash v =
+      let w = probe_ends (home m hash) (home-lt m hash (let l = v.1 in omega arith)) v in
+      (w.0, record { within = w.1; vacant = w.2; passed = w.3 })
+
+  -- how many stored hashes have their home in the stretch
+  abbrev pub slots_load : ℕ → ℕ → ℕ
+  slots_load b size = count_by (stored (λ hash. nat_lt (probe_distance m (home m hash) b) size)) slots
+
+  abbrev in_stretch : ℕ → ℕ → ℕ → Bool
+  in_stretch b size p = stored (λ hash. nat_lt (probe_distance m (home m hash) b) size) (slot_at slots p)
+
+  slots_load-count_to : (b size : ℕ) → slots_load b size ≡ count_to (in_stretch b size) m
+  slots_load-count_to b size = count_by-count_to (stored (λ hash. nat_lt (probe_distance m (home m hash) b) size)) slots None
+
+  -- a stored hash that passes a test
+  pub stored_passes : (test : ℕ → Bool) (o : Option ℕ) → stored test o ≡ true → (hash : ℕ) × (o ≡ Some hash) × (test hash ≡ true)
+  stored_passes test None e = absurd (false≢true e)
+  stored_passes test (Some h) e = (h, refl, e)
+
+  pub passes_stored : (test : ℕ → Bool) (o : Option ℕ) (hash : ℕ) → o ≡ Some hash → test hash ≡ true → stored test o ≡ true
+  passes_stored test o hash e t = rw e t
+
+  module _ (ordered : ProbeInvariant slots) where
+    -- the full buckets back to the nearest empty one are a stretch that holds the homes of all its pairs
+    pub full_loaded : (b : ℕ) → b < m → slot_at slots b ≢ None → SomeVacant slots → (size : ℕ) × (1 ≤ size) × (size < m)
+        × (size ≤ slots_load b size)
+    full_loaded b in_b full (v, in_v, none_v) =
+        elim (first_none (λ k. bucket_after m b (m - k)) m) [
+          | inl all ↦ absurd (all (probe_distance m v b) (probe_distance-lt m v in_v b in_b)
+              (ap (slot_at slots) (down-probe_distance m b in_b v in_v) ∙ none_v))
+          | inr (k, l, none, before) ↦
+              let e : ℕ = bucket_after m b (m - k) in
+              let in_e : e < m = down-lt m b in_b k (omega arith) in
+              let far : probe_distance m e b ≡ k = probe_distance-down m b in_b k l in
+              let some : 1 ≤ k = elim (cases_eq k 0)
+              [ inl z ↦ absurd (full (ap (slot_at slots) (omega (arith, after_is m b (m - k))) ∙ none)) | inr ne ↦ omega arith ] in
+              let homes : (p : ℕ) → p < m → ltb (probe_distance m p b) k ≡ true → in_stretch b k p ≡ true = λ p in_p near.
+              let n : probe_distance m p b < k = ltb-true _ _ near in
+              elim (slot_cases (slot_at slots p)) [
+                | inl z ↦ absurd (before (probe_distance m p b) n (ap (slot_at slots) (down-probe_distance m b in_b p in_p) ∙ z))
+                | inr (h, is) ↦
+                    let in_h = home-lt m h (omega arith) in
+                    let x = ordered.before p e h is in_e none in
+                    let y = home_in_stretch m (home m h) p e b in_h in_p in_e in_b x (omega arith) in
+                    passes_stored (λ hash. nat_lt (probe_distance m (home m hash) b) k) (slot_at slots p) h is (lt-ltb _ _ (omega arith))
+              ] in
+              let count = count_to-le (λ p. ltb (probe_distance m p b) k) (in_stretch b k) m homes in
+              (k, some, l, omega (arith, stretch_size m b k in_b (omega arith), slots_load-count_to b k))
+        ]
+
+    -- no pair passes an empty bucket, so those in its home bucket in a stretch that ends there lie in the rest of it
+    pub vacant_unloaded : (b : ℕ) → b < m → slot_at slots b ≡ None → (size : ℕ) → 1 ≤ size → size < m → slots_load b size < size
+    vacant_unloaded b in_b none size one small =
+        let inside : (p : ℕ) → p < m → in_stretch b size p ≡ true → ltb (probe_distance m p b) size ≡ true = λ p in_p near.
+        let s = stored_passes _ (slot_at slots p) near in
+        let h : ℕ = s.0 in
+        let n : probe_distance m (home m h) b < size = ltb-true _ _ s.2 in
+        let x = ordered.before p b h s.1 in_b none in
+        let y = nearer_than_home m (home m h) p b (home-lt m h (omega arith)) in_p in_b x in
+        lt-ltb _ _ (omega arith) in
+        let out : in_stretch b size b ≡ false = ap (stored (λ hash. nat_lt (probe_distance m (home m hash) b) size)) none in
+        let own : ltb (probe_distance m b b) size ≡ true = lt-ltb _ _ (omega (arith, distance_self m b in_b)) in
+        let fewer = count_to-lt (in_stretch b size) (λ p. ltb (probe_distance m p b) size) m b in_b out own inside in
+        omega (arith, stretch_size m b size in_b (omega arith), slots_load-count_to b size)
+
+-- a probe for the hash has passed full buckets and is at this one
+pub record Probes (slots : List (Option ℕ)) (hash bucket : ℕ) : Type 0 where
+  pub inside : bucket < length slots
+  pub passed : FullBefore slots (home (length slots) hash) bucket
+
+module _ (slots : List (Option ℕ)) (hash bucket : ℕ) (in_bucket : bucket < length slots) (e : bucket ≡ home (length slots) hash) where
+  -- it begins at its home
+  pub home_distance : distance_from_home slots hash bucket ≡ 0
+  home_distance = ap (λ b. probe_distance (length slots) b bucket) (sym e) ∙ distance_self (length slots) bucket in_bucket
+
+  pub Probes-start : Probes slots hash bucket
+  Probes-start = record { inside = in_bucket; passed = λ o in_o near. absurd (omega (arith, home_distance)) }
+
+module _ {slots : List (Option ℕ)} {hash bucket : ℕ} where
+  pub Probes-vacancy : Probes slots hash bucket → slot_at slots bucket ≡ None → IsVacancyFor slots hash bucket
+  Probes-vacancy w none = record { within = w.inside; vacant = none; passed = w.passed }
+
+  -- from a full bucket it goes on to the next, and not past all
+  module _ (w : Probes slots hash bucket) (vacant : SomeVacant slots) (next : ℕ) (full : slot_at slots bucket ≢ None)
+      (e : next ≡ bucket_after (length slots) bucket 1) where
+    in_home : home (length slots) hash < length slots
+    in_home = home-lt (length slots) hash (omega (arith, vacant.1))
+
+    same_bucket : (o : ℕ) → o < length slots → distance_from_home slots hash o ≡ distance_from_home slots hash bucket
+        → slot_at slots o ≢ None
+    same_bucket o in_o at =
+        subst (λ p. slot_at slots p ≢ None)
+        (sym (distance_same (length slots) (home (length slots) hash) in_home o bucket in_o w.inside at)) full
+
+    farther : distance_from_home slots hash bucket < distance_from_home slots hash vacant.0
+    farther =
+        elim (cases_lt (distance_from_home slots hash bucket) (distance_from_home slots hash vacant.0)) [
+          | inl far ↦ far
+          | inr near ↦ elim (cases_eq (distance_from_home slots hash vacant.0) (distance_from_home slots hash bucket)) [
+            | inl at ↦ absurd (same_bucket vacant.0 vacant.1 at vacant.2)
+            | inr ne ↦ absurd (w.passed vacant.0 vacant.1 (omega arith) vacant.2)
+          ]
+        ]
+
+    pub Probes-distance : distance_from_home slots hash next ≡ distance_from_home slots hash bucket + 1
+    Probes-distance = next_farther (length slots) (home (length slots) hash) bucket vacant.0 next in_home w.inside vacant.1 farther e
+
+    pub Probes-next : Probes slots hash next
+    Probes-next = record {
+      inside = omega (arith, after_is (length slots) bucket 1, w.inside);
+      passed = λ o in_o near. elim (cases_eq (distance_from_home slots hash o) (distance_from_home slots hash bucket)) [
+        | inl at ↦ same_bucket o in_o at
+        | inr ne ↦ w.passed o in_o (omega (arith, Probes-distance))
+      ];
+    }
+
+    -- fewer buckets are ahead of the next one
+    pub Probes-ahead : length slots - distance_from_home slots hash next < length slots - distance_from_home slots hash bucket
+    Probes-ahead = omega (
+      arith,
+      Probes-distance,
+      farther,
+      probe_distance-lt (length slots) (home (length slots) hash) in_home vacant.0 vacant.1,
+    )

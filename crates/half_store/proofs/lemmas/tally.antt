@@ -1,0 +1,15 @@
+-- Work that is added up.
+use Rattle.std.proofs.Common.{◌≡◌, ℕ, ◌+◌, refl, ap, arith}
+use Rattle.half_store.specs.Probe.{looked_more}
+use Rattle.half_store.specs.Work.{Work, one_looked}
+
+pub same_work : (a b : Work) → a.asked ≡ b.asked → a.compared ≡ b.compared → a.looked ≡ b.looked → a ≡ b
+same_work a b x y z = λ i. record { asked = x i; compared = y i; looked = z i }
+
+pub looked_more-zero : (w : Work) → w ≡ looked_more w 0
+looked_more-zero w = same_work w (looked_more w 0) refl refl (omega arith)
+
+pub looked_more-one : (w v : Work) (n : ℕ) → v ≡ looked_more w n → one_looked v ≡ looked_more w (n + 1)
+looked_more-one w v n e =
+    same_work (one_looked v) (looked_more w (n + 1)) (ap (λ (x : Work). x.asked) e) (ap (λ (x : Work). x.compared) e)
+    (omega (arith, ap (λ (x : Work). x.looked) e))

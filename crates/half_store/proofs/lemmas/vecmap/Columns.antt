@@ -1,0 +1,62 @@
+-- What the two columns of a `VecMap` are to its list of pairs.
+use Rattle.std.proofs.Common.{◌≡◌, ℕ, List, length, refl, sym, ap, ◌∙◌}
+use Rattle.std.proofs.lemmas.Map.Made.{keys_of-zip}
+use Rattle.std.proofs.lemmas.Slice.Zip.{seconds-zip}
+use Rattle.std.specs.List.{zip, refill}
+use Rattle.std.specs.declared.vec.Vec.{Vec}
+use Rattle.std.specs.Map.{keys_of, values_of}
+use Rattle.half_store.proofs.lemmas.vecmap.Zip.{length-zip, zip-refill}
+use Rattle.half_store.specs.Columns.{Columns, AreEven, columns_with}
+use Rattle.half_store.specs.Pairs.{set_values}
+
+module _ {K V Z : Type 0} where
+  -- what a map sees of its columns
+  abbrev pub seen : Vec K Z → Vec V Z → Columns K V
+  seen keys values = record { pairs = zip keys.items values.items; capacity = keys.cap }
+
+  -- what is known of the columns of a map whose pairs and capacity are these
+  pub record Opened (keys : Vec K Z) (values : Vec V Z) (map : Columns K V) : Type 0 where
+    pub pairs : zip keys.items values.items ≡ map.pairs
+    pub capacity : keys.cap ≡ map.capacity
+    pub values_capacity : values.cap ≡ map.capacity
+    pub keys_are : keys.items ≡ keys_of map.pairs
+    pub values_are : values.items ≡ values_of map.pairs
+    pub keys_length : length keys.items ≡ length map.pairs
+    pub values_length : length values.items ≡ length map.pairs
+    pub keys_len : keys.len ≡ length map.pairs
+    pub values_len : values.len ≡ length map.pairs
+
+  pub opened : (keys : Vec K Z) (values : Vec V Z) (map : Columns K V) → seen keys values ≡ map → AreEven keys values
+      → Opened keys values map
+  opened keys values map view even =
+      let same : zip keys.items values.items ≡ map.pairs = ap (λ m. m.pairs) view in
+      let n : length keys.items ≡ length map.pairs = sym (length-zip keys.items values.items even.length) ∙ ap length same in
+      record {
+        pairs = same;
+        capacity = ap (λ m. m.capacity) view;
+        values_capacity = even.capacity ∙ ap (λ m. m.capacity) view;
+        keys_are = sym (keys_of-zip keys.items values.items even.length) ∙ ap keys_of same;
+        values_are = sym (seconds-zip keys.items values.items even.length) ∙ ap values_of same;
+        keys_length = n;
+        values_length = even.length ∙ n;
+        keys_len = keys.ok.0 ∙ n;
+        values_len = values.ok.0 ∙ even.length ∙ n;
+      }
+
+module _ {K V Z : Type 0} {keys : Vec K Z} {values : Vec V Z} {map : Columns K V} (o : Opened keys values map) where
+  -- a map of these pairs, whose columns keep their capacity
+  pub pairs_are : {ps qs : List (K × V)} {capacity : ℕ} → ps ≡ qs → capacity ≡ keys.cap
+      → ◌≡◌ {A = Columns K V} (record { pairs = ps; capacity = capacity }) (columns_with map qs)
+  pairs_are {ps} {qs} p same = λ i. record { pairs = p i; capacity = (same ∙ o.capacity) i }
+
+module _ {K V Z : Type 0} where
+  -- the map whose values are written, one after the other
+  pub written : (keys : Vec K Z) (values : Vec V Z) (map : Columns K V) → seen keys values ≡ map → AreEven keys values → (w : List V)
+      → ◌≡◌ {A = Columns K V} (record { pairs = zip keys.items (refill values.len values.items w); capacity = keys.cap })
+      (columns_with map (set_values map.pairs w))
+  written keys values map view even w =
+      let o = opened keys values map view even in
+      pairs_are o
+      (ap (λ n. zip keys.items (refill n values.items w)) values.ok.0 ∙ zip-refill keys.items values.items w even.length
+      ∙ ap (λ ps. set_values ps w) o.pairs)
+      refl

@@ -1,0 +1,122 @@
+-- Two columns side by side as one list of pairs.
+use Rattle.std.proofs.Common.{◌≡◌, ℕ, zero, suc, ◌-◌, ◌<◌, List, [], ◌∷◌, ◌++◌, length, get_or, reverse, take, Some, sym, refl, ap, ◌∙◌}
+use Rattle.std.proofs.Common.{arith}
+use Rattle.std.proofs.Math.ListN.{set}
+use Rattle.std.proofs.lemmas.List.{length-reverse, reverse-append, take_all}
+use Rattle.std.specs.List.{AllZip, zip, slice_get, swap_remove, refill}
+use Rattle.half_store.specs.Pairs.{set_key, set_value, set_values, swap_remove_at}
+
+pub get_or_within : {X : Type 0} (xs : List X) (i : ℕ) (d e : X) → i < length xs → get_or xs i d ≡ get_or xs i e
+get_or_within [] i d e within = absurd (omega arith)
+get_or_within (x ∷ xs) zero d e within = refl
+get_or_within (x ∷ xs) (suc i) d e within = get_or_within xs i d e (omega arith)
+
+-- a swap removal does not depend on the default
+pub swap_remove_at_is : {X : Type 0} (xs : List X) (i : ℕ) (d : X) → swap_remove xs i d ≡ swap_remove_at xs i
+swap_remove_at_is [] i d = refl
+swap_remove_at_is (x ∷ xs) i d =
+    ap (λ y. take (length (x ∷ xs) - 1) (set (x ∷ xs) i y)) (get_or_within (x ∷ xs) (length (x ∷ xs) - 1) d x (omega arith))
+
+module _ {K V : Type 0} where
+  pub length-zip : (ks : List K) (vs : List V) → length vs ≡ length ks → length (zip ks vs) ≡ length ks
+  length-zip [] vs even = refl
+  length-zip (k ∷ ks) [] even = absurd (omega arith)
+  length-zip (k ∷ ks) (v ∷ vs) even = ap suc (length-zip ks vs (omega arith))
+
+  pub zip_push : (ks : List K) (vs : List V) (k : K) (v : V) → length vs ≡ length ks
+      → zip (ks ++ k ∷ []) (vs ++ v ∷ []) ≡ zip ks vs ++ (k, v) ∷ []
+  zip_push [] [] k v even = refl
+  zip_push [] (w ∷ vs) k v even = absurd (omega arith)
+  zip_push (l ∷ ks) [] k v even = absurd (omega arith)
+  zip_push (l ∷ ks) (w ∷ vs) k v even = ap (λ r. (l, w) ∷ r) (zip_push ks vs k v (omega arith))
+
+  pub zip-reverse : (ks : List K) (vs : List V) → length vs ≡ length ks → zip (reverse ks) (reverse vs) ≡ reverse (zip ks vs)
+  zip-reverse [] [] even = refl
+  zip-reverse [] (v ∷ vs) even = absurd (omega arith)
+  zip-reverse (k ∷ ks) [] even = absurd (omega arith)
+  zip-reverse (k ∷ ks) (v ∷ vs) even =
+      (λ j. zip (reverse-append (k ∷ []) ks j) (reverse-append (v ∷ []) vs j))
+      ∙ zip_push (reverse ks) (reverse vs) k v (omega (arith, length-reverse ks, length-reverse vs))
+      ∙ ap (λ ps. ps ++ (k, v) ∷ []) (zip-reverse ks vs (omega arith))
+      ∙ sym (reverse-append ((k, v) ∷ []) (zip ks vs))
+
+  -- the pair at a bucket, from what stands there in each column
+  pub slice_get-zip : (ks : List K) (vs : List V) (i : ℕ) (k : K) (v : V) → i < length ks → i < length vs → k ≡ get_or ks i k
+      → v ≡ get_or vs i v → slice_get (zip ks vs) i ≡ Some (k, v)
+  slice_get-zip [] vs i k v in_keys in_values at_k at_v = absurd (omega arith)
+  slice_get-zip (x ∷ ks) [] i k v in_keys in_values at_k at_v = absurd (omega arith)
+  slice_get-zip (x ∷ ks) (y ∷ vs) zero k v in_keys in_values at_k at_v = λ j. Some (sym at_k j, sym at_v j)
+  slice_get-zip (x ∷ ks) (y ∷ vs) (suc i) k v in_keys in_values at_k at_v = slice_get-zip ks vs i k v (omega arith) (omega arith) at_k at_v
+
+  pub zip-set_value : (ks : List K) (vs : List V) (i : ℕ) (v : V) → zip ks (set vs i v) ≡ set_value (zip ks vs) i v
+  zip-set_value [] vs i v = refl
+  zip-set_value (k ∷ ks) [] i v = refl
+  zip-set_value (k ∷ ks) (w ∷ vs) zero v = refl
+  zip-set_value (k ∷ ks) (w ∷ vs) (suc i) v = ap (λ l. (k, w) ∷ l) (zip-set_value ks vs i v)
+
+  zip-nil : (ks : List K) → ◌≡◌ {A = List (K × V)} (zip ks []) []
+  zip-nil [] = refl
+  zip-nil (k ∷ ks) = refl
+
+  pub zip-set_key : (ks : List K) (vs : List V) (i : ℕ) (k : K) → zip (set ks i k) vs ≡ set_key (zip ks vs) i k
+  zip-set_key [] vs i k = refl
+  zip-set_key (x ∷ ks) [] i k = zip-nil (set (x ∷ ks) i k)
+  zip-set_key (x ∷ ks) (v ∷ vs) zero k = refl
+  zip-set_key (x ∷ ks) (v ∷ vs) (suc i) k = ap (λ l. (x, v) ∷ l) (zip-set_key ks vs i k)
+
+  -- values that are written, one after the other
+  pub zip-refill : (ks : List K) (vs ws : List V) → length vs ≡ length ks → zip ks (refill (length vs) vs ws) ≡ set_values (zip ks vs) ws
+  zip-refill [] vs ws even = refl
+  zip-refill (k ∷ ks) [] ws even = absurd (omega arith)
+  zip-refill (k ∷ ks) (v ∷ vs) [] even = ap (λ l. (k, v) ∷ zip ks l) (take_all (length vs) vs (omega arith))
+  zip-refill (k ∷ ks) (v ∷ vs) (w ∷ ws) even = ap (λ l. (k, w) ∷ l) (zip-refill ks vs ws (omega arith))
+
+  pub zip-take : (n : ℕ) (ks : List K) (vs : List V) → zip (take n ks) (take n vs) ≡ take n (zip ks vs)
+  zip-take zero ks vs = refl
+  zip-take (suc n) [] vs = refl
+  zip-take (suc n) (k ∷ ks) [] = refl
+  zip-take (suc n) (k ∷ ks) (v ∷ vs) = ap (λ l. (k, v) ∷ l) (zip-take n ks vs)
+
+  pub zip-set : (ks : List K) (vs : List V) (i : ℕ) (k : K) (v : V) → zip (set ks i k) (set vs i v) ≡ set (zip ks vs) i (k, v)
+  zip-set [] vs i k v = refl
+  zip-set (x ∷ ks) [] i k v = zip-nil (set (x ∷ ks) i k)
+  zip-set (x ∷ ks) (y ∷ vs) zero k v = refl
+  zip-set (x ∷ ks) (y ∷ vs) (suc i) k v = ap (λ l. (x, y) ∷ l) (zip-set ks vs i k v)
+
+  pub get_or-zip : (ks : List K) (vs : List V) (i : ℕ) (k : K) (v : V) → length vs ≡ length ks
+      → get_or (zip ks vs) i (k, v) ≡ (get_or ks i k, get_or vs i v)
+  get_or-zip [] [] i k v even = refl
+  get_or-zip [] (y ∷ vs) i k v even = absurd (omega arith)
+  get_or-zip (x ∷ ks) [] i k v even = absurd (omega arith)
+  get_or-zip (x ∷ ks) (y ∷ vs) zero k v even = refl
+  get_or-zip (x ∷ ks) (y ∷ vs) (suc i) k v even = get_or-zip ks vs i k v (omega arith)
+
+  -- a swap removal in each column is one in the list of pairs
+  zip-swap_remove : (ks : List K) (vs : List V) (i : ℕ) (k : K) (v : V) → length vs ≡ length ks
+      → zip (swap_remove ks i k) (swap_remove vs i v) ≡ swap_remove (zip ks vs) i (k, v)
+  zip-swap_remove ks vs i k v even =
+      let n = length ks - 1 in
+      ap (λ m. zip (swap_remove ks i k) (take (m - 1) (set vs i (get_or vs (m - 1) v)))) even
+      ∙ zip-take n _ _ ∙ ap (take n) (zip-set ks vs i _ _ ∙ ap (set (zip ks vs) i) (sym (get_or-zip ks vs n k v even)))
+      ∙ ap (λ m. take (m - 1) (set (zip ks vs) i (get_or (zip ks vs) (m - 1) (k, v)))) (sym (length-zip ks vs even))
+
+  pub zip-swap_remove_at : (ks : List K) (vs : List V) (i : ℕ) (k : K) (v : V) → length vs ≡ length ks
+      → zip (swap_remove ks i k) (swap_remove vs i v) ≡ swap_remove_at (zip ks vs) i
+  zip-swap_remove_at ks vs i k v even = zip-swap_remove ks vs i k v even ∙ swap_remove_at_is (zip ks vs) i (k, v)
+
+-- the element at a bucket, read with itself as the default
+pub slice_get_at : {X : Type 0} (xs : List X) (i : ℕ) (x : X) → i < length xs → x ≡ get_or xs i x → slice_get xs i ≡ Some x
+slice_get_at [] i x within at_x = absurd (omega arith)
+slice_get_at (y ∷ ys) zero x within at_x = ap Some (sym at_x)
+slice_get_at (y ∷ ys) (suc i) x within at_x = slice_get_at ys i x (omega arith) at_x
+
+-- a relation of pairs, from one of each column
+pub all_zip-zip : {K V : Type 0} (R : K → K → Type 0) (Q : V → V → Type 0) (ks ls : List K) (vs ws : List V)
+    → AllZip R ks ls → AllZip Q vs ws → AllZip (λ p q. R p.0 q.0 × Q p.1 q.1) (zip ks vs) (zip ls ws)
+all_zip-zip R Q [] [] vs ws r q = tt
+all_zip-zip R Q [] (l ∷ ls) vs ws r q = absurd r
+all_zip-zip R Q (k ∷ ks) [] vs ws r q = absurd r
+all_zip-zip R Q (k ∷ ks) (l ∷ ls) [] [] r q = tt
+all_zip-zip R Q (k ∷ ks) (l ∷ ls) [] (w ∷ ws) r q = absurd q
+all_zip-zip R Q (k ∷ ks) (l ∷ ls) (v ∷ vs) [] r q = absurd q
+all_zip-zip R Q (k ∷ ks) (l ∷ ls) (v ∷ vs) (w ∷ ws) r q = ((r.0, q.0), all_zip-zip R Q ks ls vs ws r.1 q.1)

@@ -1,0 +1,34 @@
+use Rattle.std.proofs.Common.{length, ap, ◌∙◌, arith}
+use Rattle.std.specs.Map.{keys_of, values_of}
+use Rattle.half_store.proofs.lemmas.vecmap.Columns.{opened}
+use Rattle.half_store.proofs.vecmap.VecMap.move_to.Goals as goal
+
+pub move_to-requires-clause-empty : goal.move_to-requires-clause-empty
+move_to-requires-clause-empty g c =
+    (opened c.fresh.inside.keys c.fresh.inside.values c.args.fresh c.fresh.view_is c.fresh.invariant).keys_are ∙ ap keys_of c.requires.empty
+
+pub move_to-requires-clause-len : goal.move_to-requires-clause-len
+move_to-requires-clause-len g c = (opened c.fresh.inside.keys c.fresh.inside.values c.args.fresh c.fresh.view_is c.fresh.invariant).keys_len
+    ∙ ap length c.requires.empty
+
+pub move_to-requires-clause-fits : goal.move_to-requires-clause-fits
+move_to-requires-clause-fits g c =
+    let o = opened c.self.inside.keys c.self.inside.values c.args.self.now c.self.view_is c.self.invariant in
+    let fresh = opened c.fresh.inside.keys c.fresh.inside.values c.args.fresh c.fresh.view_is c.fresh.invariant in
+    omega (arith, o.keys_len, fresh.capacity, c.requires.fits)
+
+pub move_to-requires-2-clause-empty : goal.move_to-requires-2-clause-empty
+move_to-requires-2-clause-empty g c =
+    (opened c.fresh.inside.keys c.fresh.inside.values c.args.fresh c.fresh.view_is c.fresh.invariant).values_are
+    ∙ ap values_of c.requires.empty
+
+pub move_to-requires-2-clause-len : goal.move_to-requires-2-clause-len
+move_to-requires-2-clause-len g c =
+    (opened c.fresh.inside.keys c.fresh.inside.values c.args.fresh c.fresh.view_is c.fresh.invariant).values_len
+    ∙ ap length c.requires.empty
+
+pub move_to-requires-2-clause-fits : goal.move_to-requires-2-clause-fits
+move_to-requires-2-clause-fits g c =
+    let o = opened c.self.inside.keys c.self.inside.values c.args.self.now c.self.view_is c.self.invariant in
+    let fresh = opened c.fresh.inside.keys c.fresh.inside.values c.args.fresh c.fresh.view_is c.fresh.invariant in
+    omega (arith, o.values_len, fresh.values_capacity, c.requires.fits)

@@ -1,0 +1,6 @@
+use Rattle.std.proofs.Common.{length, sym, ap, ◌∙◌}
+use Rattle.half_store.proofs.lemmas.vecmap.Zip.{length-zip}
+use Rattle.halfbrown.proofs.iter.into_iter.IntoIter.len.Goals as goal
+
+pub returns : goal.returns
+returns g c = c.len.ensures ∙ c.self.inside.keys.rest.ok.0 ∙ sym (length-zip _ _ c.self.invariant) ∙ ap length c.self.view_is

@@ -1,0 +1,3 @@
+-- Lemmas of entries.
+pub mod Methods
+pub mod Replace

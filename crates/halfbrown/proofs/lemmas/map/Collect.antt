@@ -1,0 +1,307 @@
+-- What becomes of items that are put one after another: of which keys the pairs are, and with which values.
+use Rattle.std.proofs.Common.{◌≡◌, Bool, true, false, not, ◌&&◌, cond, List, [], ◌∷◌, ◌++◌, Option, None, Some, is_some, filter, reverse}
+use Rattle.std.proofs.Common.{refl, sym, ap, ◌∙◌, append_assoc, append-nil, ℕ, true≢false, Result, Ok, Err, IsErr, IsErrAnd, IfErr, OnOk}
+use Rattle.std.proofs.Common.{subst, nat_le, ◌+◌, inl, inr, arith, if◌then◌else◌}
+use Rattle.std.proofs.lemmas.List.{reverse-append}
+use Rattle.std.specs.Cmp.{IsEquivalence}
+use Rattle.std.specs.Map.{keys_of}
+use Rattle.halfbrown.specs.Collection.{put_all, collected, first_keys, last_value_of, InsertsAll, IsCollection, IsRefusedInsertion}
+use Rattle.halfbrown.specs.Collection.{IsRefusedCollection}
+use Rattle.halfbrown.specs.Pairs.{value_of, holds, put}
+use Rattle.halfbrown.proofs.CallerLemmas.{put_step, lookup_put}
+use Rattle.std.specs.Iterator.{Yields}
+use Rattle.std.specs.Vec.Iter.{into_iter_items, into_iter_steps}
+use Rattle.std.specs.declared.vec.IntoIter.{IntoIter}
+use Rattle.half_store.specs.Work.{Work}
+use Rattle.half_store.specs.declared.refusal.Refusal.{Refusal}
+use Rattle.halfbrown.specs.Costs.{Cost, GrewBy, no_cost, add_costs, search_asked, insert_cost}
+use Rattle.halfbrown.specs.Growth.{is_full, insert_needs, IsRefusal}
+use Rattle.halfbrown.specs.Insertion.{Puts}
+use Rattle.halfbrown.specs.Making.{IsMade}
+use Rattle.halfbrown.specs.State.{State, IsState}
+use Rattle.halfbrown.proofs.lemmas.run.Runs.{costs_assoc, none_more, more_none, spent_both}
+
+-- the first, or where there is none the second
+abbrev or_else : {V : Type 0} → Option V → Option V → Option V
+or_else (Some v) other = Some v
+or_else None other = other
+
+or_none : {V : Type 0} (o : Option V) → or_else o None ≡ o
+or_none (Some v) = refl
+or_none None = refl
+
+or_past : {V : Type 0} (b : Bool) (v : V) (o other : Option V) → cond b (Some v) (or_else o other) ≡ or_else (cond b (Some v) o) other
+or_past true v o other = refl
+or_past false v o other = refl
+
+or_assoc : {V : Type 0} (o p other : Option V) → or_else (or_else o p) other ≡ or_else o (or_else p other)
+or_assoc (Some v) p other = refl
+or_assoc None p other = refl
+
+one_of : {V : Type 0} (b : Bool) (v : V) (other : Option V) → or_else (cond b (Some v) None) other ≡ cond b (Some v) other
+one_of true v other = refl
+one_of false v other = refl
+
+-- ---- filters
+
+kept_both : {X : Type 0} (p : X → Bool) (x : X) (b : Bool) (xs ys : List X) → filter p xs ≡ ys
+    → filter p (cond b (x ∷ xs) xs) ≡ cond (b && p x) (x ∷ ys) ys
+kept_both p x true xs ys rest = ap (λ l. cond (p x) (x ∷ l) l) rest
+kept_both p x false xs ys rest = rest
+
+filter_both : {X : Type 0} (p q : X → Bool) (xs : List X) → filter p (filter q xs) ≡ filter (λ x. q x && p x) xs
+filter_both p q [] = refl
+filter_both p q (x ∷ xs) = kept_both p x (q x) (filter q xs) (filter (λ y. q y && p y) xs) (filter_both p q xs)
+
+filter_all : {X : Type 0} (xs : List X) → filter (λ x. true) xs ≡ xs
+filter_all [] = refl
+filter_all (x ∷ xs) = ap (λ l. x ∷ l) (filter_all xs)
+
+-- ---- one key more
+
+keys_cons : {K : Type 0} (b : Bool) (k : K) (xs ys : List K) → k ∷ cond b xs ys ≡ cond b (k ∷ xs) (k ∷ ys)
+keys_cons true k xs ys = refl
+keys_cons false k xs ys = refl
+
+not_either : (a b : Bool) → not (cond a true b) ≡ not a && not b
+not_either true b = refl
+not_either false b = refl
+
+some_either : {V : Type 0} (b : Bool) (v : V) (o : Option V) → is_some (cond b (Some v) o) ≡ cond b true (is_some o)
+some_either true v o = refl
+some_either false v o = refl
+
+key_behind : {K : Type 0} (held : Bool) (k : K) (ks more : List K)
+    → cond held ks (ks ++ k ∷ []) ++ more ≡ ks ++ cond (not held) (k ∷ more) more
+key_behind true k ks more = refl
+key_behind false k ks more = append_assoc ks (k ∷ []) more
+
+module _ {K V : Type 0} (eq : K → K → Bool) where
+  keys_by : (p : K × V) (ps qs : List (K × V)) (k : K) (v : V) → keys_of qs ≡ cond (holds eq ps k) (keys_of ps) (keys_of ps ++ k ∷ [])
+      → (b : Bool) → keys_of (cond b ((p.0, v) ∷ ps) (p ∷ qs))
+      ≡ cond (is_some (cond b (Some p.1) (value_of eq ps k))) (keys_of (p ∷ ps)) (keys_of (p ∷ ps) ++ k ∷ [])
+  keys_by p ps qs k v rest true = refl
+  keys_by p ps qs k v rest false = ap (λ l. p.0 ∷ l) rest ∙ keys_cons (holds eq ps k) p.0 (keys_of ps) (keys_of ps ++ k ∷ [])
+
+  -- a key that was not held comes last
+  keys_put : (ps : List (K × V)) (k : K) (v : V) → keys_of (put eq ps k v) ≡ cond (holds eq ps k) (keys_of ps) (keys_of ps ++ k ∷ [])
+  keys_put [] k v = refl
+  keys_put (p ∷ ps) k v = ap keys_of (put_step eq p ps k v) ∙ keys_by p ps (put eq ps k v) k v (keys_put ps k v) (eq k p.0)
+
+  value_append : (ps qs : List (K × V)) (k : K) → value_of eq (ps ++ qs) k ≡ or_else (value_of eq ps k) (value_of eq qs k)
+  value_append [] qs k = refl
+  value_append (p ∷ ps) qs k = ap (cond (eq k p.0) (Some p.1)) (value_append ps qs k)
+      ∙ or_past (eq k p.0) p.1 (value_of eq ps k) (value_of eq qs k)
+
+  module _ (laws : IsEquivalence eq) where
+    value_put_all : (ps items : List (K × V)) (k : K)
+        → value_of eq (put_all eq ps items) k ≡ or_else (last_value_of eq items k) (value_of eq ps k)
+    value_put_all ps [] k = refl
+    value_put_all ps (p ∷ items) k =
+        let last = last_value_of eq items k in
+        let old = value_of eq ps k in
+        let here = cond (eq k p.0) (Some p.1) None in
+        value_put_all (put eq ps p.0 p.1) items k
+        ∙ ap (or_else last) (lookup_put eq laws ps p.0 p.1 k ∙ ap (λ b. cond b (Some p.1) old) (laws.symm p.0 k)
+        ∙ sym (one_of (eq k p.0) p.1 old))
+        ∙ sym (or_assoc last here old)
+        ∙ ap (λ o. or_else o old)
+        (sym (ap (λ l. value_of eq l k) (reverse-append (p ∷ []) items) ∙ value_append (reverse items) (p ∷ []) k))
+
+    holds_put : (ps : List (K × V)) (k : K) (v : V) (q : K) → not (holds eq (put eq ps k v) q) ≡ not (eq k q) && not (holds eq ps q)
+    holds_put ps k v q =
+        ap not (ap is_some (lookup_put eq laws ps k v q) ∙ some_either (eq k q) v (value_of eq ps q)) ∙ not_either (eq k q) (holds eq ps q)
+
+    keys_put_all : (ps items : List (K × V))
+        → keys_of (put_all eq ps items) ≡ keys_of ps ++ filter (λ q. not (holds eq ps q)) (first_keys eq (keys_of items))
+    keys_put_all ps [] = sym (append-nil (keys_of ps))
+    keys_put_all ps (p ∷ items) =
+        let firsts = first_keys eq (keys_of items) in
+        let others = filter (λ q. not (eq p.0 q)) firsts in
+        let new = put eq ps p.0 p.1 in
+        keys_put_all new items
+        ∙ (λ i. keys_put ps p.0 p.1 i ++ filter (λ q. holds_put ps p.0 p.1 q i) firsts)
+        ∙ ap (λ l. cond (holds eq ps p.0) (keys_of ps) (keys_of ps ++ p.0 ∷ []) ++ l)
+        (sym (filter_both (λ q. not (holds eq ps q)) (λ q. not (eq p.0 q)) firsts))
+        ∙ key_behind (holds eq ps p.0) p.0 (keys_of ps) (filter (λ q. not (holds eq ps q)) others)
+
+    -- each key has the value of the last of the items that has its equal
+    pub values_of_collected : (items : List (K × V)) (k : K) → value_of eq (collected eq items) k ≡ last_value_of eq items k
+    values_of_collected items k = value_put_all [] items k ∙ or_none (last_value_of eq items k)
+
+    -- the keys are the first of their equals, in order
+    pub keys_of_collected : (items : List (K × V)) → keys_of (collected eq items) ≡ first_keys eq (keys_of items)
+    keys_of_collected items = keys_put_all [] items ∙ filter_all (first_keys eq (keys_of items))
+
+-- Items that are inserted one after another.
+
+-- an insertion that leaves a vector has hashed nothing
+asked_nothing : (limit : ℕ) (v full : Bool) → v ≡ true → (v && not full) ≡ true
+    → (if full && not true then 0 else ((if full then limit else 0) + search_asked (v && not full))) ≡ 0
+asked_nothing limit true false form stays = refl
+asked_nothing limit true true form stays = absurd (true≢false (sym stays))
+asked_nothing limit false full form stays = absurd (true≢false (sym form))
+
+and_left : (a b : Bool) → (a && b) ≡ true → a ≡ true
+and_left true b both = refl
+and_left false b both = both
+
+-- one call of an iterator more
+pub yields_more : {I X : Type 0} (steps : I → Option X → I → Type 0) (s : I) (xs : List X) (t : I) (x : X) (u : I) → Yields steps s xs t
+    → steps t (Some x) u → Yields steps s (xs ++ x ∷ []) u
+yields_more steps s [] t x u y next = (u, subst (λ z. steps z (Some x) u) (sym y) next, refl)
+yields_more steps s (z ∷ xs) t x u y next = (y.0, y.1, yields_more steps y.0 xs t x u y.2 next)
+
+-- one call of an iterator less
+pub yields_front : {I X : Type 0} (steps : I → Option X → I → Type 0) (s : I) (xs : List X) (x : X) (u : I)
+    → Yields steps s (xs ++ x ∷ []) u → (t : I) × Yields steps s xs t
+yields_front steps s [] x u y = (s, refl)
+yields_front steps s (z ∷ xs) x u y = let front = yields_front steps y.0 xs x u y.2 in (front.0, (y.0, y.1, front.1))
+
+module _ {K V S : Type 0} (limit : ℕ) (eq : K → K → Bool) (hash : S → K → ℕ) where
+  -- one item more
+  pub inserts_more : (old middle new : State K V S) (items : List (K × V)) (k : K) (v : V) (cost : Cost)
+      → InsertsAll limit eq hash old items middle cost
+      → Puts limit eq middle k v (insert_needs limit eq middle k) new → IsState eq limit new
+      → InsertsAll limit eq hash old (items ++ (k, v) ∷ []) new (add_costs cost (insert_cost limit eq hash middle k true))
+  inserts_more old middle new [] k v cost so_far puts state =
+      let last = insert_cost limit eq hash old k true in (
+        new,
+        no_cost,
+        subst (λ m. Puts limit eq m k v (insert_needs limit eq m k) new) so_far.0 puts,
+        state,
+        (refl, refl),
+        (λ i. add_costs (so_far.1 i) (insert_cost limit eq hash (so_far.0 i) k true)) ∙ sym (none_more last) ∙ more_none last,
+      )
+  inserts_more old middle new (p ∷ items) k v cost so_far puts state =
+      let first = insert_cost limit eq hash old p.0 true in
+      let last = insert_cost limit eq hash middle k true in
+      let rest = so_far.1 in (
+        so_far.0,
+        add_costs rest last,
+        so_far.2,
+        so_far.3,
+        inserts_more so_far.0 middle new items k v rest so_far.4 puts state,
+        ap (λ c. add_costs c last) so_far.5 ∙ sym (costs_assoc first rest last),
+      )
+
+  -- what was inserted so far
+  pub record InsertsSoFar (old : State K V S) (items : List (K × V)) (now : State K V S) (before after : Work) : Type 0 where
+    pub cost : Cost
+    pub inserted : InsertsAll limit eq hash old items now cost
+    pub spent : GrewBy cost before after
+
+  pub item_more : (old now new : State K V S) (items : List (K × V)) (k : K) (v : V) (before middle after : Work)
+      → InsertsSoFar old items now before middle
+      → Puts limit eq now k v (insert_needs limit eq now k) new → IsState eq limit new
+      → GrewBy (insert_cost limit eq hash now k true) middle after
+      → InsertsSoFar old (items ++ (k, v) ∷ []) new before after
+  item_more old now new items k v before middle after so_far puts state grew = record {
+    cost = add_costs so_far.cost (insert_cost limit eq hash now k true);
+    inserted = inserts_more old now new items k v so_far.cost so_far.inserted puts state;
+    spent = spent_both so_far.cost (insert_cost limit eq hash now k true) before middle after so_far.spent grew;
+  }
+
+  -- one item that was refused
+  pub item_refused : (old now new : State K V S) (items : List (K × V)) (given : List (K × V) → Type 0) (k : K) (v : V) (why : Refusal)
+      (before middle after : Work)
+      → InsertsSoFar old items now before middle → given (items ++ (k, v) ∷ []) → new ≡ now → IsRefusal (insert_needs limit eq now k) why
+      → GrewBy (insert_cost limit eq hash now k false) middle after
+      → (cost : Cost) × IsRefusedInsertion limit eq hash given old why new cost × GrewBy cost before after
+  item_refused old now new items given k v why before middle after so_far was_given same refused grew =
+      let last = insert_cost limit eq hash now k false in (
+        add_costs so_far.cost last,
+        record {
+          before = items;
+          key = k;
+          value = v;
+          were_given = was_given;
+          spent = so_far.cost;
+          inserted = subst (λ m. InsertsAll limit eq hash old items m so_far.cost) (sym same) so_far.inserted;
+          refused = subst (λ m. IsRefusal (insert_needs limit eq m k) why) (sym same) refused;
+          cost_is = ap (λ m. add_costs so_far.cost (insert_cost limit eq hash m k false)) (sym same);
+        },
+        spent_both so_far.cost last before middle after so_far.spent grew,
+      )
+
+  -- ---- what follows of the insertions
+
+  pub inserts_pairs : (old new : State K V S) (items : List (K × V)) (cost : Cost) → InsertsAll limit eq hash old items new cost
+      → new.pairs ≡ put_all eq old.pairs items
+  inserts_pairs old new [] cost inserts = ap (λ m. m.pairs) inserts.0
+  inserts_pairs old new (p ∷ items) cost inserts = inserts_pairs inserts.0 new items inserts.1 inserts.4
+      ∙ ap (λ ps. put_all eq ps items) inserts.2.pairs
+
+  pub inserts_builder : (old new : State K V S) (items : List (K × V)) (cost : Cost) → InsertsAll limit eq hash old items new cost
+      → new.builder ≡ old.builder
+  inserts_builder old new [] cost inserts = ap (λ m. m.builder) inserts.0
+  inserts_builder old new (p ∷ items) cost inserts = inserts_builder inserts.0 new items inserts.1 inserts.4 ∙ inserts.2.builder
+
+  pub inserts_state : (old new : State K V S) (items : List (K × V)) (cost : Cost) → InsertsAll limit eq hash old items new cost
+      → IsState eq limit old → IsState eq limit new
+  inserts_state old new [] cost inserts state = subst (IsState eq limit) (sym inserts.0) state
+  inserts_state old new (p ∷ items) cost inserts state = inserts_state inserts.0 new items inserts.1 inserts.4 inserts.3
+
+  -- insertions that leave a vector have hashed nothing
+  pub inserts_asked : (old new : State K V S) (items : List (K × V)) (cost : Cost) → InsertsAll limit eq hash old items new cost
+      → new.is_vec ≡ true → (old.is_vec ≡ true) × (cost.asked ≡ 0)
+  inserts_asked old new [] cost inserts form = (sym (ap (λ m. m.is_vec) inserts.0) ∙ form, ap (λ c. c.asked) inserts.1)
+  inserts_asked old new (p ∷ items) cost inserts form =
+      let rest = inserts_asked inserts.0 new items inserts.1 inserts.4 form in
+      let stays = sym inserts.2.form ∙ rest.0 in
+      let was = and_left old.is_vec (not (is_full limit old)) stays in
+      (was, omega (arith, ap (λ c. c.asked) inserts.5, asked_nothing limit old.is_vec (is_full limit old) was stays, rest.1))
+
+  -- ---- collections
+
+  module _ (laws : IsEquivalence eq) (is_default : S → Type 0) (needed : ℕ) where
+    pub collection_of : (made new : State K V S) (items : List (K × V)) (cost : Cost) → IsMade is_default (nat_le needed limit) needed made
+        → InsertsAll limit eq hash made items new cost
+        → IsCollection limit eq hash is_default needed items new cost
+    collection_of made new items cost is_made inserts =
+        let pairs = inserts_pairs made new items cost inserts ∙ ap (λ ps. put_all eq ps items) is_made.pairs in
+        record {
+          pairs = pairs;
+          keys = ap keys_of pairs ∙ keys_of_collected eq laws items;
+          values = λ k. ap (λ ps. value_of eq ps k) pairs ∙ values_of_collected eq laws items k;
+          builder = subst is_default (sym (inserts_builder made new items cost inserts)) is_made.builder;
+          made = made;
+          is_made = is_made;
+          inserted = inserts;
+        }
+
+    -- a refusal of items, of which more is known
+    pub refusal_given : (given known : List (K × V) → Type 0) (why : Refusal) (cost : Cost)
+        → ((items : List (K × V)) → given items → known items)
+        → IsRefusedCollection limit eq hash is_default needed given why cost
+        → IsRefusedCollection limit eq hash is_default needed known why cost
+    refusal_given given known why cost also (inl refused) = inl refused
+    refusal_given given known why cost also (inr item) =
+        let i = item.insertion in
+        inr (record {
+          made = item.made;
+          is_made = item.is_made;
+          reached = item.reached;
+          insertion = record {
+            before = i.before;
+            key = i.key;
+            value = i.value;
+            were_given = also (i.before ++ (i.key, i.value) ∷ []) i.were_given;
+            spent = i.spent;
+            inserted = i.inserted;
+            refused = i.refused;
+            cost_is = i.cost_is;
+          };
+        })
+
+-- what the iterator of a vector gave are its first items
+pub gave_first : {X Z : Type 0} (s : IntoIter X Z) (xs : List X) (t : IntoIter X Z) → Yields into_iter_steps s xs t
+    → into_iter_items s ≡ xs ++ into_iter_items t
+gave_first s [] t y = ap into_iter_items y
+gave_first s (x ∷ xs) t y = y.1.0 ∙ ap (λ l. x ∷ l) (gave_first y.0 xs t y.2)
+
+-- what an error says, where the result is this error
+pub at_error : {A E : Type 0} (r : Result A E) (e : E) (P : Type 0) (Q : E → Type 0) → IsErr r × IsErrAnd r (λ why. why ≡ e) → Q e
+    → OnOk r P × IfErr r Q
+at_error (Ok a) e P Q told holds = absurd told.1
+at_error (Err why) e P Q told holds = (tt, subst Q (sym told.1) holds)

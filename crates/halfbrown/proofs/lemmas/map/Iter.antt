@@ -1,0 +1,103 @@
+-- Pairs whose values are written.
+use Rattle.std.proofs.Common.{◌≡◌, ℕ, ◌<◌, ◌^◌, Bool, List, [], ◌∷◌, length, zip, refl, ap, subst, arith}
+use Rattle.std.specs.Map.{keys_of, values_of}
+use Rattle.half_store.proofs.lemmas.store.States.{length-set_values}
+use Rattle.half_store.specs.Pairs.{set_values}
+use Rattle.half_store.specs.Store.{StoreState, store_with_pairs}
+use Rattle.halfbrown.specs.Layout.{IsKept, state_in}
+use Rattle.halfbrown.specs.State.{State, IsState, with_pairs}
+use Rattle.halfbrown.specs.Updates.{HasValues}
+use Rattle.halfbrown.proofs.lemmas.map.Layout.{kept_keys, state_of}
+use Rattle.std.proofs.iter.runs.Sources.{from_front, as_is}
+use Rattle.std.specs.Iterator.{YieldsFirstRef}
+use Rattle.std.specs.Iterator.Runs.{YieldsMutRefsInOrder}
+use Rattle.std.specs.Map.Iter.{TakesFirst, ShowsValuesInOrder, GivesInOrder, LendsFirst, LendsValuesInOrder, deref_pair}
+use Rattle.halfbrown.specs.Iter.{pairs_left, keys_left, values_left, IterSteps, ShowsPairsInOrder, ShowsPairValuesInOrder, ShowsKeysInOrder}
+use Rattle.halfbrown.specs.Iter.{values_mut_left, ValuesMutSteps}
+use Rattle.halfbrown.specs.Iter as it
+
+module _ {K V : Type 0} where
+  -- the columns side by side are the pairs
+  pub zip_columns : (ps : List (K × V)) → zip (keys_of ps) (values_of ps) ≡ ps
+  zip_columns [] = refl
+  zip_columns (p ∷ ps) = ap (λ l. p ∷ l) (zip_columns ps)
+
+  keys_of-set_values : (ps : List (K × V)) (vs : List V) → keys_of (set_values ps vs) ≡ keys_of ps
+  keys_of-set_values [] vs = refl
+  keys_of-set_values (p ∷ ps) [] = refl
+  keys_of-set_values (p ∷ ps) (v ∷ vs) = ap (λ l. p.0 ∷ l) (keys_of-set_values ps vs)
+
+  values_of-set_values : (ps : List (K × V)) (vs : List V) → length vs ≡ length ps → values_of (set_values ps vs) ≡ vs
+  values_of-set_values [] [] even = refl
+  values_of-set_values [] (v ∷ vs) even = absurd (omega arith)
+  values_of-set_values (p ∷ ps) [] even = absurd (omega arith)
+  values_of-set_values (p ∷ ps) (v ∷ vs) even = ap (λ l. v ∷ l) (values_of-set_values ps vs (omega arith))
+
+  has_values : (ps : List (K × V)) (vs : List V) → HasValues ps vs (set_values ps vs)
+  has_values ps vs = record { keys = keys_of-set_values ps vs; values = values_of-set_values ps vs; len = length-set_values ps vs }
+
+  -- the fields keep what they keep, whatever values are written
+  pub kept_written : (eq : K → K → Bool) (hash : K → ℕ) (limit : ℕ) (s : StoreState K V) → IsKept eq hash limit s → (vs : List V)
+      → IsKept eq hash limit (store_with_pairs s (set_values s.pairs vs))
+  kept_written eq hash limit s kept vs =
+      kept_keys eq hash limit s (set_values s.pairs vs) kept (keys_of-set_values s.pairs vs) (length-set_values s.pairs vs)
+
+-- a map whose values are lent, from its fields: what it is with each list of values that comes back
+module _ {K V S : Type 0} (eq : K → K → Bool) (hash : K → ℕ) (limit : ℕ) (s : StoreState K V) (builder : S) (map : State K V S)
+    (is : state_in limit s builder ≡ map) where
+  pub record LentValues : Type 0 where
+    pub back : (vs : List V)
+        → state_in limit (store_with_pairs s (set_values s.pairs vs)) builder ≡ with_pairs map (set_values map.pairs vs)
+    pub pairs : s.pairs ≡ map.pairs
+    pub small : length map.pairs < 2 ^ 63
+    pub written : (vs : List V) → HasValues map.pairs vs (set_values map.pairs vs)
+    pub state : (vs : List V) → IsState eq limit (with_pairs map (set_values map.pairs vs))
+
+  comes_back : (vs : List V)
+      → state_in limit (store_with_pairs s (set_values s.pairs vs)) builder ≡ with_pairs map (set_values map.pairs vs)
+  comes_back vs = ap (λ m. with_pairs m (set_values m.pairs vs)) is
+
+  pub lent_values : IsKept eq hash limit s → length s.pairs < 2 ^ 63 → LentValues
+  lent_values kept small = record {
+    back = comes_back;
+    pairs = ap (λ m. m.pairs) is;
+    small = omega (arith, ap (λ m. length m.pairs) is);
+    written = has_values map.pairs;
+    state = λ vs. subst (IsState eq limit) (comes_back vs)
+        (state_of eq hash limit (store_with_pairs s (set_values s.pairs vs)) builder (kept_written eq hash limit s kept vs));
+  }
+
+-- What the runs of each iterator show.
+
+module _ {X : Type 0} where
+  pub gives_in_order : GivesInOrder X
+  gives_in_order p s = as_is p p.from (from_front (TakesFirst (λ x. x)) (λ x. x) (λ s. s) (λ s t h. ap length h.0) (λ s x t h. h) p s)
+
+  pub shows_values_in_order : (K : Type 0) → ShowsValuesInOrder (λ (p : K × X). p)
+  shows_values_in_order K =
+      from_front (TakesFirst (λ p. p)) (λ p. p.1) values_of (λ s t h. ap (λ l. length (values_of l)) h.0) (λ s x t h. ap values_of h)
+
+module _ {S K V : Type 0} (left : S → List (K × V)) where
+  pub lends_values_in_order : LendsValuesInOrder left
+  lends_values_in_order =
+      from_front (LendsFirst left) (λ x. x.1.now) (λ s. values_of (left s)) (λ s t h. ap (λ l. length (values_of l)) h.0)
+      (λ s x t h. ap values_of h)
+
+module _ {K V : Type 0} where
+  pub values_lend_in_order : YieldsMutRefsInOrder (ValuesMutSteps {K = K} {V = V}) values_mut_left
+  values_lend_in_order = from_front ValuesMutSteps (λ x. x.now) values_mut_left (λ s t h. h.0) (λ s x t h. h)
+
+module _ (K V : Type 0) where
+  pub shows_pairs_in_order : ShowsPairsInOrder K V
+  shows_pairs_in_order = from_front IterSteps deref_pair pairs_left (λ s t h. ap length h.0) (λ s x t h. h)
+
+  pub shows_keys_in_order : ShowsKeysInOrder K V
+  shows_keys_in_order = from_front (YieldsFirstRef keys_left) (λ x. x.now) keys_left (λ s t h. ap length h.0) (λ s x t h. h)
+
+  pub shows_held_values_in_order : it.ShowsValuesInOrder K V
+  shows_held_values_in_order = from_front (YieldsFirstRef values_left) (λ x. x.now) values_left (λ s t h. ap length h.0) (λ s x t h. h)
+
+  pub shows_pair_values_in_order : ShowsPairValuesInOrder K V
+  shows_pair_values_in_order =
+      from_front IterSteps (λ x. x.1.now) (λ s. values_of (pairs_left s)) (λ s t h. ap (λ l. length (values_of l)) h.0)
+      (λ s x t h. ap values_of h)

@@ -1,0 +1,68 @@
+-- Removals: what the map is without the pair that was found.
+use Rattle.std.specs.Map.{lookup, lookup_entry}
+use Rattle.std.proofs.Common.{◌≡◌, ℕ, ◌-◌, ◌≤◌, Bool, true, [], ◌∷◌, ◌++◌, length, slice_get, Option, None, Some, option_to_list, refl, sym}
+use Rattle.std.proofs.Common.{ap, subst, ◌∙◌}
+use Rattle.std.specs.Cmp.{IsEquivalence}
+use Rattle.std.proofs.lemmas.List.{append-nil}
+use Rattle.std.proofs.lemmas.Option.{slice_get_past}
+use Rattle.std.specs.Option.{option_map}
+use Rattle.half_store.specs.Pairs.{swap_remove_at}
+use Rattle.halfbrown.specs.Pairs.{take_out_by}
+use Rattle.halfbrown.specs.Removal.{Removes, RemovesAt}
+use Rattle.halfbrown.specs.State.{State, IsState, WithPairs}
+use Rattle.halfbrown.specs.Updates.{HasRemovedBy}
+use Rattle.halfbrown.proofs.CallerLemmas.{has_removed_by}
+use Rattle.halfbrown.proofs.lemmas.pairs.Indices.{value_of_entry}
+use Rattle.halfbrown.proofs.lemmas.pairs.PairIndices.{index_of_pair, last_taken}
+
+module _ {K V S : Type 0} (limit : ℕ) (eq : K → K → Bool) (test : K → Bool) (old new : State K V S) where
+  -- the pairs without the one whose key passes
+  pub removed_as : {R : Type 0} → IsEquivalence eq → ((k other : K) → test k ≡ true → test other ≡ eq k other) → IsState eq limit old
+      → IsState eq limit new
+      → WithPairs old (take_out_by test old.pairs) new → (held result : Option R) → result ≡ held
+      → Removes limit eq test old held result new
+  removed_as laws one_class before now after held result gives = record {
+    gives = gives;
+    after = after;
+    removed = subst (HasRemovedBy eq test old.pairs) (sym after.pairs) (has_removed_by eq laws test one_class old.pairs before.distinct);
+    state = now;
+  }
+
+  -- the same removal, of which the value is returned
+  pub removed_value : (pair : Option (K × V)) (value : Option V) → value ≡ option_map (λ p. p.1) pair
+      → Removes limit eq test old (lookup_entry test old.pairs) pair new
+      → Removes limit eq test old (lookup test old.pairs) value new
+  removed_value pair value is removes = record {
+    gives = is ∙ ap (option_map (λ p. p.1)) removes.gives ∙ value_of_entry test old.pairs;
+    after = removes.after;
+    removed = removes.removed;
+    state = removes.state;
+  }
+
+module _ {K V S : Type 0} (limit : ℕ) (eq : K → K → Bool) (old : State K V S) (index : ℕ) where
+  -- the pair at an index is taken out
+  pub removed_at : IsEquivalence eq → (pair : K × V) (new : State K V S) → IsState eq limit old → IsState eq limit new
+      → slice_get old.pairs index ≡ Some pair
+      → WithPairs old (swap_remove_at old.pairs index) new → RemovesAt limit eq old index (Some pair) new
+  removed_at laws pair new before now at after =
+      let found = index_of_pair eq laws old.pairs index pair before.distinct at in
+      record {
+        gives = sym at;
+        after = after;
+        removed = subst (HasRemovedBy eq (eq pair.0) old.pairs) (found.take_is ∙ sym after.pairs)
+            (has_removed_by eq laws (eq pair.0) (λ k other alike. laws.congr pair.0 k other alike) old.pairs before.distinct);
+        unchanged = tt;
+        state = now;
+      }
+
+  -- there is none
+  pub none_removed_at : IsState eq limit old → length old.pairs ≤ index → RemovesAt limit eq old index None old
+  none_removed_at before past =
+      record { gives = sym (slice_get_past old.pairs index past); after = tt; removed = tt; unchanged = refl; state = before }
+
+module _ {K V S : Type 0} (limit : ℕ) (eq : K → K → Bool) (old new : State K V S) where
+  -- the last pair is taken out, and the others stay as they are
+  pub last_removed : (result : Option (K × V)) → RemovesAt limit eq old (length old.pairs - 1) result new
+      → old.pairs ≡ new.pairs ++ option_to_list result
+  last_removed None removes = sym (ap (λ (m : State K V S). m.pairs) removes.unchanged) ∙ sym (append-nil new.pairs)
+  last_removed (Some pair) removes = last_taken old.pairs pair (sym removes.gives) ∙ ap (λ ps. ps ++ pair ∷ []) (sym removes.after.pairs)

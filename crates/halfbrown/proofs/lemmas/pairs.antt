@@ -1,0 +1,6 @@
+-- Lemmas of lists of pairs.
+pub mod Indices
+pub mod Keys
+pub mod PairIndices
+pub mod SwapRemove
+pub mod Values

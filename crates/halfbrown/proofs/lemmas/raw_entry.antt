@@ -1,0 +1,3 @@
+-- Lemmas of raw entries.
+pub mod Builder
+pub mod Methods

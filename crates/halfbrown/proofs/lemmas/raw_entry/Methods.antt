@@ -1,0 +1,142 @@
+-- What a raw entry is once its pair is written, added or given another key.
+use Rattle.std.proofs.Common.{◌≡◌, ℕ, zero, suc, ◌<◌, List, [], ◌∷◌, ◌++◌, length, slice_get, None, Some, unwrap_or, refl, sym, ap, subst}
+use Rattle.std.proofs.Common.{◌∙◌, arith}
+use Rattle.std.proofs.lemmas.Map.Entries.{length-keys_of, length-values_of}
+use Rattle.std.proofs.lemmas.Option.{same_Some}
+use Rattle.std.specs.Map.{keys_of, values_of}
+use Rattle.std.specs.Option.{option_map}
+use Rattle.half_store.specs.Pairs.{set_value, swap_remove_at}
+use Rattle.halfbrown.specs.declared.entry.LimitedOccupiedEntry.{LimitedOccupiedEntry}
+use Rattle.halfbrown.specs.declared.raw_entry.LimitedRawEntryMut.{LimitedRawEntryMut}
+use Rattle.halfbrown.specs.declared.raw_entry.LimitedRawVacantEntryMut.{LimitedRawVacantEntryMut}
+use Rattle.halfbrown.specs.Entry.{entry_key, entry_value, map_of, with_value, IsWritten}
+use Rattle.halfbrown.specs.RawEntry.{Occupied, Vacant, found_value, pairs_with, PutsThroughRawEntry}
+use Rattle.halfbrown.specs.State.{WithPairs}
+use Rattle.halfbrown.proofs.lemmas.entry.Methods.{key_of-pair, value_of-pair, set_value-last, value-last}
+use Rattle.halfbrown.proofs.lemmas.entry.Replace.{swap_remove_at-last}
+use Rattle.halfbrown.proofs.lemmas.pairs.Values.{set_value-twice}
+use Rattle.std.specs.declared.cmp.PartialEq as eq
+use Rattle.std.specs.declared.hash.Hash as hash
+use Rattle.std.specs.declared.hash.Hasher as hasher
+use Rattle.std.specs.declared.hash.BuildHasher as builder
+use Rattle.halfbrown.specs.declared.limit.Limit as limits
+use Rattle.halfbrown.specs.Entry as entries
+
+-- the key and the value of a pair that is lent are those of its entry
+pub lent_key : {K V : Type 0} (ps : List (K × V)) (i : ℕ) (k key : K) (v : V) → slice_get ps i ≡ Some (k, v)
+    → slice_get (keys_of ps) i ≡ Some key → k ≡ key
+lent_key ps i k key v at is = same_Some k key (sym (ap (option_map (λ (p : _ × _). p.0)) at) ∙ sym (key_of-pair ps i) ∙ is)
+
+pub lent_value : {K V : Type 0} (ps : List (K × V)) (i : ℕ) (k : K) (v value : V) → slice_get ps i ≡ Some (k, v)
+    → slice_get (values_of ps) i ≡ Some value → v ≡ value
+lent_value ps i k v value at is = same_Some v value (sym (ap (option_map (λ (p : _ × _). p.1)) at) ∙ sym (value_of-pair ps i) ∙ is)
+
+-- an element within is there
+some_at : {X : Type 0} (xs : List X) (i : ℕ) (d : X) → i < length xs → slice_get xs i ≡ Some (unwrap_or (slice_get xs i) d)
+some_at [] i d within = absurd (omega arith)
+some_at (x ∷ xs) zero d within = refl
+some_at (x ∷ xs) (suc i) d within = some_at xs i d (omega arith)
+
+-- and is something
+pub some_is_not_none : {X : Type 0} (xs : List X) (i : ℕ) → i < length xs → slice_get xs i ≡ None → ⊥
+some_is_not_none [] i within none = omega arith
+some_is_not_none (x ∷ xs) zero within none = cc
+some_is_not_none (x ∷ xs) (suc i) within none = some_is_not_none xs i (omega arith) none
+
+module _ {K V : Type 0} where
+  -- a value that is held already
+  set_value-held : (ps : List (K × V)) (i : ℕ) (d : V) → set_value ps i (unwrap_or (slice_get (values_of ps) i) d) ≡ ps
+  set_value-held [] i d = refl
+  set_value-held (p ∷ ps) zero d = refl
+  set_value-held (p ∷ ps) (suc i) d = ap (λ l. p ∷ l) (set_value-held ps i d)
+
+  -- the key of a pair that was just appended
+  key-last : (ps : List (K × V)) (k : K) (v : V) → slice_get (keys_of (ps ++ (k, v) ∷ [])) (length ps) ≡ Some k
+  key-last [] k v = refl
+  key-last (p ∷ ps) k v = key-last ps k v
+
+module _ {K V S L H : Type 0} {e : eq.Ghosts K} {h : hash.Ghosts K} {b : builder.Ghosts S H} {w : hasher.Ghosts H} {l : limits.Ghosts L}
+    (o : LimitedOccupiedEntry K V S L H e h b w l) where
+  -- the pair has a value
+  pub held_value : entry_value (entries.Occupied o) ≡ None → ⊥
+  held_value none = some_is_not_none (values_of o.map.now.pairs) o.index (omega (arith, length-values_of o.map.now.pairs, o.within)) none
+
+  -- of the map with this value only the pairs are new
+  pub held_with_pairs : (key : K) (value : V)
+      → WithPairs (map_of (entries.Occupied o)) (pairs_with (Occupied o) key value) (with_value (entries.Occupied o) value)
+  unfolding with_value
+  held_with_pairs key value = record { pairs = refl; form = refl; capacity = refl; columns = refl; builder = refl }
+
+  -- a value that is written again
+  pub held_twice : (key : K) (value again : V)
+      → set_value (with_value (entries.Occupied o) value).pairs o.index again ≡ pairs_with (Occupied o) key again
+  unfolding with_value
+  held_twice key value again = set_value-twice o.map.now.pairs o.index value again
+
+  -- the pair has a key
+  key_there : (key : K) → entry_key (entries.Occupied o) ≡ Some (unwrap_or (entry_key (entries.Occupied o)) key)
+  key_there key = some_at (keys_of o.map.now.pairs) o.index key (omega (arith, length-keys_of o.map.now.pairs, o.within))
+
+  -- a pair that is found and written is the one that is put
+  pub written_puts : (key : K) (value : V) (written : LimitedOccupiedEntry K V S L H e h b w l)
+      → IsWritten (entries.Occupied o) value (entries.Occupied written) → PutsThroughRawEntry (Occupied o) key value written
+  written_puts key value written is = record {
+    same_map = is.same_map;
+    map = subst (WithPairs o.map.now (set_value o.map.now.pairs o.index value)) (sym is.map) (held_with_pairs key value);
+    key_is = is.key ∙ key_there key;
+    value_is = is.value_is;
+    writes = λ v. subst (WithPairs o.map.now (set_value o.map.now.pairs o.index v)) (sym (is.writes v)) (held_with_pairs key v);
+    pairs_left = is.pairs_left;
+  }
+
+module _ {K V S L H : Type 0} {e : eq.Ghosts K} {h : hash.Ghosts K} {b : builder.Ghosts S H} {w : hasher.Ghosts H} {l : limits.Ghosts L}
+    (v : LimitedRawVacantEntryMut K V S L H e h b w l) (key : K) (value : V) where
+  -- the pair that is appended is the one that is put
+  pub added_puts : (o : LimitedOccupiedEntry K V S L H e h b w l) → o.map.ghost_name ≡ v.map.ghost_name → o.index ≡ length v.map.now.pairs
+      → WithPairs v.map.now (v.map.now.pairs ++ (key, value) ∷ []) o.map.now → PutsThroughRawEntry (Vacant v) key value o
+  unfolding with_value
+  added_puts o same last after =
+      let ps = v.map.now.pairs in
+      record {
+        same_map = same;
+        map = after;
+        key_is = (λ i. slice_get (keys_of (after.pairs i)) (last i)) ∙ key-last ps key value;
+        value_is = (λ i. slice_get (values_of (after.pairs i)) (last i)) ∙ value-last ps key value;
+        writes = λ u. record {
+          pairs = (λ i. set_value (after.pairs i) (last i) u) ∙ set_value-last ps key value u;
+          form = after.form;
+          capacity = after.capacity;
+          columns = after.columns;
+          builder = after.builder;
+        };
+        pairs_left = (λ i. swap_remove_at (after.pairs i) (last i)) ∙ swap_remove_at-last ps (key, value);
+      }
+
+module _ {K V S L H : Type 0} {e : eq.Ghosts K} {h : hash.Ghosts K} {b : builder.Ghosts S H} {w : hasher.Ghosts H} {l : limits.Ghosts L}
+  where
+    -- a pair that is left is put with its own value
+    held_puts_at : (o : LimitedOccupiedEntry K V S L H e h b w l) (key : K) (value : V) (within : o.index < length o.map.now.pairs)
+        → PutsThroughRawEntry (Occupied o) key (unwrap_or (found_value (Occupied o)) value)
+        (record { map = o.map; index = o.index; within = within })
+    held_puts_at o key value within = record {
+      same_map = refl;
+      map = record {
+        pairs = sym (set_value-held o.map.now.pairs o.index value);
+        form = refl;
+        capacity = refl;
+        columns = refl;
+        builder = refl;
+      };
+      key_is = key_there o key;
+      value_is = some_at (values_of o.map.now.pairs) o.index value (omega (arith, length-values_of o.map.now.pairs, o.within));
+      writes = λ v. held_with_pairs (record { map = o.map; index = o.index; within = within }) key v;
+      pairs_left = refl;
+    }
+
+    -- a pair that is found and left is put with its own value, however it was shown that its index is within
+    pub held_puts : (entry : LimitedRawEntryMut K V S L H e h b w l) (o : LimitedOccupiedEntry K V S L H e h b w l) → entry ≡ Occupied o
+        → (key : K) (value : V) (within : o.index < length o.map.now.pairs)
+        → PutsThroughRawEntry entry key (unwrap_or (found_value entry) value) (record { map = o.map; index = o.index; within = within })
+    held_puts entry o is key value within =
+        subst (λ found. PutsThroughRawEntry found key (unwrap_or (found_value found) value)
+        (record { map = o.map; index = o.index; within = within })) (sym is) (held_puts_at o key value within)

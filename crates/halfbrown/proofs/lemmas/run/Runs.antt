@@ -1,0 +1,134 @@
+-- A run so far, and one step more.
+use Rattle.std.proofs.Common.{◌≡◌, ◌∙◌, ℕ, Bool, true, false, true≢false, ◌||◌, List, [], ◌∷◌, ◌++◌, length, ap, sym, refl, subst, arith}
+use Rattle.std.proofs.Common.{zero-add, add-zero, add_assoc, append_assoc, append-nil}
+use Rattle.std.proofs.lemmas.List.{length-map, map-append}
+use Rattle.half_store.specs.Work.{Work}
+use Rattle.halfbrown.specs.declared.run.Command.{Command}
+use Rattle.halfbrown.specs.declared.run.Reply.{Reply}
+use Rattle.halfbrown.specs.State.{State, IsState}
+use Rattle.halfbrown.specs.Step.{Step, IsStep, is_shrink}
+use Rattle.halfbrown.specs.Costs.{Cost, GrewBy, no_cost, add_costs}
+use Rattle.halfbrown.specs.Run.{Lead, Runs, shrinks, commands_of, replies_of, step_cost, cost_of}
+use Rattle.halfbrown.proofs.lemmas.run.Steps.{PaysTwo, switch_left, step_pays_two}
+
+pub none_more : (more : Cost) → more ≡ add_costs no_cost more
+none_more more = simp zero-add
+
+-- nothing more
+pub more_none : (more : Cost) → more ≡ add_costs more no_cost
+more_none more = simp add-zero
+
+pub costs_assoc : (a b c : Cost) → add_costs a (add_costs b c) ≡ add_costs (add_costs a b) c
+costs_assoc a b c = simp add_assoc
+
+pub spent_none : (w : Work) → GrewBy no_cost w w
+spent_none w = record {
+  asked = omega arith;
+  compared = record { least = omega arith; most = omega arith };
+  looked = record { least = omega arith; most = omega arith };
+}
+
+-- what was spent before and after a moment is spent in all
+pub spent_both : (a b : Cost) (before middle after : Work) → GrewBy a before middle → GrewBy b middle after
+    → GrewBy (add_costs a b) before after
+spent_both a b before middle after first second = record {
+  asked = omega arith;
+  compared = record { least = omega arith; most = omega arith };
+  looked = record { least = omega arith; most = omega arith };
+}
+
+pub neither : (a b : Bool) → (a || b) ≡ false → (a ≡ false) × (b ≡ false)
+neither true b none = absurd (true≢false none)
+neither false b none = (refl, none)
+
+module _ {K V S : Type 0} (limit : ℕ) (eq : K → K → Bool) where
+  -- steps, and then others
+  pub lead_on : (old between new : State K V S) (first second : List (Step K V S)) → Lead limit eq old first between
+      → Lead limit eq between second new → Lead limit eq old (first ++ second) new
+  lead_on old between new [] second lead next = subst (λ m. Lead limit eq m second new) lead next
+  lead_on old between new (s ∷ first) second lead next = (lead.0, lead.1, lead.2, lead_on s.after between new first second lead.3 next)
+
+  module _ (hash : S → K → ℕ) where
+    pub cost_of-append : (first second : List (Step K V S))
+        → cost_of limit eq hash (first ++ second) ≡ add_costs (cost_of limit eq hash first) (cost_of limit eq hash second)
+    cost_of-append [] second = none_more (cost_of limit eq hash second)
+    cost_of-append (s ∷ first) second =
+        ap (add_costs (step_cost limit eq hash s)) (cost_of-append first second)
+        ∙ costs_assoc (step_cost limit eq hash s) (cost_of limit eq hash first) (cost_of limit eq hash second)
+
+    module _ (old : State K V S) (commands : List (Command K V)) (before : Work) where
+      -- the steps so far lead from old to now, with the replies so far; these commands are left, and the tally grew by the cost so far
+      pub record RunSoFar (now : State K V S) (left : List (Command K V)) (replies : List (Reply K V)) (after : Work) : Type 0 where
+        pub steps : List (Step K V S)
+        pub lead : Lead limit eq old steps now
+        pub commands_are : commands ≡ commands_of steps ++ left
+        pub replies_are : replies ≡ replies_of steps
+        pub spent : GrewBy (cost_of limit eq hash steps) before after
+
+      pub no_step : RunSoFar old commands [] before
+      no_step = record { steps = []; lead = refl; commands_are = refl; replies_are = refl; spent = spent_none before }
+
+      pub step_more : (s : Step K V S) (left : List (Command K V)) (replies : List (Reply K V)) (middle after : Work)
+          → RunSoFar s.before (s.command ∷ left) replies middle → IsStep limit eq s → IsState eq limit s.after
+          → GrewBy (step_cost limit eq hash s) middle after → RunSoFar s.after left (replies ++ s.reply ∷ []) after
+      step_more s left replies middle after so_far step state spent =
+          let steps = so_far.steps in
+          let cost = cost_of limit eq hash steps in
+          record {
+            steps = steps ++ s ∷ [];
+            lead = lead_on old s.before s.after steps (s ∷ []) so_far.lead (refl, step, state, refl);
+            commands_are = so_far.commands_are
+                ∙ sym (ap (λ cs. cs ++ left) (map-append (λ s. s.command) steps (s ∷ []))
+                ∙ append_assoc (commands_of steps) (s.command ∷ []) left);
+            replies_are = ap (λ rs. rs ++ s.reply ∷ []) so_far.replies_are ∙ sym (map-append (λ s. s.reply) steps (s ∷ []));
+            spent = subst (λ cost. GrewBy cost before after)
+                (ap (add_costs cost) (more_none (step_cost limit eq hash s)) ∙ sym (cost_of-append steps (s ∷ [])))
+                (spent_both cost (step_cost limit eq hash s) before middle after so_far.spent spent);
+          }
+
+      pub run_ended : (now : State K V S) (left : List (Command K V)) (replies : List (Reply K V)) (after : Work) → left ≡ []
+          → RunSoFar now left replies after → (cost : Cost) × Runs limit eq hash old commands replies now cost × GrewBy cost before after
+      run_ended now left replies after none so_far = (
+        cost_of limit eq hash so_far.steps,
+        record {
+          steps = so_far.steps;
+          lead = so_far.lead;
+          commands_are = so_far.commands_are ∙ ap (λ cs. commands_of so_far.steps ++ cs) none ∙ append-nil (commands_of so_far.steps);
+          replies_are = so_far.replies_are;
+          cost_is = refl;
+        },
+        so_far.spent,
+      )
+
+    -- a run without `Shrink`
+    pub steps_pay_two : (old new : State K V S) (steps : List (Step K V S)) → Lead limit eq old steps new
+        → shrinks (commands_of steps) ≡ false → PaysTwo limit (length steps) (cost_of limit eq hash steps).asked old.is_vec new.is_vec
+    steps_pay_two old new [] lead none =
+        let same = ap (λ m. m.is_vec) lead in
+        record { vector = λ e. (sym same ∙ e, refl); all = omega (arith, ap (switch_left limit) same) }
+    steps_pay_two old new (s ∷ steps) lead none =
+        let parts = neither (is_shrink s.command) (shrinks (commands_of steps)) none in
+        let first = step_pays_two limit eq hash s lead.1 parts.0 in
+        let rest = steps_pay_two s.after new steps lead.3 parts.1 in
+        let same = ap (λ m. m.is_vec) lead.0 in
+        record {
+          vector = λ e.
+              let later = rest.vector e in
+              let now = first.vector later.0 in
+              (sym same ∙ now.0, omega (arith, later.1, now.1));
+          all = omega (arith, first.all, rest.all, ap (switch_left limit) same);
+        }
+
+    pub run_pays_two : (old new : State K V S) (commands : List (Command K V)) (replies : List (Reply K V)) (cost : Cost)
+        → Runs limit eq hash old commands replies new cost → shrinks commands ≡ false
+        → PaysTwo limit (length commands) cost.asked old.is_vec new.is_vec
+    run_pays_two old new commands replies cost run none =
+        let count : length run.steps ≡ length commands = sym (ap length run.commands_are ∙ length-map run.steps (λ s. s.command)) in
+        subst (λ n. PaysTwo limit n cost.asked old.is_vec new.is_vec) count
+        (subst (λ c. PaysTwo limit (length run.steps) c.asked old.is_vec new.is_vec) (sym run.cost_is)
+        (steps_pay_two old new run.steps run.lead (ap shrinks (sym run.commands_are) ∙ none)))
+
+-- a table stays one
+pub table_stays : (limit count asked : ℕ) (was is : Bool) → PaysTwo limit count asked was is → was ≡ false → is ≡ false
+table_stays limit count asked was true pays table = absurd (true≢false (sym (pays.vector refl).0 ∙ table))
+table_stays limit count asked was false pays table = refl

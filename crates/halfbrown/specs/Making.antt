@@ -1,0 +1,29 @@
+-- What the calls that make an empty map return.
+use Rattle.std.specs.Prelude.{◌≡◌, ℕ, Bool, true, [], Result, IfOk, IfErr}
+use Rattle.half_store.specs.declared.refusal.Refusal.{Refusal}
+use Rattle.halfbrown.specs.Growth.{making_needs, HasCapacityMade, IsGrantable, IsRefusal}
+use Rattle.halfbrown.specs.State.{State}
+
+module _ {K V S : Type 0} (is_builder : S → Type 0) where
+  -- an empty vector that has taken no memory, with a builder of which this holds
+  pub record IsNew (m : State K V S) : Type 0 where
+    pub form : m.is_vec ≡ true
+    pub pairs : m.pairs ≡ []
+    pub capacity : m.capacity ≡ 0
+    pub columns : m.columns ≡ 0
+    pub builder : is_builder m.builder
+
+  module _ (is_vec : Bool) (needed : ℕ) where
+    -- an empty map of this form, with capacity for so many pairs and a builder of which this holds
+    pub record IsMade (m : State K V S) : Type 0 where
+      pub form : m.is_vec ≡ is_vec
+      pub pairs : m.pairs ≡ []
+      pub capacity : HasCapacityMade needed m
+      pub columns : m.columns ≡ m.capacity
+      pub builder : is_builder m.builder
+      pub grantable : IsGrantable (making_needs needed)
+
+    -- such a map, or the reason why the capacity was refused
+    pub record Makes (result : Result (State K V S) Refusal) : Type 0 where
+      pub ok : IfOk result IsMade
+      pub refused : IfErr result (IsRefusal (making_needs needed))

@@ -1,0 +1,187 @@
+//! The forms by which a key is looked up.
+ghost use Rattle.std.specs.Prelude.{◌≡◌, Bool, IsTrue};
+ghost use Rattle.std.proofs.Common.{ap};
+ghost use Rattle.std.specs.Box.{boxed_slice_items, boxed_str_bytes};
+ghost use Rattle.std.specs.Cmp.Lexicographic.{pointwise, bytes_decides, lists_equiv, nat_list_eq_equiv};
+ghost use Rattle.std.specs.Cow.{cow_slice_items, cow_str_bytes};
+ghost use Rattle.std.specs.Hash as writes;
+ghost use Rattle.std.specs.Hash.{items_Alike};
+ghost use Rattle.std.specs.Rc.{rc_str_bytes};
+ghost use Rattle.std.specs.Str.{bytes_eq};
+ghost use Rattle.std.specs.String.{string_bytes};
+
+use std::alloc::Allocator;
+use std::borrow::{CowSlice, CowStr};
+use std::boxed::{BoxedSlice, BoxedStr};
+use std::hash::Hash;
+use std::rc::RcStr;
+
+/// A form by which a key is looked up: what `get`, `remove` and similar calls take.
+///
+/// A `&K` is one for any keys, a `&str` for text keys, and a `&[T]` for keys that own a slice. So in a map of `String`
+/// keys a text is looked up without an allocation:
+///
+/// ```
+/// let mut people = HashMap::<String, u32>::new(alloc);
+/// people.insert(String::from_str(alloc, "Ada")?, 36)?;
+/// assert_eq!(rt; people.get("Ada"), Some(&36));
+/// ```
+///
+/// A type of your own can be one too. It must be hashed as the key that it stands for, and stand for that key's equals
+/// and no others. Both are laws, which the implementation proves.
+pub trait Equivalent<K: Eq + Hash>: Copy + Hash {
+    // What `equivalent` returns.
+    ghost equivalent: { Self → K → Bool };
+
+    /// Returns whether this form stands for the key.
+    ///
+    /// ```
+    /// let name = String::from_str(alloc, "Ada")?;
+    /// assert!(rt; "Ada".equivalent(&name));
+    /// ```
+    fn equivalent(&self, key: &K) -> bool
+        ensures { result ≡ equivalent self.now key.now };
+
+    // It is hashed as a key that it stands for.
+    ghost hashes_alike: { (form : Self) (k : K) → IsTrue (equivalent form k) → Self.hash_input form ≡ K.hash_input k };
+
+    // It stands for the equals of such a key, and for no other.
+    ghost stands_for_equals: { (form : Self) (k other : K) → IsTrue (equivalent form k)
+        → equivalent form other ≡ K.eq k other };
+}
+
+impl<K: Eq + Hash> Equivalent<K> for &K {
+    ghost equivalent = { λ form. K.eq form.now };
+
+    ghost hashes_alike = { λ form. K.respects_eq form.now };
+
+    ghost stands_for_equals = { λ form. K.Eq.laws.congr form.now };
+
+    #[inline(always)]
+    fn equivalent(&self, key: &K) -> bool {
+        **self == *key
+    }
+}
+
+// Compares two texts. It is no part of the loop of a probe, which stays small so.
+#[inline(never)]
+fn same_text<'t>(left: &'t str, right: &'t str) -> bool
+    ensures { result ≡ bytes_eq left.now right.now }
+{
+    left == right
+}
+
+impl<'k> Equivalent<&'k str> for &str {
+    ghost equivalent = { λ form k. bytes_eq form.now k.now };
+
+    ghost hashes_alike = { λ form k same. ap writes.str ((bytes_decides form.now k.now).0 same) };
+
+    ghost stands_for_equals = { λ form k other. nat_list_eq_equiv.congr form.now k.now other.now };
+
+    fn equivalent(&self, key: &&'k str) -> bool {
+        same_text(*self, *key)
+    }
+}
+
+impl<A: Allocator> Equivalent<String<A>> for &str {
+    ghost equivalent = { λ form k. bytes_eq form.now (string_bytes k) };
+
+    ghost hashes_alike = { λ form k same. ap writes.str ((bytes_decides form.now (string_bytes k)).0 same) };
+
+    ghost stands_for_equals = { λ form k other.
+        nat_list_eq_equiv.congr form.now (string_bytes k) (string_bytes other) };
+
+    fn equivalent(&self, key: &String<A>) -> bool {
+        same_text(*self, key.as_str())
+    }
+}
+
+impl<A: Allocator> Equivalent<BoxedStr<A>> for &str {
+    ghost equivalent = { λ form k. bytes_eq form.now (boxed_str_bytes k) };
+
+    ghost hashes_alike = { λ form k same. ap writes.str ((bytes_decides form.now (boxed_str_bytes k)).0 same) };
+
+    ghost stands_for_equals = { λ form k other.
+        nat_list_eq_equiv.congr form.now (boxed_str_bytes k) (boxed_str_bytes other) };
+
+    fn equivalent(&self, key: &BoxedStr<A>) -> bool {
+        same_text(*self, key.as_str())
+    }
+}
+
+impl<A: Allocator> Equivalent<RcStr<A>> for &str {
+    ghost equivalent = { λ form k. bytes_eq form.now (rc_str_bytes k) };
+
+    ghost hashes_alike = { λ form k same. ap writes.str ((bytes_decides form.now (rc_str_bytes k)).0 same) };
+
+    ghost stands_for_equals = { λ form k other.
+        nat_list_eq_equiv.congr form.now (rc_str_bytes k) (rc_str_bytes other) };
+
+    fn equivalent(&self, key: &RcStr<A>) -> bool {
+        same_text(*self, key.as_str())
+    }
+}
+
+impl<'k, A: Allocator> Equivalent<CowStr<'k, A>> for &str {
+    ghost equivalent = { λ form k. bytes_eq form.now (cow_str_bytes k) };
+
+    ghost hashes_alike = { λ form k same. ap writes.str ((bytes_decides form.now (cow_str_bytes k)).0 same) };
+
+    ghost stands_for_equals = { λ form k other.
+        nat_list_eq_equiv.congr form.now (cow_str_bytes k) (cow_str_bytes other) };
+
+    fn equivalent(&self, key: &CowStr<'k, A>) -> bool {
+        same_text(*self, key.as_str())
+    }
+}
+
+impl<'k, T: Eq + Hash> Equivalent<&'k [T]> for &[T] {
+    ghost equivalent = { λ form k. pointwise T.eq form.now k.now };
+
+    ghost hashes_alike = { λ form k. (items_Alike (record { fed = T.respects_eq })).fed form.now k.now };
+
+    ghost stands_for_equals = { λ form k other. (lists_equiv T.Eq.laws).congr form.now k.now other.now };
+
+    fn equivalent(&self, key: &&'k [T]) -> bool {
+        *self == *key
+    }
+}
+
+impl<T: Eq + Hash, A: Allocator> Equivalent<Vec<T, A>> for &[T] {
+    ghost equivalent = { λ form k. pointwise T.eq form.now k.items };
+
+    ghost hashes_alike = { λ form k. (items_Alike (record { fed = T.respects_eq })).fed form.now k.items };
+
+    ghost stands_for_equals = { λ form k other. (lists_equiv T.Eq.laws).congr form.now k.items other.items };
+
+    fn equivalent(&self, key: &Vec<T, A>) -> bool {
+        *self == key.as_slice()
+    }
+}
+
+impl<T: Eq + Hash, A: Allocator> Equivalent<BoxedSlice<T, A>> for &[T] {
+    ghost equivalent = { λ form k. pointwise T.eq form.now (boxed_slice_items k) };
+
+    ghost hashes_alike = { λ form k.
+        (items_Alike (record { fed = T.respects_eq })).fed form.now (boxed_slice_items k) };
+
+    ghost stands_for_equals = { λ form k other.
+        (lists_equiv T.Eq.laws).congr form.now (boxed_slice_items k) (boxed_slice_items other) };
+
+    fn equivalent(&self, key: &BoxedSlice<T, A>) -> bool {
+        *self == key.as_slice()
+    }
+}
+
+impl<'k, T: Eq + Hash, A: Allocator> Equivalent<CowSlice<'k, T, A>> for &[T] {
+    ghost equivalent = { λ form k. pointwise T.eq form.now (cow_slice_items k) };
+
+    ghost hashes_alike = { λ form k. (items_Alike (record { fed = T.respects_eq })).fed form.now (cow_slice_items k) };
+
+    ghost stands_for_equals = { λ form k other.
+        (lists_equiv T.Eq.laws).congr form.now (cow_slice_items k) (cow_slice_items other) };
+
+    fn equivalent(&self, key: &CowSlice<'k, T, A>) -> bool {
+        *self == key.as_slice()
+    }
+}

@@ -1,0 +1,112 @@
+//! The two maps of a script, and the line that is played on them.
+
+use crate::counts::Counts;
+use crate::kinds::{Named, Number};
+use crate::walk_items::{of_pair, print_items};
+use halfbrown::{Limit, LimitedHashMap};
+use std::alloc::{AllocError, Global};
+use std::hash::{BuildHasher, Hash};
+use std::io;
+
+/// Plays the lines of a script. Calls are made on the first map.
+#[derive(Drop)]
+pub(crate) struct Player<'a, R, K: Eq + Hash, V, S: BuildHasher, L: Limit> {
+    pub rt: &'a R,
+    pub alloc: Global,
+    pub counts: &'a Counts,
+    pub a: LimitedHashMap<K, V, S, L>,
+    pub b: LimitedHashMap<K, V, S, L>,
+    /// A value, which is asked for others.
+    pub zero: V,
+    /// Whether memory may be refused in the line.
+    pub is_refused: bool,
+}
+
+impl<'a, R: Print, K: Eq + Hash, V, S: BuildHasher, L: Limit> Player<'a, R, K, V, S, L> {
+    /// The first map, on which the call of the line is made next.
+    pub(crate) fn open(&mut self) -> &mut LimitedHashMap<K, V, S, L> {
+        self.mark();
+        &mut self.a
+    }
+
+    /// The allocator, for a call of the line that makes a map.
+    pub(crate) fn marked_alloc(&self) -> Global {
+        self.mark();
+        self.alloc
+    }
+
+    /// Marks the call that comes next, for which the program itself asks for no more memory: it writes no bytes, once, and
+    /// twice where memory may be refused. Where that fails, so does the write of the answer.
+    pub(crate) fn mark(&self) {
+        let _ = self.rt.write_some(&[]);
+        if self.is_refused {
+            let _ = self.rt.write_some(&[]);
+        }
+    }
+
+    /// The value of this number.
+    pub(crate) fn value(&self, number: u64) -> V
+    where
+        V: Number,
+    {
+        self.zero.like(number)
+    }
+
+    /// The first map. An empty one with the same builder replaces it.
+    pub(crate) fn take(&mut self) -> LimitedHashMap<K, V, S, L>
+    where
+        S: Copy,
+    {
+        let empty = LimitedHashMap::with_hasher(self.alloc, *self.a.hasher());
+        std::mem::replace(self.open(), empty)
+    }
+
+    /// Begins a line, and returns the words of its call.
+    pub(crate) fn begin<'b>(&mut self, line: &'b str) -> Result<Vec<&'b str>, AllocError> {
+        self.counts.begin();
+        self.is_refused = line.starts_with("refused ");
+        let call = line.strip_prefix("refused ").unwrap_or(line);
+        call.split(" ").collect(self.alloc)
+    }
+
+    /// Ends a line, of which this was printed by its call. It is a bad one where it made none.
+    pub(crate) fn end(&self, printed: Option<io::Result<()>>) -> io::Result<()> {
+        match printed {
+            Some(printed) => printed?,
+            None => return println!(self.rt; "bad line"),
+        }
+        self.print_fields()?;
+        if let Some(calls) = self.counts.calls() {
+            print!(self.rt; " | called {calls}")?;
+        }
+        println!(self.rt)
+    }
+
+    /// Prints the fields after an answer: the work since the line began, the state of the first map, and what was dropped.
+    pub(crate) fn print_fields(&self) -> io::Result<()> {
+        let (hashes, comparisons) = self.counts.take_work();
+        print!(self.rt; " | {hashes} {comparisons} | ")?;
+        print_state(self.rt, &self.a)?;
+        let (keys, values) = self.counts.take_dropped();
+        print!(self.rt; " | dropped {keys} {values}")
+    }
+}
+
+/// Prints the form, the length and the capacity of a map.
+pub(crate) fn print_state<K: Eq + Hash, V, S: BuildHasher, L: Limit>(
+    rt: &impl Print,
+    map: &LimitedHashMap<K, V, S, L>,
+) -> io::Result<()> {
+    let form = if map.is_vec() { "vec" } else { "map" };
+    print!(rt; "{form} {} {}", map.len(), map.capacity())
+}
+
+/// Prints the same and the pairs.
+pub(crate) fn print_map<K: Eq + Hash + Named, V: Number, S: BuildHasher, L: Limit>(
+    rt: &impl Print,
+    map: &LimitedHashMap<K, V, S, L>,
+) -> io::Result<()> {
+    print_state(rt, map)?;
+    print!(rt; " ")?;
+    print_items(rt, &mut map.iter(), usize::MAX, of_pair)
+}

@@ -1,0 +1,99 @@
+//! Insertions, and the calls by an index in the order of the pairs.
+ghost use Rattle.std.specs.Prelude.{◌≡◌};
+ghost use Rattle.halfbrown.specs.Pairs.{holds};
+
+use crate::answer::{Answer, of_pair, of_removed, refused, said};
+use crate::counts::Counts;
+use crate::kinds::{Named, Number};
+use crate::player::Player;
+use halfbrown::{Limit, LimitedHashMap, Refused};
+use std::hash::{BuildHasher, Hash};
+
+impl<R: Print, K: Eq + Hash + Named + Drop, V: Number + Drop, S: BuildHasher, L: Limit> Player<
+    '_,
+    R,
+    K,
+    V,
+    S,
+    L,
+> {
+    /// `insert`.
+    pub(crate) fn insert(&mut self, key: K, value: V) -> Answer {
+        match self.open().insert(key, value) {
+            Ok(Some(old)) => said("was").value(&old),
+            Ok(None) => said("none"),
+            Err(back) => handed_back(&back),
+        }
+    }
+
+    /// `insert_nocheck`, only where the key is not held.
+    pub(crate) fn insert_nocheck(&mut self, key: K, value: V) -> Answer {
+        let counts = self.counts;
+        let map = self.open();
+        if is_held(map, counts, &key) {
+            return said("held");
+        }
+        match map.insert_nocheck(key, value) {
+            Ok(()) => said("added"),
+            Err(back) => handed_back(&back),
+        }
+    }
+
+    /// `first`.
+    pub(crate) fn first(&mut self) -> Answer {
+        of_pair(self.open().first())
+    }
+
+    /// `last`.
+    pub(crate) fn last(&mut self) -> Answer {
+        of_pair(self.open().last())
+    }
+
+    /// `pop`.
+    pub(crate) fn pop(&mut self) -> Answer {
+        of_removed(self.open().pop())
+    }
+
+    /// `get_index`.
+    pub(crate) fn get_index(&mut self, index: usize) -> Answer {
+        of_pair(self.open().get_index(index))
+    }
+
+    /// Writes a value by `get_index_mut`.
+    pub(crate) fn get_index_mut(&mut self, index: usize, value: V) -> Answer {
+        match self.open().get_index_mut(index) {
+            Some(held) => said("was").value(&std::mem::replace(held, value)),
+            None => said("none"),
+        }
+    }
+
+    /// Writes a value by `insert` of the entry at an index.
+    pub(crate) fn get_index_entry(&mut self, index: usize, value: V) -> Answer {
+        match self.open().get_index_entry(index) {
+            Some(mut entry) => said("was").value(&entry.insert(value)),
+            None => said("none"),
+        }
+    }
+
+    /// `swap_remove_index`.
+    pub(crate) fn swap_remove_index(&mut self, index: usize) -> Answer {
+        of_removed(self.open().swap_remove_index(index))
+    }
+}
+
+fn handed_back<K: Named, V: Number>(back: &Refused<K, V>) -> Answer {
+    refused(back.why).pair(&back.key, &back.value)
+}
+
+// Whether an equal key is held, which is not counted.
+fn is_held<K: Eq + Hash, V, S: BuildHasher, L: Limit>(
+    map: &LimitedHashMap<K, V, S, L>,
+    counts: &Counts,
+    key: &K,
+) -> bool
+    ensures { result ≡ holds K.eq map.now.pairs key.now }
+{
+    let is_held = map.contains_key(key);
+    counts.take_work();
+    is_held
+}

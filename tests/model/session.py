@@ -1,0 +1,67 @@
+"""A script on the model, line by line: what each line is answered, and what it meets."""
+
+from model.basics import BadLine, Pair, Refused, Work
+from model.coverage import MET, SIZE, met_by, refused_by
+from model.lines import CALLS, CALLS_ON_A, WITH_TEXT, keys_in, read_call, read_first
+from model.map import Map
+
+
+def refusal_of(call, why):
+    """What a refused call is answered, with what it hands back."""
+    if call.form.startswith("insert"):
+        return f"refused {why} {Pair(*call.said)}"
+    if call.form.startswith("entry"):
+        return f"refused {why} {call.said[0]}"
+    return "refused" if call.form in ("extend ITEMS", "collect ITEMS") else f"refused {why}"
+
+
+class Session:
+    """A script that is being played, and its two maps. `refused` calls are refused all memory, unless it is granted."""
+
+    def __init__(self, is_granted=False):
+        self.is_granted, self.a, self.b, self.is_owning = is_granted, None, None, False
+        # Pairs of what was met and where, as in coverage.py.
+        self.met = []
+
+    def answer(self, line):
+        line = line.removesuffix("\r")
+        try:
+            return self.answer_call(line) if self.a else self.answer_first(line)
+        except BadLine:
+            return "bad line"
+
+    def answer_first(self, line):
+        """Makes the maps."""
+        kind, limit, rule, capacity = read_first(line)
+        try:
+            self.a, self.b, self.is_owning = Map(limit, rule, capacity), Map(limit, rule), kind == "owning"
+            answer = f"made | 0 0 | {self.a} | dropped 0 0"
+        except Refused as why:
+            answer = f"refused {why}"
+        self.met.append((f"{kind} {limit}", MET if self.a else SIZE))
+        return answer
+
+    def held(self):
+        return len(self.a.pairs) + len(self.b.pairs)
+
+    def answer_call(self, line):
+        call = read_call(line, self.is_owning)
+        work = self.a.work = self.b.work = Work(call.is_refused and not self.is_granted)
+        met, held = met_by(call, self.a), self.held()
+        try:
+            answer = CALLS[call.form](self.a if call.form in CALLS_ON_A else self, *call.said)
+            answer = "done" if answer is None else str(answer)
+        except Refused as why:
+            answer = refusal_of(call, why)
+        self.met += met + refused_by(call, work, answer)
+        gone = held + work.cloned - self.held()
+        dropped = f"dropped {keys_in(call.said) + gone} {call.values() + gone if self.is_owning else 0}"
+        called = f" | called {work.called}" if call.form.endswith(" *") else ""
+        requests = "0..1000" if call.form in WITH_TEXT else work.requests
+        return f"{answer} | {work} | {self.a} | {dropped}{called} | requests {requests}"
+
+
+def answers(lines, is_granted=False):
+    """The answer to each line of a script."""
+    session = Session(is_granted)
+    return [session.answer(line) for line in lines]

@@ -1,0 +1,213 @@
+"""Scripts of calls that are made at random, in the language of docs/SCRIPTS.md. The model is played meanwhile: it says
+what is held, so that a script can bring the map into each state, and make any call of the table there."""
+
+from model.basics import GREATEST, MOST_PAIRS, RULES, Key
+from model.lines import CALLS, COMMANDS, LIMITS, MAKERS_FOR, OTHER_LIMITS, PLAIN_MAKERS, WITH_TEXT, places_of
+from model.session import Session
+from model.walk import steps_of
+
+LINES = 200
+# Some limits, rules and states are chosen more often than others.
+FIRST_LINES = [(kind, limit) for kind in LIMITS for limit in (*LIMITS[kind], 5, 5, 2, 3)]
+RULES_OFTEN = ("plain", *RULES)
+STATES_OFTEN = ("vec", "full vec", "full vec", "table", "full table", "full table", "went back", "went back", "went back")
+NUMBERS = (0, 0, 0, 1, 1, 2, 3, 4, 5, 7, 12, 31, 32, 100, GREATEST)
+SIZES = (0, 1, 2, 3, 5, 6, 7, 12, 13, 33, 50)
+# Sizes that are refused.
+TOO_GREAT = (MOST_PAIRS + 1, 2**63, GREATEST)
+ADDING = ("insert KEY V", "insert_nocheck KEY V", "entry KEY or_insert V", "raw KEY add V", "run insert_new KEY V is_vec")
+REMOVING = ("remove FORM", "remove_entry_hashed FORM", "entry KEY remove", "raw KEY remove", "run remove KEY")
+ANEW = ("drop", "into_iter", "walk for_value STEPS", "walk into_iter STEPS")
+BACK = ("shrink_to_fit", "shrink_to_fit", "run shrink len")
+COMPARING = ("same", "eq", "same_as LIMIT RULE", "same_from LIMIT RULE")
+# Those that empty the map are chosen less often, and those that have many cases more often.
+EMPTYING = ("clear", "drain N", "walk drain STEPS", *ANEW)
+OF_MANY_CASES = ("run COMMANDS", "made MAKER ITEMS", "from_iter_hint SIZE ITEMS", "hashmap ITEMS", "from_array ITEMS")
+WEIGHTS = {form: 0.7 if form in EMPTYING else 5 if form in OF_MANY_CASES else 1 for form in CALLS}
+# The calls after which a map of many pairs has many still.
+KEEPING = {form: weight for form, weight in WEIGHTS.items() if form not in (*EMPTYING, "swap", "retain M N *")}
+NO_CALLS = (
+    "", " iter", "iter ", "iter 1", "insert 1", "insert  1 2", "insert +1 2", "insert 1 -2", "get", "get x", "GET 1",
+    "insert 1 18446744073709551616", "insert 1#2#3 4", "insert # 4", "entry 1", "entry 1 or_insert", "entry 1 take",
+    "raw 1", "raw 1 sell 5", "extend 1", "extend 1 2 3", "map 5 plain", "get 000000000000000000001", "clear 0", "run ",
+    "run  len", "run len clear 0", "run insert_new 1 2 get", "run clear sell 1", "run get @1", "from_array 1",
+    "from_array 1 1 2 2 3 3 4 4 5 5", "hashmap 1 1 2 2 3 3 4 4", "refused", "refused ", "refused refused get 1",
+    "refused map 5 plain", "get @", "get @1#2", "get @@1", "insert @1 2", "entry @1 read", "raw_entry_match 0 some",
+    "raw_entry_match any 1", "raw_find_match 0 1#1", "walk", "walk list", "walk iter take", "walk iter each next",
+    "walk drain len", "walk iter add", "walk into_iter clone", "walk keys debug", "walk iter is_empty",
+    "walk iter each:x", "walk iter each:", "walk iter next:1", "same_as 3 plain", "same_as 5 none", "same_from 05 plain",
+    "made", "made with_capacity", "made new:1", "made old", "made vec_with_capacity: 1 2", "error", "error get 1",
+    "error entry 1 2", "iter\r", "iter\r\r", "\riter", "get_index @1", "get_index_mut 1#2 3", "first 1", "drop 1",
+)
+
+
+class Script:
+    """A script that is being made: its lines, and what each is answered. Its keys come again: they are few, in steps."""
+
+    def __init__(self, chance, kind, limit, rule, keys):
+        self.chance, self.is_owning, self.limit, self.rule = chance, kind == "owning", limit, rule
+        self.lines, self.wanted, self.session = [], [], Session()
+        self.keys, self.stride = keys, chance.choice((1, 1, 4, 8, 16, 37))
+        self.first = chance.choice((0, 0, 3, 1000, GREATEST - 2 * self.stride * keys))
+        if chance.random() < 0.5:
+            self.add(f"{kind} {limit} {rule} {chance.choice(TOO_GREAT)}")
+            self.add(chance.choice(("map", "map 6 plain", f"{kind} {limit} none", f"map 05 {rule}", "iter")))
+        self.add(f"{kind} {limit} {rule}" + chance.choice(("", "", f" {chance.choice(SIZES)}")))
+
+    @property
+    def a(self):
+        return self.session.a
+
+    def add(self, line):
+        self.lines.append(line)
+        self.wanted.append(self.session.answer(line))
+
+    def any_id(self):
+        return self.first + self.stride * self.chance.randrange(self.keys)
+
+    def held_id(self):
+        return self.chance.choice(self.a.pairs).key.id if self.a.pairs else self.any_id()
+
+    def new_id(self):
+        id_ = self.any_id()
+        while self.a.holds(Key(id_)):
+            id_ = (id_ + self.stride) % 2**64
+        return id_
+
+    def key(self, id_):
+        return f"{id_}{self.chance.choice(('', '', '#2', '#3'))}"
+
+    def size(self):
+        """A size. At a limit of 2^60 none is too great, and memory would be asked for it."""
+        return self.chance.choice(TOO_GREAT if self.limit != MOST_PAIRS and self.chance.random() < 0.1 else SIZES)
+
+    def which(self, id_):
+        """What a match accepts. In a table `any` is determined where no two keys have one hash."""
+        is_determined = self.rule == "plain" or self.limit >= MOST_PAIRS
+        return self.chance.choice((id_, id_, id_, "none", "any" if is_determined else "none"))
+
+    def items(self, most):
+        ids = [self.chance.choice((self.any_id, self.held_id))() for _ in range(self.chance.randrange(most + 1))]
+        return " ".join(f"{self.key(id_)} {self.chance.randrange(1000)}" for id_ in ids)
+
+    def steps(self, kind):
+        """Some steps that this kind of iterator has."""
+        steps = self.chance.choices([*steps_of(kind), "next", "next"], k=self.chance.randrange(8))
+        steps.sort(key=lambda step: step.startswith("each"))
+        while len(steps) > 1 and steps[-2].startswith("each"):
+            steps.pop()
+        return " ".join(step.replace(":N", f":{self.chance.randrange(5)}") for step in steps)
+
+    def written(self, form, id_=None):
+        """A line of this form. A given ID is that of its keys."""
+        choice, places = self.chance.choice, places_of(form)
+        id_ = choice((self.any_id, self.held_id, self.held_id))() if id_ is None else id_
+        words = {
+            "KEY": lambda: self.key(id_),
+            "FORM": lambda: choice((f"@{id_}", self.key(id_), self.key(id_))),
+            "V": lambda: self.chance.randrange(1000),
+            "N": lambda: choice(NUMBERS),
+            "M": lambda: choice((0, 1, 2, 2, 3, 3, 5, 7)),
+            "SIZE": self.size,
+            "HASH": lambda: choice((*[RULES[self.rule](Key(id_))] * 6, 0, 5, GREATEST)),
+            "WHICH": lambda: self.which(id_),
+            "LIMIT": lambda: choice(OTHER_LIMITS),
+            "RULE": lambda: choice(tuple(RULES)),
+            "MAKER": lambda: choice((*PLAIN_MAKERS, *(f"{maker}:{self.size()}" for maker in MAKERS_FOR))),
+            "ITEMS": lambda: self.items(3 if form.startswith("hashmap") else 4),
+            "COMMANDS": lambda: " ".join(self.written(choice(tuple(COMMANDS))) for _ in range(self.chance.randrange(6))),
+            "STEPS": lambda: self.steps(places[1]),
+        }
+        said = [str(words[place]()) if place in words else place for place in places]
+        return " ".join(word for word in said if word)
+
+    def call(self, forms, id_=None):
+        forms = [form for form in forms if not (self.is_owning and form.startswith("run"))]
+        self.add(self.written(self.chance.choice(forms), id_))
+
+    def any_call(self, weights=WEIGHTS):
+        """Any call, now and then refused memory, and often all pairs after it."""
+        chance = self.chance
+        form = chance.choices(tuple(weights), weights.values())[0]
+        is_refused = form not in WITH_TEXT and chance.random() < (0.3 if self.a.state().startswith("full") else 0.1)
+        self.add("refused " * is_refused + self.written(form))
+        if is_refused or chance.random() < 0.15:
+            self.add("pairs")
+        if form == "clone" or chance.random() < 0.01:
+            self.call(COMPARING)
+        if chance.random() < 0.01:
+            self.add(chance.choice(NO_CALLS))
+
+    def fill(self, count):
+        """Adds pairs until there are this number."""
+        while len(self.a.pairs) < count:
+            if self.chance.random() < 0.3:
+                self.add(f"extend {self.items(count - len(self.a.pairs))}".strip())
+            else:
+                self.call(ADDING, self.new_id())
+
+    def empty(self, count):
+        """Removes pairs until there are this number."""
+        while len(self.a.pairs) > count:
+            if count == 0 and self.chance.random() < 0.2:
+                self.add(self.chance.choice(("clear", "retain 1 0", "drain 3")))
+            else:
+                self.call(REMOVING, self.held_id())
+
+    def reach(self, state):
+        """Brings the map into this state, where its limit allows that."""
+        state = "vec" if self.limit >= MOST_PAIRS else state
+        if state in ("vec", "full vec") and (not self.a.is_vec or self.a.has_gone_back):
+            self.call(ANEW)
+        if state in ("table", "full table", "went back") and self.a.is_vec:
+            self.fill(self.limit)
+            self.call(ADDING, self.new_id())
+        if state == "went back":
+            self.empty(self.limit)
+            self.call(BACK)
+        elif state == "full table":
+            self.fill(self.limit + 1)
+            self.add("shrink_to_fit")
+            self.fill(self.a.capacity)
+        else:
+            count = self.limit if state == "full vec" else self.chance.randrange(min(self.limit, 8) + 1)
+            self.fill(count)
+            self.empty(count)
+
+    def flood(self, count, stride):
+        """Many pairs, and any call then. The keys collide where the rule has one hash, or the stride is that of buckets."""
+        for start in range(0, count, 50):
+            self.add("extend " + " ".join(f"{number * stride} {number}" for number in range(start, start + 50)))
+        self.keys, self.stride, self.first = count, stride, 0
+        for _ in range(LINES // 8):
+            self.any_call(KEEPING)
+
+    def pass_through(self, count):
+        """Keys pass through a map of few pairs. Under the plain rule all hashes differ, and have only four home buckets."""
+        ids = [256 * number + number % 4 for number in range(count + 40)]
+        self.add("extend " + " ".join(f"{id_} 0" for id_ in ids[:40]))
+        for old, new in zip(ids, ids[40:]):
+            self.add(f"run remove {old} get {new} insert {new} 1")
+
+
+# Long scripts: a limit, a rule, and what is done.
+LONG = [(32, "plain", lambda script: script.flood(4000, 1))]
+LONG += [(limit, rule, lambda script: script.flood(300, 2**14)) for limit in (0, 5) for rule in RULES]
+LONG += [(limit, rule, lambda script: script.pass_through(500)) for limit in (0, 32, GREATEST) for rule in RULES]
+
+
+def make_script(chance, index):
+    """The script of this index, of which the first ones are long."""
+    if index < len(LONG):
+        limit, rule, fill = LONG[index]
+        script = Script(chance, "map", limit, rule, 40)
+        fill(script)
+    else:
+        kind, limit = FIRST_LINES[index % len(FIRST_LINES)]
+        script = Script(chance, kind, limit, chance.choice(RULES_OFTEN), max(8, 3 * limit if limit < 100 else 40))
+        while len(script.lines) < LINES:
+            script.reach(chance.choice(STATES_OFTEN))
+            for _ in range(chance.choice((1, 1, 1, 2, 10))):
+                script.any_call()
+    script.add("pairs")
+    return script

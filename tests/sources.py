@@ -1,0 +1,115 @@
+#!/usr/bin/env python3
+"""Searches the sources of the libraries and the program for what no proof sees: work that is done beside the count, values that
+are forgotten, tables and builders that are made to be dropped.
+
+A tally is begun by a plain call alone, whose whole body is its counted form, or where OTHER_TALLIES says why. What counts, reads
+a bucket or makes a table is called where CALLERS says. Of the words of buckets only what WORD_CALLS names is called.
+
+The last line is "N passed, M failed".
+"""
+
+import pathlib
+import re
+import sys
+
+CRATES = pathlib.Path(__file__).resolve().parent.parent / "crates"
+LIBRARIES = ("half_store", "halfbrown", "halfmap")
+
+# What may stand nowhere: a pattern, and what is wrong with it.
+NOWHERE = {
+    r"\bforget\(|ManuallyDrop|\bleak\(": "a value may be forgotten",
+    r"\bTally as\b|\btype \w+ = Tally\b": "the tally has another name",
+    r"\.hash\(|\.build_hasher\(": "a key is hashed beside the builder's hash_one",
+}
+# Where a call stands, and how often: a pattern, and the files, below crates/ and without .rt.
+CALLERS = {
+    r"\.hash_one\(": {"half_store/src/counting": 1},
+    r"\bcounting::hash_one\(": {"halfbrown/src/map/form": 2},
+    r"\bcompare\(": {"half_store/src/table/probe": 1, "half_store/src/vecmap/search": 1},
+    r"\blook\(": {"half_store/src/table/probe": 2},
+    r"(?<!\w)search\(": {"half_store/src/table/find": 1},
+    r"\bfirst_match\(": {"half_store/src/store/find": 1},
+    r"\bfirst_empty\(": {"half_store/src/table": 2, "half_store/src/table/rehash": 1},
+    r"\bfind_in\(": {"half_store/src/table": 2},
+    r"\bbuckets\.read\(": {"half_store/src/counting": 1},
+    r"\.word_at\(": {"half_store/src/buckets": 1, "half_store/src/table/deletion": 3, "half_store/src/words": 2},
+    r"\.hashed_buckets\(": {},
+    r"\bTable::with_capacity\(": {"half_store/src/store/memory": 2, "half_store/src/store/switch": 1},
+    r"\bbuilder\.clone\(": {"halfbrown/src/map/clone": 1},
+}
+# Where a tally is begun by no plain call, and why: the function and the line.
+OTHER_TALLIES = {
+    # The bucket of each pair is probed for anew, which growth and shrinking do not count.
+    "rehash": "let bucket = first_empty(&held, hashes[index], &mut Tally::new());",
+    # The switch adds each pair to a new table; its hashes are counted, its buckets are not.
+    "store_hashes": "table.add(hash, &mut Tally::new());",
+    # Two plain calls whose counted form has another name.
+    "from_array": "LimitedHashMap::collect(alloc, N, pairs.into_iter(), &mut Tally::new())",
+    "extend": "match self.insert_all(items.into_iter(), &mut Tally::new()) {",
+}
+# What is called of the words of buckets, in any file of the store.
+WORD_CALLS = {"allocator", "as_slice", "clear", "copied", "count", "fill", "len", "read", "set_word", "word_at"}
+WORDS = re.compile(r"\b(?:buckets|words|rehashed)\b(?:\s*\.\s*(\w+)|(\[)(?!\w+\] =))|\bin &?(?:mut )?(?:self\.)?(?:buckets|words)\b")
+
+COMMENT = re.compile(r"^\s*//.*$", re.M)
+CLAUSE = re.compile(r"^ *(?:requires|ensures|ghost)\b.*?(?=^ *(?:requires|ensures|ghost|\{|fn|pub|type|impl|\}|use|const|struct|trait|#|$))", re.M | re.S)
+FUNCTION = re.compile(r"^( *)(?:pub(?:\(\w+\))? )?fn (\w+).*?(?:\{$|^\1\{$)\n(.*?)^\1\}$", re.M | re.S)
+
+
+def code_of(path):
+    """The text of a file without its comments and clauses; lines stay where they are."""
+    blanked = COMMENT.sub("", path.read_text())
+    return CLAUSE.sub(lambda it: "\n" * it[0].count("\n"), blanked)
+
+
+def functions(code):
+    """The functions of a file: the name and the body, in one line."""
+    return [(it[2], " ".join(it[3].split())) for it in FUNCTION.finditer(code)]
+
+
+def nowhere(name, code):
+    for pattern, problem in NOWHERE.items():
+        yield from (f"{name}: {problem}: {it[0]}" for it in re.finditer(pattern, code))
+
+
+def callers(name, code):
+    for pattern, files in CALLERS.items():
+        calls = [line.strip() for line in code.splitlines() if " fn " not in line for _ in re.finditer(pattern, line)]
+        if len(calls) != files.get(name, 0):
+            yield f"{name}: this is called {len(calls)} times, and not {files.get(name, 0)}: {(calls or [pattern])[-1]}"
+
+
+def words(name, code):
+    for it in WORDS.finditer(code) if name.startswith("half_store/") else ():
+        if it[1] not in WORD_CALLS:
+            yield f"{name}: the words of buckets are read in another way: {it[0]}"
+
+
+def tallies(name, code):
+    seen = 0
+    for function, body in functions(code):
+        begun = body.count("Tally::new()")
+        seen += begun
+        is_plain = re.fullmatch(rf"(?:\w+(?:::|\.))?{function}_counted\([^;]*&mut Tally::new\(\)\)", body)
+        other = OTHER_TALLIES.get(function)
+        if begun and not is_plain and not (begun == 1 and other and other in body):
+            yield f"{name}: `{function}` begins a tally, and is no plain call of its counted form"
+    if code.count("Tally::new()") != seen:
+        yield f"{name}: a tally is begun in no function that was read"
+
+
+def main():
+    files = [path for crate in LIBRARIES for path in sorted((CRATES / crate / "src").rglob("*.rt"))]
+    failed = []
+    for path in files:
+        name, code = path.relative_to(CRATES).with_suffix("").as_posix(), code_of(path)
+        for search in (nowhere, callers, words, tallies):
+            failed += search(name, code)
+    for problem in failed:
+        print(problem)
+    print(f"{4 * len(files) - len(failed)} passed, {len(failed)} failed")
+    return bool(failed) or not files
+
+
+if __name__ == "__main__":
+    sys.exit(main())
