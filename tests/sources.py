@@ -43,9 +43,8 @@ OTHER_TALLIES = {
     "rehash": "let bucket = first_empty(&held, hashes[index], &mut Tally::new());",
     # The switch adds each pair to a new table; its hashes are counted, its buckets are not.
     "store_hashes": "table.add(hash, &mut Tally::new());",
-    # Two plain calls whose counted form has another name.
+    # A plain call whose counted form has another name.
     "from_array": "LimitedHashMap::collect(alloc, N, pairs.into_iter(), &mut Tally::new())",
-    "extend": "match self.insert_all(items.into_iter(), &mut Tally::new()) {",
 }
 # What is called of the words of buckets, in any file of the store.
 WORD_CALLS = {"allocator", "as_slice", "clear", "copied", "count", "fill", "len", "read", "set_word", "word_at"}

@@ -2,12 +2,13 @@
 use Rattle.std.specs.Prelude.{◌≡◌, ℕ, nat_le, Bool, true, false, not, List, [], ◌∷◌, ◌++◌, ◌⊎◌, Option, filter, reverse}
 use Rattle.std.specs.Iterator.{Yields}
 use Rattle.std.specs.Map.{keys_of}
+use Rattle.std.specs.Option.{option_or}
 use Rattle.half_store.specs.declared.refusal.Refusal.{Refusal}
 use Rattle.halfbrown.specs.Costs.{Cost, no_cost, add_costs, insert_cost}
 use Rattle.halfbrown.specs.Growth.{making_needs, insert_needs, IsRefusal}
 use Rattle.halfbrown.specs.Insertion.{Puts}
 use Rattle.halfbrown.specs.Making.{IsMade}
-use Rattle.halfbrown.specs.Pairs.{put, value_of}
+use Rattle.halfbrown.specs.Pairs.{put, holds, value_of}
 use Rattle.halfbrown.specs.State.{State, IsState}
 
 -- of each class of equal keys the first, in order
@@ -44,6 +45,14 @@ module _ {K V S : Type 0} (limit : ℕ) (eq : K → K → Bool) (hash : S → K 
   InsertsAll old (p ∷ items) new cost =
       (next : State K V S) × (rest : Cost) × Puts limit eq old p.0 p.1 (insert_needs limit eq old p.0) next × IsState eq limit next
       × InsertsAll next items new rest × (cost ≡ add_costs (insert_cost limit eq hash old p.0 true) rest)
+
+  -- from old to new these items are inserted: new keys come behind those held, in order, and each key has the last value that was given for it
+  pub record Extends (old : State K V S) (items : List (K × V)) (new : State K V S) (cost : Cost) : Type 0 where
+    pub pairs : new.pairs ≡ put_all eq old.pairs items
+    pub keys : keys_of new.pairs ≡ keys_of old.pairs ++ filter (λ q. not (holds eq old.pairs q)) (first_keys eq (keys_of items))
+    pub values : (k : K) → value_of eq new.pairs k ≡ option_or (last_value_of eq items k) (value_of eq old.pairs k)
+    pub builder : new.builder ≡ old.builder
+    pub inserted : InsertsAll old items new cost
 
   -- items of which `given` holds, and an insertion of the last one that was refused, once those before it were inserted: what was spent counts
   -- the refused one too

@@ -2,7 +2,7 @@
 ghost use Rattle.std.specs.Prelude.{◌≡◌, ◌⊎◌, ℕ, true, List, IfOk, IfErr, OnOk};
 ghost use Rattle.std.specs.Iterator.{IsFinite, Drains};
 ghost use Rattle.std.specs.Iterator.SizeHint.{IsWithinCount};
-ghost use Rattle.halfbrown.specs.Collection.{Gives, AreFirst, InsertsAll, IsCollection, IsRefusedCollection, IsRefusedInsertion};
+ghost use Rattle.halfbrown.specs.Collection.{Gives, AreFirst, Extends, IsCollection, IsRefusedCollection, IsRefusedInsertion};
 ghost use Rattle.halfbrown.specs.Costs.{key_hash, Cost, GrewBy};
 ghost use Rattle.halfbrown.specs.State.{IsState};
 
@@ -119,26 +119,50 @@ impl<K: Eq + Hash + Drop, V: Drop, S: BuildHasher + Default + Drop, L: Limit> Li
         ensures state { IfOk result (IsState K.eq L.LIMIT) }
     {
         let mut map = LimitedHashMap::with_capacity_and_hasher(alloc, capacity, S::default())?;
-        map.insert_all(items, tally)?;
+        map.extend_counted(items, tally)?;
         Ok(map)
     }
 }
 
 impl<K: Eq + Hash + Drop, V: Drop, S: BuildHasher, L: Limit> LimitedHashMap<K, V, S, L> {
-    // Inserts the items, in order. On error those before the refused one stay.
-    fn insert_all<I: Iterator<Item = (K, V)>>(
+    /// Inserts each item, in order. New keys come last; a held key stays where it is, with the last value.
+    ///
+    /// The items must end. Fails as `insert` does, and then the items before the refused one stay, and the remaining
+    /// items are dropped.
+    ///
+    /// ```
+    /// ages.extend([(2, 42), (3, 5)])?;
+    /// assert_eq!(rt; ages.len(), 3);
+    /// assert_eq!(rt; ages.get(&2), Some(&42));
+    /// ```
+    pub fn extend<I: IntoIterator<Item = (K, V)>>(&mut self, items: I) -> Result<(), Refusal>
+        requires { (it : I.IntoIter) → I.into_iter_gives items it
+            → I.IntoIter.can_next it × IsFinite (I.IntoIter.remaining it) }
+        ensures extended { OnOk result ((it : I.IntoIter) × (gave : List (K × V)) × (cost : Cost)
+            × I.into_iter_gives items it × Drains I.IntoIter.next_gives it gave
+            × Extends L.LIMIT K.eq (key_hash S.BuildHasher S.Hasher.Hasher K.hash_input) self.old gave self.new cost) }
+        ensures refused { IfErr result (λ why. (it : I.IntoIter) × (cost : Cost) × I.into_iter_gives items it
+            × IsRefusedInsertion L.LIMIT K.eq (key_hash S.BuildHasher S.Hasher.Hasher K.hash_input)
+            (Gives I.IntoIter.next_gives it) self.old why self.new cost) }
+    {
+        self.extend_counted(items, &mut Tally::new())
+    }
+
+    /// `extend`, with its work counted: that of the insertions.
+    pub fn extend_counted<I: IntoIterator<Item = (K, V)>>(
         &mut self,
         items: I,
         tally: &mut Tally,
     ) -> Result<(), Refusal>
-        requires can { I.can_next items }
-        requires ends { IsFinite (I.remaining items) }
-        ensures ok { OnOk result ((gave : List (K × V)) × (cost : Cost) × Drains I.next_gives items gave
-            × InsertsAll L.LIMIT K.eq (key_hash S.BuildHasher S.Hasher.Hasher K.hash_input) self.old gave self.new cost
+        requires { (it : I.IntoIter) → I.into_iter_gives items it
+            → I.IntoIter.can_next it × IsFinite (I.IntoIter.remaining it) }
+        ensures extended { OnOk result ((it : I.IntoIter) × (gave : List (K × V)) × (cost : Cost)
+            × I.into_iter_gives items it × Drains I.IntoIter.next_gives it gave
+            × Extends L.LIMIT K.eq (key_hash S.BuildHasher S.Hasher.Hasher K.hash_input) self.old gave self.new cost
             × GrewBy cost tally.old tally.new) }
-        ensures refused { IfErr result (λ why. (cost : Cost)
+        ensures refused { IfErr result (λ why. (it : I.IntoIter) × (cost : Cost) × I.into_iter_gives items it
             × IsRefusedInsertion L.LIMIT K.eq (key_hash S.BuildHasher S.Hasher.Hasher K.hash_input)
-            (Gives I.next_gives items) self.old why self.new cost × GrewBy cost tally.old tally.new) }
+            (Gives I.IntoIter.next_gives it) self.old why self.new cost × GrewBy cost tally.old tally.new) }
     {
         for (key, value) in items {
             self.insert_counted(key, value, tally)?;
@@ -167,21 +191,14 @@ impl<K: Eq + Hash + Drop, V: Drop, S: BuildHasher + Default + Drop, L: Limit> Fr
     }
 }
 
-// On error the items before the refused one stay.
+// Beside the inherent call, for code over any collection. On error the items before the refused one stay.
 impl<K: Eq + Hash + Drop, V: Drop, S: BuildHasher, L: Limit> Extend<(K, V)>
     for LimitedHashMap<K, V, S, L> {
     ghost extend_gives = { λ old items new. (cost : Cost)
-        × InsertsAll L.LIMIT K.eq (key_hash S.BuildHasher S.Hasher.Hasher K.hash_input) old items new cost };
+        × Extends L.LIMIT K.eq (key_hash S.BuildHasher S.Hasher.Hasher K.hash_input) old items new cost };
 
-    /// Inserts each item, in order. The items must end. On error the items before the refused one stay.
-    ///
-    /// ```
-    /// ages.extend([(2, 42), (3, 5)])?;
-    /// assert_eq!(rt; ages.len(), 3);
-    /// assert_eq!(rt; ages.get(&2), Some(&42));
-    /// ```
     fn extend<I: IntoIterator<Item = (K, V)>>(&mut self, items: I) -> Result<(), AllocError> {
-        match self.insert_all(items.into_iter(), &mut Tally::new()) {
+        match LimitedHashMap::extend(self, items) {
             Ok(()) => Ok(()),
             Err(_) => Err(AllocError),
         }

@@ -5,7 +5,8 @@ use Rattle.std.proofs.Common.{subst, nat_le, ◌+◌, inl, inr, arith, if◌then
 use Rattle.std.proofs.lemmas.List.{reverse-append}
 use Rattle.std.specs.Cmp.{IsEquivalence}
 use Rattle.std.specs.Map.{keys_of}
-use Rattle.halfbrown.specs.Collection.{put_all, collected, first_keys, last_value_of, InsertsAll, IsCollection, IsRefusedInsertion}
+use Rattle.std.specs.Option.{option_or}
+use Rattle.halfbrown.specs.Collection.{put_all, collected, first_keys, last_value_of, InsertsAll, Extends, IsCollection, IsRefusedInsertion}
 use Rattle.halfbrown.specs.Collection.{IsRefusedCollection}
 use Rattle.halfbrown.specs.Pairs.{value_of, holds, put}
 use Rattle.halfbrown.proofs.CallerLemmas.{put_step, lookup_put}
@@ -21,24 +22,19 @@ use Rattle.halfbrown.specs.Making.{IsMade}
 use Rattle.halfbrown.specs.State.{State, IsState}
 use Rattle.halfbrown.proofs.lemmas.run.Runs.{costs_assoc, none_more, more_none, spent_both}
 
--- the first, or where there is none the second
-abbrev or_else : {V : Type 0} → Option V → Option V → Option V
-or_else (Some v) other = Some v
-or_else None other = other
-
-or_none : {V : Type 0} (o : Option V) → or_else o None ≡ o
+or_none : {V : Type 0} (o : Option V) → option_or o None ≡ o
 or_none (Some v) = refl
 or_none None = refl
 
-or_past : {V : Type 0} (b : Bool) (v : V) (o other : Option V) → cond b (Some v) (or_else o other) ≡ or_else (cond b (Some v) o) other
+or_past : {V : Type 0} (b : Bool) (v : V) (o other : Option V) → cond b (Some v) (option_or o other) ≡ option_or (cond b (Some v) o) other
 or_past true v o other = refl
 or_past false v o other = refl
 
-or_assoc : {V : Type 0} (o p other : Option V) → or_else (or_else o p) other ≡ or_else o (or_else p other)
+or_assoc : {V : Type 0} (o p other : Option V) → option_or (option_or o p) other ≡ option_or o (option_or p other)
 or_assoc (Some v) p other = refl
 or_assoc None p other = refl
 
-one_of : {V : Type 0} (b : Bool) (v : V) (other : Option V) → or_else (cond b (Some v) None) other ≡ cond b (Some v) other
+one_of : {V : Type 0} (b : Bool) (v : V) (other : Option V) → option_or (cond b (Some v) None) other ≡ cond b (Some v) other
 one_of true v other = refl
 one_of false v other = refl
 
@@ -88,24 +84,24 @@ module _ {K V : Type 0} (eq : K → K → Bool) where
   keys_put [] k v = refl
   keys_put (p ∷ ps) k v = ap keys_of (put_step eq p ps k v) ∙ keys_by p ps (put eq ps k v) k v (keys_put ps k v) (eq k p.0)
 
-  value_append : (ps qs : List (K × V)) (k : K) → value_of eq (ps ++ qs) k ≡ or_else (value_of eq ps k) (value_of eq qs k)
+  value_append : (ps qs : List (K × V)) (k : K) → value_of eq (ps ++ qs) k ≡ option_or (value_of eq ps k) (value_of eq qs k)
   value_append [] qs k = refl
   value_append (p ∷ ps) qs k = ap (cond (eq k p.0) (Some p.1)) (value_append ps qs k)
       ∙ or_past (eq k p.0) p.1 (value_of eq ps k) (value_of eq qs k)
 
   module _ (laws : IsEquivalence eq) where
     value_put_all : (ps items : List (K × V)) (k : K)
-        → value_of eq (put_all eq ps items) k ≡ or_else (last_value_of eq items k) (value_of eq ps k)
+        → value_of eq (put_all eq ps items) k ≡ option_or (last_value_of eq items k) (value_of eq ps k)
     value_put_all ps [] k = refl
     value_put_all ps (p ∷ items) k =
         let last = last_value_of eq items k in
         let old = value_of eq ps k in
         let here = cond (eq k p.0) (Some p.1) None in
         value_put_all (put eq ps p.0 p.1) items k
-        ∙ ap (or_else last) (lookup_put eq laws ps p.0 p.1 k ∙ ap (λ b. cond b (Some p.1) old) (laws.symm p.0 k)
+        ∙ ap (option_or last) (lookup_put eq laws ps p.0 p.1 k ∙ ap (λ b. cond b (Some p.1) old) (laws.symm p.0 k)
         ∙ sym (one_of (eq k p.0) p.1 old))
         ∙ sym (or_assoc last here old)
-        ∙ ap (λ o. or_else o old)
+        ∙ ap (λ o. option_or o old)
         (sym (ap (λ l. value_of eq l k) (reverse-append (p ∷ []) items) ∙ value_append (reverse items) (p ∷ []) k))
 
     holds_put : (ps : List (K × V)) (k : K) (v : V) (q : K) → not (holds eq (put eq ps k v) q) ≡ not (eq k q) && not (holds eq ps q)
@@ -251,6 +247,18 @@ module _ {K V S : Type 0} (limit : ℕ) (eq : K → K → Bool) (hash : S → K 
       let stays = sym inserts.2.form ∙ rest.0 in
       let was = and_left old.is_vec (not (is_full limit old)) stays in
       (was, omega (arith, ap (λ c. c.asked) inserts.5, asked_nothing limit old.is_vec (is_full limit old) was stays, rest.1))
+
+  pub extends_of : IsEquivalence eq → (old new : State K V S) (items : List (K × V)) (cost : Cost)
+      → InsertsAll limit eq hash old items new cost → Extends limit eq hash old items new cost
+  extends_of laws old new items cost inserts =
+      let pairs = inserts_pairs old new items cost inserts in
+      record {
+        pairs = pairs;
+        keys = ap keys_of pairs ∙ keys_put_all eq laws old.pairs items;
+        values = λ k. ap (λ ps. value_of eq ps k) pairs ∙ value_put_all eq laws old.pairs items k;
+        builder = inserts_builder old new items cost inserts;
+        inserted = inserts;
+      }
 
   -- ---- collections
 

@@ -1,7 +1,7 @@
 -- The items so far are inserted, and the iterator goes on and ends.
 use Rattle.halfbrown.specs.Costs.{key_hash}
 use Rattle.halfbrown.proofs.lemmas.map.Collect.{InsertsSoFar}
-use Rattle.halfbrown.proofs.map.LimitedHashMap.insert_all.Given as goal
+use Rattle.halfbrown.proofs.map.LimitedHashMap.extend_counted.Given as goal
 
 abbrev pub invariant-loop-key : goal.invariant-loop-key
 invariant-loop-key g l = record {

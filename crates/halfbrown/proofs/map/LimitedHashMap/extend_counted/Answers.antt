@@ -1,9 +1,9 @@
-use Rattle.std.proofs.Common.{List, subst}
-use Rattle.std.specs.Iterator.{Yields, Drains}
-use Rattle.halfbrown.specs.Collection.{Gives, InsertsAll, IsRefusedInsertion}
+use Rattle.std.proofs.Common.{List}
+use Rattle.std.specs.Iterator.{Drains}
+use Rattle.halfbrown.specs.Collection.{Gives, Extends, IsRefusedInsertion}
 use Rattle.halfbrown.specs.Costs.{key_hash, Cost, GrewBy}
-use Rattle.halfbrown.proofs.lemmas.map.Collect.{item_more, item_refused, at_error, yields_more}
-use Rattle.halfbrown.proofs.map.LimitedHashMap.insert_all.Goals as goal
+use Rattle.halfbrown.proofs.lemmas.map.Collect.{extends_of, item_more, item_refused, at_error, yields_more}
+use Rattle.halfbrown.proofs.map.LimitedHashMap.extend_counted.Goals as goal
 
 pub loop-key-preserved-in_ok-insert_counted : goal.loop-key-preserved-in_ok-insert_counted
 loop-key-preserved-in_ok-insert_counted g c = record {
@@ -27,17 +27,18 @@ loop-key-preserved g c = record {
 
 pub returns : goal.returns
 returns g c =
-    let I = g.I.Iterator.next_gives in
     let so_far = c.loop-key.invariant.so_far in
-    let given : Yields I c.args.items c.loop-key.yielded c.loop-key.key-iterator =
-    subst (λ s. Yields I s c.loop-key.yielded c.loop-key.key-iterator) c.into_iter-key-iterator.ensures.into_iter_gives
-    c.loop-key.yielded_by in
+    let L = g.L.Limit.LIMIT in
+    let E = g.K.PartialEq.eq in
+    let H = key_hash g.S.BuildHasher g.S.Hasher.Hasher g.K.Hash.hash_input in
     record {
-      ok = (
+      extended = (
+        c.into_iter-key-iterator.result,
         c.loop-key.yielded,
         so_far.cost,
-        (c.next.new.self, (c.loop-key.key-iterator, given, c.in-None.ensures.steps)),
-        so_far.inserted,
+        c.into_iter-key-iterator.ensures.into_iter_gives,
+        (c.next.new.self, (c.loop-key.key-iterator, c.loop-key.yielded_by, c.in-None.ensures.steps)),
+        extends_of L E H g.met.K.Eq.laws c.args.self.now c.loop-key.self c.loop-key.yielded so_far.cost so_far.inserted,
         so_far.spent,
       );
       refused = tt;
@@ -45,25 +46,26 @@ returns g c =
 
 pub returns-in_err-insert_counted : goal.returns-in_err-insert_counted
 returns-in_err-insert_counted g c =
-    let I = g.I.Iterator.next_gives in
+    let I = g.I.IntoIter.Iterator.next_gives in
     let L = g.L.Limit.LIMIT in
     let E = g.K.PartialEq.eq in
     let H = key_hash g.S.BuildHasher g.S.Hasher.Hasher g.K.Hash.hash_input in
+    let it = c.into_iter-key-iterator.result in
     let back = c.in_err-insert_counted.field-0.0 in
     let items = c.loop-key.yielded in
     let k = c.in-Some.key in
     let v = c.in-Some.value in
-    let given : Yields I c.args.items items c.loop-key.key-iterator =
-    subst (λ s. Yields I s items c.loop-key.key-iterator) c.into_iter-key-iterator.ensures.into_iter_gives c.loop-key.yielded_by in
-    let one_more = yields_more I c.args.items items c.loop-key.key-iterator (k, v) c.next.new.self given c.in-Some.ensures.steps in
-    let refused = item_refused L E H c.args.self.now c.loop-key.self c.insert_counted.new.self items (Gives I c.args.items) k v back.why
+    let one_more = yields_more I it items c.loop-key.key-iterator (k, v) c.next.new.self c.loop-key.yielded_by c.in-Some.ensures.steps in
+    let refused = item_refused L E H c.args.self.now c.loop-key.self c.insert_counted.new.self items (Gives I it) k v back.why
     c.args.tally.now c.loop-key.tally c.insert_counted.new.tally
     c.loop-key.invariant.so_far (c.next.new.self, one_more) c.in_err-insert_counted.ensures.inserts.returned.unchanged
     c.in_err-insert_counted.ensures.inserts.returned.why c.in_err-insert_counted.ensures.cost.grew in
     let told = at_error c.from_residual.result back.why
-    ((xs : List (g.row.K.Denot × g.row.V.Denot)) × (cost : Cost) × Drains I c.args.items xs
-    × InsertsAll L E H c.args.self.now xs c.insert_counted.new.self cost × GrewBy cost c.args.tally.now c.insert_counted.new.tally)
-    (λ why. (cost : Cost) × IsRefusedInsertion L E H (Gives I c.args.items) c.args.self.now why c.insert_counted.new.self cost
+    ((s : g.row.I.IntoIter.Denot) × (xs : List (g.row.K.Denot × g.row.V.Denot)) × (cost : Cost)
+    × g.I.into_iter_gives c.args.items s × Drains I s xs
+    × Extends L E H c.args.self.now xs c.insert_counted.new.self cost × GrewBy cost c.args.tally.now c.insert_counted.new.tally)
+    (λ why. (s : g.row.I.IntoIter.Denot) × (cost : Cost) × g.I.into_iter_gives c.args.items s
+    × IsRefusedInsertion L E H (Gives I s) c.args.self.now why c.insert_counted.new.self cost
     × GrewBy cost c.args.tally.now c.insert_counted.new.tally)
-    c.from_residual.ensures refused in
-    record { ok = told.0; refused = told.1 }
+    c.from_residual.ensures (it, refused.0, c.into_iter-key-iterator.ensures.into_iter_gives, refused.1, refused.2) in
+    record { extended = told.0; refused = told.1 }
