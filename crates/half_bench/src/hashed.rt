@@ -5,7 +5,7 @@ ghost use Rattle.half_bench.specs.Hashes.{default_hash};
 
 use crate::keys::{Key, Lawful, OfNumber};
 use crate::maps::AtLimit;
-use halfbrown::{DefaultHashBuilder, LimitedRawEntryMut, SizedHashMap};
+use halfbrown::{DefaultHashBuilder, RawEntryMut, SizedHashMap};
 use std::alloc::Global;
 use std::hash::{BuildHasher, BuildHasherDefault, FoldHasher, Hash, Hasher};
 use std::io;
@@ -73,8 +73,8 @@ fn insert_hashed<K: Eq + Hash + Drop, const N: usize>(
         .raw_entry_mut()?
         .from_key_hashed_nocheck(hash, &hashed.key)
     {
-        LimitedRawEntryMut::Occupied(_) => {}
-        LimitedRawEntryMut::Vacant(entry) => {
+        RawEntryMut::Occupied(_) => {}
+        RawEntryMut::Vacant(entry) => {
             let _added = entry.insert_entry_hashed_nocheck(hash, hashed.key, 0);
         }
     }

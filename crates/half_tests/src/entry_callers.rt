@@ -3,9 +3,7 @@
 ghost use Rattle.std.specs.Prelude.{◌≡◌, ◌+◌, ◌-◌, ◌^◌, ℕ, Some, true, false, not, min, nat_eq, OnOk, OnErr, IfOk, unwrap_or};
 ghost use Rattle.halfbrown.specs.Pairs.{value_of, holds, put};
 
-use halfbrown::{
-    DefaultHashBuilder, Entry, Limit, LimitedEntry, LimitedHashMap, Refusal, SizedHashMap,
-};
+use halfbrown::{DefaultHashBuilder, Entry, Limit, LimitedHashMap, Refusal, SizedHashMap};
 use std::hash::{BuildHasher, Hash};
 
 /// Counts a key once more, up to the greatest number.
@@ -40,11 +38,11 @@ pub fn toggle<K: Eq + Hash + Drop, S: BuildHasher, L: Limit>(
     ensures err { OnErr result (labels.new ≡ labels.old) }
 {
     match labels.entry(label)? {
-        LimitedEntry::Occupied(entry) => {
+        Entry::Occupied(entry) => {
             entry.remove();
             Ok(false)
         }
-        LimitedEntry::Vacant(entry) => {
+        Entry::Vacant(entry) => {
             entry.insert(());
             Ok(true)
         }

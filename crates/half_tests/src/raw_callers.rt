@@ -6,7 +6,7 @@ ghost use Rattle.std.specs.Option.{UnwrapsOrElse, option_map};
 ghost use Rattle.halfbrown.specs.Costs.{switch_asked};
 ghost use Rattle.halfbrown.specs.Pairs.{value_of, pair_of};
 
-use halfbrown::{Limit, LimitedHashMap, LimitedRawEntryMut, Refusal, Tally};
+use halfbrown::{Limit, LimitedHashMap, RawEntryMut, Refusal, Tally};
 use std::hash::{BuildHasher, Hash};
 
 /// The value that is cached for a key, which is computed where there is none. The key is hashed once, before all else: the
@@ -30,8 +30,8 @@ pub fn cached<K: Eq + Hash + Drop, V: Copy, S: BuildHasher, L: Limit, F: FnOnce(
         .raw_entry_mut_counted(tally)?
         .from_key_hashed_nocheck_counted(hash, &key, tally);
     match found {
-        LimitedRawEntryMut::Occupied(entry) => Ok(*entry.into_mut()),
-        LimitedRawEntryMut::Vacant(entry) => {
+        RawEntryMut::Occupied(entry) => Ok(*entry.into_mut()),
+        RawEntryMut::Vacant(entry) => {
             let entry = entry.insert_entry_hashed_nocheck_counted(hash, key, compute(), tally);
             Ok(*entry.into_mut())
         }
@@ -54,7 +54,7 @@ pub fn respell<K: Eq + Hash + Drop, V, S: BuildHasher, L: Limit>(
     ensures err { OnErr result (map.new ≡ map.old) }
 {
     match map.raw_entry_mut()?.from_key(&spelling) {
-        LimitedRawEntryMut::Occupied(mut entry) => Ok(Some(entry.insert_key(spelling))),
-        LimitedRawEntryMut::Vacant(_vacant) => Ok(None),
+        RawEntryMut::Occupied(mut entry) => Ok(Some(entry.insert_key(spelling))),
+        RawEntryMut::Vacant(_vacant) => Ok(None),
     }
 }

@@ -4,7 +4,7 @@ ghost use Rattle.std.specs.Option.{option_copied, UnwrapsOrElse};
 ghost use Rattle.halfbrown.specs.Costs.{key_hash};
 ghost use Rattle.halfbrown.specs.Pairs.{value_of, holds};
 
-use halfbrown::{LimitedRawEntryMut, Refusal, SizedHashMap, Tally};
+use halfbrown::{RawEntryMut, Refusal, SizedHashMap, Tally};
 use std::alloc::Global;
 use std::hash::{BuildHasher, Hash};
 use std::marker::Model;
@@ -132,8 +132,8 @@ fn value_in<K: Eq + Hash + Drop, V: Copy, S: BuildHasher, F: FnOnce() -> V>(
         .raw_entry_mut_counted(tally)?
         .from_key_hashed_nocheck_counted(hash, &key, tally);
     match found {
-        LimitedRawEntryMut::Occupied(entry) => Ok(*entry.into_mut()),
-        LimitedRawEntryMut::Vacant(entry) => {
+        RawEntryMut::Occupied(entry) => Ok(*entry.into_mut()),
+        RawEntryMut::Vacant(entry) => {
             let entry = entry.insert_entry_hashed_nocheck_counted(hash, key, compute(), tally);
             Ok(*entry.into_mut())
         }

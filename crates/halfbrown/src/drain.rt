@@ -9,30 +9,21 @@ use half_store::{Drained, IntoStore};
 use std::hash::{BuildHasher, Hash};
 use std::iter::FusedIterator;
 
-/// The pairs that `drain` takes out of a map that stores up to `N` pairs in a vector.
+/// The pairs that `drain` takes out of a map, in order. It knows how many are left. Once it is dropped the map holds no
+/// pair.
 ///
 /// ```
-/// fn count(pairs: Drain<'_, u64, u32, 32>) -> usize {
+/// fn count(pairs: Drain<'_, u64, u32>) -> usize {
 ///     pairs.len()
 /// }
 /// assert_eq!(rt; count(ages.drain()), 2);
 /// ```
-pub type Drain<'a, K, V, const N: usize, S = DefaultHashBuilder> = LimitedDrain<
-    'a,
-    K,
-    V,
-    S,
-    UpTo<N>,
->;
-
-/// The pairs that `LimitedHashMap::drain` takes out of a map, in order. It knows how many are left. Once it is dropped
-/// the map holds no pair.
-pub struct LimitedDrain<
+pub struct Drain<
     'a,
     K: Eq + Hash,
     V,
-    S: BuildHasher,
-    L: Limit,
+    S: BuildHasher = DefaultHashBuilder,
+    L: Limit = UpTo<32>,
     P: IntoStore<K, V> = Drained<K, V>,
 > {
     // an empty vector, until its store is put back
@@ -44,14 +35,14 @@ pub struct LimitedDrain<
 }
 
 impl<'a, K: Eq + Hash + Drop, V: Drop, S: BuildHasher, L: Limit, P: IntoStore<K, V>> Drop
-    for LimitedDrain<'a, K, V, S, L, P> {
+    for Drain<'a, K, V, S, L, P> {
     ghost use Rattle.halfbrown.specs.Drain.{map_after};
 
     fn drop(self)
         ensures after { WithPairs (map_after L.LIMIT self.entry) [] self.exit.0.now }
         ensures state { IsState K.eq L.LIMIT self.exit.0.now }
     {
-        let LimitedDrain { map, pairs } = self;
+        let Drain { map, pairs } = self;
         map.put_back(pairs);
     }
 }
@@ -71,7 +62,7 @@ impl<K: Eq + Hash, V, S: BuildHasher, L: Limit> LimitedHashMap<K, V, S, L> {
     /// drop(pairs); // and with it the other pairs
     /// assert!(rt; ages.is_empty());
     /// ```
-    pub fn drain(&mut self) -> LimitedDrain<'_, K, V, S, L>
+    pub fn drain(&mut self) -> Drain<'_, K, V, S, L>
         ensures pairs { rest result ≡ self.old.pairs }
         ensures small { length (rest result) < 2 ^ 63 }
         ensures same_map { lender result ≡ self.entry.ghost_name }
@@ -80,12 +71,12 @@ impl<K: Eq + Hash, V, S: BuildHasher, L: Limit> LimitedHashMap<K, V, S, L> {
         ensures keeps { KeepsAlong result }
     {
         let pairs = self.take_store();
-        LimitedDrain { map: self, pairs }
+        Drain { map: self, pairs }
     }
 }
 
 impl<'a, K: Eq + Hash + Drop, V: Drop, S: BuildHasher, L: Limit> Iterator
-    for LimitedDrain<'a, K, V, S, L> {
+    for Drain<'a, K, V, S, L> {
     ghost use Rattle.halfbrown.specs.Drain.{rest, DrainSteps};
 
     type Item = (K, V);
@@ -111,11 +102,11 @@ impl<'a, K: Eq + Hash + Drop, V: Drop, S: BuildHasher, L: Limit> Iterator
 }
 
 impl<'a, K: Eq + Hash + Drop, V: Drop, S: BuildHasher, L: Limit> ExactSizeIterator
-    for LimitedDrain<'a, K, V, S, L> {
+    for Drain<'a, K, V, S, L> {
     fn len(&self) -> usize {
         self.pairs.len()
     }
 }
 
 impl<'a, K: Eq + Hash + Drop, V: Drop, S: BuildHasher, L: Limit> FusedIterator
-    for LimitedDrain<'a, K, V, S, L> {}
+    for Drain<'a, K, V, S, L> {}

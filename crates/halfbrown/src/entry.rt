@@ -16,7 +16,8 @@ use crate::{DefaultHashBuilder, Limit, LimitedHashMap, UpTo};
 use half_store::Vacancy;
 use std::hash::{BuildHasher, Hash};
 
-/// The entry of a key in a map that stores up to `N` pairs in a vector.
+/// The entry of a key, which `entry` returns. The map has been searched, and has capacity for the pair where the key is
+/// not held. So no call on the entry fails, hashes a key or compares two.
 ///
 /// ```
 /// let age = match ages.entry(3)? {
@@ -25,67 +26,49 @@ use std::hash::{BuildHasher, Hash};
 /// };
 /// assert_eq!(rt; age, 5);
 /// ```
-pub type Entry<'a, K, V, const N: usize, S = DefaultHashBuilder> = LimitedEntry<
-    'a,
-    K,
-    V,
-    S,
-    UpTo<N>,
->;
-
-/// The entry of a held key in a map that stores up to `N` pairs in a vector.
-///
-/// ```
-/// fn take(entry: OccupiedEntry<'_, u64, u32, 32>) -> u32 {
-///     entry.remove()
-/// }
-/// ```
-pub type OccupiedEntry<'a, K, V, const N: usize, S = DefaultHashBuilder> = LimitedOccupiedEntry<
-    'a,
-    K,
-    V,
-    S,
-    UpTo<N>,
->;
-
-/// The entry of a key that is not held, in a map that stores up to `N` pairs in a vector.
-///
-/// ```
-/// fn key_of(entry: &VacantEntry<'_, u64, u32, 32>) -> u64 {
-///     *entry.key()
-/// }
-/// ```
-pub type VacantEntry<'a, K, V, const N: usize, S = DefaultHashBuilder> = LimitedVacantEntry<
-    'a,
-    K,
-    V,
-    S,
-    UpTo<N>,
->;
-
-/// The entry of a key, which `LimitedHashMap::entry` returns. The map has been searched, and has capacity for the pair
-/// where the key is not held. So no call on the entry fails, hashes a key or compares two.
-///
-/// A function of maps of any limit matches `LimitedEntry::Occupied(entry)` and `LimitedEntry::Vacant(entry)`.
 #[derive(Drop)]
-pub enum LimitedEntry<'a, K: Eq + Hash, V, S: BuildHasher, L: Limit> {
+pub enum Entry<'a, K: Eq + Hash, V, S: BuildHasher = DefaultHashBuilder, L: Limit = UpTo<32>> {
     /// The key is held.
-    Occupied(LimitedOccupiedEntry<'a, K, V, S, L>),
+    Occupied(OccupiedEntry<'a, K, V, S, L>),
     /// The key is not held.
-    Vacant(LimitedVacantEntry<'a, K, V, S, L>),
+    Vacant(VacantEntry<'a, K, V, S, L>),
 }
 
 /// The pair of a held key, in the entry of the key or in a raw entry whose search found it.
+///
+/// ```
+/// fn take(entry: OccupiedEntry<'_, u64, u32>) -> u32 {
+///     entry.remove()
+/// }
+/// ```
 #[derive(Drop)]
-pub struct LimitedOccupiedEntry<'a, K: Eq + Hash, V, S: BuildHasher, L: Limit> {
+pub struct OccupiedEntry<
+    'a,
+    K: Eq + Hash,
+    V,
+    S: BuildHasher = DefaultHashBuilder,
+    L: Limit = UpTo<32>,
+> {
     pub(crate) map: &'a mut LimitedHashMap<K, V, S, L>,
     pub(crate) index: usize,
     ghost within: { index < length map.now.pairs },
 }
 
 /// A vacancy for the pair of a key that is not held.
+///
+/// ```
+/// fn key_of(entry: &VacantEntry<'_, u64, u32>) -> u64 {
+///     *entry.key()
+/// }
+/// ```
 #[derive(Drop)]
-pub struct LimitedVacantEntry<'a, K: Eq + Hash, V, S: BuildHasher, L: Limit> {
+pub struct VacantEntry<
+    'a,
+    K: Eq + Hash,
+    V,
+    S: BuildHasher = DefaultHashBuilder,
+    L: Limit = UpTo<32>,
+> {
     map: &'a mut LimitedHashMap<K, V, S, L>,
     key: K,
     vacancy: Vacancy,

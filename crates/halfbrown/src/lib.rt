@@ -30,19 +30,15 @@ mod raw_entry;
 mod refused;
 pub mod run;
 
-pub use drain::{Drain, LimitedDrain};
-pub use entry::{
-    Entry, LimitedEntry, LimitedOccupiedEntry, LimitedVacantEntry, OccupiedEntry, VacantEntry,
-};
+pub use drain::Drain;
+pub use entry::{Entry, OccupiedEntry, VacantEntry};
 pub use equivalent::Equivalent;
 pub use half_store::{Refusal, Tally};
 pub use iter::{IntoIter, Iter, IterMut, Keys, Values, ValuesMut};
 pub use limit::{Limit, UpTo};
 pub use map::{DefaultHashBuilder, HashMap, LimitedHashMap, SizedHashMap, laws};
 pub use raw_entry::{
-    LimitedRawEntryBuilder, LimitedRawEntryBuilderMut, LimitedRawEntryMut,
-    LimitedRawOccupiedEntryMut, LimitedRawVacantEntryMut, RawEntryBuilder, RawEntryBuilderMut,
-    RawEntryMut, RawOccupiedEntryMut, RawVacantEntryMut,
+    RawEntryBuilder, RawEntryBuilderMut, RawEntryMut, RawOccupiedEntryMut, RawVacantEntryMut,
 };
 pub use refused::{Refused, RefusedKey};
 pub use run::{Command, Reply};

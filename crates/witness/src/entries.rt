@@ -4,7 +4,7 @@ use crate::answer::{Answer, of_index, or_refused_key, said};
 use crate::kinds::{Named, Number, add_to, added_to};
 use crate::player::Player;
 use crate::words::number;
-use halfbrown::{Limit, LimitedEntry, RefusedKey};
+use halfbrown::{Entry, Limit, RefusedKey};
 use std::cell::Cell;
 use std::hash::{BuildHasher, Hash};
 
@@ -12,8 +12,8 @@ use std::hash::{BuildHasher, Hash};
 macro_rules! occupied {
     ($entry:expr) => {
         match $entry? {
-            LimitedEntry::Occupied(entry) => entry,
-            LimitedEntry::Vacant(_vacant) => return Ok(said("vacant")),
+            Entry::Occupied(entry) => entry,
+            Entry::Vacant(_vacant) => return Ok(said("vacant")),
         }
     };
 }
@@ -76,8 +76,8 @@ impl<'a, R: Print, K: Eq + Hash + Named + Drop, V: Number + Drop, S: BuildHasher
 
     fn read(&mut self, key: K) -> Answered<K> {
         Ok(match self.open().entry(key)? {
-            LimitedEntry::Occupied(entry) => said("occupied").pair(entry.key(), entry.get()),
-            LimitedEntry::Vacant(entry) => said("vacant").key(entry.key()),
+            Entry::Occupied(entry) => said("occupied").pair(entry.key(), entry.get()),
+            Entry::Vacant(entry) => said("vacant").key(entry.key()),
         })
     }
 
@@ -91,8 +91,8 @@ impl<'a, R: Print, K: Eq + Hash + Named + Drop, V: Number + Drop, S: BuildHasher
 
     fn into_key(&mut self, key: K) -> Answered<K> {
         Ok(match self.open().entry(key)? {
-            LimitedEntry::Vacant(entry) => said("").key(&entry.into_key()),
-            LimitedEntry::Occupied(_occupied) => said("occupied"),
+            Entry::Vacant(entry) => said("").key(&entry.into_key()),
+            Entry::Occupied(_occupied) => said("occupied"),
         })
     }
 
@@ -141,8 +141,8 @@ impl<'a, R: Print, K: Eq + Hash + Named + Drop, V: Number + Drop, S: BuildHasher
 
     fn entry_insert(&mut self, key: K, value: V) -> Answered<K> {
         Ok(match self.open().entry(key)? {
-            LimitedEntry::Occupied(mut entry) => said("was").value(&entry.insert(value)),
-            LimitedEntry::Vacant(entry) => said("added").value(entry.insert(value)),
+            Entry::Occupied(mut entry) => said("was").value(&entry.insert(value)),
+            Entry::Vacant(entry) => said("added").value(entry.insert(value)),
         })
     }
 
@@ -174,8 +174,8 @@ impl<'a, R: Print, K: Eq + Hash + Named + Drop, V: Number + Drop, S: BuildHasher
             None
         });
         Ok(match left {
-            LimitedEntry::Occupied(entry) => said("occupied").pair(entry.key(), entry.get()),
-            LimitedEntry::Vacant(entry) => said("added").value(entry.insert(value)),
+            Entry::Occupied(entry) => said("occupied").pair(entry.key(), entry.get()),
+            Entry::Vacant(entry) => said("added").value(entry.insert(value)),
         })
     }
 
@@ -201,10 +201,10 @@ impl<'a, R: Print, K: Eq + Hash + Named + Drop, V: Number + Drop, S: BuildHasher
 }
 
 fn of_left<K: Eq + Hash + Named, V: Number, S: BuildHasher, L: Limit>(
-    left: &LimitedEntry<'_, K, V, S, L>,
+    left: &Entry<'_, K, V, S, L>,
 ) -> Answer {
     match left {
-        LimitedEntry::Occupied(entry) => said("occupied").pair(entry.key(), entry.get()),
-        LimitedEntry::Vacant(entry) => said("lost").key(entry.key()),
+        Entry::Occupied(entry) => said("occupied").pair(entry.key(), entry.get()),
+        Entry::Vacant(entry) => said("lost").key(entry.key()),
     }
 }

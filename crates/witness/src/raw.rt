@@ -6,7 +6,7 @@ use crate::kinds::{Named, Number, add_to};
 use crate::player::Player;
 use crate::searches::of_found;
 use crate::words::number;
-use halfbrown::{Limit, LimitedRawEntryMut, Refusal};
+use halfbrown::{Limit, RawEntryMut, Refusal};
 use std::cell::Cell;
 use std::hash::{BuildHasher, Hash};
 
@@ -14,8 +14,8 @@ use std::hash::{BuildHasher, Hash};
 macro_rules! found {
     ($map:expr, $key:expr) => {
         match $map.raw_entry_mut()?.from_key($key) {
-            LimitedRawEntryMut::Occupied(entry) => entry,
-            LimitedRawEntryMut::Vacant(_vacant) => return Ok(said("vacant")),
+            RawEntryMut::Occupied(entry) => entry,
+            RawEntryMut::Vacant(_vacant) => return Ok(said("vacant")),
         }
     };
 }
@@ -24,8 +24,8 @@ macro_rules! found {
 macro_rules! not_found {
     ($map:expr, $key:expr) => {
         match $map.raw_entry_mut()?.from_key($key) {
-            LimitedRawEntryMut::Vacant(entry) => entry,
-            LimitedRawEntryMut::Occupied(_occupied) => return Ok(said("occupied")),
+            RawEntryMut::Vacant(entry) => entry,
+            RawEntryMut::Occupied(_occupied) => return Ok(said("occupied")),
         }
     };
 }

@@ -7,7 +7,7 @@ use crate::counts::Counts;
 use crate::kinds::{Named, Number};
 use crate::player::Player;
 use crate::words::Which;
-use halfbrown::{Equivalent, Limit, LimitedHashMap, LimitedRawEntryMut, Refusal};
+use halfbrown::{Equivalent, Limit, LimitedHashMap, RawEntryMut, Refusal};
 use std::hash::{BuildHasher, Hash};
 
 // A hash that is made for a call is not counted.
@@ -134,14 +134,14 @@ impl<R: Print, K: Eq + Hash + Named + Drop, V: Number + Drop, S: BuildHasher, L:
 
 /// The pair of a raw entry.
 pub(crate) fn of_found<K: Eq + Hash + Named, V: Number, S: BuildHasher, L: Limit>(
-    entry: LimitedRawEntryMut<'_, K, V, S, L>,
+    entry: RawEntryMut<'_, K, V, S, L>,
 ) -> Answer {
     match entry {
-        LimitedRawEntryMut::Occupied(entry) => {
+        RawEntryMut::Occupied(entry) => {
             let (stored, held) = entry.get_key_value();
             said("occupied").pair(stored, held)
         }
-        LimitedRawEntryMut::Vacant(_vacant) => said("vacant"),
+        RawEntryMut::Vacant(_vacant) => said("vacant"),
     }
 }
 

@@ -3,7 +3,7 @@ ghost use Rattle.std.specs.Iterator.{IsFinite};
 
 use crate::answer::{Answer, print_gap, said};
 use crate::kinds::{Named, Number, add_to};
-use halfbrown::{IntoIter, Iter, Keys, Limit, LimitedDrain, Values, ValuesMut};
+use halfbrown::{Drain, IntoIter, Iter, Keys, Limit, Values, ValuesMut};
 use std::fmt::{Debug, Display};
 use std::hash::{BuildHasher, Hash};
 use std::io;
@@ -183,7 +183,7 @@ impl<K: Named + Drop, V: Number + Drop> Walked for IntoIter<K, V> {
 }
 
 impl<K: Eq + Hash + Named + Drop, V: Number + Drop, S: BuildHasher, L: Limit> Walked
-    for LimitedDrain<'_, K, V, S, L> {
+    for Drain<'_, K, V, S, L> {
     fn step(&mut self) -> Option<Answer> {
         Some(of_owned_pair(self.next()?))
     }

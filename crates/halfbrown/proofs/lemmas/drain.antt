@@ -6,7 +6,7 @@ use Rattle.std.proofs.iter.runs.Sources.{as_is, from_front}
 use Rattle.std.specs.Iterator.Runs.{YieldsInOrder}
 use Rattle.half_store.specs.Store.{StoreState}
 use Rattle.halfbrown.specs.Drain.{Keeps, KeepsAlong, DrainSteps, rest}
-use Rattle.halfbrown.specs.declared.drain.LimitedDrain.{LimitedDrain}
+use Rattle.halfbrown.specs.declared.drain.Drain.{Drain}
 use Rattle.halfbrown.specs.State.{IsTableCapacity}
 use Rattle.std.specs.declared.cmp.PartialEq as eq
 use Rattle.std.specs.declared.hash.Hash as hash
@@ -18,7 +18,7 @@ use Rattle.halfbrown.specs.declared.limit.Limit as limits
 module _ {K V S L H : Type 0} {e : eq.Ghosts K} {h : hash.Ghosts K} {b : builder.Ghosts S H} {w : hasher.Ghosts H} {l : limits.Ghosts L}
     {p : taken.Ghosts (StoreState K V) K V} where
   -- of the same map and with the same pairs it is the same
-  pub same_drain : (s t : LimitedDrain K V S L (StoreState K V) H e h b w l p) → t.map ≡ s.map → t.pairs ≡ s.pairs → t ≡ s
+  pub same_drain : (s t : Drain K V S L (StoreState K V) H e h b w l p) → t.map ≡ s.map → t.pairs ≡ s.pairs → t ≡ s
   same_drain s t map pairs = λ i. record {
     map = map i;
     pairs = pairs i;
@@ -31,7 +31,7 @@ module _ {K V S L H : Type 0} {e : eq.Ghosts K} {h : hash.Ghosts K} {b : builder
   pub runs : YieldsInOrder (DrainSteps {K = K} {V = V} {S = S} {L = L} {H = H} {e = e} {h = h} {b = b} {w = w} {l = l} {p = p}) rest
   runs r t = as_is r (rest r.from) (from_front DrainSteps (λ y. y) rest (λ s t h. ap length h.0) (λ s x t h. h.0) r t)
 
-  pub keeps_along : (s : LimitedDrain K V S L (StoreState K V) H e h b w l p) → KeepsAlong s
+  pub keeps_along : (s : Drain K V S L (StoreState K V) H e h b w l p) → KeepsAlong s
   keeps_along s [] t y = subst (Keeps s) y (record { map = refl; form = refl; capacity = refl; columns = refl })
   keeps_along s (x ∷ xs) t y =
       let first = y.1.1 in

@@ -1,21 +1,20 @@
 //! What entries are printed as.
-use super::{LimitedEntry, LimitedOccupiedEntry, LimitedVacantEntry};
+use super::{Entry, OccupiedEntry, VacantEntry};
 use crate::Limit;
 use std::fmt::{Debug, Formatter, Result, Write};
 use std::hash::{BuildHasher, Hash};
 
-impl<'a, K: Eq + Hash + Debug, V: Debug, S: BuildHasher, L: Limit> Debug
-    for LimitedEntry<'a, K, V, S, L> {
+impl<'a, K: Eq + Hash + Debug, V: Debug, S: BuildHasher, L: Limit> Debug for Entry<'a, K, V, S, L> {
     fn fmt<W: Write>(&self, f: &mut Formatter<W>) -> Result {
         match self {
-            LimitedEntry::Occupied(entry) => f.debug_tuple("Entry").field(entry).finish(),
-            LimitedEntry::Vacant(entry) => f.debug_tuple("Entry").field(entry).finish(),
+            Entry::Occupied(entry) => f.debug_tuple("Entry").field(entry).finish(),
+            Entry::Vacant(entry) => f.debug_tuple("Entry").field(entry).finish(),
         }
     }
 }
 
 impl<'a, K: Eq + Hash + Debug, V: Debug, S: BuildHasher, L: Limit> Debug
-    for LimitedOccupiedEntry<'a, K, V, S, L> {
+    for OccupiedEntry<'a, K, V, S, L> {
     fn fmt<W: Write>(&self, f: &mut Formatter<W>) -> Result {
         f.debug_struct("OccupiedEntry")
             .field("key", self.key())
@@ -24,8 +23,7 @@ impl<'a, K: Eq + Hash + Debug, V: Debug, S: BuildHasher, L: Limit> Debug
     }
 }
 
-impl<'a, K: Eq + Hash + Debug, V, S: BuildHasher, L: Limit> Debug
-    for LimitedVacantEntry<'a, K, V, S, L> {
+impl<'a, K: Eq + Hash + Debug, V, S: BuildHasher, L: Limit> Debug for VacantEntry<'a, K, V, S, L> {
     fn fmt<W: Write>(&self, f: &mut Formatter<W>) -> Result {
         f.debug_tuple("VacantEntry").field(self.key()).finish()
     }

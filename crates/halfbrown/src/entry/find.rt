@@ -7,7 +7,7 @@ ghost use Rattle.halfbrown.specs.EntryLending.{RestsIfNoEntry, RestsIfRefused};
 ghost use Rattle.halfbrown.specs.Pairs.{set_value};
 ghost use Rattle.halfbrown.specs.State.{with_pairs};
 
-use super::{LimitedEntry, LimitedOccupiedEntry, LimitedVacantEntry};
+use super::{Entry, OccupiedEntry, VacantEntry};
 use crate::{Limit, LimitedHashMap, RefusedKey};
 use half_store::Tally;
 use std::hash::{BuildHasher, Hash};
@@ -26,7 +26,7 @@ impl<K: Eq + Hash, V, S: BuildHasher, L: Limit> LimitedHashMap<K, V, S, L> {
     /// assert_eq!(rt; ages.get(&3), Some(&5));
     /// ```
     #[inline(always)]
-    pub fn entry(&mut self, key: K) -> Result<LimitedEntry<'_, K, V, S, L>, RefusedKey<K>>
+    pub fn entry(&mut self, key: K) -> Result<Entry<'_, K, V, S, L>, RefusedKey<K>>
     where
         K: Drop,
         ensures* unchanged { sem 𝓛 (RestsIfRefused K.row V.row S.row L.row S.Hasher.row self.entry result) }
@@ -42,7 +42,7 @@ impl<K: Eq + Hash, V, S: BuildHasher, L: Limit> LimitedHashMap<K, V, S, L> {
         &mut self,
         key: K,
         tally: &mut Tally,
-    ) -> Result<LimitedEntry<'_, K, V, S, L>, RefusedKey<K>>
+    ) -> Result<Entry<'_, K, V, S, L>, RefusedKey<K>>
     where
         K: Drop,
         ensures* unchanged { sem 𝓛 (RestsIfRefused K.row V.row S.row L.row S.Hasher.row self.entry result) }
@@ -51,8 +51,8 @@ impl<K: Eq + Hash, V, S: BuildHasher, L: Limit> LimitedHashMap<K, V, S, L> {
             key (is_ok result) tally.old tally.new }
     {
         match self.prepare(&key, tally) {
-            Ok(Ok(index)) => Ok(LimitedEntry::Occupied(LimitedOccupiedEntry { map: self, index })),
-            Ok(Err(vacancy)) => Ok(LimitedEntry::Vacant(LimitedVacantEntry {
+            Ok(Ok(index)) => Ok(Entry::Occupied(OccupiedEntry { map: self, index })),
+            Ok(Err(vacancy)) => Ok(Entry::Vacant(VacantEntry {
                 map: self,
                 key,
                 vacancy,
@@ -71,7 +71,7 @@ impl<K: Eq + Hash, V, S: BuildHasher, L: Limit> LimitedHashMap<K, V, S, L> {
     /// ```
     #[inline(always)]
     #[tactic(auto, unfolding(crate::specs::Entry::with_value))]
-    pub fn get_index_entry(&mut self, index: usize) -> Option<LimitedOccupiedEntry<'_, K, V, S, L>>
+    pub fn get_index_entry(&mut self, index: usize) -> Option<OccupiedEntry<'_, K, V, S, L>>
         ensures* unchanged { sem 𝓛 (RestsIfNoEntry K.row V.row S.row L.row S.Hasher.row self.entry result) }
         ensures same_map { IfSome result (λ o. (map_ref (Occupied o)).ghost_name ≡ self.entry.ghost_name) }
         ensures map { IfSome result (λ o. map_of (Occupied o) ≡ self.old) }
@@ -81,7 +81,7 @@ impl<K: Eq + Hash, V, S: BuildHasher, L: Limit> LimitedHashMap<K, V, S, L> {
         ensures held { IsSome result ↔ (index < length self.old.pairs) }
     {
         if index < self.len() {
-            Some(LimitedOccupiedEntry { map: self, index })
+            Some(OccupiedEntry { map: self, index })
         } else {
             None
         }

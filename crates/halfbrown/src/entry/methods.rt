@@ -6,11 +6,11 @@ ghost use Rattle.std.specs.Option.{UnwrapsOrElse};
 ghost use Rattle.halfbrown.specs.Entry.{map_ref, map_of, entry_key, entry_value, with_value, pairs_without};
 ghost use Rattle.halfbrown.specs.EntryLending.{EntryLends};
 
-use super::LimitedEntry;
+use super::Entry;
 use crate::Limit;
 use std::hash::{BuildHasher, Hash};
 
-impl<'a, K: Eq + Hash, V, S: BuildHasher, L: Limit> LimitedEntry<'a, K, V, S, L> {
+impl<'a, K: Eq + Hash, V, S: BuildHasher, L: Limit> Entry<'a, K, V, S, L> {
     /// The stored key where it is held, else the key that the entry was made for.
     ///
     /// ```
@@ -21,8 +21,8 @@ impl<'a, K: Eq + Hash, V, S: BuildHasher, L: Limit> LimitedEntry<'a, K, V, S, L>
         ensures { entry_key self.now ≡ Some result.now }
     {
         match self {
-            LimitedEntry::Occupied(entry) => entry.key(),
-            LimitedEntry::Vacant(entry) => entry.key(),
+            Entry::Occupied(entry) => entry.key(),
+            Entry::Vacant(entry) => entry.key(),
         }
     }
 
@@ -42,8 +42,8 @@ impl<'a, K: Eq + Hash, V, S: BuildHasher, L: Limit> LimitedEntry<'a, K, V, S, L>
         ensures value { result.now ≡ unwrap_or (entry_value self.entry) default }
     {
         match self {
-            LimitedEntry::Occupied(entry) => entry.into_mut(),
-            LimitedEntry::Vacant(entry) => entry.insert(default),
+            Entry::Occupied(entry) => entry.into_mut(),
+            Entry::Vacant(entry) => entry.insert(default),
         }
     }
 
@@ -59,8 +59,8 @@ impl<'a, K: Eq + Hash, V, S: BuildHasher, L: Limit> LimitedEntry<'a, K, V, S, L>
         ensures value { UnwrapsOrElse (entry_value self.entry) (F.post default) result.now }
     {
         match self {
-            LimitedEntry::Occupied(entry) => entry.into_mut(),
-            LimitedEntry::Vacant(entry) => entry.insert(default()),
+            Entry::Occupied(entry) => entry.into_mut(),
+            Entry::Vacant(entry) => entry.insert(default()),
         }
     }
 
@@ -77,8 +77,8 @@ impl<'a, K: Eq + Hash, V, S: BuildHasher, L: Limit> LimitedEntry<'a, K, V, S, L>
         ensures value { UnwrapsOrElse (entry_value self.entry) V.is_default result.now }
     {
         match self {
-            LimitedEntry::Occupied(entry) => entry.into_mut(),
-            LimitedEntry::Vacant(entry) => entry.insert(V::default()),
+            Entry::Occupied(entry) => entry.into_mut(),
+            Entry::Vacant(entry) => entry.insert(V::default()),
         }
     }
 
@@ -89,7 +89,7 @@ impl<'a, K: Eq + Hash, V, S: BuildHasher, L: Limit> LimitedEntry<'a, K, V, S, L>
     /// assert_eq!(rt; ages.get(&1), Some(&37));
     /// ```
     #[inline(always)]
-    pub fn and_modify<F: FnOnce(&mut V)>(self, f: F) -> LimitedEntry<'a, K, V, S, L>
+    pub fn and_modify<F: FnOnce(&mut V)>(self, f: F) -> Entry<'a, K, V, S, L>
         requires { (lent : MutBor V) → entry_value self ≡ Some lent.now → F.pre f lent }
         ensures modified { ModifiesValue F.FnOnce f (entry_value self.entry) (entry_value result) }
         ensures same_map { (map_ref result).ghost_name ≡ (map_ref self.entry).ghost_name }
@@ -100,11 +100,11 @@ impl<'a, K: Eq + Hash, V, S: BuildHasher, L: Limit> LimitedEntry<'a, K, V, S, L>
         ensures occupied { IfSome (entry_value result) (λ value. map_of result ≡ with_value self.entry value) }
     {
         match self {
-            LimitedEntry::Occupied(mut entry) => {
+            Entry::Occupied(mut entry) => {
                 f(entry.get_mut());
-                LimitedEntry::Occupied(entry)
+                Entry::Occupied(entry)
             }
-            LimitedEntry::Vacant(entry) => LimitedEntry::Vacant(entry),
+            Entry::Vacant(entry) => Entry::Vacant(entry),
         }
     }
 }

@@ -12,11 +12,11 @@ ghost use Rattle.halfbrown.specs.EntryLending.{EntryLends, OccupiedLends, Occupi
 ghost use Rattle.halfbrown.specs.State.{IsState, WithPairs};
 ghost use Rattle.halfbrown.specs.Updates.{HasKeyReplaced};
 
-use super::LimitedOccupiedEntry;
+use super::OccupiedEntry;
 use crate::Limit;
 use std::hash::{BuildHasher, Hash};
 
-impl<'a, K: Eq + Hash, V, S: BuildHasher, L: Limit> LimitedOccupiedEntry<'a, K, V, S, L> {
+impl<'a, K: Eq + Hash, V, S: BuildHasher, L: Limit> OccupiedEntry<'a, K, V, S, L> {
     /// The stored key.
     ///
     /// ```

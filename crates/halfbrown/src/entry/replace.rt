@@ -5,12 +5,12 @@ ghost use Rattle.halfbrown.specs.Costs.{key_hash};
 ghost use Rattle.halfbrown.specs.Entry.{Occupied, entry_pair};
 ghost use Rattle.halfbrown.specs.Replacement.{Replaced, ReplacementCosts};
 
-use super::{LimitedEntry, LimitedOccupiedEntry, LimitedVacantEntry};
+use super::{Entry, OccupiedEntry, VacantEntry};
 use crate::Limit;
 use half_store::Tally;
 use std::hash::{BuildHasher, Hash};
 
-impl<'a, K: Eq + Hash, V, S: BuildHasher, L: Limit> LimitedOccupiedEntry<'a, K, V, S, L> {
+impl<'a, K: Eq + Hash, V, S: BuildHasher, L: Limit> OccupiedEntry<'a, K, V, S, L> {
     /// Passes the stored key and its value to `f`, and stores the value that `f` returns. In a vector the pair then
     /// goes last, and the last pair takes its index. In a table it keeps its index.
     ///
@@ -25,10 +25,7 @@ impl<'a, K: Eq + Hash, V, S: BuildHasher, L: Limit> LimitedOccupiedEntry<'a, K, 
     /// assert_eq!(rt; ages.get(&1), Some(&30));
     /// ```
     #[inline]
-    pub fn replace_entry_with<F: FnOnce(&K, V) -> Option<V>>(
-        self,
-        f: F,
-    ) -> LimitedEntry<'a, K, V, S, L>
+    pub fn replace_entry_with<F: FnOnce(&K, V) -> Option<V>>(self, f: F) -> Entry<'a, K, V, S, L>
         requires { (key : Bor K) (value : V) → entry_pair (Occupied self) ≡ Some (key.now, value)
             → F.pre f key value }
         ensures { Replaced L.LIMIT K.eq (F.post f) (Occupied self.entry) result }
@@ -42,7 +39,7 @@ impl<'a, K: Eq + Hash, V, S: BuildHasher, L: Limit> LimitedOccupiedEntry<'a, K, 
         self,
         f: F,
         tally: &mut Tally,
-    ) -> LimitedEntry<'a, K, V, S, L>
+    ) -> Entry<'a, K, V, S, L>
         requires { (key : Bor K) (value : V) → entry_pair (Occupied self) ≡ Some (key.now, value)
             → F.pre f key value }
         ensures replaced { Replaced L.LIMIT K.eq (F.post f) (Occupied self.entry) result }
@@ -54,11 +51,11 @@ impl<'a, K: Eq + Hash, V, S: BuildHasher, L: Limit> LimitedOccupiedEntry<'a, K, 
         match map.replace_at(index, f) {
             Some((key, hash)) => {
                 let vacancy = map.vacancy_for(hash, tally);
-                LimitedEntry::Vacant(LimitedVacantEntry { map, key, vacancy })
+                Entry::Vacant(VacantEntry { map, key, vacancy })
             }
             None => {
                 let index = map.settle(index);
-                LimitedEntry::Occupied(LimitedOccupiedEntry { map, index })
+                Entry::Occupied(OccupiedEntry { map, index })
             }
         }
     }

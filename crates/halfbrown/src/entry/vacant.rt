@@ -8,11 +8,11 @@ ghost use Rattle.std.specs.Borrow.{sem};
 ghost use Rattle.halfbrown.specs.Entry.{Vacant, entry_key, map_of};
 ghost use Rattle.halfbrown.specs.EntryLending.{EntryLends};
 
-use super::LimitedVacantEntry;
+use super::VacantEntry;
 use crate::Limit;
 use std::hash::{BuildHasher, Hash};
 
-impl<'a, K: Eq + Hash, V, S: BuildHasher, L: Limit> LimitedVacantEntry<'a, K, V, S, L> {
+impl<'a, K: Eq + Hash, V, S: BuildHasher, L: Limit> VacantEntry<'a, K, V, S, L> {
     /// The key that the entry was made for.
     ///
     /// ```

@@ -10,12 +10,12 @@ ghost use Rattle.halfbrown.specs.Match.{FindsMatch, FindingCosts};
 ghost use Rattle.halfbrown.specs.RawEntryBuilder.{map_in};
 ghost use Rattle.halfbrown.specs.RawSearch.{ReadsPair};
 
-use super::LimitedRawEntryBuilder;
+use super::RawEntryBuilder;
 use crate::{Equivalent, Limit};
 use half_store::Tally;
 use std::hash::{BuildHasher, Hash};
 
-impl<'a, K: Eq + Hash, V, S: BuildHasher, L: Limit> LimitedRawEntryBuilder<'a, K, V, S, L> {
+impl<'a, K: Eq + Hash, V, S: BuildHasher, L: Limit> RawEntryBuilder<'a, K, V, S, L> {
     /// Returns the stored key that equals this one, and its value. It costs one search.
     ///
     /// ```

@@ -9,12 +9,12 @@ ghost use Rattle.halfbrown.specs.RawEntry.{found_pair};
 ghost use Rattle.halfbrown.specs.RawEntryBuilder.{ready_map};
 ghost use Rattle.halfbrown.specs.RawSearch.{Searches, SearchesByMatch};
 
-use super::{LimitedRawEntryBuilderMut, LimitedRawEntryMut, LimitedRawVacantEntryMut};
-use crate::{Equivalent, Limit, LimitedOccupiedEntry};
+use super::{RawEntryBuilderMut, RawEntryMut, RawVacantEntryMut};
+use crate::{Equivalent, Limit, OccupiedEntry};
 use half_store::Tally;
 use std::hash::{BuildHasher, Hash};
 
-impl<'a, K: Eq + Hash, V, S: BuildHasher, L: Limit> LimitedRawEntryBuilderMut<'a, K, V, S, L> {
+impl<'a, K: Eq + Hash, V, S: BuildHasher, L: Limit> RawEntryBuilderMut<'a, K, V, S, L> {
     /// The entry of the held key that equals this one, or a vacant entry. It costs one search.
     ///
     /// ```
@@ -25,7 +25,7 @@ impl<'a, K: Eq + Hash, V, S: BuildHasher, L: Limit> LimitedRawEntryBuilderMut<'a
     /// assert_eq!(rt; age, 36);
     /// ```
     #[inline]
-    pub fn from_key<Q: Equivalent<K>>(self, key: Q) -> LimitedRawEntryMut<'a, K, V, S, L>
+    pub fn from_key<Q: Equivalent<K>>(self, key: Q) -> RawEntryMut<'a, K, V, S, L>
         ensures { Searches L.LIMIT K.eq (Q.equivalent key) self.entry result }
     {
         self.from_key_counted(key, &mut Tally::new())
@@ -37,18 +37,18 @@ impl<'a, K: Eq + Hash, V, S: BuildHasher, L: Limit> LimitedRawEntryBuilderMut<'a
         self,
         key: Q,
         tally: &mut Tally,
-    ) -> LimitedRawEntryMut<'a, K, V, S, L>
+    ) -> RawEntryMut<'a, K, V, S, L>
         ensures searches { Searches L.LIMIT K.eq (Q.equivalent key) self.entry result }
         ensures cost { CostsSearch S.BuildHasher S.Hasher.Hasher K.hash_input Q.hash_input Q.equivalent key
             (ready_map self.entry) tally.old tally.new }
     {
-        let LimitedRawEntryBuilderMut::Ready(ready) = self;
+        let RawEntryBuilderMut::Ready(ready) = self;
         match ready.map.find(key, tally) {
-            Ok(index) => LimitedRawEntryMut::Occupied(LimitedOccupiedEntry {
+            Ok(index) => RawEntryMut::Occupied(OccupiedEntry {
                 map: ready.map,
                 index,
             }),
-            Err(_) => LimitedRawEntryMut::Vacant(LimitedRawVacantEntryMut { map: ready.map }),
+            Err(_) => RawEntryMut::Vacant(RawVacantEntryMut { map: ready.map }),
         }
     }
 
@@ -64,7 +64,7 @@ impl<'a, K: Eq + Hash, V, S: BuildHasher, L: Limit> LimitedRawEntryBuilderMut<'a
         self,
         hash: u64,
         key: Q,
-    ) -> LimitedRawEntryMut<'a, K, V, S, L>
+    ) -> RawEntryMut<'a, K, V, S, L>
         requires { hash ≡ key_hash S.BuildHasher S.Hasher.Hasher Q.hash_input (ready_map self).builder key }
         ensures { Searches L.LIMIT K.eq (Q.equivalent key) self.entry result }
     {
@@ -78,19 +78,19 @@ impl<'a, K: Eq + Hash, V, S: BuildHasher, L: Limit> LimitedRawEntryBuilderMut<'a
         hash: u64,
         key: Q,
         tally: &mut Tally,
-    ) -> LimitedRawEntryMut<'a, K, V, S, L>
+    ) -> RawEntryMut<'a, K, V, S, L>
         requires { hash ≡ key_hash S.BuildHasher S.Hasher.Hasher Q.hash_input (ready_map self).builder key }
         ensures searches { Searches L.LIMIT K.eq (Q.equivalent key) self.entry result }
         ensures cost { CostsHashedSearch S.BuildHasher S.Hasher.Hasher K.hash_input Q.hash_input Q.equivalent key
             (ready_map self.entry) tally.old tally.new }
     {
-        let LimitedRawEntryBuilderMut::Ready(ready) = self;
+        let RawEntryBuilderMut::Ready(ready) = self;
         match ready.map.find_hashed(hash, key, tally) {
-            Ok(index) => LimitedRawEntryMut::Occupied(LimitedOccupiedEntry {
+            Ok(index) => RawEntryMut::Occupied(OccupiedEntry {
                 map: ready.map,
                 index,
             }),
-            Err(_) => LimitedRawEntryMut::Vacant(LimitedRawVacantEntryMut { map: ready.map }),
+            Err(_) => RawEntryMut::Vacant(RawVacantEntryMut { map: ready.map }),
         }
     }
 
@@ -105,11 +105,7 @@ impl<'a, K: Eq + Hash, V, S: BuildHasher, L: Limit> LimitedRawEntryBuilderMut<'a
     /// assert_eq!(rt; ages.get(&1), Some(&37));
     /// ```
     #[inline]
-    pub fn from_hash<F: Fn(&K) -> bool>(
-        self,
-        hash: u64,
-        is_match: F,
-    ) -> LimitedRawEntryMut<'a, K, V, S, L>
+    pub fn from_hash<F: Fn(&K) -> bool>(self, hash: u64, is_match: F) -> RawEntryMut<'a, K, V, S, L>
         requires { (key : Bor K) (index : ℕ) → slice_get (keys_of (ready_map self).pairs) index ≡ Some key.now
             → F.pre is_match key }
         ensures { SearchesByMatch L.LIMIT K.eq (FnReturnsAt F.Fn is_match)
@@ -125,7 +121,7 @@ impl<'a, K: Eq + Hash, V, S: BuildHasher, L: Limit> LimitedRawEntryBuilderMut<'a
         hash: u64,
         is_match: F,
         tally: &mut Tally,
-    ) -> LimitedRawEntryMut<'a, K, V, S, L>
+    ) -> RawEntryMut<'a, K, V, S, L>
         requires { (key : Bor K) (index : ℕ) → slice_get (keys_of (ready_map self).pairs) index ≡ Some key.now
             → F.pre is_match key }
         ensures searches { SearchesByMatch L.LIMIT K.eq (FnReturnsAt F.Fn is_match)
@@ -133,13 +129,13 @@ impl<'a, K: Eq + Hash, V, S: BuildHasher, L: Limit> LimitedRawEntryBuilderMut<'a
         ensures cost { FindingCosts (key_hash S.BuildHasher S.Hasher.Hasher K.hash_input) hash (ready_map self.entry)
             (found_pair result) tally.old tally.new }
     {
-        let LimitedRawEntryBuilderMut::Ready(ready) = self;
+        let RawEntryBuilderMut::Ready(ready) = self;
         match ready.map.find_match(hash, &is_match, tally) {
-            Ok(index) => LimitedRawEntryMut::Occupied(LimitedOccupiedEntry {
+            Ok(index) => RawEntryMut::Occupied(OccupiedEntry {
                 map: ready.map,
                 index,
             }),
-            Err(_) => LimitedRawEntryMut::Vacant(LimitedRawVacantEntryMut { map: ready.map }),
+            Err(_) => RawEntryMut::Vacant(RawVacantEntryMut { map: ready.map }),
         }
     }
 }

@@ -7,7 +7,7 @@ ghost use Rattle.halfbrown.specs.RawEntryBuilder.{map_in};
 ghost use Rattle.halfbrown.specs.RawEntryLending.{RestsIfUnready};
 ghost use Rattle.halfbrown.specs.RawSearch.{MakesReady};
 
-use super::{LimitedRawEntryBuilder, LimitedRawEntryBuilderMut, Prepared};
+use super::{Prepared, RawEntryBuilder, RawEntryBuilderMut};
 use crate::{Limit, LimitedHashMap};
 use half_store::{Refusal, Tally};
 use std::hash::{BuildHasher, Hash};
@@ -19,10 +19,10 @@ impl<K: Eq + Hash, V, S: BuildHasher, L: Limit> LimitedHashMap<K, V, S, L> {
     /// assert_eq!(rt; ages.raw_entry().from_key(&2), Some((&2, &41)));
     /// ```
     #[inline(always)]
-    pub fn raw_entry(&self) -> LimitedRawEntryBuilder<'_, K, V, S, L>
+    pub fn raw_entry(&self) -> RawEntryBuilder<'_, K, V, S, L>
         ensures { map_in result ≡ self.now }
     {
-        LimitedRawEntryBuilder { map: self }
+        RawEntryBuilder { map: self }
     }
 
     /// Makes what a raw entry is searched through: by a known hash or by a match on keys, to read, write, remove or add
@@ -36,7 +36,7 @@ impl<K: Eq + Hash, V, S: BuildHasher, L: Limit> LimitedHashMap<K, V, S, L> {
     /// assert_eq!(rt; *age, 5);
     /// ```
     #[inline]
-    pub fn raw_entry_mut(&mut self) -> Result<LimitedRawEntryBuilderMut<'_, K, V, S, L>, Refusal>
+    pub fn raw_entry_mut(&mut self) -> Result<RawEntryBuilderMut<'_, K, V, S, L>, Refusal>
         ensures* unchanged { sem 𝓛 (RestsIfUnready K.row V.row S.row L.row S.Hasher.row self.entry result) }
         ensures makes { MakesReady L.LIMIT K.eq self.entry result }
     {
@@ -48,14 +48,14 @@ impl<K: Eq + Hash, V, S: BuildHasher, L: Limit> LimitedHashMap<K, V, S, L> {
     pub fn raw_entry_mut_counted(
         &mut self,
         tally: &mut Tally,
-    ) -> Result<LimitedRawEntryBuilderMut<'_, K, V, S, L>, Refusal>
+    ) -> Result<RawEntryBuilderMut<'_, K, V, S, L>, Refusal>
         ensures* unchanged { sem 𝓛 (RestsIfUnready K.row V.row S.row L.row S.Hasher.row self.entry result) }
         ensures makes { MakesReady L.LIMIT K.eq self.entry result }
         ensures cost { tally.new ≡ (if is_ok result then asked_more (switch_asked L.LIMIT self.old) tally.old
             else tally.old) }
     {
         match self.prepare_any(tally) {
-            Ok(()) => Ok(LimitedRawEntryBuilderMut::Ready(Prepared { map: self })),
+            Ok(()) => Ok(RawEntryBuilderMut::Ready(Prepared { map: self })),
             Err(why) => Err(why),
         }
     }

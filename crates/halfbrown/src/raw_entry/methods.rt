@@ -8,12 +8,12 @@ ghost use Rattle.halfbrown.specs.RawEntry.{raw_map, raw_ref, is_found, found_key
 ghost use Rattle.halfbrown.specs.RawEntry.{found_pair, pairs_with, without_found, PutsEntry, ModifiesPair, after_adding};
 ghost use Rattle.halfbrown.specs.State.{WithPairs};
 
-use super::LimitedRawEntryMut;
-use crate::{Limit, LimitedOccupiedEntry};
+use super::RawEntryMut;
+use crate::{Limit, OccupiedEntry};
 use half_store::Tally;
 use std::hash::{BuildHasher, Hash};
 
-impl<'a, K: Eq + Hash, V, S: BuildHasher, L: Limit> LimitedRawEntryMut<'a, K, V, S, L> {
+impl<'a, K: Eq + Hash, V, S: BuildHasher, L: Limit> RawEntryMut<'a, K, V, S, L> {
     /// Gives the pair that was found this value, and drops the given key. Where none was found, adds the pair, whose
     /// key must not be held. Returns the pair's entry.
     ///
@@ -22,7 +22,7 @@ impl<'a, K: Eq + Hash, V, S: BuildHasher, L: Limit> LimitedRawEntryMut<'a, K, V,
     /// assert_eq!(rt; *entry.get(), 37);
     /// ```
     #[inline]
-    pub fn insert(self, key: K, value: V) -> LimitedOccupiedEntry<'a, K, V, S, L>
+    pub fn insert(self, key: K, value: V) -> OccupiedEntry<'a, K, V, S, L>
     where
         K: Drop,
         V: Drop,
@@ -39,7 +39,7 @@ impl<'a, K: Eq + Hash, V, S: BuildHasher, L: Limit> LimitedRawEntryMut<'a, K, V,
         key: K,
         value: V,
         tally: &mut Tally,
-    ) -> LimitedOccupiedEntry<'a, K, V, S, L>
+    ) -> OccupiedEntry<'a, K, V, S, L>
     where
         K: Drop,
         V: Drop,
@@ -49,11 +49,11 @@ impl<'a, K: Eq + Hash, V, S: BuildHasher, L: Limit> LimitedRawEntryMut<'a, K, V,
             (key_hash S.BuildHasher S.Hasher.Hasher K.hash_input) (raw_map self.entry) key tally.old) }
     {
         match self {
-            LimitedRawEntryMut::Occupied(mut entry) => {
+            RawEntryMut::Occupied(mut entry) => {
                 entry.insert(value);
                 entry
             }
-            LimitedRawEntryMut::Vacant(entry) => entry.insert_entry_counted(key, value, tally),
+            RawEntryMut::Vacant(entry) => entry.insert_entry_counted(key, value, tally),
         }
     }
 
@@ -65,11 +65,7 @@ impl<'a, K: Eq + Hash, V, S: BuildHasher, L: Limit> LimitedRawEntryMut<'a, K, V,
     /// assert_eq!(rt; *entry.get(), 41);
     /// ```
     #[inline]
-    pub fn or_insert_entry(
-        self,
-        default_key: K,
-        default_value: V,
-    ) -> LimitedOccupiedEntry<'a, K, V, S, L>
+    pub fn or_insert_entry(self, default_key: K, default_value: V) -> OccupiedEntry<'a, K, V, S, L>
     where
         K: Drop,
         V: Drop,
@@ -86,7 +82,7 @@ impl<'a, K: Eq + Hash, V, S: BuildHasher, L: Limit> LimitedRawEntryMut<'a, K, V,
         default_key: K,
         default_value: V,
         tally: &mut Tally,
-    ) -> LimitedOccupiedEntry<'a, K, V, S, L>
+    ) -> OccupiedEntry<'a, K, V, S, L>
     where
         K: Drop,
         V: Drop,
@@ -96,12 +92,12 @@ impl<'a, K: Eq + Hash, V, S: BuildHasher, L: Limit> LimitedRawEntryMut<'a, K, V,
             (key_hash S.BuildHasher S.Hasher.Hasher K.hash_input) (raw_map self.entry) default_key tally.old) }
     {
         match self {
-            LimitedRawEntryMut::Occupied(entry) => {
+            RawEntryMut::Occupied(entry) => {
                 // Of the map that is read here `len` states what holds of every map.
                 prove!(entry.index < entry.map.len());
                 return entry;
             }
-            LimitedRawEntryMut::Vacant(entry) => {
+            RawEntryMut::Vacant(entry) => {
                 entry.insert_entry_counted(default_key, default_value, tally)
             }
         }
@@ -143,12 +139,8 @@ impl<'a, K: Eq + Hash, V, S: BuildHasher, L: Limit> LimitedRawEntryMut<'a, K, V,
             (key_hash S.BuildHasher S.Hasher.Hasher K.hash_input) (raw_map self.entry) default_key tally.old) }
     {
         match self {
-            LimitedRawEntryMut::Occupied(entry) => entry.into_key_value(),
-            LimitedRawEntryMut::Vacant(entry) => entry.insert_counted(
-                default_key,
-                default_value,
-                tally,
-            ),
+            RawEntryMut::Occupied(entry) => entry.into_key_value(),
+            RawEntryMut::Vacant(entry) => entry.insert_counted(default_key, default_value, tally),
         }
     }
 
@@ -183,8 +175,8 @@ impl<'a, K: Eq + Hash, V, S: BuildHasher, L: Limit> LimitedRawEntryMut<'a, K, V,
             (key_hash S.BuildHasher S.Hasher.Hasher K.hash_input) (raw_map self.entry) result.0.now tally.old) }
     {
         match self {
-            LimitedRawEntryMut::Occupied(entry) => entry.into_key_value(),
-            LimitedRawEntryMut::Vacant(entry) => {
+            RawEntryMut::Occupied(entry) => entry.into_key_value(),
+            RawEntryMut::Vacant(entry) => {
                 let (key, value) = default();
                 entry.insert_counted(key, value, tally)
             }
@@ -198,7 +190,7 @@ impl<'a, K: Eq + Hash, V, S: BuildHasher, L: Limit> LimitedRawEntryMut<'a, K, V,
     /// assert_eq!(rt; ages.get(&1), Some(&37));
     /// ```
     #[inline]
-    pub fn and_modify<F: FnOnce(&K, &mut V)>(self, f: F) -> LimitedRawEntryMut<'a, K, V, S, L>
+    pub fn and_modify<F: FnOnce(&K, &mut V)>(self, f: F) -> RawEntryMut<'a, K, V, S, L>
         requires { (key : Bor K) (lent : MutBor V) → found_pair self ≡ Some (key.now, lent.now) → F.pre f key lent }
         ensures modified { ModifiesPair F.FnOnce f (found_pair self.entry) (found_value result) }
         ensures same_map { (raw_ref result).ghost_name ≡ (raw_ref self.entry).ghost_name }
@@ -211,12 +203,12 @@ impl<'a, K: Eq + Hash, V, S: BuildHasher, L: Limit> LimitedRawEntryMut<'a, K, V,
             (λ value. WithPairs (raw_map self.entry) (pairs_with self.entry key value) (raw_map result)) }
     {
         match self {
-            LimitedRawEntryMut::Occupied(mut entry) => {
+            RawEntryMut::Occupied(mut entry) => {
                 let (key, value) = entry.get_key_value_mut();
                 f(key, value);
-                LimitedRawEntryMut::Occupied(entry)
+                RawEntryMut::Occupied(entry)
             }
-            LimitedRawEntryMut::Vacant(entry) => LimitedRawEntryMut::Vacant(entry),
+            RawEntryMut::Vacant(entry) => RawEntryMut::Vacant(entry),
         }
     }
 }

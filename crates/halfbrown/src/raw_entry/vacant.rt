@@ -9,12 +9,12 @@ ghost use Rattle.halfbrown.specs.Costs.{key_hash};
 ghost use Rattle.halfbrown.specs.Pairs.{holds};
 ghost use Rattle.halfbrown.specs.RawEntry.{Vacant, raw_map, AddsEntry, LendsPair, after_adding, after_probe};
 
-use super::LimitedRawVacantEntryMut;
-use crate::{Limit, LimitedOccupiedEntry};
+use super::RawVacantEntryMut;
+use crate::{Limit, OccupiedEntry};
 use half_store::Tally;
 use std::hash::{BuildHasher, Hash};
 
-impl<'a, K: Eq + Hash, V, S: BuildHasher, L: Limit> LimitedRawVacantEntryMut<'a, K, V, S, L> {
+impl<'a, K: Eq + Hash, V, S: BuildHasher, L: Limit> RawVacantEntryMut<'a, K, V, S, L> {
     /// Adds a pair at the end. Its key must not be held. Returns the stored key, and the value, to be written for as
     /// long as the map is borrowed. In a table the key is hashed once, and one insertion probe is made.
     ///
@@ -49,7 +49,7 @@ impl<'a, K: Eq + Hash, V, S: BuildHasher, L: Limit> LimitedRawVacantEntryMut<'a,
     /// assert_eq!(rt; *entry.get(), 5);
     /// ```
     #[inline]
-    pub fn insert_entry(self, key: K, value: V) -> LimitedOccupiedEntry<'a, K, V, S, L>
+    pub fn insert_entry(self, key: K, value: V) -> OccupiedEntry<'a, K, V, S, L>
         requires { holds K.eq (raw_map (Vacant self)).pairs key ≡ false }
         ensures { AddsEntry L.LIMIT K.eq (Vacant self.entry) key value result }
     {
@@ -63,7 +63,7 @@ impl<'a, K: Eq + Hash, V, S: BuildHasher, L: Limit> LimitedRawVacantEntryMut<'a,
         key: K,
         value: V,
         tally: &mut Tally,
-    ) -> LimitedOccupiedEntry<'a, K, V, S, L>
+    ) -> OccupiedEntry<'a, K, V, S, L>
         requires { holds K.eq (raw_map (Vacant self)).pairs key ≡ false }
         ensures adds { AddsEntry L.LIMIT K.eq (Vacant self.entry) key value result }
         ensures cost { tally.new ≡ after_adding (key_hash S.BuildHasher S.Hasher.Hasher K.hash_input)
@@ -118,7 +118,7 @@ impl<'a, K: Eq + Hash, V, S: BuildHasher, L: Limit> LimitedRawVacantEntryMut<'a,
         hash: u64,
         key: K,
         value: V,
-    ) -> LimitedOccupiedEntry<'a, K, V, S, L>
+    ) -> OccupiedEntry<'a, K, V, S, L>
         requires hash { hash ≡ key_hash S.BuildHasher S.Hasher.Hasher K.hash_input (raw_map (Vacant self)).builder key }
         requires absent { holds K.eq (raw_map (Vacant self)).pairs key ≡ false }
         ensures { AddsEntry L.LIMIT K.eq (Vacant self.entry) key value result }
@@ -134,7 +134,7 @@ impl<'a, K: Eq + Hash, V, S: BuildHasher, L: Limit> LimitedRawVacantEntryMut<'a,
         key: K,
         value: V,
         tally: &mut Tally,
-    ) -> LimitedOccupiedEntry<'a, K, V, S, L>
+    ) -> OccupiedEntry<'a, K, V, S, L>
         requires hash { hash ≡ key_hash S.BuildHasher S.Hasher.Hasher K.hash_input (raw_map (Vacant self)).builder key }
         requires absent { holds K.eq (raw_map (Vacant self)).pairs key ≡ false }
         ensures adds { AddsEntry L.LIMIT K.eq (Vacant self.entry) key value result }
@@ -186,13 +186,7 @@ impl<'a, K: Eq + Hash, V, S: BuildHasher, L: Limit> LimitedRawVacantEntryMut<'a,
 
     // Adds a pair whose key is not held, under its hash, at which a vector does not look.
     #[inline(always)]
-    fn add(
-        self,
-        hash: u64,
-        key: K,
-        value: V,
-        tally: &mut Tally,
-    ) -> LimitedOccupiedEntry<'a, K, V, S, L>
+    fn add(self, hash: u64, key: K, value: V, tally: &mut Tally) -> OccupiedEntry<'a, K, V, S, L>
         requires hash { (raw_map (Vacant self)).is_vec ≡ false
             → hash ≡ key_hash S.BuildHasher S.Hasher.Hasher K.hash_input (raw_map (Vacant self)).builder key }
         requires absent { holds K.eq (raw_map (Vacant self)).pairs key ≡ false }
@@ -204,6 +198,6 @@ impl<'a, K: Eq + Hash, V, S: BuildHasher, L: Limit> LimitedRawVacantEntryMut<'a,
         let vacancy = map.vacancy_for(hash, tally);
         let index = map.len();
         map.push(key, value, vacancy);
-        LimitedOccupiedEntry { map, index }
+        OccupiedEntry { map, index }
     }
 }

@@ -10,8 +10,8 @@ use Rattle.std.specs.Option.{option_map}
 use Rattle.half_store.specs.Pairs.{set_value, swap_remove_at}
 use Rattle.half_store.specs.Store.{filled}
 use Rattle.half_store.specs.Table.{Contents}
-use Rattle.halfbrown.specs.declared.entry.LimitedOccupiedEntry.{LimitedOccupiedEntry}
-use Rattle.halfbrown.specs.declared.entry.LimitedVacantEntry.{LimitedVacantEntry}
+use Rattle.halfbrown.specs.declared.entry.OccupiedEntry.{OccupiedEntry}
+use Rattle.halfbrown.specs.declared.entry.VacantEntry.{VacantEntry}
 use Rattle.halfbrown.specs.Entry.{Occupied, Vacant, with_value, pairs_with_key, IsEntryOf, PutsThroughEntry, RemovesKey, IsWritten}
 use Rattle.halfbrown.specs.Entry.{HasNewKey}
 use Rattle.halfbrown.specs.EntryLending.{with_entry_value}
@@ -85,7 +85,7 @@ module _ {K V S : Type 0} (limit : ℕ) (same : K → K → Bool) (laws : IsEqui
 module _ {K V S L H : Type 0} {e : eq.Ghosts K} {h : hash.Ghosts K} {b : builder.Ghosts S H} {w : hasher.Ghosts H} {l : limits.Ghosts L}
     (limit : ℕ) (same : K → K → Bool) (laws : IsEquivalence same) (old : State K V S) where
   -- of a held key
-  module _ (k : K) (o : LimitedOccupiedEntry K V S L H e h b w l) (prepared : Prepares limit old (insert_needs limit same old k) o.map.now)
+  module _ (k : K) (o : OccupiedEntry K V S L H e h b w l) (prepared : Prepares limit old (insert_needs limit same old k) o.map.now)
       (at : IsIndexOf (same k) o.map.now.pairs o.index) where
     pub found_entry : IsEntryOf same old.pairs k (Occupied o)
     found_entry = subst (λ ps. IsEntryOf same ps k (Occupied o)) prepared.pairs (record {
@@ -111,7 +111,7 @@ module _ {K V S L H : Type 0} {e : eq.Ghosts K} {h : hash.Ghosts K} {b : builder
     }
 
   -- of a key that is not held
-  module _ (v : LimitedVacantEntry K V S L H e h b w l) (prepared : Prepares limit old (insert_needs limit same old v.key) v.map.now)
+  module _ (v : VacantEntry K V S L H e h b w l) (prepared : Prepares limit old (insert_needs limit same old v.key) v.map.now)
       (absent : IsAbsent (same v.key) v.map.now.pairs) where
     pub missing_entry : IsEntryOf same old.pairs v.key (Vacant v)
     missing_entry = subst (λ ps. IsEntryOf same ps v.key (Vacant v)) prepared.pairs (record {
@@ -138,7 +138,7 @@ module _ {K V S L H : Type 0} {e : eq.Ghosts K} {h : hash.Ghosts K} {b : builder
     }
 
 module _ {K V S L H : Type 0} {e : eq.Ghosts K} {h : hash.Ghosts K} {b : builder.Ghosts S H} {w : hasher.Ghosts H} {l : limits.Ghosts L}
-    (o : LimitedOccupiedEntry K V S L H e h b w l) where
+    (o : OccupiedEntry K V S L H e h b w l) where
   -- the map with this value
   pub occupied_writes : (value : V) → with_pairs o.map.now (set_value o.map.now.pairs o.index value) ≡ with_value (Occupied o) value
   unfolding with_value
@@ -199,7 +199,7 @@ module _ {K V S L H : Type 0} {e : eq.Ghosts K} {h : hash.Ghosts K} {b : builder
   }
 
 module _ {K V S L H : Type 0} {e : eq.Ghosts K} {h : hash.Ghosts K} {b : builder.Ghosts S H} {w : hasher.Ghosts H} {l : limits.Ghosts L}
-    (v : LimitedVacantEntry K V S L H e h b w l) where
+    (v : VacantEntry K V S L H e h b w l) where
   -- the map with this pair more
   pub vacant_writes : (value : V) → pushed v.map.now v.key value v.vacancy ≡ with_value (Vacant v) value
   unfolding with_value

@@ -9,8 +9,8 @@ use Rattle.std.specs.Map.{values_of}
 use Rattle.std.specs.Option.{option_map}
 use Rattle.half_store.specs.Pairs.{set_value, swap_remove_at}
 use Rattle.half_store.specs.Replaced.{Replaces}
-use Rattle.halfbrown.specs.declared.entry.LimitedOccupiedEntry.{LimitedOccupiedEntry}
-use Rattle.halfbrown.specs.declared.entry.LimitedVacantEntry.{LimitedVacantEntry}
+use Rattle.halfbrown.specs.declared.entry.OccupiedEntry.{OccupiedEntry}
+use Rattle.halfbrown.specs.declared.entry.VacantEntry.{VacantEntry}
 use Rattle.halfbrown.specs.Entry.{Occupied, Vacant, with_value}
 use Rattle.halfbrown.specs.Replacement.{ReplacesEntry, KeepsPair, LosesPair, MovesLast}
 use Rattle.halfbrown.specs.State.{State, WithPairs}
@@ -48,9 +48,9 @@ module _ {K V : Type 0} where
   pair-last (q ∷ ps) p = pair-last ps p
 
 module _ {K V S L H : Type 0} {e : eq.Ghosts K} {h : hash.Ghosts K} {b : builder.Ghosts S H} {w : hasher.Ghosts H} {l : limits.Ghosts L}
-    {returns : Bor K → V → Option V → Type 0} (o : LimitedOccupiedEntry K V S L H e h b w l) where
+    {returns : Bor K → V → Option V → Type 0} (o : OccupiedEntry K V S L H e h b w l) where
   -- the pair is gone
-  pub loses_pair : (v : LimitedVacantEntry K V S L H e h b w l) → Replaces returns o.map.now.pairs o.index v.map.now.pairs (Some v.key)
+  pub loses_pair : (v : VacantEntry K V S L H e h b w l) → Replaces returns o.map.now.pairs o.index v.map.now.pairs (Some v.key)
       → WithPairs o.map.now v.map.now.pairs v.map.now
       → ReplacesEntry returns (Occupied o) (Vacant v)
   unfolding with_value

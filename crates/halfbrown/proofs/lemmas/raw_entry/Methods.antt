@@ -6,9 +6,9 @@ use Rattle.std.proofs.lemmas.Option.{same_Some}
 use Rattle.std.specs.Map.{keys_of, values_of}
 use Rattle.std.specs.Option.{option_map}
 use Rattle.half_store.specs.Pairs.{set_value, swap_remove_at}
-use Rattle.halfbrown.specs.declared.entry.LimitedOccupiedEntry.{LimitedOccupiedEntry}
-use Rattle.halfbrown.specs.declared.raw_entry.LimitedRawEntryMut.{LimitedRawEntryMut}
-use Rattle.halfbrown.specs.declared.raw_entry.LimitedRawVacantEntryMut.{LimitedRawVacantEntryMut}
+use Rattle.halfbrown.specs.declared.entry.OccupiedEntry.{OccupiedEntry}
+use Rattle.halfbrown.specs.declared.raw_entry.RawEntryMut.{RawEntryMut}
+use Rattle.halfbrown.specs.declared.raw_entry.RawVacantEntryMut.{RawVacantEntryMut}
 use Rattle.halfbrown.specs.Entry.{entry_key, entry_value, map_of, with_value, IsWritten}
 use Rattle.halfbrown.specs.RawEntry.{Occupied, Vacant, found_value, pairs_with, PutsThroughRawEntry}
 use Rattle.halfbrown.specs.State.{WithPairs}
@@ -56,7 +56,7 @@ module _ {K V : Type 0} where
   key-last (p ∷ ps) k v = key-last ps k v
 
 module _ {K V S L H : Type 0} {e : eq.Ghosts K} {h : hash.Ghosts K} {b : builder.Ghosts S H} {w : hasher.Ghosts H} {l : limits.Ghosts L}
-    (o : LimitedOccupiedEntry K V S L H e h b w l) where
+    (o : OccupiedEntry K V S L H e h b w l) where
   -- the pair has a value
   pub held_value : entry_value (entries.Occupied o) ≡ None → ⊥
   held_value none = some_is_not_none (values_of o.map.now.pairs) o.index (omega (arith, length-values_of o.map.now.pairs, o.within)) none
@@ -78,7 +78,7 @@ module _ {K V S L H : Type 0} {e : eq.Ghosts K} {h : hash.Ghosts K} {b : builder
   key_there key = some_at (keys_of o.map.now.pairs) o.index key (omega (arith, length-keys_of o.map.now.pairs, o.within))
 
   -- a pair that is found and written is the one that is put
-  pub written_puts : (key : K) (value : V) (written : LimitedOccupiedEntry K V S L H e h b w l)
+  pub written_puts : (key : K) (value : V) (written : OccupiedEntry K V S L H e h b w l)
       → IsWritten (entries.Occupied o) value (entries.Occupied written) → PutsThroughRawEntry (Occupied o) key value written
   written_puts key value written is = record {
     same_map = is.same_map;
@@ -90,9 +90,9 @@ module _ {K V S L H : Type 0} {e : eq.Ghosts K} {h : hash.Ghosts K} {b : builder
   }
 
 module _ {K V S L H : Type 0} {e : eq.Ghosts K} {h : hash.Ghosts K} {b : builder.Ghosts S H} {w : hasher.Ghosts H} {l : limits.Ghosts L}
-    (v : LimitedRawVacantEntryMut K V S L H e h b w l) (key : K) (value : V) where
+    (v : RawVacantEntryMut K V S L H e h b w l) (key : K) (value : V) where
   -- the pair that is appended is the one that is put
-  pub added_puts : (o : LimitedOccupiedEntry K V S L H e h b w l) → o.map.ghost_name ≡ v.map.ghost_name → o.index ≡ length v.map.now.pairs
+  pub added_puts : (o : OccupiedEntry K V S L H e h b w l) → o.map.ghost_name ≡ v.map.ghost_name → o.index ≡ length v.map.now.pairs
       → WithPairs v.map.now (v.map.now.pairs ++ (key, value) ∷ []) o.map.now → PutsThroughRawEntry (Vacant v) key value o
   unfolding with_value
   added_puts o same last after =
@@ -115,7 +115,7 @@ module _ {K V S L H : Type 0} {e : eq.Ghosts K} {h : hash.Ghosts K} {b : builder
 module _ {K V S L H : Type 0} {e : eq.Ghosts K} {h : hash.Ghosts K} {b : builder.Ghosts S H} {w : hasher.Ghosts H} {l : limits.Ghosts L}
   where
     -- a pair that is left is put with its own value
-    held_puts_at : (o : LimitedOccupiedEntry K V S L H e h b w l) (key : K) (value : V) (within : o.index < length o.map.now.pairs)
+    held_puts_at : (o : OccupiedEntry K V S L H e h b w l) (key : K) (value : V) (within : o.index < length o.map.now.pairs)
         → PutsThroughRawEntry (Occupied o) key (unwrap_or (found_value (Occupied o)) value)
         (record { map = o.map; index = o.index; within = within })
     held_puts_at o key value within = record {
@@ -134,7 +134,7 @@ module _ {K V S L H : Type 0} {e : eq.Ghosts K} {h : hash.Ghosts K} {b : builder
     }
 
     -- a pair that is found and left is put with its own value, however it was shown that its index is within
-    pub held_puts : (entry : LimitedRawEntryMut K V S L H e h b w l) (o : LimitedOccupiedEntry K V S L H e h b w l) → entry ≡ Occupied o
+    pub held_puts : (entry : RawEntryMut K V S L H e h b w l) (o : OccupiedEntry K V S L H e h b w l) → entry ≡ Occupied o
         → (key : K) (value : V) (within : o.index < length o.map.now.pairs)
         → PutsThroughRawEntry entry key (unwrap_or (found_value entry) value) (record { map = o.map; index = o.index; within = within })
     held_puts entry o is key value within =

@@ -1,0 +1,9 @@
+use Rattle.std.proofs.Common.{refl}
+use Rattle.halfbrown.proofs.lemmas.entry.Methods.{rekeyed_within, rekeyed_entry}
+use Rattle.halfbrown.proofs.entry.OccupiedEntry.insert_key.Goals as goal
+
+pub invariant_of-self : goal.invariant_of-self
+invariant_of-self g c = record { within = rekeyed_within c.args.self.now c.args.key c.set_key_at.new.self c.set_key_at.ensures.after }
+
+pub returns-clause-new : goal.returns-clause-new
+returns-clause-new g c = rekeyed_entry c.args.self.now c.args.key _ _ refl c.set_key_at.ensures.after

@@ -1,0 +1,17 @@
+use Rattle.std.proofs.Common.{sym, ap}
+use Rattle.std.specs.Fn.{FnReturnsAt}
+use Rattle.halfbrown.specs.Costs.{key_hash}
+use Rattle.halfbrown.specs.RawEntryBuilder.{ready_ref, ready_map}
+use Rattle.halfbrown.proofs.lemmas.raw_entry.Builder.{found_by_match, found_match}
+use Rattle.halfbrown.proofs.raw_entry.RawEntryBuilderMut.from_hash_counted.Goals as goal
+
+pub returns-in-Ok-clause-searches : goal.returns-in-Ok-clause-searches
+returns-in-Ok-clause-searches g c = record {
+  same_map = ap (λ ready. (ready_ref ready).ghost_name) (sym c.self-1.given.1);
+  map = ap ready_map (sym c.self-1.given.1);
+  found = found_match (FnReturnsAt g.F.Fn c.args.is_match) (key_hash g.S.BuildHasher g.S.Hasher.Hasher g.K.Hash.hash_input)
+      c.args.hash (ready_map c.args.self) _ c.in-Ok.index (ap ready_map c.self-1.given.1) c.in-Ok.ensures.found;
+  entry = found_by_match g.K.PartialEq.eq g.met.K.Eq.laws (ready_map c.args.self) _ (ap ready_map c.self-1.given.1)
+      c.in-Ok.ensures.state.distinct;
+  state = c.in-Ok.ensures.state;
+}

@@ -1,0 +1,13 @@
+use Rattle.std.proofs.Common.{refl}
+use Rattle.halfbrown.proofs.lemmas.raw_entry.Methods.{added_puts}
+use Rattle.halfbrown.proofs.lemmas.raw_entry.Builder.{adds_pair}
+use Rattle.halfbrown.proofs.raw_entry.RawVacantEntryMut.add.Goals as goal
+
+pub returns-clause-adds : goal.returns-clause-adds
+returns-clause-adds g c =
+    let puts = added_puts c.args.self c.args.key c.args.value _ refl c.len-index.ensures.len c.push.ensures.after in
+    record {
+      puts = puts;
+      adds = adds_pair g.K.PartialEq.eq g.met.K.Eq.laws c.args.self c.args.key c.args.value _ c.requires.absent puts;
+      state = c.push.ensures.state;
+    }
