@@ -29,10 +29,6 @@ module _ {K V : Type 0} where
   abbrev pub iter_mut_name : IterMut K V → GName
   iter_mut_name s = slice.iter_mut_name s.values
 
-  -- it has as many keys left as values, so that `next` may be called
-  abbrev pub IsEven : IterMut K V → Type 0
-  IsEven s = length (slice.iter_mut_rest s.values) ≡ length (slice.iter_rest s.keys)
-
   -- the keys that a `Keys` has left
   abbrev pub keys_left : Keys K V → List K
   keys_left s = slice.iter_rest s.keys

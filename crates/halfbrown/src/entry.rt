@@ -61,7 +61,6 @@ pub struct OccupiedEntry<
 ///     *entry.key()
 /// }
 /// ```
-#[derive(Drop)]
 pub struct VacantEntry<
     'a,
     K: Eq + Hash,
@@ -76,4 +75,18 @@ pub struct VacantEntry<
     ghost absent: { holds K.eq map.now.pairs key ≡ false },
     ghost vacant: { ∥ IsVacancy map.now.is_vec (contents_of map.now)
         (key_hash S.BuildHasher S.Hasher.Hasher K.hash_input map.now.builder key) vacancy ∥₁ },
+}
+
+// Written out, so that a caller who drops it unused knows the map.
+impl<'a, K: Eq + Hash + Drop, V, S: BuildHasher, L: Limit> Drop for VacantEntry<'a, K, V, S, L> {
+    fn drop(self)
+        ensures { self.exit.0.now ≡ self.entry.map.now }
+    {
+        let VacantEntry {
+            map: _,
+            key,
+            vacancy: _,
+        } = self;
+        drop(key);
+    }
 }

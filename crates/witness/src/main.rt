@@ -21,7 +21,6 @@ mod updates;
 mod values;
 mod walk;
 mod walk_items;
-mod walk_writing;
 mod whole;
 mod words;
 

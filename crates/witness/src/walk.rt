@@ -4,7 +4,6 @@ use crate::answer::{or_none, print_gap};
 use crate::kinds::{Named, Number};
 use crate::player::Player;
 use crate::walk_items::Walked;
-use crate::walk_writing::Writing;
 use crate::words::count;
 use halfbrown::Limit;
 use std::fmt::Debug;
@@ -52,7 +51,7 @@ impl<
     }
 
     fn walk_iter_mut(&mut self, steps: &[&str]) -> io::Result<()> {
-        play(self.rt, &mut Writing::new(self.open().iter_mut()), steps)
+        play(self.rt, &mut self.open().iter_mut(), steps)
     }
 
     fn walk_values_mut(&mut self, steps: &[&str]) -> io::Result<()> {

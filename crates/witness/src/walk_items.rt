@@ -3,7 +3,7 @@ ghost use Rattle.std.specs.Iterator.{IsFinite};
 
 use crate::answer::{Answer, print_gap, said};
 use crate::kinds::{Named, Number, add_to};
-use halfbrown::{Drain, IntoIter, Iter, Keys, Limit, Values, ValuesMut};
+use halfbrown::{Drain, IntoIter, Iter, IterMut, Keys, Limit, Values, ValuesMut};
 use std::fmt::{Debug, Display};
 use std::hash::{BuildHasher, Hash};
 use std::io;
@@ -42,7 +42,7 @@ pub(crate) fn of_pair<K: Named, V: Number>(pair: (&K, &V)) -> Answer {
     said("").pair(key, value)
 }
 
-pub(crate) fn of_written_pair<K: Named, V: Number>(pair: (&K, &mut V)) -> Answer {
+fn of_written_pair<K: Named, V: Number>(pair: (&K, &mut V)) -> Answer {
     let (key, value) = pair;
     said("").pair(key, value)
 }
@@ -149,6 +149,22 @@ impl<K, V: Number> Walked for Values<'_, K, V> {
 
     fn print_clone<R: Print>(&self, rt: &R) -> io::Result<()> {
         print_items(rt, &mut self.clone()?, usize::MAX, of_value)
+    }
+}
+
+impl<K: Named, V: Number> Walked for IterMut<'_, K, V> {
+    fn step(&mut self) -> Option<Answer> {
+        Some(of_written_pair(self.next()?))
+    }
+
+    fn print_rest<R: Print>(&mut self, rt: &R, most: usize) -> io::Result<()> {
+        print_items(rt, self, most, of_written_pair)
+    }
+
+    fn add(&mut self) -> Option<Answer> {
+        let (key, value) = self.next()?;
+        add_to(value, 1);
+        Some(of_pair((key, value)))
     }
 }
 

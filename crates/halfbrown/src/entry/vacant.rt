@@ -36,7 +36,12 @@ impl<'a, K: Eq + Hash, V, S: BuildHasher, L: Limit> VacantEntry<'a, K, V, S, L> 
         ensures key { entry_key (Vacant self.entry) ≡ Some result }
         ensures after { self.exit.0.now ≡ map_of (Vacant self.entry) }
     {
-        self.key
+        let VacantEntry {
+            map: _,
+            key,
+            vacancy: _,
+        } = self;
+        key
     }
 
     /// Adds the pair at the end, and returns its value, to be written for as long as the map is borrowed. It needs no
@@ -51,10 +56,9 @@ impl<'a, K: Eq + Hash, V, S: BuildHasher, L: Limit> VacantEntry<'a, K, V, S, L> 
         ensures* writes_back { sem 𝓛 (EntryLends K.row V.row S.row L.row S.Hasher.row (Vacant self.entry) result) }
         ensures value { result.now ≡ value }
     {
-        let vacancy = self.vacancy;
-        let map = self.map;
+        let VacantEntry { map, key, vacancy } = self;
         let index = map.len();
-        map.push(self.key, value, vacancy);
+        map.push(key, value, vacancy);
         map.value_at_mut(index)
     }
 }

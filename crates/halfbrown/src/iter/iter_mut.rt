@@ -3,7 +3,7 @@ ghost use Rattle.std.specs.Prelude.{◌≡◌, Some, length, zip, IfSome};
 ghost use Rattle.std.specs.Iterator.{at_most, UpTo};
 ghost use Rattle.std.specs.Iterator.SizeHint.{IsWithinCount};
 ghost use Rattle.std.specs.Map.Iter.{LendsFirst};
-ghost use Rattle.halfbrown.specs.Iter.{iter_mut_left, iter_mut_name, IsEven};
+ghost use Rattle.std.specs.Slice.Iter.{iter_rest, iter_mut_rest};
 
 use std::iter::FusedIterator;
 use std::slice;
@@ -14,14 +14,16 @@ use std::slice;
 pub struct IterMut<'a, K, V> {
     keys: slice::Iter<'a, K>,
     values: slice::IterMut<'a, V>,
+    ghost even: { length (iter_mut_rest values) ≡ length (iter_rest keys) },
 }
 
 impl<'a, K, V> IterMut<'a, K, V> {
+    ghost use Rattle.halfbrown.specs.Iter.{iter_mut_left, iter_mut_name};
+
     /// The pairs of these two columns.
     #[inline(always)]
     pub(crate) fn new(keys: &'a [K], values: &'a mut [V]) -> Self
         requires { length values.old ≡ length keys.now }
-        ensures even { IsEven result }
         ensures left { iter_mut_left result ≡ zip keys.now values.old }
         ensures name { iter_mut_name result ≡ values.entry.ghost_name }
     {
@@ -33,9 +35,9 @@ impl<'a, K, V> IterMut<'a, K, V> {
 }
 
 impl<'a, K, V> Iterator for IterMut<'a, K, V> {
-    type Item = (&'a K, &'a mut V);
+    ghost use Rattle.halfbrown.specs.Iter.{iter_mut_left};
 
-    ghost can_next = { IsEven };
+    type Item = (&'a K, &'a mut V);
 
     ghost next_gives = { LendsFirst iter_mut_left };
 

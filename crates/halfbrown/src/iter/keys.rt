@@ -6,14 +6,21 @@ ghost use Rattle.halfbrown.specs.Iter.{keys_left};
 
 use std::alloc::AllocError;
 use std::iter::FusedIterator;
+use std::marker::PhantomData;
 use std::slice;
 
 /// The keys of a map: what `keys` returns.
-#[derive(Drop)]
 pub struct Keys<'a, K, V> {
     keys: slice::Iter<'a, K>,
-    // Always empty. It ties the type to V.
-    values: &'a [V],
+    values: PhantomData<V>,
+}
+
+// Written out, since it holds nothing of the other column's type.
+impl<'a, K, V> Drop for Keys<'a, K, V> {
+    fn drop(self) {
+        let Keys { keys, values: _ } = self;
+        drop(keys);
+    }
 }
 
 impl<'a, K, V> Keys<'a, K, V> {
@@ -24,7 +31,7 @@ impl<'a, K, V> Keys<'a, K, V> {
     {
         Keys {
             keys: keys.iter(),
-            values: &[],
+            values: PhantomData,
         }
     }
 }
@@ -70,7 +77,7 @@ impl<'a, K, V> Clone for Keys<'a, K, V> {
     fn clone(&self) -> Result<Self, AllocError> {
         Ok(Keys {
             keys: self.keys.clone()?,
-            values: self.values,
+            values: PhantomData,
         })
     }
 }

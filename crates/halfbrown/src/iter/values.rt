@@ -6,14 +6,21 @@ ghost use Rattle.halfbrown.specs.Iter.{values_left};
 
 use std::alloc::AllocError;
 use std::iter::FusedIterator;
+use std::marker::PhantomData;
 use std::slice;
 
 /// The values of a map: what `values` returns.
-#[derive(Drop)]
 pub struct Values<'a, K, V> {
     values: slice::Iter<'a, V>,
-    // Always empty. It ties the type to K.
-    keys: &'a [K],
+    keys: PhantomData<K>,
+}
+
+// Written out, since it holds nothing of the other column's type.
+impl<'a, K, V> Drop for Values<'a, K, V> {
+    fn drop(self) {
+        let Values { values, keys: _ } = self;
+        drop(values);
+    }
 }
 
 impl<'a, K, V> Values<'a, K, V> {
@@ -24,7 +31,7 @@ impl<'a, K, V> Values<'a, K, V> {
     {
         Values {
             values: values.iter(),
-            keys: &[],
+            keys: PhantomData,
         }
     }
 }
@@ -70,7 +77,7 @@ impl<'a, K, V> Clone for Values<'a, K, V> {
     fn clone(&self) -> Result<Self, AllocError> {
         Ok(Values {
             values: self.values.clone()?,
-            keys: self.keys,
+            keys: PhantomData,
         })
     }
 }

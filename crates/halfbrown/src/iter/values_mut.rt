@@ -5,6 +5,7 @@ ghost use Rattle.std.specs.Iterator.SizeHint.{IsWithinCount};
 ghost use Rattle.halfbrown.specs.Iter.{values_mut_left, values_mut_name, ValuesMutSteps};
 
 use std::iter::FusedIterator;
+use std::marker::PhantomData;
 use std::slice;
 
 /// The values of a map, to be written: what `values_mut` returns.
@@ -12,8 +13,7 @@ use std::slice;
 #[derive(Drop)]
 pub struct ValuesMut<'a, K, V> {
     values: slice::IterMut<'a, V>,
-    // Always empty. It ties the type to K.
-    keys: &'a [K],
+    keys: PhantomData<&'a K>,
 }
 
 impl<'a, K, V> ValuesMut<'a, K, V> {
@@ -25,7 +25,7 @@ impl<'a, K, V> ValuesMut<'a, K, V> {
     {
         ValuesMut {
             values: values.iter_mut(),
-            keys: &[],
+            keys: PhantomData,
         }
     }
 }

@@ -15,7 +15,7 @@ use std::hash::{BuildHasher, Hash};
 impl<K: Eq + Hash, V, S: BuildHasher, L: Limit> LimitedHashMap<K, V, S, L> {
     ghost use Rattle.halfbrown.specs.Iter.{pairs_left, ShowsPairsInOrder, ShowsPairValuesInOrder};
     ghost use Rattle.halfbrown.specs.Iter.{keys_left, values_left, ShowsKeysInOrder, ShowsValuesInOrder};
-    ghost use Rattle.halfbrown.specs.Iter.{iter_mut_left, iter_mut_name, IsEven};
+    ghost use Rattle.halfbrown.specs.Iter.{iter_mut_left, iter_mut_name};
     ghost use Rattle.halfbrown.specs.Iter.{values_mut_left, values_mut_name, ValuesMutSteps};
     ghost use Rattle.halfbrown.specs.Lending.{LendsValues};
 
@@ -82,7 +82,6 @@ impl<K: Eq + Hash, V, S: BuildHasher, L: Limit> LimitedHashMap<K, V, S, L> {
     pub fn iter_mut(&mut self) -> IterMut<'_, K, V>
         ensures* writes_back { sem 𝓛 (LendsValues K.row V.row S.row L.row S.Hasher.row K.Hash S.BuildHasher
             S.Hasher.Hasher L.Limit self.entry (iter_mut_name result)) }
-        ensures even { IsEven result }
         ensures left { iter_mut_left result ≡ self.old.pairs }
         ensures small { length self.old.pairs < 2 ^ 63 }
         ensures values_run { LendsValuesInOrder (iter_mut_left {K = K} {V = V}) }

@@ -1,6 +1,7 @@
 use Rattle.std.proofs.Common.{nat_le, refl, inl, inr, sym, subst, arith}
-use Rattle.halfbrown.specs.Collection.{Gives, IsRefusedCollection}
-use Rattle.halfbrown.specs.Costs.{key_hash, Cost, GrewBy, no_cost}
+use Rattle.std.specs.Iterator.{Drains}
+use Rattle.halfbrown.specs.Collection.{Gives, IsRefusedInsertion}
+use Rattle.halfbrown.specs.Costs.{key_hash, no_cost}
 use Rattle.halfbrown.specs.Making.{IsMade}
 use Rattle.halfbrown.proofs.lemmas.map.Collect.{at_error, collection_of, inserts_asked, inserts_state}
 use Rattle.halfbrown.proofs.lemmas.run.Runs.{spent_none}
@@ -8,25 +9,18 @@ use Rattle.halfbrown.proofs.map.LimitedHashMap.collect.Goals as goal
 
 pub returns-in_err-map-clause-refused : goal.returns-in_err-map-clause-refused
 returns-in_err-map-clause-refused g c =
-    let L = g.L.Limit.LIMIT in
-    let E = g.K.PartialEq.eq in
-    let H = key_hash g.S.BuildHasher g.S.Hasher.Hasher g.K.Hash.hash_input in
-    let given = Gives g.I.Iterator.next_gives c.args.items in
-    let before = c.args.tally.now in
-    (at_error c.from_residual.result c.in_err-map.field-0.0 (Unit {0})
-    (λ why. (cost : Cost) × IsRefusedCollection L E H g.S.Default.is_default c.args.capacity given why cost × GrewBy cost before before)
-    c.from_residual.ensures (no_cost, inl (c.in_err-map.ensures.makes.refused, refl), spent_none before)).1
+    (at_error c.from_residual.result c.in_err-map.field-0.0 (Unit {0}) _ c.from_residual.ensures
+    (no_cost, inl (c.in_err-map.ensures.makes.refused, refl), spent_none c.args.tally.now)).1
 
 pub returns-in_err-extend_counted-clause-refused : goal.returns-in_err-extend_counted-clause-refused
 returns-in_err-extend_counted-clause-refused g c =
     let L = g.L.Limit.LIMIT in
     let E = g.K.PartialEq.eq in
     let H = key_hash g.S.BuildHasher g.S.Hasher.Hasher g.K.Hash.hash_input in
-    let given = Gives g.I.Iterator.next_gives c.args.items in
-    let before = c.args.tally.now in
-    let after = c.extend_counted.new.tally in
-    let refused = c.in_err-extend_counted.ensures.refused in
+    let why = c.in_err-extend_counted.field-0.0 in
     let made = c.in_ok-map.map in
+    let after = c.extend_counted.new.self in
+    let refused = c.in_err-extend_counted.ensures.refused in
     let told = c.in_ok-map.ensures.makes.ok in
     let is_made : IsMade g.S.Default.is_default (nat_le c.args.capacity L) c.args.capacity made = record {
       form = told.form;
@@ -36,10 +30,9 @@ returns-in_err-extend_counted-clause-refused g c =
       builder = subst g.S.Default.is_default (sym told.builder) c.default.ensures;
       grantable = told.grantable;
     } in
-    (at_error c.from_residual-in_err-extend_counted.result c.in_err-extend_counted.field-0.0 (Unit {0})
-    (λ why. (cost : Cost) × IsRefusedCollection L E H g.S.Default.is_default c.args.capacity given why cost × GrewBy cost before after)
-    c.from_residual-in_err-extend_counted.ensures
-    (refused.0, inr (record { made = made; is_made = is_made; reached = c.extend_counted.new.self; insertion = refused.1 }), refused.2)).1
+    let insertion = subst (λ it. IsRefusedInsertion L E H (Gives g.I.Iterator.next_gives it) made why after refused.1) refused.2 refused.3 in
+    (at_error c.from_residual-in_err-extend_counted.result why (Unit {0}) _ c.from_residual-in_err-extend_counted.ensures
+    (refused.1, inr (record { made = made; is_made = is_made; reached = after; insertion = insertion }), refused.4)).1
 
 pub returns-clause-collected : goal.returns-clause-collected
 returns-clause-collected g c =
@@ -56,23 +49,24 @@ returns-clause-collected g c =
       builder = subst g.S.Default.is_default (sym told.builder) c.default.ensures;
       grantable = told.grantable;
     } in
-    let all = c.in_ok-extend_counted.ensures.ok in (
-      all.0,
+    let all = c.in_ok-extend_counted.ensures.extended in (
       all.1,
       all.2,
-      collection_of L E H g.met.K.Eq.laws g.S.Default.is_default c.args.capacity made c.extend_counted.new.self all.0 all.1 is_made all.3,
-      all.4,
+      subst (λ it. Drains g.I.Iterator.next_gives it all.1) all.3 all.4,
+      collection_of L E H g.met.K.Eq.laws g.S.Default.is_default c.args.capacity made c.extend_counted.new.self all.1 all.2 is_made
+          all.5.inserted,
+      all.6,
     )
 
 pub returns-clause-nothing_hashed : goal.returns-clause-nothing_hashed
 returns-clause-nothing_hashed g c form =
-    let all = c.in_ok-extend_counted.ensures.ok in
+    let all = c.in_ok-extend_counted.ensures.extended in
     let nothing = inserts_asked g.L.Limit.LIMIT g.K.PartialEq.eq (key_hash g.S.BuildHasher g.S.Hasher.Hasher g.K.Hash.hash_input)
-    c.in_ok-map.map c.extend_counted.new.self all.0 all.1 all.3 form in
-    omega (arith, all.4.asked, nothing.1)
+    c.in_ok-map.map c.extend_counted.new.self all.1 all.2 all.5.inserted form in
+    omega (arith, all.6.asked, nothing.1)
 
 pub returns-clause-state : goal.returns-clause-state
 returns-clause-state g c =
-    let all = c.in_ok-extend_counted.ensures.ok in
+    let all = c.in_ok-extend_counted.ensures.extended in
     inserts_state g.L.Limit.LIMIT g.K.PartialEq.eq (key_hash g.S.BuildHasher g.S.Hasher.Hasher g.K.Hash.hash_input) c.in_ok-map.map
-    c.extend_counted.new.self all.0 all.1 all.3 c.in_ok-map.ensures.state
+    c.extend_counted.new.self all.1 all.2 all.5.inserted c.in_ok-map.ensures.state

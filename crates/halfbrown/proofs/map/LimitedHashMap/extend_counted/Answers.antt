@@ -1,7 +1,5 @@
-use Rattle.std.proofs.Common.{List}
-use Rattle.std.specs.Iterator.{Drains}
-use Rattle.halfbrown.specs.Collection.{Gives, Extends, IsRefusedInsertion}
-use Rattle.halfbrown.specs.Costs.{key_hash, Cost, GrewBy}
+use Rattle.halfbrown.specs.Collection.{Gives}
+use Rattle.halfbrown.specs.Costs.{key_hash}
 use Rattle.halfbrown.proofs.lemmas.map.Collect.{extends_of, item_more, item_refused, at_error, yields_more}
 use Rattle.halfbrown.proofs.map.LimitedHashMap.extend_counted.Goals as goal
 
@@ -44,28 +42,23 @@ returns g c =
       refused = tt;
     }
 
-pub returns-in_err-insert_counted : goal.returns-in_err-insert_counted
-returns-in_err-insert_counted g c =
+pub returns-in_err-insert_counted-clause-extended : goal.returns-in_err-insert_counted-clause-extended
+returns-in_err-insert_counted-clause-extended g c =
+    (at_error c.from_residual.result c.in_err-insert_counted.field-0.0.why _ (λ why. Unit {0}) c.from_residual.ensures tt).0
+
+pub returns-in_err-insert_counted-clause-refused : goal.returns-in_err-insert_counted-clause-refused
+returns-in_err-insert_counted-clause-refused g c =
     let I = g.I.IntoIter.Iterator.next_gives in
-    let L = g.L.Limit.LIMIT in
-    let E = g.K.PartialEq.eq in
-    let H = key_hash g.S.BuildHasher g.S.Hasher.Hasher g.K.Hash.hash_input in
     let it = c.into_iter-key-iterator.result in
     let back = c.in_err-insert_counted.field-0.0 in
     let items = c.loop-key.yielded in
     let k = c.in-Some.key in
     let v = c.in-Some.value in
     let one_more = yields_more I it items c.loop-key.key-iterator (k, v) c.next.new.self c.loop-key.yielded_by c.in-Some.ensures.steps in
-    let refused = item_refused L E H c.args.self.now c.loop-key.self c.insert_counted.new.self items (Gives I it) k v back.why
+    let refused = item_refused g.L.Limit.LIMIT g.K.PartialEq.eq (key_hash g.S.BuildHasher g.S.Hasher.Hasher g.K.Hash.hash_input)
+    c.args.self.now c.loop-key.self c.insert_counted.new.self items (Gives I it) k v back.why
     c.args.tally.now c.loop-key.tally c.insert_counted.new.tally
     c.loop-key.invariant.so_far (c.next.new.self, one_more) c.in_err-insert_counted.ensures.inserts.returned.unchanged
     c.in_err-insert_counted.ensures.inserts.returned.why c.in_err-insert_counted.ensures.cost.grew in
-    let told = at_error c.from_residual.result back.why
-    ((s : g.row.I.IntoIter.Denot) × (xs : List (g.row.K.Denot × g.row.V.Denot)) × (cost : Cost)
-    × g.I.into_iter_gives c.args.items s × Drains I s xs
-    × Extends L E H c.args.self.now xs c.insert_counted.new.self cost × GrewBy cost c.args.tally.now c.insert_counted.new.tally)
-    (λ why. (s : g.row.I.IntoIter.Denot) × (cost : Cost) × g.I.into_iter_gives c.args.items s
-    × IsRefusedInsertion L E H (Gives I s) c.args.self.now why c.insert_counted.new.self cost
-    × GrewBy cost c.args.tally.now c.insert_counted.new.tally)
-    c.from_residual.ensures (it, refused.0, c.into_iter-key-iterator.ensures.into_iter_gives, refused.1, refused.2) in
-    record { extended = told.0; refused = told.1 }
+    (at_error c.from_residual.result back.why (Unit {0}) _ c.from_residual.ensures
+    (it, refused.0, c.into_iter-key-iterator.ensures.into_iter_gives, refused.1, refused.2)).1

@@ -17,7 +17,6 @@ returns g c =
       (sym c.new.ensures.name, lent.back),
       record {
         writes_back = tt;
-        even = c.new.ensures.even;
         left = c.new.ensures.left ∙ (λ j. zip (c.columns_mut-values.ensures.keys j) (c.columns_mut-values.ensures.values j))
             ∙ zip_columns inside.store.pairs ∙ lent.pairs;
         small = lent.small;

@@ -1,10 +1,14 @@
-use Rattle.halfbrown.proofs.lemmas.map.Collect.{yields_front}
+use Rattle.halfbrown.specs.Costs.{key_hash}
+use Rattle.halfbrown.proofs.lemmas.map.Collect.{extends_of, yields_front}
 use Rattle.halfbrown.proofs.map.collect.LimitedHashMapExtendTuple2.extend.Goals as goal
 
 pub returns-in-Err : goal.returns-in-Err
 returns-in-Err g c =
-    let refused = c.in-Err.ensures.refused.1 in
+    let told = c.in-Err.ensures.refused in
+    let it = told.0 in
+    let refused = told.3 in
     let given = refused.were_given in
-    let front = yields_front g.I.IntoIter.Iterator.next_gives c.into_iter.result refused.before (refused.key, refused.value) given.0
-    given.1 in
-    record { ran = (c.into_iter.result, refused.before, c.into_iter.ensures.into_iter_gives, (refused.spent, refused.inserted), front) }
+    let front = yields_front g.I.IntoIter.Iterator.next_gives it refused.before (refused.key, refused.value) given.0 given.1 in
+    let extends = extends_of g.L.Limit.LIMIT g.K.PartialEq.eq (key_hash g.S.BuildHasher g.S.Hasher.Hasher g.K.Hash.hash_input)
+    g.met.K.Eq.laws c.args.self.now c.extend.new.self refused.before refused.spent refused.inserted in
+    record { ran = (it, refused.before, told.2, (refused.spent, extends), front) }
