@@ -1,5 +1,5 @@
 -- What follows of changed lists of pairs, for callers: the set `map_facts` has those that `grind` applies, and `using` takes it.
-use Rattle.std.proofs.Common.{◌≡◌, ℕ, suc, ◌+◌, ◌<◌, ◌≤◌, Bool, true, false, cond, ◌||◌, ◌⊎◌, inl, inr, List, [], ◌∷◌, ◌++◌, length, take}
+use Rattle.std.proofs.Common.{◌≡◌, ℕ, suc, ◌+◌, ◌<◌, ◌≤◌, Bool, true, false, cond, ◌||◌, ◌⊎◌, inl, inr, List, [], ◌∷◌, ◌++◌, length, take, reverse}
 use Rattle.std.proofs.Common.{get_or, slice_get, Option, None, Some, is_some, IsSome, unwrap_or, count_by, refl, sym, ap, subst, ◌∙◌}
 use Rattle.std.proofs.Common.{true≢false, append-nil, arith}
 use Rattle.std.specs.Cmp.{IsEquivalence}
@@ -9,14 +9,16 @@ use Rattle.std.specs.Option.{option_map, option_map_or}
 use Rattle.std.proofs.lemmas.Cmp.{nat_eq_equiv}
 use Rattle.std.proofs.lemmas.List.{map-append, take_more}
 use Rattle.std.proofs.lemmas.List.Elements.{filter-append}
+use Rattle.std.proofs.lemmas.List.Sorted.{IsPermutation-reverse}
 use Rattle.std.proofs.lemmas.List.Sums.{count_by-le-length, fold_push}
 use Rattle.std.proofs.lemmas.Map.Entries.{none_past_head, option_filter}
 use Rattle.std.proofs.lemmas.Map.{lookup-none}
 use Rattle.std.proofs.lemmas.Map.Keys.{IsDistinct-tail}
 use Rattle.half_store.specs.Pairs.{index_of, swap_remove_at}
+use Rattle.halfbrown.specs.Collection.{last_value_of}
 use Rattle.halfbrown.specs.Pairs.{IsForm, value_of, holds, holds_by, put, set_by, take_out_by}
 use Rattle.halfbrown.specs.Updates.{HasPut}
-use Rattle.halfbrown.proofs.CallerLemmas.{value_of_equal}
+use Rattle.halfbrown.proofs.CallerLemmas.{value_of_equal, lookup_permuted}
 use Rattle.halfbrown.proofs.lemmas.pairs.Indices.{value_of_entry}
 use Rattle.halfbrown.proofs.lemmas.pairs.SwapRemove.{map-swap_remove_at}
 use Rattle.halfbrown.specs.Gathering.{add_key, first_of_each, CountsEach, GroupsEach}
@@ -210,6 +212,11 @@ pub keys_after_put : {K V : Type 0} {eq : K → K → Bool} (old new : List (K �
     → HasPut eq old k v new × (keys_of new ≡ add_key eq (keys_of old) k)
 keys_after_put {eq = eq} old new k v put =
     (put, put.keys ∙ ap (λ b. cond b (keys_of old) (keys_of old ++ k ∷ [])) (holds_by-any (eq k) old))
+
+-- where no two keys are equal, the last value of a key is its value
+pub last_is_value : {K V : Type 0} {eq : K → K → Bool} → IsEquivalence eq → (ps : List (K × V)) → IsDistinct eq (keys_of ps) → (k : K)
+    → last_value_of eq ps k ≡ value_of eq ps k
+last_is_value {eq = eq} laws ps distinct k = lookup_permuted eq laws ps (reverse ps) distinct (IsPermutation-reverse ps) k
 
 pub ruleset map_facts = (after_put, keys_after_put, holds_by-any, put_value_held, put_new, nat_eq_equiv)
 

@@ -1,20 +1,16 @@
 -- What becomes of items that are collected into a map.
-use Rattle.std.specs.Prelude.{◌≡◌, ℕ, nat_le, Bool, true, false, not, List, [], ◌∷◌, ◌++◌, ◌⊎◌, Option, filter, reverse}
+use Rattle.std.specs.Prelude.{◌≡◌, ℕ, nat_le, Bool, true, false, List, [], ◌∷◌, ◌++◌, ◌⊎◌, Option, reverse}
 use Rattle.std.specs.Iterator.{Yields}
 use Rattle.std.specs.Map.{keys_of}
 use Rattle.std.specs.Option.{option_or}
 use Rattle.half_store.specs.declared.refusal.Refusal.{Refusal}
 use Rattle.halfbrown.specs.Costs.{Cost, no_cost, add_costs, insert_cost}
+use Rattle.halfbrown.specs.Gathering.{add_keys, first_of_each}
 use Rattle.halfbrown.specs.Growth.{making_needs, insert_needs, IsRefusal}
 use Rattle.halfbrown.specs.Insertion.{Puts}
 use Rattle.halfbrown.specs.Making.{IsMade}
-use Rattle.halfbrown.specs.Pairs.{put, holds, value_of}
+use Rattle.halfbrown.specs.Pairs.{put, value_of}
 use Rattle.halfbrown.specs.State.{State, IsState}
-
--- of each class of equal keys the first, in order
-abbrev pub first_keys : {K : Type 0} → (K → K → Bool) → List K → List K
-first_keys eq [] = []
-first_keys eq (k ∷ ks) = k ∷ filter (λ q. not (eq k q)) (first_keys eq ks)
 
 module _ {K V : Type 0} (eq : K → K → Bool) where
   -- the pairs once these items are put, one after another
@@ -49,7 +45,7 @@ module _ {K V S : Type 0} (limit : ℕ) (eq : K → K → Bool) (hash : S → K 
   -- from old to new these items are inserted: new keys come behind those held, in order, and each key has the last value that was given for it
   pub record Extends (old : State K V S) (items : List (K × V)) (new : State K V S) (cost : Cost) : Type 0 where
     pub pairs : new.pairs ≡ put_all eq old.pairs items
-    pub keys : keys_of new.pairs ≡ keys_of old.pairs ++ filter (λ q. not (holds eq old.pairs q)) (first_keys eq (keys_of items))
+    pub keys : keys_of new.pairs ≡ add_keys eq (keys_of old.pairs) (keys_of items)
     pub values : (k : K) → value_of eq new.pairs k ≡ option_or (last_value_of eq items k) (value_of eq old.pairs k)
     pub builder : new.builder ≡ old.builder
     pub inserted : InsertsAll old items new cost
@@ -70,7 +66,7 @@ module _ {K V S : Type 0} (limit : ℕ) (eq : K → K → Bool) (hash : S → K 
     -- a map of these items: it was made with capacity for so many pairs, and the items were inserted one after another, at this cost
     pub record IsCollection (items : List (K × V)) (m : State K V S) (cost : Cost) : Type 0 where
       pub pairs : m.pairs ≡ collected eq items
-      pub keys : keys_of m.pairs ≡ first_keys eq (keys_of items)
+      pub keys : keys_of m.pairs ≡ first_of_each eq (keys_of items)
       pub values : (k : K) → value_of eq m.pairs k ≡ last_value_of eq items k
       pub builder : is_default m.builder
       pub made : State K V S

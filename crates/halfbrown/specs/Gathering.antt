@@ -14,9 +14,13 @@ module _ {K : Type 0} (eq : K → K → Bool) where
   abbrev pub add_key : List K → K → List K
   add_key keys k = if list_any (eq k) keys then keys else keys ++ k ∷ []
 
+  -- the keys, and behind them, in order, each of more that equals none before it
+  abbrev pub add_keys : List K → List K → List K
+  add_keys keys more = fold add_key keys more
+
   -- of equal items the first, in order
   abbrev pub first_of_each : List K → List K
-  first_of_each xs = fold add_key [] xs
+  first_of_each xs = add_keys [] xs
 
   -- the pairs count these items: the value of each is how often it stands among them, and the keys are the items in order of their first
   -- occurrence
