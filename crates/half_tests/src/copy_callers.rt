@@ -2,7 +2,7 @@
 ghost use Rattle.std.specs.Prelude.{◌≡◌, true, [], ◌∷◌, IfOk};
 
 use halfbrown::{DefaultHashBuilder, HashMap, Refusal, SizedHashMap, hashmap};
-use std::alloc::Global;
+use std::alloc::{AllocError, Global};
 
 /// A key that may be copied.
 #[derive(Clone, Copy, PartialEq, Eq, Hash)]
@@ -16,6 +16,20 @@ pub fn saved(
     ensures form { IfOk result (λ m. m.is_vec ≡ ports.now.is_vec) }
 {
     ports.clone()
+}
+
+/// What a service knows of its users: a struct with maps is cloned as any other.
+#[derive(Clone, Drop)]
+pub struct Users {
+    pub ages: HashMap<u64, u32>,
+    pub ids: HashMap<String, u64>,
+}
+
+/// A clone has the same ages in the same order.
+pub fn snapshot(users: &Users) -> Result<Users, AllocError>
+    ensures ages { IfOk result (λ copy. copy.ages.pairs ≡ users.now.ages.pairs) }
+{
+    users.clone()
 }
 
 /// Of equal keys the last value counts, and the capacity is enough for all that is written. A last comma changes nothing.

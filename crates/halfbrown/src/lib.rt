@@ -21,6 +21,7 @@
 
 mod drain;
 mod entry;
+mod equal_clone;
 mod equivalent;
 mod iter;
 mod limit;
@@ -32,6 +33,7 @@ pub mod run;
 
 pub use drain::Drain;
 pub use entry::{Entry, OccupiedEntry, VacantEntry};
+pub use equal_clone::EqualClone;
 pub use equivalent::Equivalent;
 pub use half_store::{Refusal, Tally};
 pub use iter::{IntoIter, Iter, IterMut, Keys, Values, ValuesMut};

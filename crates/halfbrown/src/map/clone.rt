@@ -1,12 +1,13 @@
 //! Clones of a map.
-ghost use Rattle.std.specs.Prelude.{◌≡◌, length, IfOk, IfErr, if◌then◌else◌};
-ghost use Rattle.halfbrown.specs.Clone.{ArePairClones, ClonesAreCopies, ClonesAreLawful};
+ghost use Rattle.std.specs.Prelude.{◌≡◌, IfOk, IfErr};
+ghost use Rattle.halfbrown.specs.Clone.{ClonesEqualKeys, HashesAlike, IsCloneOf};
 ghost use Rattle.halfbrown.specs.Costs.{key_hash};
 ghost use Rattle.halfbrown.specs.State.{IsState};
 
 use super::LimitedHashMap;
-use crate::Limit;
+use crate::{EqualClone, Limit};
 use half_store::Refusal;
+use std::alloc::AllocError;
 use std::hash::{BuildHasher, Hash};
 use std::marker::PhantomData;
 
@@ -29,25 +30,47 @@ impl<K: Eq + Hash, V, S: BuildHasher, L: Limit> LimitedHashMap<K, V, S, L> {
         K: Clone,
         V: Clone,
         S: Clone,
-        requires lawful { ClonesAreLawful K.eq (key_hash S.BuildHasher S.Hasher.Hasher K.hash_input) K.is_clone
-            S.is_clone self.now }
-        ensures form { IfOk result (λ m. m.is_vec ≡ self.now.is_vec) }
-        ensures pairs { IfOk result (λ m. ArePairClones K.is_clone V.is_clone self.now.pairs m.pairs) }
-        ensures same { IfOk result (λ m. ClonesAreCopies K.is_clone → ClonesAreCopies V.is_clone
-            → m.pairs ≡ self.now.pairs) }
-        ensures capacity { IfOk result (λ m. m.capacity
-            ≡ (if self.now.is_vec then length self.now.pairs else self.now.capacity)) }
-        ensures columns { IfOk result (λ m. m.columns ≡ m.capacity) }
-        ensures builder { IfOk result (λ m. S.is_clone self.now.builder m.builder) }
+        requires keys { ClonesEqualKeys K.eq K.is_clone self.now }
+        requires builder { (copy : S) → S.is_clone self.now.builder copy
+            → HashesAlike (key_hash S.BuildHasher S.Hasher.Hasher K.hash_input) self.now copy }
+        ensures cloned { IfOk result (IsCloneOf K.is_clone V.is_clone S.is_clone self.now) }
         ensures refused { IfErr result (λ why. why ≡ Refusal.Memory) }
         ensures state { IfOk result (IsState K.eq L.LIMIT) }
     {
         let builder = self.builder.clone()?;
+        self.clone_with(builder)
+    }
+
+    // A clone with this builder.
+    fn clone_with(&self, builder: S) -> Result<Self, Refusal>
+    where
+        K: Clone,
+        V: Clone,
+        S: Drop,
+        requires keys { ClonesEqualKeys K.eq K.is_clone self.now }
+        requires builder { HashesAlike (key_hash S.BuildHasher S.Hasher.Hasher K.hash_input) self.now builder }
+        ensures cloned { IfOk result (IsCloneOf K.is_clone V.is_clone (λ _ it. it ≡ builder) self.now) }
+        ensures refused { IfErr result (λ why. why ≡ Refusal.Memory) }
+        ensures state { IfOk result (IsState K.eq L.LIMIT) }
+    {
         let store = self.store.clone()?;
         Ok(LimitedHashMap {
             store,
             builder,
             limit: PhantomData,
         })
+    }
+}
+
+// The inherent call has a condition, which the trait has no place for.
+impl<K: EqualClone + Hash, V: Clone, S: BuildHasher + Copy, L: Limit> Clone
+    for LimitedHashMap<K, V, S, L> {
+    ghost is_clone = { IsCloneOf K.is_clone V.is_clone (λ builder it. it ≡ builder) };
+
+    fn clone(&self) -> Result<Self, AllocError> {
+        match self.clone_with(self.builder) {
+            Ok(map) => Ok(map),
+            Err(_) => Err(AllocError),
+        }
     }
 }

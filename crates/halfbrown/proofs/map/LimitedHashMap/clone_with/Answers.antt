@@ -1,14 +1,15 @@
-use Rattle.std.proofs.Common.{◌≡◌, true, false, map, ap, sym, subst, ◌∙◌}
+use Rattle.std.proofs.Common.{◌≡◌, true, false, map, rules, refl, ap, sym, subst, ◌∙◌}
 use Rattle.std.proofs.lemmas.Map.Entries.{entries_from_clone}
 use Rattle.std.proofs.lemmas.Slice.Zip.{AllZip-long}
 use Rattle.std.specs.List.{AllZip}
 use Rattle.std.specs.Map.{keys_of}
 use Rattle.half_store.specs.Hash.{hash_by}
-use Rattle.halfbrown.specs.Clone.{ClonesAreLawful}
+use Rattle.halfbrown.specs.Clone.{ClonesEqualKeys, HashesAlike, IsCloneOf}
 use Rattle.halfbrown.specs.Costs.{key_hash}
+use Rattle.halfbrown.specs.Layout.{state_in}
 use Rattle.halfbrown.proofs.lemmas.map.Clone.{keys_zip, zip_held, map-zip, kept_cloned}
 use Rattle.halfbrown.proofs.lemmas.map.Layout.{state_of}
-use Rattle.halfbrown.proofs.map.LimitedHashMap.clone.Goals as goal
+use Rattle.halfbrown.proofs.map.LimitedHashMap.clone_with.Goals as goal
 
 pub invariant_of-result : goal.invariant_of-result
 invariant_of-result g c =
@@ -17,31 +18,44 @@ invariant_of-result g c =
     let D = g.V.Clone.is_clone in
     let hash_all = key_hash g.S.BuildHasher g.S.Hasher.Hasher g.K.Hash.hash_input in
     let before = c.self.inside.builder in
-    let after = c.in_ok-builder.builder in
+    let after = c.args.builder in
     let hash = hash_all before in
     let also_hash = hash_all after in
     let old = c.self.inside.store in
     let new = c.in_ok-store.store in
     let cloned = c.in_ok-store.ensures in
     let held = keys_zip C D old.pairs new.pairs cloned.pairs in
-    let lawful = subst (λ m. ClonesAreLawful eq hash_all C g.S.Clone.is_clone m) (sym c.self.view_is) c.requires.lawful in
+    let equal = subst (ClonesEqualKeys eq C) (sym c.self.view_is) c.requires.keys in
+    let hashes_alike = subst (λ m. HashesAlike hash_all m after) (sym c.self.view_is) c.requires.builder in
     let alike : AllZip (λ k l. eq k l ≡ true) (keys_of old.pairs) (keys_of new.pairs) =
-    zip_held C (λ k l. eq k l ≡ true) (keys_of old.pairs) (keys_of new.pairs) lawful.keys held in
+    zip_held C (λ k l. eq k l ≡ true) (keys_of old.pairs) (keys_of new.pairs) equal held in
     let hashed : old.is_vec ≡ false → map also_hash (keys_of new.pairs) ≡ map hash (keys_of old.pairs) =
     λ table. map-zip hash also_hash (keys_of old.pairs) (keys_of new.pairs)
     (zip_held C (λ k l. also_hash l ≡ hash k) (keys_of old.pairs) (keys_of new.pairs)
     (λ k l inside is_clone. ap (hash_by g.S.BuildHasher g.S.Hasher.Hasher after)
-    (sym (g.met.K.Hash.respects_eq k l (lawful.keys k l inside is_clone)))
-    ∙ lawful.builder after k table c.in_ok-builder.ensures.cases inside) held) in
+    (sym (g.met.K.Hash.respects_eq k l (equal k l inside is_clone)))
+    ∙ hashes_alike k table inside) held) in
     kept_cloned eq g.met.K.Eq.laws hash also_hash g.L.Limit.LIMIT old new c.self.invariant cloned.form
     (AllZip-long (λ p q. C p.0 q.0 × D p.1 q.1) old.pairs new.pairs cloned.pairs) alike hashed cloned.capacity cloned.hashes
 
-pub returns-clause-same : goal.returns-clause-same
-returns-clause-same g c keys values =
-    entries_from_clone g.K.Clone.is_clone g.V.Clone.is_clone keys values c.self.inside.store.pairs c.in_ok-store.store.pairs
-    c.in_ok-store.ensures.pairs ∙ ap (λ m. m.pairs) c.self.view_is
+pub returns-clause-cloned : goal.returns-clause-cloned
+returns-clause-cloned g c =
+    let C = g.K.Clone.is_clone in
+    let D = g.V.Clone.is_clone in
+    let old = c.self.inside.store in
+    let new = c.in_ok-store.store in
+    let cloned = c.in_ok-store.ensures in
+    let made = state_in g.L.Limit.LIMIT new c.args.builder in
+    subst (λ m. IsCloneOf C D (λ b it. it ≡ c.args.builder) m made) c.self.view_is (record {
+      form = cloned.form;
+      pairs = cloned.pairs;
+      same = λ keys values. entries_from_clone C D keys values old.pairs new.pairs cloned.pairs;
+      capacity = search rules;
+      columns = search rules;
+      builder = refl;
+    })
 
 pub returns-clause-state : goal.returns-clause-state
 returns-clause-state g c =
-    state_of g.K.PartialEq.eq (key_hash g.S.BuildHasher g.S.Hasher.Hasher g.K.Hash.hash_input c.in_ok-builder.builder) g.L.Limit.LIMIT
-    c.in_ok-store.store c.in_ok-builder.builder (invariant_of-result g c)
+    state_of g.K.PartialEq.eq (key_hash g.S.BuildHasher g.S.Hasher.Hasher g.K.Hash.hash_input c.args.builder) g.L.Limit.LIMIT
+    c.in_ok-store.store c.args.builder (invariant_of-result g c)
