@@ -33,9 +33,12 @@ CALLERS = {
     r"\bCount::new\(|\.plus_one\(": {"half_store/src/tally": 6},
     r"\b(?:is_match|matches)\(": {"half_store/src/counting": 1, "half_store/src/store/find": 2},
     r"(?:\.|::)equivalent\(": {"halfbrown/src/map/find": 1},
-    r"\*\w+ [!=]= (?!b')": {"halfbrown/src/equivalent": 5, "halfbrown/src/map/equality": 1},
+    r" [!=]= (?!\d|b')": {"half_store/src/table/deletion": 1, "half_store/src/table/probe": 1, "half_store/src/table/retain": 1}
+    | {"halfbrown/src/equivalent": 6, "halfbrown/src/map/equality": 2, "halfmap/src/lines": 1, "halfmap/src/request": 1},
     r"\.contains\(": {"halfmap/src/session": 1},
     r"\b(?:self|map)\[": {"half_store/src/words": 4},
+    r"(?<!\w)run\(": {},
+    r"\bcollect(?:::<.*>)?\(": {"halfbrown/src/map/collect": 2},
     r"\bcompare\(": {"half_store/src/table/probe": 1, "half_store/src/vecmap/search": 1},
     r"\blook\(": {"half_store/src/table/probe": 2},
     r"(?<!\w)search\(": {"half_store/src/table/find": 1},
