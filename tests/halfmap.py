@@ -19,7 +19,7 @@ PROGRAM = TESTS.parent / "crates/halfmap/out/halfmap"
 # Far more than any run takes, so that only one that does not end meets it.
 SECONDS = 60
 # What the program may take of memory where it holds few pairs, with the C library: its buffers have 8 KiB each.
-SMALL = 4 << 20
+SMALL = 3 << 20
 MEBI = 1 << 20
 ALL_AT_ONCE = 1 << 20
 LIBRARIES = tempfile.TemporaryDirectory()
@@ -55,8 +55,8 @@ class Run:
         return None if found == wanted else f"{part!r} was answered by {found!r}, not {wanted!r}"
 
     def peak(self):
-        """The most memory that the program has had so far, in bytes. It is without bound where the program has ended."""
-        found = re.search(r"^VmHWM:\s+(\d+) kB$", pathlib.Path(f"/proc/{self.program.pid}/status").read_text(), re.M)
+        """The most memory that the program has had so far, in bytes, used or not. It is without bound where it has ended."""
+        found = re.search(r"^VmPeak:\s+(\d+) kB$", pathlib.Path(f"/proc/{self.program.pid}/status").read_text(), re.M)
         return 1024 * int(found[1]) if found else float("inf")
 
     def end(self, text=b""):
@@ -116,6 +116,13 @@ def a_million_lines_take_seconds_and_little_memory():
     if found != b"".join(wanted) or peak > SMALL:
         return f"other answers, or {peak} bytes of memory"
     return ends(run, b"f\n", b"vec 0\n")
+
+
+def a_million_pairs_and_ten_million_lines():
+    """Nothing is tested of more pairs, of more lines, nor of a line above a gigabyte."""
+    keys, looks = 1_000_001, 9_000_000
+    text = b"".join(b"i %d 7\n" % key for key in range(keys)) + b"g 1\n" * looks
+    return ends(Run(), text + b"f", b"none\n" * keys + b"7\n" * looks + b"map %d\n" % keys)
 
 
 def a_line_of_a_gigabyte_takes_little_memory():

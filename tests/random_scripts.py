@@ -14,7 +14,7 @@ STATES_OFTEN = ("vec", "full vec", "full vec", "table", "full table", "full tabl
 NUMBERS = (0, 0, 0, 1, 1, 2, 3, 4, 5, 7, 12, 31, 32, 100, GREATEST)
 SIZES = (0, 1, 2, 3, 5, 6, 7, 12, 13, 33, 50)
 # Sizes that are refused.
-TOO_GREAT = (MOST_PAIRS + 1, 2**63, GREATEST)
+TOO_GREAT = (MOST_PAIRS, MOST_PAIRS + 1, 2**63, GREATEST)
 ADDING = ("insert KEY V", "insert_nocheck KEY V", "entry KEY or_insert V", "raw KEY add V", "run insert_new KEY V is_vec")
 REMOVING = ("remove FORM", "remove_entry_hashed FORM", "entry KEY remove", "raw KEY remove", "run remove KEY")
 ANEW = ("drop", "into_iter", "walk for_value STEPS", "walk into_iter STEPS")
@@ -78,8 +78,7 @@ class Script:
         return f"{id_}{self.chance.choice(('', '', '#2', '#3'))}"
 
     def size(self):
-        """A size. At a limit of 2^60 none is too great, and memory would be asked for it."""
-        return self.chance.choice(TOO_GREAT if self.limit != MOST_PAIRS and self.chance.random() < 0.1 else SIZES)
+        return self.chance.choice(TOO_GREAT if self.chance.random() < 0.1 else SIZES)
 
     def which(self, id_):
         """What a match accepts. In a table `any` is determined where no two keys have one hash."""
@@ -189,11 +188,17 @@ class Script:
         for old, new in zip(ids, ids[40:]):
             self.add(f"run remove {old} get {new} insert {new} 1")
 
+    def run_at_length(self, count):
+        """One run of as many commands, which seldom clear the map."""
+        forms = [form for form in COMMANDS for _ in range(1 if form == "clear" else 10)]
+        self.add("run " + " ".join(self.written(forms[37 * number % len(forms)]) for number in range(count)))
+
 
 # Long scripts: a limit, a rule, and what is done.
 LONG = [(32, "plain", lambda script: script.flood(4000, 1))]
 LONG += [(limit, rule, lambda script: script.flood(300, 2**14)) for limit in (0, 5) for rule in RULES]
 LONG += [(limit, rule, lambda script: script.pass_through(500)) for limit in (0, 32, GREATEST) for rule in RULES]
+LONG += [(limit, rule, lambda script: script.run_at_length(1000)) for limit in (0, 1, 2, 32) for rule in RULES]
 
 
 def make_script(chance, index):

@@ -11,6 +11,7 @@ with what was found, and the last line is "N passed, M failed".
 import dataclasses
 import os
 import pathlib
+import re
 import subprocess
 import sys
 import tempfile
@@ -22,6 +23,9 @@ from model.session import answers
 TESTS = pathlib.Path(__file__).resolve().parent
 PROGRAM = pathlib.Path(os.environ.get("WITNESS") or TESTS.parent / "crates/witness/out/witness")
 SECONDS = 120
+# The model searches a list, and plays no part of as many characters.
+MOST_ON_THE_MODEL = 2**18
+REPEATED, TERM = re.compile(r"<(\d+): ([^<>]*)>"), re.compile(r"\b(\d*)n(?:\+(\d+))?\b")
 
 
 @dataclasses.dataclass
@@ -58,10 +62,19 @@ class Part:
         return sum(judge(part, [("without the allocator", printed)]), [])
 
 
+def written_out(line):
+    """The line in which `<3: 8n n+1>` stands for its words with 0, 1 and 2 for n: `0 1 8 2 16 3`."""
+
+    def words(repeated, n):
+        return TERM.sub(lambda it: str(int(it[1] or 1) * n + int(it[2] or 0)), repeated)
+
+    return REPEATED.sub(lambda it: " ".join(words(it[2], n) for n in range(int(it[1]))), line)
+
+
 def read_script(path):
     """The parts of a script, and what is wrong in it."""
     parts, faults, call = [Part(path.name)], [], None
-    for number, line in enumerate(path.read_bytes().decode().split("\n"), 1):
+    for number, line in enumerate(map(written_out, path.read_bytes().decode().split("\n")), 1):
         word, _, rest = line.partition(" ")
         if line == "" or line.startswith("#"):
             continue
@@ -109,7 +122,9 @@ def play(lines, library, refuse=None):
 def plays_of(part, library):
     """What is said of each play of a part, and what was printed. Of one refused call each request is refused in turn, then
     each two in a row, then all."""
-    plays, refused = [("the program", play(part.lines, library)), ("the model", answers(part.lines))], part.refused()
+    plays, refused = [("the program", play(part.lines, library))], part.refused()
+    if sum(map(len, part.lines)) < MOST_ON_THE_MODEL:
+        plays.append(("the model", answers(part.lines)))
     if len(refused) == 1:
         granted = answers(part.lines, is_granted=True)
         plays.append(("the model, no request refused", granted))
@@ -123,7 +138,7 @@ def plays_of(part, library):
 
 def judge_call(name, call, found):
     """What is wrong with what was found in each play. What several plays have in common is said once."""
-    place, faults, unmet = f"scripts/{name}:{call.number}: {call.text}", {}, set(call.wanted)
+    place, faults, unmet = f"scripts/{name}:{call.number}: {call.text[:100]}", {}, set(call.wanted)
     for said, answer in found:
         # What the model says may be a span.
         met = {text for text in call.wanted if agrees(text, without_unwanted(answer, text))}
@@ -161,7 +176,7 @@ def main(words):
         told = sum(pool.map(lambda part: judge(part, plays_of(part, library)), parts), [])
     told += [[fault] for _, faults in read for fault in faults]
     for fault in sum(told, []):
-        print(fault)
+        print(fault[:1000])
     return told.count([]), len(told) - told.count([])
 
 

@@ -3,11 +3,13 @@
 are forgotten, tables and builders that are made to be dropped.
 
 A tally is begun by a plain call alone, whose whole body is its counted form, or where OTHER_TALLIES says why. What counts, reads
-a bucket or makes a table is called where CALLERS says. Of the words of buckets only what WORD_CALLS names is called.
+a bucket, compares or makes a table is called where CALLERS says, and a plain call that has a counted form where PLAIN_CALLS does.
+Of the words of buckets only what WORD_CALLS names is called.
 
 The last line is "N passed, M failed".
 """
 
+import functools
 import pathlib
 import re
 import sys
@@ -18,24 +20,52 @@ LIBRARIES = ("half_store", "halfbrown", "halfmap")
 # What may stand nowhere: a pattern, and what is wrong with it.
 NOWHERE = {
     r"\bforget\(|ManuallyDrop|\bleak\(": "a value may be forgotten",
-    r"\bTally as\b|\btype \w+ = Tally\b": "the tally has another name",
-    r"\.hash\(|\.build_hasher\(": "a key is hashed beside the builder's hash_one",
+    r"\b(?:Tally|tally|half_store) as\b|\btype \w+(?:<.*>)? = .*\bTally\b": "the tally has another name",
+    r"\bTally::(?!new\(\))": "a tally is made in another way",
+    r"(?:\.|::)(?:hash|build_hasher)\(": "a key is hashed beside the builder's hash_one",
+    r"(?:\.|::)(?:eq|ne)\(": "keys or values are compared by no operator",
+    r"Bytes\((?!words\b|buckets\b|Vec\b|vec!)": "the words of buckets have another name",
 }
 # Where a call stands, and how often: a pattern, and the files, below crates/ and without .rt.
 CALLERS = {
-    r"\.hash_one\(": {"half_store/src/counting": 1},
+    r"(?<!counting)(?:\.|::)hash_one\(": {"half_store/src/counting": 1},
     r"\bcounting::hash_one\(": {"halfbrown/src/map/form": 2},
+    r"\bCount::new\(|\.plus_one\(": {"half_store/src/tally": 6},
+    r"\b(?:is_match|matches)\(": {"half_store/src/counting": 1, "half_store/src/store/find": 2},
+    r"(?:\.|::)equivalent\(": {"halfbrown/src/map/find": 1},
+    r" [!=]= (?!\d|b')": {"half_store/src/table/deletion": 1, "half_store/src/table/probe": 1, "half_store/src/table/retain": 1}
+    | {"halfbrown/src/equivalent": 6, "halfbrown/src/map/equality": 2, "halfmap/src/lines": 1, "halfmap/src/request": 1},
+    r"\.contains\(": {"halfmap/src/session": 1},
+    r"\b(?:self|map)\[": {"half_store/src/words": 4},
+    r"(?<!\w)run\(": {},
+    r"\bcollect(?:::<.*>)?\(": {"halfbrown/src/map/collect": 2},
     r"\bcompare\(": {"half_store/src/table/probe": 1, "half_store/src/vecmap/search": 1},
     r"\blook\(": {"half_store/src/table/probe": 2},
     r"(?<!\w)search\(": {"half_store/src/table/find": 1},
     r"\bfirst_match\(": {"half_store/src/store/find": 1},
     r"\bfirst_empty\(": {"half_store/src/table": 2, "half_store/src/table/rehash": 1},
     r"\bfind_in\(": {"half_store/src/table": 2},
-    r"\bbuckets\.read\(": {"half_store/src/counting": 1},
+    r"\.read\(": {"half_store/src/counting": 1},
     r"\.word_at\(": {"half_store/src/buckets": 1, "half_store/src/table/deletion": 3, "half_store/src/words": 2},
     r"\.hashed_buckets\(": {},
     r"\bTable::with_capacity\(": {"half_store/src/store/memory": 2, "half_store/src/store/switch": 1},
-    r"\bbuilder\.clone\(": {"halfbrown/src/map/clone": 1},
+    r"(?:\.|::)clone\(": {"half_store/src/column": 1, "halfbrown/src/map/clone": 2}
+    | {"halfbrown/src/iter": 3, "halfbrown/src/iter/keys": 1, "halfbrown/src/iter/values": 1},
+    r"\.copy\(": {"half_store/src/store/memory": 1},
+    r"\.copied\(\)\?": {"half_store/src/table/memory": 1},
+}
+# Where a call is made of the name of a plain call that has a counted form: what it is of.
+PLAIN_CALLS = {
+    "half_store/src/store/change": ["table.remove"] * 2,
+    "halfbrown/src/entry/debug": ["self.get"],
+    "halfbrown/src/entry/methods": ["entry.insert"] * 3 + ["entry.get_mut"],
+    "halfbrown/src/entry/occupied": ["self.get_mut", "self.remove_entry"],
+    "halfbrown/src/map/collect": ["LimitedHashMap::from_iter"],
+    "halfbrown/src/map/debug": ["out.entry"],
+    "halfbrown/src/map/equality": ["self.same_pairs"],
+    "halfbrown/src/raw_entry/methods": ["entry.insert"],
+    "halfbrown/src/run": ["entry.or_insert", "entry.get"],
+    "halfmap/src/answer": ["map.insert", "map.get", "map.remove"],
 }
 # Where a tally is begun by no plain call, and why: the function and the line.
 OTHER_TALLIES = {
@@ -78,6 +108,20 @@ def callers(name, code):
             yield f"{name}: this is called {len(calls)} times, and not {files.get(name, 0)}: {(calls or [pattern])[-1]}"
 
 
+def plain_calls(name, code):
+    """The calls of these names, and where a type's call is handed on."""
+    names = "|".join(plain_names())
+    calls = re.findall(rf"\w*(?:\.(?:{names})(?=(?:::<.*>)?\()|(?:\bSelf|Map|Mut|Entry|>)::(?:{names})\b)", code)
+    if calls != PLAIN_CALLS.get(name, []):
+        yield f"{name}: plain calls are {calls}, and not {PLAIN_CALLS.get(name, [])}"
+
+
+@functools.cache
+def plain_names():
+    counted = (re.findall(r"\bfn (\w+)_counted\b", path.read_text()) for path in CRATES.glob("half*/src/**/*.rt"))
+    return sorted(set().union(*counted))
+
+
 def words(name, code):
     for it in WORDS.finditer(code) if name.startswith("half_store/") else ():
         if it[1] not in WORD_CALLS:
@@ -89,7 +133,7 @@ def tallies(name, code):
     for function, body in functions(code):
         begun = body.count("Tally::new()")
         seen += begun
-        is_plain = re.fullmatch(rf"(?:\w+(?:::|\.))?{function}_counted\([^;]*&mut Tally::new\(\)\)", body)
+        is_plain = re.fullmatch(rf"(?:\w+(?:::|\.))?{function}_counted\((?:\w+, )*&mut Tally::new\(\)\)", body)
         other = OTHER_TALLIES.get(function)
         if begun and not is_plain and not (begun == 1 and other and other in body):
             yield f"{name}: `{function}` begins a tally, and is no plain call of its counted form"
@@ -97,16 +141,19 @@ def tallies(name, code):
         yield f"{name}: a tally is begun in no function that was read"
 
 
+SEARCHES = (nowhere, callers, plain_calls, words, tallies)
+
+
 def main():
     files = [path for crate in LIBRARIES for path in sorted((CRATES / crate / "src").rglob("*.rt"))]
     failed = []
     for path in files:
         name, code = path.relative_to(CRATES).with_suffix("").as_posix(), code_of(path)
-        for search in (nowhere, callers, words, tallies):
+        for search in SEARCHES:
             failed += search(name, code)
     for problem in failed:
         print(problem)
-    print(f"{4 * len(files) - len(failed)} passed, {len(failed)} failed")
+    print(f"{len(SEARCHES) * len(files) - len(failed)} passed, {len(failed)} failed")
     return bool(failed) or not files
 
 

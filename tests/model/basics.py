@@ -78,9 +78,11 @@ class Work:
             raise Refused("memory")
 
     def check_size(self, pairs):
-        if pairs > MOST_PAIRS:
-            self.refusals.add("size")
-            raise Refused("size")
+        """Of as many pairs as there may be, no column fits into an allocation, and no request is made."""
+        if pairs >= MOST_PAIRS:
+            why = "size" if pairs > MOST_PAIRS else "memory"
+            self.refusals.add(why)
+            raise Refused(why)
 
 
 def text_of(is_true):

@@ -1,11 +1,12 @@
 //! The callers, in use: that their calls succeed. What they return is in their contracts.
 
 use crate::callers::{add_label, declare, forget, keep_the_young, stored};
-use crate::copy_callers::an_age_twice;
+use crate::copy_callers::{an_age_twice, no_ages, numbered, one_age};
 use crate::drain_callers::{take_each, take_first};
 use crate::entry_callers::{count_up, meaning, toggle};
 use crate::error_callers::{add_two, ages_of_main};
 use crate::index_callers::{forget_last, remove_by_index, set_at};
+use crate::limit_callers::{at_and_above_8, at_and_above_32, raw_look_up, raw_meaning};
 use crate::raw_callers::{cached, respell};
 use crate::worked::{a_sixth_key_again, an_insertion_that_grows};
 use halfbrown::{DefaultHashBuilder, HashMap, SizedHashMap, Tally};
@@ -53,6 +54,29 @@ fn ages(rt: HostRuntime) -> Result<(), Fail> {
     let capacity = an_age_twice(rt.alloc(), 36, 37)?.capacity();
     assert_same(capacity, 2, "for both")?;
     assert_same(ages_of_main(rt.alloc())?.len(), 2, "Ada's and Ben's")
+}
+
+#[test]
+fn written_pairs_and_limits(rt: HostRuntime) -> Result<(), Fail> {
+    let alloc = rt.alloc();
+    let ages = (no_ages(alloc)?.len(), one_age(alloc, 36)?.len());
+    assert_same(ages, (0, 1), "as many as are written")?;
+    assert_same(
+        numbered(alloc, &mut 0)?.get(&3).copied(),
+        Some(4),
+        "the last",
+    )?;
+    assert_true(at_and_above_32(alloc)?.0.is_empty(), "two maps")?;
+    let mut scope = at_and_above_8(alloc)?.0;
+    let means = (
+        raw_meaning(&mut scope, 1, 10)?,
+        raw_meaning(&mut scope, 1, 11)?,
+    );
+    assert_same(
+        (means, raw_look_up(&scope, 1)),
+        ((10, 10), 10),
+        "new, and known",
+    )
 }
 
 #[test]

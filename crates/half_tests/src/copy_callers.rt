@@ -1,5 +1,5 @@
 //! What callers build on clones and on pairs that are written out, proved from the public contracts alone.
-ghost use Rattle.std.specs.Prelude.{◌≡◌, true, [], ◌∷◌, IfOk};
+ghost use Rattle.std.specs.Prelude.{◌≡◌, ◌+◌, ◌-◌, ◌<◌, ◌^◌, true, [], ◌∷◌, IfOk, IsOk};
 
 use halfbrown::{DefaultHashBuilder, HashMap, Refusal, SizedHashMap, hashmap};
 use std::alloc::{AllocError, Global};
@@ -39,4 +39,45 @@ pub fn an_age_twice(alloc: Global, before: u32, now: u32) -> Result<HashMap<u64,
     ensures capacity { IfOk result (λ m. m.capacity ≡ 2) }
 {
     hashmap! {in alloc; 1 => before, 1 => now,}
+}
+
+/// No pairs are written, and no memory is needed.
+pub fn no_ages(alloc: Global) -> Result<HashMap<u64, u32>, Refusal>
+    ensures granted { IsOk result }
+    ensures pairs { IfOk result (λ m. m.pairs ≡ []) }
+    ensures form { IfOk result (λ m. m.is_vec ≡ true) }
+    ensures capacity { IfOk result (λ m. m.capacity ≡ 0) }
+{
+    hashmap! {in alloc;}
+}
+
+/// One pair.
+pub fn one_age(alloc: Global, age: u32) -> Result<HashMap<u64, u32>, Refusal>
+    ensures pairs { IfOk result (λ m. m.pairs ≡ (1, age) ∷ []) }
+    ensures form { IfOk result (λ m. m.is_vec ≡ true) }
+    ensures capacity { IfOk result (λ m. m.capacity ≡ 1) }
+{
+    hashmap! {in alloc; 1 => age}
+}
+
+/// Two pairs, whose keys and values are each evaluated once, in the order in which they are written.
+pub fn numbered(alloc: Global, number: &mut u64) -> Result<HashMap<u64, u64>, Refusal>
+    requires { number.old < 2 ^ 64 - 4 }
+    ensures pairs { IfOk result (λ m. m.pairs
+        ≡ (number.old + 1, number.old + 2) ∷ (number.old + 3, number.old + 4) ∷ []) }
+    ensures form { IfOk result (λ m. m.is_vec ≡ true) }
+    ensures capacity { IfOk result (λ m. m.capacity ≡ 2) }
+    ensures evaluated { number.new ≡ number.old + 4 }
+{
+    hashmap! {in alloc; next(number) => next(number), next(number) => next(number)}
+}
+
+// The next number.
+fn next(number: &mut u64) -> u64
+    requires { number.old < 2 ^ 64 - 1 }
+    ensures value { result ≡ number.old + 1 }
+    ensures kept { number.new ≡ number.old + 1 }
+{
+    *number += 1;
+    *number
 }

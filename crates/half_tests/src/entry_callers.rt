@@ -1,9 +1,13 @@
 //! What callers build on entries, proved from their public contracts alone: counters, and a set of labels that are switched on
 //! and off.
 ghost use Rattle.std.specs.Prelude.{◌≡◌, ◌+◌, ◌-◌, ◌^◌, ℕ, Some, true, false, not, min, nat_eq, OnOk, OnErr, IfOk, unwrap_or};
+ghost use Rattle.halfbrown.specs.Growth.{is_vec_after};
 ghost use Rattle.halfbrown.specs.Pairs.{value_of, holds, put};
 
-use halfbrown::{DefaultHashBuilder, Entry, Limit, LimitedHashMap, Refusal, SizedHashMap};
+use halfbrown::{
+    DefaultHashBuilder, Entry, Limit, LimitedHashMap, OccupiedEntry, Refusal, SizedHashMap, UpTo,
+    VacantEntry,
+};
 use std::hash::{BuildHasher, Hash};
 
 /// Counts a key once more, up to the greatest number.
@@ -57,9 +61,17 @@ pub fn meaning(
 ) -> Result<u64, Refusal>
     ensures means { IfOk result (λ meaning. meaning ≡ unwrap_or (value_of nat_eq scope.old.pairs name) fallback) }
     ensures declared { IfOk result (λ meaning. scope.new.pairs ≡ put nat_eq scope.old.pairs name meaning) }
+    ensures form { OnOk result (scope.new.is_vec ≡ is_vec_after 8 scope.old) }
 {
-    match scope.entry(name)? {
-        Entry::Occupied(entry) => Ok(*entry.into_mut()),
-        Entry::Vacant(entry) => Ok(*entry.insert(fallback)),
+    let entry: Entry<'_, u64, u64, DefaultHashBuilder, UpTo<8>> = scope.entry(name)?;
+    match entry {
+        Entry::Occupied(entry) => {
+            let held: OccupiedEntry<'_, u64, u64, DefaultHashBuilder, UpTo<8>> = entry;
+            Ok(*held.into_mut())
+        }
+        Entry::Vacant(entry) => {
+            let vacant: VacantEntry<'_, u64, u64, DefaultHashBuilder, UpTo<8>> = entry;
+            Ok(*vacant.insert(fallback))
+        }
     }
 }

@@ -16,6 +16,7 @@ pub mod first_example;
 mod forms_of_keys;
 pub mod index_callers;
 pub mod iter_callers;
+pub mod limit_callers;
 pub mod raw_callers;
 #[cfg(test)]
 mod refused_clones;

@@ -149,11 +149,12 @@ fn three_of_one_home_bucket(rt: HostRuntime) -> Result<(), Fail> {
     assert_search(&table, 15, NONE, (Err(2), 0, 4))?;
     assert_search(&table, 11, 2, (Ok(2), 1, 3))?;
     assert_search(&table, 2, NONE, (Err(2), 0, 1))?;
+    assert_search(&table, 3, 0, (Ok(0), 1, 1))?;
     // The last pair takes the free index, and moves to bucket 0.
     remove(&mut table, 0, 3)?;
     assert_full(&table, 4, &[3, 0])?;
     assert_search(&table, 11, 0, (Ok(0), 1, 2))?;
-    assert_same(probed(&table, 15), (1, 3), "bucket 1")?;
+    assert_same(probed(&table, 3), (1, 3), "bucket 1")?;
     add(rt.alloc(), &mut table, 3)?;
     // Of eight buckets 3 is the home of 11 and 3, and 7 that of 7.
     reserve(rt.alloc(), &mut table, 4)?;
@@ -162,9 +163,19 @@ fn three_of_one_home_bucket(rt: HostRuntime) -> Result<(), Fail> {
 }
 
 #[test]
+fn a_table_that_lost_all_its_pairs(rt: HostRuntime) -> Result<(), Fail> {
+    let mut table = table_of(rt.alloc(), 0, &[3, 7, 11])?;
+    for hash in [3, 11, 7] {
+        remove(&mut table, 0, hash)?;
+    }
+    assert_search(&table, 15, NONE, (Err(3), 0, 1))
+}
+
+#[test]
 fn pairs_of_one_hash_are_asked_for_in_order(rt: HostRuntime) -> Result<(), Fail> {
     let zeros = table_of(rt.alloc(), 0, &[0, 0, 0])?;
     assert_search(&zeros, 0, NONE, (Err(3), 3, 4))?;
+    assert_search(&zeros, 5, NONE, (Err(3), 0, 3))?;
     assert_search(&zeros, 0, 1, (Ok(1), 2, 2))?;
     let top = u64::MAX;
     let mut tops = table_of(rt.alloc(), 0, &[top, top, top])?;
@@ -174,14 +185,25 @@ fn pairs_of_one_hash_are_asked_for_in_order(rt: HostRuntime) -> Result<(), Fail>
     assert_search(&tops, top, 0, (Ok(0), 2, 2))
 }
 
-#[test]
-fn a_bucket_each_and_none(rt: HostRuntime) -> Result<(), Fail> {
-    let table = table_of(rt.alloc(), 0, &[0, 1, 2, 3, 4, 5])?;
+// Each of six pairs, of hashes 0 to 5, is found in the bucket of this number.
+fn assert_at_home(table: &Table) -> Result<(), Fail> {
     for hash in 0..6 {
         let index = hash as usize;
-        assert_search(&table, hash, index, (Ok(index), 1, 1))?;
+        assert_search(table, hash, index, (Ok(index), 1, 1))?;
     }
+    Ok(())
+}
+
+#[test]
+fn a_bucket_each_and_none(rt: HostRuntime) -> Result<(), Fail> {
+    let mut table = table_of(rt.alloc(), 0, &[0, 1, 2, 3, 4, 5])?;
+    assert_at_home(&table)?;
     assert_search(&table, 8, NONE, (Err(6), 0, 7))?;
+    reserve(rt.alloc(), &mut table, 13)?;
+    assert_same(table.capacity(), 24, "of 32 buckets")?;
+    table.shrink_to_fit();
+    assert_same(table.capacity(), 6, "of eight buckets")?;
+    assert_at_home(&table)?;
     let none = table_of(rt.alloc(), 0, &[])?;
     assert_search(&none, 0, NONE, (Err(NONE), 0, 0))
 }
@@ -198,6 +220,33 @@ fn a_removal_shifts_back_around_the_end(rt: HostRuntime) -> Result<(), Fail> {
     let mut table = table_of(rt.alloc(), 5, &[1, 9, 3])?;
     remove(&mut table, 0, 1)?;
     assert_full(&table, 8, &[1, 3])
+}
+
+#[test]
+fn a_removal_brings_a_pair_home(rt: HostRuntime) -> Result<(), Fail> {
+    let mut table = table_of(rt.alloc(), 0, &[0, 8, 1])?;
+    assert_full(&table, 4, &[0, 1, 2])?;
+    assert_search(&table, 1, 2, (Ok(2), 1, 2))?;
+    remove(&mut table, 1, 8)?;
+    assert_search(&table, 1, 1, (Ok(1), 1, 1))?;
+    assert_search(&table, 0, 0, (Ok(0), 1, 1))?;
+    // Another hash than those of two pairs of one home bucket.
+    let two = table_of(rt.alloc(), 3, &[8, 16])?;
+    assert_search(&two, 999, 0, (Err(3), 0, 1))
+}
+
+// Pairs of the same hashes fill the same buckets, in whatever order they came and whatever was removed.
+#[test]
+fn searches_after_other_histories(rt: HostRuntime) -> Result<(), Fail> {
+    let mut table = table_of(rt.alloc(), 5, &[6, 14, 7, 15, 0])?;
+    remove(&mut table, 0, 6)?;
+    assert_search(&table, 0, 0, (Ok(0), 1, 2))?;
+    let other = table_of(rt.alloc(), 5, &[0, 15, 14, 7])?;
+    for (hash, end, reads) in [(8, 2, 3), (22, 2, 5), (23, 2, 4), (3, 3, 1)] {
+        assert_search(&table, hash, NONE, (Err(end), 0, reads))?;
+        assert_search(&other, hash, NONE, (Err(end), 0, reads))?;
+    }
+    Ok(())
 }
 
 #[test]

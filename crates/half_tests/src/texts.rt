@@ -1,8 +1,9 @@
-//! Maps of texts, printed and under random hashes.
+//! Maps of texts, printed and under random hashes, and the text of an error.
 
 use crate::callers::ages_by_names_of_others;
-use halfbrown::SizedHashMap;
+use halfbrown::{Refusal, SizedHashMap};
 use std::alloc::Global;
+use std::io;
 use std::test::Fail;
 use test_support::asserts::{assert_same, assert_same_at};
 
@@ -19,6 +20,16 @@ fn assert_printed<const N: usize>(alloc: Global) -> Result<(), Fail> {
 fn texts_are_printed_in_order(rt: HostRuntime) -> Result<(), Fail> {
     assert_printed::<5>(rt.alloc())?;
     assert_printed::<0>(rt.alloc())
+}
+
+#[test]
+fn an_io_error_has_the_text_of_its_reason(rt: HostRuntime) -> Result<(), Fail> {
+    for why in [Refusal::Memory, Refusal::Size] {
+        let text = format!(in rt.alloc(); "{}", io::Error::from(why))?;
+        let expected = format!(in rt.alloc(); "{why}")?;
+        assert_same(text, expected, "the text")?;
+    }
+    Ok(())
 }
 
 #[test]
