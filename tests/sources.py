@@ -3,7 +3,7 @@
 are forgotten, tables and builders that are made to be dropped.
 
 A tally is begun by a plain call alone, whose whole body is its counted form, or where OTHER_TALLIES says why. What counts, reads
-a bucket or makes a table is called where CALLERS says. Of the words of buckets only what WORD_CALLS names is called.
+a bucket or makes a table is called where CALLERS says.
 
 The last line is "N passed, M failed".
 """
@@ -26,13 +26,14 @@ CALLERS = {
     r"\.hash_one\(": {"half_store/src/counting": 1},
     r"\bcounting::hash_one\(": {"halfbrown/src/map/form": 2},
     r"\bcompare\(": {"half_store/src/table/probe": 1, "half_store/src/vecmap/search": 1},
-    r"\blook\(": {"half_store/src/table/probe": 2},
     r"(?<!\w)search\(": {"half_store/src/table/find": 1},
     r"\bfirst_match\(": {"half_store/src/store/find": 1},
     r"\bfirst_empty\(": {"half_store/src/table": 2, "half_store/src/table/rehash": 1},
     r"\bfind_in\(": {"half_store/src/table": 2},
-    r"\bbuckets\.read\(": {"half_store/src/counting": 1},
+    r"\bbuckets\.read\(": {"half_store/src/table/probe": 2},
     r"\.word_at\(": {"half_store/src/buckets": 1, "half_store/src/table/deletion": 3, "half_store/src/words": 2},
+    # Elsewhere nothing can name the words: their field is private.
+    r"\bself\.words\b": {"half_store/src/words": 11},
     r"\.hashed_buckets\(": {},
     r"\bTable::with_capacity\(": {"half_store/src/store/memory": 2, "half_store/src/store/switch": 1},
     r"\bbuilder\.clone\(": {"halfbrown/src/map/clone": 1},
@@ -47,9 +48,6 @@ OTHER_TALLIES = {
     "from_array": "LimitedHashMap::collect(alloc, N, pairs.into_iter(), &mut Tally::new())",
     "extend": "match self.insert_all(items.into_iter(), &mut Tally::new()) {",
 }
-# What is called of the words of buckets, in any file of the store.
-WORD_CALLS = {"allocator", "as_slice", "clear", "copied", "count", "fill", "len", "read", "set_word", "word_at"}
-WORDS = re.compile(r"\b(?:buckets|words|rehashed)\b(?:\s*\.\s*(\w+)|(\[)(?!\w+\] =))|\bin &?(?:mut )?(?:self\.)?(?:buckets|words)\b")
 
 COMMENT = re.compile(r"^\s*//.*$", re.M)
 CLAUSE = re.compile(r"^ *(?:requires|ensures|ghost)\b.*?(?=^ *(?:requires|ensures|ghost|\{|fn|pub|type|impl|\}|use|const|struct|trait|#|$))", re.M | re.S)
@@ -79,12 +77,6 @@ def callers(name, code):
             yield f"{name}: this is called {len(calls)} times, and not {files.get(name, 0)}: {(calls or [pattern])[-1]}"
 
 
-def words(name, code):
-    for it in WORDS.finditer(code) if name.startswith("half_store/") else ():
-        if it[1] not in WORD_CALLS:
-            yield f"{name}: the words of buckets are read in another way: {it[0]}"
-
-
 def tallies(name, code):
     seen = 0
     for function, body in functions(code):
@@ -103,11 +95,11 @@ def main():
     failed = []
     for path in files:
         name, code = path.relative_to(CRATES).with_suffix("").as_posix(), code_of(path)
-        for search in (nowhere, callers, words, tallies):
+        for search in (nowhere, callers, tallies):
             failed += search(name, code)
     for problem in failed:
         print(problem)
-    print(f"{4 * len(files) - len(failed)} passed, {len(failed)} failed")
+    print(f"{3 * len(files) - len(failed)} passed, {len(failed)} failed")
     return bool(failed) or not files
 
 
