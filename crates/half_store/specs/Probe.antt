@@ -1,11 +1,17 @@
 -- What a probe of a table costs.
-use Rattle.std.specs.Prelude.{◌≡◌, ℕ, ◌+◌, ◌≤◌, ◌==◌, List, count_by}
+use Rattle.std.specs.Prelude.{◌≡◌, ℕ, ◌+◌, ◌-◌, ◌≤◌, ◌==◌, List, length, slice_index, count_by}
 use Rattle.half_store.specs.Reach.{reach, HomesApart}
 use Rattle.half_store.specs.Work.{Work}
 
 -- so many more buckets were read
 abbrev pub looked_more : Work → ℕ → Work
 looked_more w n = record w { looked = w.looked + n }
+
+-- at most so many more buckets were read, and nothing else was done
+pub record LooksWithin (most : ℕ) (old new : Work) : Type 0 where
+  pub asked : new.asked ≡ old.asked
+  pub compared : new.compared ≡ old.compared
+  pub looked : new.looked ≤ old.looked + most
 
 -- how many of the hashes are this one
 abbrev pub count_of : List ℕ → ℕ → ℕ
@@ -24,3 +30,7 @@ pub record AddsFinding (hashes : List ℕ) (buckets hash : ℕ) (old new : Work)
   pub looked_some : old.looked + 1 ≤ new.looked
   pub looked_most : new.looked + 1 ≤ old.looked + reach hashes buckets hash
   pub looked_once : HomesApart hashes buckets → new.looked ≡ old.looked + 1
+
+-- the most buckets that a removal of the pair at this entry index reads: one fewer than unsuccessful probes for its hash and for the last one
+abbrev pub removal_reads : List ℕ → ℕ → ℕ → ℕ
+removal_reads hashes buckets index = reach hashes buckets (slice_index hashes index) + reach hashes buckets (slice_index hashes (length hashes - 1)) - 1

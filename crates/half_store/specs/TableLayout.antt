@@ -11,11 +11,15 @@ pub record IsIndexed (hashes words : List ℕ) : Type 0 where
   pub each : EachOnce (length hashes) words
   pub ordered : ProbeInvariant (slots_by hashes words)
 
+-- a bucket other than the gap is empty
+abbrev pub IsVacantBeside : List (Option ℕ) → ℕ → ℕ → Type 0
+IsVacantBeside slots gap vacant = (vacant < length slots) × (slot_at slots vacant ≡ None) × (vacant ≢ gap)
+
 -- an emptied bucket, which alone may break the probe invariant; another bucket is empty too
 pub record HasGap (slots : List (Option ℕ)) (gap : ℕ) : Type 0 where
   pub within : gap < length slots
   pub vacant : slot_at slots gap ≡ None
-  pub another : (bucket : ℕ) × (bucket < length slots) × (slot_at slots bucket ≡ None) × (bucket ≢ gap)
+  pub another : (bucket : ℕ) × IsVacantBeside slots gap bucket
   pub others : (bucket vacant hash : ℕ) → slot_at slots bucket ≡ Some hash → vacant < length slots → slot_at slots vacant ≡ None → vacant ≢ gap →
       distance_from_home slots hash bucket < distance_from_home slots hash vacant
 

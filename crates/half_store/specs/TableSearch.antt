@@ -1,5 +1,6 @@
--- What a search of a table finds, and what it costs.
+-- What a search of a table finds, and what it costs; and what a removal does.
 use Rattle.std.specs.Prelude.{◌≡◌, ℕ, ◌+◌, ◌<◌, ◌≤◌, Bool, true, false, length, Some, slice_get, Result, IfOk, IfErr, OnErr}
+use Rattle.std.specs.List.{swap_remove}
 use Rattle.half_store.specs.Capacity.{capacity_of, buckets_of}
 use Rattle.half_store.specs.Probe.{after_missing, AddsFinding}
 use Rattle.half_store.specs.Reach.{reach}
@@ -17,3 +18,9 @@ pub record FindsInTable (returns : ℕ → Bool → Type 0) (t : TableState) (ha
   pub found_cost : IfOk result (λ index. AddsFinding t.hashes t.buckets hash old new)
   pub short : reach t.hashes t.buckets hash ≤ length t.hashes + 1
   pub buckets : t.buckets ≡ buckets_of (capacity_of t.buckets)
+
+-- the pair at this entry index, which had the hash that is returned, is gone, and the last one has its index
+pub record RemovesFromTable (old : TableState) (index : ℕ) (new : TableState) (result : ℕ) : Type 0 where
+  pub hash : slice_get old.hashes index ≡ Some result
+  pub hashes : new.hashes ≡ swap_remove old.hashes index 0
+  pub buckets : new.buckets ≡ old.buckets

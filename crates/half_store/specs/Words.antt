@@ -12,8 +12,8 @@ most_of_eight = 2 ^ 62
 
 -- the words, in order
 abbrev pub words_of : WordArray → List ℕ
-words_of (FourBytes v) = v.items
-words_of (EightBytes v) = v.items
+words_of (FourBytes v) = v
+words_of (EightBytes v) = v
 
 -- the greatest word that fits
 abbrev pub most_of : WordArray → ℕ

@@ -2,7 +2,9 @@
 ghost use Rattle.std.specs.Prelude.{◌≡◌, ℕ, ◌-◌, ◌<◌, List, length, slice_index, option_map, IfSome};
 ghost use Rattle.half_store.specs.Slots.{slot_at};
 ghost use Rattle.half_store.specs.Buckets.{slots_by, WithinHashes};
+ghost use Rattle.half_store.specs.Work.{one_looked};
 
+use crate::Tally;
 use crate::words::Words;
 
 /// Buckets that tell their stored hashes and their entry indices. Probes read them through this trait alone, so that buckets
@@ -18,12 +20,13 @@ pub trait Buckets {
     fn count(&self) -> usize
         ensures { result ≡ length (words self.now) };
 
-    /// Reads a bucket: the entry index of its pair and the stored hash, or none where it is empty.
-    fn read(&self, bucket: usize) -> Option<(usize, u64)>
+    /// Reads a bucket, and counts that: the entry index of its pair and the stored hash, or none where it is empty.
+    fn read(&self, bucket: usize, tally: &mut Tally) -> Option<(usize, u64)>
         requires whole { WithinHashes (hashes self.now) (words self.now) }
         requires within { bucket < length (words self.now) }
         ensures hash { option_map (λ pair. pair.1) result ≡ slot_at (slots_by (hashes self.now) (words self.now)) bucket }
-        ensures index { IfSome result (λ pair. pair.0 ≡ slice_index (words self.now) bucket - 1) };
+        ensures index { IfSome result (λ pair. pair.0 ≡ slice_index (words self.now) bucket - 1) }
+        ensures counted { tally.new ≡ one_looked tally.old };
 }
 
 /// The buckets of a table, and the stored hashes that they lead to.
@@ -46,8 +49,8 @@ impl<B: Words> Buckets for HashedBuckets<'_, B> {
     }
 
     #[inline(always)]
-    fn read(&self, bucket: usize) -> Option<(usize, u64)> {
-        match self.buckets.word_at(bucket) {
+    fn read(&self, bucket: usize, tally: &mut Tally) -> Option<(usize, u64)> {
+        match self.buckets.word_at(bucket, tally) {
             0 => None,
             full => {
                 let index = full - 1;

@@ -7,9 +7,9 @@ ghost use Rattle.std.specs.Prelude.{◌≡◌, ℕ, ◌+◌, ◌^◌, ◌<◌, �
 ghost use Rattle.std.specs.List.{swap_remove};
 ghost use Rattle.half_store.specs.Reach.{reach};
 ghost use Rattle.half_store.specs.Capacity.{capacity_of, IsBucketCount, capacity_for, buckets_of};
-ghost use Rattle.half_store.specs.Probe.{looked_more};
+ghost use Rattle.half_store.specs.Probe.{looked_more, LooksWithin, removal_reads};
 ghost use Rattle.half_store.specs.Table.{table_contents, with_hash_in, IsVacancyIn, no_buckets};
-ghost use Rattle.half_store.specs.TableSearch.{FindsInTable};
+ghost use Rattle.half_store.specs.TableSearch.{FindsInTable, RemovesFromTable};
 
 mod deletion;
 mod find;
@@ -168,16 +168,24 @@ impl Table {
     }
 
     /// Removes the pair at this entry index, and returns its stored hash. The last pair takes its index.
-    #[inline]
+    #[inline(always)]
     pub fn remove(&mut self, index: usize) -> u64
         requires { index < length self.old.hashes }
-        ensures hash { slice_get self.old.hashes index ≡ Some result }
-        ensures hashes { self.new.hashes ≡ swap_remove self.old.hashes index 0 }
-        ensures buckets { self.new.buckets ≡ self.old.buckets }
+        ensures { RemovesFromTable self.old index self.new result }
+    {
+        self.remove_counted(index, &mut Tally::new())
+    }
+
+    /// `remove`. It reads fewer buckets than two unsuccessful probes: for the hash of the pair, and for that of the last one.
+    #[inline]
+    pub fn remove_counted(&mut self, index: usize, tally: &mut Tally) -> u64
+        requires { index < length self.old.hashes }
+        ensures removes { RemovesFromTable self.old index self.new result }
+        ensures cost { LooksWithin (removal_reads self.old.hashes self.old.buckets index) tally.old tally.new }
     {
         match &mut self.buckets {
-            WordArray::FourBytes(buckets) => remove_in(buckets, &mut self.hashes, index),
-            WordArray::EightBytes(buckets) => remove_in(buckets, &mut self.hashes, index),
+            WordArray::FourBytes(buckets) => remove_in(buckets, &mut self.hashes, index, tally),
+            WordArray::EightBytes(buckets) => remove_in(buckets, &mut self.hashes, index, tally),
         }
     }
 

@@ -1,12 +1,18 @@
 //! The words that stand in buckets: 0 where a bucket is empty, else the entry index of its pair and one more.
 //!
-//! A word takes four bytes where that is enough for as many pairs as the buckets may hold, and eight elsewhere.
+//! A word takes four bytes where that is enough for as many pairs as the buckets may hold, and eight elsewhere. Nothing lends
+//! the words: each is read by `word_at`, which counts it.
 ghost use Rattle.std.specs.Prelude.{◌≡◌, ℕ, ◌<◌, ◌≤◌, List, [], length, replicate, slice_index, slice_set, IfOk, IsOk};
+ghost use Rattle.std.specs.List.{AllZip};
 ghost use Rattle.half_store.specs.Capacity.{capacity_of, IsBucketCount};
 ghost use Rattle.half_store.specs.Words.{words_of, most_of, most_of_four, most_of_eight};
+ghost use Rattle.half_store.specs.Work.{one_looked};
 
+use crate::Tally;
 use crate::capacity::capacity_of;
+use crate::column::clone_all;
 use std::alloc::{AllocError, Global};
+use std::marker::Model;
 
 /// Words of one size, in order.
 pub trait Words {
@@ -20,10 +26,11 @@ pub trait Words {
     fn count(&self) -> usize
         ensures { result ≡ length (words self.now) };
 
-    /// The word of this bucket.
-    fn word_at(&self, bucket: usize) -> usize
+    /// Reads the word of this bucket, and counts that.
+    fn word_at(&self, bucket: usize, tally: &mut Tally) -> usize
         requires { bucket < length (words self.now) }
-        ensures { result ≡ slice_index (words self.now) bucket };
+        ensures value { result ≡ slice_index (words self.now) bucket }
+        ensures counted { tally.new ≡ one_looked tally.old };
 
     /// Writes the word of this bucket.
     fn set_word(&mut self, bucket: usize, word: usize)
@@ -33,45 +40,113 @@ pub trait Words {
         ensures most { most self.new ≡ most self.old };
 }
 
-impl Words for Vec<u32> {
-    ghost words = { λ v. v.items };
+/// Words in a block that they fill.
+#[derive(Drop)]
+pub struct WordVec<T> {
+    words: Vec<T>,
+}
+
+impl<T> Model for WordVec<T> {
+    ghost use Rattle.std.specs.Prelude.{◌≡◌, List, length, vec_capacity};
+    ghost use Rattle.std.specs.Coded.{coded_list};
+
+    ghost Value = { List T };
+
+    ghost coded = { coded_list T.code };
+
+    ghost view = { λ v. v.words.items };
+
+    ghost invariant = { λ v. vec_capacity v.words ≡ length v.words.items };
+}
+
+impl<T> WordVec<T> {
+    /// No words. They take no memory.
+    fn new(alloc: Global) -> WordVec<T>
+        ensures { result ≡ [] }
+    {
+        WordVec {
+            words: Vec::new(alloc),
+        }
+    }
+
+    fn allocator(&self) -> Global {
+        *self.words.allocator()
+    }
+}
+
+impl<T: Copy> WordVec<T> {
+    /// The same word so many times.
+    fn of(alloc: Global, word: T, count: usize) -> Result<WordVec<T>, AllocError>
+        ensures { IfOk result (λ v. v ≡ replicate count word) }
+    {
+        let mut words = Vec::with_capacity(alloc, count)?;
+        while words.len() < count {
+            words.push_reserved(word);
+        }
+        Ok(WordVec { words })
+    }
+
+    /// The same words once more.
+    fn copied(&self) -> Result<WordVec<T>, AllocError>
+        ensures { IfOk result (λ v. AllZip T.is_clone self.now v) }
+    {
+        let words = Vec::with_capacity(*self.words.allocator(), self.words.len())?;
+        Ok(WordVec {
+            words: clone_all(self.words.as_slice(), words)?,
+        })
+    }
+
+    /// Writes this word in place of each.
+    fn fill(&mut self, word: T)
+        requires same { (other : T) → T.is_clone word other → other ≡ word }
+        requires infallible { T.is_infallible word }
+        ensures { self.new ≡ replicate (length self.old) word }
+    {
+        self.words.fill(word);
+    }
+}
+
+impl Words for WordVec<u32> {
+    ghost words = { λ v. v };
 
     ghost most = { λ v. most_of_four };
 
     #[inline(always)]
     fn count(&self) -> usize {
-        self.len()
+        self.words.len()
     }
 
     #[inline(always)]
-    fn word_at(&self, bucket: usize) -> usize {
-        self[bucket] as usize
+    fn word_at(&self, bucket: usize, tally: &mut Tally) -> usize {
+        tally.add_looked();
+        self.words[bucket] as usize
     }
 
     #[inline(always)]
     fn set_word(&mut self, bucket: usize, word: usize) {
-        self[bucket] = word as u32;
+        self.words[bucket] = word as u32;
     }
 }
 
-impl Words for Vec<usize> {
-    ghost words = { λ v. v.items };
+impl Words for WordVec<usize> {
+    ghost words = { λ v. v };
 
     ghost most = { λ v. most_of_eight };
 
     #[inline(always)]
     fn count(&self) -> usize {
-        self.len()
+        self.words.len()
     }
 
     #[inline(always)]
-    fn word_at(&self, bucket: usize) -> usize {
-        self[bucket]
+    fn word_at(&self, bucket: usize, tally: &mut Tally) -> usize {
+        tally.add_looked();
+        self.words[bucket]
     }
 
     #[inline(always)]
     fn set_word(&mut self, bucket: usize, word: usize) {
-        self[bucket] = word;
+        self.words[bucket] = word;
     }
 }
 
@@ -82,9 +157,9 @@ const MOST_IN_FOUR_BYTES: usize = u32::MAX as usize;
 #[derive(Drop)]
 pub enum WordArray {
     /// Of four bytes each.
-    FourBytes(Vec<u32>),
+    FourBytes(WordVec<u32>),
     /// Of eight bytes each.
-    EightBytes(Vec<usize>),
+    EightBytes(WordVec<usize>),
 }
 
 impl Words for WordArray {
@@ -95,16 +170,16 @@ impl Words for WordArray {
     #[inline(always)]
     fn count(&self) -> usize {
         match self {
-            WordArray::FourBytes(words) => words.len(),
-            WordArray::EightBytes(words) => words.len(),
+            WordArray::FourBytes(words) => words.count(),
+            WordArray::EightBytes(words) => words.count(),
         }
     }
 
     #[inline(always)]
-    fn word_at(&self, bucket: usize) -> usize {
+    fn word_at(&self, bucket: usize, tally: &mut Tally) -> usize {
         match self {
-            WordArray::FourBytes(words) => words.word_at(bucket),
-            WordArray::EightBytes(words) => words.word_at(bucket),
+            WordArray::FourBytes(words) => words.word_at(bucket, tally),
+            WordArray::EightBytes(words) => words.word_at(bucket, tally),
         }
     }
 
@@ -122,7 +197,7 @@ impl WordArray {
     pub(crate) fn new(alloc: Global) -> WordArray
         ensures { words_of result ≡ [] }
     {
-        WordArray::FourBytes(Vec::new(alloc))
+        WordArray::FourBytes(WordVec::new(alloc))
     }
 
     /// The words of so many empty buckets, each large enough for as many pairs as they may hold.
@@ -136,9 +211,9 @@ impl WordArray {
             return Ok(WordArray::new(alloc));
         }
         if capacity_of(count) <= MOST_IN_FOUR_BYTES {
-            Ok(WordArray::FourBytes(vec![in alloc; 0; count]?))
+            Ok(WordArray::FourBytes(WordVec::of(alloc, 0, count)?))
         } else {
-            Ok(WordArray::EightBytes(vec![in alloc; 0; count]?))
+            Ok(WordArray::EightBytes(WordVec::of(alloc, 0, count)?))
         }
     }
 
@@ -159,19 +234,15 @@ impl WordArray {
         ensures most { IfOk result (λ a. most_of a ≡ most_of self.now) }
     {
         match self {
-            WordArray::FourBytes(words) => {
-                Ok(WordArray::FourBytes(Vec::from_slice(*words.allocator(), words.as_slice())?))
-            }
-            WordArray::EightBytes(words) => {
-                Ok(WordArray::EightBytes(Vec::from_slice(*words.allocator(), words.as_slice())?))
-            }
+            WordArray::FourBytes(words) => Ok(WordArray::FourBytes(words.copied()?)),
+            WordArray::EightBytes(words) => Ok(WordArray::EightBytes(words.copied()?)),
         }
     }
 
     pub(crate) fn allocator(&self) -> Global {
         match self {
-            WordArray::FourBytes(words) => *words.allocator(),
-            WordArray::EightBytes(words) => *words.allocator(),
+            WordArray::FourBytes(words) => words.allocator(),
+            WordArray::EightBytes(words) => words.allocator(),
         }
     }
 }

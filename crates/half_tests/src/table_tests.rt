@@ -28,9 +28,9 @@ impl Buckets for CountedBuckets<'_> {
         self.buckets.count()
     }
 
-    fn read(&self, bucket: usize) -> Option<(usize, u64)> {
+    fn read(&self, bucket: usize, tally: &mut Tally) -> Option<(usize, u64)> {
         self.reads.set(self.reads.get().wrapping_add(1));
-        self.buckets.read(bucket)
+        self.buckets.read(bucket, tally)
     }
 }
 

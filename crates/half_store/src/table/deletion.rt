@@ -1,17 +1,24 @@
-//! Backward-shift deletion: after a removal the pairs that follow move back, so that no tombstone is needed. No tally counts
-//! the buckets that it reads.
-ghost use Rattle.std.specs.Prelude.{◌≡◌, ◌+◌, ◌-◌, ◌<◌, ◌≤◌, length, Some, slice_get, slice_set, slice_index, vec_capacity};
+//! Backward-shift deletion: after a removal the pairs that follow move back, so that no tombstone is needed.
+ghost use Rattle.std.specs.Prelude.{◌≡◌, ℕ, ◌+◌, ◌-◌, ◌<◌, ◌≤◌, length, Some, slice_get, slice_set, slice_index, vec_capacity};
 ghost use Rattle.std.specs.List.{swap_remove};
-ghost use Rattle.half_store.specs.Reach.{probe_distance, IsNearer};
+ghost use Rattle.half_store.specs.Buckets.{slots_by};
 ghost use Rattle.half_store.specs.Capacity.{IsBucketCount};
-ghost use Rattle.half_store.specs.TableLayout.{IsIndexed, IsIndexedButFor};
+ghost use Rattle.half_store.specs.Probe.{looked_more, LooksWithin, removal_reads};
+ghost use Rattle.half_store.specs.Reach.{home, probe_distance, IsNearer};
+ghost use Rattle.half_store.specs.TableLayout.{IsIndexed, IsIndexedButFor, IsVacantBeside};
 
 use super::probe::{home, next};
+use crate::Tally;
 use crate::words::Words;
 
 /// Removes the pair at this entry index, and returns its stored hash. The last pair takes its index.
 #[inline(always)]
-pub(super) fn remove_in<B: Words>(buckets: &mut B, hashes: &mut Vec<u64>, index: usize) -> u64
+pub(super) fn remove_in<B: Words>(
+    buckets: &mut B,
+    hashes: &mut Vec<u64>,
+    index: usize,
+    tally: &mut Tally,
+) -> u64
     requires indexed { IsIndexed hashes.old.items (B.words buckets.old) }
     requires within { index < length hashes.old.items }
     requires fits { length hashes.old.items ≤ B.most buckets.old }
@@ -21,29 +28,32 @@ pub(super) fn remove_in<B: Words>(buckets: &mut B, hashes: &mut Vec<u64>, index:
     ensures indexed { IsIndexed hashes.new.items (B.words buckets.new) }
     ensures len { length (B.words buckets.new) ≡ length (B.words buckets.old) }
     ensures most { B.most buckets.new ≡ B.most buckets.old }
+    ensures cost { LooksWithin (removal_reads hashes.old.items (length (B.words buckets.old)) index) tally.old tally.new }
 {
     let last = hashes.len() - 1;
-    let bucket = bucket_of(buckets, hashes.as_slice(), index);
-    let last_bucket = bucket_of(buckets, hashes.as_slice(), last);
+    let bucket = bucket_of(buckets, hashes.as_slice(), index, tally);
+    let last_bucket = bucket_of(buckets, hashes.as_slice(), last, tally);
     buckets.set_word(last_bucket, index + 1);
     let hash = hashes.swap_remove(index);
-    backward_shift(buckets, hashes.as_slice(), bucket);
+    backward_shift(buckets, hashes.as_slice(), bucket, tally);
     hash
 }
 
 /// The bucket of the pair at this entry index: where a probe from its stored hash meets the index. It reads fewer buckets than
 /// an unsuccessful probe for that hash.
 #[inline(always)]
-fn bucket_of<B: Words>(buckets: &B, hashes: &[u64], index: usize) -> usize
+fn bucket_of<B: Words>(buckets: &B, hashes: &[u64], index: usize, tally: &mut Tally) -> usize
     requires indexed { IsIndexed hashes.now (B.words buckets.now) }
     requires within { index < length hashes.now }
     ensures within { result < length (B.words buckets.now) }
     ensures at { slice_index (B.words buckets.now) result ≡ index + 1 }
     ensures near { IsNearer hashes.now (length (B.words buckets.now)) (slice_index hashes.now index) result }
+    ensures cost { tally.new ≡ looked_more tally.old (probe_distance (length (B.words buckets.now))
+        (home (length (B.words buckets.now)) (slice_index hashes.now index)) result + 1) }
 {
     let count = buckets.count();
     let mut bucket = home(hashes[index], count);
-    while buckets.word_at(bucket) != index + 1 {
+    while buckets.word_at(bucket, tally) != index + 1 {
         bucket = next(bucket, count);
     }
     bucket
@@ -72,20 +82,22 @@ fn hash_of(word: usize, hashes: &[u64]) -> u64
 
 /// Shifts pairs back into a bucket whose pair was removed: goes up to the next empty bucket, and moves each pair into the gap
 /// whose home bucket is not after it. What the gap contains is not read; it is emptied at the end.
-fn backward_shift<B: Words>(buckets: &mut B, hashes: &[u64], removed: usize)
+fn backward_shift<B: Words>(buckets: &mut B, hashes: &[u64], removed: usize, tally: &mut Tally)
     requires count { IsBucketCount (length (B.words buckets.old)) }
     requires removed { IsIndexedButFor hashes.now (slice_set (B.words buckets.old) removed 0) removed }
     requires fits { length hashes.now ≤ B.most buckets.old }
     ensures indexed { IsIndexed hashes.now (B.words buckets.new) }
     ensures len { length (B.words buckets.new) ≡ length (B.words buckets.old) }
     ensures most { B.most buckets.new ≡ B.most buckets.old }
+    ensures cost { (vacant : ℕ) → IsVacantBeside (slots_by hashes.now (slice_set (B.words buckets.old) removed 0)) removed vacant
+        → LooksWithin (probe_distance (length (B.words buckets.old)) removed vacant) tally.old tally.new }
 {
     let count = buckets.count();
     let mut gap = removed;
     let mut bucket = next(removed, count);
     // the probe distance from the gap up to the bucket
     let mut distance = 1;
-    let mut word = buckets.word_at(bucket);
+    let mut word = buckets.word_at(bucket, tally);
     while word != 0 {
         let hash = hash_of(word, hashes);
         if probe_distance(home(hash, count), bucket, count) >= distance {
@@ -95,7 +107,7 @@ fn backward_shift<B: Words>(buckets: &mut B, hashes: &[u64], removed: usize)
         }
         bucket = next(bucket, count);
         distance += 1;
-        word = buckets.word_at(bucket);
+        word = buckets.word_at(bucket, tally);
     }
     buckets.set_word(gap, 0);
 }

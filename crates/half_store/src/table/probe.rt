@@ -10,7 +10,7 @@ ghost use Rattle.half_store.specs.Slots.{slot_at, stored, distance_from_home, Is
 
 use crate::Tally;
 use crate::buckets::Buckets;
-use crate::counting::{compare, look};
+use crate::counting::compare;
 
 /// The home bucket of a hash, where each probe for it begins.
 #[inline(always)]
@@ -69,7 +69,7 @@ pub fn search<P: Buckets, F: Fn(usize) -> bool>(
     let count = buckets.count();
     let mut bucket = home(hash, count);
     loop {
-        match look(buckets, bucket, tally) {
+        match buckets.read(bucket, tally) {
             None => return Err(bucket),
             Some((index, held)) => {
                 if held == hash && compare(matches, index, tally) {
@@ -93,7 +93,7 @@ pub fn first_empty<P: Buckets>(buckets: &P, hash: u64, tally: &mut Tally) -> usi
 {
     let count = buckets.count();
     let mut bucket = home(hash, count);
-    while look(buckets, bucket, tally).is_some() {
+    while buckets.read(bucket, tally).is_some() {
         bucket = next(bucket, count);
     }
     bucket

@@ -7,7 +7,7 @@ use Rattle.std.proofs.lemmas.Option.{same_Some}
 use Rattle.half_store.specs.Buckets.{slot_by, slots_by, EachOnce}
 use Rattle.half_store.specs.Reach.{home, probe_distance, bucket_after}
 use Rattle.half_store.specs.Slots.{slot_at, SomeVacant, ProbeInvariant}
-use Rattle.half_store.specs.TableLayout.{HasGap, IsIndexedButFor}
+use Rattle.half_store.specs.TableLayout.{HasGap, IsIndexedButFor, IsVacantBeside}
 use Rattle.half_store.proofs.lemmas.table.Buckets.{length-slots_by, slot_by-at, slot_of_word, slot_of_zero, word_set, word_other, within-at}
 use Rattle.half_store.proofs.lemmas.table.Buckets.{EachOnce-move}
 use Rattle.half_store.proofs.lemmas.table.Circle.{distance_is, after_is, next_farther, probe_distance-lt, distance_same}
@@ -55,40 +55,56 @@ pub record Shifts (m : ℕ) (hashes words : List ℕ) (start gap bucket : ℕ) :
   pub gap_in : gap < m
   pub bucket_in : bucket < m
   pub behind : probe_distance m start gap < probe_distance m start bucket
-  -- an empty bucket is still ahead
-  pub ahead : (vacant : ℕ) × (vacant < m) × (slot_at (around hashes words gap) vacant ≡ None)
-      × (probe_distance m start bucket ≤ probe_distance m start vacant)
   -- the order is broken by no empty bucket but the gap
-  pub others : (at vacant hash : ℕ) → slot_at (around hashes words gap) at ≡ Some hash → vacant < m
-      → slot_at (around hashes words gap) vacant ≡ None → vacant ≢ gap → Before m hash at vacant
+  pub others : (at other hash : ℕ) → slot_at (around hashes words gap) at ≡ Some hash → other < m
+      → slot_at (around hashes words gap) other ≡ None → other ≢ gap → Before m hash at other
   -- and not by the gap, as far as the probe has come
   pub passed : (at hash : ℕ) → slot_at (around hashes words gap) at ≡ Some hash → probe_distance m start gap < probe_distance m start at
       → probe_distance m start at < probe_distance m start bucket → Before m hash at gap
 
-pub Shifts-start : (m : ℕ) (hashes words : List ℕ) (start bucket : ℕ) → length words ≡ m → IsIndexedButFor hashes (set words start 0) start
-    → bucket ≡ bucket_after m start 1 → Shifts m hashes words start start bucket
-Shifts-start m hashes words start bucket size x e =
-    let v = x.gap.another in
-    let apart = v.3 in
-    let long : length (around hashes words start) ≡ m = length-slots_by hashes (set words start 0) ∙ length-set words start 0 ∙ size in
-    let in_start : start < m = omega (arith, x.gap.within) in
-    let in_v : v.0 < m = omega (arith, v.1) in
-    let bucket_is = after_is m start 1 in
-    let to_bucket = distance_is m start bucket in_start in
-    let to_start = distance_is m start start in_start in
-    let to_v = distance_is m start v.0 in_start in
-    record {
-      each = x.each;
-      size = size;
-      start_in = in_start;
-      gap_in = in_start;
-      bucket_in = omega arith;
-      behind = omega arith;
-      ahead = (v.0, in_v, v.2, omega arith);
-      others = λ at w hash is in_w none ne.
-          subst (λ n. Before n hash at w) long (x.gap.others at w hash is (omega arith) none ne);
-      passed = λ at hash is far near. absurd (omega arith);
-    }
+-- an empty bucket is still ahead
+pub record Ahead (m : ℕ) (hashes words : List ℕ) (start gap bucket vacant : ℕ) : Type 0 where
+  pub inside : vacant < m
+  pub none : slot_at (around hashes words gap) vacant ≡ None
+  pub near : probe_distance m start bucket ≤ probe_distance m start vacant
+
+module _ (m : ℕ) (hashes words : List ℕ) (start bucket : ℕ) (size : length words ≡ m) (x : IsIndexedButFor hashes (set words start 0) start)
+    (e : bucket ≡ bucket_after m start 1) where
+  long_start : length (around hashes words start) ≡ m
+  long_start = length-slots_by hashes (set words start 0) ∙ length-set words start 0 ∙ size
+
+  in_start : start < m
+  in_start = omega (arith, x.gap.within, long_start)
+
+  pub Ahead-start : (vacant : ℕ) → IsVacantBeside (around hashes words start) start vacant → Ahead m hashes words start start bucket vacant
+  Ahead-start vacant v =
+      let apart = v.2 in
+      let in_v : vacant < m = omega (arith, v.0, long_start) in
+      let bucket_is = after_is m start 1 in
+      let to_bucket = distance_is m start bucket in_start in
+      let to_v = distance_is m start vacant in_start in
+      record { inside = in_v; none = v.1; near = omega (arith, in_start) }
+
+  pub Shifts-start : Shifts m hashes words start start bucket
+  Shifts-start =
+      let v = x.gap.another in
+      let apart = v.1.2 in
+      let in_v = (Ahead-start v.0 v.1).inside in
+      let bucket_is = after_is m start 1 in
+      let to_bucket = distance_is m start bucket in_start in
+      let to_start = distance_is m start start in_start in
+      let to_v = distance_is m start v.0 in_start in
+      record {
+        each = x.each;
+        size = size;
+        start_in = in_start;
+        gap_in = in_start;
+        bucket_in = omega (arith, in_start);
+        behind = omega (arith, in_start);
+        others = λ at w hash is in_w none ne.
+            subst (λ n. Before n hash at w) long_start (x.gap.others at w hash is (omega (arith, long_start)) none ne);
+        passed = λ at hash is far near. absurd (omega arith);
+      }
 
 module _ {m : ℕ} {hashes words : List ℕ} {start gap bucket : ℕ} (s : Shifts m hashes words start gap bucket) where
   abbrev slots : List (Option ℕ)
@@ -156,7 +172,8 @@ module _ {m : ℕ} {hashes words : List ℕ} {start gap bucket : ℕ} (s : Shift
         ]);
   }
 
-  module _ (next : ℕ) (some : slice_index words bucket ≢ 0) (e : next ≡ bucket_after m bucket 1) where
+  module _ {vacant : ℕ} (a : Ahead m hashes words start gap bucket vacant) (next : ℕ) (some : slice_index words bucket ≢ 0)
+      (e : next ≡ bucket_after m bucket 1) where
     abbrev index : ℕ
     index = slice_index words bucket - 1
 
@@ -170,23 +187,22 @@ module _ {m : ℕ} {hashes words : List ℕ} {start gap bucket : ℕ} (s : Shift
     in_home = home-lt m hash (omega (arith, s.bucket_in))
 
     -- the empty bucket is ahead of a full one too
-    farther : probe_distance m start bucket < probe_distance m start s.ahead.0
+    farther : probe_distance m start bucket < probe_distance m start vacant
     farther =
-        let v = s.ahead in
-        elim (cases_eq (probe_distance m start bucket) (probe_distance m start v.0)) [
-          | inr ne ↦ omega (arith, v.3)
+        elim (cases_eq (probe_distance m start bucket) (probe_distance m start vacant)) [
+          | inr ne ↦ omega (arith, a.near)
           | inl same ↦ absurd (full_from _ hash is
-              (ap (slot_at slots) (distance_same m start s.start_in bucket v.0 s.bucket_in v.1 same) ∙ v.2))
+              (ap (slot_at slots) (distance_same m start s.start_in bucket vacant s.bucket_in a.inside same) ∙ a.none))
         ]
 
     next-lt : next < m
     next-lt = omega (arith, after_is m bucket 1, s.bucket_in)
 
     pub one_farther : probe_distance m start next ≡ probe_distance m start bucket + 1
-    one_farther = next_farther m start bucket s.ahead.0 next s.start_in s.bucket_in s.ahead.1 farther e
+    one_farther = next_farther m start bucket vacant next s.start_in s.bucket_in a.inside farther e
 
     pub fewer_ahead : m - probe_distance m start next < m - probe_distance m start bucket
-    fewer_ahead = omega (arith, one_farther, farther, probe_distance-lt m start s.start_in s.ahead.0 s.ahead.1)
+    fewer_ahead = omega (arith, one_farther, farther, probe_distance-lt m start s.start_in vacant a.inside)
 
     -- the pair at the bucket stays: its home is after the gap
     pub Shifts-stay : probe_distance m (home m hash) bucket < probe_distance m gap bucket → Shifts m hashes words start gap next
@@ -197,7 +213,6 @@ module _ {m : ℕ} {hashes words : List ℕ} {start gap bucket : ℕ} (s : Shift
       gap_in = s.gap_in;
       bucket_in = next-lt;
       behind = omega (arith, one_farther, s.behind);
-      ahead = (s.ahead.0, s.ahead.1, s.ahead.2, omega (arith, one_farther, farther));
       others = s.others;
       passed = λ q h at_q after close.
           elim (cases_eq (probe_distance m start q) (probe_distance m start bucket)) [
@@ -216,12 +231,35 @@ module _ {m : ℕ} {hashes words : List ℕ} {start gap bucket : ℕ} (s : Shift
           ];
     }
 
+    pub Ahead-stay : Ahead m hashes words start gap next vacant
+    Ahead-stay = record { inside = a.inside; none = a.none; near = omega (arith, one_farther, farther) }
+
+    abbrev word : ℕ
+    word = slice_index words bucket
+
+    abbrev words' : List ℕ
+    words' = set words gap word
+
+    -- a bucket that is neither is as it was
+    other : (q : ℕ) → q ≢ bucket → q ≢ gap → slot_at (around hashes words' bucket) q ≡ slot_at slots q
+    other q nb ng =
+        slot_by-at hashes (set words' bucket 0) q
+        ∙ ap (slot_by hashes) (word_other words' bucket q 0 nb ∙ word_other words gap q word ng ∙ sym (word_other words gap q 0 ng))
+        ∙ sym (slot_by-at hashes (set words gap 0) q)
+
+    pub Ahead-move : Ahead m hashes words' start bucket next vacant
+    Ahead-move =
+        let off : (q : ℕ) → probe_distance m start q ≢ probe_distance m start vacant → vacant ≢ q =
+        λ q ne same. ne (ap (probe_distance m start) (sym same)) in
+        record {
+          inside = a.inside;
+          none = other vacant (off bucket (omega (arith, farther))) (off gap (omega (arith, farther, s.behind))) ∙ a.none;
+          near = omega (arith, one_farther, farther);
+        }
+
     -- the pair at the bucket is moved into the gap: it does not pass its home
-    pub Shifts-move : probe_distance m gap bucket ≤ probe_distance m (home m hash) bucket
-        → Shifts m hashes (set words gap (slice_index words bucket)) start bucket next
+    pub Shifts-move : probe_distance m gap bucket ≤ probe_distance m (home m hash) bucket → Shifts m hashes words' start bucket next
     Shifts-move moves =
-        let word : ℕ = slice_index words bucket in
-        let words' : List ℕ = set words gap word in
         let left : List ℕ = set words gap 0 in
         let slots' : List (Option ℕ) = around hashes words' bucket in
         let long' : length words' ≡ m = length-set words gap word ∙ s.size in
@@ -232,12 +270,6 @@ module _ {m : ℕ} {hashes words : List ℕ} {start gap bucket : ℕ} (s : Shift
         word_other words' bucket gap 0 (λ same. apart (sym same)) ∙ word_set words gap word (omega (arith, s.gap_in, s.size)) in
         let to : slot_at slots' gap ≡ Some hash =
         slot_of_word hashes (set words' bucket 0) gap index (omega (arith, word_within)) (written ∙ omega arith) in
-        let other : (q : ℕ) → q ≢ bucket → q ≢ gap → slot_at slots' q ≡ slot_at slots q = λ q nb ng.
-        slot_by-at hashes (set words' bucket 0) q
-        ∙ ap (slot_by hashes) (word_other words' bucket q 0 nb ∙ word_other words gap q word ng ∙ sym (word_other words gap q 0 ng))
-        ∙ sym (slot_by-at hashes left q) in
-        let off : (q : ℕ) → probe_distance m start q ≢ probe_distance m start s.ahead.0 → s.ahead.0 ≢ q =
-        λ q ne same. ne (ap (probe_distance m start) (sym same)) in
         let none = word_set words gap 0 (omega (arith, s.gap_in, s.size)) in
         let same : set words' bucket 0 ≡ set (set left gap (slice_index left bucket)) bucket 0 =
         ap (λ y. set y bucket 0) (sym (set-set words gap 0 word) ∙ ap (set left gap) (sym word_is)) in
@@ -249,12 +281,6 @@ module _ {m : ℕ} {hashes words : List ℕ} {start gap bucket : ℕ} (s : Shift
           gap_in = s.bucket_in;
           bucket_in = next-lt;
           behind = omega (arith, one_farther);
-          ahead = (
-            s.ahead.0,
-            s.ahead.1,
-            other s.ahead.0 (off bucket (omega (arith, farther))) (off gap (omega (arith, farther, s.behind))) ∙ s.ahead.2,
-            omega (arith, one_farther, farther),
-          );
           others = λ q w h at_q in_w none_w nb.
               let ng : w ≢ gap = λ e. full_from _ hash to (ap (slot_at slots') (sym e) ∙ none_w) in
               let old : slot_at slots w ≡ None = sym (other w nb ng) ∙ none_w in
@@ -287,7 +313,7 @@ HasGap-remove slots ordered (v, in_v, none_v) bucket full =
     record {
       within = omega arith;
       vacant = emptied;
-      another = (v, omega arith, other v apart ∙ none_v, apart);
+      another = (v, (omega arith, other v apart ∙ none_v, apart));
       others = λ q w h is in_w none_w np.
           let nq : q ≢ bucket = λ e. full_from _ h is (ap (slot_at (set slots bucket None)) e ∙ emptied) in
           subst (λ n. Before n h q w) (sym same) (ordered.before q w h (sym (other q nq) ∙ is) (omega arith) (sym (other w np) ∙ none_w));

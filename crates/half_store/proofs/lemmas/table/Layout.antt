@@ -12,7 +12,7 @@ use Rattle.half_store.specs.Capacity.{capacity_of, buckets_of, IsBucketCount}
 use Rattle.half_store.specs.Reach.{home, probe_distance, reach, IsNearer, HomesApart}
 use Rattle.half_store.specs.Slots.{slot_at, stored, IsVacancyFor, SomeVacant, ProbeInvariant}
 use Rattle.half_store.specs.Table.{TableState, table_state}
-use Rattle.half_store.specs.TableLayout.{HasGap, IsIndexed, IsIndexedButFor, IsTable}
+use Rattle.half_store.specs.TableLayout.{HasGap, IsIndexed, IsIndexedButFor, IsTable, IsVacantBeside}
 use Rattle.half_store.proofs.lemmas.table.Buckets.{length-slots_by, slot_by-at, slots_by-set, slots_by-same, slot_of_word, slot_of_zero}
 use Rattle.half_store.proofs.lemmas.table.Buckets.{word_of_slot, zero_of_slot, word_set, word_other, word-lt, within-at, same_bucket}
 use Rattle.half_store.proofs.lemmas.table.Buckets.{EachOnce-add, EachOnce-remove, EachOnce-empty, length-remove, remove-at, remove-last}
@@ -21,8 +21,9 @@ use Rattle.half_store.proofs.lemmas.capacity.{four-le_count, buckets_of-capacity
 use Rattle.half_store.proofs.lemmas.table.Circle.{distance_is, distance_self, distance_same}
 use Rattle.half_store.proofs.lemmas.table.Counts.{count_to, count_to-same, count_to-le, count_to-all, count_by-count_to}
 use Rattle.half_store.proofs.lemmas.table.Deletion.{HasGap-remove}
-use Rattle.half_store.proofs.lemmas.table.Probe.{SameCounts, reach_past_pair}
+use Rattle.half_store.proofs.lemmas.table.Probe.{SameCounts, reach_past_pair, reach_at_vacancy}
 use Rattle.half_store.proofs.lemmas.table.Slots.{slot_cases, slot_set, slot_other, full_from, full-lt, home-lt, first_none, passes_stored}
+use Rattle.half_store.proofs.lemmas.table.Slots.{vacancy_for}
 
 -- a pair that is added where its probe ended keeps the probe invariant
 ordered-add : (slots : List (Option ℕ)) (p h : ℕ) → IsVacancyFor slots h p → ProbeInvariant slots → ProbeInvariant (set slots p (Some h))
@@ -240,21 +241,55 @@ module _ {hashes words : List ℕ} (x : IsIndexed hashes words) where
               ]
         ]
 
+    slots-remove : slots_by hashes° words° ≡ set slots bucket None
+    slots-remove =
+        slots_by-same hashes° hashes words° (set words bucket 0)
+        (length-remove each index bucket last_bucket at at_last ∙ sym (length-set words bucket 0)) slot-remove
+        ∙ slots_by-set hashes words bucket 0
+
+    hash° : slot_at slots bucket ≡ Some (slice_index hashes index)
+    hash° = slot_of_word hashes words bucket index (omega (arith, within-at (suc last) words bucket each.within)) at
+
+    some_vacant : SomeVacant slots
+    some_vacant = index-vacant (let l = word-lt words bucket (omega arith) in omega arith)
+
     -- what the backward shift begins with
     pub IsIndexed-remove : IsIndexedButFor hashes° words° bucket
     IsIndexed-remove =
         let same = length-remove each index bucket last_bucket at at_last in
-        let slots-remove : slots_by hashes° words° ≡ set slots bucket None =
-        slots_by-same hashes° hashes words° (set words bucket 0) (same ∙ sym (length-set words bucket 0)) slot-remove
-        ∙ slots_by-set hashes words bucket 0 in
-        let in_index : index < length hashes = omega (arith, within-at (suc last) words bucket each.within) in
-        let full = full_from _ _ (slot_of_word hashes words bucket index in_index at) in
-        let vacant = index-vacant (let l = word-lt words bucket (omega arith) in omega arith) in
+        let full = full_from _ _ hash° in
         record {
           room = subst (λ m. length hashes° ≤ capacity_of m) (sym same) (let room = x.room in omega (arith, length-hashes°));
           each = subst (λ n. EachOnce n words°) (sym length-hashes°) (EachOnce-remove each index bucket last_bucket at at_last);
-          gap = subst (λ s. HasGap s bucket) (sym slots-remove) (HasGap-remove slots x.ordered vacant bucket full);
+          gap = subst (λ s. HasGap s bucket) (sym slots-remove) (HasGap-remove slots x.ordered some_vacant bucket full);
         }
+
+    -- an empty bucket ends the shift where an unsuccessful probe for the hash of the pair ends
+    pub vacant-remove : (vacant : ℕ) × IsVacantBeside (slots_by hashes° words°) bucket vacant
+        × (probe_distance (length words) (home (length words) (slice_index hashes index)) bucket
+        + probe_distance (length words) bucket vacant + 1 ≡ reach hashes (length words) (slice_index hashes index))
+    vacant-remove =
+        let hash : ℕ = slice_index hashes index in
+        let v = vacancy_for slots hash some_vacant in
+        let m : ℕ = length slots in
+        let in_b : bucket < m = full-lt slots bucket (full_from _ _ hash°) in
+        let in_h : home m hash < m = home-lt m hash (omega arith) in
+        let apart : v.0 ≢ bucket = λ e. full_from _ _ hash° (ap (slot_at slots) (sym e) ∙ v.1.vacant) in
+        let before = x.ordered.before bucket v.0 hash hash° v.1.within v.1.vacant in
+        let far : probe_distance m (home m hash) bucket + probe_distance m bucket v.0 + 1 ≡ reach hashes m hash =
+        omega (
+          arith,
+          reach_at_vacancy slots x.ordered hashes index-counted hash v.0 v.1,
+          distance_is m (home m hash) bucket in_h,
+          distance_is m (home m hash) v.0 in_h,
+          distance_is m bucket v.0 in_b,
+          before,
+        ) in (
+          v.0,
+          subst (λ s. IsVacantBeside s bucket v.0) (sym slots-remove)
+              (omega (arith, length-set slots bucket None, v.1.within), slot_other slots bucket v.0 None apart ∙ v.1.vacant, apart),
+          subst (λ n. probe_distance n (home n hash) bucket + probe_distance n bucket v.0 + 1 ≡ reach hashes n hash) long far,
+        )
 
 -- no pair
 pub IsIndexed-empty : (count : ℕ) → IsBucketCount count → IsIndexed [] (replicate count 0)

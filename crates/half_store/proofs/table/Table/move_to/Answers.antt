@@ -3,7 +3,7 @@ use Rattle.half_store.specs.Buckets.{EachOnce}
 use Rattle.half_store.specs.Capacity.{capacity_of}
 use Rattle.half_store.specs.Words.{words_of}
 use Rattle.half_store.proofs.lemmas.table.Buckets.{EachOnce-none}
-use Rattle.half_store.proofs.lemmas.table.Layout.{IsTable-as, count_seen}
+use Rattle.half_store.proofs.lemmas.table.Layout.{IsTable-as}
 use Rattle.half_store.proofs.table.Table.move_to.Goals as goal
 
 pub rehash-requires-clause-empty : goal.rehash-requires-clause-empty

@@ -1,15 +1,21 @@
-use Rattle.std.proofs.Common.{◌≡◌, ◌-◌, slice_index}
+use Rattle.std.proofs.Common.{◌≡◌, ℕ, ◌-◌, set, slice_index}
+use Rattle.half_store.specs.Buckets.{slots_by}
+use Rattle.half_store.specs.Probe.{looked_more}
 use Rattle.half_store.specs.Reach.{probe_distance}
-use Rattle.half_store.proofs.lemmas.table.Deletion.{Shifts}
+use Rattle.half_store.specs.TableLayout.{IsVacantBeside}
+use Rattle.half_store.proofs.lemmas.table.Deletion.{Shifts, Ahead}
 use Rattle.half_store.proofs.table.deletion.backward_shift.Given as goal
 
--- all buckets but the gap lead to the hashes, and the gap moves on behind the probe
+-- all buckets but the gap lead to the hashes, and the gap moves on behind the probe, which has passed no empty bucket
 abbrev pub invariant-loop-word : goal.invariant-loop-word
 invariant-loop-word g l = record {
   read : l.word ≡ slice_index (g.B.Words.words l.buckets) l.bucket;
   apart : l.distance ≡ probe_distance l.count l.gap l.bucket;
   most : g.B.Words.most l.buckets ≡ g.B.Words.most l.initial.buckets;
+  counted : l.tally ≡ looked_more l.fn.tally (probe_distance l.count l.removed l.bucket);
   shifts : Shifts l.count l.hashes (g.B.Words.words l.buckets) l.removed l.gap l.bucket;
+  ahead : (vacant : ℕ) → IsVacantBeside (slots_by l.hashes (set (g.B.Words.words l.initial.buckets) l.removed 0)) l.removed vacant
+      → Ahead l.count l.hashes (g.B.Words.words l.buckets) l.removed l.gap l.bucket vacant;
 }
 
 -- the buckets ahead, once round

@@ -1,9 +1,11 @@
-use Rattle.std.proofs.Common.{◌≡◌, ◌∙◌, ℕ, suc, ◌+◌, ◌<◌, inl, inr, length, slice_index, ap, arith}
+use Rattle.std.proofs.Common.{◌≡◌, ◌∙◌, ℕ, suc, ◌+◌, ◌<◌, inl, inr, length, slice_index, sym, ap, arith}
 use Rattle.std.proofs.lemmas.Bool.{cases_eq}
+use Rattle.half_store.specs.Probe.{looked_more}
 use Rattle.half_store.specs.Reach.{home, probe_distance, bucket_after}
 use Rattle.half_store.proofs.lemmas.table.Buckets.{word-lt, some_bucket}
 use Rattle.half_store.proofs.lemmas.table.Circle.{distance_self, distance_same, next_farther, probe_distance-lt}
 use Rattle.half_store.proofs.lemmas.table.Layout.{nearer}
+use Rattle.half_store.proofs.lemmas.tally.{looked_more-zero, looked_more-one}
 use Rattle.half_store.proofs.table.deletion.bucket_of.Given.{Over}
 use Rattle.half_store.proofs.table.deletion.bucket_of.Goals as goal
 
@@ -17,9 +19,11 @@ loop-bucket-init g c =
     let e = c.count-count.ensures in
     let at = begins _ e c.home-bucket.ensures.value in
     let here : c.home-bucket.result < m = omega (arith, c.home-bucket.ensures.bound, e) in
+    let none = sym (ap (λ b. probe_distance m b c.home-bucket.result) at) ∙ distance_self m c.home-bucket.result here in
     record {
       inside = here;
-      ahead = λ target is. omega (arith, ap (λ b. probe_distance m b c.home-bucket.result) at, distance_self m c.home-bucket.result here);
+      counted = looked_more-zero c.args.tally.now ∙ ap (looked_more c.args.tally.now) (sym none);
+      ahead = λ target is. omega (arith, none);
     }
 
 -- what a step of the loop is given
@@ -43,7 +47,7 @@ module _ (g : Over) (c : goal.After-next-bucket g) (target : ℕ)
         | inr ne ↦ omega (arith, c.loop-bucket.invariant.ahead target is)
         | inl same ↦ absurd (c.loop-bucket-test.true (omega (
           arith,
-          c.word_at.ensures,
+          c.word_at.ensures.value,
           is,
           ap (slice_index (g.B.Words.words c.args.buckets.now))
               (distance_same m start in_start c.loop-bucket.bucket target c.loop-bucket.invariant.inside in_target same),
@@ -56,10 +60,14 @@ module _ (g : Over) (c : goal.After-next-bucket g) (target : ℕ)
       (c.next-bucket.ensures.value ∙ ap (λ n. bucket_after n c.loop-bucket.bucket 1) c.count-count.ensures)
 
 pub loop-bucket-preserved : goal.loop-bucket-preserved
-loop-bucket-preserved g c = record {
-  inside = omega (arith, c.next-bucket.ensures.bound, c.count-count.ensures);
-  ahead = λ target is. omega (arith, one_on g c target is, farther g c target is);
-}
+loop-bucket-preserved g c =
+    let b = some_bucket c.requires.indexed.each c.args.index c.requires.within in
+    record {
+      inside = omega (arith, c.next-bucket.ensures.bound, c.count-count.ensures);
+      counted = c.word_at.ensures.counted ∙ looked_more-one c.args.tally.now c.loop-bucket.tally _ c.loop-bucket.invariant.counted
+          ∙ ap (looked_more c.args.tally.now) (sym (one_on g c b.0 b.2));
+      ahead = λ target is. omega (arith, one_on g c target is, farther g c target is);
+    }
 
 pub loop-bucket-smaller : goal.loop-bucket-smaller
 loop-bucket-smaller g c =
@@ -74,4 +82,8 @@ loop-bucket-smaller g c =
 pub returns-clause-near : goal.returns-clause-near
 returns-clause-near g c =
     nearer c.requires.indexed c.args.index c.loop-bucket.bucket c.requires.within
-    (omega (arith, c.loop-bucket-test.false, c.word_at.ensures))
+    (omega (arith, c.loop-bucket-test.false, c.word_at.ensures.value))
+
+pub returns-clause-cost : goal.returns-clause-cost
+returns-clause-cost g c =
+    c.word_at.ensures.counted ∙ looked_more-one c.args.tally.now c.loop-bucket.tally _ c.loop-bucket.invariant.counted

@@ -1,4 +1,5 @@
 use Rattle.std.proofs.Common.{◌≡◌, ℕ, suc, ◌-◌, ◌<◌, ◌≤◌, length, slice_index}
+use Rattle.half_store.specs.Probe.{looked_more}
 use Rattle.half_store.specs.Reach.{home, probe_distance}
 use Rattle.half_store.proofs.table.deletion.bucket_of.Given as goal
 
@@ -9,6 +10,7 @@ invariant-loop-bucket g l =
     let start = home m (slice_index l.hashes l.index) in
     record {
       inside : l.bucket < m;
+      counted : l.tally ≡ looked_more l.initial.tally (probe_distance m start l.bucket);
       ahead : (target : ℕ) → slice_index (g.B.Words.words l.buckets) target ≡ suc l.index
           → probe_distance m start l.bucket ≤ probe_distance m start target;
     }

@@ -22,11 +22,11 @@ loop-bucket-preserved g c =
     let same = c.count-count.ensures
     ∙ sym (length-slots_by (g.P.Buckets.hashes c.args.buckets.now) (g.P.Buckets.words c.args.buckets.now)) in
     let probe = c.loop-bucket.invariant.probe in
-    let full = some_read c.look.result c.look.ensures.hash (sym c.loop-bucket-test.ensures) in
+    let full = some_read c.read.result c.read.ensures.hash (sym c.loop-bucket-test.ensures) in
     let e = c.next-bucket.ensures.value ∙ ap (λ m. bucket_after m c.loop-bucket.bucket 1) same in
     record {
       probe = Probes-next probe c.requires.vacant c.next-bucket.result full e;
-      counted = c.look.ensures.counted ∙ looked_more-one c.args.tally.now c.loop-bucket.tally _ c.loop-bucket.invariant.counted
+      counted = c.read.ensures.counted ∙ looked_more-one c.args.tally.now c.loop-bucket.tally _ c.loop-bucket.invariant.counted
           ∙ ap (looked_more c.args.tally.now) (sym (Probes-distance probe c.requires.vacant c.next-bucket.result full e));
     }
 
@@ -35,5 +35,5 @@ loop-bucket-smaller g c =
     let same = c.count-count.ensures
     ∙ sym (length-slots_by (g.P.Buckets.hashes c.args.buckets.now) (g.P.Buckets.words c.args.buckets.now)) in
     Probes-ahead c.loop-bucket.invariant.probe c.requires.vacant c.next-bucket.result
-    (some_read c.look.result c.look.ensures.hash (sym c.loop-bucket-test.ensures))
+    (some_read c.read.result c.read.ensures.hash (sym c.loop-bucket-test.ensures))
     (c.next-bucket.ensures.value ∙ ap (λ m. bucket_after m c.loop-bucket.bucket 1) same)
