@@ -1,8 +1,9 @@
 -- What contracts see of a raw entry: the pair that a search found, and what the map is once it is written or taken out.
 pub use Rattle.halfbrown.specs.declared.raw_entry.LimitedRawEntryMut.TheVariants.{Occupied, Vacant}
 use Rattle.std.specs.Map.{lookup, lookup_entry}
-use Rattle.std.specs.Prelude.{◌≡◌, ℕ, Bool, true, false, List, [], ◌∷◌, ◌++◌, Option, None, Some, IfSome, IsSomeAnd, unwrap_or}
+use Rattle.std.specs.Prelude.{◌≡◌, ℕ, Bool, true, false, List, [], ◌∷◌, ◌++◌, Option, None, Some, IfSome, IsSomeAnd, unwrap_or, codes}
 use Rattle.std.specs.Borrow.{Bor, MutBor}
+use Rattle.std.specs.Fmt.{◌++?◌}
 use Rattle.std.specs.Fn.{Once}
 use Rattle.std.specs.declared.cmp.PartialEq as eq
 use Rattle.std.specs.declared.hash.Hash as hash
@@ -103,6 +104,13 @@ module _ {K V S L H : Type 0} {e : eq.Ghosts K} {h : hash.Ghosts K} {b : builder
     pub puts : PutsThroughRawEntry entry key value result
     pub adds : AddsThroughRawEntry same (raw_map entry).pairs key value result
     pub state : IsState same limit (entries.map_of (entries.Occupied result))
+
+-- what `{:?}` prints of a raw entry, by what it prints of the key and of the value of the pair that was found
+abbrev pub raw_entry_text : {K V : Type 0} → (K → Option (List ℕ)) → (V → Option (List ℕ)) → Option K → Option V → Option (List ℕ)
+raw_entry_text key_text value_text (Some k) (Some v) =
+    Some (codes "RawEntry(RawOccupiedEntryMut { key: ") ++? key_text k ++? Some (codes ", value: ") ++? value_text v ++? Some (codes " })")
+raw_entry_text key_text value_text (Some k) None = None
+raw_entry_text key_text value_text None value = Some (codes "RawEntry(RawVacantEntryMut)")
 
 -- this key and this value are lent
 pub record LendsPair {K V : Type 0} (k : K) (v : V) (lent : Bor K × MutBor V) : Type 0 where
