@@ -10,8 +10,16 @@
 
 .PHONY: help run try test edits scripts witness bench fmt
 
+# A file is read by < alone.
+ifneq ($(filter run try,$(MAKECMDGOALS)),)
+named := $(filter-out run try,$(MAKECMDGOALS)) $(if $(filter command,$(origin FILE)),$(FILE))
+ifneq ($(strip $(named)),)
+$(error Write: make $(firstword $(MAKECMDGOALS)) < $(firstword $(named)))
+endif
+endif
+
 help:
-	@sed -n 's/^# //p' Makefile
+	@sed -n '/^$$/q; s/^# //p' Makefile
 
 run:
 	@tests/prove.sh

@@ -62,6 +62,7 @@ PLAIN_CALLS = {
     "halfbrown/src/map/collect": ["LimitedHashMap::from_iter", "LimitedHashMap::extend"],
     "halfbrown/src/map/debug": ["out.entry"],
     "halfbrown/src/map/equality": ["self.same_pairs"],
+    "halfbrown/src/raw_entry/debug": ["entry.get"],
     "halfbrown/src/raw_entry/methods": ["entry.insert"],
     "halfbrown/src/run": ["entry.or_insert", "entry.get"],
     "halfmap/src/answer": ["map.insert", "map.get", "map.remove"],

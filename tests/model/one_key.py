@@ -54,7 +54,7 @@ def insert_key(a, pair, key):
 
 
 def fields(pair):
-    return f"OccupiedEntry {{ key: {pair.key}, value: {pair.value} }}"
+    return f"{{ key: {pair.key}, value: {pair.value} }}"
 
 
 TEXTS = {"size": "more than 2^60 pairs", "memory": "memory could not be allocated"}
@@ -122,7 +122,7 @@ ENTRY_CALLS = {
     "lose_insert V *": (calling(lambda a, pair, v: f"added {a.append(a.take_out(pair).key, v).value}"), "vacant"),
     "handed *": (calling(lambda a, pair: f"handed {a.put_back(pair).key}"), "vacant"),
     "into_key": ("occupied", lambda a, key: key),
-    "debug": (lambda a, pair: f"Entry({fields(pair)})", lambda a, key: f"Entry(VacantEntry({key}))"),
+    "debug": (lambda a, pair: f"Entry(OccupiedEntry {fields(pair)})", lambda a, key: f"Entry(VacantEntry({key}))"),
 }
 # The same of a raw entry.
 RAW_ENTRY_CALLS = {
@@ -149,7 +149,7 @@ RAW_ENTRY_CALLS = {
     "add_hashed_entry V": ("occupied", Map.append),
     # Its closure hashes held keys where the table grows, and capacity is there.
     "add_with_hasher V *": ("occupied", Map.append),
-    "debug": (lambda a, pair: f"RawEntry({fields(pair)})", "RawEntry(RawVacantEntryMut)"),
+    "debug": (lambda a, pair: f"RawEntry(RawOccupiedEntryMut {fields(pair)})", "RawEntry(RawVacantEntryMut)"),
 }
 RAW_CALLS = {
     "raw_entry FORM": by(Map.find, lambda a, pair: pair, "none"),

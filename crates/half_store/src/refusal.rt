@@ -13,7 +13,7 @@ use std::{fmt, io};
 /// Why a call failed. On error nothing changes.
 ///
 /// `?` converts std's `AllocError` and `AllocFailed` into a `Refusal`, so that calls of std and of the map stand in one function.
-/// It also converts a `Refusal` into an `io::Error`, the error of a `main`.
+/// It also converts a `Refusal` into an `AllocError`, where the reason is lost, and into an `io::Error`, the error of a `main`.
 #[derive(Clone, Copy, Debug, PartialEq, Eq)]
 pub enum Refusal {
     /// Memory could not be allocated.
@@ -49,6 +49,13 @@ impl<T: Drop> From<AllocFailed<T>> for Refusal {
 
     fn from(_failed: AllocFailed<T>) -> Refusal {
         Refusal::Memory
+    }
+}
+
+// `AllocError` has one value.
+impl From<Refusal> for AllocError {
+    fn from(_why: Refusal) -> AllocError {
+        AllocError
     }
 }
 

@@ -5,7 +5,7 @@ ghost use Rattle.std.specs.declared.io.ErrorKind.TheVariants.{OutOfMemory};
 ghost use Rattle.halfbrown.specs.Pairs.{value_of};
 
 use halfbrown::{HashMap, Limit, LimitedHashMap, Refusal};
-use std::alloc::Global;
+use std::alloc::{AllocError, Global};
 use std::hash::BuildHasher;
 use std::io;
 
@@ -31,6 +31,17 @@ pub fn written(alloc: Global, number: u64) -> Result<Vec<String>, Refusal>
     let mut words = Vec::new(alloc);
     words.push(format!(in alloc; "{number}")?)?;
     Ok(words)
+}
+
+/// Ages for a caller whose error is std's: a capacity that may be refused, an insertion and an entry.
+pub fn ages_of_std(alloc: Global) -> Result<HashMap<u64, u32>, AllocError>
+    ensures ada { IfOk result (λ ages. value_of nat_eq ages.pairs 1 ≡ Some 36) }
+    ensures ben { IfOk result (λ ages. value_of nat_eq ages.pairs 2 ≡ Some 41) }
+{
+    let mut ages = HashMap::with_capacity(alloc, 2)?;
+    ages.insert(1, 36)?;
+    *ages.entry(2)?.or_insert(0) = 41;
+    Ok(ages)
 }
 
 /// Ages for a `main`, which returns `io::Result`: a map that may be refused, an insertion and an entry.

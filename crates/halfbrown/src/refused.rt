@@ -4,12 +4,13 @@ ghost use Rattle.std.specs.IoError.{error_kind};
 ghost use Rattle.half_store.specs.Refusal.{kind_of, text_of};
 
 use half_store::Refusal;
+use std::alloc::AllocError;
 use std::error::Error;
 use std::{fmt, io};
 
 /// A pair that was not inserted, and why. The map is unchanged.
 ///
-/// `?` converts it into a `Refusal` or an `io::Error`, and drops the pair:
+/// `?` converts it into a `Refusal`, an `AllocError` or an `io::Error`, and drops the pair:
 ///
 /// ```
 /// fn add(ages: &mut HashMap<u64, u32>, id: u64, age: u32) -> Result<(), Refusal> {
@@ -43,6 +44,12 @@ impl<K: Drop, V: Drop> From<Refused<K, V>> for Refusal {
     }
 }
 
+impl<K: Drop, V: Drop> From<Refused<K, V>> for AllocError {
+    fn from(refused: Refused<K, V>) -> AllocError {
+        refused.why.into()
+    }
+}
+
 impl<K: Drop, V: Drop> From<Refused<K, V>> for io::Error {
     ghost from_gives = { λ refused error. error_kind error ≡ kind_of refused.why };
 
@@ -53,7 +60,7 @@ impl<K: Drop, V: Drop> From<Refused<K, V>> for io::Error {
 
 /// A key for which no entry was made, and why. The map is unchanged.
 ///
-/// `?` converts it into a `Refusal` or an `io::Error`, and drops the key. A caller that needs the key takes it:
+/// `?` converts it into a `Refusal`, an `AllocError` or an `io::Error`, and drops the key. A caller that needs the key takes it:
 ///
 /// ```
 /// let key = ages.entry(3).err().map(|refused| refused.key); // `Some(3)` where it is refused
@@ -80,6 +87,12 @@ impl<K: Drop> From<RefusedKey<K>> for Refusal {
 
     fn from(refused: RefusedKey<K>) -> Refusal {
         refused.why
+    }
+}
+
+impl<K: Drop> From<RefusedKey<K>> for AllocError {
+    fn from(refused: RefusedKey<K>) -> AllocError {
+        refused.why.into()
     }
 }
 

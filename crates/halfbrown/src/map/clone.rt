@@ -68,9 +68,6 @@ impl<K: EqualClone + Hash, V: Clone, S: BuildHasher + Copy, L: Limit> Clone
     ghost is_clone = { IsCloneOf K.is_clone V.is_clone (λ builder it. it ≡ builder) };
 
     fn clone(&self) -> Result<Self, AllocError> {
-        match self.clone_with(self.builder) {
-            Ok(map) => Ok(map),
-            Err(_) => Err(AllocError),
-        }
+        Ok(self.clone_with(self.builder)?)
     }
 }

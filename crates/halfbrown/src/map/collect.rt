@@ -184,10 +184,7 @@ impl<K: Eq + Hash + Drop, V: Drop, S: BuildHasher + Default + Drop, L: Limit> Fr
         alloc: Global,
         items: I,
     ) -> Result<Self, AllocError> {
-        match LimitedHashMap::from_iter(alloc, items) {
-            Ok(map) => Ok(map),
-            Err(_) => Err(AllocError),
-        }
+        Ok(LimitedHashMap::from_iter(alloc, items)?)
     }
 }
 
@@ -198,9 +195,6 @@ impl<K: Eq + Hash + Drop, V: Drop, S: BuildHasher, L: Limit> Extend<(K, V)>
         × Extends L.LIMIT K.eq (key_hash S.BuildHasher S.Hasher.Hasher K.hash_input) old items new cost };
 
     fn extend<I: IntoIterator<Item = (K, V)>>(&mut self, items: I) -> Result<(), AllocError> {
-        match LimitedHashMap::extend(self, items) {
-            Ok(()) => Ok(()),
-            Err(_) => Err(AllocError),
-        }
+        Ok(LimitedHashMap::extend(self, items)?)
     }
 }

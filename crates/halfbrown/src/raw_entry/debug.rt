@@ -16,11 +16,24 @@ impl<'a, K: Eq + Hash, V, S: BuildHasher, L: Limit> Debug for RawEntryBuilderMut
     }
 }
 
+// The pair that was found, under the name that is printed for its entry.
+#[derive(Debug, Drop)]
+struct RawOccupiedEntryMut<'b, K, V> {
+    key: &'b K,
+    value: &'b V,
+}
+
 impl<'a, K: Eq + Hash + Debug, V: Debug, S: BuildHasher, L: Limit> Debug
     for RawEntryMut<'a, K, V, S, L> {
     fn fmt<W: Write>(&self, f: &mut Formatter<W>) -> Result {
         match self {
-            RawEntryMut::Occupied(entry) => f.debug_tuple("RawEntry").field(entry).finish(),
+            RawEntryMut::Occupied(entry) => {
+                let found = RawOccupiedEntryMut {
+                    key: entry.key(),
+                    value: entry.get(),
+                };
+                f.debug_tuple("RawEntry").field(&found).finish()
+            }
             RawEntryMut::Vacant(entry) => f.debug_tuple("RawEntry").field(entry).finish(),
         }
     }
