@@ -195,6 +195,9 @@ impl<K: Eq + Hash + Drop, V: Drop, S: BuildHasher, L: Limit> Extend<(K, V)>
         × Extends L.LIMIT K.eq (key_hash S.BuildHasher S.Hasher.Hasher K.hash_input) old items new cost };
 
     fn extend<I: IntoIterator<Item = (K, V)>>(&mut self, items: I) -> Result<(), AllocError> {
-        Ok(LimitedHashMap::extend(self, items)?)
+        match LimitedHashMap::extend(self, items) {
+            Ok(()) => Ok(()),
+            Err(_) => Err(AllocError),
+        }
     }
 }
