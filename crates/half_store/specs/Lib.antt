@@ -3,6 +3,7 @@ pub mod Capacity
 pub mod Columns
 pub mod Hash
 pub mod Lending
+pub mod Memory
 pub mod Pairs
 pub mod Probe
 pub mod Reach

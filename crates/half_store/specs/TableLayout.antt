@@ -3,6 +3,7 @@ use Rattle.std.specs.Prelude.{◌≡◌, ◌≢◌, ℕ, ◌<◌, ◌≤◌, Lis
 use Rattle.half_store.specs.Buckets.{slots_by, EachOnce}
 use Rattle.half_store.specs.Capacity.{capacity_of, IsBucketCount}
 use Rattle.half_store.specs.Slots.{slot_at, distance_from_home, ProbeInvariant}
+use Rattle.half_store.specs.Words.{AreWordsFor}
 
 -- the buckets lead to the stored hashes: each pair has one bucket, which a probe from its home meets before any empty one
 pub record IsIndexed (hashes words : List ℕ) : Type 0 where
@@ -29,9 +30,9 @@ pub record IsIndexedButFor (hashes words : List ℕ) (emptied : ℕ) : Type 0 wh
   pub each : EachOnce (length hashes) words
   pub gap : HasGap (slots_by hashes words) emptied
 
--- what is always true of a table's columns: words up to `most` fit its buckets, and the column of the hashes, which has this
--- capacity, is exactly as large as they want it
+-- what is always true of a table's columns: the buckets have words up to `most`, of four bytes exactly where the capacity of the table is
+-- below 2^32, and the column of the hashes has memory for exactly that capacity
 pub record IsTable (hashes words : List ℕ) (most capacity : ℕ) : Type 0 where
   pub indexed : IsIndexed hashes words
-  pub fits : capacity_of (length words) ≤ most
+  pub sized : AreWordsFor most (capacity_of (length words))
   pub exact : capacity ≡ capacity_of (length words)

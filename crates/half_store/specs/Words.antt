@@ -1,5 +1,5 @@
 -- The words that stand in buckets, and how large they may be.
-use Rattle.std.specs.Prelude.{ℕ, ◌-◌, ◌^◌, List}
+use Rattle.std.specs.Prelude.{◌≡◌, ℕ, ◌-◌, ◌^◌, ◌≤◌, nat_lt, if◌then◌else◌, List}
 use Rattle.half_store.specs.declared.words.WordArray.{WordArray}
 use Rattle.half_store.specs.declared.words.WordArray.TheVariants.{FourBytes, EightBytes}
 
@@ -19,3 +19,12 @@ words_of (EightBytes v) = v
 abbrev pub most_of : WordArray → ℕ
 most_of (FourBytes v) = most_of_four
 most_of (EightBytes v) = most_of_eight
+
+-- the bytes of a word that may be as great as this: four exactly below 2^32
+abbrev pub word_size : ℕ → ℕ
+word_size most = if nat_lt most (2 ^ 32) then 4 else 8
+
+-- words up to `most` are those of a table with this capacity: they fit its entry indices, and take no more bytes than that needs
+pub record AreWordsFor (most capacity : ℕ) : Type 0 where
+  pub fits : capacity ≤ most
+  pub size : word_size most ≡ word_size capacity

@@ -1,6 +1,7 @@
 //! The storage of a map in two forms: pairs in two columns, an index over them where there is one, and a tally of the work.
 #![tactic(auto)]
 
+pub mod arrays;
 pub mod buckets;
 pub mod capacity;
 mod column;
@@ -13,6 +14,7 @@ pub mod tally;
 pub mod vecmap;
 pub mod words;
 
+pub use arrays::Arrays;
 pub use refusal::Refusal;
 pub use store::Store;
 pub use store::drain::{Drained, IntoStore};

@@ -5,7 +5,7 @@
 ghost use Rattle.std.specs.Prelude.{◌≡◌, ℕ, ◌<◌, ◌≤◌, List, [], length, replicate, slice_index, slice_set, IfOk, IsOk};
 ghost use Rattle.std.specs.List.{AllZip};
 ghost use Rattle.half_store.specs.Capacity.{capacity_of, IsBucketCount};
-ghost use Rattle.half_store.specs.Words.{words_of, most_of, most_of_four, most_of_eight};
+ghost use Rattle.half_store.specs.Words.{words_of, most_of, most_of_four, most_of_eight, word_size, AreWordsFor};
 ghost use Rattle.half_store.specs.Work.{one_looked};
 
 use crate::Tally;
@@ -84,6 +84,13 @@ impl<T: Copy> WordVec<T> {
             words.push_reserved(word);
         }
         Ok(WordVec { words })
+    }
+
+    /// For how many words there is memory.
+    fn capacity(&self) -> usize
+        ensures { result ≡ length self.now }
+    {
+        self.words.capacity()
     }
 
     /// The same words once more.
@@ -195,16 +202,17 @@ impl Words for WordArray {
 impl WordArray {
     /// No words. They take no memory.
     pub(crate) fn new(alloc: Global) -> WordArray
-        ensures { words_of result ≡ [] }
+        ensures words { words_of result ≡ [] }
+        ensures sized { AreWordsFor (most_of result) 0 }
     {
         WordArray::FourBytes(WordVec::new(alloc))
     }
 
-    /// The words of so many empty buckets, each large enough for as many pairs as they may hold.
+    /// The words of so many empty buckets, of the bytes that as many pairs need as they may hold.
     pub(crate) fn empty(alloc: Global, count: usize) -> Result<WordArray, AllocError>
         requires { IsBucketCount count }
         ensures words { IfOk result (λ a. words_of a ≡ replicate count 0) }
-        ensures fits { IfOk result (λ a. capacity_of count ≤ most_of a) }
+        ensures sized { IfOk result (λ a. AreWordsFor (most_of a) (capacity_of count)) }
         ensures granted { count ≡ 0 → IsOk result }
     {
         if count == 0 {
@@ -236,6 +244,17 @@ impl WordArray {
         match self {
             WordArray::FourBytes(words) => Ok(WordArray::FourBytes(words.copied()?)),
             WordArray::EightBytes(words) => Ok(WordArray::EightBytes(words.copied()?)),
+        }
+    }
+
+    /// For how many words there is memory, and the bytes of one.
+    pub(crate) fn memory(&self) -> (usize, usize)
+        ensures count { result.0 ≡ length (words_of self.now) }
+        ensures size { result.1 ≡ word_size (most_of self.now) }
+    {
+        match self {
+            WordArray::FourBytes(words) => (words.capacity(), size_of::<u32>()),
+            WordArray::EightBytes(words) => (words.capacity(), size_of::<usize>()),
         }
     }
 

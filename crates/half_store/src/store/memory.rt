@@ -1,14 +1,15 @@
 //! The capacity of a store: making it, and giving it back. All memory is had before anything changes.
-ghost use Rattle.std.specs.Prelude.{◌≡◌, ◌+◌, ◌^◌, ◌<◌, ◌≤◌, ◌⊎◌, ◌||◌, false, [], min, max};
+ghost use Rattle.std.specs.Prelude.{◌≡◌, ℕ, ◌+◌, ◌^◌, ◌<◌, ◌≤◌, ◌⊎◌, ◌||◌, false, [], min, max};
 ghost use Rattle.std.specs.Prelude.{length, nat_le, IsOk, IfOk, OnOk, OnErr, IfErr, if◌then◌else◌};
 ghost use Rattle.std.specs.List.{AllZip};
 ghost use Rattle.half_store.specs.Capacity.{capacity_for};
+ghost use Rattle.half_store.specs.Memory.{arrays_of, bytes_of, bytes};
 ghost use Rattle.half_store.specs.Refusal.{refusal_of};
 ghost use Rattle.half_store.specs.Store.{allowed, capacity_within, reserved, reserved_capacity};
 
 use super::Store;
 use crate::refusal::check_size;
-use crate::{Refusal, Table, VecMap};
+use crate::{Arrays, Refusal, Table, VecMap};
 use std::alloc::Global;
 
 impl<K, V> Store<K, V> {
@@ -41,6 +42,26 @@ impl<K, V> Store<K, V> {
             columns: VecMap::with_capacity(alloc, table.capacity())?,
             table: Some(table),
         })
+    }
+
+    /// For how many elements each array has memory.
+    pub fn arrays(&self) -> Arrays
+        ensures each { result ≡ arrays_of self.now.is_vec self.now.capacity self.now.columns }
+        ensures bytes { (key value : ℕ) → bytes_of key value result
+            ≡ bytes key value self.now.is_vec self.now.capacity self.now.columns }
+    {
+        let (keys, values) = self.columns.capacities();
+        let (hashes, words, word_size) = match &self.table {
+            Some(table) => table.memory(),
+            None => (0, 0, size_of::<u32>()),
+        };
+        Arrays {
+            keys,
+            values,
+            hashes,
+            words,
+            word_size,
+        }
     }
 
     /// Makes the capacity enough for so many pairs more, in a vector for no more in all than the limit.

@@ -1,6 +1,7 @@
 //! Making a table, growing and shrinking it. All memory is had before anything changes.
 ghost use Rattle.std.specs.Prelude.{◌≡◌, ◌+◌, ◌^◌, ◌<◌, ◌≤◌, ◌↔◌, ◌⊎◌, [], max, length, Err, IfOk, IsOk, OnOk, OnErr};
-ghost use Rattle.half_store.specs.Capacity.{capacity_of, buckets_for, IsBucketCount};
+ghost use Rattle.half_store.specs.Capacity.{capacity_of, buckets_for, buckets_of, IsBucketCount};
+ghost use Rattle.half_store.specs.Words.{word_size};
 
 use super::Table;
 use super::rehash::rehash;
@@ -80,6 +81,16 @@ impl Table {
         rehash(&mut buckets, self.hashes.as_slice());
         move_to(&mut self.hashes, hashes);
         self.buckets = buckets;
+    }
+
+    /// For how many hashes and for how many words of buckets there is memory, and the bytes of a word.
+    pub fn memory(&self) -> (usize, usize, usize)
+        ensures hashes { result.0 ≡ capacity_of self.now.buckets }
+        ensures words { result.1 ≡ buckets_of (capacity_of self.now.buckets) }
+        ensures size { result.2 ≡ word_size (capacity_of self.now.buckets) }
+    {
+        let (words, size) = self.buckets.memory();
+        (self.hashes.capacity(), words, size)
     }
 
     fn bucket_count(&self) -> usize

@@ -57,6 +57,13 @@ impl<K, V> VecMap<K, V> {
         self.keys.capacity()
     }
 
+    /// For how many elements the columns have memory: of the keys, and of the values.
+    pub fn capacities(&self) -> (usize, usize)
+        ensures { result ≡ (self.now.capacity, self.now.capacity) }
+    {
+        (self.keys.capacity(), self.values.capacity())
+    }
+
     /// Shrinks the capacity to `needed` pairs, or to those that are held. Where memory is refused it stays; down to nothing
     /// it needs no memory.
     pub fn shrink_to(&mut self, needed: usize)

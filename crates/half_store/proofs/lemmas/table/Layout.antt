@@ -17,7 +17,9 @@ use Rattle.half_store.proofs.lemmas.table.Buckets.{length-slots_by, slot_by-at, 
 use Rattle.half_store.proofs.lemmas.table.Buckets.{word_of_slot, zero_of_slot, word_set, word_other, word-lt, within-at, same_bucket}
 use Rattle.half_store.proofs.lemmas.table.Buckets.{EachOnce-add, EachOnce-remove, EachOnce-empty, length-remove, remove-at, remove-last}
 use Rattle.half_store.proofs.lemmas.table.Buckets.{remove-other, count_each}
+use Rattle.half_store.specs.Words.{AreWordsFor}
 use Rattle.half_store.proofs.lemmas.capacity.{four-le_count, buckets_of-capacity_of}
+use Rattle.half_store.proofs.lemmas.words.{sized_as}
 use Rattle.half_store.proofs.lemmas.table.Circle.{distance_is, distance_self, distance_same}
 use Rattle.half_store.proofs.lemmas.table.Counts.{count_to, count_to-same, count_to-le, count_to-all, count_by-count_to}
 use Rattle.half_store.proofs.lemmas.table.Deletion.{HasGap-remove}
@@ -312,11 +314,11 @@ IsIndexed-as {hashes} {hashes'} {words} {words'} h w x = subst (λ y. IsIndexed 
 
 -- equal columns, with the capacity that they want
 pub IsTable-as : {hashes words hashes' words' : List ℕ} {most most' capacity : ℕ} → hashes' ≡ hashes → words' ≡ words → most' ≡ most
-    → IsIndexed hashes words → capacity_of (length words) ≤ most → capacity ≡ capacity_of (length words)
+    → IsIndexed hashes words → AreWordsFor most (capacity_of (length words)) → capacity ≡ capacity_of (length words)
     → IsTable hashes' words' most' capacity
-IsTable-as h w m x fits exact =
+IsTable-as h w m x sized exact =
     let same = ap capacity_of (ap length w) in
-    record { indexed = IsIndexed-as h w x; fits = omega (arith, same, m); exact = omega (arith, same, exact) }
+    record { indexed = IsIndexed-as h w x; sized = sized_as (sym m) (sym same) sized; exact = omega (arith, same, exact) }
 
 -- the columns of a table, as they are lent, are its value
 pub view_lent : {hashes hs words ws : List ℕ} {t : TableState} → table_state hs (slots_by hs ws) ≡ t → hashes ≡ hs → ws ≡ words

@@ -4,7 +4,7 @@ use Rattle.half_store.specs.Buckets.{slots_by}
 use Rattle.half_store.specs.Capacity.{capacity_of}
 use Rattle.half_store.specs.Slots.{IsVacancyFor}
 use Rattle.half_store.specs.Table.{slots_of, table_contents, table_state}
-use Rattle.half_store.specs.Words.{words_of}
+use Rattle.half_store.specs.Words.{words_of, AreWordsFor}
 use Rattle.half_store.proofs.lemmas.table.Layout.{IsIndexed-add, IsTable-as, count_seen, slots-add}
 use Rattle.half_store.proofs.table.Table.add_at.Goals as goal
 
@@ -22,7 +22,7 @@ invariant_of-self c =
     let index : c.len-word.result + 1 ≡ suc (length hs) = omega (arith, held, c.len-word.ensures.value) in
     let same = ap capacity_of (length-set words bucket (suc (length hs))) in
     IsTable-as c.push_reserved.ensures.items (c.set_word.ensures.words ∙ ap (set words bucket) index) c.set_word.ensures.most
-    (IsIndexed-add x.indexed bucket c.args.hash w few) (omega (arith, same, x.fits))
+    (IsIndexed-add x.indexed bucket c.args.hash w few) (subst (AreWordsFor _) (sym same) x.sized)
     (omega (arith, same, x.exact, c.push_reserved.ensures.capacity))
 
 pub returns-clause-contents : goal.returns-clause-contents

@@ -11,5 +11,5 @@ invariant_of-result c =
     let words = c.in_ok-buckets.ensures in
     let hashes = each_same c.as_slice.result.now c.in_ok-hashes-2.hashes.items c.in_ok-hashes-2.ensures.items ∙ c.as_slice.ensures.value in
     let count = ap capacity_of (count_seen _ _ c.self.view_is) in
-    IsTable-as hashes words.words words.most x.indexed x.fits
+    IsTable-as hashes words.words words.most x.indexed x.sized
     (omega (arith, count, c.capacity.ensures.value, c.in_ok-hashes.ensures.exact, c.in_ok-hashes-2.ensures.capacity))

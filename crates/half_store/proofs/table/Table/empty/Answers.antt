@@ -1,6 +1,7 @@
-use Rattle.std.proofs.Common.{ℕ, refl, ap, arith}
+use Rattle.std.proofs.Common.{ℕ, refl, sym, ap, subst, arith}
 use Rattle.std.proofs.lemmas.List.{length-replicate}
 use Rattle.half_store.specs.Capacity.{capacity_of}
+use Rattle.half_store.specs.Words.{AreWordsFor}
 use Rattle.half_store.proofs.lemmas.table.Layout.{IsIndexed-empty, IsTable-as}
 use Rattle.half_store.proofs.table.Table.empty.Goals as goal
 
@@ -10,4 +11,4 @@ invariant_of-result c =
     let same = ap capacity_of (length-replicate {A = ℕ} m 0) in
     let words = c.in_ok-buckets.ensures in
     IsTable-as c.in_ok-hashes.ensures.items words.words refl (IsIndexed-empty m c.requires)
-    (omega (arith, same, words.fits)) (omega (arith, same, c.capacity_of.ensures, c.in_ok-hashes.ensures.exact))
+    (subst (AreWordsFor _) (sym same) words.sized) (omega (arith, same, c.capacity_of.ensures, c.in_ok-hashes.ensures.exact))

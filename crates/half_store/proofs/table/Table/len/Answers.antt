@@ -6,4 +6,4 @@ pub returns-clause-small : goal.returns-clause-small
 returns-clause-small c =
     let t = c.self.inside in
     let x = c.self.invariant in
-    omega (arith, c.len.ensures, t.hashes.ok, x.indexed.room, x.fits, most-le t.buckets)
+    omega (arith, c.len.ensures, t.hashes.ok, x.indexed.room, x.sized.fits, most-le t.buckets)

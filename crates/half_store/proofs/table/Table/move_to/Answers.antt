@@ -1,7 +1,7 @@
 use Rattle.std.proofs.Common.{◌≡◌, ◌∙◌, length, refl, sym, ap, subst, arith}
 use Rattle.half_store.specs.Buckets.{EachOnce}
 use Rattle.half_store.specs.Capacity.{capacity_of}
-use Rattle.half_store.specs.Words.{words_of}
+use Rattle.half_store.specs.Words.{words_of, AreWordsFor}
 use Rattle.half_store.proofs.lemmas.table.Buckets.{EachOnce-none}
 use Rattle.half_store.proofs.lemmas.table.Layout.{IsTable-as}
 use Rattle.half_store.proofs.table.Table.move_to.Goals as goal
@@ -17,4 +17,4 @@ invariant_of-self c =
     let fresh = c.fresh.invariant in
     let same = ap capacity_of c.rehash.ensures.len in
     IsTable-as (c.move_to.ensures.items ∙ sym c.as_slice.ensures.value) refl c.rehash.ensures.most c.rehash.ensures.indexed
-    (omega (arith, same, fresh.fits)) (omega (arith, same, fresh.exact, c.move_to.ensures.capacity))
+    (subst (AreWordsFor _) (sym same) fresh.sized) (omega (arith, same, fresh.exact, c.move_to.ensures.capacity))

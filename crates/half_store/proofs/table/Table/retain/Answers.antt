@@ -2,7 +2,7 @@ use Rattle.std.proofs.Common.{◌≡◌, ℕ, List, ◌++◌, length, take, drop
 use Rattle.std.proofs.lemmas.List.{take_at, length-replicate}
 use Rattle.half_store.specs.Capacity.{capacity_of}
 use Rattle.half_store.specs.TableLayout.{IsTable}
-use Rattle.half_store.specs.Words.{words_of, most_of}
+use Rattle.half_store.specs.Words.{words_of, most_of, AreWordsFor}
 use Rattle.half_store.proofs.lemmas.table.Layout.{IsTable-as}
 use Rattle.half_store.proofs.table.Table.retain.Goals as goal
 
@@ -12,7 +12,7 @@ invariant_of-self-2 g c =
     let m : ℕ = length (words_of c.self.inside.buckets) in
     let same = ap capacity_of (c.rehash.ensures.len ∙ ap length c.clear.ensures.words ∙ length-replicate {A = ℕ} m 0) in
     IsTable-as (sym c.as_slice.ensures.value) refl (c.rehash.ensures.most ∙ c.clear.ensures.most) c.rehash.ensures.indexed
-    (omega (arith, same, x.fits)) (omega (arith, same, x.exact, c.truncate.ensures.capacity))
+    (subst (AreWordsFor _) (sym same) x.sized) (omega (arith, same, x.exact, c.truncate.ensures.capacity))
 
 -- a column whose front part is written as it was
 same_front : (items front : List ℕ) (n : ℕ) → front ≡ items → n ≡ length items → take n (front ++ drop (length front) items) ≡ items

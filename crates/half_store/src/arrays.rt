@@ -1,0 +1,16 @@
+//! The memory of a store.
+
+/// For how many elements each array of a store has memory. A vector has none for hashes and words.
+#[derive(Clone, Copy)]
+pub struct Arrays {
+    /// The column of keys.
+    pub keys: usize,
+    /// The column of values.
+    pub values: usize,
+    /// The column of stored hashes, of eight bytes each.
+    pub hashes: usize,
+    /// The words of buckets.
+    pub words: usize,
+    /// The bytes of each of them.
+    pub word_size: usize,
+}
