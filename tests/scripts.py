@@ -17,7 +17,7 @@ import sys
 import tempfile
 from concurrent.futures import ThreadPoolExecutor
 
-from comparison import agrees, without, without_unwanted
+from comparison import agrees, without_unwanted
 from model.session import answers
 
 TESTS = pathlib.Path(__file__).resolve().parent
@@ -52,15 +52,6 @@ class Part:
         """The indices of the calls that are refused memory."""
         return [index for index, line in enumerate(self.lines) if line.split(" ")[0] == "refused"]
 
-    def faults(self, printed):
-        """What is wrong with what was printed without the allocator, which refuses nothing and counts no request."""
-        # What follows the first of several refused calls is not wanted of this play.
-        calls = self.calls if len(self.refused()) < 2 else self.calls[: self.refused()[0]]
-        wanted = [[without(text, ("requests",)) for text in call.wanted] for call in calls]
-        part = Part(self.name, [Call(call.text, call.number, texts) for call, texts in zip(calls, wanted)])
-        printed = printed if calls == self.calls else printed[: len(calls)]
-        return sum(judge(part, [("without the allocator", printed)]), [])
-
 
 def written_out(line):
     """The line in which `<3: 8n n+1>` stands for its words with 0, 1 and 2 for n: `0 1 8 2 16 3`."""
@@ -90,10 +81,6 @@ def read_script(path):
     if not any(call.wanted for part in parts for call in part.calls):
         faults.append(f"scripts/{path.name}:1: no line is wanted")
     return [part for part in parts if part.calls], faults
-
-
-def parts_of(path):
-    return read_script(path)[0]
 
 
 def compile_allocator(folder):

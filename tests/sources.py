@@ -115,8 +115,8 @@ def plain_calls(name, code):
 
 @functools.cache
 def plain_names():
-    counted = (re.findall(r"\bfn (\w+)_counted\b", path.read_text()) for path in CRATES.glob("half*/src/**/*.rt"))
-    return sorted(set().union(*counted))
+    files = [path for crate in LIBRARIES for path in (CRATES / crate / "src").rglob("*.rt")]
+    return sorted({name for path in files for name in re.findall(r"\bfn (\w+)_counted\b", path.read_text())})
 
 
 def tallies(name, code):
