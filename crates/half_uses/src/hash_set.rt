@@ -1,7 +1,9 @@
 //! A set whose values keep the order in which they were inserted.
 ghost use Rattle.std.specs.Prelude.{◌≡◌, ◌↔◌, ◌^◌, ◌<◌, List, [], false, true, not, length, All, IsTrue, IfOk, OnOk, OnErr};
-ghost use Rattle.std.specs.Iterator.{IsFinite, Drains};
+ghost use Rattle.std.specs.Iterator.{at_most, IsFinite};
+ghost use Rattle.std.specs.Iterator.Runs.{WholeRun};
 ghost use Rattle.std.specs.List.{IsDistinct};
+ghost use Rattle.std.specs.Map.Iter.{GivesInOrder, TakesFirst};
 ghost use Rattle.std.specs.Option.{option_map_or};
 ghost use Rattle.std.specs.Set.{is_member, IsUnion};
 ghost use Rattle.halfbrown.specs.Gathering.{add_key, add_keys, first_of_each};
@@ -47,8 +49,8 @@ impl<T: Eq + Hash> HashSet<T> {
         T: Drop,
         requires { (it : I.IntoIter) → I.into_iter_gives items it
             → I.IntoIter.can_next it × IsFinite (I.IntoIter.remaining it) }
-        ensures { IfOk result (λ set. (it : I.IntoIter) × (gave : List T) × I.into_iter_gives items it
-            × Drains I.IntoIter.next_gives it gave × (set ≡ first_of_each T.eq gave)) }
+        ensures { IfOk result (λ set. (it : I.IntoIter) × I.into_iter_gives items it
+            × WholeRun I.IntoIter.next_gives it (λ run. set ≡ first_of_each T.eq run.items)) }
     {
         let mut set = HashSet::new(alloc);
         set.extend(items)?;
@@ -98,9 +100,9 @@ impl<T: Eq + Hash> HashSet<T> {
         T: Drop,
         requires { (it : I.IntoIter) → I.into_iter_gives items it
             → I.IntoIter.can_next it × IsFinite (I.IntoIter.remaining it) }
-        ensures extended { OnOk result ((it : I.IntoIter) × (gave : List T) × I.into_iter_gives items it
-            × Drains I.IntoIter.next_gives it gave × (self.new ≡ add_keys T.eq self.old gave)
-            × IsUnion T.eq self.old gave self.new) }
+        ensures extended { OnOk result ((it : I.IntoIter) × I.into_iter_gives items it
+            × WholeRun I.IntoIter.next_gives it (λ run. (self.new ≡ add_keys T.eq self.old run.items)
+            × IsUnion T.eq self.old run.items self.new)) }
         ensures kept { (value : T) → is_member T.eq self.old value ≡ true → is_member T.eq self.new value ≡ true }
     {
         for item in items {
@@ -146,5 +148,48 @@ impl<T: Eq + Hash> HashSet<T> {
     {
         laws::equality::<T, ()>();
         self.map.same_pairs(&other.map)
+    }
+}
+
+impl<T: Eq + Hash + Drop> IntoIterator for HashSet<T> {
+    type Item = T;
+
+    type IntoIter = IntoIter<T>;
+
+    ghost into_iter_gives = { λ set it. (it ≡ set) × (length set < 2 ^ 63) × GivesInOrder T };
+
+    fn into_iter(self) -> IntoIter<T> {
+        let HashSet { map } = self;
+        IntoIter {
+            pairs: map.into_iter(),
+        }
+    }
+}
+
+/// The values of a set, by value, in order.
+#[derive(Drop)]
+pub struct IntoIter<T> {
+    pairs: halfbrown::IntoIter<T, ()>,
+}
+
+impl<T> Model for IntoIter<T> {
+    ghost use Rattle.std.specs.Prelude.{List};
+    ghost use Rattle.std.specs.Map.{keys_of};
+
+    ghost Value = { List T };
+
+    ghost view = { λ it. keys_of it.pairs };
+}
+
+impl<T: Drop> Iterator for IntoIter<T> {
+    type Item = T;
+
+    ghost next_gives = { TakesFirst (λ value. value) };
+
+    ghost remaining = { λ values. at_most (length values) };
+
+    fn next(&mut self) -> Option<T> {
+        let (value, ()) = self.pairs.next()?;
+        Some(value)
     }
 }
