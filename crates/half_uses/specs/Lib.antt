@@ -1,4 +1,3 @@
 pub mod Interner
-pub mod Labels
 pub mod Scopes
 pub mod Words

@@ -1,10 +1,9 @@
 //! How often each word of a text comes.
-ghost use Rattle.std.specs.Prelude.{◌≡◌, ◌+◌, ◌^◌, ◌<◌, List, ℕ, IfOk, OnOk, string_bytes, unwrap_or};
+ghost use Rattle.std.specs.Prelude.{◌≡◌, List, ℕ, IfOk, string_bytes};
 ghost use Rattle.std.specs.Borrow.{Bor};
-ghost use Rattle.std.specs.List.{IsDistinct, flat_map};
-ghost use Rattle.std.specs.Map.{keys_of};
-ghost use Rattle.halfbrown.specs.Pairs.{value_of, put};
-ghost use Rattle.half_uses.specs.Words.{AreWordsOf, counted, line_of, same_word};
+ghost use Rattle.std.specs.List.{flat_map};
+ghost use Rattle.halfbrown.specs.Gathering.{CountsEach};
+ghost use Rattle.half_uses.specs.Words.{AreWordsOf, line_of, same_word};
 
 use halfbrown::{HashMap, Refusal};
 use std::alloc::{AllocError, Global};
@@ -22,25 +21,13 @@ pub type Counts<'a> = HashMap<&'a str, u64>;
 pub fn count_words<'a>(alloc: Global, text: &'a str) -> Result<Counts<'a>, Refusal>
     ensures { IfOk result (λ counts. (words : List (Bor (List ℕ)))
         × AreWordsOf text.now words
-        × (counts.pairs ≡ counted same_word words)) }
+        × CountsEach same_word words counts.pairs) }
 {
     let mut counts = Counts::new(alloc);
     for word in text.split_whitespace() {
-        add(&mut counts, word)?;
+        *counts.entry(word)?.or_insert(0) += 1;
     }
     Ok(counts)
-}
-
-// Counts a word once more.
-fn add<'a>(counts: &mut Counts<'a>, word: &'a str) -> Result<(), Refusal>
-    requires { unwrap_or (value_of same_word counts.old.pairs word) 0 + 1 < 2 ^ 64 }
-    ensures once_more { OnOk result (counts.new.pairs
-        ≡ put same_word counts.old.pairs word.entry
-        (unwrap_or (value_of same_word counts.old.pairs word.entry) 0 + 1)) }
-    ensures distinct { OnOk result (IsDistinct same_word (keys_of counts.old.pairs)) }
-{
-    *counts.entry(word)?.or_insert(0) += 1;
-    Ok(())
 }
 
 /// A line for each word, in the order of the counts: the word, a space, and how often it comes.
