@@ -57,6 +57,7 @@ unproved_parts() {
     for program in word_count json_at; do
         part "$program" prints "$(built "$program")" "$program"
     done
+    part "documents" env JSON_AT="$(built json_at)" tests/documents.py
     part "tests of half_tests" try_tests half_tests
     part "tests of json_at" try_tests json_at
     part "examples" tests/examples.py

@@ -8,7 +8,7 @@ import sys
 
 TOP = pathlib.Path(__file__).resolve().parent.parent
 PAGE = (TOP / "docs/USING.md").read_text()
-CALLERS = ("half_tests/src/*callers.rt", "half_uses/src/*.rt", "half_tests/proofs/*/*/*.antt")
+CALLERS = ("half_tests/src/*callers.rt", "half_uses/src/*.rt", "json_at/src/*.rt", "half_tests/proofs/*/*/*.antt")
 IMPORT = re.compile(r"^ *(?:ghost )?use (Rattle[\w.]*)\.\{(.*)\};?\n", re.M)
 LEMMAS = re.compile(r"^    ([A-Z]\w+)\n((?:      .*\n)+)", re.M)
 

@@ -19,3 +19,6 @@ pub mod TableLayout
 pub mod TableSearch
 pub mod Words
 pub mod Work
+pub mod formers
+-- What the files in `formers` have in common, those of the map too.
+pub use Rattle.std_collections.specs.Layout.Former

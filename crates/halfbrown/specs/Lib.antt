@@ -29,6 +29,7 @@ pub mod RunCost
 pub mod State
 pub mod Step
 pub mod Updates
+pub mod formers
 -- What callers need of the store's words, so that they list this crate alone.
 pub use Rattle.half_store.specs.Capacity
 pub use Rattle.half_store.specs.Hash

@@ -1,7 +1,7 @@
 -- What the errors of the JSON reader become.
 use Rattle.std.specs.Prelude.{◌≡◌}
-use Rattle.json_at.specs.declared.document.error.Error.{Error}
-use Rattle.json_at.specs.declared.document.error.Error.TheVariants as here
+use Rattle.json_at.specs.declared.value.error.Error.{Error}
+use Rattle.json_at.specs.declared.value.error.Error.TheVariants as here
 use Rattle.json.specs.declared.error.Error.{Error as JsonError}
 use Rattle.json.specs.declared.error.Error.TheVariants.{Invalid, OutOfMemory, TooLong, DuplicateKey}
 

@@ -1,2 +1,3 @@
 pub mod Error
-pub mod Names
+pub mod Json
+pub mod Members

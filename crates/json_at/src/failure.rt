@@ -1,5 +1,5 @@
 //! Why nothing is printed.
-use crate::document::Error;
+use crate::value::Error;
 use std::{fmt, io};
 
 /// Why no value was printed.
@@ -10,7 +10,7 @@ pub(crate) enum Failure {
     /// The path leads to no value.
     NotThere,
     /// The input is no JSON, or there is no memory for it.
-    Document(Error),
+    Value(Error),
     /// The input could not be read, or the output not written.
     Io(io::Error),
 }
@@ -20,7 +20,7 @@ impl fmt::Display for Failure {
         match self {
             Failure::NotText => write!(f, "the input is no UTF-8 text"),
             Failure::NotThere => write!(f, "the path leads to no value"),
-            Failure::Document(error) => write!(f, "{error}"),
+            Failure::Value(error) => write!(f, "{error}"),
             Failure::Io(error) => write!(f, "{error}"),
         }
     }
@@ -28,7 +28,7 @@ impl fmt::Display for Failure {
 
 impl From<Error> for Failure {
     fn from(error: Error) -> Failure {
-        Failure::Document(error)
+        Failure::Value(error)
     }
 }
 

@@ -2,11 +2,11 @@
 //! whole document. Members stay in their order, and of those of one name the last value wins, at the place of the first.
 #![tactic(auto)]
 
-mod document;
 mod failure;
+mod value;
 
-use crate::document::{Document, Scratch};
 use crate::failure::Failure;
+use crate::value::Value;
 use std::alloc::Global;
 use std::io::Read;
 use std::process::ExitCode;
@@ -41,8 +41,7 @@ fn print_value(rt: &(impl Input + Print + AllocGlobal + Env)) -> Result<(), Fail
 
 // The text of the value that a path leads to.
 fn value_at(alloc: Global, text: &str, path: &str) -> Result<String, Failure> {
-    let mut scratch = Scratch::new(alloc);
-    let document = Document::parse(alloc, text, &mut scratch)?;
-    let place = document.find(path).ok_or(Failure::NotThere)?;
-    Ok(document.text_at(alloc, place)?)
+    let document = Value::parse(alloc, text)?;
+    let found = document.pointer(path).ok_or(Failure::NotThere)?;
+    Ok(found.to_string(alloc)?)
 }

@@ -1,15 +1,17 @@
-//! Why a document was not read, or not written.
+//! Why a value was not read, not changed, or not written.
 ghost use Rattle.std.specs.Prelude.{◌≡◌};
 
 use halfbrown::Refused;
 use std::alloc::{AllocError, AllocFailed};
 use std::fmt;
 
-/// Why a document was not read, or not written.
+/// Why a value was not read, not changed, or not written.
 #[derive(Clone, Copy, Debug, Drop, PartialEq, Eq)]
 pub enum Error {
-    /// The text is no JSON, or nests too deep.
+    /// The text is no JSON, or the value has none: a number is not written as one, or it nests too deep.
     Invalid,
+    /// A member was given to a value that is no object.
+    NoObject,
     /// There is no memory.
     Memory,
 }
@@ -18,6 +20,7 @@ impl fmt::Display for Error {
     fn fmt<W: fmt::Write>(&self, f: &mut fmt::Formatter<W>) -> fmt::Result {
         match self {
             Error::Invalid => write!(f, "this is no JSON"),
+            Error::NoObject => write!(f, "this is no object"),
             Error::Memory => write!(f, "memory could not be allocated"),
         }
     }
@@ -39,7 +42,7 @@ impl From<json::Error> for Error {
 }
 
 impl From<AllocError> for Error {
-    ghost use Rattle.json_at.specs.declared.document.error.Error.TheVariants.{Memory};
+    ghost use Rattle.json_at.specs.declared.value.error.Error.TheVariants.{Memory};
 
     ghost from_gives = { λ _ error. error ≡ Memory };
 
@@ -49,7 +52,7 @@ impl From<AllocError> for Error {
 }
 
 impl<T: Drop> From<AllocFailed<T>> for Error {
-    ghost use Rattle.json_at.specs.declared.document.error.Error.TheVariants.{Memory};
+    ghost use Rattle.json_at.specs.declared.value.error.Error.TheVariants.{Memory};
 
     ghost from_gives = { λ _ error. error ≡ Memory };
 
@@ -60,7 +63,7 @@ impl<T: Drop> From<AllocFailed<T>> for Error {
 
 // A map refuses what is too large as it does what there is no memory for.
 impl<K: Drop, V: Drop> From<Refused<K, V>> for Error {
-    ghost use Rattle.json_at.specs.declared.document.error.Error.TheVariants.{Memory};
+    ghost use Rattle.json_at.specs.declared.value.error.Error.TheVariants.{Memory};
 
     ghost from_gives = { λ _ error. error ≡ Memory };
 

@@ -1,24 +1,14 @@
-//! Documents, in use: what their texts are, which no clause says.
-use super::{Document, Error, Scratch};
+//! Values, in use: what no clause says.
+use super::{Error, Value};
 use std::alloc::Global;
 
 // The text of the value that a path leads to.
 fn text_at(alloc: Global, text: &str, path: &str) -> Result<Option<String>, Error> {
-    let mut scratch = Scratch::new(alloc);
-    let document = Document::parse(alloc, text, &mut scratch)?;
-    match document.find(path) {
-        Some(place) => Ok(Some(document.text_at(alloc, place)?)),
+    let document = Value::parse(alloc, text)?;
+    match document.pointer(path) {
+        Some(value) => Ok(Some(value.to_string(alloc)?)),
         None => Ok(None),
     }
-}
-
-// Whether two texts have the same value.
-fn same(alloc: Global, text: &str, other: &str) -> Result<bool, Error> {
-    let mut scratch = Scratch::new(alloc);
-    let mut there = Scratch::new(alloc);
-    let document = Document::parse(alloc, text, &mut scratch)?;
-    let other = Document::parse(alloc, other, &mut there)?;
-    Ok(document.is_same(&other))
 }
 
 #[test]
@@ -51,11 +41,24 @@ fn members_are_compared_in_any_order(rt: HostRuntime) -> Result<(), Error> {
         (r#"{"a": 1}"#, r#"{"a": 1, "b": 2}"#, false),
         ("[1, 2]", "[2, 1]", false),
     ] {
-        assert_eq!(rt;
-            same(rt.alloc(), text, other)?,
-            wanted,
-            "{text} and {other}"
-        );
+        let is_same = Value::parse(rt.alloc(), text)? == Value::parse(rt.alloc(), other)?;
+        assert_eq!(rt; is_same, wanted, "{text} and {other}");
     }
+    Ok(())
+}
+
+#[test]
+fn members_are_changed_and_merged(rt: HostRuntime) -> Result<(), Error> {
+    let alloc = rt.alloc();
+    let mut value = Value::parse(alloc, r#"{"a": 1, "b": {"c": 2}}"#)?;
+    if let Some(b) = value.get_mut("b") {
+        let before = b.set(String::from_str(alloc, "c")?, Value::Bool(true))?;
+        assert_eq!(rt; before, Some(Value::parse(alloc, "2")?));
+    }
+    value.merge(Value::parse(alloc, r#"{"d": [], "a": null}"#)?)?;
+    let text = value.to_string(alloc)?;
+    assert_eq!(rt; text.as_str(), r#"{"a":null,"b":{"c":true},"d":[]}"#);
+    let refused = value.merge(Value::Null).err();
+    assert_eq!(rt; refused, Some(Error::NoObject));
     Ok(())
 }

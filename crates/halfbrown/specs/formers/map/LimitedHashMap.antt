@@ -1,0 +1,159 @@
+-- `LimitedHashMap` as a type that may contain the type that contains it, by its values.
+use Rattle.std.specs.Prelude.{◌≡◌, ◌≤◌, ℕ, Bool, true, ◌&&◌, List, [], ◌∷◌, length, map, Option, None, Some}
+use Rattle.std.specs.declared.cmp.PartialEq as eq
+use Rattle.std.specs.declared.hash.Hash as hash
+use Rattle.std.specs.declared.hash.Hasher as hasher
+use Rattle.std.specs.declared.hash.BuildHasher as builder
+use Rattle.std.specs.List.{IsDistinct, IsDistinct-prop, list_all}
+use Rattle.std.specs.Map.{keys_of, values_of}
+use Rattle.std.specs.Option.{option_eq, option_map}
+use Rattle.std.proofs.lemmas.Map.Made.{lookup-map_values}
+use Rattle.half_store.specs.Former.{entry, on_value, entries_puts, entries_recoded, keys_on_values, values_listed}
+use mathlib.Core.Former.{Former, children, const, list, pair, this, via}
+use mathlib.Core.Path.{refl, sym, ap, subst, ◌∙◌}
+use native.Mathlib.Nat.{ℕ_set}
+use native.Mathlib.Bridge.{le_prop}
+use lib.ListN.{length-map}
+use base.Stored.{gcons, coded×, coded_ℕ, coded_bool, coded_list, Coded-set}
+use denote.RattleType.{RattleType}
+use denote.Hole.Carrier.{listed}
+use denote.Hole.Fix.{over}
+use denote.HoleLaws.{Alike}
+use denote.HolePlaces.{Recodes, struct_places, laid}
+use denote.Model.Placed.{view_places}
+use denote.Param.Weighed.{Weighed, most}
+use Rattle.half_store.specs.Store.{StoreState, allowed}
+use Rattle.half_store.specs.Table.{Contents, contents_code, no_contents}
+use Rattle.half_store.specs.formers.store.Store as store
+use Rattle.halfbrown.specs.Costs.{key_hash}
+use Rattle.halfbrown.specs.Equality.{same_pairs, same_value}
+use Rattle.halfbrown.specs.Layout.{IsKept}
+use Rattle.halfbrown.specs.State.{State, state, contents_of}
+use Rattle.halfbrown.specs.declared.limit.Limit as limits
+use Rattle.halfbrown.specs.declared.map.LimitedHashMap.TheInside.{Inside}
+use Rattle.halfbrown.specs.declared.map.LimitedHashMap.TheView.{view, invariant}
+use Rattle.halfbrown.specs.contracts.map.LimitedHashMap as C
+use Rattle.halfbrown.specs.contracts.map.LimitedHashMap.TheInside as I
+
+abbrev pub the_former : Former {0} → Type 0 → Type 0 → Type 0 → Type 0 → Former {0}
+the_former g K S L T = via (pair (const Bool) (pair (list (entry g K)) (const (ℕ × (ℕ × (S × Contents)))))) (λ X. State K (g.Of X) S)
+    (λ X m. (m.is_vec, (m.pairs, (m.capacity, (m.columns, (m.builder, contents_of m))))))
+    (λ X v. state v.0 v.1.0 v.1.1.0 v.1.1.1.0 v.1.1.1.1.0 v.1.1.1.1.1) (λ X m. refl) (λ X v. refl)
+
+abbrev pub the_weighed : {g : Former {0}} → Weighed g → (K S L T : Type 0) → Weighed (the_former g K S L T)
+the_weighed w K S L T =
+    record { weight = λ X μ m. most (w.weight X μ) (values_of m.pairs); puts = λ X μ m. entries_puts w K X μ m.pairs }
+
+pub the_empty : (K S L T : Type 0) → K → S → L → T → State K ⊥ S
+the_empty K S L T k s l t = state true [] 0 0 s no_contents
+
+abbrev pub the_items : (K S L T X : Type 0) → State K X S → List X
+the_items K S L T X m = values_of m.pairs
+
+pub the_items_listed : (K S L T X : Type 0) (m : State K X S) → listed _ (children (the_former this K S L T) X m) ≡ the_items K S L T X m
+the_items_listed K S L T X m = values_listed K X m.pairs
+
+abbrev fields : Type 0 → Type 0 → Type 0 → Type 0 → Former {0}
+fields K S L T = via (pair (store.the_former this K) (const S)) (λ X. Inside K X S L T) (λ X u. (u.store, u.builder))
+    (λ X v. record { store = v.0; builder = v.1; limit = record {} }) (λ X u. refl) (λ X v. refl)
+
+module _ {K X : Type 0} (same : K → K → Bool) (hashed : K → ℕ) (limit : ℕ) (s : StoreState K X) where
+  abbrev Kept : Type 0
+  Kept = IsKept same hashed limit s
+
+  Kept-prop : IsProp Kept
+  Kept-prop p q = λ i. record {
+    distinct = IsDistinct-prop same (keys_of s.pairs) p.distinct q.distinct i;
+    fits = le_prop p.fits q.fits i;
+    hashed = λ e. Coded-set (coded_list coded_ℕ) _ _ (p.hashed e) (q.hashed e) i;
+    series = λ e. ℕ_set _ _ (p.series e) (q.series e) i;
+    exceeds = λ e. le_prop (p.exceeds e) (q.exceeds e) i;
+  }
+
+  module _ {Y : Type 0} (h : X → Y) where
+    abbrev KeptMapped : Type 0
+    KeptMapped = IsKept same hashed limit ((store.the_former this K).map X Y h s)
+
+    abbrev Fits : ℕ → Type 0
+    Fits n = n ≤ allowed limit s.is_vec s.capacity
+
+    goes : Kept → KeptMapped
+    goes p = record {
+      distinct = subst (IsDistinct same) (sym (keys_on_values h s.pairs)) p.distinct;
+      fits = subst Fits (sym (length-map s.pairs (on_value h))) p.fits;
+      hashed = λ e. p.hashed e ∙ ap (map hashed) (sym (keys_on_values h s.pairs));
+      series = p.series;
+      exceeds = p.exceeds;
+    }
+
+    comes : KeptMapped → Kept
+    comes p = record {
+      distinct = subst (IsDistinct same) (keys_on_values h s.pairs) p.distinct;
+      fits = subst Fits (length-map s.pairs (on_value h)) p.fits;
+      hashed = λ e. p.hashed e ∙ ap (map hashed) (keys_on_values h s.pairs);
+      series = p.series;
+      exceeds = p.exceeds;
+    }
+
+module _ (K S L T : RattleType) (G : eq.Ghosts K.Denot) (H : hash.Ghosts K.Denot) (B : builder.Ghosts S.Denot T.Denot)
+    (W : hasher.Ghosts T.Denot) (Z : limits.Ghosts L.Denot) (R R' : RattleType) (h : R.Denot → R'.Denot) where
+  abbrev hash_by : S.Denot → K.Denot → ℕ
+  hash_by = key_hash B W H.hash_input
+
+  abbrev former : Former {0}
+  former = the_former this K.Denot S.Denot L.Denot T.Denot
+
+  pub the_places : Alike R R' h → Alike (C.the_row K R S L T G H B W Z) (C.the_row K R' S L T G H B W Z) (former.map R.Denot R'.Denot h)
+  the_places a = view_places (fields K.Denot S.Denot L.Denot T.Denot) former (λ X. view K.Denot X S.Denot L.Denot T.Denot G H B W Z)
+      (λ X Y k u. refl) (λ X u. refl)
+      R.Denot R'.Denot h (C.the_row K R S L T G H B W Z).coded (C.the_row K R' S L T G H B W Z).coded
+      (invariant K.Denot R.Denot S.Denot L.Denot T.Denot G H B W Z) (invariant K.Denot R'.Denot S.Denot L.Denot T.Denot G H B W Z)
+      (λ u. Kept-prop G.eq (hash_by u.builder) Z.LIMIT u.store) (λ u. Kept-prop G.eq (hash_by u.builder) Z.LIMIT u.store)
+      (λ u. goes G.eq (hash_by u.builder) Z.LIMIT u.store h) (λ u. comes G.eq (hash_by u.builder) Z.LIMIT u.store h)
+      (over (I.the_row K R S L T G H B W Z)) (over (I.the_row K R' S L T G H B W Z))
+      (struct_places (I.the_type K R S L T G H B W Z) (I.the_type K R' S L T G H B W Z)
+      ((store.the_former this K.Denot).map R.Denot R'.Denot h, (λ s. s, (λ l. l, tt))) _ (λ d. refl) refl
+      (laid _ _ _ (store.the_places K R R' h a), ((refl, (λ n. refl, λ n. refl)), ((refl, (λ n. refl, λ n. refl)), tt))))
+
+  pub the_codes_placed : Recodes R R' h
+      → Recodes (C.the_row K R S L T G H B W Z) (C.the_row K R' S L T G H B W Z) (former.map R.Denot R'.Denot h)
+  the_codes_placed e m =
+      let code = coded× coded_ℕ (coded× coded_ℕ (coded× S.coded contents_code)) in
+      let rest = code.code (m.capacity, (m.columns, (m.builder, contents_of m))) in
+      ap (λ x. gcons (coded_bool.code m.is_vec) (gcons x rest)) (entries_recoded K R R' h e m.pairs)
+
+module _ {K X Y : Type 0} (h : X → Y) (same : K → K → Bool) (value_eq : Y → Y → Bool) where
+  option_eq-map : (p q : Option X) → option_eq value_eq (option_map h p) (option_map h q) ≡ option_eq (λ a b. value_eq (h a) (h b)) p q
+  option_eq-map None None = refl
+  option_eq-map None (Some y) = refl
+  option_eq-map (Some x) None = refl
+  option_eq-map (Some x) (Some y) = refl
+
+  module _ (ps qs : List (K × X)) where
+    abbrev same_mapped : K → Bool
+    same_mapped = same_value same value_eq (map (on_value h) ps) (map (on_value h) qs)
+
+    abbrev same_unmapped : K → Bool
+    same_unmapped = same_value same (λ a b. value_eq (h a) (h b)) ps qs
+
+    all_same : (ks : List K) → list_all same_mapped ks ≡ list_all same_unmapped ks
+    all_same [] = refl
+    all_same (k ∷ ks) =
+        let here = (λ j. option_eq value_eq (lookup-map_values h (same k) ps j) (lookup-map_values h (same k) qs j)) ∙ option_eq-map _ _ in
+        λ i. here i && all_same ks i
+
+    keys_same : (rs : List (K × X)) → list_all same_mapped (keys_of (map (on_value h) rs)) ≡ list_all same_unmapped (keys_of rs)
+    keys_same rs = ap (list_all same_mapped) (keys_on_values h rs) ∙ all_same (keys_of rs)
+
+    pub same_pairs-map : same_pairs same value_eq (map (on_value h) ps) (map (on_value h) qs)
+        ≡ same_pairs same (λ a b. value_eq (h a) (h b)) ps qs
+    unfolding same_pairs
+    same_pairs-map = λ i. keys_same ps i && keys_same qs i
+
+pub ruleset naturals = (same_pairs-map, refl)
+
+pub the_eq_natural : (K S L T X Y : Type 0) (h : X → Y) (G : eq.Ghosts K) (H : hash.Ghosts K) (V : eq.Ghosts Y) (B : builder.Ghosts S T)
+    (W : hasher.Ghosts T) (Z : limits.Ghosts L) (m n : State K X S)
+    → same_pairs G.eq V.eq ((the_former this K S L T).map X Y h m).pairs ((the_former this K S L T).map X Y h n).pairs
+    ≡ same_pairs G.eq (λ a b. V.eq (h a) (h b)) m.pairs n.pairs
+the_eq_natural K S L T X Y h G H V B W Z m n = same_pairs-map h G.eq V.eq m.pairs n.pairs
