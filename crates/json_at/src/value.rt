@@ -93,23 +93,10 @@ impl Value {
     {
         match self {
             Value::Object(members) => match other {
-                Value::Object(others) => put_each(members, others),
+                Value::Object(others) => Ok(members.extend(others)?),
                 _ => Err(Error::NoObject),
             },
             _ => Err(Error::NoObject),
         }
     }
-}
-
-// Puts these members, in order.
-fn put_each(
-    members: &mut HashMap<String, Value>,
-    others: HashMap<String, Value>,
-) -> Result<(), Error>
-    ensures { OnOk result (members.new.pairs ≡ put_all string_eq members.old.pairs others.pairs) }
-{
-    for (name, value) in others {
-        members.insert(name, value)?;
-    }
-    Ok(())
 }

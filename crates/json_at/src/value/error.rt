@@ -1,7 +1,7 @@
 //! Why a value was not read, not changed, or not written.
 ghost use Rattle.std.specs.Prelude.{◌≡◌};
 
-use halfbrown::Refused;
+use halfbrown::{Refusal, Refused};
 use std::alloc::{AllocError, AllocFailed};
 use std::fmt;
 
@@ -62,6 +62,16 @@ impl<T: Drop> From<AllocFailed<T>> for Error {
 }
 
 // A map refuses what is too large as it does what there is no memory for.
+impl From<Refusal> for Error {
+    ghost use Rattle.json_at.specs.declared.value.error.Error.TheVariants.{Memory};
+
+    ghost from_gives = { λ _ error. error ≡ Memory };
+
+    fn from(_why: Refusal) -> Error {
+        Error::Memory
+    }
+}
+
 impl<K: Drop, V: Drop> From<Refused<K, V>> for Error {
     ghost use Rattle.json_at.specs.declared.value.error.Error.TheVariants.{Memory};
 
