@@ -29,7 +29,7 @@ pub fn main(rt: &HostRuntime) {{
 
 def copy_libraries(folder):
     """Copies the sources of the libraries, and names the crate that misuses them."""
-    (folder / "crates.txt").write_text("half_store:\nhalfbrown: half_store\nmisuse: halfbrown\n")
+    (folder / "crates.txt").write_text("half_store: std_collections\nhalfbrown: half_store\nmisuse: halfbrown\n")
     for name in ("half_store", "halfbrown"):
         for part in ("src", "specs"):
             shutil.copytree(TOP / "crates" / name / part, folder / "crates" / name / part)
