@@ -3,7 +3,7 @@
 ghost use Rattle.std.specs.Prelude.{◌≡◌, ◌+◌, ◌-◌, ◌^◌, ℕ, Some, true, false, not, min, nat_eq, OnOk, OnErr, IfOk, unwrap_or};
 ghost use Rattle.halfbrown.specs.Pairs.{value_of, holds, put};
 
-use halfbrown::{DefaultHashBuilder, Entry, Limit, LimitedHashMap, Refusal, SizedHashMap};
+use halfbrown::{DefaultHashBuilder, Entry, HashMap, Limit, LimitedHashMap, Refusal, SizedHashMap};
 use std::hash::{BuildHasher, Hash};
 
 /// Counts a key once more, up to the greatest number.
@@ -61,5 +61,35 @@ pub fn meaning(
     match scope.entry(name)? {
         Entry::Occupied(entry) => Ok(*entry.into_mut()),
         Entry::Vacant(entry) => Ok(*entry.insert(fallback)),
+    }
+}
+
+/// Looks for a number, and leaves the map as it was.
+pub fn visit_number(ages: &mut HashMap<u64, u32>, id: u64) -> Result<(), Refusal>
+    ensures { OnOk result (ages.new.pairs ≡ ages.old.pairs) }
+{
+    let _entry = ages.entry(id)?;
+    Ok(())
+}
+
+/// The same of a name.
+pub fn visit_name(ages: &mut HashMap<String, u32>, name: String) -> Result<(), Refusal>
+    ensures { OnOk result (ages.new.pairs ≡ ages.old.pairs) }
+{
+    let _entry = ages.entry(name)?;
+    Ok(())
+}
+
+/// Whether a key is held, by its entry, which is not used.
+pub fn is_occupied<K: Eq + Hash + Drop, V, S: BuildHasher, L: Limit>(
+    map: &mut LimitedHashMap<K, V, S, L>,
+    key: K,
+) -> Result<bool, Refusal>
+    ensures is_held { IfOk result (λ is_held. is_held ≡ holds K.eq map.old.pairs key) }
+    ensures unchanged { OnOk result (map.new.pairs ≡ map.old.pairs) }
+{
+    match map.entry(key)? {
+        Entry::Occupied(_occupied) => Ok(true),
+        Entry::Vacant(_vacant) => Ok(false),
     }
 }
