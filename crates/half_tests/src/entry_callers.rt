@@ -5,8 +5,8 @@ ghost use Rattle.halfbrown.specs.Growth.{is_vec_after};
 ghost use Rattle.halfbrown.specs.Pairs.{value_of, holds, put};
 
 use halfbrown::{
-    DefaultHashBuilder, Entry, Limit, LimitedHashMap, OccupiedEntry, Refusal, SizedHashMap, UpTo,
-    VacantEntry,
+    DefaultHashBuilder, Entry, HashMap, Limit, LimitedHashMap, OccupiedEntry, Refusal,
+    SizedHashMap, UpTo, VacantEntry,
 };
 use std::hash::{BuildHasher, Hash};
 
@@ -73,5 +73,35 @@ pub fn meaning(
             let vacant: VacantEntry<'_, u64, u64, DefaultHashBuilder, UpTo<8>> = entry;
             Ok(*vacant.insert(fallback))
         }
+    }
+}
+
+/// Looks for a number, and leaves the map as it was.
+pub fn visit_number(ages: &mut HashMap<u64, u32>, id: u64) -> Result<(), Refusal>
+    ensures { OnOk result (ages.new.pairs ≡ ages.old.pairs) }
+{
+    let _entry = ages.entry(id)?;
+    Ok(())
+}
+
+/// The same of a name.
+pub fn visit_name(ages: &mut HashMap<String, u32>, name: String) -> Result<(), Refusal>
+    ensures { OnOk result (ages.new.pairs ≡ ages.old.pairs) }
+{
+    let _entry = ages.entry(name)?;
+    Ok(())
+}
+
+/// Whether a key is held, by its entry, which is not used.
+pub fn is_occupied<K: Eq + Hash + Drop, V, S: BuildHasher, L: Limit>(
+    map: &mut LimitedHashMap<K, V, S, L>,
+    key: K,
+) -> Result<bool, Refusal>
+    ensures is_held { IfOk result (λ is_held. is_held ≡ holds K.eq map.old.pairs key) }
+    ensures unchanged { OnOk result (map.new.pairs ≡ map.old.pairs) }
+{
+    match map.entry(key)? {
+        Entry::Occupied(_occupied) => Ok(true),
+        Entry::Vacant(_vacant) => Ok(false),
     }
 }

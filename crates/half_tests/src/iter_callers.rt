@@ -36,7 +36,7 @@ pub fn votes_for<K: Eq + Hash, S: BuildHasher, L: Limit>(
 ) -> usize
     ensures { result ≡ count_by (λ vote. vote == candidate) (values_of votes.now.pairs) }
 {
-    votes.iter().filter(|(_, vote)| **vote == candidate).count()
+    votes.values().filter(|vote| **vote == candidate).count()
 }
 
 /// The pairs, in their order.
@@ -58,13 +58,7 @@ pub fn cap_all<K: Eq + Hash, S: BuildHasher, L: Limit>(
     ensures keys { keys_of stock.new.pairs ≡ keys_of stock.old.pairs }
     ensures capacity { stock.new.capacity ≡ stock.old.capacity }
 {
-    cap(stock.values_slice_mut(), most);
-}
-
-fn cap(values: &mut [u64], most: u64)
-    ensures { values.new ≡ map (λ n. min n most) values.old }
-{
-    for value in values {
+    for value in stock.values_slice_mut() {
         *value = (*value).min(most);
     }
 }

@@ -4,6 +4,7 @@
 #[cfg(test)]
 mod caller_tests;
 pub mod callers;
+pub mod collection_callers;
 pub mod copy_callers;
 pub mod cost_callers;
 pub mod counting_callers;

@@ -1,11 +1,12 @@
 //! What callers say of texts: for every text, by its bytes, what a map of owned keys has.
-ghost use Rattle.std.specs.Prelude.{OnOk};
+ghost use Rattle.std.specs.Prelude.{◌≡◌, IfOk, IfSome, OnOk};
 ghost use Rattle.std.specs.Str.{bytes_eq};
 ghost use Rattle.std.specs.String.{string_bytes};
 ghost use Rattle.halfbrown.specs.Gathering.{keyed_by};
 ghost use Rattle.halfbrown.specs.Updates.{HasPut, HasRemoved};
 
-use halfbrown::{HashMap, Refusal};
+use halfbrown::{Entry, HashMap, Refusal};
+use std::alloc::{AllocError, Global};
 
 /// Stores an age under a name. What each text has is said of all texts, also of those that are no key.
 pub fn store_named(ages: &mut HashMap<String, u32>, name: String, age: u32) -> Result<(), Refusal>
@@ -24,4 +25,27 @@ pub fn forget_named(ages: &mut HashMap<String, u32>, name: &str) -> usize
     let before = ages.len();
     ages.remove(name);
     before - ages.len()
+}
+
+/// Hands a name back that is not held, by its entry, which is not used.
+pub fn free_name<'a>(
+    ages: &mut HashMap<&'a str, u32>,
+    name: &'a str,
+) -> Result<Option<&'a str>, Refusal>
+    ensures { IfOk result (λ free. IfSome free (λ key. key ≡ name.entry)) }
+{
+    match ages.entry(name)? {
+        Entry::Occupied(_occupied) => Ok(None),
+        Entry::Vacant(vacant) => Ok(Some(vacant.into_key())),
+    }
+}
+
+/// All pairs, in a list.
+pub fn drained<'a>(
+    alloc: Global,
+    ages: &mut HashMap<&'a str, u32>,
+) -> Result<Vec<(&'a str, u32)>, AllocError>
+    ensures all { IfOk result (λ pairs. pairs.items ≡ ages.old.pairs) }
+{
+    ages.drain().collect(alloc)
 }

@@ -1,8 +1,8 @@
 //! The libraries of `half_uses`, in use: each public call once.
 
 use half_uses::cache::Cache;
+use half_uses::hash_set::HashSet;
 use half_uses::interner::Interner;
-use half_uses::labels::Labels;
 use half_uses::object::Object;
 use half_uses::scopes::Scopes;
 use half_uses::words::{count_words, report};
@@ -47,24 +47,27 @@ fn an_interner_numbers_texts(rt: HostRuntime) -> Result<(), Fail> {
     assert_same(names.len(), 2, "each once")
 }
 
-fn labels_of(alloc: Global, names: &[u64]) -> Result<Labels<u64>, Fail> {
-    let mut labels = Labels::new(alloc);
-    for name in names {
-        labels.add(*name)?;
-    }
-    Ok(labels)
-}
-
 #[test]
-fn labels_are_a_set(rt: HostRuntime) -> Result<(), Fail> {
-    let mut labels = labels_of(rt.alloc(), &[1, 2, 3])?;
-    let others = labels_of(rt.alloc(), &[3, 4, 1, 3])?;
-    assert_true(!labels.is_subset(&others), "2 is not there")?;
-    labels.add_all(&others)?;
-    assert_true(others.is_subset(&labels), "all of them are there")?;
-    assert_true(labels.has(&2) && labels.len() == 4, "1 to 4")?;
-    let same = labels_of(rt.alloc(), &[4, 3, 2, 1])?;
-    assert_true(labels.is_same(&same), "in any order")
+fn a_set_keeps_the_order_of_insertions(rt: HostRuntime) -> Result<(), Fail> {
+    let alloc = rt.alloc();
+    let mut set = HashSet::<u64>::from_iter(alloc, [1, 2, 1, 3])?;
+    let others = HashSet::<u64>::from_iter(alloc, [3, 4, 1, 3])?;
+    assert_true(!set.is_subset(&others), "2 is not there")?;
+    set.extend(others.iter().copied())?;
+    assert_true(others.is_subset(&set), "all of them are there")?;
+    assert_true(set.contains(&2) && set.len() == 4, "1 to 4")?;
+    let same = HashSet::<u64>::from_iter(alloc, [4, 3, 2, 1])?;
+    assert_true(set.is_same(&same), "in any order")?;
+    assert_true(set.remove(&2) && !set.remove(&2), "it was there once")?;
+    assert_true(set.insert(5)? && !set.insert(5)?, "new once")?;
+    assert_true(!set.is_empty(), "four are left")?;
+    let mut values = set.into_iter();
+    let order = [values.next(), values.next(), values.next(), values.next()];
+    assert_same(
+        order,
+        [Some(1), Some(4), Some(3), Some(5)],
+        "the last took the place of 2",
+    )
 }
 
 // {"id": 7, "size": 2, "id": 8}

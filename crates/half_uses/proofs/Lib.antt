@@ -1,4 +1,3 @@
-pub mod Chains
 pub mod Interning
 pub mod Sets
 pub mod TextWords

@@ -1,11 +1,11 @@
 use Rattle.std.proofs.Common.{ℕ, ◌++◌, map, take, drop, min, set, get_or, sym, ap, ◌∙◌, add-one, arith}
 use Rattle.half_tests.proofs.Prefixes.{next_of_prefix, longer_prefix}
-use Rattle.half_tests.proofs.iter_callers.cap.Goals as goal
+use Rattle.half_tests.proofs.iter_callers.cap_all.Goals as goal
 
 pub loop-value-preserved : goal.loop-value-preserved
-loop-value-preserved c =
+loop-value-preserved g c =
     let capped : ℕ → ℕ = λ n. min n c.args.most in
-    let xs = c.args.values.now in
+    let xs = c.values_slice_mut-value-items.result.now in
     let i = c.loop-value.value-index in
     (λ j. set (c.loop-value.invariant j) i (c.min.ensures j))
     ∙ ap (λ n. set (map capped (take i xs) ++ drop i xs) i (min n c.args.most))
