@@ -1,7 +1,7 @@
 """A script on the model, line by line: what each line is answered, and what it meets."""
 
 from model.basics import BadLine, Pair, Refused, Work
-from model.coverage import MET, SIZE, met_by, refused_by
+from model.coverage import MET, met_by, refused_by
 from model.lines import CALLS, CALLS_ON_A, WITH_TEXT, keys_in, read_call, read_first
 from model.map import Map
 
@@ -35,10 +35,10 @@ class Session:
         kind, limit, rule, capacity = read_first(line)
         try:
             self.a, self.b, self.is_owning = Map(limit, rule, capacity), Map(limit, rule), kind == "owning"
-            answer = f"made | 0 0 | {self.a} | dropped 0 0"
+            met, answer = MET, f"made | 0 0 | {self.a} | dropped 0 0"
         except Refused as why:
-            answer = f"refused {why}"
-        self.met.append((f"{kind} {limit}", MET if self.a else SIZE))
+            met, answer = str(why), f"refused {why}"
+        self.met.append((f"{kind} {limit}", met))
         return answer
 
     def held(self):
