@@ -93,10 +93,21 @@ impl Value {
     {
         match self {
             Value::Object(members) => match other {
-                Value::Object(others) => Ok(members.extend(others)?),
+                Value::Object(others) => put_each(members, others),
                 _ => Err(Error::NoObject),
             },
             _ => Err(Error::NoObject),
         }
     }
+}
+
+// Puts these members, in order.
+fn put_each(
+    members: &mut HashMap<String, Value>,
+    others: HashMap<String, Value>,
+) -> Result<(), Error>
+    ensures { OnOk result (members.new.pairs ≡ put_all string_eq members.old.pairs others.pairs) }
+{
+    members.extend(others)?;
+    Ok(())
 }
