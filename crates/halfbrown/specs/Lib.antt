@@ -15,6 +15,7 @@ pub mod Lending
 pub mod Lookup
 pub mod Making
 pub mod Match
+pub mod Memory
 pub mod Pairs
 pub mod RawEntry
 pub mod RawEntryBuilder

@@ -4,8 +4,12 @@ use Rattle.std.proofs.Common.{None, Some, sym, ap, refl, subst, arith, if◌then
 use Rattle.std.specs.Prelude.{MatchBool}
 use Rattle.std.proofs.lemmas.Bool.{cases_lt}
 use Rattle.std.proofs.lemmas.Bool.Decides.{nat_tests}
-use Rattle.half_store.specs.Capacity.{IsBucketCount, capacity_of, more_buckets, buckets_for_more, buckets_for, capacity_for, grown_capacity}
+use Rattle.std.proofs.lemmas.Nat.{mul-le}
+use Rattle.half_store.specs.Capacity.{IsBucketCount, capacity_of, buckets_of, more_buckets, buckets_for_more, buckets_for, capacity_for}
+use Rattle.half_store.specs.Capacity.{grown_capacity}
+use Rattle.half_store.specs.Memory.{bytes}
 use Rattle.half_store.specs.Store.{allowed}
+use Rattle.half_store.specs.Words.{word_size}
 use Rattle.half_store.proofs.lemmas.capacity.{more_buckets-some, buckets_for-least}
 use Rattle.halfbrown.specs.Growth.{is_full, HasCapacityAfter, HasCapacityShrunk, HasColumnsAfter, HasColumnsShrunk}
 use Rattle.halfbrown.specs.Run.{Lead, commands_of}
@@ -13,7 +17,7 @@ use Rattle.halfbrown.specs.State.{State, IsState}
 use Rattle.halfbrown.specs.Step.{Step, IsStep}
 use Rattle.halfbrown.proofs.lemmas.map.Growth.{full_len}
 use Rattle.halfbrown.proofs.lemmas.run.Runs.{neither}
-use Rattle.half_laws.specs.RunLaws.{CapacityLaw, MemoryLaw, is_reserve, reserves}
+use Rattle.half_laws.specs.RunLaws.{CapacityLaw, MemoryLaw, BytesLaw, is_reserve, reserves, most_held}
 use Rattle.half_laws.proofs.lemmas.runs.Changes.{IsDue, Changes, step_changes}
 
 -- the next of the series is twice as large, or 3
@@ -42,6 +46,22 @@ first_of_both false b both = both
 most_least : {X : Type 0} (f : X → ℕ) (xs : List X) (n : ℕ) → n ≤ fold (λ most x. max most (f x)) n xs
 most_least f [] n = omega arith
 most_least f (x ∷ xs) n = omega (arith, most_least f xs (max n (f x)))
+
+word_size-le : (a b : ℕ) → a ≤ b → word_size a ≤ word_size b
+word_size-le a b l = grind (arith, nat_tests)
+
+-- with no more capacity, and no more memory of the columns, the arrays take no more bytes
+bytes-le : (key value : ℕ) (is_vec : Bool) (capacity columns most : ℕ) → capacity ≤ most → columns ≤ most
+    → bytes key value is_vec capacity columns ≤ bytes key value false most most
+bytes-le key value true capacity columns most few least =
+    omega (arith, mul-le key columns key most (omega arith) least, mul-le value columns value most (omega arith) least)
+bytes-le key value false capacity columns most few least =
+    omega (
+      arith,
+      mul-le key columns key most (omega arith) least,
+      mul-le value columns value most (omega arith) least,
+      mul-le (word_size capacity) (buckets_of capacity) (word_size most) (buckets_of most) (word_size-le capacity most few) (omega arith),
+    )
 
 module _ {K V S : Type 0} (limit : ℕ) (eq : K → K → Bool) where
   switch_due : (m : State K V S) → IsState eq limit m → (needs : Option ℕ) → IsDue m needs
@@ -148,3 +168,9 @@ module _ {K V S : Type 0} (limit : ℕ) (eq : K → K → Bool) where
 
   pub memory_law : MemoryLaw V S limit eq
   memory_law old new steps lead state none = steps_take old new steps (length old.pairs) lead state none (omega arith)
+
+  pub bytes_law : BytesLaw V S limit eq
+  bytes_law old new steps lead state none key value =
+      let most : ℕ = max (max old.columns old.capacity) (2 * most_held old steps + 8) in
+      bytes-le key value new.is_vec new.capacity new.columns most (omega (arith, capacity_law old new steps lead state none))
+      (omega (arith, memory_law old new steps lead state none))

@@ -128,7 +128,8 @@ loop-word-preserved g c =
             counted = counted;
             shifts = subst (λ ws. Shifts m hs ws start c.if-probe_distance-distance.gap next) (sym (ap g.B.Words.words w.buckets-is))
                 (subst (λ p. Shifts m hs words start p next) (sym w.gap-is) stayed);
-            ahead = λ v is. subst (λ ws. Ahead m hs ws start c.if-probe_distance-distance.gap next v) (sym (ap g.B.Words.words w.buckets-is))
+            ahead = λ v is.
+                subst (λ ws. Ahead m hs ws start c.if-probe_distance-distance.gap next v) (sym (ap g.B.Words.words w.buckets-is))
                 (subst (λ p. Ahead m hs words start p next v) (sym w.gap-is) (Ahead-stay i.shifts (i.ahead v is) next some e));
           }
     ]

@@ -55,7 +55,8 @@ returns-clause-cost g c =
     let reach_last : reach c.as_slice-2.result.now size (slice_index c.as_slice-2.result.now (c.len-last.result - 1))
     ≡ reach hs size (slice_index hs (length hs - 1)) =
     λ i. reach (all i) size (slice_index (all i) (last i)) in
-    let far = ap (λ n. probe_distance n bucket v.0) (ap length c.set_word.ensures.words ∙ length-set ws c.bucket_of-last_bucket.result (index + 1)) in
+    let same = ap length c.set_word.ensures.words ∙ length-set ws to_last (index + 1) in
+    let far = ap (λ n. probe_distance n bucket v.0) same in
     record {
       asked = shift.asked ∙ ap (λ (w : Work). w.asked) second ∙ ap (λ (w : Work). w.asked) first;
       compared = shift.compared ∙ ap (λ (w : Work). w.compared) second ∙ ap (λ (w : Work). w.compared) first;

@@ -1,0 +1,8 @@
+-- The memory of a map.
+use Rattle.std.specs.Prelude.{ℕ}
+use Rattle.half_store.specs.Memory as store
+use Rattle.halfbrown.specs.State.{State}
+
+-- the bytes of a map's arrays, where a key has so many, and a value so many
+abbrev pub bytes : {K V S : Type 0} → ℕ → ℕ → State K V S → ℕ
+bytes key value m = store.bytes key value m.is_vec m.capacity m.columns
