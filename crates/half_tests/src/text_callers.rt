@@ -1,8 +1,9 @@
 //! What callers say of texts: for every text, by its bytes, what a map of owned keys has.
-ghost use Rattle.std.specs.Prelude.{◌≡◌, IfOk, IfSome, OnOk};
+ghost use Rattle.std.specs.Prelude.{◌≡◌, IfOk, OnOk, Some, None, if◌then◌else◌};
 ghost use Rattle.std.specs.Str.{bytes_eq};
 ghost use Rattle.std.specs.String.{string_bytes};
 ghost use Rattle.halfbrown.specs.Gathering.{keyed_by};
+ghost use Rattle.halfbrown.specs.Pairs.{holds};
 ghost use Rattle.halfbrown.specs.Updates.{HasPut, HasRemoved};
 
 use halfbrown::{Entry, HashMap, Refusal};
@@ -27,12 +28,13 @@ pub fn forget_named(ages: &mut HashMap<String, u32>, name: &str) -> usize
     before - ages.len()
 }
 
-/// Hands a name back that is not held, by its entry, which is not used.
+/// The name, where it is not held: its entry, which is not used, hands it back.
 pub fn free_name<'a>(
     ages: &mut HashMap<&'a str, u32>,
     name: &'a str,
 ) -> Result<Option<&'a str>, Refusal>
-    ensures { IfOk result (λ free. IfSome free (λ key. key ≡ name.entry)) }
+    ensures { IfOk result (λ free. free
+        ≡ (if holds (λ one other. bytes_eq one.now other.now) ages.old.pairs name.entry then None else Some name.entry)) }
 {
     match ages.entry(name)? {
         Entry::Occupied(_occupied) => Ok(None),
