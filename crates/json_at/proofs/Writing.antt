@@ -1,5 +1,5 @@
 -- What is written of the items of a list and the members of an object, one after another.
-use Rattle.std.proofs.Common.{◌≡◌, ℕ, ◌<◌, ◌≤◌, List, [], ◌∷◌, ◌++◌, Some, map, Vec, option_and_then}
+use Rattle.std.proofs.Common.{◌≡◌, ℕ, zero, suc, ◌<◌, ◌≤◌, length, get_or, List, [], ◌∷◌, ◌++◌, Some, map, Vec, option_and_then}
 use Rattle.std.proofs.Common.{append-nil, refl, sym, ap, subst, ◌∙◌, arith, rules}
 use Rattle.std.proofs.lemmas.List.{append_assoc}
 use Rattle.std.specs.Borrow.{Bor}
@@ -18,6 +18,7 @@ use Rattle.json.specs.Print.{print}
 use Rattle.json.specs.Token.{Token, key}
 use Rattle.json.specs.Token as token
 use Rattle.json.specs.Tree.{json_tokens, items_tokens, members_tokens, depth, items_depth, members_depth}
+use Rattle.json.specs.Tree.{HasNumbers, ItemsHaveNumbers, MembersHaveNumbers}
 use Rattle.json.specs.Value.{items_of}
 use Rattle.json_at.proofs.Reading.{seen}
 use Rattle.json_at.specs.Json.{json_of, members_of}
@@ -102,3 +103,32 @@ module _ (m : Members) where
 
   pub object_nests : (inner d : ℕ) → members_depth (members_of (seen m.pairs)) ≤ inner → inner < d → depth (json_of (Object m)) ≤ d
   object_nests inner d e f = subst (λ j. depth j ≤ d) (sym json_of-Object) (omega arith)
+
+-- a value within one that can be written can be written, as deep as there is room
+pub list_writable : (vs : Vec Value Global) (v : Value) (d : ℕ) → v ≡ list_of vs → HasNumbers (json_of v) → depth (json_of v) ≤ d
+    → ItemsHaveNumbers (items_of (map json_of vs.items)) × (items_depth (items_of (map json_of vs.items)) < d)
+list_writable vs v d is numbers deep =
+    let seen_as = ap json_of is ∙ json_of-List vs in
+    let deeper : depth (array (items_of (map json_of vs.items))) ≤ d = subst (λ j. depth j ≤ d) seen_as deep in
+    (subst HasNumbers seen_as numbers, omega (arith, deeper))
+
+pub object_writable : (m : Members) (v : Value) (d : ℕ) → v ≡ Object m → HasNumbers (json_of v) → depth (json_of v) ≤ d
+    → MembersHaveNumbers (members_of (seen m.pairs)) × (members_depth (members_of (seen m.pairs)) < d)
+object_writable m v d is numbers deep =
+    let seen_as = ap json_of is ∙ json_of-Object m in
+    let deeper : depth (object (members_of (seen m.pairs))) ≤ d = subst (λ j. depth j ≤ d) seen_as deep in
+    (subst HasNumbers seen_as numbers, omega (arith, deeper))
+
+pub item_writable : (vs : List Value) (i : ℕ) (v : Value) (d : ℕ) → i < length vs → v ≡ get_or vs i v
+    → ItemsHaveNumbers (items_of (map json_of vs)) → items_depth (items_of (map json_of vs)) ≤ d
+    → HasNumbers (json_of v) × (depth (json_of v) ≤ d)
+item_writable [] i v d within is numbers deep = absurd (omega arith)
+item_writable (w ∷ vs) zero v d within is numbers deep =
+    subst (λ x. HasNumbers (json_of x) × (depth (json_of x) ≤ d)) (sym is) (numbers.0, omega arith)
+item_writable (w ∷ vs) (suc i) v d within is numbers deep = item_writable vs i v d (omega arith) is numbers.1 (omega arith)
+
+pub member_writable : (before after : List (String Global × Value)) (m : String Global × Value) (d : ℕ)
+    → MembersHaveNumbers (members_of (seen (before ++ m ∷ after))) → members_depth (members_of (seen (before ++ m ∷ after))) ≤ d
+    → HasNumbers (json_of m.1) × (depth (json_of m.1) ≤ d)
+member_writable [] after m d numbers deep = (numbers.0, omega arith)
+member_writable (n ∷ before) after m d numbers deep = member_writable before after m d numbers.1 (omega arith)

@@ -1,5 +1,5 @@
 //! JSON values whose objects are maps: looked into, changed, merged, and compared in any order of members.
-ghost use Rattle.std.specs.Prelude.{◌≡◌, IfOk, IfErr, OnOk, OnErr};
+ghost use Rattle.std.specs.Prelude.{◌≡◌, true, IfOk, IfErr, OnOk, OnErr};
 ghost use Rattle.std.specs.Option.{option_copied, option_copied_mut};
 ghost use Rattle.std.specs.String.{string_eq};
 ghost use Rattle.halfbrown.specs.Collection.{put_all};
@@ -34,7 +34,7 @@ pub enum Value {
 }
 
 impl Value {
-    ghost use Rattle.json_at.specs.Members.{member, members_of};
+    ghost use Rattle.json_at.specs.Members.{is_object, member, members_of};
 
     /// The member of this name.
     pub fn get(&self, name: &str) -> Option<&Value>
@@ -79,6 +79,7 @@ impl Value {
         ensures before { IfOk result (λ before. before ≡ value_of string_eq (members_of self.old) name) }
         ensures after { OnOk result (members_of self.new ≡ put string_eq (members_of self.old) name value) }
         ensures err { OnErr result (self.new ≡ self.old) }
+        ensures refused { is_object self.old ≡ true → IfErr result (λ error. error ≡ Error.Memory) }
     {
         match self {
             Value::Object(members) => Ok(members.insert(name, value)?),
@@ -89,7 +90,9 @@ impl Value {
     /// Puts the members of another object into this one. Of a name in both the other's value wins, at the place of this
     /// one's. On error the members before the refused one stay.
     pub fn merge(&mut self, other: Value) -> Result<(), Error>
-        ensures { OnOk result (members_of self.new ≡ put_all string_eq (members_of self.old) (members_of other)) }
+        ensures after { OnOk result (members_of self.new ≡ put_all string_eq (members_of self.old) (members_of other)) }
+        ensures refused { is_object self.old ≡ true → is_object other ≡ true
+            → IfErr result (λ error. error ≡ Error.Memory) }
     {
         match self {
             Value::Object(members) => match other {
@@ -106,7 +109,8 @@ fn put_each(
     members: &mut HashMap<String, Value>,
     others: HashMap<String, Value>,
 ) -> Result<(), Error>
-    ensures { OnOk result (members.new.pairs ≡ put_all string_eq members.old.pairs others.pairs) }
+    ensures after { OnOk result (members.new.pairs ≡ put_all string_eq members.old.pairs others.pairs) }
+    ensures refused { IfErr result (λ error. error ≡ Error.Memory) }
 {
     members.extend(others)?;
     Ok(())

@@ -5,11 +5,12 @@ use Rattle.std.specs.Map.Iter.{deref_pair}
 use Rattle.std.specs.String.{string_bytes}
 use Rattle.halfbrown.specs.Iter.{pairs_left}
 use Rattle.json.specs.Token as token
-use Rattle.json.specs.Tree.{items_depth, members_depth}
+use Rattle.json.specs.Tree.{items_depth, members_depth, ItemsHaveNumbers, MembersHaveNumbers}
 use Rattle.json.specs.Value.{items_of}
 use Rattle.json_at.proofs.Reading.{seen}
 use Rattle.json_at.proofs.Writing.{member_tokens, shown, value_tokens, items_nest, members_nest}
 use Rattle.json_at.proofs.Writing.{list_tokens, list_nests, object_tokens, object_nests}
+use Rattle.json_at.proofs.Writing.{list_writable, item_writable, object_writable, member_writable}
 use Rattle.json_at.proofs.value.Value.+write.Goals as goal
 use Rattle.json_at.specs.Json.{json_of, members_of}
 
@@ -100,4 +101,36 @@ returns-in_ok-end_object-in-Object-clause-nests t c =
     sym (append-nil (shown l.yielded)) ∙ ap (λ ms. shown l.yielded ++ ms) (sym c.in-None.ensures.steps.0) ∙ l.invariant.5 ∙ given in
     let nested = subst (λ ms. members_depth (members_of (seen ms)) ≤ inner) all l.invariant.4 in
     let deep = object_nests m inner c.args.depth nested (search rules) in
+    search rules
+
+pub returns-in_err-write-in-List-clause-refused : goal.returns-in_err-write-in-List-clause-refused
+returns-in_err-write-in-List-clause-refused t c numbers deep =
+    let xs = c.deref-item-items.result.now in
+    let same = sym c.deref-item-items.ensures.value in
+    let inner = c.in_ok-inner-in-List.inner in
+    let step : c.args.depth ≡ inner + 1 = search rules in
+    let whole = list_writable c.in-List.items c.args.self.now c.args.depth c.in-List.is numbers deep in
+    let numbered = subst (λ ys. ItemsHaveNumbers (items_of (map json_of ys))) same whole.0 in
+    let room = subst (λ ys. items_depth (items_of (map json_of ys)) ≤ inner) same (omega (arith, whole.1, step)) in
+    let its = item_writable xs c.loop-item.item-index c.item-item.result inner (omega arith) c.item-item.is numbered room in
+    let failed = c.in_err-write-in-List.ensures.refused its.0 its.1 in
+    search rules
+
+pub returns-in_err-write-in-Object-clause-refused : goal.returns-in_err-write-in-Object-clause-refused
+returns-in_err-write-in-Object-clause-refused t c numbers deep =
+    let l = c.loop-name in
+    let m = c.in-Object.members in
+    let name = c.in-Some.name.now in
+    let v = c.in-Some.member.now in
+    let left = pairs_left c.next.new.self in
+    let inner = c.in_ok-inner-in-Object.inner in
+    let step : c.args.depth ≡ inner + 1 = search rules in
+    let given : pairs_left c.into_iter-name-iterator.result ≡ m.pairs = search rules in
+    let all : shown l.yielded ++ (name, v) ∷ left ≡ m.pairs =
+    ap (λ ms. shown l.yielded ++ ms) (sym c.in-Some.ensures.steps) ∙ l.invariant.5 ∙ given in
+    let whole = object_writable m c.args.self.now c.args.depth c.in-Object.is numbers deep in
+    let numbered = subst (λ ms. MembersHaveNumbers (members_of (seen ms))) (sym all) whole.0 in
+    let room = subst (λ ms. members_depth (members_of (seen ms)) ≤ inner) (sym all) (omega (arith, whole.1, step)) in
+    let its = member_writable (shown l.yielded) left (name, v) inner numbered room in
+    let failed = c.in_err-write-in-Object.ensures.refused its.0 its.1 in
     search rules
