@@ -7,4 +7,10 @@ use Rattle.half_uses.proofs.hash_set.HashSetIntoIterator.into_iter.Goals as goal
 pub returns : goal.returns
 returns g c =
     let given = c.into_iter.ensures.into_iter_gives in
-    record { into_iter_gives = (ap keys_of given.0 ∙ c.self.view_is, rw (← c.self.view_is) (grind (arith, common_steps, given.1)), gives_in_order) }
+    record {
+      into_iter_gives = (
+        ap keys_of given.0 ∙ c.self.view_is,
+        rw (← c.self.view_is) (grind (arith, common_steps, given.1)),
+        gives_in_order,
+      );
+    }
