@@ -1,4 +1,4 @@
-//! A set whose values keep the order in which they were inserted.
+//! A set, whose values keep the order in which they were inserted until one is removed.
 ghost use Rattle.std.specs.Prelude.{◌≡◌, ◌↔◌, ◌^◌, ◌<◌, List, [], false, true, not, length, All, IsTrue, IfOk, OnOk, OnErr};
 ghost use Rattle.std.specs.Iterator.{at_most, IsFinite};
 ghost use Rattle.std.specs.Iterator.Runs.{WholeRun};
