@@ -45,7 +45,7 @@ CALLERS = {
     r"\bbuckets\.read\(": {"half_store/src/table/probe": 2},
     r"\.word_at\(": {"half_store/src/buckets": 1, "half_store/src/table/deletion": 3, "half_store/src/words": 2},
     # Elsewhere nothing can name the words: their field is private.
-    r"\bself\.words\b": {"half_store/src/words": 12},
+    r"\b(?:self|other)\.words\b": {"half_store/src/words": 12},
     r"\.hashed_buckets\(": {},
     r"\bTable::with_capacity\(": {"half_store/src/store/memory": 2, "half_store/src/store/switch": 1},
     r"(?:\.|::)clone\(": {"half_store/src/column": 1, "halfbrown/src/map/clone": 2}

@@ -3,14 +3,12 @@
 //! A word takes four bytes where that is enough for as many pairs as the buckets may hold, and eight elsewhere. Nothing lends
 //! the words: each is read by `word_at`, which counts it.
 ghost use Rattle.std.specs.Prelude.{◌≡◌, ℕ, ◌<◌, ◌≤◌, List, [], length, replicate, slice_index, slice_set, IfOk, IsOk};
-ghost use Rattle.std.specs.List.{AllZip};
 ghost use Rattle.half_store.specs.Capacity.{capacity_of, IsBucketCount};
 ghost use Rattle.half_store.specs.Words.{words_of, most_of, most_of_four, most_of_eight, word_size, AreWordsFor};
 ghost use Rattle.half_store.specs.Work.{one_looked};
 
 use crate::Tally;
 use crate::capacity::capacity_of;
-use crate::column::clone_all;
 use std::alloc::{AllocError, Global};
 use std::marker::Model;
 
@@ -93,14 +91,21 @@ impl<T: Copy> WordVec<T> {
         self.words.capacity()
     }
 
-    /// The same words once more.
-    fn copied(&self) -> Result<WordVec<T>, AllocError>
-        ensures { IfOk result (λ v. AllZip T.is_clone self.now v) }
+    /// The same words once more. The copy is written over `word`, since `Vec::from_slice` says nothing of its capacity.
+    fn copied(&self, word: T) -> Result<WordVec<T>, AllocError>
+        ensures { IfOk result (λ v. v ≡ self.now) }
     {
-        let words = Vec::with_capacity(*self.words.allocator(), self.words.len())?;
-        Ok(WordVec {
-            words: clone_all(self.words.as_slice(), words)?,
-        })
+        let mut copy = WordVec::of(self.allocator(), word, self.words.len())?;
+        copy.copy_from(self);
+        Ok(copy)
+    }
+
+    /// Copies as many words from other ones.
+    fn copy_from(&mut self, other: &WordVec<T>)
+        requires { length self.old ≡ length other.now }
+        ensures { self.new ≡ other.now }
+    {
+        self.words.copy_from_slice(other.words.as_slice());
     }
 
     /// Writes this word in place of each.
@@ -242,8 +247,8 @@ impl WordArray {
         ensures most { IfOk result (λ a. most_of a ≡ most_of self.now) }
     {
         match self {
-            WordArray::FourBytes(words) => Ok(WordArray::FourBytes(words.copied()?)),
-            WordArray::EightBytes(words) => Ok(WordArray::EightBytes(words.copied()?)),
+            WordArray::FourBytes(words) => Ok(WordArray::FourBytes(words.copied(0)?)),
+            WordArray::EightBytes(words) => Ok(WordArray::EightBytes(words.copied(0)?)),
         }
     }
 
