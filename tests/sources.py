@@ -51,7 +51,7 @@ CALLERS = {
     r"(?:\.|::)clone\(": {"half_store/src/column": 1, "halfbrown/src/map/clone": 2}
     | {"halfbrown/src/iter": 3, "halfbrown/src/iter/keys": 1, "halfbrown/src/iter/values": 1},
     r"\.copy\(": {"half_store/src/store/memory": 1},
-    r"\.copied\(\)\?": {"half_store/src/table/memory": 1, "half_store/src/words": 2},
+    r"\.copied\(\w*\)\?": {"half_store/src/table/memory": 1, "half_store/src/words": 2},
 }
 # Where a call is made of the name of a plain call that has a counted form: what it is of.
 PLAIN_CALLS = {
