@@ -1,5 +1,6 @@
 -- What follows of changed lists of pairs, for callers: the set `map_facts` has those that `grind` applies, and `using` takes it.
-use Rattle.std.proofs.Common.{◌≡◌, ℕ, suc, ◌+◌, ◌<◌, ◌≤◌, Bool, true, false, cond, ◌||◌, ◌⊎◌, inl, inr, List, [], ◌∷◌, ◌++◌, length, take, reverse}
+use Rattle.std.proofs.Common.{◌≡◌, ℕ, suc, ◌+◌, ◌<◌, ◌≤◌, Bool, true, false, cond, ◌||◌, ◌⊎◌, inl, inr, List, [], ◌∷◌, ◌++◌, length, take}
+use Rattle.std.proofs.Common.{reverse}
 use Rattle.std.proofs.Common.{get_or, slice_get, Option, None, Some, is_some, IsSome, unwrap_or, count_by, refl, sym, ap, subst, ◌∙◌}
 use Rattle.std.proofs.Common.{true≢false, append-nil, arith}
 use Rattle.std.specs.Cmp.{IsEquivalence}

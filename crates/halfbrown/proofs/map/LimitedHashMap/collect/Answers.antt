@@ -30,7 +30,8 @@ returns-in_err-extend_counted-clause-refused g c =
       builder = subst g.S.Default.is_default (sym told.builder) c.default.ensures;
       grantable = told.grantable;
     } in
-    let insertion = subst (λ it. IsRefusedInsertion L E H (Gives g.I.Iterator.next_gives it) made why after refused.1) refused.2 refused.3 in
+    let given = Gives g.I.Iterator.next_gives in
+    let insertion = subst (λ it. IsRefusedInsertion L E H (given it) made why after refused.1) refused.2 refused.3 in
     (at_error c.from_residual-in_err-extend_counted.result why (Unit {0}) _ c.from_residual-in_err-extend_counted.ensures
     (refused.1, inr (record { made = made; is_made = is_made; reached = after; insertion = insertion }), refused.4)).1
 
