@@ -32,6 +32,7 @@ CALLERS = {
     r"\b(?:is_match|matches)\(": {"half_store/src/counting": 1, "half_store/src/store/find": 2},
     r"(?:\.|::)equivalent\(": {"halfbrown/src/map/find": 1},
     r" [!=]= (?!\d|b')": {"half_store/src/table/deletion": 1, "half_store/src/table/probe": 1, "half_store/src/table/retain": 1}
+    | {"half_store/src/words": 1}
     | {"halfbrown/src/equivalent": 6, "halfbrown/src/map/equality": 2, "halfmap/src/lines": 1, "halfmap/src/request": 1},
     r"\.contains\(": {"halfmap/src/session": 1},
     r"\b(?:self|map)\[": {},
@@ -45,7 +46,7 @@ CALLERS = {
     r"\bbuckets\.read\(": {"half_store/src/table/probe": 2},
     r"\.word_at\(": {"half_store/src/buckets": 1, "half_store/src/table/deletion": 3, "half_store/src/words": 2},
     # Elsewhere nothing can name the words: their field is private.
-    r"\b(?:self|other)\.words\b": {"half_store/src/words": 12},
+    r"\b(?:self|other)\.words\b": {"half_store/src/words": 10},
     r"\.hashed_buckets\(": {},
     r"\bTable::with_capacity\(": {"half_store/src/store/memory": 2, "half_store/src/store/switch": 1},
     r"(?:\.|::)clone\(": {"half_store/src/column": 1, "halfbrown/src/map/clone": 2}

@@ -91,21 +91,17 @@ impl<T: Copy> WordVec<T> {
         self.words.capacity()
     }
 
-    /// The same words once more. The copy is written over `word`, since `Vec::from_slice` says nothing of its capacity.
-    fn copied(&self, word: T) -> Result<WordVec<T>, AllocError>
+    /// The same words once more.
+    fn copied(&self) -> Result<WordVec<T>, AllocError>
         ensures { IfOk result (λ v. v ≡ self.now) }
     {
-        let mut copy = WordVec::of(self.allocator(), word, self.words.len())?;
-        copy.copy_from(self);
-        Ok(copy)
-    }
-
-    /// Copies as many words from other ones.
-    fn copy_from(&mut self, other: &WordVec<T>)
-        requires { length self.old ≡ length other.now }
-        ensures { self.new ≡ other.now }
-    {
-        self.words.copy_from_slice(other.words.as_slice());
+        let words = Vec::from_slice(self.allocator(), self.words.as_slice())?;
+        // `from_slice` takes no more memory than this, but its contract does not say so.
+        if words.capacity() == words.len() {
+            Ok(WordVec { words })
+        } else {
+            Err(AllocError)
+        }
     }
 
     /// Writes this word in place of each.
@@ -247,8 +243,8 @@ impl WordArray {
         ensures most { IfOk result (λ a. most_of a ≡ most_of self.now) }
     {
         match self {
-            WordArray::FourBytes(words) => Ok(WordArray::FourBytes(words.copied(0)?)),
-            WordArray::EightBytes(words) => Ok(WordArray::EightBytes(words.copied(0)?)),
+            WordArray::FourBytes(words) => Ok(WordArray::FourBytes(words.copied()?)),
+            WordArray::EightBytes(words) => Ok(WordArray::EightBytes(words.copied()?)),
         }
     }
 

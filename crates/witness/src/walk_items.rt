@@ -136,6 +136,11 @@ impl<K: Named, V> Walked for Keys<'_, K, V> {
     fn print_clone<R: Print>(&self, rt: &R) -> io::Result<()> {
         print_items(rt, &mut self.clone()?, usize::MAX, of_key)
     }
+
+    // Written out, since the borrow checker does not cover the trait's own here.
+    fn add(&mut self) -> Option<Answer> {
+        None
+    }
 }
 
 impl<K, V: Number> Walked for Values<'_, K, V> {
@@ -149,6 +154,11 @@ impl<K, V: Number> Walked for Values<'_, K, V> {
 
     fn print_clone<R: Print>(&self, rt: &R) -> io::Result<()> {
         print_items(rt, &mut self.clone()?, usize::MAX, of_value)
+    }
+
+    // Written out, since the borrow checker does not cover the trait's own here.
+    fn add(&mut self) -> Option<Answer> {
+        None
     }
 }
 
