@@ -1,5 +1,6 @@
 -- What contracts see of two columns, one of keys and one of values.
 use Rattle.std.specs.Prelude.{◌≡◌, ℕ, List, [], length, vec_capacity}
+use Rattle.std.specs.List.{zip}
 use Rattle.std.specs.declared.vec.Vec.{Vec}
 use base.Stored.{Coded, coded×, coded_list, coded_ℕ, coded_via}
 
@@ -7,6 +8,10 @@ use base.Stored.{Coded, coded×, coded_list, coded_ℕ, coded_via}
 pub record Columns (K V : Type 0) : Type 0 where
   pub pairs : List (K × V)
   pub capacity : ℕ
+
+-- what two columns are
+abbrev pub columns_of : {K V Z : Type 0} → Vec K Z → Vec V Z → Columns K V
+columns_of keys values = record { pairs = zip keys.items values.items; capacity = vec_capacity keys }
 
 -- the two columns are of one length and one capacity
 pub record AreEven {K V Z : Type 0} (keys : Vec K Z) (values : Vec V Z) : Type 0 where

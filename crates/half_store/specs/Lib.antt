@@ -1,6 +1,7 @@
 pub mod Buckets
 pub mod Capacity
 pub mod Columns
+pub mod Drained
 pub mod Hash
 pub mod Lending
 pub mod Memory

@@ -1,8 +1,8 @@
 -- What contracts see of a store.
-use Rattle.std.specs.Prelude.{◌≡◌, ℕ, ◌+◌, ◌≤◌, Bool, true, false, List, [], ◌∷◌, ◌++◌, length, reverse, min, Option, None, Some, if◌then◌else◌}
+use Rattle.std.specs.Prelude.{◌≡◌, ℕ, ◌+◌, ◌≤◌, Bool, true, false, List, [], ◌∷◌, ◌++◌, length, min, Option, None, Some, if◌then◌else◌}
 use Rattle.half_store.specs.declared.store.vacancy.Vacancy.{Vacancy}
 use Rattle.half_store.specs.Capacity.{capacity_of, capacity_for, grown_capacity}
-use Rattle.half_store.specs.Columns.{Columns, columns_with}
+use Rattle.half_store.specs.Columns.{Columns}
 use Rattle.half_store.specs.Table.{TableState, Contents, table_contents, no_contents, contents_code, with_hash_in, IsVacancyIn}
 use base.Stored.{Coded, coded×, coded_list, coded_ℕ, coded_bool, coded_via}
 
@@ -38,15 +38,6 @@ module _ {K V : Type 0} where
   abbrev pub IsStore : Columns K V → Option TableState → Type 0
   IsStore columns None = Unit {0}
   IsStore columns (Some t) = IsTableOver columns t
-
-  -- what is left of a store whose pairs are taken out, in columns that lie last first
-  abbrev pub drained_of : Columns K V → Option TableState → StoreState K V
-  drained_of columns table = store_of (columns_with columns (reverse columns.pairs)) table
-
-  -- a table that the pairs had still has no more capacity than the columns
-  abbrev pub IsDrained : Columns K V → Option TableState → Type 0
-  IsDrained columns None = Unit {0}
-  IsDrained columns (Some t) = capacity_of t.buckets ≤ columns.capacity
 
   -- the form and all capacities stay
   pub record KeepsForm (old new : StoreState K V) : Type 0 where

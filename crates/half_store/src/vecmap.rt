@@ -1,5 +1,5 @@
 //! Pairs in two columns, one of keys and one of values: dense, in order, searched from first to last.
-ghost use Rattle.std.specs.Prelude.{◌≡◌, ◌^◌, ◌<◌, ◌≤◌, [], ◌∷◌, ◌++◌, length, reverse, slice_get};
+ghost use Rattle.std.specs.Prelude.{◌≡◌, ◌^◌, ◌<◌, ◌≤◌, [], ◌∷◌, ◌++◌, length, slice_get};
 ghost use Rattle.std.specs.Borrow.{sem};
 ghost use Rattle.std.specs.Map.{keys_of, values_of};
 ghost use Rattle.half_store.specs.Columns.{no_pairs, columns_with};
@@ -23,15 +23,13 @@ pub struct VecMap<K, V> {
 }
 
 impl<K, V> Model for VecMap<K, V> {
-    ghost use Rattle.std.specs.Prelude.{vec_capacity};
-    ghost use Rattle.std.specs.List.{zip};
-    ghost use Rattle.half_store.specs.Columns.{Columns, columns_code, AreEven};
+    ghost use Rattle.half_store.specs.Columns.{Columns, columns_code, columns_of, AreEven};
 
     ghost Value = { Columns K V };
 
     ghost coded = { columns_code K.code V.code };
 
-    ghost view = { λ m. record { pairs = zip m.keys.items m.values.items; capacity = vec_capacity m.keys } };
+    ghost view = { λ m. columns_of m.keys m.values };
 
     ghost invariant = { λ m. AreEven m.keys m.values };
 }
@@ -144,15 +142,6 @@ impl<K, V> VecMap<K, V> {
         ensures after { self.new ≡ columns_with self.old (swap_remove_at self.old.pairs index) }
     {
         (self.keys.swap_remove(index), self.values.swap_remove(index))
-    }
-
-    /// Puts the pairs in the opposite order.
-    pub fn reverse(&mut self)
-        ensures after { self.new ≡ columns_with self.old (reverse self.old.pairs) }
-        ensures small { length self.old.pairs < 2 ^ 63 }
-    {
-        self.keys.reverse();
-        self.values.reverse();
     }
 
     /// Removes all pairs. The capacity stays.

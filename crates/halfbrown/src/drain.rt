@@ -53,8 +53,8 @@ impl<K: Eq + Hash, V, S: BuildHasher, L: Limit> LimitedHashMap<K, V, S, L> {
     /// Takes all pairs out, and returns them in order. Once what it returns is dropped, even before its end, the map
     /// holds no pair: those that were left are dropped too. The form, the capacity and the builder stay.
     ///
-    /// It needs no memory, and nothing is hashed or compared. The pairs are put in the opposite order first, and in a
-    /// table the buckets are emptied at the end. Each step only moves its pair.
+    /// It needs no memory, and nothing is hashed or compared. Each step only moves its pair, and in a table the buckets
+    /// are emptied at the end.
     ///
     /// ```
     /// let mut pairs = ages.drain();

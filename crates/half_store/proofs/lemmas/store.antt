@@ -1,3 +1,2 @@
 -- Lemmas of the store.
-pub mod Drain
 pub mod States

@@ -5,28 +5,31 @@ ghost use Rattle.half_store.specs.Store.{vector_of, KeepsForm};
 
 use super::Store;
 use crate::{Table, VecMap};
+use std::collections::VecDeque;
 use std::marker::Model;
 use std::mem::replace;
 
 /// What was a store: the pairs that are still to be taken out of it, and its memory. Once they are gone it is a store again.
 #[derive(Drop)]
 pub struct Drained<K, V> {
-    // last first
-    columns: VecMap<K, V>,
+    // queues in the blocks that the columns had
+    keys: VecDeque<K>,
+    values: VecDeque<V>,
     // of the pairs that were there
     table: Option<Table>,
 }
 
 impl<K, V> Model for Drained<K, V> {
-    ghost use Rattle.half_store.specs.Store.{StoreState, drained_of, store_code, IsDrained};
+    ghost use Rattle.half_store.specs.Drained.{drained_of, IsDrained};
+    ghost use Rattle.half_store.specs.Store.{StoreState, store_code};
 
     ghost Value = { StoreState K V };
 
     ghost coded = { store_code K.code V.code };
 
-    ghost view = { λ d. drained_of d.columns d.table };
+    ghost view = { λ d. drained_of d.keys d.values d.table };
 
-    ghost invariant = { λ d. IsDrained d.columns d.table };
+    ghost invariant = { λ d. IsDrained d.keys d.values d.table };
 }
 
 /// What becomes a store again: `Drained` alone. A workaround: the prover cannot see through the drop of a struct that owns
@@ -47,9 +50,8 @@ pub trait IntoStore<K, V> {
 }
 
 impl<K, V> Store<K, V> {
-    /// Takes all pairs out, and the memory with them. A vector with no pairs and no memory is left.
-    ///
-    /// It turns the order of the pairs round, so that each of them is taken out for what it costs to move it.
+    /// Takes all pairs out, and the memory with them. A vector with no pairs and no memory is left. No pair is moved.
+    #[inline]
     pub fn drain(&mut self) -> Drained<K, V>
         ensures pairs { result.pairs ≡ self.old.pairs }
         ensures form { KeepsForm self.old result }
@@ -57,10 +59,10 @@ impl<K, V> Store<K, V> {
         ensures small { length result.pairs < 2 ^ 63 }
     {
         let none = VecMap::new(self.columns.allocator());
-        let mut columns = replace(&mut self.columns, none);
-        columns.reverse();
+        let (keys, values) = replace(&mut self.columns, none).into_columns();
         Drained {
-            columns,
+            keys: VecDeque::from_vec(keys),
+            values: VecDeque::from_vec(values),
             table: self.table.take(),
         }
     }
@@ -73,37 +75,46 @@ impl<K, V> Drained<K, V> {
         ensures len { result ≡ length self.now.pairs }
         ensures small { result < 2 ^ 63 }
     {
-        self.columns.len()
+        self.keys.len()
     }
 
     /// Takes the first one out.
     #[inline(always)]
     pub fn pop_front(&mut self) -> Option<(K, V)>
+    where
+        K: Drop,
         ensures first { MatchOption result ((self.old.pairs ≡ []) × (self.new ≡ self.old))
             (λ pair. self.old.pairs ≡ pair ∷ self.new.pairs) }
         ensures form { KeepsForm self.old self.new }
     {
-        let last = self.len().checked_sub(1)?;
-        Some(self.columns.swap_remove(last))
+        let key = self.keys.pop_front()?;
+        let value = self.values.pop_front()?;
+        Some((key, value))
     }
 }
 
 impl<K, V> IntoStore<K, V> for Drained<K, V> {
     ghost store = { λ d. d };
 
+    #[inline]
     fn into_store(self) -> Store<K, V>
     where
         K: Drop,
         V: Drop,
     {
         let Drained {
-            mut columns,
+            mut keys,
+            mut values,
             mut table,
         } = self;
         if let Some(table) = &mut table {
             table.clear();
         }
-        columns.clear();
-        Store { columns, table }
+        keys.clear();
+        values.clear();
+        Store {
+            columns: VecMap::from_columns(keys.into_vec(), values.into_vec()),
+            table,
+        }
     }
 }

@@ -1,5 +1,5 @@
 //! Backward-shift deletion: after a removal the pairs that follow move back, so that no tombstone is needed.
-ghost use Rattle.std.specs.Prelude.{◌≡◌, ℕ, ◌+◌, ◌-◌, ◌<◌, ◌≤◌, length, Some, slice_get, slice_set, slice_index, vec_capacity};
+ghost use Rattle.std.specs.Prelude.{◌≡◌, ℕ, ◌+◌, ◌-◌, ◌^◌, ◌<◌, ◌≤◌, length, Some, slice_get, slice_set, slice_index, vec_capacity};
 ghost use Rattle.std.specs.List.{swap_remove};
 ghost use Rattle.half_store.specs.Buckets.{slots_by};
 ghost use Rattle.half_store.specs.Capacity.{IsBucketCount};
@@ -70,6 +70,20 @@ fn probe_distance(from: usize, to: usize, count: usize) -> usize
     to + (count - from) & (count - 1)
 }
 
+/// Returns `lesser` where the first number is less than the second, and else `other`. No branch is taken, since a processor
+/// would often foresee it wrongly.
+#[inline(always)]
+fn if_less(first: usize, second: usize, lesser: usize, other: usize) -> usize
+    requires first { first < 2 ^ 63 }
+    requires second { second < 2 ^ 63 }
+    ensures less { first < second → result ≡ lesser }
+    ensures not_less { second ≤ first → result ≡ other }
+{
+    // The sign of the difference: a comparison would be compiled to a branch.
+    let is_less = first.wrapping_sub(second) >> 63;
+    lesser * is_less + other * (1 - is_less)
+}
+
 /// The stored hash of the pair that the word of a full bucket leads to.
 #[inline(always)]
 fn hash_of(word: usize, hashes: &[u64]) -> u64
@@ -100,13 +114,13 @@ fn backward_shift<B: Words>(buckets: &mut B, hashes: &[u64], removed: usize, tal
     let mut word = buckets.word_at(bucket, tally);
     while word != 0 {
         let hash = hash_of(word, hashes);
-        if probe_distance(home(hash, count), bucket, count) >= distance {
-            buckets.set_word(gap, word);
-            gap = bucket;
-            distance = 0;
-        }
+        let from_home = probe_distance(home(hash, count), bucket, count);
+        // The pair stays where its home bucket is after the gap. Else it moves into the gap, and leaves one.
+        let place = if_less(from_home, distance, bucket, gap);
+        buckets.set_word(place, word);
+        gap = if_less(from_home, distance, gap, bucket);
+        distance = if_less(from_home, distance, distance, 0) + 1;
         bucket = next(bucket, count);
-        distance += 1;
         word = buckets.word_at(bucket, tally);
     }
     buckets.set_word(gap, 0);

@@ -2,6 +2,7 @@
 ghost use Rattle.std.specs.Prelude.{◌≡◌, ◌^◌, ◌<◌, length};
 ghost use Rattle.std.specs.Borrow.{sem};
 ghost use Rattle.std.specs.Map.{keys_of, values_of};
+ghost use Rattle.half_store.specs.Columns.{AreEven, columns_of};
 
 use super::VecMap;
 use std::alloc::Global;
@@ -53,11 +54,22 @@ impl<K, V> VecMap<K, V> {
         (self.keys.as_slice(), self.values.as_mut_slice())
     }
 
+    /// Pairs of these keys and values, which are as many, in vectors of one capacity.
+    #[inline(always)]
+    pub(crate) fn from_columns(keys: Vec<K>, values: Vec<V>) -> VecMap<K, V>
+        requires { AreEven keys values }
+        ensures { result ≡ columns_of keys values }
+    {
+        VecMap { keys, values }
+    }
+
     /// The keys and the values, in order, each in a vector of its own.
     #[inline(always)]
     pub fn into_columns(self) -> (Vec<K>, Vec<V>)
         ensures keys { result.0.items ≡ keys_of self.pairs }
         ensures values { result.1.items ≡ values_of self.pairs }
+        ensures even { AreEven result.0 result.1 }
+        ensures whole { columns_of result.0 result.1 ≡ self }
         ensures small { length self.pairs < 2 ^ 63 }
     {
         let VecMap { keys, values } = self;

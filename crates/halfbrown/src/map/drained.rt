@@ -10,6 +10,7 @@ use std::hash::{BuildHasher, Hash};
 
 impl<K: Eq + Hash, V, S: BuildHasher, L: Limit> LimitedHashMap<K, V, S, L> {
     /// Takes the store out, with all pairs. An empty vector without memory is left, and the builder.
+    #[inline]
     pub(crate) fn take_store(&mut self) -> Drained<K, V>
         ensures after { WithPairs self.old self.old.pairs (state_in L.LIMIT result self.new.builder) }
         ensures small { length result.pairs < 2 ^ 63 }

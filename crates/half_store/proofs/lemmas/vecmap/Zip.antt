@@ -30,16 +30,6 @@ module _ {K V : Type 0} where
   zip_push (l ∷ ks) [] k v even = absurd (omega arith)
   zip_push (l ∷ ks) (w ∷ vs) k v even = ap (λ r. (l, w) ∷ r) (zip_push ks vs k v (omega arith))
 
-  pub zip-reverse : (ks : List K) (vs : List V) → length vs ≡ length ks → zip (reverse ks) (reverse vs) ≡ reverse (zip ks vs)
-  zip-reverse [] [] even = refl
-  zip-reverse [] (v ∷ vs) even = absurd (omega arith)
-  zip-reverse (k ∷ ks) [] even = absurd (omega arith)
-  zip-reverse (k ∷ ks) (v ∷ vs) even =
-      (λ j. zip (reverse-append (k ∷ []) ks j) (reverse-append (v ∷ []) vs j))
-      ∙ zip_push (reverse ks) (reverse vs) k v (omega (arith, length-reverse ks, length-reverse vs))
-      ∙ ap (λ ps. ps ++ (k, v) ∷ []) (zip-reverse ks vs (omega arith))
-      ∙ sym (reverse-append ((k, v) ∷ []) (zip ks vs))
-
   -- the pair at a bucket, from what stands there in each column
   pub slice_get-zip : (ks : List K) (vs : List V) (i : ℕ) (k : K) (v : V) → i < length ks → i < length vs → k ≡ get_or ks i k
       → v ≡ get_or vs i v → slice_get (zip ks vs) i ≡ Some (k, v)

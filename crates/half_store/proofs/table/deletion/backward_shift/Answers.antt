@@ -1,15 +1,16 @@
-use Rattle.std.proofs.Common.{◌≡◌, ◌≢◌, ◌-◌, ◌≤◌, ◌∙◌, ℕ, List, length, set, slice_index, refl, sym, ap, subst, arith}
-use Rattle.std.proofs.lemmas.List.{length-set}
+use Rattle.std.proofs.Common.{◌≡◌, ◌≢◌, ◌-◌, ◌^◌, ◌<◌, ◌≤◌, ◌∙◌, ℕ, List, inl, inr, length, set, slice_index, refl, sym, ap, subst, arith}
+use Rattle.std.proofs.lemmas.Bool.{cases_lt}
+use Rattle.std.proofs.lemmas.List.{length-set, set-get_or}
 use Rattle.half_store.specs.Capacity.{capacity_of, IsBucketCount}
 use Rattle.half_store.specs.Probe.{looked_more}
 use Rattle.half_store.specs.Reach.{home, probe_distance}
 use Rattle.half_store.specs.TableLayout.{IsIndexed}
 use Rattle.half_store.specs.Work.{Work}
 use Rattle.half_store.proofs.lemmas.table.Circle.{probe_distance-lt}
-use Rattle.half_store.proofs.lemmas.table.Deletion.{Shifts, Ahead, Shifts-start, Ahead-start, gap_distance, first_distance, one_farther}
+use Rattle.half_store.proofs.lemmas.table.Deletion.{Shifts, Ahead, Shifts-start, Ahead-start, word_within, gap_distance, first_distance, one_farther}
 use Rattle.half_store.proofs.lemmas.table.Deletion.{fewer_ahead, Shifts-end, Shifts-stay, Ahead-stay, Shifts-move, Ahead-move}
+use Rattle.half_store.proofs.lemmas.table.Mask.{count-le_half}
 use Rattle.half_store.proofs.lemmas.tally.{looked_more-zero, looked_more-one}
-use Rattle.half_store.proofs.table.deletion.backward_shift.Goals.{then-probe_distance-distance, else-probe_distance-distance}
 use Rattle.half_store.proofs.table.deletion.backward_shift.Goals as goal
 
 pub loop-word-init : goal.loop-word-init
@@ -54,20 +55,71 @@ returns-clause-cost g c = λ vacant is.
       looked = omega (arith, ap (λ (w : Work). w.looked) i.counted, (i.ahead vacant is).near, end);
     }
 
+-- a probe distance is small enough to have no sign
+unsigned : (count m distance : ℕ) → IsBucketCount count → m ≡ count → m < 2 ^ 64 → distance < m → distance < 2 ^ 63
+unsigned count m distance is same fits near = omega (arith, count-le_half count is (omega arith))
+
+pub if_less-place-requires-clause-first : goal.if_less-place-requires-clause-first
+if_less-place-requires-clause-first g c =
+    let l = c.loop-word in
+    unsigned _ c.count-count.result _ c.requires.count c.count-count.ensures c.count-count.type_inv (omega (
+      arith,
+      c.probe_distance-from_home.ensures,
+      probe_distance-lt c.count-count.result c.home.result c.home.ensures.bound l.bucket l.invariant.shifts.bucket_in,
+    ))
+
+pub if_less-place-requires-clause-second : goal.if_less-place-requires-clause-second
+if_less-place-requires-clause-second g c =
+    let l = c.loop-word in
+    let s = l.invariant.shifts in
+    unsigned _ c.count-count.result _ c.requires.count c.count-count.ensures c.count-count.type_inv
+    (omega (arith, l.invariant.apart, probe_distance-lt c.count-count.result l.gap s.gap_in l.bucket s.bucket_in))
+
+pub if_less-gap-requires-clause-first : goal.if_less-gap-requires-clause-first
+if_less-gap-requires-clause-first g c =
+    let l = c.loop-word in
+    unsigned _ c.count-count.result _ c.requires.count c.count-count.ensures c.count-count.type_inv (omega (
+      arith,
+      c.probe_distance-from_home.ensures,
+      probe_distance-lt c.count-count.result c.home.result c.home.ensures.bound l.bucket l.invariant.shifts.bucket_in,
+    ))
+
+pub if_less-gap-requires-clause-second : goal.if_less-gap-requires-clause-second
+if_less-gap-requires-clause-second g c =
+    let l = c.loop-word in
+    let s = l.invariant.shifts in
+    unsigned _ c.count-count.result _ c.requires.count c.count-count.ensures c.count-count.type_inv
+    (omega (arith, l.invariant.apart, probe_distance-lt c.count-count.result l.gap s.gap_in l.bucket s.bucket_in))
+
+pub if_less-distance-requires-clause-first : goal.if_less-distance-requires-clause-first
+if_less-distance-requires-clause-first g c =
+    let l = c.loop-word in
+    unsigned _ c.count-count.result _ c.requires.count c.count-count.ensures c.count-count.type_inv (omega (
+      arith,
+      c.probe_distance-from_home.ensures,
+      probe_distance-lt c.count-count.result c.home.result c.home.ensures.bound l.bucket l.invariant.shifts.bucket_in,
+    ))
+
+pub if_less-distance-requires-clause-second : goal.if_less-distance-requires-clause-second
+if_less-distance-requires-clause-second g c =
+    let l = c.loop-word in
+    let s = l.invariant.shifts in
+    unsigned _ c.count-count.result _ c.requires.count c.count-count.ensures c.count-count.type_inv
+    (omega (arith, l.invariant.apart, probe_distance-lt c.count-count.result l.gap s.gap_in l.bucket s.bucket_in))
+
+pub set_word-requires-clause-fits : goal.set_word-requires-clause-fits
+set_word-requires-clause-fits g c =
+    let i = c.loop-word.invariant in
+    omega (arith, i.read, word_within i.shifts, i.most, c.requires.fits)
+
 pub overflow_add-distance : goal.overflow_add-distance
 overflow_add-distance g c =
     let l = c.loop-word in
     let s = l.invariant.shifts in
-    elim c.if-probe_distance-distance.branch [
-      | then-probe_distance-distance w ↦ omega (arith, w.distance-is)
-      | else-probe_distance-distance w ↦
-          omega (
-            arith,
-            w.distance-is,
-            l.invariant.apart,
-            probe_distance-lt c.count-count.result l.gap s.gap_in l.bucket s.bucket_in,
-            c.count-count.type_inv,
-          )
+    let near = probe_distance-lt c.count-count.result l.gap s.gap_in l.bucket s.bucket_in in
+    elim (cases_lt c.probe_distance-from_home.result l.distance) [
+      | inl lt ↦ omega (arith, c.if_less-distance.ensures.less lt, l.invariant.apart, near, c.count-count.type_inv)
+      | inr ge ↦ omega (arith, c.if_less-distance.ensures.not_less ge)
     ]
 
 pub loop-word-smaller : goal.loop-word-smaller
@@ -89,30 +141,41 @@ loop-word-preserved g c =
     let words : List ℕ = g.B.Words.words l.buckets in
     let some : slice_index words l.bucket ≢ 0 = λ none. c.loop-word-test.true (i.read ∙ none) in
     let word = ap (λ n. slice_index hs (n - 1)) i.read in
-    let far = c.probe_distance.ensures
+    let far = c.probe_distance-from_home.ensures
     ∙ ap (λ h. probe_distance m h l.bucket) (c.home.ensures.value ∙ ap (home m) (c.hash_of-hash.ensures ∙ word)) in
     let v = c.requires.removed.gap.another in
     let a = i.ahead v.0 v.1 in
     let on = one_farther i.shifts a next some e in
     let counted = c.word_at-word-in-loop-word.ensures.counted ∙ looked_more-one c.args.tally.now l.tally _ i.counted
     ∙ ap (looked_more c.args.tally.now) (sym on) in
-    elim c.if-probe_distance-distance.branch [
-      | then-probe_distance-distance w ↦
-          let wrote = ap g.B.Words.words w.buckets-is ∙ w.set_word.ensures.words ∙ ap (set words l.gap) i.read in
-          let moved = Shifts-move i.shifts a next some e (omega (arith, w.if-probe_distance-distance.true, far, i.apart)) in
+    elim (cases_lt c.probe_distance-from_home.result l.distance) [
+      | inr ge ↦
+          let into = c.if_less-place.ensures.not_less ge in
+          let left = c.if_less-gap.ensures.not_less ge in
+          let wrote = c.set_word.ensures.words ∙ (λ j. set words (into j) (i.read j)) in
+          let moved = Shifts-move i.shifts a next some e (omega (arith, ge, far, i.apart)) in
           record {
             read = c.word_at-word-in-loop-word.ensures.value;
-            apart = omega (arith, gap_distance moved, on, w.distance-is, ap (λ p. probe_distance m p next) w.gap-is);
-            most = ap g.B.Words.most w.buckets-is ∙ w.set_word.ensures.most ∙ i.most;
+            apart = omega (
+              arith,
+              gap_distance moved,
+              on,
+              c.if_less-distance.ensures.not_less ge,
+              ap (λ p. probe_distance m p next) left,
+            );
+            most = c.set_word.ensures.most ∙ i.most;
             counted = counted;
-            shifts = subst (λ ws. Shifts m hs ws start c.if-probe_distance-distance.gap next) (sym wrote)
-                (subst (λ p. Shifts m hs (set words l.gap (slice_index words l.bucket)) start p next) (sym w.gap-is) moved);
-            ahead = λ v is. subst (λ ws. Ahead m hs ws start c.if-probe_distance-distance.gap next v) (sym wrote)
-                (subst (λ p. Ahead m hs (set words l.gap (slice_index words l.bucket)) start p next v) (sym w.gap-is)
+            shifts = subst (λ ws. Shifts m hs ws start c.if_less-gap.result next) (sym wrote)
+                (subst (λ p. Shifts m hs (set words l.gap (slice_index words l.bucket)) start p next) (sym left) moved);
+            ahead = λ v is. subst (λ ws. Ahead m hs ws start c.if_less-gap.result next v) (sym wrote)
+                (subst (λ p. Ahead m hs (set words l.gap (slice_index words l.bucket)) start p next v) (sym left)
                 (Ahead-move i.shifts (i.ahead v is) next some e));
           }
-      | else-probe_distance-distance w ↦
-          let stayed = Shifts-stay i.shifts a next some e (omega (arith, w.if-probe_distance-distance.false, far, i.apart)) in
+      | inl lt ↦
+          let here = c.if_less-place.ensures.less lt in
+          let still = c.if_less-gap.ensures.less lt in
+          let same = c.set_word.ensures.words ∙ (λ j. set words (here j) (i.read j)) ∙ set-get_or words l.bucket 0 in
+          let stayed = Shifts-stay i.shifts a next some e (omega (arith, lt, far, i.apart)) in
           record {
             read = c.word_at-word-in-loop-word.ensures.value;
             apart = omega (
@@ -121,15 +184,15 @@ loop-word-preserved g c =
               gap_distance i.shifts,
               i.apart,
               on,
-              w.distance-is,
-              ap (λ p. probe_distance m p next) w.gap-is,
+              c.if_less-distance.ensures.less lt,
+              ap (λ p. probe_distance m p next) still,
             );
-            most = ap g.B.Words.most w.buckets-is ∙ i.most;
+            most = c.set_word.ensures.most ∙ i.most;
             counted = counted;
-            shifts = subst (λ ws. Shifts m hs ws start c.if-probe_distance-distance.gap next) (sym (ap g.B.Words.words w.buckets-is))
-                (subst (λ p. Shifts m hs words start p next) (sym w.gap-is) stayed);
+            shifts = subst (λ ws. Shifts m hs ws start c.if_less-gap.result next) (sym same)
+                (subst (λ p. Shifts m hs words start p next) (sym still) stayed);
             ahead = λ v is.
-                subst (λ ws. Ahead m hs ws start c.if-probe_distance-distance.gap next v) (sym (ap g.B.Words.words w.buckets-is))
-                (subst (λ p. Ahead m hs words start p next v) (sym w.gap-is) (Ahead-stay i.shifts (i.ahead v is) next some e));
+                subst (λ ws. Ahead m hs ws start c.if_less-gap.result next v) (sym same)
+                (subst (λ p. Ahead m hs words start p next v) (sym still) (Ahead-stay i.shifts (i.ahead v is) next some e));
           }
     ]

@@ -8,5 +8,7 @@ returns g c =
     record {
       keys = o.keys_are;
       values = o.values_are;
+      even = c.self.invariant;
+      whole = c.self.view_is;
       small = omega (arith, o.keys_len, c.self.inside.keys.ok.1, c.self.inside.keys.small);
     }
