@@ -9,6 +9,7 @@ pub mod Pairs
 pub mod Probe
 pub mod Reach
 pub mod Refusal
+pub mod Removal
 pub mod Replaced
 pub mod Search
 pub mod Slots

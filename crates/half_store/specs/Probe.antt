@@ -1,6 +1,6 @@
 -- What a probe of a table costs.
 use Rattle.std.specs.Prelude.{◌≡◌, ℕ, ◌+◌, ◌-◌, ◌≤◌, ◌==◌, List, length, slice_index, count_by}
-use Rattle.half_store.specs.Reach.{reach, HomesApart}
+use Rattle.half_store.specs.Reach.{home, probe_distance, reach, HomesApart}
 use Rattle.half_store.specs.Work.{Work}
 
 -- so many more buckets were read
@@ -30,6 +30,10 @@ pub record AddsFinding (hashes : List ℕ) (buckets hash : ℕ) (old new : Work)
   pub looked_some : old.looked + 1 ≤ new.looked
   pub looked_most : new.looked + 1 ≤ old.looked + reach hashes buckets hash
   pub looked_once : HomesApart hashes buckets → new.looked ≡ old.looked + 1
+
+-- how many buckets a probe for this hash reads up to and with this bucket
+abbrev pub probe_reads : ℕ → ℕ → ℕ → ℕ
+probe_reads buckets hash bucket = probe_distance buckets (home buckets hash) bucket + 1
 
 -- the most buckets that a removal of the pair at this entry index reads: one fewer than unsuccessful probes for its hash and for the last one
 abbrev pub removal_reads : List ℕ → ℕ → ℕ → ℕ

@@ -32,9 +32,8 @@ pub record IsFoundAt (slots : List (Option ℕ)) (hash bucket : ℕ) : Type 0 wh
   pub found : slot_at slots bucket ≡ Some hash
   pub passed : FullBefore slots (home (length slots) hash) bucket
 
--- a probe for the hash ended at the pair of this entry index, and read each bucket up to the pair's
-pub record EndsAtPair (hashes words : List ℕ) (hash index before after : ℕ) : Type 0 where
-  pub bucket : ℕ
+-- a probe for the hash ended at the pair of this entry index, in this bucket, and read each bucket up to it
+pub record EndsAtPair (hashes words : List ℕ) (hash index bucket before after : ℕ) : Type 0 where
   pub found : IsFoundAt (slots_by hashes words) hash bucket
   pub entry : index ≡ slice_index words bucket - 1
   pub looked : after ≡ before + (distance_from_home (slots_by hashes words) hash bucket + 1)

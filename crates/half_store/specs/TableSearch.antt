@@ -1,11 +1,16 @@
 -- What a search of a table finds, and what it costs; and what a removal does.
-use Rattle.std.specs.Prelude.{◌≡◌, ℕ, ◌+◌, ◌<◌, ◌≤◌, Bool, true, false, length, Some, slice_get, Result, IfOk, IfErr, OnErr}
+use Rattle.std.specs.Prelude.{◌≡◌, ℕ, ◌+◌, ◌<◌, ◌≤◌, Bool, true, false, length, Some, slice_get, Result, Ok, Err, IfOk, IfErr, OnErr}
 use Rattle.std.specs.List.{swap_remove}
 use Rattle.half_store.specs.Capacity.{capacity_of, buckets_of}
 use Rattle.half_store.specs.Probe.{after_missing, AddsFinding}
 use Rattle.half_store.specs.Reach.{reach}
 use Rattle.half_store.specs.Table.{TableState, table_contents, IsVacancyIn}
 use Rattle.half_store.specs.Work.{Work}
+
+-- what a search returned, without the bucket of the pair that it found
+abbrev pub without_bucket : Result (ℕ × ℕ) ℕ → Result ℕ ℕ
+without_bucket (Ok found) = Ok found.0
+without_bucket (Err bucket) = Err bucket
 
 -- the entry index of a pair of this hash that the test accepts; or, where it refuses each, the empty bucket where the probe ended, if there
 -- are buckets

@@ -3,7 +3,7 @@
 //! A bucket contains an entry index, and a column has the stored hash of each. There are no keys: a search takes a test of
 //! an entry index. Probes go up from the home bucket of a hash, one bucket at a time, and a removal shifts back what
 //! follows it, so no tombstone is left.
-ghost use Rattle.std.specs.Prelude.{◌≡◌, ℕ, ◌+◌, ◌^◌, ◌<◌, ◌≤◌, true, false, [], ◌∷◌, ◌++◌, length, Some, slice_get};
+ghost use Rattle.std.specs.Prelude.{◌≡◌, ℕ, ◌+◌, ◌^◌, ◌<◌, ◌≤◌, true, false, [], ◌∷◌, ◌++◌, length, Some, slice_get, IfOk, OnErr};
 ghost use Rattle.std.specs.List.{swap_remove};
 ghost use Rattle.half_store.specs.Reach.{reach};
 ghost use Rattle.half_store.specs.Capacity.{capacity_of, IsBucketCount, capacity_for, buckets_of};
@@ -23,7 +23,7 @@ use crate::Tally;
 use crate::buckets::HashedBuckets;
 use crate::capacity::capacity_of;
 use crate::words::{WordArray, Words};
-use deletion::remove_in;
+use deletion::{remove_in, take_in};
 use find::find_in;
 use probe::first_empty;
 use std::alloc::Global;
@@ -186,6 +186,33 @@ impl Table {
         match &mut self.buckets {
             WordArray::FourBytes(buckets) => remove_in(buckets, &mut self.hashes, index, tally),
             WordArray::EightBytes(buckets) => remove_in(buckets, &mut self.hashes, index, tally),
+        }
+    }
+
+    /// Searches as `find` does, and removes the pair that it finds, in the bucket where the probe ended. The last pair takes its
+    /// index. What the removal reads beside the search is counted apart, and is within the bound of `remove_counted`.
+    #[inline(always)]
+    pub fn take<F: Fn(usize) -> bool>(
+        &mut self,
+        hash: u64,
+        matches: &F,
+        tally: &mut Tally,
+        removal: &mut Tally,
+    ) -> Result<usize, usize>
+        requires { (index : ℕ) → slice_get self.old.hashes index ≡ Some hash → F.pre matches.now index }
+        ensures finds { FindsInTable (F.post matches.now) self.old hash result tally.old tally.new }
+        ensures removes { IfOk result (λ index. RemovesFromTable self.old index self.new hash) }
+        ensures cost { IfOk result (λ index. LooksWithin (removal_reads self.old.hashes self.old.buckets index)
+            removal.old removal.new) }
+        ensures same { OnErr result ((self.new ≡ self.old) × (removal.new ≡ removal.old)) }
+    {
+        match &mut self.buckets {
+            WordArray::FourBytes(buckets) => {
+                take_in(buckets, &mut self.hashes, hash, matches, tally, removal)
+            }
+            WordArray::EightBytes(buckets) => {
+                take_in(buckets, &mut self.hashes, hash, matches, tally, removal)
+            }
         }
     }
 

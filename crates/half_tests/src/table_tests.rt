@@ -54,7 +54,7 @@ fn searched(table: &Table, hash: u64, accepted: usize) -> Search {
         asked.set(asked.get().wrapping_add(1));
         index == accepted
     };
-    let ended = search(&buckets, hash, &matches, &mut Tally::new());
+    let ended = search(&buckets, hash, &matches, &mut Tally::new()).map(|(index, _)| index);
     (ended, asked.get(), reads.get())
 }
 

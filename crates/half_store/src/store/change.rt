@@ -1,15 +1,19 @@
 //! Adding and removing pairs.
 ghost use Rattle.std.specs.Prelude.{◌≡◌, ℕ, ◌<◌, ◌≤◌, false, Some, None, IfSome, IfNone, length, map, slice_get};
 ghost use Rattle.std.specs.Borrow.{Bor};
+ghost use Rattle.std.specs.Fn.{FnReturnsAt};
 ghost use Rattle.std.specs.Map.{keys_of};
 ghost use Rattle.std.specs.Map.Calls.{CalledAtPair, TakesPair, CallableOnEachPair, RetainsPairs};
 ghost use Rattle.std.specs.Option.{option_map};
 ghost use Rattle.half_store.specs.Pairs.{swap_remove_at};
+ghost use Rattle.half_store.specs.Removal.{SwapRemoves, Takes};
 ghost use Rattle.half_store.specs.Replaced.{Replaces};
+ghost use Rattle.half_store.specs.Search.{ReturnsAt};
 ghost use Rattle.half_store.specs.Store.{store_pushed, IsVacancy, KeepsForm};
 
 use super::Store;
 use super::vacancy::Vacancy;
+use crate::Tally;
 
 impl<K, V> Store<K, V> {
     /// Adds a pair at the end, at a vacancy for its hash. The capacity must be enough for it. It reads no bucket.
@@ -29,15 +33,43 @@ impl<K, V> Store<K, V> {
     #[inline(always)]
     pub fn swap_remove(&mut self, index: usize) -> (K, V)
         requires { index < length self.old.pairs }
-        ensures removed { slice_get self.old.pairs index ≡ Some result }
-        ensures pairs { self.new.pairs ≡ swap_remove_at self.old.pairs index }
-        ensures hashes { self.old.is_vec ≡ false → self.new.hashes ≡ swap_remove_at self.old.hashes index }
-        ensures form { KeepsForm self.old self.new }
+        ensures { SwapRemoves self.old self.new index result }
     {
         if let Some(table) = &mut self.table {
             table.remove(index);
         }
         self.columns.swap_remove(index)
+    }
+
+    /// Removes a pair whose key `matches` accepts, as `find` searches for one. The last pair takes its index. In a table the bucket
+    /// of the pair is the one where the search ended.
+    #[inline(always)]
+    pub fn take<F: Fn(&K) -> bool>(
+        &mut self,
+        hash: u64,
+        matches: &F,
+        tally: &mut Tally,
+    ) -> Option<(K, V)>
+        requires { (key : Bor K) (index : ℕ) → slice_get (keys_of self.old.pairs) index ≡ Some key.now
+            → F.pre matches.now key }
+        ensures { Takes self.old self.new (FnReturnsAt F.Fn matches.now) hash result tally.old tally.new }
+    {
+        let Some(table) = &mut self.table else {
+            return match self.find(hash, matches, tally) {
+                Ok(index) => Some(self.columns.swap_remove(index)),
+                Err(_) => None,
+            };
+        };
+        let keys = self.columns.keys();
+        let matches_at = |index: usize| -> bool
+            requires within { index < length keys.now }
+            requires callable { (key : Bor K) → slice_get keys.now index ≡ Some key.now → F.pre matches.now key }
+            ensures { ReturnsAt (FnReturnsAt F.Fn matches.entry.now) keys.entry.now index result }
+        { matches(&keys[index]) };
+        match table.take(hash, &matches_at, tally, &mut Tally::new()) {
+            Ok(index) => Some(self.columns.swap_remove(index)),
+            Err(_) => None,
+        }
     }
 
     /// Hands the value of the pair at this index to `f`, with its key. Where `f` returns a value the pair has that one, and

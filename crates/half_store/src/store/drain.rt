@@ -51,7 +51,7 @@ pub trait IntoStore<K, V> {
 
 impl<K, V> Store<K, V> {
     /// Takes all pairs out, and the memory with them. A vector with no pairs and no memory is left. No pair is moved.
-    #[inline]
+    #[inline(always)]
     pub fn drain(&mut self) -> Drained<K, V>
         ensures pairs { result.pairs ≡ self.old.pairs }
         ensures form { KeepsForm self.old result }
@@ -96,7 +96,7 @@ impl<K, V> Drained<K, V> {
 impl<K, V> IntoStore<K, V> for Drained<K, V> {
     ghost store = { λ d. d };
 
-    #[inline]
+    #[inline(always)]
     fn into_store(self) -> Store<K, V>
     where
         K: Drop,

@@ -1,15 +1,14 @@
 //! A search by a match on keys, and a probe for a vacancy.
-ghost use Rattle.std.specs.Prelude.{◌≡◌, ℕ, ◌+◌, ◌<◌, ◌≤◌, true, false, Some, IfSome, IfNone, length, slice_get, if◌then◌else◌};
+ghost use Rattle.std.specs.Prelude.{◌≡◌, ℕ, ◌<◌, Some, length, slice_get, if◌then◌else◌};
 ghost use Rattle.std.specs.Borrow.{Bor};
 ghost use Rattle.std.specs.Fn.{FnReturnsAt};
 ghost use Rattle.std.specs.Map.{keys_of};
 ghost use Rattle.std.specs.Result.{result_ok};
 ghost use Rattle.half_store.specs.Capacity.{buckets_of};
-ghost use Rattle.half_store.specs.Probe.{AddsFinding, after_missing, looked_more};
+ghost use Rattle.half_store.specs.Probe.{looked_more};
 ghost use Rattle.half_store.specs.Reach.{reach};
-ghost use Rattle.half_store.specs.Search.{ReturnsAt, Finds};
+ghost use Rattle.half_store.specs.Search.{ReturnsAt, Finds, CostsFinding};
 ghost use Rattle.half_store.specs.Store.{IsVacancy};
-ghost use Rattle.half_store.specs.Work.{compared_more, first_match_cost};
 
 use super::Store;
 use super::vacancy::Vacancy;
@@ -28,14 +27,7 @@ impl<K, V> Store<K, V> {
         requires { (key : Bor K) (index : ℕ) → slice_get (keys_of self.now.pairs) index ≡ Some key.now
             → F.pre matches.now key }
         ensures found { Finds (FnReturnsAt F.Fn matches.now) hash self.now result }
-        ensures vector_cost { self.now.is_vec ≡ true
-            → tally.new ≡ compared_more (first_match_cost (result_ok result) (length self.now.pairs)) tally.old }
-        ensures found_cost { self.now.is_vec ≡ false → IfSome (result_ok result) (λ _.
-            AddsFinding self.now.hashes (buckets_of self.now.capacity) hash tally.old tally.new) }
-        ensures missing_cost { self.now.is_vec ≡ false → IfNone (result_ok result)
-            (tally.new ≡ after_missing self.now.hashes (buckets_of self.now.capacity) hash tally.old) }
-        ensures short { self.now.is_vec ≡ false
-            → reach self.now.hashes (buckets_of self.now.capacity) hash ≤ length self.now.hashes + 1 }
+        ensures cost { CostsFinding self.now hash (result_ok result) tally.old tally.new }
     {
         // A test for each form, since a closure with one call is inlined there.
         // It comes before the keys are read, so that LLVM can join it to the test before the hash.

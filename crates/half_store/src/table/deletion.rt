@@ -1,14 +1,19 @@
 //! Backward-shift deletion: after a removal the pairs that follow move back, so that no tombstone is needed.
-ghost use Rattle.std.specs.Prelude.{◌≡◌, ℕ, ◌+◌, ◌-◌, ◌^◌, ◌<◌, ◌≤◌, length, Some, slice_get, slice_set, slice_index, vec_capacity};
+ghost use Rattle.std.specs.Prelude.{◌≡◌, ℕ, ◌+◌, ◌-◌, ◌^◌, ◌<◌, ◌≤◌, length, Some, IfOk, OnErr, slice_get, slice_set, slice_index, vec_capacity};
 ghost use Rattle.std.specs.List.{swap_remove};
 ghost use Rattle.half_store.specs.Buckets.{slots_by};
 ghost use Rattle.half_store.specs.Capacity.{IsBucketCount};
-ghost use Rattle.half_store.specs.Probe.{looked_more, LooksWithin, removal_reads};
+ghost use Rattle.half_store.specs.Probe.{looked_more, LooksWithin, probe_reads, removal_reads};
 ghost use Rattle.half_store.specs.Reach.{home, probe_distance, IsNearer};
+ghost use Rattle.half_store.specs.Removal.{Renames};
+ghost use Rattle.half_store.specs.Table.{table_state};
 ghost use Rattle.half_store.specs.TableLayout.{IsIndexed, IsIndexedButFor, IsVacantBeside};
+ghost use Rattle.half_store.specs.TableSearch.{FindsInTable};
 
+use super::find::find_with_bucket;
 use super::probe::{home, next};
 use crate::Tally;
+use crate::buckets::HashedBuckets;
 use crate::words::Words;
 
 /// Removes the pair at this entry index, and returns its stored hash. The last pair takes its index.
@@ -30,13 +35,100 @@ pub(super) fn remove_in<B: Words>(
     ensures most { B.most buckets.new ≡ B.most buckets.old }
     ensures cost { LooksWithin (removal_reads hashes.old.items (length (B.words buckets.old)) index) tally.old tally.new }
 {
-    let last = hashes.len() - 1;
     let bucket = bucket_of(buckets, hashes.as_slice(), index, tally);
-    let last_bucket = bucket_of(buckets, hashes.as_slice(), last, tally);
-    buckets.set_word(last_bucket, index + 1);
+    remove_at(buckets, hashes, index, bucket, tally)
+}
+
+/// `remove_in`, where the bucket of the pair is known. It reads that many fewer buckets as a probe for it reads.
+#[inline(always)]
+fn remove_at<B: Words>(
+    buckets: &mut B,
+    hashes: &mut Vec<u64>,
+    index: usize,
+    bucket: usize,
+    tally: &mut Tally,
+) -> u64
+    requires indexed { IsIndexed hashes.old.items (B.words buckets.old) }
+    requires within { index < length hashes.old.items }
+    requires at { slice_index (B.words buckets.old) bucket ≡ index + 1 }
+    requires fits { length hashes.old.items ≤ B.most buckets.old }
+    ensures hash { slice_get hashes.old.items index ≡ Some result }
+    ensures hashes { hashes.new.items ≡ swap_remove hashes.old.items index 0 }
+    ensures capacity { vec_capacity hashes.new ≡ vec_capacity hashes.old }
+    ensures indexed { IsIndexed hashes.new.items (B.words buckets.new) }
+    ensures len { length (B.words buckets.new) ≡ length (B.words buckets.old) }
+    ensures most { B.most buckets.new ≡ B.most buckets.old }
+    ensures cost { LooksWithin (removal_reads hashes.old.items (length (B.words buckets.old)) index
+        - probe_reads (length (B.words buckets.old)) (slice_index hashes.old.items index) bucket) tally.old tally.new }
+{
+    rename_last(buckets, hashes.as_slice(), index, bucket, tally);
     let hash = hashes.swap_remove(index);
     backward_shift(buckets, hashes.as_slice(), bucket, tally);
     hash
+}
+
+/// Writes this entry index, which stands in this bucket, into the bucket of the last pair. Where the pair is the last one
+/// nothing is read.
+#[inline(always)]
+fn rename_last<B: Words>(
+    buckets: &mut B,
+    hashes: &[u64],
+    index: usize,
+    bucket: usize,
+    tally: &mut Tally,
+)
+    requires indexed { IsIndexed hashes.now (B.words buckets.old) }
+    requires within { index < length hashes.now }
+    requires at { slice_index (B.words buckets.old) bucket ≡ index + 1 }
+    requires fits { length hashes.now ≤ B.most buckets.old }
+    ensures renames { Renames hashes.now (B.words buckets.old) index (B.words buckets.new) tally.old tally.new }
+    ensures most { B.most buckets.new ≡ B.most buckets.old }
+{
+    let last = hashes.len() - 1;
+    if index != last {
+        let last_bucket = bucket_of(buckets, hashes, last, tally);
+        buckets.set_word(last_bucket, index + 1);
+    }
+}
+
+/// Searches as `find_in` does, and removes the pair that it finds, in the bucket where the probe ended. What the removal
+/// reads beside the search is counted apart.
+#[inline(always)]
+pub(super) fn take_in<B: Words, F: Fn(usize) -> bool>(
+    buckets: &mut B,
+    hashes: &mut Vec<u64>,
+    hash: u64,
+    matches: &F,
+    tally: &mut Tally,
+    removal: &mut Tally,
+) -> Result<usize, usize>
+    requires indexed { IsIndexed hashes.old.items (B.words buckets.old) }
+    requires fits { length hashes.old.items ≤ B.most buckets.old }
+    requires callable { (index : ℕ) → slice_get hashes.old.items index ≡ Some hash → F.pre matches.now index }
+    ensures finds { FindsInTable (F.post matches.now)
+        (table_state hashes.old.items (slots_by hashes.old.items (B.words buckets.old)))
+        hash result tally.old tally.new }
+    ensures hashes { IfOk result (λ index. hashes.new.items ≡ swap_remove hashes.old.items index 0) }
+    ensures cost { IfOk result (λ index.
+        LooksWithin (removal_reads hashes.old.items (length (B.words buckets.old)) index) removal.old removal.new) }
+    ensures capacity { vec_capacity hashes.new ≡ vec_capacity hashes.old }
+    ensures indexed { IsIndexed hashes.new.items (B.words buckets.new) }
+    ensures len { length (B.words buckets.new) ≡ length (B.words buckets.old) }
+    ensures most { B.most buckets.new ≡ B.most buckets.old }
+    ensures same { OnErr result ((hashes.new.items ≡ hashes.old.items) × (B.words buckets.new ≡ B.words buckets.old)
+        × (removal.new ≡ removal.old)) }
+{
+    let held = HashedBuckets {
+        buckets: &*buckets,
+        hashes: hashes.as_slice(),
+    };
+    match find_with_bucket(&held, hash, matches, tally) {
+        Ok((index, bucket)) => {
+            remove_at(buckets, hashes, index, bucket, removal);
+            Ok(index)
+        }
+        Err(bucket) => Err(bucket),
+    }
 }
 
 /// The bucket of the pair at this entry index: where a probe from its stored hash meets the index. It reads fewer buckets than

@@ -1,9 +1,9 @@
 //! The search of a table, over buckets of either size.
-ghost use Rattle.std.specs.Prelude.{◌≡◌, ℕ, Some, slice_get};
+ghost use Rattle.std.specs.Prelude.{◌≡◌, ℕ, ◌+◌, Some, slice_get, slice_index, IfOk};
 ghost use Rattle.half_store.specs.Buckets.{slots_by};
 ghost use Rattle.half_store.specs.Table.{table_state};
 ghost use Rattle.half_store.specs.TableLayout.{IsIndexed};
-ghost use Rattle.half_store.specs.TableSearch.{FindsInTable};
+ghost use Rattle.half_store.specs.TableSearch.{FindsInTable, without_bucket};
 
 use super::probe::search;
 use crate::Tally;
@@ -22,6 +22,27 @@ pub(super) fn find_in<P: Buckets, F: Fn(usize) -> bool>(
     ensures { FindsInTable (F.post matches.now)
         (table_state (P.hashes buckets.now) (slots_by (P.hashes buckets.now) (P.words buckets.now)))
         hash result tally.old tally.new }
+{
+    match find_with_bucket(buckets, hash, matches, tally) {
+        Ok((index, _)) => Ok(index),
+        Err(bucket) => Err(bucket),
+    }
+}
+
+/// `find_in`, which also returns the bucket of the pair that it finds.
+#[inline(always)]
+pub(super) fn find_with_bucket<P: Buckets, F: Fn(usize) -> bool>(
+    buckets: &P,
+    hash: u64,
+    matches: &F,
+    tally: &mut Tally,
+) -> Result<(usize, usize), usize>
+    requires indexed { IsIndexed (P.hashes buckets.now) (P.words buckets.now) }
+    requires callable { (index : ℕ) → slice_get (P.hashes buckets.now) index ≡ Some hash → F.pre matches.now index }
+    ensures finds { FindsInTable (F.post matches.now)
+        (table_state (P.hashes buckets.now) (slots_by (P.hashes buckets.now) (P.words buckets.now)))
+        hash (without_bucket result) tally.old tally.new }
+    ensures at { IfOk result (λ found. slice_index (P.words buckets.now) found.1 ≡ found.0 + 1) }
 {
     if buckets.count() == 0 {
         return Err(0);

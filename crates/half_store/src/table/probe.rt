@@ -37,23 +37,23 @@ pub(crate) fn next(bucket: usize, count: usize) -> usize
 /// Probes up from the home bucket to a pair that is accepted, or else to the first empty bucket.
 ///
 /// `matches` is called with the entry indices of those pairs alone whose whole hash is equal. Returns the entry index of the
-/// pair, or the empty bucket.
+/// pair and its bucket, or the empty bucket.
 #[inline(always)]
 pub fn search<P: Buckets, F: Fn(usize) -> bool>(
     buckets: &P,
     hash: u64,
     matches: &F,
     tally: &mut Tally,
-) -> Result<usize, usize>
+) -> Result<(usize, usize), usize>
     requires whole { WithinHashes (P.hashes buckets.now) (P.words buckets.now) }
     requires count { IsBucketCount (length (P.words buckets.now)) }
     requires vacant { SomeVacant (slots_by (P.hashes buckets.now) (P.words buckets.now)) }
     requires ordered { ProbeInvariant (slots_by (P.hashes buckets.now) (P.words buckets.now)) }
     requires callable { (bucket : ℕ) → slot_at (slots_by (P.hashes buckets.now) (P.words buckets.now)) bucket ≡ Some hash
         → F.pre matches.now (slice_index (P.words buckets.now) bucket - 1) }
-    ensures found { IfOk result (λ index. EndsAtPair (P.hashes buckets.now) (P.words buckets.now) hash index
+    ensures found { IfOk result (λ found. EndsAtPair (P.hashes buckets.now) (P.words buckets.now) hash found.0 found.1
         tally.old.looked tally.new.looked) }
-    ensures accepted { IfOk result (λ index. F.post matches.now index true) }
+    ensures accepted { IfOk result (λ found. F.post matches.now found.0 true) }
     ensures vacancy { IfErr result (IsVacancyFor (slots_by (P.hashes buckets.now) (P.words buckets.now)) hash) }
     ensures refused { OnErr result ((bucket : ℕ) → slot_at (slots_by (P.hashes buckets.now) (P.words buckets.now)) bucket ≡ Some hash
         → F.post matches.now (slice_index (P.words buckets.now) bucket - 1) false) }
@@ -73,7 +73,7 @@ pub fn search<P: Buckets, F: Fn(usize) -> bool>(
             None => return Err(bucket),
             Some((index, held)) => {
                 if held == hash && compare(matches, index, tally) {
-                    return Ok(index);
+                    return Ok((index, bucket));
                 }
             }
         }

@@ -10,7 +10,7 @@ use std::hash::{BuildHasher, Hash};
 
 impl<K: Eq + Hash, V, S: BuildHasher, L: Limit> LimitedHashMap<K, V, S, L> {
     /// Takes the store out, with all pairs. An empty vector without memory is left, and the builder.
-    #[inline]
+    #[inline(always)]
     pub(crate) fn take_store(&mut self) -> Drained<K, V>
         ensures after { WithPairs self.old self.old.pairs (state_in L.LIMIT result self.new.builder) }
         ensures small { length result.pairs < 2 ^ 63 }
@@ -21,6 +21,7 @@ impl<K: Eq + Hash, V, S: BuildHasher, L: Limit> LimitedHashMap<K, V, S, L> {
     }
 
     /// Puts it back, with no pair. Those that are left in it are dropped.
+    #[inline(always)]
     pub(crate) fn put_back<P: IntoStore<K, V>>(&mut self, drained: P)
     where
         K: Drop,

@@ -129,10 +129,10 @@ impl<K: Eq + Hash, V, S: BuildHasher, L: Limit> LimitedHashMap<K, V, S, L> {
         ensures cost { CostsHashedSearch S.BuildHasher S.Hasher.Hasher K.hash_input Q.hash_input Q.equivalent key
             self.old tally.old tally.new }
     {
-        match self.find_hashed(hash, key, tally) {
-            Ok(index) => Some(self.take_at(index)),
-            Err(_) => None,
-        }
+        let matches = move |held: &K| -> bool
+            ensures { result ≡ Q.equivalent key held.now }
+        { key.equivalent(held) };
+        self.store.take(hash, &matches, tally)
     }
 
     /// Removes the pair at this index.

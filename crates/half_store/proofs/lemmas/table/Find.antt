@@ -12,7 +12,7 @@ use Rattle.half_store.specs.Probe.{after_missing, looked_more}
 use Rattle.half_store.specs.Slots.{slot_at, stored, IsVacancyFor, EndsAtPair, distance_from_home}
 use Rattle.half_store.specs.Table.{TableState, table_state}
 use Rattle.half_store.specs.TableLayout.{IsIndexed}
-use Rattle.half_store.specs.TableSearch.{FindsInTable}
+use Rattle.half_store.specs.TableSearch.{FindsInTable, without_bucket}
 use Rattle.half_store.specs.Work.{Work}
 use Rattle.half_store.proofs.lemmas.table.Buckets.{length-slots_by, slot_of_word, word_of_slot, some_bucket}
 use Rattle.half_store.proofs.lemmas.table.Circle.{distance_self}
@@ -81,16 +81,15 @@ module _ {hashes words : List ℕ} (x : IsIndexed hashes words) (hash : ℕ) whe
       }
 
   -- what a search says of the slots, where there are some, is what callers see
-  pub finds : (returns : ℕ → Bool → Type 0) (result : Result ℕ ℕ) (old new : Work)
-      → IfOk result (λ index. EndsAtPair hashes words hash index old.looked new.looked) → IfOk result (λ index. returns index true)
+  pub finds : (returns : ℕ → Bool → Type 0) (result : Result (ℕ × ℕ) ℕ) (old new : Work)
+      → IfOk result (λ found. EndsAtPair hashes words hash found.0 found.1 old.looked new.looked) → IfOk result (λ found. returns found.0 true)
       → IfErr result (IsVacancyFor slots hash)
       → OnErr result ((p : ℕ) → slot_at slots p ≡ Some hash → returns (slice_index words p - 1) false)
       → new.asked ≡ old.asked → IfErr result (λ p. new.looked ≡ old.looked + (distance_from_home slots hash p + 1))
       → OnOk result (old.compared + 1 ≤ new.compared) → new.compared ≤ old.compared + held
       → OnErr result (new.compared ≡ old.compared + held)
-      → FindsInTable returns (table_state hashes slots) hash result old new
-  finds returns (Ok index) old new ends accepted vacancy refused asked looked some most all =
-      let p = ends.bucket in
+      → FindsInTable returns (table_state hashes slots) hash (without_bucket result) old new
+  finds returns (Ok (index, p)) old new ends accepted vacancy refused asked looked some most all =
       let in_p : p < length slots = full-lt slots p (full_from _ hash ends.found.found) in
       let vacant = index-vacant x (omega (arith, length-slots_by hashes words)) in
       let far = reach_past_pair slots x.ordered hashes (index-counted x) hash p ends.found.found vacant in

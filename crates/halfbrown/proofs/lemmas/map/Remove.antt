@@ -4,14 +4,21 @@ use Rattle.std.proofs.Common.{◌≡◌, ℕ, ◌-◌, ◌≤◌, Bool, true, []
 use Rattle.std.proofs.Common.{ap, subst, ◌∙◌}
 use Rattle.std.specs.Cmp.{IsEquivalence}
 use Rattle.std.proofs.lemmas.List.{append-nil}
-use Rattle.std.proofs.lemmas.Option.{slice_get_past}
+use Rattle.std.proofs.lemmas.Option.{slice_get_past, slice_get_within}
 use Rattle.std.specs.Option.{option_map}
+use Rattle.std.specs.Prelude.{Result, Ok, Err}
 use Rattle.half_store.specs.Pairs.{swap_remove_at}
+use Rattle.half_store.specs.Removal.{TakesFound}
+use Rattle.half_store.specs.Store.{StoreState, allowed}
+use Rattle.half_store.specs.declared.store.vacancy.Vacancy.{Vacancy}
+use Rattle.halfbrown.specs.Layout.{IsKept, state_in}
+use Rattle.halfbrown.specs.Lookup.{LooksUp}
 use Rattle.halfbrown.specs.Pairs.{take_out_by}
 use Rattle.halfbrown.specs.Removal.{Removes, RemovesAt}
 use Rattle.halfbrown.specs.State.{State, IsState, WithPairs}
 use Rattle.halfbrown.specs.Updates.{HasRemovedBy}
 use Rattle.halfbrown.proofs.CallerLemmas.{has_removed_by}
+use Rattle.halfbrown.proofs.lemmas.map.Layout.{kept_taken, state_of}
 use Rattle.halfbrown.proofs.lemmas.pairs.Indices.{value_of_entry}
 use Rattle.halfbrown.proofs.lemmas.pairs.PairIndices.{index_of_pair, last_taken}
 
@@ -38,6 +45,46 @@ module _ {K V S : Type 0} (limit : ℕ) (eq : K → K → Bool) (test : K → Bo
     removed = removes.removed;
     state = removes.state;
   }
+
+-- a store without the pair that a search of it found
+module _ {K V S : Type 0} (limit : ℕ) (eq : K → K → Bool) (laws : IsEquivalence eq) (hash : K → ℕ) (builder : S) (old new : StoreState K V)
+    (kept : IsKept eq hash limit old) where
+  -- keeps what the fields of a map keep
+  pub kept_found : (search : Result ℕ Vacancy) (result : Option (K × V)) → TakesFound old new search result → IsKept eq hash limit new
+  kept_found (Ok index) (Some pair) taken =
+      kept_taken eq hash limit laws old new index kept taken.form (slice_get_within old.pairs index pair taken.removed) taken.pairs
+      taken.hashes
+  kept_found (Ok index) None taken = absurd taken
+  kept_found (Err vacancy) (Some pair) taken = absurd taken
+  kept_found (Err vacancy) None same = subst (IsKept eq hash limit) (sym same) kept
+
+  abbrev was : State K V S
+  was = state_in limit old builder
+
+  was_state : IsState eq limit was
+  was_state = state_of eq hash limit old builder kept
+
+  -- is the map without the pair of the key that was searched for
+  pub removes_found : (test : K → Bool) (own : ℕ) → ((k other : K) → test k ≡ true → test other ≡ eq k other)
+      → (search : Result ℕ Vacancy) (result : Option (K × V)) → TakesFound old new search result → LooksUp test own was search
+      → Removes limit eq test was (lookup_entry test old.pairs) result (state_in limit new builder)
+  removes_found test own one_class (Ok index) (Some pair) taken found =
+      removed_as limit eq test was (state_in limit new builder) laws one_class was_state
+      (state_of eq hash limit new builder (kept_found (Ok index) (Some pair) taken))
+      (record {
+        pairs = taken.pairs ∙ sym found.take_is;
+        form = taken.form.form;
+        capacity = λ i. allowed limit (taken.form.form i) (taken.form.capacity i);
+        columns = taken.form.columns;
+        builder = refl;
+      })
+      _ _ (sym taken.removed ∙ sym found.pair)
+  removes_found test own one_class (Ok index) None taken found = absurd taken
+  removes_found test own one_class (Err vacancy) (Some pair) taken found = absurd taken
+  removes_found test own one_class (Err vacancy) None same found =
+      subst (λ s. Removes limit eq test was (lookup_entry test old.pairs) None (state_in limit s builder)) (sym same)
+      (removed_as limit eq test was was laws one_class was_state was_state
+      (record { pairs = sym found.0.take_is; form = refl; capacity = refl; columns = refl; builder = refl }) _ _ (sym found.0.pair))
 
 module _ {K V S : Type 0} (limit : ℕ) (eq : K → K → Bool) (old : State K V S) (index : ℕ) where
   -- the pair at an index is taken out

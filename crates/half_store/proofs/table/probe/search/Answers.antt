@@ -34,7 +34,6 @@ returns-in-None-clause-compared_most g c =
 
 pub returns-then-compare-clause-found : goal.returns-then-compare-clause-found
 returns-then-compare-clause-found g c = record {
-  bucket = c.loop-index.bucket;
   found = record { found = sym c.in-Some.ensures.hash ∙ ap Some c.if-held-hash.true; passed = c.loop-index.invariant.probe.passed };
   entry = c.in-Some.ensures.index;
   looked = omega (

@@ -26,5 +26,5 @@ returns-clause-cost g c =
     c.args.tally.now c.find.new.tally) c.self.view_is
     (match_costs hashing c.args.hash (state_in g.L.Limit.LIMIT store c.self.inside.builder) c.args.tally.now c.find.new.tally store.is_vec
     (λ i. store.is_vec) (result_ok c.find.result) store.hashes store.capacity
-    c.self.invariant.hashed (table_capacity_is g.L.Limit.LIMIT store.is_vec store.capacity) told.vector_cost told.found_cost
-    told.missing_cost told.short)
+    c.self.invariant.hashed (table_capacity_is g.L.Limit.LIMIT store.is_vec store.capacity) told.cost.vector told.cost.found
+    told.cost.missing told.cost.short)
