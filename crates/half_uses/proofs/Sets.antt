@@ -1,4 +1,4 @@
--- The values of a set after some are added, and what two sets have in common.
+-- The values of a set after some are added, and when two sets are equal.
 use Rattle.std.proofs.Common.{◌≡◌, ◌↔◌, Bool, true, List, [], ◌∷◌, ◌||◌, Option, None, Some, is_some, IsTrue, sym, refl, ap, ◌∙◌, arith}
 use Rattle.std.proofs.lemmas.Grind.{common_steps}
 use Rattle.std.proofs.lemmas.List.Folds.{list_any-append}
@@ -12,8 +12,8 @@ use Rattle.halfbrown.specs.Gathering.{add_key, add_keys}
 use Rattle.halfbrown.specs.Equality.{same_value}
 use Rattle.halfbrown.specs.EqualityLaws.{same_pairs-Decides}
 use Rattle.halfbrown.specs.Pairs.{value_of}
-use Rattle.half_uses.specs.Sets.{same_values, with_nothing}
 use Rattle.halfbrown.proofs.CallerFacts.{holds_by-any}
+use Rattle.half_uses.specs.Sets.{same_values, with_nothing}
 
 module _ {T : Type 0} {eq : T → T → Bool} (laws : IsEquivalence eq) where
   member_added : (xs : List T) (k q : T) → is_member eq (add_key eq xs k) q ≡ (is_member eq xs q || eq q k)
