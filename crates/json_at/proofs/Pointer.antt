@@ -1,7 +1,6 @@
 -- A path, a step at a time.
-use Rattle.std.proofs.Common.{◌≡◌, ◌≢◌, ℕ, suc, ◌<◌, ◌≤◌, Bool, true, false, List, [], ◌∷◌, length, get_or, Option, None, Some, option_map, option_and_then, Result, Ok, Err, refl, sym, ap, ◌∙◌, arith, true≢false, eq-eqb, eqb-true, ne_eqb, slice_index, slice_get, ◌==◌, ◌&&◌, ◌||◌, ◌^◌, not, nat_lt, if◌then◌else◌, inl, inr, Vec, Global, rules}
-use Rattle.std.proofs.lemmas.Bool.Decides.{Decides-ltb}
-use Rattle.std.proofs.lemmas.Bool.{cases_Bool}
+use Rattle.std.proofs.Common.{◌≡◌, ◌≢◌, ℕ, suc, ◌<◌, ◌≤◌, true, false, List, [], ◌∷◌, length, get_or, Option, None, Some, option_map, option_and_then, Result, Ok, Err, refl, sym, ap, ◌∙◌, arith, true≢false, eq-eqb, eqb-true, ne_eqb, slice_index, slice_get, ◌==◌, Vec, Global, rules}
+use Rattle.std.proofs.lemmas.Bool.Decides.{nat_tests}
 use Rattle.std.proofs.lemmas.Str.Parse.{IsNumeralModel, numerals_by_value, tells_all_ascii_digits, parse_plain}
 use Rattle.std.specs.Borrow.{Bor}
 use Rattle.std.specs.Iterator.{AlwaysYields}
@@ -52,22 +51,6 @@ unfolding index_of
 index_of-zero [] zero long = refl
 index_of-zero (c ∷ step) zero long = rw (eqb-true c 48 zero, ne_eqb (length step) 0 (λ e. omega arith)) refl
 
-passed : (a b c : Bool) (n : ℕ) → a ≡ true → b ≡ true → c ≡ true → (if a && b && c then Some n else None) ≡ Some n
-passed a b c n p q r = rw (p, q, r) refl
-
-failed : (a b c : Bool) (n : ℕ) → ((b ≡ true) × (c ≡ true) → ⊥) → (if a && b && c then Some n else None) ≡ None
-failed false b c n not_both = refl
-failed true false c n not_both = refl
-failed true true false n not_both = refl
-failed true true true n not_both = absurd (not_both (refl, refl))
-
--- no zero stands before another digit
-no_zero_before : (c : ℕ) (step : List ℕ) → ((c == 48) ≡ true → length (c ∷ step) ≤ 1) → (not (c == 48) || length step == 0) ≡ true
-no_zero_before c step alone = elim (cases_Bool (c == 48)) [
-  | inl zero ↦ rw zero (eq-eqb (length step) 0 (omega (arith, alone zero)))
-  | inr other ↦ rw other refl
-]
-
 module _ {E : Type 0} where
   -- what is parsed is the index, where no plus and no zero stands before it
   pub index_of-parsed : (step : List ℕ) (r : Result ℕ E) → ParsesUnsigned {E = E} 64 10 step r → (slice_index step 0 == 43) ≡ false
@@ -76,14 +59,11 @@ module _ {E : Type 0} where
   index_of-parsed [] (Ok x) parsed plain alone = absurd (omega (arith, parsed.0.0))
   index_of-parsed [] (Err e) parsed plain alone = refl
   index_of-parsed (c ∷ step) (Ok x) parsed plain alone =
-      let read = parse_plain own {E = E} 64 (c ∷ step) (Ok x) parsed (λ e. true≢false (sym (eq-eqb c 43 e) ∙ plain)) in
-      let small = Decides-ltb (digits_value 10 (c ∷ step)) (2 ^ 64) in
-      ap Some read.1 ∙ sym (passed _ _ _ (digits_value 10 (c ∷ step)) (no_zero_before c step alone) read.0.0 (small.1 read.0.2))
+      let signless = λ (e : c ≡ 43). true≢false (sym (eq-eqb c 43 e) ∙ plain) in
+      grind (arith, nat_tests, parse_plain own {E = E} 64 (c ∷ step) (Ok x) parsed signless)
   index_of-parsed (c ∷ step) (Err e) parsed plain alone =
-      let unread = parse_plain own {E = E} 64 (c ∷ step) (Err e) parsed (λ e. true≢false (sym (eq-eqb c 43 e) ∙ plain)) in
-      let small = Decides-ltb (digits_value 10 (c ∷ step)) (2 ^ 64) in
-      sym (failed _ (all_ascii_digits (c ∷ step)) (nat_lt (digits_value 10 (c ∷ step)) (2 ^ 64)) (digits_value 10 (c ∷ step))
-      (λ both. unread (both.0, omega arith, small.0 both.1)))
+      let signless = λ (e : c ≡ 43). true≢false (sym (eq-eqb c 43 e) ∙ plain) in
+      grind (arith, nat_tests, parse_plain own {E = E} 64 (c ∷ step) (Err e) parsed signless)
 
 -- ---- steps
 
