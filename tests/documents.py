@@ -17,6 +17,9 @@ PROGRAM = os.environ.get("JSON_AT") or TOP / "crates/json_at/out/json_at"
 KIT = pathlib.Path(shutil.which("rt")).resolve().parent.parent
 FILES, DOCUMENTS, PATHS, LARGEST = 30, 100, 3, 1 << 17
 NAMES = ["a", "b", "name", "", "é", "\u2028", "😀", 'say "hi"', "back\\slash", "line\nend", "tab\t", "\x01", "\x7f", "0"]
+# Names that a path writes with escapes, and ends of paths that lead to nothing.
+NAMES += ["/", "a/b", "~", "m~n", "~1", "~01"]
+NOWHERE = ("/nowhere", "/~", "/m~n", "/~2", "/é~")
 NUMBERS = ["0", "-0", "12", "1.50", "1E+9", "-2.5e-300", "123456789012345678901234567890", "1e999"]
 
 
@@ -52,15 +55,18 @@ def some_text(chance, depth=0):
     return f"{space()}{inside}{space()}"
 
 
+def step(part):
+    """A part of a path, as JSON Pointer (RFC 6901) writes it."""
+    return "/" + str(part).replace("~", "~0").replace("/", "~1")
+
+
 def some_path(chance, value):
-    """A path, and the value that it leads to, or None."""
+    """A path, and the text of the value that it leads to, or None."""
     path = ""
     while isinstance(value, (dict, list)) and value and chance.random() < 0.8:
         part = chance.choice(list(value) if isinstance(value, dict) else range(len(value)))
-        if "/" in str(part):
-            break
-        path, value = f"{path}/{part}", value[part]
-    return (path, value) if chance.random() < 0.9 else (f"{path}/nowhere", None)
+        path, value = path + step(part), value[part]
+    return (path, written(value)) if chance.random() < 0.9 else (path + chance.choice(NOWHERE), None)
 
 
 def answer(text, path):
@@ -71,9 +77,8 @@ def answer(text, path):
 def differences(name, text, chance):
     """Where the answers differ, whole and at some paths."""
     value = read(text)
-    asked = [("", value)] + [some_path(chance, value) for _ in range(PATHS)]
-    for path, found in asked:
-        wanted = None if path.endswith("/nowhere") else written(found)
+    asked = [("", written(value))] + [some_path(chance, value) for _ in range(PATHS)]
+    for path, wanted in asked:
         yield None if answer(text, path) == wanted else f"{name} at {path!r}"
 
 

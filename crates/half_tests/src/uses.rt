@@ -57,7 +57,7 @@ fn a_set_keeps_the_order_of_insertions(rt: HostRuntime) -> Result<(), Fail> {
     assert_true(others.is_subset(&set), "all of them are there")?;
     assert_true(set.contains(&2) && set.len() == 4, "1 to 4")?;
     let same = HashSet::<u64>::from_iter(alloc, [4, 3, 2, 1])?;
-    assert_true(set.is_same(&same), "in any order")?;
+    assert_true(set == same, "in any order")?;
     assert_true(set.remove(&2) && !set.remove(&2), "it was there once")?;
     assert_true(set.insert(5)? && !set.insert(5)?, "new once")?;
     assert_true(!set.is_empty(), "four are left")?;

@@ -1,3 +1,4 @@
 pub mod Interner
 pub mod Scopes
+pub mod Sets
 pub mod Words

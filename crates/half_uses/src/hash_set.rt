@@ -1,5 +1,6 @@
 //! A set, whose values keep the order in which they were inserted until one is removed.
 ghost use Rattle.std.specs.Prelude.{◌≡◌, ◌↔◌, ◌^◌, ◌<◌, List, [], false, true, not, length, All, IsTrue, IfOk, OnOk, OnErr};
+ghost use Rattle.std.specs.Cmp.{partial_equiv_from_equiv};
 ghost use Rattle.std.specs.Iterator.{at_most, IsFinite};
 ghost use Rattle.std.specs.Iterator.Runs.{WholeRun};
 ghost use Rattle.std.specs.List.{IsDistinct};
@@ -9,8 +10,9 @@ ghost use Rattle.std.specs.Set.{is_member, IsUnion};
 ghost use Rattle.halfbrown.specs.Gathering.{add_key, add_keys, first_of_each};
 ghost use Rattle.halfbrown.specs.Iter.{keys_left, ShowsKeysInOrder};
 ghost use Rattle.halfbrown.specs.Pairs.{index_of, swap_remove_at};
+ghost use Rattle.half_uses.specs.Sets.{same_values, same_values_equiv};
 
-use halfbrown::{HashMap, Keys, Refusal, laws};
+use halfbrown::{HashMap, Keys, Refusal};
 use std::alloc::Global;
 use std::hash::Hash;
 use std::marker::Model;
@@ -141,14 +143,24 @@ impl<T: Eq + Hash> HashSet<T> {
     {
         self.iter().all(|value| other.contains(value))
     }
+}
+
+impl<T: Eq + Hash> PartialEq for HashSet<T> {
+    ghost eq = { same_values T.eq };
+
+    ghost laws = { partial_equiv_from_equiv (same_values_equiv T.eq T.Eq.laws) };
 
     /// Whether both sets have the same values, in any order.
-    pub fn is_same(&self, other: &HashSet<T>) -> bool
-        ensures { IsTrue result ↔ ((value : T) → is_member T.eq self.now value ≡ is_member T.eq other.now value) }
+    fn eq(&self, other: &Self) -> bool
+        ensures same { result ≡ same_values T.eq self.now other.now }
+        ensures members { IsTrue result ↔ ((value : T) → is_member T.eq self.now value ≡ is_member T.eq other.now value) }
     {
-        laws::equality::<T, ()>();
-        self.map.same_pairs(&other.map)
+        self.map == other.map
     }
+}
+
+impl<T: Eq + Hash> Eq for HashSet<T> {
+    ghost laws = { same_values_equiv T.eq T.Eq.laws };
 }
 
 impl<T: Eq + Hash + Drop> IntoIterator for HashSet<T> {

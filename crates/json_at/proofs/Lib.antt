@@ -1,2 +1,3 @@
+pub mod Pointer
 pub mod Reading
 pub mod Writing

@@ -1,3 +1,4 @@
 pub mod Error
 pub mod Json
 pub mod Members
+pub mod Pointer

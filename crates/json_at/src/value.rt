@@ -6,6 +6,7 @@ ghost use Rattle.halfbrown.specs.Collection.{put_all};
 ghost use Rattle.halfbrown.specs.Pairs.{put, value_of};
 
 mod error;
+mod pointer;
 mod read;
 #[cfg(test)]
 mod tests;
@@ -54,23 +55,6 @@ impl Value {
             Value::Object(members) => members.get_mut(name),
             _ => None,
         }
-    }
-
-    /// The value that a path leads to: `/a/0` is the first item of member `a`, and an empty path is the whole value. A name
-    /// that contains `/` cannot be looked up in this way.
-    pub fn pointer(&self, path: &str) -> Option<&Value> {
-        let mut parts = path.split('/');
-        if !parts.next()?.is_empty() {
-            return None;
-        }
-        let mut value = self;
-        for part in parts {
-            value = match value {
-                Value::List(items) => items.get(part.parse::<usize>().ok()?)?,
-                _ => value.get(part)?,
-            };
-        }
-        Some(value)
     }
 
     /// Gives a member of an object its value, and returns the value that it had. A new member comes last. On error nothing

@@ -34,6 +34,64 @@ fn a_path_leads_to_a_value(rt: HostRuntime) -> Result<(), Error> {
     Ok(())
 }
 
+// The table of RFC 6901, section 5, and what the RFC says of other paths.
+#[test]
+fn a_path_is_a_json_pointer(rt: HostRuntime) -> Result<(), Error> {
+    let text =
+        r#"{"foo":["bar","baz"],"":0,"a/b":1,"c%d":2,"e^f":3,"g|h":4,"i\\j":5,"k\"l":6," ":7,"m~n":8}"#;
+    for (path, wanted) in [
+        ("", Some(text)),
+        ("/foo", Some(r#"["bar","baz"]"#)),
+        ("/foo/0", Some(r#""bar""#)),
+        ("/", Some("0")),
+        ("/a~1b", Some("1")),
+        ("/c%d", Some("2")),
+        ("/e^f", Some("3")),
+        ("/g|h", Some("4")),
+        (r"/i\j", Some("5")),
+        ("/k\"l", Some("6")),
+        ("/ ", Some("7")),
+        ("/m~0n", Some("8")),
+        // A slash always begins a step, and a ~ stands for nothing by itself.
+        ("/a/b", None),
+        ("/m~n", None),
+        ("/m~", None),
+        ("/m~2n", None),
+        // An index has digits alone, and no zero before them.
+        ("/foo/1", Some(r#""baz""#)),
+        ("/foo/2", None),
+        ("/foo/01", None),
+        ("/foo/00", None),
+        ("/foo/+1", None),
+        ("/foo/-", None),
+        ("/foo/", None),
+        ("/foo/18446744073709551616", None),
+        ("/foo/0/", None),
+    ] {
+        let found = text_at(rt.alloc(), text, path)?;
+        assert_eq!(rt; found.as_ref().map(|text| text.as_str()), wanted, "{path}");
+    }
+    Ok(())
+}
+
+// The RFC takes `~1` first: `~01` is `~1`, and no slash.
+#[test]
+fn an_escape_stands_for_one_character(rt: HostRuntime) -> Result<(), Error> {
+    let text = r#"{"~1":{"/":{"~~//":1}},"/":2,"~01":3,"~":4}"#;
+    for (path, wanted) in [
+        ("/~01/~1/~0~0~1~1", Some("1")),
+        ("/~1", Some("2")),
+        ("/~001", Some("3")),
+        ("/~0", Some("4")),
+        ("/~01/~1/~0~0~1", None),
+        ("/~01/~1/~0~0~1~1~1", None),
+    ] {
+        let found = text_at(rt.alloc(), text, path)?;
+        assert_eq!(rt; found.as_ref().map(|text| text.as_str()), wanted, "{path}");
+    }
+    Ok(())
+}
+
 #[test]
 fn members_are_compared_in_any_order(rt: HostRuntime) -> Result<(), Error> {
     for (text, other, wanted) in [
