@@ -30,7 +30,7 @@ MAPS = ["limit_0", "limit_32", "std", "indexmap"]
 KEYS = {"u64": 1_000_000, "String": 100_000}
 SIZES = [4, 16, 33, 100, 1_000, 100_000, 1_000_000]
 OPERATIONS = (
-    "hit miss raw_hit build raw_build churn entry_few entry_many iter values_mut clone retain drain from_iter extend"
+    "hit miss raw_hit build raw_build remove churn entry_few entry_many iter values_mut clone retain drain from_iter extend"
     " equal shrink_to_fit"
 ).split()
 OTHERS = ["memory", "halfmap", "word_count"]

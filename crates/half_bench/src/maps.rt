@@ -99,6 +99,7 @@ impl<K: Lawful, const N: usize> Map<K> for AtLimit<K, N> {
         SizedHashMap::len(self)
     }
 
+    #[inline(always)]
     fn insert(&mut self, key: K, value: u64) -> io::Result<Option<u64>> {
         Ok(SizedHashMap::insert(self, key, value)?)
     }
@@ -164,6 +165,7 @@ impl<K: Lawful> Map<K> for OfStd<K> {
         HashMap::len(self)
     }
 
+    #[inline(always)]
     fn insert(&mut self, key: K, value: u64) -> io::Result<Option<u64>> {
         Ok(HashMap::insert(self, key, value)?)
     }
@@ -229,6 +231,7 @@ impl<K: Lawful> Map<K> for OfIndex<K> {
         IndexMap::len(self)
     }
 
+    #[inline(always)]
     fn insert(&mut self, key: K, value: u64) -> io::Result<Option<u64>> {
         Ok(IndexMap::insert(self, key, value)?)
     }

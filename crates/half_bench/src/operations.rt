@@ -6,12 +6,14 @@ use crate::keys::Key;
 use crate::maps::{AtLimit, Map};
 use crate::rounds::Timer;
 use crate::unknown;
-use given::{absent, emptied, halves, held, lists, lists_twice, maps, oldest, twins, words};
+use given::{
+    absent, emptied, filled, halves, held, lists, lists_twice, maps, oldest, twins, words,
+};
 use std::io;
 use std::time::CpuClock;
 use work::{
     ask, ask_hashed, build, build_hashed, collect, compare, copy, drain, exchange, fill, keep_even,
-    raise, shrink, sum,
+    raise, remove_all, shrink, sum,
 };
 
 /// Times an operation once on our map at limit N, which alone has calls by a known hash.
@@ -41,6 +43,7 @@ pub(crate) fn measure<K: Key, M: Map<K>>(
         "build" | "raw_build" => {
             timer.time(1, lists(alloc, size)?, |given| build(given, M::insert_all))
         }
+        "remove" => timer.time(1, filled(alloc, size)?, remove_all),
         "churn" => timer.time(1, oldest(alloc, size)?, exchange),
         "entry_few" => timer.time(1, words(alloc, size)?, |given| fill(given, M::count_all)),
         "entry_many" => timer.time(1, lists_twice(alloc, size)?, |given| {

@@ -126,6 +126,11 @@ pub(crate) fn maps<K: Key, M: Map<K>>(alloc: Global, size: u64) -> Made<K, M, K>
     of_many(alloc, size, size, 0..0)
 }
 
+/// Maps, and for each a list of its keys.
+pub(crate) fn filled<K: Key, M: Map<K>>(alloc: Global, size: u64) -> Made<K, M, K> {
+    of_many(alloc, size, size, 0..size)
+}
+
 /// Maps, and others that are equal.
 pub(crate) fn twins<K: Key, M: Map<K>>(alloc: Global, size: u64) -> Made<K, M, K> {
     let mut given: Given<K, M, K> = maps(alloc, size)?;

@@ -103,6 +103,19 @@ pub(crate) fn exchange<K: Key, M: Map<K>>(given: &mut Given<K, M, (K, K)>) -> io
     Ok(sum)
 }
 
+/// Takes out the pairs of all keys.
+#[inline(never)]
+pub(crate) fn remove_all<K: Key, M: Map<K>>(given: &mut Given<K, M, K>) -> io::Result<u64> {
+    let mut sum = given.answer;
+    for (map, keys) in given.maps.iter_mut().zip(given.lists.iter()) {
+        for key in keys {
+            let (_, value) = map.take(key).ok_or(io::ErrorKind::NotFound)?;
+            sum = sum.wrapping_add(value);
+        }
+    }
+    Ok(sum)
+}
+
 /// Adds each list to a map.
 #[inline(never)]
 pub(crate) fn fill<K: Key, M: Map<K>, T: Drop, A: Fn(&mut M, Vec<T>) -> io::Result<()>>(

@@ -99,8 +99,7 @@ impl<K, V> Store<K, V> {
             return Err(Refusal::Size);
         };
         let fresh = Table::with_capacity(self.columns.allocator(), needed)?;
-        self.columns.reserve(fresh.capacity())?;
-        table.move_to(fresh);
+        self.columns.reserve_beside(fresh.capacity(), table, fresh)?;
         Ok(())
     }
 

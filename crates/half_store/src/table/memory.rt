@@ -79,8 +79,9 @@ impl Table {
             hashes,
         } = fresh;
         rehash(&mut buckets, self.hashes.as_slice());
-        move_to(&mut self.hashes, hashes);
+        // The old buckets are freed before the hashes move.
         self.buckets = buckets;
+        move_to(&mut self.hashes, hashes);
     }
 
     /// For how many hashes and for how many words of buckets there is memory, and the bytes of a word.

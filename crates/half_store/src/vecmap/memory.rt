@@ -1,13 +1,13 @@
 //! The capacity of the two columns: making it, and giving it back. All memory is had before anything changes.
 ghost use Rattle.std.specs.Prelude.{◌≡◌, ◌^◌, ◌<◌, ◌≤◌, ◌⊎◌, max, min, [], length, IsOk, IfOk, OnOk, OnErr, IfErr};
 ghost use Rattle.std.specs.List.{AllZip};
-ghost use Rattle.half_store.specs.Capacity.{grown_capacity};
+ghost use Rattle.half_store.specs.Capacity.{capacity_of, grown_capacity};
 ghost use Rattle.half_store.specs.Refusal.{refusal_of};
 
 use super::VecMap;
-use crate::Refusal;
-use crate::column::{clone_all, grow, move_to};
+use crate::column::{clone_all, grow_beside, move_to};
 use crate::refusal::check_size;
+use crate::{Refusal, Table};
 use std::alloc::{AllocError, Global};
 
 /// The least capacity that a growth makes, unless the limit is less.
@@ -89,14 +89,36 @@ impl<K, V> VecMap<K, V> {
         ensures needed { OnErr result (self.old.capacity < needed) }
     {
         if self.capacity() < needed {
-            let values = Vec::with_capacity(self.allocator(), needed)?;
-            // The last block, which may grow where it is.
-            if let Err(refused) = grow(&mut self.keys, needed) {
-                values.destroy_empty();
-                return Err(refused);
-            }
+            let values = grow_beside(&mut self.keys, needed)?;
             move_to(&mut self.values, values);
         }
+        Ok(())
+    }
+
+    /// `reserve`, beside which the pairs of a table move into a fresh one. They move before the values do, so that the buckets
+    /// and the values are not both there twice.
+    pub(crate) fn reserve_beside(
+        &mut self,
+        needed: usize,
+        table: &mut Table,
+        fresh: Table,
+    ) -> Result<(), AllocError>
+        requires empty { fresh.hashes ≡ [] }
+        requires fits { length table.old.hashes ≤ capacity_of fresh.buckets }
+        ensures pairs { self.new.pairs ≡ self.old.pairs }
+        ensures ok { OnOk result (self.new.capacity ≡ max self.old.capacity needed) }
+        ensures hashes { table.new.hashes ≡ table.old.hashes }
+        ensures buckets { OnOk result (table.new.buckets ≡ fresh.buckets) }
+        ensures err { OnErr result ((self.new ≡ self.old) × (table.new ≡ table.old)) }
+        ensures needed { OnErr result (self.old.capacity < needed) }
+    {
+        if needed <= self.capacity() {
+            table.move_to(fresh);
+            return Ok(());
+        }
+        let values = grow_beside(&mut self.keys, needed)?;
+        table.move_to(fresh);
+        move_to(&mut self.values, values);
         Ok(())
     }
 
