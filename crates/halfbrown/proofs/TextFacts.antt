@@ -160,3 +160,6 @@ pub count_str_fits : {A : Type 0} (of : A → List ℕ) (xs : List A) (ps : List
 count_str_fits of xs ps counted k =
     let most = count_fits nat_list_eq_equiv counted k.now in
     omega (arith, most, length-map xs of, ap (λ o. unwrap_or o 0) (lookup-keyed_by (λ k. k.now) (bytes_eq k.now) ps))
+
+-- for functions over texts
+pub ruleset text_facts = (lookup-keyed_by, has_put_text, has_removed_text)

@@ -2,5 +2,6 @@
 pub mod Indices
 pub mod Keys
 pub mod PairIndices
+pub mod SetBy
 pub mod SwapRemove
 pub mod Values

@@ -1,12 +1,13 @@
 //! Look-ups by key.
-ghost use Rattle.std.specs.Prelude.{◌≡◌, IsTrue, Some, ◌<◌, length, slice_get};
+ghost use Rattle.std.specs.Prelude.{◌≡◌, IsTrue, Some, OnSome, ◌<◌, length, slice_get};
 ghost use Rattle.std.specs.Borrow.{sem};
 ghost use Rattle.std.specs.Map.{values_of, lookup, lookup_entry};
 ghost use Rattle.std.specs.Map.Iter.{deref_pair};
 ghost use Rattle.std.specs.Option.{option_copied, option_copied_mut, option_map};
 ghost use Rattle.halfbrown.specs.Costs.{CostsSearch};
-ghost use Rattle.halfbrown.specs.Pairs.{holds_by};
+ghost use Rattle.halfbrown.specs.Pairs.{holds_by, set_by};
 ghost use Rattle.halfbrown.specs.State.{IsState};
+ghost use Rattle.halfbrown.specs.Updates.{HasSetBy};
 
 use super::LimitedHashMap;
 use crate::{Equivalent, Limit};
@@ -84,6 +85,8 @@ impl<K: Eq + Hash, V, S: BuildHasher, L: Limit> LimitedHashMap<K, V, S, L> {
         ensures* writes_back { sem 𝓛 (LendsValueBy K.row V.row S.row L.row S.Hasher.row K.Hash S.BuildHasher
             S.Hasher.Hasher L.Limit self.entry (Q.equivalent key) result) }
         ensures value { option_copied_mut result ≡ lookup (Q.equivalent key) self.old.pairs }
+        ensures written { OnSome result ((written : V) → HasSetBy K.eq (Q.equivalent key) self.old.pairs written
+            (set_by (Q.equivalent key) self.old.pairs written)) }
     {
         self.get_mut_counted(key, &mut Tally::new())
     }
@@ -94,6 +97,8 @@ impl<K: Eq + Hash, V, S: BuildHasher, L: Limit> LimitedHashMap<K, V, S, L> {
         ensures* writes_back { sem 𝓛 (LendsValueBy K.row V.row S.row L.row S.Hasher.row K.Hash S.BuildHasher
             S.Hasher.Hasher L.Limit self.entry (Q.equivalent key) result) }
         ensures value { option_copied_mut result ≡ lookup (Q.equivalent key) self.old.pairs }
+        ensures written { OnSome result ((written : V) → HasSetBy K.eq (Q.equivalent key) self.old.pairs written
+            (set_by (Q.equivalent key) self.old.pairs written)) }
         ensures cost { CostsSearch S.BuildHasher S.Hasher.Hasher K.hash_input Q.hash_input Q.equivalent key
             self.old tally.old tally.new }
         ensures state { IsState K.eq L.LIMIT self.old }

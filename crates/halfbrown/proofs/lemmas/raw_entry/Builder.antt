@@ -12,11 +12,12 @@ use Rattle.halfbrown.specs.Match.{IsMatch, FindsMatch}
 use Rattle.halfbrown.specs.Pairs.{put_by, holds, holds_by}
 use Rattle.halfbrown.specs.RawEntry.{Occupied, Vacant, AddsThroughRawEntry, FindsEntry, PutsThroughRawEntry}
 use Rattle.halfbrown.specs.State.{State}
-use Rattle.halfbrown.specs.Updates.{HasPut, HasSetBy, HasRemovedBy}
+use Rattle.halfbrown.specs.Updates.{HasPut, HasRemovedBy}
 use Rattle.halfbrown.proofs.CallerLemmas.{has_put, has_removed_by}
 use Rattle.halfbrown.proofs.lemmas.pairs.PairIndices.{index_of_pair}
 use Rattle.halfbrown.proofs.lemmas.raw_entry.Methods.{some_is_not_none}
-use Rattle.halfbrown.proofs.lemmas.pairs.Indices.{IsFirst, absent_of_unheld, first_of_index, first_passes}
+use Rattle.halfbrown.proofs.lemmas.pairs.Indices.{absent_of_unheld, first_of_index}
+use Rattle.halfbrown.proofs.lemmas.pairs.SetBy.{has_put_by, has_set_by, passes_at}
 use Rattle.std.specs.declared.cmp.PartialEq as eq
 use Rattle.std.specs.declared.hash.Hash as hash
 use Rattle.std.specs.declared.hash.Hasher as hasher
@@ -26,43 +27,6 @@ use Rattle.halfbrown.specs.Entry as entries
 
 module _ {K : Type 0} (same : K → K → Bool) (laws : IsEquivalence same) (test : K → Bool)
     (one_class : (k other : K) → test k ≡ true → test other ≡ same k other) where
-  -- a key that passes is put as the key itself is
-  has_put_by : {V : Type 0} (ps qs : List (K × V)) (k : K) (v : V) → qs ≡ put_by test ps k v → test k ≡ true → HasPut same ps k v qs
-  has_put_by ps qs k v is passes =
-      subst (HasPut same ps k v) (ap (λ (t : K → Bool). put_by t ps k v) (λ i x. sym (one_class k x passes) i) ∙ sym is)
-      (has_put same laws ps k v)
-
-  passes_at : (ks : List K) (i : ℕ) → IsFirst test ks i → IfSome (slice_get ks i) (λ k. test k ≡ true)
-  passes_at [] i first = absurd first
-  passes_at (k ∷ ks) zero first = first
-  passes_at (k ∷ ks) (suc i) first = passes_at ks i first.1
-
-  passing_key : (ks : List K) (i : ℕ) → IsFirst test ks i → (k : K) × (test k ≡ true)
-  passing_key [] i first = absurd first
-  passing_key (k ∷ ks) i first = (get_or (k ∷ ks) i k, first_passes test (k ∷ ks) i k first)
-
-  module _ {V : Type 0} (ps qs : List (K × V)) (v : V) (k : K) (passes : test k ≡ true) where
-    same_test : same k ≡ test
-    same_test = λ i x. sym (one_class k x passes) i
-
-    -- what is put for a key that passes is set
-    set_of_put : holds_by test ps ≡ true → HasPut same ps k v qs → HasSetBy same test ps v qs
-    set_of_put held put = record {
-      held = ap (λ (t : K → Bool). holds_by t qs) (sym same_test) ∙ put.held;
-      value = ap (λ (t : K → Bool). lookup t qs) (sym same_test) ∙ put.value;
-      equals = λ q e. put.equals q (sym (one_class k q passes) ∙ e);
-      others = λ q e. put.others q (sym (one_class k q passes) ∙ e);
-      len = put.len ∙ ap (λ b. cond b (length ps) (length ps + 1)) (ap (λ (t : K → Bool). holds_by t ps) same_test ∙ held);
-      keys = put.keys ∙ ap (λ b. cond b (keys_of ps) (keys_of ps ++ k ∷ [])) (ap (λ (t : K → Bool). holds_by t ps) same_test ∙ held);
-    }
-
-  -- the value of the key that was found is set
-  has_set_by : {V : Type 0} (ps : List (K × V)) (i : ℕ) (v : V) → IsIndexOf test ps i → HasSetBy same test ps v (set_value ps i v)
-  has_set_by ps i v at =
-      let found = passing_key (keys_of ps) i (first_of_index test (keys_of ps) i at.index_is) in
-      set_of_put ps (set_value ps i v) v found.0 found.1 at.held
-      (has_put_by ps (set_value ps i v) found.0 v (sym (at.put_is found.0 v)) found.1)
-
   module _ {V S L H : Type 0} {e : eq.Ghosts K} {h : hash.Ghosts K} {b : builder.Ghosts S H} {w : hasher.Ghosts H} {l : limits.Ghosts L}
       (m : State K V S) where
     -- where a search of the map found the key
@@ -74,11 +38,11 @@ module _ {K : Type 0} (same : K → K → Bool) (laws : IsEquivalence same) (tes
       occupied = sym at.held;
       pair = sym at.pair;
       value = sym at.value;
-      equal = passes_at (keys_of o.map.now.pairs) o.index (first_of_index test (keys_of o.map.now.pairs) o.index at.index_is);
+      equal = passes_at same laws test one_class (keys_of o.map.now.pairs) o.index (first_of_index test (keys_of o.map.now.pairs) o.index at.index_is);
       puts = λ k v. sym (at.put_is k v);
-      put = λ k v. has_put_by o.map.now.pairs (set_value o.map.now.pairs o.index v) k v (sym (at.put_is k v));
+      put = λ k v. has_put_by same laws test one_class o.map.now.pairs (set_value o.map.now.pairs o.index v) k v (sym (at.put_is k v));
       writes = λ occupied v. record { pairs = sym (at.set_is v); form = refl; capacity = refl; columns = refl; builder = refl };
-      written = λ occupied v. has_set_by o.map.now.pairs o.index v at;
+      written = λ occupied v. has_set_by same laws test one_class o.map.now.pairs o.index v at;
       takes = sym at.take_is;
       removed = subst (HasRemovedBy same test o.map.now.pairs) at.take_is
           (has_removed_by same laws test one_class o.map.now.pairs distinct);
@@ -94,7 +58,7 @@ module _ {K : Type 0} (same : K → K → Bool) (laws : IsEquivalence same) (tes
       value = sym absent.value;
       equal = tt;
       puts = λ k value. sym (absent.put_is k value);
-      put = λ k value. has_put_by v.map.now.pairs (v.map.now.pairs ++ (k, value) ∷ []) k value (sym (absent.put_is k value));
+      put = λ k value. has_put_by same laws test one_class v.map.now.pairs (v.map.now.pairs ++ (k, value) ∷ []) k value (sym (absent.put_is k value));
       writes = λ occupied. absurd (true≢false (sym occupied));
       written = λ occupied. absurd (true≢false (sym occupied));
       takes = sym absent.take_is;
