@@ -1,4 +1,5 @@
 pub mod CallerFacts
 pub mod CallerLemmas
+pub mod CostFacts
 pub mod TextFacts
 pub mod lemmas
