@@ -1,5 +1,5 @@
 -- What the iterators of a map have left, how they step, and what their runs show.
-use Rattle.std.specs.Prelude.{◌≡◌, List, Option, length, zip}
+use Rattle.std.specs.Prelude.{List, Option, zip}
 use Rattle.std.specs.Borrow.{Bor, GName, MutBor}
 use Rattle.std.specs.Iterator.{YieldsFirstBy, YieldsFirstRef}
 use Rattle.std.specs.Iterator.Runs.{EveryRun, ItemsMapTo, YieldsRefsInOrder}

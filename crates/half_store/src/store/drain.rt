@@ -81,15 +81,12 @@ impl<K, V> Drained<K, V> {
     /// Takes the first one out.
     #[inline(always)]
     pub fn pop_front(&mut self) -> Option<(K, V)>
-    where
-        K: Drop,
         ensures first { MatchOption result ((self.old.pairs ≡ []) × (self.new ≡ self.old))
             (λ pair. self.old.pairs ≡ pair ∷ self.new.pairs) }
         ensures form { KeepsForm self.old self.new }
     {
         let key = self.keys.pop_front()?;
-        let value = self.values.pop_front()?;
-        Some((key, value))
+        Some((key, self.values.pop_front().unwrap()))
     }
 }
 

@@ -162,8 +162,8 @@ fn probe_distance(from: usize, to: usize, count: usize) -> usize
     to + (count - from) & (count - 1)
 }
 
-/// Returns `lesser` where the first number is less than the second, and else `other`. No branch is taken, since a processor
-/// would often foresee it wrongly.
+/// Returns `lesser` where the first number is less than the second, and else `other`. It takes no branch, which would often be
+/// mispredicted.
 #[inline(always)]
 fn if_less(first: usize, second: usize, lesser: usize, other: usize) -> usize
     requires first { first < 2 ^ 63 }

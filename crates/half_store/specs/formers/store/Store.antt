@@ -1,5 +1,5 @@
 -- `Store` as a type that may contain the type that contains it, by its values.
-use Rattle.std.specs.Prelude.{◌≡◌, ◌≤◌, ℕ, Bool, List, length, map, Option, None, Some}
+use Rattle.std.specs.Prelude.{◌≡◌, ℕ, Bool, List, Option, None, Some}
 use Rattle.std.specs.Map.{values_of}
 use Rattle.std_collections.specs.Layout.Former.{entry, on_value, entries_puts, entries_recoded, values_listed}
 use mathlib.Core.Former.{Former, children, const, list, pair, this, via}

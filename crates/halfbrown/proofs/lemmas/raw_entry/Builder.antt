@@ -1,15 +1,15 @@
 -- What the raw entry of a key is, where a search found it, and where none is held.
-use Rattle.std.proofs.Common.{◌≡◌, ℕ, zero, suc, ◌+◌, Bool, true, false, List, [], ◌∷◌, ◌++◌, length, get_or, slice_get, Option, None, Some}
-use Rattle.std.proofs.Common.{IfSome, cond, refl, sym, ap, subst, ◌∙◌, true≢false}
+use Rattle.std.proofs.Common.{◌≡◌, ℕ, Bool, true, false, [], ◌∷◌, ◌++◌, slice_get, Option, None, Some}
+use Rattle.std.proofs.Common.{IfSome, refl, sym, subst, ◌∙◌, true≢false}
 use Rattle.std.specs.Cmp.{IsEquivalence}
 use Rattle.std.specs.List.{IsDistinct}
-use Rattle.std.specs.Map.{keys_of, lookup}
+use Rattle.std.specs.Map.{keys_of}
 use Rattle.half_store.specs.Pairs.{set_value}
 use Rattle.halfbrown.specs.declared.entry.OccupiedEntry.{OccupiedEntry}
 use Rattle.halfbrown.specs.declared.raw_entry.RawVacantEntryMut.{RawVacantEntryMut}
 use Rattle.halfbrown.specs.Lookup.{IsIndexOf, IsAbsent}
 use Rattle.halfbrown.specs.Match.{IsMatch, FindsMatch}
-use Rattle.halfbrown.specs.Pairs.{put_by, holds, holds_by}
+use Rattle.halfbrown.specs.Pairs.{holds}
 use Rattle.halfbrown.specs.RawEntry.{Occupied, Vacant, AddsThroughRawEntry, FindsEntry, PutsThroughRawEntry}
 use Rattle.halfbrown.specs.State.{State}
 use Rattle.halfbrown.specs.Updates.{HasPut, HasRemovedBy}

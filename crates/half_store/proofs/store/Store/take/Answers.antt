@@ -1,4 +1,4 @@
-use Rattle.std.proofs.Common.{◌≡◌, Ok, Err, length, slice_get, refl, sym, ap, subst, ◌∙◌, arith, true≢false, rules}
+use Rattle.std.proofs.Common.{◌≡◌, Ok, Err, slice_get, refl, sym, ap, subst, ◌∙◌, arith, true≢false, rules}
 use Rattle.std.proofs.lemmas.Option.{slice_get_within}
 use Rattle.std.specs.Fn.{FnReturnsAt}
 use Rattle.half_store.specs.Pairs.{swap_remove_at}

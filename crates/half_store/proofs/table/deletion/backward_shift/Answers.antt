@@ -55,57 +55,32 @@ returns-clause-cost g c = λ vacant is.
       looked = omega (arith, ap (λ (w : Work). w.looked) i.counted, (i.ahead vacant is).near, end);
     }
 
--- a probe distance is small enough to have no sign
-unsigned : (count m distance : ℕ) → IsBucketCount count → m ≡ count → m < 2 ^ 64 → distance < m → distance < 2 ^ 63
-unsigned count m distance is same fits near = omega (arith, count-le_half count is (omega arith))
+-- the probe distances that are compared have no sign
+unsigned : {count m gap bucket start distance from_home : ℕ} {hashes words : List ℕ} → IsBucketCount count → m ≡ count → m < 2 ^ 64
+    → Shifts m hashes words start gap bucket → distance ≡ probe_distance m gap bucket → (home_is : ℕ) → home_is < m
+    → from_home ≡ probe_distance m home_is bucket → (from_home < 2 ^ 63) × (distance < 2 ^ 63)
+unsigned {count} {m} {gap} {bucket} is same fits s apart home_is in_home far =
+    let half = count-le_half count is (omega arith) in
+    let bucket_in = s.bucket_in in
+    (omega (arith, probe_distance-lt m home_is in_home bucket bucket_in), omega (arith, probe_distance-lt m gap s.gap_in bucket bucket_in))
 
-pub if_less-place-requires-clause-first : goal.if_less-place-requires-clause-first
-if_less-place-requires-clause-first g c =
-    let l = c.loop-word in
-    unsigned _ c.count-count.result _ c.requires.count c.count-count.ensures c.count-count.type_inv (omega (
-      arith,
-      c.probe_distance-from_home.ensures,
-      probe_distance-lt c.count-count.result c.home.result c.home.ensures.bound l.bucket l.invariant.shifts.bucket_in,
-    ))
+pub if_less-place-requires : goal.if_less-place-requires
+if_less-place-requires g c =
+    let small = unsigned c.requires.count c.count-count.ensures c.count-count.type_inv c.loop-word.invariant.shifts
+    c.loop-word.invariant.apart c.home.result c.home.ensures.bound c.probe_distance-from_home.ensures in
+    record { first = small.0; second = small.1 }
 
-pub if_less-place-requires-clause-second : goal.if_less-place-requires-clause-second
-if_less-place-requires-clause-second g c =
-    let l = c.loop-word in
-    let s = l.invariant.shifts in
-    unsigned _ c.count-count.result _ c.requires.count c.count-count.ensures c.count-count.type_inv
-    (omega (arith, l.invariant.apart, probe_distance-lt c.count-count.result l.gap s.gap_in l.bucket s.bucket_in))
+pub if_less-gap-requires : goal.if_less-gap-requires
+if_less-gap-requires g c =
+    let small = unsigned c.requires.count c.count-count.ensures c.count-count.type_inv c.loop-word.invariant.shifts
+    c.loop-word.invariant.apart c.home.result c.home.ensures.bound c.probe_distance-from_home.ensures in
+    record { first = small.0; second = small.1 }
 
-pub if_less-gap-requires-clause-first : goal.if_less-gap-requires-clause-first
-if_less-gap-requires-clause-first g c =
-    let l = c.loop-word in
-    unsigned _ c.count-count.result _ c.requires.count c.count-count.ensures c.count-count.type_inv (omega (
-      arith,
-      c.probe_distance-from_home.ensures,
-      probe_distance-lt c.count-count.result c.home.result c.home.ensures.bound l.bucket l.invariant.shifts.bucket_in,
-    ))
-
-pub if_less-gap-requires-clause-second : goal.if_less-gap-requires-clause-second
-if_less-gap-requires-clause-second g c =
-    let l = c.loop-word in
-    let s = l.invariant.shifts in
-    unsigned _ c.count-count.result _ c.requires.count c.count-count.ensures c.count-count.type_inv
-    (omega (arith, l.invariant.apart, probe_distance-lt c.count-count.result l.gap s.gap_in l.bucket s.bucket_in))
-
-pub if_less-distance-requires-clause-first : goal.if_less-distance-requires-clause-first
-if_less-distance-requires-clause-first g c =
-    let l = c.loop-word in
-    unsigned _ c.count-count.result _ c.requires.count c.count-count.ensures c.count-count.type_inv (omega (
-      arith,
-      c.probe_distance-from_home.ensures,
-      probe_distance-lt c.count-count.result c.home.result c.home.ensures.bound l.bucket l.invariant.shifts.bucket_in,
-    ))
-
-pub if_less-distance-requires-clause-second : goal.if_less-distance-requires-clause-second
-if_less-distance-requires-clause-second g c =
-    let l = c.loop-word in
-    let s = l.invariant.shifts in
-    unsigned _ c.count-count.result _ c.requires.count c.count-count.ensures c.count-count.type_inv
-    (omega (arith, l.invariant.apart, probe_distance-lt c.count-count.result l.gap s.gap_in l.bucket s.bucket_in))
+pub if_less-distance-requires : goal.if_less-distance-requires
+if_less-distance-requires g c =
+    let small = unsigned c.requires.count c.count-count.ensures c.count-count.type_inv c.loop-word.invariant.shifts
+    c.loop-word.invariant.apart c.home.result c.home.ensures.bound c.probe_distance-from_home.ensures in
+    record { first = small.0; second = small.1 }
 
 pub set_word-requires-clause-fits : goal.set_word-requires-clause-fits
 set_word-requires-clause-fits g c =

@@ -1,5 +1,4 @@
 use Rattle.std.proofs.Common.{◌≡◌, false, sym, ap, subst, ◌∙◌}
-use Rattle.std.specs.Fn.{FnReturnsAt}
 use Rattle.std.specs.Map.{lookup_entry}
 use Rattle.std.specs.Option.{option_map}
 use Rattle.std.specs.Result.{result_ok}
@@ -21,34 +20,8 @@ invariant_of-self g c =
     (key_hash g.S.BuildHasher g.S.Hasher.Hasher g.K.Hash.hash_input c.self.inside.builder) c.self.inside.builder c.self.inside.store
     c.take.new.self c.self.invariant c.take.ensures.search c.take.result c.take.ensures.takes
 
-pub returns-clause-removes : goal.returns-clause-removes
-returns-clause-removes g c =
-    let store = c.self.inside.store in
-    let builder = c.self.inside.builder in
-    let was : State g.row.K.Denot g.row.V.Denot g.row.S.Denot = state_in g.L.Limit.LIMIT store builder in
-    let test = g.Q.Equivalent.equivalent c.args.key in
-    let hashing = key_hash g.S.BuildHasher g.S.Hasher.Hasher g.K.Hash.hash_input in
-    let own = key_hash g.S.BuildHasher g.S.Hasher.Hasher g.Q.Hash.hash_input builder c.args.key in
-    let told = c.take.ensures in
-    let known : was.is_vec ≡ false → c.args.hash ≡ own =
-    λ table. c.requires (ap (λ m. m.is_vec) (sym c.self.view_is) ∙ table)
-    ∙ ap (λ s. key_hash g.S.BuildHasher g.S.Hasher.Hasher g.Q.Hash.hash_input s c.args.key) (ap (λ m. m.builder) (sym c.self.view_is)) in
-    let found : LooksUp test own was told.search = looks_up test _ (λ k answer returned. returned.says.met ∙ ap test returned.shows)
-    g.K.PartialEq.eq (g.met.Q.Equivalent.stands_for_equals c.args.key) hashing c.args.hash was c.self.invariant.distinct own known
-    (λ k passes. ap (hash_by g.S.BuildHasher g.S.Hasher.Hasher builder) (sym (g.met.Q.Equivalent.hashes_alike c.args.key k passes)))
-    told.search (matches_of _ hashing c.args.hash g.L.Limit.LIMIT store builder c.self.invariant.hashed told.search told.finds) in
-    subst (λ (m : State g.row.K.Denot g.row.V.Denot g.row.S.Denot). Removes g.L.Limit.LIMIT g.K.PartialEq.eq test m
-    (lookup_entry test m.pairs) c.take.result (state_in g.L.Limit.LIMIT c.take.new.self builder)) c.self.view_is
-    (removes_found g.L.Limit.LIMIT g.K.PartialEq.eq g.met.K.Eq.laws (hashing builder) builder store c.take.new.self c.self.invariant test
-    own (g.met.Q.Equivalent.stands_for_equals c.args.key) told.search c.take.result told.takes found)
-
-pub returns-clause-value : goal.returns-clause-value
-returns-clause-value g c =
-    ap (option_map (λ pair. pair.1)) (returns-clause-removes g c).gives
-    ∙ value_of_entry (g.Q.Equivalent.equivalent c.args.key) c.args.self.now.pairs
-
-pub returns-clause-cost : goal.returns-clause-cost
-returns-clause-cost g c =
+pub returns : goal.returns
+returns g c =
     let store = c.self.inside.store in
     let builder = c.self.inside.builder in
     let was : State g.row.K.Denot g.row.V.Denot g.row.S.Denot = state_in g.L.Limit.LIMIT store builder in
@@ -66,8 +39,16 @@ returns-clause-cost g c =
     let spent = match_costs hashing c.args.hash was c.args.tally.now c.take.new.tally store.is_vec (λ i. store.is_vec)
     (result_ok told.search) store.hashes store.capacity c.self.invariant.hashed
     (table_capacity_is g.L.Limit.LIMIT store.is_vec store.capacity) told.cost.vector told.cost.found told.cost.missing told.cost.short in
-    subst (λ (m : State g.row.K.Denot g.row.V.Denot g.row.S.Denot). CostsHashedSearch g.S.BuildHasher g.S.Hasher.Hasher
-    g.K.Hash.hash_input g.Q.Hash.hash_input g.Q.Equivalent.equivalent c.args.key m c.args.tally.now c.take.new.tally) c.self.view_is
-    (subst (λ index. SearchCosts hashing own was index 0 c.args.tally.now c.take.new.tally)
-    (found_is_index test own was told.search found)
-    (costs_for_other hashing c.args.hash own was c.args.tally.now c.take.new.tally (result_ok told.search) known spent))
+    let removes = subst (λ (m : State g.row.K.Denot g.row.V.Denot g.row.S.Denot). Removes g.L.Limit.LIMIT g.K.PartialEq.eq test m
+    (lookup_entry test m.pairs) c.take.result (state_in g.L.Limit.LIMIT c.take.new.self builder)) c.self.view_is
+    (removes_found g.L.Limit.LIMIT g.K.PartialEq.eq g.met.K.Eq.laws (hashing builder) builder store c.take.new.self c.self.invariant test
+    own (g.met.Q.Equivalent.stands_for_equals c.args.key) told.search c.take.result told.takes found) in
+    record {
+      removes = removes;
+      value = ap (option_map (λ pair. pair.1)) removes.gives ∙ value_of_entry test c.args.self.now.pairs;
+      cost = subst (λ (m : State g.row.K.Denot g.row.V.Denot g.row.S.Denot). CostsHashedSearch g.S.BuildHasher g.S.Hasher.Hasher
+          g.K.Hash.hash_input g.Q.Hash.hash_input g.Q.Equivalent.equivalent c.args.key m c.args.tally.now c.take.new.tally) c.self.view_is
+          (subst (λ index. SearchCosts hashing own was index 0 c.args.tally.now c.take.new.tally)
+          (found_is_index test own was told.search found)
+          (costs_for_other hashing c.args.hash own was c.args.tally.now c.take.new.tally (result_ok told.search) known spent));
+    }
