@@ -54,8 +54,8 @@ fn searched(table: &Table, hash: u64, accepted: usize) -> Search {
         asked.set(asked.get().wrapping_add(1));
         index == accepted
     };
-    let ended = search(&buckets, hash, &matches, &mut Tally::new()).map(|(index, _)| index);
-    (ended, asked.get(), reads.get())
+    let ended = search(&buckets, hash, &matches, &mut Tally::new());
+    (ended.map(|(index, _)| index), asked.get(), reads.get())
 }
 
 // At which empty bucket an insertion probe for this hash ends, and how many buckets it reads.
