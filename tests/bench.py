@@ -173,7 +173,8 @@ def halfmap_rows(program, rounds, path):
     chance = random.Random(1)
     keys = chance.sample(range(10 * LINES), LINES)
     insertions = [f"i {key} {number}" for number, key in enumerate(keys)]
-    look_ups = insertions[:HELD] + [f"g {chance.choice(keys[:HELD])}" for _ in range(LINES)]
+    held = keys[:HELD]
+    look_ups = insertions[:HELD] + [f"g {chance.choice(held)}" for _ in range(LINES)]
     forms = ["i {0} {1}", "g {0}", "r {0}", "f"]
     mixed = [chance.choice(forms).format(chance.randrange(HELD), chance.randrange(HELD)) for _ in range(LINES)]
     for name, lines in [
