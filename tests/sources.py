@@ -29,7 +29,7 @@ CALLERS = {
     r"(?<!counting)(?:\.|::)hash_one\(": {"half_store/src/counting": 1},
     r"\bcounting::hash_one\(": {"halfbrown/src/map/form": 2},
     r"\bCount::new\(|\.plus_one\(": {"half_store/src/tally": 6},
-    r"\b(?:is_match|matches)\(": {"half_store/src/counting": 1, "half_store/src/store/find": 2, "half_store/src/store/change": 1},
+    r"\b(?:is_match|matches)\(": {"half_store/src/counting": 1},
     r"(?:\.|::)equivalent\(": {"halfbrown/src/map/find": 1, "halfbrown/src/map/remove": 1},
     r" [!=]= (?!\d|b')": {"half_store/src/table/deletion": 2, "half_store/src/table/probe": 1, "half_store/src/table/retain": 1}
     | {"half_store/src/words": 1}
@@ -44,7 +44,7 @@ CALLERS = {
     r"\bfirst_empty\(": {"half_store/src/table": 2, "half_store/src/table/rehash": 1},
     r"\bfind_in\(": {"half_store/src/table": 2},
     r"\bfind_with_bucket\(": {"half_store/src/table/find": 1, "half_store/src/table/deletion": 1},
-    r"\.take\(hash": {"half_store/src/store/change": 1, "halfbrown/src/map/remove": 1},
+    r"\.take\((?:self\.columns\.keys\(\), )?hash": {"half_store/src/store/change": 1, "halfbrown/src/map/remove": 1},
     r"\bbuckets\.read\(": {"half_store/src/table/probe": 2},
     r"\.word_at\(": {"half_store/src/buckets": 1, "half_store/src/table/deletion": 3, "half_store/src/words": 2},
     # Elsewhere nothing can name the words: their field is private.
@@ -77,7 +77,7 @@ OTHER_TALLIES = {
     # The switch adds each pair to a new table; its hashes are counted, its buckets are not.
     "store_hashes": "table.add(hash, &mut Tally::new());",
     # What a removal reads beside its search is counted apart, and its contract bounds it.
-    "take": "table.take(hash, &matches_at, tally, &mut Tally::new())",
+    "take": "table.take(self.columns.keys(), hash, matches, tally, &mut Tally::new())",
     # A plain call whose counted form has another name.
     "from_array": "LimitedHashMap::collect(alloc, N, pairs.into_iter(), &mut Tally::new())",
 }

@@ -1,5 +1,6 @@
 -- Lemmas, by the module of src/ whose functions need them.
 pub mod capacity
+pub mod counting
 pub mod store
 pub mod table
 pub mod tally

@@ -3,7 +3,7 @@
 //! A table has no buckets, or a power of two from 4 on. The load factor is three quarters: the capacity is three quarters
 //! of the buckets, so at least one bucket stays empty and each probe ends.
 ghost use Rattle.std.specs.Prelude.{◌≡◌, ◌^◌, ◌≤◌};
-ghost use Rattle.half_store.specs.Capacity.{capacity_of, buckets_for, capacity_for, IsLeastFor};
+ghost use Rattle.half_store.specs.Capacity.{capacity_of, buckets_for, IsLeastFor};
 
 /// The most pairs that a map may hold.
 pub const MOST_PAIRS: usize = 1 << 60;
@@ -36,14 +36,4 @@ pub fn buckets_for(needed: usize) -> usize
         buckets *= 2;
     }
     buckets
-}
-
-/// The least of the capacities 0, 3, 6, 12, 24, .. that is enough for so many pairs.
-pub fn capacity_for(needed: usize) -> usize
-    requires { needed ≤ 2 ^ 62 }
-    ensures value { result ≡ capacity_for needed }
-    ensures serves { needed ≤ result }
-    ensures series { result ≡ capacity_for result }
-{
-    capacity_of(buckets_for(needed))
 }

@@ -1,6 +1,7 @@
 //! Counted work: each hash of a key and each comparison of keys is made by one of these functions, which counts it. A bucket
 //! is counted by what reads its word (`Words::word_at`).
 ghost use Rattle.std.specs.Prelude.{◌≡◌};
+ghost use Rattle.std.specs.Fn.{FnReturnsAt};
 ghost use Rattle.half_store.specs.Hash.{hash_by};
 ghost use Rattle.half_store.specs.Work.{one_asked, one_compared};
 
@@ -17,13 +18,13 @@ pub fn hash_one<K: Hash, S: BuildHasher>(builder: &S, key: &K, tally: &mut Tally
     builder.hash_one(key)
 }
 
-/// Compares keys: calls `matches`, the test of an entry index.
+/// Compares keys: calls `matches` at a held one.
 #[inline(always)]
-pub fn compare<F: Fn(usize) -> bool>(matches: &F, index: usize, tally: &mut Tally) -> bool
-    requires { F.pre matches.now index }
-    ensures answer { F.post matches.now index result }
+pub fn compare<K, F: Fn(&K) -> bool>(matches: &F, key: &K, tally: &mut Tally) -> bool
+    requires { F.pre matches.now key }
+    ensures answer { FnReturnsAt F.Fn matches.now key.now result }
     ensures counted { tally.new ≡ one_compared tally.old }
 {
     tally.add_compared();
-    matches(index)
+    matches(key)
 }

@@ -1,13 +1,16 @@
 //! An index over entry indices: from a hash to the entry indices of the pairs that have it.
 //!
-//! A bucket contains an entry index, and a column has the stored hash of each. There are no keys: a search takes a test of
-//! an entry index. Probes go up from the home bucket of a hash, one bucket at a time, and a removal shifts back what
-//! follows it, so no tombstone is left.
+//! A bucket contains an entry index, and a column has the stored hash of each. There are no keys: a search is handed their
+//! column, and a test of a key. Probes go up from the home bucket of a hash, one bucket at a time, and a removal shifts
+//! back what follows it, so no tombstone is left.
 ghost use Rattle.std.specs.Prelude.{◌≡◌, ℕ, ◌+◌, ◌^◌, ◌<◌, ◌≤◌, true, false, [], ◌∷◌, ◌++◌, length, Some, slice_get, IfOk, OnErr};
+ghost use Rattle.std.specs.Borrow.{Bor};
+ghost use Rattle.std.specs.Fn.{FnReturnsAt};
 ghost use Rattle.std.specs.List.{swap_remove};
 ghost use Rattle.half_store.specs.Reach.{reach};
 ghost use Rattle.half_store.specs.Capacity.{capacity_of, IsBucketCount, capacity_for, buckets_of};
 ghost use Rattle.half_store.specs.Probe.{looked_more, LooksWithin, removal_reads};
+ghost use Rattle.half_store.specs.Search.{ReturnsAt};
 ghost use Rattle.half_store.specs.Table.{table_contents, with_hash_in, IsVacancyIn, no_buckets};
 ghost use Rattle.half_store.specs.TableSearch.{FindsInTable, RemovesFromTable};
 
@@ -64,16 +67,6 @@ impl Table {
     ghost use Rattle.half_store.specs.TableLayout.{IsIndexed};
     ghost use Rattle.half_store.specs.Words.{words_of};
 
-    /// A table with no buckets. It takes no memory.
-    pub fn new(alloc: Global) -> Table
-        ensures { result ≡ no_buckets }
-    {
-        Table {
-            buckets: WordArray::new(alloc),
-            hashes: Vec::new(alloc),
-        }
-    }
-
     /// How many pairs it holds.
     #[inline(always)]
     pub fn len(&self) -> usize
@@ -95,27 +88,43 @@ impl Table {
         capacity_of(self.buckets.count())
     }
 
-    /// Searches for a pair of this hash that `matches` accepts. `matches` is called with entry indices of that hash alone.
+    /// Searches for a pair of this hash whose key `matches` accepts. `matches` is called with keys of that hash alone.
     ///
     /// Returns its entry index, or the empty bucket at which the probe ended, which is 0 where there are none. Where none is
     /// found it has read exactly `reach` buckets and called `matches` once for each pair of that hash.
     #[inline(always)]
-    pub fn find<F: Fn(usize) -> bool>(
+    pub fn find<K, F: Fn(&K) -> bool>(
         &self,
+        keys: &[K],
         hash: u64,
         matches: &F,
         tally: &mut Tally,
     ) -> Result<usize, usize>
-        requires { (index : ℕ) → slice_get self.now.hashes index ≡ Some hash → F.pre matches.now index }
-        ensures { FindsInTable (F.post matches.now) self.now hash result tally.old tally.new }
+        requires keys { length self.now.hashes ≤ length keys.now }
+        requires callable { (key : Bor K) (index : ℕ) → slice_get self.now.hashes index ≡ Some hash
+            → slice_get keys.now index ≡ Some key.now → F.pre matches.now key }
+        ensures { FindsInTable (ReturnsAt (FnReturnsAt F.Fn matches.now) keys.now) self.now hash result
+            tally.old tally.new }
     {
         let hashes = self.hashes.as_slice();
         match &self.buckets {
             WordArray::FourBytes(buckets) => {
-                find_in(&HashedBuckets { buckets, hashes }, hash, matches, tally)
+                find_in(
+                    &HashedBuckets { buckets, hashes },
+                    keys,
+                    hash,
+                    matches,
+                    tally,
+                )
             }
             WordArray::EightBytes(buckets) => {
-                find_in(&HashedBuckets { buckets, hashes }, hash, matches, tally)
+                find_in(
+                    &HashedBuckets { buckets, hashes },
+                    keys,
+                    hash,
+                    matches,
+                    tally,
+                )
             }
         }
     }
@@ -192,15 +201,19 @@ impl Table {
     /// Searches as `find` does, and removes the pair that it finds, in the bucket where the probe ended. The last pair takes its
     /// index. What the removal reads beside the search is counted apart, and is within the bound of `remove_counted`.
     #[inline(always)]
-    pub fn take<F: Fn(usize) -> bool>(
+    pub fn take<K, F: Fn(&K) -> bool>(
         &mut self,
+        keys: &[K],
         hash: u64,
         matches: &F,
         tally: &mut Tally,
         removal: &mut Tally,
     ) -> Result<usize, usize>
-        requires { (index : ℕ) → slice_get self.old.hashes index ≡ Some hash → F.pre matches.now index }
-        ensures finds { FindsInTable (F.post matches.now) self.old hash result tally.old tally.new }
+        requires keys { length self.old.hashes ≤ length keys.now }
+        requires callable { (key : Bor K) (index : ℕ) → slice_get self.old.hashes index ≡ Some hash
+            → slice_get keys.now index ≡ Some key.now → F.pre matches.now key }
+        ensures finds { FindsInTable (ReturnsAt (FnReturnsAt F.Fn matches.now) keys.now) self.old hash result
+            tally.old tally.new }
         ensures removes { IfOk result (λ index. RemovesFromTable self.old index self.new hash) }
         ensures cost { IfOk result (λ index. LooksWithin (removal_reads self.old.hashes self.old.buckets index)
             removal.old removal.new) }
@@ -208,10 +221,26 @@ impl Table {
     {
         match &mut self.buckets {
             WordArray::FourBytes(buckets) => {
-                take_in(buckets, &mut self.hashes, hash, matches, tally, removal)
+                take_in(
+                    buckets,
+                    &mut self.hashes,
+                    keys,
+                    hash,
+                    matches,
+                    tally,
+                    removal,
+                )
             }
             WordArray::EightBytes(buckets) => {
-                take_in(buckets, &mut self.hashes, hash, matches, tally, removal)
+                take_in(
+                    buckets,
+                    &mut self.hashes,
+                    keys,
+                    hash,
+                    matches,
+                    tally,
+                    removal,
+                )
             }
         }
     }

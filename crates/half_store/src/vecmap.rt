@@ -84,26 +84,6 @@ impl<K, V> VecMap<K, V> {
         (&self.keys[index], &self.values[index])
     }
 
-    /// The value of the pair at this index, to be written.
-    #[inline(always)]
-    pub fn value_at_mut(&mut self, index: usize) -> &mut V
-        requires { index < length self.old.pairs }
-        ensures* writes_back { sem 𝓛 (ColumnsLendValue K.row V.row self.entry index result) }
-        ensures value { slice_get (values_of self.old.pairs) index ≡ Some result.now }
-    {
-        &mut self.values[index]
-    }
-
-    /// Replaces the value of the pair at this index, and returns the old one.
-    #[inline(always)]
-    pub fn replace_value(&mut self, index: usize, value: V) -> V
-        requires { index < length self.old.pairs }
-        ensures old { slice_get (values_of self.old.pairs) index ≡ Some result }
-        ensures after { self.new ≡ columns_with self.old (set_value self.old.pairs index value) }
-    {
-        replace(&mut self.values[index], value)
-    }
-
     /// The key and the value of the pair at this index, the value to be written.
     #[inline(always)]
     pub fn pair_at_mut(&mut self, index: usize) -> (&K, &mut V)

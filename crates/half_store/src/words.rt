@@ -66,10 +66,6 @@ impl<T> WordVec<T> {
             words: Vec::new(alloc),
         }
     }
-
-    fn allocator(&self) -> Global {
-        *self.words.allocator()
-    }
 }
 
 impl<T: Copy> WordVec<T> {
@@ -95,7 +91,7 @@ impl<T: Copy> WordVec<T> {
     fn copied(&self) -> Result<WordVec<T>, AllocError>
         ensures { IfOk result (λ v. v ≡ self.now) }
     {
-        let words = Vec::from_slice(self.allocator(), self.words.as_slice())?;
+        let words = Vec::from_slice(*self.words.allocator(), self.words.as_slice())?;
         // `from_slice` takes no more memory than this, but its contract does not say so.
         if words.capacity() == words.len() {
             Ok(WordVec { words })
@@ -256,13 +252,6 @@ impl WordArray {
         match self {
             WordArray::FourBytes(words) => (words.capacity(), size_of::<u32>()),
             WordArray::EightBytes(words) => (words.capacity(), size_of::<usize>()),
-        }
-    }
-
-    pub(crate) fn allocator(&self) -> Global {
-        match self {
-            WordArray::FourBytes(words) => words.allocator(),
-            WordArray::EightBytes(words) => words.allocator(),
         }
     }
 }

@@ -36,6 +36,9 @@ impl Buckets for CountedBuckets<'_> {
 
 const NONE: usize = usize::MAX;
 
+// The key of each pair is its entry index.
+const KEYS: [usize; 8] = [0, 1, 2, 3, 4, 5, 6, 7];
+
 // What a search does: it finds a pair, by its entry index, or ends at an empty bucket; it asks for this many pairs, and reads
 // this many buckets.
 type Search = (Result<usize, usize>, u64, u64);
@@ -50,11 +53,14 @@ fn searched(table: &Table, hash: u64, accepted: usize) -> Search {
     if buckets.count() == 0 {
         return (Err(NONE), 0, 0);
     }
-    let matches = |index: usize| {
+    if table.len() > KEYS.len() {
+        return (Err(NONE), 0, 0);
+    }
+    let matches = |index: &usize| {
         asked.set(asked.get().wrapping_add(1));
-        index == accepted
+        *index == accepted
     };
-    let ended = search(&buckets, hash, &matches, &mut Tally::new());
+    let ended = search(&buckets, &KEYS, hash, &matches, &mut Tally::new());
     (ended.map(|(index, _)| index), asked.get(), reads.get())
 }
 

@@ -10,17 +10,7 @@ use super::Store;
 impl<K, V> Store<K, V> {
     ghost use Rattle.half_store.specs.StoreLending.{StoreLendsValue};
 
-    /// The value of the pair at this index, to be written.
-    #[inline(always)]
-    pub fn value_at_mut(&mut self, index: usize) -> &mut V
-        requires { index < length self.old.pairs }
-        ensures* writes_back { sem 𝓛 (StoreLendsValue K.row V.row self.entry index result) }
-        ensures value { slice_get (values_of self.old.pairs) index ≡ Some result.now }
-    {
-        self.columns.value_at_mut(index)
-    }
-
-    /// Its key and its value, the value to be written.
+    /// The key and the value of the pair at this index, the value to be written.
     #[inline(always)]
     pub fn pair_at_mut(&mut self, index: usize) -> (&K, &mut V)
         requires { index < length self.old.pairs }
@@ -30,17 +20,7 @@ impl<K, V> Store<K, V> {
         self.columns.pair_at_mut(index)
     }
 
-    /// Replaces its value, and returns the old one.
-    #[inline(always)]
-    pub fn set_value(&mut self, index: usize, value: V) -> V
-        requires { index < length self.old.pairs }
-        ensures old { slice_get (values_of self.old.pairs) index ≡ Some result }
-        ensures after { self.new ≡ store_with_pairs self.old (set_value self.old.pairs index value) }
-    {
-        self.columns.replace_value(index, value)
-    }
-
-    /// Replaces its key, which must have the same hash, and returns the old one.
+    /// Replaces the key of the pair at this index, which must have the same hash, and returns the old one.
     #[inline(always)]
     pub fn set_key(&mut self, index: usize, key: K) -> K
         requires { index < length self.old.pairs }

@@ -8,7 +8,6 @@ ghost use Rattle.std.specs.Option.{option_map};
 ghost use Rattle.half_store.specs.Pairs.{swap_remove_at};
 ghost use Rattle.half_store.specs.Removal.{SwapRemoves, Takes};
 ghost use Rattle.half_store.specs.Replaced.{Replaces};
-ghost use Rattle.half_store.specs.Search.{ReturnsAt};
 ghost use Rattle.half_store.specs.Store.{store_pushed, IsVacancy, KeepsForm};
 
 use super::Store;
@@ -60,13 +59,7 @@ impl<K, V> Store<K, V> {
                 Err(_) => None,
             };
         };
-        let keys = self.columns.keys();
-        let matches_at = |index: usize| -> bool
-            requires within { index < length keys.now }
-            requires callable { (key : Bor K) → slice_get keys.now index ≡ Some key.now → F.pre matches.now key }
-            ensures { ReturnsAt (FnReturnsAt F.Fn matches.entry.now) keys.entry.now index result }
-        { matches(&keys[index]) };
-        match table.take(hash, &matches_at, tally, &mut Tally::new()) {
+        match table.take(self.columns.keys(), hash, matches, tally, &mut Tally::new()) {
             Ok(index) => Some(self.columns.swap_remove(index)),
             Err(_) => None,
         }
@@ -115,7 +108,7 @@ impl<K, V> Store<K, V> {
     {
         match &mut self.table {
             Some(table) => table.retain(&mut self.columns, f),
-            None => self.columns.retain(f),
+            None => self.columns.retain(&mut [], f),
         }
     }
 }

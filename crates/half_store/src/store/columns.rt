@@ -17,16 +17,6 @@ impl<K, V> Store<K, V> {
         &self.columns
     }
 
-    /// The values, in order, to be written.
-    #[inline(always)]
-    pub fn values_mut(&mut self) -> &mut [V]
-        ensures* writes_back { sem 𝓛 (StoreLendsValues K.row V.row self.entry result) }
-        ensures values { result.now ≡ values_of self.old.pairs }
-        ensures small { length self.old.pairs < 2 ^ 63 }
-    {
-        self.columns.values_mut()
-    }
-
     /// The keys and the values, in order, the values to be written.
     #[inline(always)]
     pub fn columns_mut(&mut self) -> (&[K], &mut [V])

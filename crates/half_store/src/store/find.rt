@@ -7,7 +7,7 @@ ghost use Rattle.std.specs.Result.{result_ok};
 ghost use Rattle.half_store.specs.Capacity.{buckets_of};
 ghost use Rattle.half_store.specs.Probe.{looked_more};
 ghost use Rattle.half_store.specs.Reach.{reach};
-ghost use Rattle.half_store.specs.Search.{ReturnsAt, Finds, CostsFinding};
+ghost use Rattle.half_store.specs.Search.{Finds, CostsFinding};
 ghost use Rattle.half_store.specs.Store.{IsVacancy};
 
 use super::Store;
@@ -29,27 +29,14 @@ impl<K, V> Store<K, V> {
         ensures found { Finds (FnReturnsAt F.Fn matches.now) hash self.now result }
         ensures cost { CostsFinding self.now hash (result_ok result) tally.old tally.new }
     {
-        // A test for each form, since a closure with one call is inlined there.
-        // It comes before the keys are read, so that LLVM can join it to the test before the hash.
+        // This test comes before the keys are read, so that LLVM can join it to the one before the hash.
         let Some(table) = &self.table else {
-            let keys = self.columns.keys();
-            let matches_at = |index: usize| -> bool
-                requires within { index < length keys.now }
-                requires callable { (key : Bor K) → slice_get keys.now index ≡ Some key.now → F.pre matches.now key }
-                ensures { ReturnsAt (FnReturnsAt F.Fn matches.entry.now) keys.entry.now index result }
-            { matches(&keys[index]) };
-            return match first_match(keys.len(), &matches_at, tally) {
+            return match first_match(self.columns.keys(), matches, tally) {
                 Some(index) => Ok(index),
                 None => Err(Vacancy { hash, bucket: 0 }),
             };
         };
-        let keys = self.columns.keys();
-        let matches_at = |index: usize| -> bool
-            requires within { index < length keys.now }
-            requires callable { (key : Bor K) → slice_get keys.now index ≡ Some key.now → F.pre matches.now key }
-            ensures { ReturnsAt (FnReturnsAt F.Fn matches.entry.now) keys.entry.now index result }
-        { matches(&keys[index]) };
-        match table.find(hash, &matches_at, tally) {
+        match table.find(self.columns.keys(), hash, matches, tally) {
             Ok(index) => Ok(index),
             Err(bucket) => Err(Vacancy { hash, bucket }),
         }

@@ -1,11 +1,14 @@
 //! Backward-shift deletion: after a removal the pairs that follow move back, so that no tombstone is needed.
 ghost use Rattle.std.specs.Prelude.{◌≡◌, ℕ, ◌+◌, ◌-◌, ◌^◌, ◌<◌, ◌≤◌, length, Some, IfOk, OnErr, slice_get, slice_set, slice_index, vec_capacity};
+ghost use Rattle.std.specs.Borrow.{Bor};
+ghost use Rattle.std.specs.Fn.{FnReturnsAt};
 ghost use Rattle.std.specs.List.{swap_remove};
 ghost use Rattle.half_store.specs.Buckets.{slots_by};
 ghost use Rattle.half_store.specs.Capacity.{IsBucketCount};
 ghost use Rattle.half_store.specs.Probe.{looked_more, LooksWithin, probe_reads, removal_reads};
 ghost use Rattle.half_store.specs.Reach.{home, probe_distance, IsNearer};
 ghost use Rattle.half_store.specs.Removal.{Renames};
+ghost use Rattle.half_store.specs.Search.{ReturnsAt};
 ghost use Rattle.half_store.specs.Table.{table_state};
 ghost use Rattle.half_store.specs.TableLayout.{IsIndexed, IsIndexedButFor, IsVacantBeside};
 ghost use Rattle.half_store.specs.TableSearch.{FindsInTable};
@@ -94,9 +97,10 @@ fn rename_last<B: Words>(
 /// Searches as `find_in` does, and removes the pair that it finds, in the bucket where the probe ended. What the removal
 /// reads beside the search is counted apart.
 #[inline(always)]
-pub(super) fn take_in<B: Words, F: Fn(usize) -> bool>(
+pub(super) fn take_in<B: Words, K, F: Fn(&K) -> bool>(
     buckets: &mut B,
     hashes: &mut Vec<u64>,
+    keys: &[K],
     hash: u64,
     matches: &F,
     tally: &mut Tally,
@@ -104,8 +108,10 @@ pub(super) fn take_in<B: Words, F: Fn(usize) -> bool>(
 ) -> Result<usize, usize>
     requires indexed { IsIndexed hashes.old.items (B.words buckets.old) }
     requires fits { length hashes.old.items ≤ B.most buckets.old }
-    requires callable { (index : ℕ) → slice_get hashes.old.items index ≡ Some hash → F.pre matches.now index }
-    ensures finds { FindsInTable (F.post matches.now)
+    requires keys { length hashes.old.items ≤ length keys.now }
+    requires callable { (key : Bor K) (index : ℕ) → slice_get hashes.old.items index ≡ Some hash
+        → slice_get keys.now index ≡ Some key.now → F.pre matches.now key }
+    ensures finds { FindsInTable (ReturnsAt (FnReturnsAt F.Fn matches.now) keys.now)
         (table_state hashes.old.items (slots_by hashes.old.items (B.words buckets.old)))
         hash result tally.old tally.new }
     ensures hashes { IfOk result (λ index. hashes.new.items ≡ swap_remove hashes.old.items index 0) }
@@ -122,7 +128,7 @@ pub(super) fn take_in<B: Words, F: Fn(usize) -> bool>(
         buckets: &*buckets,
         hashes: hashes.as_slice(),
     };
-    match find_with_bucket(&held, hash, matches, tally) {
+    match find_with_bucket(&held, keys, hash, matches, tally) {
         Ok((index, bucket)) => {
             remove_at(buckets, hashes, index, bucket, removal);
             Ok(index)

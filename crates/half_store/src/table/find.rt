@@ -1,6 +1,9 @@
 //! The search of a table, over buckets of either size.
-ghost use Rattle.std.specs.Prelude.{◌≡◌, ℕ, ◌+◌, Some, slice_get, slice_index, IfOk};
+ghost use Rattle.std.specs.Prelude.{◌≡◌, ℕ, ◌+◌, ◌≤◌, Some, length, slice_get, slice_index, IfOk};
+ghost use Rattle.std.specs.Borrow.{Bor};
+ghost use Rattle.std.specs.Fn.{FnReturnsAt};
 ghost use Rattle.half_store.specs.Buckets.{slots_by};
+ghost use Rattle.half_store.specs.Search.{ReturnsAt};
 ghost use Rattle.half_store.specs.Table.{table_state};
 ghost use Rattle.half_store.specs.TableLayout.{IsIndexed};
 ghost use Rattle.half_store.specs.TableSearch.{FindsInTable, without_bucket};
@@ -9,21 +12,24 @@ use super::probe::search;
 use crate::Tally;
 use crate::buckets::Buckets;
 
-/// Searches for a pair of this hash that `matches` accepts. Where there are no buckets it reads none, and returns 0.
+/// Searches for a pair of this hash whose key `matches` accepts. Where there are no buckets it reads none, and returns 0.
 #[inline(always)]
-pub(super) fn find_in<P: Buckets, F: Fn(usize) -> bool>(
+pub(super) fn find_in<P: Buckets, K, F: Fn(&K) -> bool>(
     buckets: &P,
+    keys: &[K],
     hash: u64,
     matches: &F,
     tally: &mut Tally,
 ) -> Result<usize, usize>
     requires indexed { IsIndexed (P.hashes buckets.now) (P.words buckets.now) }
-    requires callable { (index : ℕ) → slice_get (P.hashes buckets.now) index ≡ Some hash → F.pre matches.now index }
-    ensures { FindsInTable (F.post matches.now)
+    requires keys { length (P.hashes buckets.now) ≤ length keys.now }
+    requires callable { (key : Bor K) (index : ℕ) → slice_get (P.hashes buckets.now) index ≡ Some hash
+        → slice_get keys.now index ≡ Some key.now → F.pre matches.now key }
+    ensures { FindsInTable (ReturnsAt (FnReturnsAt F.Fn matches.now) keys.now)
         (table_state (P.hashes buckets.now) (slots_by (P.hashes buckets.now) (P.words buckets.now)))
         hash result tally.old tally.new }
 {
-    match find_with_bucket(buckets, hash, matches, tally) {
+    match find_with_bucket(buckets, keys, hash, matches, tally) {
         Ok((index, _)) => Ok(index),
         Err(bucket) => Err(bucket),
     }
@@ -31,15 +37,18 @@ pub(super) fn find_in<P: Buckets, F: Fn(usize) -> bool>(
 
 /// `find_in`, which also returns the bucket of the pair that it finds.
 #[inline(always)]
-pub(super) fn find_with_bucket<P: Buckets, F: Fn(usize) -> bool>(
+pub(super) fn find_with_bucket<P: Buckets, K, F: Fn(&K) -> bool>(
     buckets: &P,
+    keys: &[K],
     hash: u64,
     matches: &F,
     tally: &mut Tally,
 ) -> Result<(usize, usize), usize>
     requires indexed { IsIndexed (P.hashes buckets.now) (P.words buckets.now) }
-    requires callable { (index : ℕ) → slice_get (P.hashes buckets.now) index ≡ Some hash → F.pre matches.now index }
-    ensures finds { FindsInTable (F.post matches.now)
+    requires keys { length (P.hashes buckets.now) ≤ length keys.now }
+    requires callable { (key : Bor K) (index : ℕ) → slice_get (P.hashes buckets.now) index ≡ Some hash
+        → slice_get keys.now index ≡ Some key.now → F.pre matches.now key }
+    ensures finds { FindsInTable (ReturnsAt (FnReturnsAt F.Fn matches.now) keys.now)
         (table_state (P.hashes buckets.now) (slots_by (P.hashes buckets.now) (P.words buckets.now)))
         hash (without_bucket result) tally.old tally.new }
     ensures at { IfOk result (λ found. slice_index (P.words buckets.now) found.1 ≡ found.0 + 1) }
@@ -47,5 +56,5 @@ pub(super) fn find_with_bucket<P: Buckets, F: Fn(usize) -> bool>(
     if buckets.count() == 0 {
         return Err(0);
     }
-    search(buckets, hash, matches, tally)
+    search(buckets, keys, hash, matches, tally)
 }

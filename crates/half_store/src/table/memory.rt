@@ -24,7 +24,7 @@ impl Table {
         ensures granted { needed ≡ 0 → IsOk result }
     {
         check_size(needed)?;
-        Table::empty(alloc, buckets_for(needed)).map_err(|_| Refusal::Memory)
+        Ok(Table::empty(alloc, buckets_for(needed))?)
     }
 
     /// Shrinks to the least number of buckets that the pairs fit. Where memory is refused the capacity stays; with no pairs
@@ -36,8 +36,8 @@ impl Table {
         ensures empty { length self.old.hashes ≡ 0 → self.new.buckets ≡ 0 }
     {
         let buckets = buckets_for(self.len());
-        if buckets < self.bucket_count() {
-            if let Ok(fresh) = Table::empty(self.allocator(), buckets) {
+        if buckets < self.buckets.count() {
+            if let Ok(fresh) = Table::empty(*self.hashes.allocator(), buckets) {
                 self.move_to(fresh);
             }
         }
@@ -48,7 +48,7 @@ impl Table {
         ensures ok { IfOk result (λ t. t ≡ self.now) }
     {
         let buckets = self.buckets.copied()?;
-        let hashes = Vec::with_capacity(self.allocator(), self.capacity())?;
+        let hashes = Vec::with_capacity(*self.hashes.allocator(), self.capacity())?;
         let hashes = clone_all(self.hashes.as_slice(), hashes)?;
         Ok(Table { buckets, hashes })
     }
@@ -92,15 +92,5 @@ impl Table {
     {
         let (words, size) = self.buckets.memory();
         (self.hashes.capacity(), words, size)
-    }
-
-    fn bucket_count(&self) -> usize
-        ensures { result ≡ self.now.buckets }
-    {
-        self.buckets.count()
-    }
-
-    fn allocator(&self) -> Global {
-        self.buckets.allocator()
     }
 }

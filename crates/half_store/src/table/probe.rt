@@ -1,11 +1,14 @@
 //! Linear probing: from the home bucket of a hash upwards. A probe reads stored hashes and nothing else, and counts each
 //! bucket that it reads.
 ghost use Rattle.std.specs.Prelude.{◌≡◌, ℕ, ◌+◌, ◌-◌, ◌<◌, ◌≤◌, ◌==◌, true, false};
-ghost use Rattle.std.specs.Prelude.{Some, length, count_by, slice_index, IfOk, IfErr, OnOk, OnErr};
+ghost use Rattle.std.specs.Prelude.{Some, length, count_by, slice_get, slice_index, IfOk, IfErr, OnOk, OnErr};
+ghost use Rattle.std.specs.Borrow.{Bor};
+ghost use Rattle.std.specs.Fn.{FnReturnsAt};
 ghost use Rattle.half_store.specs.Reach.{home, bucket_after};
 ghost use Rattle.half_store.specs.Buckets.{slots_by, WithinHashes};
 ghost use Rattle.half_store.specs.Capacity.{IsBucketCount};
 ghost use Rattle.half_store.specs.Probe.{looked_more};
+ghost use Rattle.half_store.specs.Search.{ReturnsAt};
 ghost use Rattle.half_store.specs.Slots.{slot_at, stored, distance_from_home, IsVacancyFor, EndsAtPair, SomeVacant, ProbeInvariant};
 
 use crate::Tally;
@@ -36,11 +39,12 @@ pub(crate) fn next(bucket: usize, count: usize) -> usize
 
 /// Probes up from the home bucket to a pair that is accepted, or else to the first empty bucket.
 ///
-/// `matches` is called with the entry indices of those pairs alone whose whole hash is equal. Returns the entry index of the
-/// pair and its bucket, or the empty bucket.
+/// `matches` is called with the keys of those pairs alone whose whole hash is equal. Returns the entry index of the pair and
+/// its bucket, or the empty bucket.
 #[inline(always)]
-pub fn search<P: Buckets, F: Fn(usize) -> bool>(
+pub fn search<P: Buckets, K, F: Fn(&K) -> bool>(
     buckets: &P,
+    keys: &[K],
     hash: u64,
     matches: &F,
     tally: &mut Tally,
@@ -49,14 +53,17 @@ pub fn search<P: Buckets, F: Fn(usize) -> bool>(
     requires count { IsBucketCount (length (P.words buckets.now)) }
     requires vacant { SomeVacant (slots_by (P.hashes buckets.now) (P.words buckets.now)) }
     requires ordered { ProbeInvariant (slots_by (P.hashes buckets.now) (P.words buckets.now)) }
-    requires callable { (bucket : ℕ) → slot_at (slots_by (P.hashes buckets.now) (P.words buckets.now)) bucket ≡ Some hash
-        → F.pre matches.now (slice_index (P.words buckets.now) bucket - 1) }
+    requires keys { length (P.hashes buckets.now) ≤ length keys.now }
+    requires callable { (key : Bor K) (bucket : ℕ)
+        → slot_at (slots_by (P.hashes buckets.now) (P.words buckets.now)) bucket ≡ Some hash
+        → slice_get keys.now (slice_index (P.words buckets.now) bucket - 1) ≡ Some key.now → F.pre matches.now key }
     ensures found { IfOk result (λ found. EndsAtPair (P.hashes buckets.now) (P.words buckets.now) hash found.0 found.1
         tally.old.looked tally.new.looked) }
-    ensures accepted { IfOk result (λ found. F.post matches.now found.0 true) }
+    ensures accepted { IfOk result (λ found. ReturnsAt (FnReturnsAt F.Fn matches.now) keys.now found.0 true) }
     ensures vacancy { IfErr result (IsVacancyFor (slots_by (P.hashes buckets.now) (P.words buckets.now)) hash) }
-    ensures refused { OnErr result ((bucket : ℕ) → slot_at (slots_by (P.hashes buckets.now) (P.words buckets.now)) bucket ≡ Some hash
-        → F.post matches.now (slice_index (P.words buckets.now) bucket - 1) false) }
+    ensures refused { OnErr result ((bucket : ℕ)
+        → slot_at (slots_by (P.hashes buckets.now) (P.words buckets.now)) bucket ≡ Some hash
+        → ReturnsAt (FnReturnsAt F.Fn matches.now) keys.now (slice_index (P.words buckets.now) bucket - 1) false) }
     ensures asked { tally.new.asked ≡ tally.old.asked }
     ensures looked_missing { IfErr result (λ bucket. tally.new.looked ≡ tally.old.looked
         + (distance_from_home (slots_by (P.hashes buckets.now) (P.words buckets.now)) hash bucket + 1)) }
@@ -72,7 +79,7 @@ pub fn search<P: Buckets, F: Fn(usize) -> bool>(
         match buckets.read(bucket, tally) {
             None => return Err(bucket),
             Some((index, held)) => {
-                if held == hash && compare(matches, index, tally) {
+                if held == hash && compare(matches, &keys[index], tally) {
                     return Ok((index, bucket));
                 }
             }

@@ -25,7 +25,7 @@ impl Table {
         ensures even { length self.new.hashes ≡ length pairs.new.pairs }
         ensures buckets { self.new.buckets ≡ self.old.buckets }
     {
-        pairs.retain_with(self.hashes.as_mut_slice(), f);
+        pairs.retain(self.hashes.as_mut_slice(), f);
         if pairs.len() == self.hashes.len() {
             return;
         }

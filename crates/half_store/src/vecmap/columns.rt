@@ -33,16 +33,6 @@ impl<K, V> VecMap<K, V> {
         self.values.as_slice()
     }
 
-    /// The values, in order, to be written.
-    #[inline(always)]
-    pub fn values_mut(&mut self) -> &mut [V]
-        ensures* writes_back { sem 𝓛 (ColumnsLendValues K.row V.row self.entry result) }
-        ensures values { result.now ≡ values_of self.old.pairs }
-        ensures small { length self.old.pairs < 2 ^ 63 }
-    {
-        self.values.as_mut_slice()
-    }
-
     /// The keys and the values, in order, the values to be written.
     #[inline(always)]
     pub fn columns_mut(&mut self) -> (&[K], &mut [V])

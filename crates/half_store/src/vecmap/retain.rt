@@ -7,23 +7,11 @@ ghost use Rattle.std.specs.Map.Calls.{CalledAtPair, TakesPair, CallableOnEachPai
 use super::VecMap;
 
 impl<K, V> VecMap<K, V> {
-    /// Calls `f` at each pair, in order, and keeps those that it accepts, in their order, with the values that it left. The
+    /// Calls `f` at each pair, in order, and keeps those that it accepts, in their order, with the values that it left. Where
+    /// there is a column of hashes beside the pairs, those of the pairs that are kept come first in it, in their order. The
     /// capacity stays, and no memory is taken.
-    pub fn retain<F: FnMut(&K, &mut V) -> bool>(&mut self, f: F)
-    where
-        K: Drop,
-        V: Drop,
-        requires { CallableOnEachPair (CalledAtPair F.FnMut) (TakesPair F.FnMut) f self.old.pairs }
-        ensures kept { RetainsPairs (CalledAtPair F.FnMut) f self.old.pairs self.new.pairs }
-        ensures len { length self.new.pairs ≤ length self.old.pairs }
-        ensures capacity { self.new.capacity ≡ self.old.capacity }
-    {
-        self.retain_with(&mut [], f);
-    }
-
-    /// `retain`, with a column of hashes beside the pairs: those of the pairs that are kept come first, in their order.
     #[inline(always)]
-    pub(crate) fn retain_with<F: FnMut(&K, &mut V) -> bool>(&mut self, hashes: &mut [u64], f: F)
+    pub fn retain<F: FnMut(&K, &mut V) -> bool>(&mut self, hashes: &mut [u64], f: F)
     where
         K: Drop,
         V: Drop,

@@ -155,7 +155,8 @@ impl<K: Eq + Hash, V, S: BuildHasher, L: Limit> LimitedHashMap<K, V, S, L> {
             S.Hasher.Hasher L.Limit self.entry index result) }
         ensures value { slice_get (values_of self.old.pairs) index ≡ Some result.now }
     {
-        self.store.value_at_mut(index)
+        let (_, value) = self.store.pair_at_mut(index);
+        value
     }
 }
 

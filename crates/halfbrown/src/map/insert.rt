@@ -13,6 +13,7 @@ use super::LimitedHashMap;
 use crate::{Limit, Refused};
 use half_store::{Tally, Vacancy};
 use std::hash::{BuildHasher, Hash};
+use std::mem::replace;
 
 impl<K: Eq + Hash, V, S: BuildHasher, L: Limit> LimitedHashMap<K, V, S, L> {
     /// Gives the key this value, and returns its old one.
@@ -111,7 +112,8 @@ impl<K: Eq + Hash, V, S: BuildHasher, L: Limit> LimitedHashMap<K, V, S, L> {
         ensures after { WithPairs self.old (set_value self.old.pairs index value) self.new }
         ensures state { IsState K.eq L.LIMIT self.new }
     {
-        self.store.set_value(index, value)
+        let (_, held) = self.store.pair_at_mut(index);
+        replace(held, value)
     }
 
     /// Adds a pair whose key is not held, at a vacancy for it. It probes nothing.

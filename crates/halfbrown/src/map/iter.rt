@@ -110,7 +110,8 @@ impl<K: Eq + Hash, V, S: BuildHasher, L: Limit> LimitedHashMap<K, V, S, L> {
         ensures written { (vs : List V) → HasValues self.old.pairs vs (set_values self.old.pairs vs) }
         ensures state { (vs : List V) → IsState K.eq L.LIMIT (with_pairs self.old (set_values self.old.pairs vs)) }
     {
-        ValuesMut::new(self.store.values_mut())
+        let (_, values) = self.store.columns_mut();
+        ValuesMut::new(values)
     }
 
     /// The values, in order, as a slice to be written. What a proof knows of the slice at the end, it knows of the map.
@@ -129,6 +130,7 @@ impl<K: Eq + Hash, V, S: BuildHasher, L: Limit> LimitedHashMap<K, V, S, L> {
         ensures written { (vs : List V) → HasValues self.old.pairs vs (set_values self.old.pairs vs) }
         ensures state { (vs : List V) → IsState K.eq L.LIMIT (with_pairs self.old (set_values self.old.pairs vs)) }
     {
-        self.store.values_mut()
+        let (_, values) = self.store.columns_mut();
+        values
     }
 }

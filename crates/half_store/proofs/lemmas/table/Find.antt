@@ -1,18 +1,18 @@
 -- What a search of a table finds, and what a probe costs.
 use Rattle.std.proofs.Common.{◌≡◌, ℕ, ◌+◌, ◌-◌, ◌<◌, ◌≤◌, Bool, true, false, inl, inr, refl, sym, ap, ◌∙◌, subst, arith, List, length}
 use Rattle.std.proofs.Common.{slice_index, Option, Some, count_by, ◌==◌}
-use Rattle.std.specs.List.{slice_get}
+use Rattle.std.specs.List.{slice_get, swap_remove}
 use Rattle.std.specs.Prelude.{Result, Ok, Err, IfOk, IfErr, OnOk, OnErr}
 use Rattle.std.proofs.lemmas.Bool.{cases_eq}
 use Rattle.std.proofs.lemmas.List.Sums.{count_by-le-length}
 use Rattle.std.proofs.lemmas.Option.{slice_get_within, get_or_from_slice_get}
 use Rattle.half_store.specs.Buckets.{slots_by}
 use Rattle.half_store.specs.Reach.{probe_distance, reach}
-use Rattle.half_store.specs.Probe.{after_missing, looked_more}
+use Rattle.half_store.specs.Probe.{after_missing, looked_more, LooksWithin, removal_reads}
 use Rattle.half_store.specs.Slots.{slot_at, stored, IsVacancyFor, EndsAtPair, distance_from_home}
 use Rattle.half_store.specs.Table.{TableState, table_state}
 use Rattle.half_store.specs.TableLayout.{IsIndexed}
-use Rattle.half_store.specs.TableSearch.{FindsInTable, without_bucket}
+use Rattle.half_store.specs.TableSearch.{FindsInTable, RemovesFromTable, without_bucket}
 use Rattle.half_store.specs.Work.{Work}
 use Rattle.half_store.proofs.lemmas.table.Buckets.{length-slots_by, slot_of_word, word_of_slot, some_bucket}
 use Rattle.half_store.proofs.lemmas.table.Circle.{distance_self}
@@ -129,3 +129,31 @@ module _ {hashes words : List ℕ} (x : IsIndexed hashes words) (hash : ℕ) whe
         short = short;
         buckets = buckets_seen hashes words x refl;
       }
+
+-- A search that removes what it finds, in the words of callers.
+module _ (hashes words hashes' words' : List ℕ) {t : TableState} (view : table_state hashes (slots_by hashes words) ≡ t) where
+  count_viewed : length words ≡ t.buckets
+  count_viewed = sym (length-slots_by hashes words) ∙ ap (λ u. u.buckets) view
+
+  pub taken_removes : (hash : ℕ) (result : Result ℕ ℕ) → length words' ≡ length words
+      → IfOk result (λ index. slice_get t.hashes index ≡ Some hash) → IfOk result (λ index. hashes' ≡ swap_remove hashes index 0)
+      → IfOk result (λ index. RemovesFromTable t index (table_state hashes' (slots_by hashes' words')) hash)
+  taken_removes hash (Ok index) len found left = record {
+    hash = found;
+    hashes = left ∙ ap (λ u. swap_remove u.hashes index 0) view;
+    buckets = length-slots_by hashes' words' ∙ len ∙ count_viewed;
+  }
+  taken_removes hash (Err bucket) len found left = tt
+
+  pub taken_cost : (old new : Work) (result : Result ℕ ℕ)
+      → IfOk result (λ index. LooksWithin (removal_reads hashes (length words) index) old new)
+      → IfOk result (λ index. LooksWithin (removal_reads t.hashes t.buckets index) old new)
+  taken_cost old new (Ok index) cost =
+      subst (λ n. LooksWithin n old new) (λ i. removal_reads (view i).hashes (count_viewed i) index) cost
+  taken_cost old new (Err bucket) cost = tt
+
+  pub taken_none : (old new : Work) (result : Result ℕ ℕ)
+      → OnErr result ((hashes' ≡ hashes) × (words' ≡ words) × (new ≡ old))
+      → OnErr result ((table_state hashes' (slots_by hashes' words') ≡ t) × (new ≡ old))
+  taken_none old new (Ok index) same = tt
+  taken_none old new (Err bucket) (kept, also, unread) = ((λ i. table_state (kept i) (slots_by (kept i) (also i))) ∙ view, unread)

@@ -8,7 +8,7 @@ use Rattle.std.specs.List.{IsDistinct}
 use Rattle.std.specs.Map.{keys_of}
 use Rattle.std.proofs.lemmas.Map.Entries.{length-keys_of}
 use Rattle.std.proofs.lemmas.Map.Keys.{IsDistinct-push}
-use Rattle.half_store.proofs.lemmas.store.States.{length-set_key}
+use Rattle.half_store.proofs.lemmas.store.States.{length-set_key, length-set_value}
 use Rattle.half_store.specs.Columns.{no_pairs}
 use Rattle.half_store.specs.Pairs.{set_key, set_value, swap_remove_at}
 use Rattle.half_store.specs.Store.{StoreState, KeepsForm, allowed, store_pushed, store_with_pairs, vector_of}
@@ -58,6 +58,12 @@ module _ {K V : Type 0} where
         kept_as s (store_with_pairs s ps) kept (record { form = refl; capacity = refl; columns = refl })
         (subst (IsDistinct eq) (sym keys) kept.distinct)
         (omega (arith, kept.fits)) (λ table. kept.hashed table ∙ ap (map hash) (sym keys))
+
+    -- a pair has another value
+    pub kept_value : (s : StoreState K V) (i : ℕ) (v : V) → IsKept eq hash limit s
+        → IsKept eq hash limit (store_with_pairs s (set_value s.pairs i v))
+    kept_value s i v kept =
+        kept_keys s (set_value s.pairs i v) kept (keys_of-set_value s.pairs i v) (length-set_value s.pairs i v)
 
     -- one more pair, whose key is not held
     pub kept_pushed : IsEquivalence eq → (s : StoreState K V) (k : K) (v : V) (vacancy : Vacancy) → IsKept eq hash limit s

@@ -17,12 +17,12 @@ returns-in-Some-first_match-clause-found g c =
       within = omega (
         arith,
         c.in-Some-first_match.ensures.found.0,
-        ap length c.keys-keys.ensures.keys,
+        ap length c.keys.ensures.keys,
         length-keys_of c.self.inside.columns.pairs,
       );
-      accepted = λ k at. c.in-Some-first_match.ensures.found.1 k (ap (λ ks. slice_get ks index) c.keys-keys.ensures.keys ∙ at);
+      accepted = λ k at. c.in-Some-first_match.ensures.found.1 k (ap (λ ks. slice_get ks index) c.keys.ensures.keys ∙ at);
       first = λ form earlier before k at. c.in-Some-first_match.ensures.none_before earlier before k
-          (ap (λ ks. slice_get ks earlier) c.keys-keys.ensures.keys ∙ at);
+          (ap (λ ks. slice_get ks earlier) c.keys.ensures.keys ∙ at);
       hashed = λ form k at. absurd (true≢false form);
     })
 
@@ -35,29 +35,24 @@ returns-in-None-clause-found g c =
     (Err (record { hash = c.args.hash; bucket = 0 }))) is (
       record {
         refused = λ index k at hashed. c.in-None.ensures.absent index
-            (omega (arith, slice_get_within (keys_of pairs) index k at, ap length c.keys-keys.ensures.keys)) k
-            (ap (λ ks. slice_get ks index) c.keys-keys.ensures.keys ∙ at);
+            (omega (arith, slice_get_within (keys_of pairs) index k at, ap length c.keys.ensures.keys)) k
+            (ap (λ ks. slice_get ks index) c.keys.ensures.keys ∙ at);
       },
       λ some form. absurd (true≢false form),
     )
 
-pub find-requires : goal.find-requires
-find-requires g c =
+pub find-requires-clause-keys : goal.find-requires-clause-keys
+find-requires-clause-keys g c =
     let columns = c.self.inside.columns in
-    let table = c.in-Some.table in
-    let is : table_of columns table ≡ c.args.self.now = ap (store_of columns) (sym c.in-Some.is) ∙ c.self.view_is in
     let kept = subst (IsStore columns) c.in-Some.is c.self.invariant in
-    λ index at. (
-      omega (
-        arith,
-        slice_get_within table.hashes index c.args.hash at,
-        kept.len,
-        ap length c.keys-keys-2.ensures.keys,
-        length-keys_of columns.pairs,
-      ),
-      λ key here. c.requires key index
-          (ap (λ s. slice_get (keys_of s.pairs) index) (sym is) ∙ ap (λ ks. slice_get ks index) (sym c.keys-keys-2.ensures.keys) ∙ here),
-    )
+    omega (arith, kept.len, ap length c.keys-2.ensures.keys, length-keys_of columns.pairs)
+
+pub find-requires-clause-callable : goal.find-requires-clause-callable
+find-requires-clause-callable g c =
+    let columns = c.self.inside.columns in
+    let is : table_of columns c.in-Some.table ≡ c.args.self.now = ap (store_of columns) (sym c.in-Some.is) ∙ c.self.view_is in
+    λ key index own here. c.requires key index
+    (ap (λ s. slice_get (keys_of s.pairs) index) (sym is) ∙ ap (λ ks. slice_get ks index) (sym c.keys-2.ensures.keys) ∙ here)
 
 pub returns-in-Ok-clause-found : goal.returns-in-Ok-clause-found
 returns-in-Ok-clause-found g c =
@@ -69,7 +64,7 @@ returns-in-Ok-clause-found g c =
     subst (λ (s : StoreState g.row.K.Denot g.row.V.Denot). Finds (FnReturnsAt g.F.Fn c.args.matches.now) c.args.hash s (Ok index)) is
     (record {
       within = omega (arith, slice_get_within table.hashes index c.args.hash c.in-Ok.ensures.found, kept.len);
-      accepted = λ k at. c.in-Ok.ensures.accepted k (ap (λ ks. slice_get ks index) c.keys-keys-2.ensures.keys ∙ at);
+      accepted = λ k at. c.in-Ok.ensures.accepted k (ap (λ ks. slice_get ks index) c.keys-2.ensures.keys ∙ at);
       first = λ form. absurd (true≢false (sym form));
       hashed = λ form k at. c.in-Ok.ensures.found;
     })
@@ -83,7 +78,7 @@ returns-in-Err-clause-found g c =
     (Err (record { hash = c.args.hash; bucket = c.in-Err.bucket }))) is (
       record {
         refused = λ index k at own. c.in-Err.ensures.refused index (own refl) k
-            (ap (λ ks. slice_get ks index) c.keys-keys-2.ensures.keys ∙ at);
+            (ap (λ ks. slice_get ks index) c.keys-2.ensures.keys ∙ at);
       },
       λ some form. (refl, c.in-Err.ensures.vacancy (omega (arith, some))),
     )

@@ -22,7 +22,7 @@ returns-in-Ok-take g c =
       finds = subst (λ (s : StoreState g.row.K.Denot g.row.V.Denot). Finds (FnReturnsAt g.F.Fn c.args.matches.now) c.args.hash s (Ok index)) is
           (record {
             within = omega (arith, slice_get_within table.hashes index c.args.hash found.found, kept.len);
-            accepted = λ k at. found.accepted k (ap (λ ks. slice_get ks index) c.keys-keys.ensures.keys ∙ at);
+            accepted = λ k at. found.accepted k (ap (λ ks. slice_get ks index) c.keys.ensures.keys ∙ at);
             first = λ form. absurd (true≢false (sym form));
             hashed = λ form k at. found.found;
           });
@@ -49,7 +49,7 @@ returns-in-Err-take g c =
       finds = subst (λ (s : StoreState g.row.K.Denot g.row.V.Denot). Finds (FnReturnsAt g.F.Fn c.args.matches.now) c.args.hash s
           (Err vacancy)) is (
             record {
-              refused = λ index k at own. found.refused index (own refl) k (ap (λ ks. slice_get ks index) c.keys-keys.ensures.keys ∙ at);
+              refused = λ index k at own. found.refused index (own refl) k (ap (λ ks. slice_get ks index) c.keys.ensures.keys ∙ at);
             },
             λ some form. (refl, found.vacancy (omega (arith, some))),
           );

@@ -21,7 +21,7 @@ same_front items front n same len = take_at front (drop (length front) items) n 
 pub invariant_of-self : goal.invariant_of-self
 invariant_of-self g c =
     let t = c.self.inside in
-    let long : length c.retain_with.new.self.pairs ≡ length c.args.pairs.now.pairs =
+    let long : length c.retain.new.self.pairs ≡ length c.args.pairs.now.pairs =
     omega (
       arith,
       c.len.ensures.len,
@@ -31,6 +31,6 @@ invariant_of-self g c =
       ap (λ s. length s.hashes) c.self.view_is,
       c.requires.len,
     ) in
-    let same = c.retain_with.ensures.same long ∙ c.as_mut_slice.ensures.value in
+    let same = c.retain.ensures.same long ∙ c.as_mut_slice.ensures.value in
     subst (λ hashes. IsTable hashes (words_of t.buckets) (most_of t.buckets) t.hashes.cap)
-    (sym (same_front t.hashes.items c.retain_with.new.hashes t.hashes.len same (omega (arith, t.hashes.ok.0)))) c.self.invariant
+    (sym (same_front t.hashes.items c.retain.new.hashes t.hashes.len same (omega (arith, t.hashes.ok.0)))) c.self.invariant

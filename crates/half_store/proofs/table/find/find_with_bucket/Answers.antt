@@ -1,4 +1,6 @@
 use Rattle.std.proofs.Common.{◌∙◌, sym, arith}
+use Rattle.std.specs.Fn.{FnReturnsAt}
+use Rattle.half_store.specs.Search.{ReturnsAt}
 use Rattle.half_store.proofs.lemmas.table.Layout.{index-vacant}
 use Rattle.half_store.proofs.lemmas.table.Find.{finds_none, finds}
 use Rattle.half_store.proofs.table.find.find_with_bucket.Goals as goal
@@ -8,12 +10,12 @@ search-requires-clause-vacant g c = index-vacant c.requires.indexed (omega (arit
 
 pub returns-then-count-eq0-clause-finds : goal.returns-then-count-eq0-clause-finds
 returns-then-count-eq0-clause-finds g c =
-    finds_none c.requires.indexed c.args.hash (goal.F-post g c.args.matches.now) c.args.tally.now
+    finds_none c.requires.indexed c.args.hash (ReturnsAt (FnReturnsAt g.F.Fn c.args.matches.now) c.args.keys.now) c.args.tally.now
     (sym c.count.ensures ∙ c.if-count-eq0.true)
 
 pub returns-clause-finds : goal.returns-clause-finds
 returns-clause-finds g c =
     let told = c.search.ensures in
-    finds c.requires.indexed c.args.hash (goal.F-post g c.args.matches.now) c.search.result c.args.tally.now c.search.new.tally
+    finds c.requires.indexed c.args.hash (ReturnsAt (FnReturnsAt g.F.Fn c.args.matches.now) c.args.keys.now) c.search.result c.args.tally.now c.search.new.tally
     told.found told.accepted told.vacancy told.refused told.asked told.looked_missing told.compared_some told.compared_most
     told.compared_all

@@ -1,7 +1,10 @@
 use Rattle.std.proofs.Common.{◌-◌, false, slice_index, Some, sym, ap, subst, ◌∙◌, arith}
+use Rattle.std.specs.Fn.{FnReturnsAt}
 use Rattle.half_store.specs.Buckets.{slots_by}
 use Rattle.half_store.specs.Reach.{home, bucket_after}
+use Rattle.half_store.specs.Search.{ReturnsAt}
 use Rattle.half_store.specs.Work.{Work, one_compared}
+use Rattle.half_store.proofs.lemmas.counting.{returned_at, key_in_bucket}
 use Rattle.half_store.proofs.lemmas.table.Buckets.{length-slots_by}
 use Rattle.half_store.proofs.lemmas.table.Slots.{full_from, Probes-ahead}
 use Rattle.half_store.proofs.lemmas.table.Probe.{Searches-start, Searches-skip, Searches-refused, Searches-found, Searches-missing}
@@ -13,13 +16,26 @@ loop-index-init g c =
     let same = c.count-count.ensures
     ∙ sym (length-slots_by (g.P.Buckets.hashes c.args.buckets.now) (g.P.Buckets.words c.args.buckets.now)) in
     Searches-start (slots_by (g.P.Buckets.hashes c.args.buckets.now) (g.P.Buckets.words c.args.buckets.now)) c.args.hash
-    (λ bucket. goal.F-post g c.args.matches.now (slice_index (g.P.Buckets.words c.args.buckets.now) bucket - 1) false)
+    (λ bucket. ReturnsAt (FnReturnsAt g.F.Fn c.args.matches.now) c.args.keys.now
+    (slice_index (g.P.Buckets.words c.args.buckets.now) bucket - 1) false)
     c.home-bucket.result c.args.tally.now (omega arith) (c.home-bucket.ensures.value ∙ ap (λ m. home m c.args.hash) same)
 
 pub compare-requires : goal.compare-requires
 compare-requires g c =
-    subst (goal.F-pre g c.args.matches.now) (sym c.in-Some.ensures.index)
-    (c.requires.callable c.loop-index.bucket (sym c.in-Some.ensures.hash ∙ ap Some c.if-held-hash.true))
+    let full = sym c.in-Some.ensures.hash ∙ ap Some c.if-held-hash.true in
+    c.requires.callable _ c.loop-index.bucket full
+    (key_in_bucket (g.P.Buckets.hashes c.args.buckets.now) (g.P.Buckets.words c.args.buckets.now) c.args.keys.now c.loop-index.bucket
+    c.args.hash c.in-Some.index c.index-keys-index.result c.requires.keys full c.in-Some.ensures.index c.index-keys-index.is)
+
+pub returns-in-None-clause-refused : goal.returns-in-None-clause-refused
+returns-in-None-clause-refused g c =
+    λ other is. c.loop-index.invariant.refused other is
+    (c.requires.ordered.before other c.loop-index.bucket c.args.hash is c.loop-index.invariant.probe.inside (sym c.in-None.ensures.hash))
+
+pub returns-then-compare-clause-accepted : goal.returns-then-compare-clause-accepted
+returns-then-compare-clause-accepted g c =
+    returned_at (FnReturnsAt g.F.Fn c.args.matches.now) c.args.keys.now c.in-Some.index c.index-keys-index.result _ c.index-keys-index.is
+    c.if-compare.ensures.answer
 
 pub returns-in-None-clause-compared_all : goal.returns-in-None-clause-compared_all
 returns-in-None-clause-compared_all g c =
@@ -58,7 +74,9 @@ loop-index-preserved g c =
       | else-held-hash-via-then-held-hash+else-compare w ↦
           Searches-refused c.loop-index.invariant c.requires.vacant c.next-bucket.result c.else-held-hash.tally next
           (sym c.in-Some.ensures.hash ∙ ap Some w.if-held-hash.true)
-          (subst (λ n. goal.F-post g c.args.matches.now n false) c.in-Some.ensures.index w.if-compare.ensures.answer)
+          (subst (λ n. ReturnsAt (FnReturnsAt g.F.Fn c.args.matches.now) c.args.keys.now n false) c.in-Some.ensures.index
+          (returned_at (FnReturnsAt g.F.Fn c.args.matches.now) c.args.keys.now c.in-Some.index w.index-keys-index.result _
+          w.index-keys-index.is w.if-compare.ensures.answer))
           (w.tally-is ∙ w.compare.ensures.counted ∙ ap one_compared c.in-Some.ensures.counted)
       | else-held-hash-via-else-held-hash w ↦
           Searches-skip c.loop-index.invariant c.requires.vacant c.next-bucket.result c.else-held-hash.tally next c.in-Some.held

@@ -1,10 +1,12 @@
--- No number so far matched, and each was compared once.
+-- No key so far matched, and each was compared once.
 use Rattle.std.proofs.Common.{◌≡◌, ℕ, ◌<◌, false}
+use Rattle.std.specs.Fn.{FnReturnsAt}
+use Rattle.half_store.specs.Search.{ReturnsAt}
 use Rattle.half_store.specs.Work.{compared_more}
 use Rattle.half_store.proofs.vecmap.search.first_match.Given as goal
 
 abbrev pub invariant-loop-index : goal.invariant-loop-index
 invariant-loop-index g l = record {
-  none_so_far : (earlier : ℕ) → earlier < l.index → goal.F-post g l.matches earlier false;
+  none_so_far : (earlier : ℕ) → earlier < l.index → ReturnsAt (FnReturnsAt g.F.Fn l.matches) l.keys earlier false;
   work : l.tally ≡ compared_more l.index l.initial.tally;
 }

@@ -14,11 +14,11 @@ returns g c =
     let inside = c.self.inside in
     let lent = lent_values g.K.PartialEq.eq (key_hash g.S.BuildHasher g.S.Hasher.Hasher g.K.Hash.hash_input inside.builder) g.L.Limit.LIMIT
     inside.store inside.builder c.args.self.now c.self.view_is c.self.invariant
-    c.values_mut.ensures.small in (
+    c.columns_mut-values.ensures.small in (
       (refl, lent.back),
       record {
         writes_back = tt;
-        values = c.values_mut.ensures.values ∙ ap values_of lent.pairs;
+        values = c.columns_mut-values.ensures.values ∙ ap values_of lent.pairs;
         small = lent.small;
         written = lent.written;
         state = lent.state;

@@ -4,8 +4,8 @@ use Rattle.std.proofs.lemmas.Map.Made.{keys_of-zip}
 use Rattle.std.specs.List.{zip}
 use Rattle.half_store.proofs.lemmas.vecmap.Columns.{opened}
 use Rattle.half_store.proofs.lemmas.vecmap.Zip.{length-zip}
-use Rattle.half_store.proofs.vecmap.VecMap.retain_with.Given as given
-use Rattle.half_store.proofs.vecmap.VecMap.retain_with.Goals as goal
+use Rattle.half_store.proofs.vecmap.VecMap.retain.Given as given
+use Rattle.half_store.proofs.vecmap.VecMap.retain.Goals as goal
 
 even : (g : given.Over) (c : goal.After-truncate-2 g) → length c.truncate-2.new.self.items ≡ length c.truncate.new.self.items
 even g c =
