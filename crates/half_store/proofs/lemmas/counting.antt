@@ -1,5 +1,5 @@
 -- What a comparison says that was made with the key at an index.
-use Rattle.std.proofs.Common.{◌≡◌, ℕ, ◌+◌, ◌-◌, ◌≤◌, Bool, List, Some, length, get_or, slice_get, slice_index, sym, ap, subst, ◌∙◌, arith}
+use Rattle.std.proofs.Common.{◌≡◌, ℕ, ◌+◌, ◌-◌, ◌<◌, ◌≤◌, Bool, List, Some, length, get_or, slice_get, slice_index, sym, ap, subst, ◌∙◌, arith}
 use Rattle.std.proofs.lemmas.Option.{get_or_from_slice_get, slice_get-get_or, slice_get_within}
 use Rattle.half_store.specs.Buckets.{slots_by}
 use Rattle.half_store.specs.Search.{ReturnsAt}
@@ -12,11 +12,14 @@ pub returned_at : {K : Type 0} (returns : K → Bool → Type 0) (keys : List K)
 returned_at returns keys index key answer is met =
     λ k at. subst (λ x. returns x answer) (is ∙ get_or_from_slice_get keys index k key at) met
 
--- it is the key of the pair in a full bucket
-pub key_in_bucket : {K : Type 0} (hashes words : List ℕ) (keys : List K) (bucket hash index : ℕ) (key : K) → length hashes ≤ length keys
-    → slot_at (slots_by hashes words) bucket ≡ Some hash → index ≡ slice_index words bucket - 1 → key ≡ get_or keys index key
-    → slice_get keys (slice_index words bucket - 1) ≡ Some key
-key_in_bucket hashes words keys bucket hash index key enough full entry is =
-    let at = word_of_slot hashes words bucket hash full in
-    ap (slice_get keys) (sym entry)
-    ∙ slice_get-get_or keys index key (omega (arith, slice_get_within hashes at.0 hash at.2, at.1, entry, enough)) ∙ ap Some (sym is)
+module _ {K : Type 0} (hashes words : List ℕ) (keys : List K) (bucket hash index : ℕ) (enough : length hashes ≤ length keys)
+    (full : slot_at (slots_by hashes words) bucket ≡ Some hash) (entry : index ≡ slice_index words bucket - 1) where
+  -- the pair in a full bucket has a key
+  pub key_within : index < length keys
+  key_within =
+      let at = word_of_slot hashes words bucket hash full in
+      omega (arith, slice_get_within hashes at.0 hash at.2, at.1, entry, enough)
+
+  -- this one
+  pub key_in_bucket : (key : K) → key ≡ get_or keys index key → slice_get keys (slice_index words bucket - 1) ≡ Some key
+  key_in_bucket key is = ap (slice_get keys) (sym entry) ∙ slice_get-get_or keys index key key_within ∙ ap Some (sym is)

@@ -1,2 +1,3 @@
 -- Lemmas of the store.
+pub mod Memory
 pub mod States

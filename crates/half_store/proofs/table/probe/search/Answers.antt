@@ -4,7 +4,7 @@ use Rattle.half_store.specs.Buckets.{slots_by}
 use Rattle.half_store.specs.Reach.{home, bucket_after}
 use Rattle.half_store.specs.Search.{ReturnsAt}
 use Rattle.half_store.specs.Work.{Work, one_compared}
-use Rattle.half_store.proofs.lemmas.counting.{returned_at, key_in_bucket}
+use Rattle.half_store.proofs.lemmas.counting.{returned_at, key_in_bucket, key_within}
 use Rattle.half_store.proofs.lemmas.table.Buckets.{length-slots_by}
 use Rattle.half_store.proofs.lemmas.table.Slots.{full_from, Probes-ahead}
 use Rattle.half_store.proofs.lemmas.table.Probe.{Searches-start, Searches-skip, Searches-refused, Searches-found, Searches-missing}
@@ -20,12 +20,17 @@ loop-index-init g c =
     (slice_index (g.P.Buckets.words c.args.buckets.now) bucket - 1) false)
     c.home-bucket.result c.args.tally.now (omega arith) (c.home-bucket.ensures.value ∙ ap (λ m. home m c.args.hash) same)
 
+pub bounds-keys-index : goal.bounds-keys-index
+bounds-keys-index g c =
+    key_within (g.P.Buckets.hashes c.args.buckets.now) (g.P.Buckets.words c.args.buckets.now) c.args.keys.now c.loop-index.bucket
+    c.in-Some.held c.in-Some.index c.requires.keys (sym c.in-Some.ensures.hash) c.in-Some.ensures.index
+
 pub compare-requires : goal.compare-requires
 compare-requires g c =
     let full = sym c.in-Some.ensures.hash ∙ ap Some c.if-held-hash.true in
     c.requires.callable _ c.loop-index.bucket full
     (key_in_bucket (g.P.Buckets.hashes c.args.buckets.now) (g.P.Buckets.words c.args.buckets.now) c.args.keys.now c.loop-index.bucket
-    c.args.hash c.in-Some.index c.index-keys-index.result c.requires.keys full c.in-Some.ensures.index c.index-keys-index.is)
+    c.args.hash c.in-Some.index c.requires.keys full c.in-Some.ensures.index c.index-keys-index.result c.index-keys-index.is)
 
 pub returns-in-None-clause-refused : goal.returns-in-None-clause-refused
 returns-in-None-clause-refused g c =
