@@ -1,8 +1,20 @@
-use Rattle.std.proofs.Common.{sym, ap, ◌∙◌, arith}
+use Rattle.std.proofs.Common.{◌≡◌, true, true≢false, sym, ap, ◌∙◌, arith, rules}
+use Rattle.std.specs.Result.{is_ok}
+use Rattle.std.proofs.lemmas.Result.{err_from_is_err_and}
 use Rattle.halfbrown.specs.Costs.{key_hash}
+use Rattle.halfbrown.specs.Growth.{is_full}
 use Rattle.halfbrown.specs.Pairs.{holds}
 use Rattle.halfbrown.proofs.lemmas.map.Prepare.{held_costs, missing_costs}
 use Rattle.halfbrown.proofs.map.LimitedHashMap.prepare.Goals as goal
+
+pub returns-in_err-switch_if_full-clause-cost : goal.returns-in_err-switch_if_full-clause-cost
+returns-in_err-switch_if_full-clause-cost g c =
+    let full : is_full g.L.Limit.LIMIT c.args.self.now ≡ true = search rules in
+    let refused = ap is_ok (err_from_is_err_and c.from_residual.result c.from_residual.ensures.1).1 in
+    record {
+      grew = rw (full, refused) (grind (arith, c.in_err-switch_if_full.ensures.work));
+      looked_once = λ table granted. absurd (true≢false (sym granted ∙ refused));
+    }
 
 pub returns-in-Ok-clause-cost : goal.returns-in-Ok-clause-cost
 returns-in-Ok-clause-cost g c =
