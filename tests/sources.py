@@ -52,7 +52,7 @@ CALLERS = {
     r"\.hashed_buckets\(": {},
     r"\bTable::with_capacity\(": {"half_store/src/store/memory": 2, "half_store/src/store/switch": 1},
     r"(?:\.|::)clone\(": {"half_store/src/column": 1, "halfbrown/src/map/clone": 2}
-    | {"halfbrown/src/iter": 3, "halfbrown/src/iter/keys": 1, "halfbrown/src/iter/values": 1},
+    | {"halfbrown/src/iter": 3, "halfbrown/src/iter/column": 1},
     r"\.copy\(": {"half_store/src/store/memory": 1},
     r"\.copied\(\w*\)\?": {"half_store/src/table/memory": 1, "half_store/src/words": 2},
 }

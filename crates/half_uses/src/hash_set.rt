@@ -8,7 +8,7 @@ ghost use Rattle.std.specs.Map.Iter.{GivesInOrder, TakesFirst};
 ghost use Rattle.std.specs.Option.{option_map_or};
 ghost use Rattle.std.specs.Set.{is_member, IsUnion};
 ghost use Rattle.halfbrown.specs.Gathering.{add_key, add_keys, first_of_each};
-ghost use Rattle.halfbrown.specs.Iter.{keys_left, ShowsKeysInOrder};
+ghost use Rattle.halfbrown.specs.Iter.{column_left, ShowsColumnInOrder};
 ghost use Rattle.halfbrown.specs.Pairs.{index_of, swap_remove_at};
 ghost use Rattle.half_uses.specs.Sets.{same_values, same_values_equiv};
 
@@ -130,9 +130,9 @@ impl<T: Eq + Hash> HashSet<T> {
 
     /// The values, in order.
     pub fn iter(&self) -> Keys<'_, T, ()>
-        ensures left { keys_left result ≡ self.now }
+        ensures left { column_left result ≡ self.now }
         ensures small { length self.now < 2 ^ 63 }
-        ensures runs { ShowsKeysInOrder T (Unit {0}) }
+        ensures runs { ShowsColumnInOrder T (Unit {0}) }
     {
         self.map.keys()
     }

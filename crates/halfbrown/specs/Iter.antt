@@ -7,9 +7,8 @@ use Rattle.std.specs.Map.{values_of}
 use Rattle.std.specs.Map.Iter.{deref_pair}
 use Rattle.std.specs.Slice.Iter as slice
 use Rattle.halfbrown.specs.declared.iter.Iter.{Iter}
+use Rattle.halfbrown.specs.declared.iter.column.Column.{Column}
 use Rattle.halfbrown.specs.declared.iter.iter_mut.IterMut.{IterMut}
-use Rattle.halfbrown.specs.declared.iter.keys.Keys.{Keys}
-use Rattle.halfbrown.specs.declared.iter.values.Values.{Values}
 use Rattle.halfbrown.specs.declared.iter.values_mut.ValuesMut.{ValuesMut}
 
 module _ {K V : Type 0} where
@@ -28,14 +27,6 @@ module _ {K V : Type 0} where
   -- the name of its loan
   abbrev pub iter_mut_name : IterMut K V → GName
   iter_mut_name s = slice.iter_mut_name s.values
-
-  -- the keys that a `Keys` has left
-  abbrev pub keys_left : Keys K V → List K
-  keys_left s = slice.iter_rest s.keys
-
-  -- the values that a `Values` has left
-  abbrev pub values_left : Values K V → List V
-  values_left s = slice.iter_rest s.values
 
   -- the values that a `ValuesMut` has left
   abbrev pub values_mut_left : ValuesMut K V → List V
@@ -58,10 +49,10 @@ module _ (K V : Type 0) where
   abbrev pub ShowsPairValuesInOrder : Type 0
   ShowsPairValuesInOrder = EveryRun (IterSteps {K = K} {V = V}) (λ p. ItemsMapTo p (λ x. x.1.now) (values_of (pairs_left p.from)))
 
-  -- each run of a `Keys` shows the keys that it had left, in order
-  abbrev pub ShowsKeysInOrder : Type 0
-  ShowsKeysInOrder = YieldsRefsInOrder (YieldsFirstRef keys_left) (keys_left {K = K} {V = V})
+-- what a `Column` has left: the keys that a `Keys` has, or the values that a `Values` has
+abbrev pub column_left : {T O : Type 0} → Column T O → List T
+column_left s = slice.iter_rest s.items
 
-  -- each run of a `Values` shows the values that it had left, in order
-  abbrev pub ShowsValuesInOrder : Type 0
-  ShowsValuesInOrder = YieldsRefsInOrder (YieldsFirstRef values_left) (values_left {K = K} {V = V})
+-- each run of a `Column` shows what it had left, in order
+abbrev pub ShowsColumnInOrder : (T O : Type 0) → Type 0
+ShowsColumnInOrder T O = YieldsRefsInOrder (YieldsFirstRef column_left) (column_left {T = T} {O = O})

@@ -4,20 +4,18 @@ ghost use Rattle.std.specs.Iterator.{at_most, UpTo};
 ghost use Rattle.std.specs.Iterator.SizeHint.{IsWithinCount};
 ghost use Rattle.std.specs.Slice.Iter.{iter_rest};
 
+mod column;
 mod into_iter;
 mod iter_mut;
-mod keys;
-mod values;
 mod values_mut;
 
+pub use column::{Column, Keys, Values};
 pub use into_iter::IntoIter;
 pub use iter_mut::IterMut;
-pub use keys::Keys;
 use std::alloc::AllocError;
 use std::fmt::{Debug, Formatter, Result as Printed, Write};
 use std::iter::FusedIterator;
 use std::slice;
-pub use values::Values;
 pub use values_mut::ValuesMut;
 
 /// The pairs of a map, each as `(&K, &V)`: what `iter` returns.

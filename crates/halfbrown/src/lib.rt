@@ -36,7 +36,7 @@ pub use entry::{Entry, OccupiedEntry, VacantEntry};
 pub use equal_clone::EqualClone;
 pub use equivalent::Equivalent;
 pub use half_store::{Refusal, Tally};
-pub use iter::{IntoIter, Iter, IterMut, Keys, Values, ValuesMut};
+pub use iter::{Column, IntoIter, Iter, IterMut, Keys, Values, ValuesMut};
 pub use limit::{Limit, UpTo};
 pub use map::{DefaultHashBuilder, HashMap, LimitedHashMap, SizedHashMap, laws};
 pub use raw_entry::{

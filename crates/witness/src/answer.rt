@@ -23,6 +23,24 @@ pub(crate) fn said(words: &'static str) -> Answer {
     }
 }
 
+/// An answer of a key alone, which has this name.
+pub(crate) fn named(name: Name) -> Answer {
+    Answer {
+        words: "",
+        key: Some(name),
+        value: None,
+    }
+}
+
+/// An answer of a value alone, which is this number.
+pub(crate) fn numbered(number: u64) -> Answer {
+    Answer {
+        words: "",
+        key: None,
+        value: Some(number),
+    }
+}
+
 impl Answer {
     /// With this key.
     pub(crate) fn key<K: Named>(self, key: &K) -> Answer {

@@ -6,8 +6,9 @@ ghost use Rattle.std.proofs.Common.{rules, ap};
 ghost use Rattle.std.proofs.lemmas.Bool.{eqb-true};
 ghost use Rattle.std.specs.Cmp.{nat_eq_equiv};
 
+use crate::answer::{Answer, named};
 use crate::counts::Counts;
-use crate::kinds::Named;
+use crate::kinds::{Item, Named};
 use crate::words::Name;
 use halfbrown::Equivalent;
 use std::alloc::AllocError;
@@ -29,6 +30,12 @@ impl<'a> Key<'a> {
             mark: name.mark,
             counts,
         }
+    }
+}
+
+impl Item for Key<'_> {
+    fn answer(&self) -> Answer {
+        named(self.name())
     }
 }
 

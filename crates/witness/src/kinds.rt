@@ -1,15 +1,22 @@
 //! What the calls of a script need of its keys and values.
 
+use crate::answer::{Answer, numbered};
 use crate::words::Name;
 
+/// A key or a value of a script. A map lends both in columns of one type, `Column`.
+pub(crate) trait Item {
+    /// How it is answered.
+    fn answer(&self) -> Answer;
+}
+
 /// A key of a script.
-pub(crate) trait Named {
+pub(crate) trait Named: Item {
     /// How it is written.
     fn name(&self) -> Name;
 }
 
 /// A value of a script: a number.
-pub(crate) trait Number {
+pub(crate) trait Number: Item {
     /// The number.
     fn number(&self) -> u64;
 
@@ -29,6 +36,12 @@ pub(crate) fn add_to<V: Number>(value: &mut V, more: u64) {
 pub(crate) fn added_to<V: Number>(mut value: V, more: u64) -> V {
     add_to(&mut value, more);
     value
+}
+
+impl Item for u64 {
+    fn answer(&self) -> Answer {
+        numbered(*self)
+    }
 }
 
 impl Number for u64 {

@@ -3,7 +3,7 @@
 use crate::answer::{print_gap, refused};
 use crate::kinds::{Named, Number};
 use crate::player::Player;
-use crate::walk_items::{of_key, of_owned_pair, of_pair, of_value, print_items};
+use crate::walk_items::{of_item, of_owned_pair, of_pair, print_items};
 use halfbrown::{Limit, RefusedKey};
 use std::fmt::Debug;
 use std::hash::{BuildHasher, Hash};
@@ -38,11 +38,11 @@ impl<
     }
 
     fn print_keys(&mut self) -> io::Result<()> {
-        print_items(self.rt, &mut self.open().keys(), usize::MAX, of_key)
+        print_items(self.rt, &mut self.open().keys(), usize::MAX, of_item)
     }
 
     fn print_values(&mut self) -> io::Result<()> {
-        print_items(self.rt, &mut self.open().values(), usize::MAX, of_value)
+        print_items(self.rt, &mut self.open().values(), usize::MAX, of_item)
     }
 
     fn print_taken(&mut self) -> io::Result<()> {

@@ -3,8 +3,9 @@ ghost use Rattle.std.specs.Prelude.{◌≡◌, ◌==◌};
 ghost use Rattle.std.specs.Cmp.Rules.{comparing};
 ghost use Rattle.std.proofs.Common.{rules};
 
+use crate::answer::{Answer, numbered};
 use crate::counts::Counts;
-use crate::kinds::Number;
+use crate::kinds::{Item, Number};
 use std::alloc::AllocError;
 use std::fmt;
 
@@ -18,6 +19,12 @@ impl<'a> Owned<'a> {
     /// The number 0, which counts here.
     pub(crate) fn zero(counts: &'a Counts) -> Owned<'a> {
         Owned { number: 0, counts }
+    }
+}
+
+impl Item for Owned<'_> {
+    fn answer(&self) -> Answer {
+        numbered(self.number)
     }
 }
 

@@ -2,8 +2,8 @@
 ghost use Rattle.std.specs.Iterator.{IsFinite};
 
 use crate::answer::{Answer, print_gap, said};
-use crate::kinds::{Named, Number, add_to};
-use halfbrown::{Drain, IntoIter, Iter, IterMut, Keys, Limit, Values, ValuesMut};
+use crate::kinds::{Item, Named, Number, add_to};
+use halfbrown::{Column, Drain, IntoIter, Iter, IterMut, Limit, ValuesMut};
 use std::fmt::{Debug, Display};
 use std::hash::{BuildHasher, Hash};
 use std::io;
@@ -52,12 +52,8 @@ pub(crate) fn of_owned_pair<K: Named + Drop, V: Number + Drop>(pair: (K, V)) -> 
     said("").pair(&key, &value)
 }
 
-pub(crate) fn of_key<K: Named>(key: &K) -> Answer {
-    said("").key(key)
-}
-
-pub(crate) fn of_value<V: Number>(value: &V) -> Answer {
-    said("").value(value)
+pub(crate) fn of_item<T: Item>(item: &T) -> Answer {
+    item.answer()
 }
 
 fn of_written_value<V: Number>(value: &mut V) -> Answer {
@@ -124,36 +120,17 @@ impl<K: Named + Debug, V: Number + Debug> Walked for Iter<'_, K, V> {
     }
 }
 
-impl<K: Named, V> Walked for Keys<'_, K, V> {
+impl<T: Item, O> Walked for Column<'_, T, O> {
     fn step(&mut self) -> Option<Answer> {
-        Some(of_key(self.next()?))
+        Some(of_item(self.next()?))
     }
 
     fn print_rest<R: Print>(&mut self, rt: &R, most: usize) -> io::Result<()> {
-        print_items(rt, self, most, of_key)
+        print_items(rt, self, most, of_item)
     }
 
     fn print_clone<R: Print>(&self, rt: &R) -> io::Result<()> {
-        print_items(rt, &mut self.clone()?, usize::MAX, of_key)
-    }
-
-    // Written out, since the borrow checker does not cover the trait's own here.
-    fn add(&mut self) -> Option<Answer> {
-        None
-    }
-}
-
-impl<K, V: Number> Walked for Values<'_, K, V> {
-    fn step(&mut self) -> Option<Answer> {
-        Some(of_value(self.next()?))
-    }
-
-    fn print_rest<R: Print>(&mut self, rt: &R, most: usize) -> io::Result<()> {
-        print_items(rt, self, most, of_value)
-    }
-
-    fn print_clone<R: Print>(&self, rt: &R) -> io::Result<()> {
-        print_items(rt, &mut self.clone()?, usize::MAX, of_value)
+        print_items(rt, &mut self.clone()?, usize::MAX, of_item)
     }
 
     // Written out, since the borrow checker does not cover the trait's own here.
@@ -190,7 +167,7 @@ impl<K, V: Number> Walked for ValuesMut<'_, K, V> {
     fn add(&mut self) -> Option<Answer> {
         let value = self.next()?;
         add_to(value, 1);
-        Some(of_value(value))
+        Some(of_item(value))
     }
 }
 

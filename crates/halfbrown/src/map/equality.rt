@@ -1,7 +1,7 @@
 //! Whether two maps hold the same pairs, in any order and whatever their forms.
 ghost use Rattle.std.specs.Prelude.{◌≡◌};
 ghost use Rattle.std.specs.List.{list_all};
-ghost use Rattle.halfbrown.specs.Costs.{key_hash, KeySearchCosts, SearchesCost};
+ghost use Rattle.halfbrown.specs.Costs.{key_hash, SearchesCost};
 ghost use Rattle.halfbrown.specs.Equality.{same_pairs, holds_pair, keys_while_same, searched_keys};
 ghost use Rattle.halfbrown.specs.EqualityLaws.{same_maps_per, same_maps_equiv};
 
@@ -60,24 +60,11 @@ impl<K: Eq + Hash, V: PartialEq, S: BuildHasher, L: Limit> LimitedHashMap<K, V, 
     {
         for index in 0..self.len() {
             let (key, value) = self.columns().pair_at(index);
-            if !other.holds_pair(key, value, tally) {
+            if Some(value) != other.get_counted(key, tally) {
                 return false;
             }
         }
         true
-    }
-
-    /// Whether an equal key is held with an equal value. It costs one search.
-    #[inline(always)]
-    fn holds_pair(&self, key: &K, value: &V, tally: &mut Tally) -> bool
-        ensures held { result ≡ holds_pair K.eq V.eq self.now.pairs (key.now, value.now) }
-        ensures cost { KeySearchCosts K.eq (key_hash S.BuildHasher S.Hasher.Hasher K.hash_input) self.now key.now
-            tally.old tally.new }
-    {
-        match self.get_counted(key, tally) {
-            Some(held) => *value == *held,
-            None => false,
-        }
     }
 }
 

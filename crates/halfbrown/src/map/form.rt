@@ -112,21 +112,9 @@ impl<K: Eq + Hash, V, S: BuildHasher, L: Limit> LimitedHashMap<K, V, S, L> {
         ensures table { self.old.is_vec ≡ false → (self.new ≡ self.old) × (result ≡ index) }
         ensures state { IsState K.eq L.LIMIT self.new }
     {
-        if self.is_vec() {
-            self.move_last(index)
-        } else {
-            index
+        if !self.is_vec() {
+            return index;
         }
-    }
-
-    // Moves the pair at this index of a vector to the end, and returns its new index.
-    #[inline]
-    fn move_last(&mut self, index: usize) -> usize
-        requires within { index < length self.old.pairs }
-        requires vector { self.old.is_vec ≡ true }
-        ensures moves { MovesLast self.old index result self.new }
-        ensures state { IsState K.eq L.LIMIT self.new }
-    {
         let last = self.len() - 1;
         let (key, value) = self.take_at(index);
         self.push(key, value, Vacancy { hash: 0, bucket: 0 });

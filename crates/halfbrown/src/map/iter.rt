@@ -14,7 +14,7 @@ use std::hash::{BuildHasher, Hash};
 
 impl<K: Eq + Hash, V, S: BuildHasher, L: Limit> LimitedHashMap<K, V, S, L> {
     ghost use Rattle.halfbrown.specs.Iter.{pairs_left, ShowsPairsInOrder, ShowsPairValuesInOrder};
-    ghost use Rattle.halfbrown.specs.Iter.{keys_left, values_left, ShowsKeysInOrder, ShowsValuesInOrder};
+    ghost use Rattle.halfbrown.specs.Iter.{column_left, ShowsColumnInOrder};
     ghost use Rattle.halfbrown.specs.Iter.{iter_mut_left, iter_mut_name};
     ghost use Rattle.halfbrown.specs.Iter.{values_mut_left, values_mut_name, ValuesMutSteps};
     ghost use Rattle.halfbrown.specs.Lending.{LendsValues};
@@ -45,9 +45,9 @@ impl<K: Eq + Hash, V, S: BuildHasher, L: Limit> LimitedHashMap<K, V, S, L> {
     /// ```
     #[inline(always)]
     pub fn keys(&self) -> Keys<'_, K, V>
-        ensures left { keys_left result ≡ keys_of self.now.pairs }
+        ensures left { column_left result ≡ keys_of self.now.pairs }
         ensures small { length self.now.pairs < 2 ^ 63 }
-        ensures runs { ShowsKeysInOrder K V }
+        ensures runs { ShowsColumnInOrder K V }
         ensures state { IsState K.eq L.LIMIT self.now }
     {
         Keys::new(self.columns().keys())
@@ -60,9 +60,9 @@ impl<K: Eq + Hash, V, S: BuildHasher, L: Limit> LimitedHashMap<K, V, S, L> {
     /// ```
     #[inline(always)]
     pub fn values(&self) -> Values<'_, K, V>
-        ensures left { values_left result ≡ values_of self.now.pairs }
+        ensures left { column_left result ≡ values_of self.now.pairs }
         ensures small { length self.now.pairs < 2 ^ 63 }
-        ensures runs { ShowsValuesInOrder K V }
+        ensures runs { ShowsColumnInOrder V K }
         ensures state { IsState K.eq L.LIMIT self.now }
     {
         Values::new(self.columns().values())

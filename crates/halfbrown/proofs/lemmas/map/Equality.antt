@@ -1,12 +1,13 @@
 -- When two lists of pairs of distinct keys are equal as maps: they are of one length, and the right holds each pair of the left.
 use Rattle.std.proofs.Common.{◌≡◌, ℕ, ◌≤◌, Bool, true, false, true≢false, cond, List, [], ◌∷◌, length, get_or, slice_get, Option, None}
-use Rattle.std.proofs.Common.{Some, is_some, inl, inr, refl, sym, ap, ◌∙◌, arith, suc, ◌&&◌, drop, ◌+◌, ◌-◌, ◌*◌, ◌==◌, subst}
+use Rattle.std.proofs.Common.{not, Some, is_some, inl, inr, refl, sym, ap, ◌∙◌, arith, suc, ◌&&◌, drop, ◌+◌, ◌-◌, ◌*◌, ◌==◌, subst}
 use Rattle.std.specs.Bool.{Decides, one_answer}
+use Rattle.std.specs.Borrow.{Bor}
 use Rattle.std.specs.Cmp.{IsEquivalence}
 use Rattle.std.specs.HashMap.Eq.{lookup_congr}
 use Rattle.std.specs.List.{AllByRecursion, IsDistinct, list_all}
 use Rattle.std.specs.Map.{keys_of, lookup}
-use Rattle.std.specs.Option.{option_eq, option_map_or}
+use Rattle.std.specs.Option.{option_copied, option_eq, option_map_or}
 use Rattle.std.proofs.lemmas.Bool.{cases_Bool, and_parts, eq-eqb, ne_eqb}
 use Rattle.std.proofs.lemmas.List.Sums.{AllPass-from_list_all, list_all-from_AllPass, count_by-le-length}
 use Rattle.std.proofs.lemmas.Map.Entries.{place_from_lookup, lookup_from_place, length-keys_of}
@@ -18,6 +19,7 @@ use Rattle.halfbrown.specs.Equality.{same_value, same_pairs, holds_pair, keys_wh
 use Rattle.halfbrown.specs.EqualityLaws.{OrderLaw, PairsLaw, equal_has_same, same_pairs-Decides, ComparisonLaw}
 use Rattle.halfbrown.specs.Pairs.{value_of}
 use Rattle.halfbrown.proofs.CallerLemmas.{lookup_permuted}
+use Rattle.std.proofs.Math.Bool.{not-not}
 use Rattle.std.proofs.Math.ListN.{drop_of_length-le}
 use Rattle.std.proofs.Math.Nat.{mul-le-mul_left}
 use Rattle.std.proofs.Math.Seq.{drop-cons}
@@ -166,6 +168,14 @@ module _ {X : Type 0} (test : X → Bool) (xs : List X) (i : ℕ) (x : X) (at : 
 
   pub all_ends : test x ≡ false → list_all test (drop i xs) ≡ false
   all_ends fails = ap (list_all test) (rest_from xs i x at) ∙ ap (λ b. b && list_all test (drop (i + 1) xs)) fails
+
+module _ {K V : Type 0} (eq : K → K → Bool) (value_eq : V → V → Bool) (ps : List (K × V)) (k : K) (v : Bor V) where
+  -- a pair is held unless its value differs from what a search for its key found
+  pub held_unless : (found : Option (Bor V)) (differs : Bool) → option_copied found ≡ value_of eq ps k
+      → differs ≡ not (option_eq (λ x y. value_eq x.now y.now) (Some v) found) → holds_pair eq value_eq ps (k, v.now) ≡ not differs
+  held_unless None differs is compared = ap (λ o. option_map_or (value_eq v.now) o false) (sym is) ∙ ap not (sym compared)
+  held_unless (Some w) differs is compared =
+      ap (λ o. option_map_or (value_eq v.now) o false) (sym is) ∙ sym (not-not (value_eq v.now w.now)) ∙ ap not (sym compared)
 
 module _ {K V S : Type 0} (eq : K → K → Bool) (hash : S → K → ℕ) (m : State K V S) where
   pub costs_none : (work : Work) → SearchesCost eq hash m [] work work

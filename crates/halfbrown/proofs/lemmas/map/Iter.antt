@@ -12,9 +12,8 @@ use Rattle.std.proofs.iter.runs.Sources.{from_front, as_is}
 use Rattle.std.specs.Iterator.{YieldsFirstRef}
 use Rattle.std.specs.Iterator.Runs.{YieldsMutRefsInOrder}
 use Rattle.std.specs.Map.Iter.{TakesFirst, ShowsValuesInOrder, GivesInOrder, LendsFirst, LendsValuesInOrder, deref_pair}
-use Rattle.halfbrown.specs.Iter.{pairs_left, keys_left, values_left, IterSteps, ShowsPairsInOrder, ShowsPairValuesInOrder, ShowsKeysInOrder}
+use Rattle.halfbrown.specs.Iter.{pairs_left, column_left, IterSteps, ShowsPairsInOrder, ShowsPairValuesInOrder, ShowsColumnInOrder}
 use Rattle.halfbrown.specs.Iter.{values_mut_left, ValuesMutSteps}
-use Rattle.halfbrown.specs.Iter as it
 
 module _ {K V : Type 0} where
   -- the columns side by side are the pairs
@@ -87,15 +86,12 @@ module _ {K V : Type 0} where
   pub values_lend_in_order : YieldsMutRefsInOrder (ValuesMutSteps {K = K} {V = V}) values_mut_left
   values_lend_in_order = from_front ValuesMutSteps (λ x. x.now) values_mut_left (λ s t h. h.0) (λ s x t h. h)
 
+pub shows_column_in_order : (T O : Type 0) → ShowsColumnInOrder T O
+shows_column_in_order T O = from_front (YieldsFirstRef column_left) (λ x. x.now) column_left (λ s t h. ap length h.0) (λ s x t h. h)
+
 module _ (K V : Type 0) where
   pub shows_pairs_in_order : ShowsPairsInOrder K V
   shows_pairs_in_order = from_front IterSteps deref_pair pairs_left (λ s t h. ap length h.0) (λ s x t h. h)
-
-  pub shows_keys_in_order : ShowsKeysInOrder K V
-  shows_keys_in_order = from_front (YieldsFirstRef keys_left) (λ x. x.now) keys_left (λ s t h. ap length h.0) (λ s x t h. h)
-
-  pub shows_held_values_in_order : it.ShowsValuesInOrder K V
-  shows_held_values_in_order = from_front (YieldsFirstRef values_left) (λ x. x.now) values_left (λ s t h. ap length h.0) (λ s x t h. h)
 
   pub shows_pair_values_in_order : ShowsPairValuesInOrder K V
   shows_pair_values_in_order =

@@ -1,31 +1,35 @@
-use Rattle.std.proofs.Common.{slice_get, sym, ap, ◌∙◌, arith}
+use Rattle.std.proofs.Common.{not, slice_get, sym, ap, ◌∙◌, arith}
 use Rattle.halfbrown.specs.Costs.{key_hash}
 use Rattle.halfbrown.specs.Equality.{holds_pair}
-use Rattle.halfbrown.proofs.lemmas.map.Equality.{all_on, all_ends, costs_done, costs_on, costs_last}
+use Rattle.halfbrown.proofs.lemmas.map.Equality.{held_unless, all_on, all_ends, costs_done, costs_on, costs_last}
 use Rattle.halfbrown.proofs.map.LimitedHashMap.is_held_by.Goals as goal
 
-pub returns-then-not-holds_pair-clause-held : goal.returns-then-not-holds_pair-clause-held
-returns-then-not-holds_pair-clause-held g c =
+pub returns-then-ne-clause-held : goal.returns-then-ne-clause-held
+returns-then-ne-clause-held g c =
     let test = holds_pair g.K.PartialEq.eq g.V.PartialEq.eq c.args.other.now.pairs in
+    let unheld = held_unless g.K.PartialEq.eq g.V.PartialEq.eq c.args.other.now.pairs c.pair_at.result.0.now c.pair_at.result.1
+    c.get_counted.result c.ne.result c.get_counted.ensures.value c.ne.ensures ∙ ap not c.if-ne.true in
     sym (c.loop-index.invariant.held
     ∙ all_ends test c.args.self.now.pairs c.loop-index.index (c.pair_at.result.0.now, c.pair_at.result.1.now)
-    (ap (λ ps. slice_get ps c.loop-index.index) (sym c.columns.ensures.pairs) ∙ c.pair_at.ensures)
-    (sym c.holds_pair.ensures.held ∙ c.if-not-holds_pair.true))
+    (ap (λ ps. slice_get ps c.loop-index.index) (sym c.columns.ensures.pairs) ∙ c.pair_at.ensures) unheld)
 
-pub returns-then-not-holds_pair-clause-cost : goal.returns-then-not-holds_pair-clause-cost
-returns-then-not-holds_pair-clause-cost g c =
+pub returns-then-ne-clause-cost : goal.returns-then-ne-clause-cost
+returns-then-ne-clause-cost g c =
     let hash = key_hash g.S2.BuildHasher g.S2.Hasher.Hasher g.K.Hash.hash_input in
-    c.loop-index.invariant.cost c.holds_pair.new.tally
+    let unheld = held_unless g.K.PartialEq.eq g.V.PartialEq.eq c.args.other.now.pairs c.pair_at.result.0.now c.pair_at.result.1
+    c.get_counted.result c.ne.result c.get_counted.ensures.value c.ne.ensures ∙ ap not c.if-ne.true in
+    c.loop-index.invariant.cost c.get_counted.new.tally
     (costs_last g.K.PartialEq.eq hash c.args.other.now g.V.PartialEq.eq c.args.self.now.pairs c.loop-index.index
     (c.pair_at.result.0.now, c.pair_at.result.1.now)
     (ap (λ ps. slice_get ps c.loop-index.index) (sym c.columns.ensures.pairs) ∙ c.pair_at.ensures)
-    c.loop-index.tally c.holds_pair.new.tally c.holds_pair.ensures.cost (sym c.holds_pair.ensures.held ∙ c.if-not-holds_pair.true))
+    c.loop-index.tally c.get_counted.new.tally c.get_counted.ensures.cost unheld)
 
 pub loop-index-preserved : goal.loop-index-preserved
 loop-index-preserved g c =
     let test = holds_pair g.K.PartialEq.eq g.V.PartialEq.eq c.args.other.now.pairs in
     let hash = key_hash g.S2.BuildHasher g.S2.Hasher.Hasher g.K.Hash.hash_input in
-    let held = sym c.holds_pair.ensures.held ∙ c.if-not-holds_pair.false in
+    let held = held_unless g.K.PartialEq.eq g.V.PartialEq.eq c.args.other.now.pairs c.pair_at.result.0.now c.pair_at.result.1
+    c.get_counted.result c.ne.result c.get_counted.ensures.value c.ne.ensures ∙ ap not c.if-ne.false in
     record {
       held = c.loop-index.invariant.held
           ∙ all_on test c.args.self.now.pairs c.loop-index.index (c.pair_at.result.0.now, c.pair_at.result.1.now)
@@ -34,7 +38,7 @@ loop-index-preserved g c =
           (costs_on g.K.PartialEq.eq hash c.args.other.now g.V.PartialEq.eq c.args.self.now.pairs c.loop-index.index
           (c.pair_at.result.0.now, c.pair_at.result.1.now)
           (ap (λ ps. slice_get ps c.loop-index.index) (sym c.columns.ensures.pairs) ∙ c.pair_at.ensures)
-          c.loop-index.tally c.holds_pair.new.tally c.holds_pair.ensures.cost held after more);
+          c.loop-index.tally c.get_counted.new.tally c.get_counted.ensures.cost held after more);
     }
 
 pub returns-clause-cost : goal.returns-clause-cost

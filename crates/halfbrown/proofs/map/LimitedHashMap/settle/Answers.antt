@@ -2,15 +2,15 @@ use Rattle.std.proofs.Common.{[], ◌∷◌, ◌++◌, ap, ◌∙◌, length, ar
 use Rattle.halfbrown.specs.Pairs.{holds}
 use Rattle.halfbrown.proofs.lemmas.map.Replace.{unheld_after}
 use Rattle.halfbrown.proofs.lemmas.pairs.SwapRemove.{length-swap_remove_at}
-use Rattle.halfbrown.proofs.map.LimitedHashMap.move_last.Goals as goal
+use Rattle.halfbrown.proofs.map.LimitedHashMap.settle.Goals as goal
 
 pub push-requires-clause-capacity : goal.push-requires-clause-capacity
 push-requires-clause-capacity g c =
     omega (
       arith,
-      c.requires.within,
+      c.requires,
       c.len-last.ensures.state.fits,
-      length-swap_remove_at c.args.self.now.pairs c.args.index (omega (arith, c.requires.within)),
+      length-swap_remove_at c.args.self.now.pairs c.args.index (omega (arith, c.requires)),
       ap length c.take_at-key.ensures.after.pairs,
       c.take_at-key.ensures.after.capacity,
     )
@@ -22,8 +22,8 @@ push-requires-clause-absent g c =
     ∙ unheld_after eq g.met.K.Eq.laws c.args.self.now.pairs c.len-last.ensures.state.distinct c.args.index c.take_at-key.result.0
     c.take_at-key.result.1 c.take_at-key.ensures.taken
 
-pub returns-clause-moves : goal.returns-clause-moves
-returns-clause-moves g c = record {
+pub returns-clause-vector : goal.returns-clause-vector
+returns-clause-vector g c vector = record {
   moved = (
     c.take_at-key.result,
     c.take_at-key.ensures.taken,
@@ -37,8 +37,8 @@ returns-clause-moves g c = record {
   );
   last_is = omega (
     arith,
-    c.requires.within,
+    c.requires,
     c.len-last.ensures.len,
-    length-swap_remove_at c.args.self.now.pairs c.args.index (omega (arith, c.requires.within)),
+    length-swap_remove_at c.args.self.now.pairs c.args.index (omega (arith, c.requires)),
   );
 }

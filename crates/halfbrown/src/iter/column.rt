@@ -1,0 +1,89 @@
+//! The keys or the values of a map, lent to be read.
+ghost use Rattle.std.specs.Prelude.{◌≡◌, Some, length, IfSome, ⊤};
+ghost use Rattle.std.specs.Iterator.{at_most, UpTo, YieldsFirstRef};
+ghost use Rattle.std.specs.Iterator.SizeHint.{IsWithinCount};
+ghost use Rattle.halfbrown.specs.Iter.{column_left};
+
+use std::alloc::AllocError;
+use std::iter::FusedIterator;
+use std::marker::PhantomData;
+use std::slice;
+
+/// The keys or the values of a map, in order. `O` is the type of the other column.
+pub struct Column<'a, T, O> {
+    items: slice::Iter<'a, T>,
+    other: PhantomData<O>,
+}
+
+/// The keys of a map: what `keys` returns.
+pub type Keys<'a, K, V> = Column<'a, K, V>;
+
+/// The values of a map: what `values` returns.
+pub type Values<'a, K, V> = Column<'a, V, K>;
+
+// Written out, since it holds nothing of the other column's type.
+impl<'a, T, O> Drop for Column<'a, T, O> {
+    fn drop(self) {
+        let Column { items, other: _ } = self;
+        drop(items);
+    }
+}
+
+impl<'a, T, O> Column<'a, T, O> {
+    /// What this slice holds.
+    #[inline(always)]
+    pub(crate) fn new(items: &'a [T]) -> Self
+        ensures { column_left result ≡ items.now }
+    {
+        Column {
+            items: items.iter(),
+            other: PhantomData,
+        }
+    }
+}
+
+impl<'a, T, O> Iterator for Column<'a, T, O> {
+    type Item = &'a T;
+
+    ghost next_gives = { YieldsFirstRef column_left };
+
+    ghost remaining = { λ s. at_most (length (column_left s)) };
+
+    #[inline(always)]
+    fn next(&mut self) -> Option<&'a T> {
+        self.items.next()
+    }
+
+    #[inline(always)]
+    fn size_hint(&self) -> (usize, Option<usize>)
+        ensures lower { IsWithinCount result.0 (at_most (length (column_left self.now))) }
+        ensures upper { IfSome result.1 (UpTo (at_most (length (column_left self.now)))) }
+        ensures exact { result ≡ (length (column_left self.now), Some (length (column_left self.now))) }
+    {
+        let len = self.len();
+        (len, Some(len))
+    }
+}
+
+impl<'a, T, O> ExactSizeIterator for Column<'a, T, O> {
+    #[inline(always)]
+    fn len(&self) -> usize {
+        self.items.len()
+    }
+}
+
+impl<'a, T, O> FusedIterator for Column<'a, T, O> {}
+
+impl<'a, T, O> Clone for Column<'a, T, O> {
+    ghost is_clone = { λ s r. column_left r ≡ column_left s };
+
+    ghost is_infallible = { λ _. ⊤ };
+
+    #[inline(always)]
+    fn clone(&self) -> Result<Self, AllocError> {
+        Ok(Column {
+            items: self.items.clone()?,
+            other: PhantomData,
+        })
+    }
+}
