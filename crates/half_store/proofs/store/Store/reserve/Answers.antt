@@ -1,39 +1,29 @@
 use Rattle.std.proofs.Common.{◌≡◌, ◌+◌, min, length, arith}
 use Rattle.half_store.proofs.lemmas.store.Memory.{vector_enough, vector_unneeded, vector_grown, vector_columns}
+use Rattle.half_store.proofs.store.Store.reserve.Given as given
 use Rattle.half_store.proofs.store.Store.reserve.Goals as goal
+
+-- what a vector needs
+most : (g : given.Over) (c : goal.After-grow g)
+    → c.min-needed.result ≡ min (length c.self.inside.columns.pairs + c.args.additional) c.args.limit
+most g c = omega (arith, c.min-needed.ensures, c.saturating_add.ensures, c.len-len.ensures.len, c.ranges.limit.fits)
 
 pub returns-in_default-clause-enough : goal.returns-in_default-clause-enough
 returns-in_default-clause-enough g c =
-    let needed = c.min-needed.result in
-    let columns = c.self.inside.columns in
-    let most : needed ≡ min (length columns.pairs + c.args.additional) c.args.limit =
-    omega (arith, c.min-needed.ensures, c.saturating_add.ensures, c.len-len.ensures.len, c.ranges.limit.fits) in
-    vector_enough c.args.limit c.args.additional needed columns c.grow.new.self c.in_default.is c.self.view_is most c.grow.result
-    c.grow.ensures.ok
+    vector_enough c.args.limit c.args.additional c.min-needed.result c.self.inside.columns c.grow.new.self c.in_default.is c.self.view_is
+    (most g c) c.grow.result c.grow.ensures.ok
 
 pub returns-in_default-clause-unneeded : goal.returns-in_default-clause-unneeded
 returns-in_default-clause-unneeded g c =
-    let needed = c.min-needed.result in
-    let columns = c.self.inside.columns in
-    let most : needed ≡ min (length columns.pairs + c.args.additional) c.args.limit =
-    omega (arith, c.min-needed.ensures, c.saturating_add.ensures, c.len-len.ensures.len, c.ranges.limit.fits) in
-    vector_unneeded c.args.limit c.args.additional needed columns c.grow.new.self c.in_default.is c.self.view_is most c.grow.result
-    c.grow.ensures.unneeded
+    vector_unneeded c.args.limit c.args.additional c.min-needed.result c.self.inside.columns c.grow.new.self c.in_default.is c.self.view_is
+    (most g c) c.grow.result c.grow.ensures.unneeded
 
 pub returns-in_default-clause-grown : goal.returns-in_default-clause-grown
 returns-in_default-clause-grown g c =
-    let needed = c.min-needed.result in
-    let columns = c.self.inside.columns in
-    let most : needed ≡ min (length columns.pairs + c.args.additional) c.args.limit =
-    omega (arith, c.min-needed.ensures, c.saturating_add.ensures, c.len-len.ensures.len, c.ranges.limit.fits) in
-    vector_grown c.args.limit c.args.additional needed columns c.grow.new.self c.in_default.is c.self.view_is most c.grow.result
-    c.grow.ensures.grown
+    vector_grown c.args.limit c.args.additional c.min-needed.result c.self.inside.columns c.grow.new.self c.in_default.is c.self.view_is
+    (most g c) c.grow.result c.grow.ensures.grown
 
 pub returns-in_default-clause-columns : goal.returns-in_default-clause-columns
 returns-in_default-clause-columns g c =
-    let needed = c.min-needed.result in
-    let columns = c.self.inside.columns in
-    let most : needed ≡ min (length columns.pairs + c.args.additional) c.args.limit =
-    omega (arith, c.min-needed.ensures, c.saturating_add.ensures, c.len-len.ensures.len, c.ranges.limit.fits) in
-    vector_columns c.args.limit c.args.additional needed columns c.grow.new.self c.in_default.is c.self.view_is most c.grow.result
-    c.grow.ensures.keeps_capacity c.grow.ensures.grown
+    vector_columns c.args.limit c.args.additional c.min-needed.result c.self.inside.columns c.grow.new.self c.in_default.is c.self.view_is
+    (most g c) c.grow.result c.grow.ensures.keeps_capacity c.grow.ensures.grown
