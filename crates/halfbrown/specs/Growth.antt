@@ -82,15 +82,19 @@ abbrev pub IsGrantable : Option ℕ → Type 0
 IsGrantable needs = IfSome needs (λ n. n ≤ 2 ^ 60)
 
 module _ {K V S : Type 0} (limit : ℕ) where
+  -- a granted call that needed this much capacity and changes no pair: the form is this now
+  pub record Grants (is_vec : Bool) (old : State K V S) (needs : Option ℕ) (new : State K V S) : Type 0 where
+    pub pairs : new.pairs ≡ old.pairs
+    pub form : new.is_vec ≡ is_vec
+    pub capacity : HasCapacityAfter limit old needs new
+    pub columns : HasColumnsAfter old needs new
+    pub grantable : IsGrantable needs
+    pub builder : new.builder ≡ old.builder
+
   -- a granted reservation for so many pairs more: the capacity is enough for them, in a vector for no more in all than the limit
   pub record Reserves (old : State K V S) (additional : ℕ) (new : State K V S) : Type 0 where
-    pub pairs : new.pairs ≡ old.pairs
-    pub form : new.is_vec ≡ old.is_vec
-    pub capacity : HasCapacityAfter limit old (reserve_needs limit old (length old.pairs + additional)) new
-    pub columns : HasColumnsAfter old (reserve_needs limit old (length old.pairs + additional)) new
+    pub granted : Grants old.is_vec old (reserve_needs limit old (length old.pairs + additional)) new
     pub enough : allowed limit old.is_vec (length old.pairs + additional) ≤ new.capacity
-    pub grantable : IsGrantable (reserve_needs limit old (length old.pairs + additional))
-    pub builder : new.builder ≡ old.builder
 
   -- capacity is given back, and so is the table where the limit allows the pairs
   pub record Shrinks (old new : State K V S) : Type 0 where

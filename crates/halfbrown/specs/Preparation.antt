@@ -1,10 +1,10 @@
 -- Capacity for one pair more: what each call that adds a pair makes first, and what adding the pair there leaves.
-use Rattle.std.specs.Prelude.{◌≡◌, ℕ, ◌+◌, ◌<◌, nat_lt, Bool, [], ◌∷◌, ◌++◌, length, Option, Result, Ok, Err, if◌then◌else◌}
+use Rattle.std.specs.Prelude.{ℕ, ◌+◌, ◌<◌, nat_lt, Bool, [], ◌∷◌, ◌++◌, length, Option, Result, Ok, Err, if◌then◌else◌}
 use Rattle.half_store.specs.Capacity.{capacity_for}
 use Rattle.half_store.specs.Store.{IsVacancy, filled}
 use Rattle.half_store.specs.declared.store.vacancy.Vacancy.{Vacancy}
 use Rattle.halfbrown.specs.Costs.{probe_length}
-use Rattle.halfbrown.specs.Growth.{is_vec_after, IsGrantable, HasCapacityAfter, HasColumnsAfter}
+use Rattle.halfbrown.specs.Growth.{is_vec_after, Grants}
 use Rattle.halfbrown.specs.Lookup.{IsIndexOf, IsAbsent}
 use Rattle.halfbrown.specs.State.{State, state, contents_of}
 
@@ -20,13 +20,8 @@ module _ {K V S : Type 0} where
 
   -- a granted call that makes capacity for an insertion, and needed this much capacity for it: the same pairs, and a full vector has become a
   -- table
-  pub record Prepares (limit : ℕ) (old : State K V S) (needs : Option ℕ) (new : State K V S) : Type 0 where
-    pub pairs : new.pairs ≡ old.pairs
-    pub form : new.is_vec ≡ is_vec_after limit old
-    pub capacity : HasCapacityAfter limit old needs new
-    pub columns : HasColumnsAfter old needs new
-    pub grantable : IsGrantable needs
-    pub builder : new.builder ≡ old.builder
+  abbrev pub Prepares : ℕ → State K V S → Option ℕ → State K V S → Type 0
+  Prepares limit old = Grants limit (is_vec_after limit old) old
 
   module _ (eq : K → K → Bool) (hash : S → K → ℕ) where
     -- k is not held, and a pair of it may be added here: the capacity is enough for it

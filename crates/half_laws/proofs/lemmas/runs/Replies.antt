@@ -50,7 +50,7 @@ module _ {K V S : Type 0} (limit : ℕ) (eq : K → K → Bool) where
   pairs_left old new (RawOrInsert k v) leaves = leaves.pairs
   pairs_left old new (Remove k) leaves = leaves.pairs
   pairs_left old new Clear leaves = leaves.pairs
-  pairs_left old new (Reserve additional) leaves = leaves.pairs
+  pairs_left old new (Reserve additional) leaves = leaves.granted.pairs
   pairs_left old new Shrink leaves = leaves.pairs
   pairs_left old new command leaves = ap (λ m. m.pairs) leaves
 

@@ -1,6 +1,6 @@
 -- What a closure's answer makes of a pair.
 use Rattle.std.proofs.Common.{◌≡◌, ℕ, zero, suc, ◌<◌, Bool, false, List, [], ◌∷◌, length, map, get_or, slice_get, Option, None, Some}
-use Rattle.std.proofs.Common.{IfNone, IfSome, OnSome, sym, ap, subst, ◌∙◌, arith}
+use Rattle.std.proofs.Common.{IfNone, IfSome, sym, ap, subst, ◌∙◌, arith}
 use Rattle.std.proofs.lemmas.Map.Entries.{length-keys_of}
 use Rattle.std.proofs.lemmas.Option.{same_Some, slice_get_within}
 use Rattle.std.specs.Borrow.{Bor}
@@ -11,14 +11,13 @@ use Rattle.std.specs.Option.{option_map}
 use Rattle.half_store.proofs.lemmas.store.States.{length-set_value, kept_value, lost_pair}
 use Rattle.half_store.specs.Pairs.{swap_remove_at}
 use Rattle.half_store.specs.Replaced.{Replaces}
-use Rattle.half_store.specs.Store.{StoreState, KeepsForm, allowed}
+use Rattle.half_store.specs.Store.{StoreState, KeepsForm}
 use Rattle.halfbrown.specs.Layout.{IsKept}
 use Rattle.halfbrown.specs.Lookup.{IsIndexOf}
 use Rattle.halfbrown.specs.Pairs.{holds}
 use Rattle.halfbrown.proofs.CallerLemmas.{has_removed}
 use Rattle.halfbrown.proofs.lemmas.pairs.Indices.{index_of_first, first_of_match}
 use Rattle.halfbrown.proofs.lemmas.map.Layout.{kept_as, kept_taken, keys_of-set_value}
-use Rattle.halfbrown.proofs.lemmas.pairs.SwapRemove.{length-swap_remove_at}
 
 module _ {K V : Type 0} where
   -- the stored hash of a pair is that of its key
@@ -78,12 +77,3 @@ module _ {K V : Type 0} (eq : K → K → Bool) (laws : IsEquivalence eq) (hash 
   absent_replaced None r = tt
   absent_replaced (Some removed) r = let lost = lost_pair r in (λ j. holds eq (lost.1 j) (sym lost.2 j))
       ∙ unheld_after eq laws old.pairs kept.distinct index r.key r.value r.pair
-
-  pub capacity_replaced : index < length old.pairs → (result : Option (K × ℕ))
-      → Replaces returns old.pairs index new.pairs (option_map (λ removed. removed.0) result)
-      → OnSome result (length new.pairs < allowed limit new.is_vec new.capacity)
-  capacity_replaced within None r = tt
-  capacity_replaced within (Some removed) r =
-      let fewer : length new.pairs < allowed limit old.is_vec old.capacity =
-      omega (arith, ap length (lost_pair r).1, length-swap_remove_at old.pairs index (omega arith), kept.fits) in
-      subst (λ t. t) (λ j. length new.pairs < allowed limit (sym keeps.form j) (sym keeps.capacity j)) fewer

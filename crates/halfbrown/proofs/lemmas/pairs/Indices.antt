@@ -1,11 +1,9 @@
 -- Where a key stands among pairs of distinct keys, and what that says of reading and changing them.
-use Rattle.std.proofs.Common.{◌≡◌, ℕ, zero, suc, ◌<◌, Bool, true, false, cond, ◌||◌, List, [], ◌∷◌, ◌++◌, length, map, get_or, slice_get}
+use Rattle.std.proofs.Common.{◌≡◌, ℕ, zero, suc, ◌<◌, Bool, true, false, cond, ◌||◌, List, [], ◌∷◌, ◌++◌, length, get_or, slice_get}
 use Rattle.std.proofs.Common.{Option, None, Some, is_some, sym, refl, ap, subst, ◌∙◌, arith, true≢false}
 use Rattle.std.specs.Option.{option_map, option_map_or}
 use Rattle.std.specs.List.{IsDistinct, list_any}
 use Rattle.std.specs.Map.{keys_of, values_of, lookup, lookup_entry}
-use Rattle.std.proofs.Math.ListN.{length-map, get_or-map}
-use Rattle.std.proofs.lemmas.Option.{slice_get-get_or}
 use Rattle.std.proofs.lemmas.Map.Entries.{length-keys_of}
 use Rattle.std.proofs.lemmas.Map.Keys.{apart_from_distinct}
 use Rattle.half_store.specs.Pairs.{index_of, set_value, swap_remove_at}
@@ -172,47 +170,21 @@ module _ {K V : Type 0} (test : K → Bool) where
   pub found_where_held : (ps : List (K × V)) → is_some (index_of test (keys_of ps)) ≡ holds_by test ps
   found_where_held ps = found_by ps (index_of test (keys_of ps)) refl
 
-module _ {K : Type 0} (test : K → Bool) where
-  -- from what a search from first to last says of the index that it found
-  pub first_searched : (ks : List K) (i : ℕ) → (i < length ks) × ((d : K) → true ≡ test (get_or ks i d))
-      → ((j : ℕ) → j < i → (d : K) → false ≡ test (get_or ks j d)) → IsFirst test ks i
-  first_searched [] i found before = absurd (omega (arith, found.0))
-  first_searched (k ∷ ks) i found before = first_at test (k ∷ ks) i k found.0 (sym (found.1 k)) (λ j h. sym (before j h k))
+module _ {K : Type 0} (test : K → Bool) (eq : K → K → Bool) (one_class : (k other : K) → test k ≡ true → test other ≡ eq k other) where
+  apart : (ks : List K) → IsDistinct eq ks → (i j : ℕ) (d : K) → j < i → i < length ks → test (get_or ks i d) ≡ true → (b : Bool)
+      → test (get_or ks j d) ≡ b → test (get_or ks j d) ≡ false
+  apart ks distinct i j d before within at false e = e
+  apart ks distinct i j d before within at true e =
+      absurd (true≢false (sym (sym (one_class (get_or ks j d) (get_or ks i d) e) ∙ at)
+      ∙ apart_from_distinct eq ks j i d distinct before within))
 
-  -- from what it says where it found none
-  pub none_searched : (ks : List K) → ((j : ℕ) → j < length ks → (d : K) → false ≡ test (get_or ks j d)) → NonePasses test ks
-  none_searched ks absent = none_at test ks (λ j d within. sym (absent j within d))
+  -- an index whose key passes is the first, and the only one
+  pub first_of_match : (ks : List K) (i : ℕ) (d : K) → IsDistinct eq ks → i < length ks → test (get_or ks i d) ≡ true → IsFirst test ks i
+  first_of_match ks i d distinct within at =
+      first_at test ks i d within at (λ j before. apart ks distinct i j d before within at (test (get_or ks j d)) refl)
 
-  module _ (eq : K → K → Bool) (one_class : (k other : K) → test k ≡ true → test other ≡ eq k other) where
-    apart : (ks : List K) → IsDistinct eq ks → (i j : ℕ) (d : K) → j < i → i < length ks → test (get_or ks i d) ≡ true → (b : Bool)
-        → test (get_or ks j d) ≡ b → test (get_or ks j d) ≡ false
-    apart ks distinct i j d before within at false e = e
-    apart ks distinct i j d before within at true e =
-        absurd (true≢false (sym (sym (one_class (get_or ks j d) (get_or ks i d) e) ∙ at)
-        ∙ apart_from_distinct eq ks j i d distinct before within))
-
-    -- an index whose key passes is the first, and the only one
-    pub first_of_match : (ks : List K) (i : ℕ) (d : K) → IsDistinct eq ks → i < length ks → test (get_or ks i d) ≡ true → IsFirst test ks i
-    first_of_match ks i d distinct within at =
-        first_at test ks i d within at (λ j before. apart ks distinct i j d before within at (test (get_or ks j d)) refl)
-
-    -- the same, from what a search among the keys of one hash says of the index that it found
-    pub first_matched : (ks : List K) (i : ℕ) → IsDistinct eq ks → i < length ks → ((d : K) → true ≡ test (get_or ks i d))
-        → IsFirst test ks i
-    first_matched [] i distinct within accepted = absurd (omega arith)
-    first_matched (k ∷ ks) i distinct within accepted = first_of_match (k ∷ ks) i k distinct within (sym (accepted k))
-
-  module _ (hash : K → ℕ) (sought : ℕ) (hashed : (k : K) → test k ≡ true → hash k ≡ sought) where
-    unequal : (ks : List K) → ((j : ℕ) → slice_get (map hash ks) j ≡ Some sought → (d : K) → false ≡ test (get_or ks j d))
-        → (j : ℕ) (d : K) → j < length ks → (b : Bool) → test (get_or ks j d) ≡ b → test (get_or ks j d) ≡ false
-    unequal ks refused j d within false e = e
-    unequal ks refused j d within true e =
-        let here : slice_get (map hash ks) j ≡ Some sought =
-        slice_get-get_or (map hash ks) j (hash d) (omega (arith, length-map ks hash))
-        ∙ ap Some (get_or-map hash ks j d ∙ hashed (get_or ks j d) e) in
-        sym (refused j here d)
-
-    -- where each key of the hash that is sought was compared and none passes, none at all does
-    pub none_of_hash : (ks : List K) → ((j : ℕ) → slice_get (map hash ks) j ≡ Some sought → (d : K) → false ≡ test (get_or ks j d))
-        → NonePasses test ks
-    none_of_hash ks refused = none_at test ks (λ j d within. unequal ks refused j d within (test (get_or ks j d)) refl)
+  -- the same, from what a search among the keys of one hash says of the index that it found
+  pub first_matched : (ks : List K) (i : ℕ) → IsDistinct eq ks → i < length ks → ((d : K) → true ≡ test (get_or ks i d))
+      → IsFirst test ks i
+  first_matched [] i distinct within accepted = absurd (omega arith)
+  first_matched (k ∷ ks) i distinct within accepted = first_of_match (k ∷ ks) i k distinct within (sym (accepted k))

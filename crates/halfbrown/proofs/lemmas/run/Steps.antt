@@ -116,7 +116,7 @@ module _ {K V S : Type 0} (limit : ℕ) (eq : K → K → Bool) where
   form_left old new (RawOrInsert k v) leaves = leaves.form ∙ put_form old.is_vec (is_full limit old)
   form_left old new (Remove k) leaves = leaves.form
   form_left old new Clear leaves = leaves.form
-  form_left old new (Reserve additional) leaves = leaves.form
+  form_left old new (Reserve additional) leaves = leaves.granted.form
   form_left old new Shrink leaves = leaves.form ∙ shrunk_form old.is_vec (nat_le (length old.pairs) limit)
   form_left old new command leaves = ap (λ m. m.is_vec) leaves
 
