@@ -1,13 +1,22 @@
-use Rattle.std.proofs.Common.{◌≡◌, Ok, Err, slice_get, refl, sym, ap, subst, ◌∙◌, arith, true≢false, rules}
+use Rattle.std.proofs.Common.{◌≡◌, Ok, Err, length, slice_get, refl, sym, ap, subst, ◌∙◌, arith, true≢false, rules}
 use Rattle.std.proofs.lemmas.Option.{slice_get_within}
 use Rattle.std.specs.Fn.{FnReturnsAt}
 use Rattle.half_store.specs.Pairs.{swap_remove_at}
 use Rattle.half_store.specs.Search.{Finds}
 use Rattle.half_store.specs.Store.{StoreState, IsStore, store_of, table_of}
 use Rattle.half_store.specs.declared.store.vacancy.Vacancy.{Vacancy}
-use Rattle.half_store.proofs.lemmas.store.States.{table_keeps_form}
+use Rattle.half_store.proofs.lemmas.store.States.{table_keeps_form, pairs_of-store}
 use Rattle.half_store.proofs.lemmas.vecmap.Zip.{swap_remove_at_is}
 use Rattle.half_store.proofs.store.Store.take.Goals as goal
+
+pub swap_remove-requires : goal.swap_remove-requires
+swap_remove-requires g c =
+    omega (arith, c.in-Ok.ensures.found.within, ap length (pairs_of-store c.self.inside.columns c.self.inside.table))
+
+pub swap_remove-requires-in-Ok-take : goal.swap_remove-requires-in-Ok-take
+swap_remove-requires-in-Ok-take g c =
+    let kept = subst (IsStore c.self.inside.columns) c.in-Some.is c.self.invariant in
+    omega (arith, slice_get_within c.in-Some.table.hashes c.in-Ok-take.index c.args.hash c.in-Ok-take.ensures.finds.found, kept.len)
 
 pub returns-in-Ok-take : goal.returns-in-Ok-take
 returns-in-Ok-take g c =
