@@ -68,7 +68,8 @@ impl EqualClone for bool {
 }
 
 impl EqualClone for String {
-    ghost clones_equal = { λ key copy same. (bytes_decides (string_bytes key) (string_bytes copy)).1 (sym same) };
+    ghost clones_equal = { λ key copy same.
+        (bytes_decides (string_bytes key) (string_bytes copy)).1 (sym same) };
 }
 
 impl EqualClone for &str {

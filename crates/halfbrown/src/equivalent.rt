@@ -43,7 +43,8 @@ pub trait Equivalent<K: Eq + Hash>: Copy + Hash {
         ensures { result ≡ equivalent self.now key.now };
 
     // It is hashed as a key that it stands for.
-    ghost hashes_alike: { (form : Self) (k : K) → IsTrue (equivalent form k) → Self.hash_input form ≡ K.hash_input k };
+    ghost hashes_alike: { (form : Self) (k : K) → IsTrue (equivalent form k)
+        → Self.hash_input form ≡ K.hash_input k };
 
     // It stands for the equals of such a key, and for no other.
     ghost stands_for_equals: { (form : Self) (k other : K) → IsTrue (equivalent form k)
@@ -86,7 +87,8 @@ impl<'k> Equivalent<&'k str> for &str {
 impl<A: Allocator> Equivalent<String<A>> for &str {
     ghost equivalent = { λ form k. bytes_eq form.now (string_bytes k) };
 
-    ghost hashes_alike = { λ form k same. ap writes.str ((bytes_decides form.now (string_bytes k)).0 same) };
+    ghost hashes_alike = { λ form k same.
+        ap writes.str ((bytes_decides form.now (string_bytes k)).0 same) };
 
     ghost stands_for_equals = { λ form k other.
         nat_list_eq_equiv.congr form.now (string_bytes k) (string_bytes other) };
@@ -99,7 +101,8 @@ impl<A: Allocator> Equivalent<String<A>> for &str {
 impl<A: Allocator> Equivalent<BoxedStr<A>> for &str {
     ghost equivalent = { λ form k. bytes_eq form.now (boxed_str_bytes k) };
 
-    ghost hashes_alike = { λ form k same. ap writes.str ((bytes_decides form.now (boxed_str_bytes k)).0 same) };
+    ghost hashes_alike = { λ form k same.
+        ap writes.str ((bytes_decides form.now (boxed_str_bytes k)).0 same) };
 
     ghost stands_for_equals = { λ form k other.
         nat_list_eq_equiv.congr form.now (boxed_str_bytes k) (boxed_str_bytes other) };
@@ -112,7 +115,8 @@ impl<A: Allocator> Equivalent<BoxedStr<A>> for &str {
 impl<A: Allocator> Equivalent<RcStr<A>> for &str {
     ghost equivalent = { λ form k. bytes_eq form.now (rc_str_bytes k) };
 
-    ghost hashes_alike = { λ form k same. ap writes.str ((bytes_decides form.now (rc_str_bytes k)).0 same) };
+    ghost hashes_alike = { λ form k same.
+        ap writes.str ((bytes_decides form.now (rc_str_bytes k)).0 same) };
 
     ghost stands_for_equals = { λ form k other.
         nat_list_eq_equiv.congr form.now (rc_str_bytes k) (rc_str_bytes other) };
@@ -125,7 +129,8 @@ impl<A: Allocator> Equivalent<RcStr<A>> for &str {
 impl<'k, A: Allocator> Equivalent<CowStr<'k, A>> for &str {
     ghost equivalent = { λ form k. bytes_eq form.now (cow_str_bytes k) };
 
-    ghost hashes_alike = { λ form k same. ap writes.str ((bytes_decides form.now (cow_str_bytes k)).0 same) };
+    ghost hashes_alike = { λ form k same.
+        ap writes.str ((bytes_decides form.now (cow_str_bytes k)).0 same) };
 
     ghost stands_for_equals = { λ form k other.
         nat_list_eq_equiv.congr form.now (cow_str_bytes k) (cow_str_bytes other) };
@@ -138,9 +143,11 @@ impl<'k, A: Allocator> Equivalent<CowStr<'k, A>> for &str {
 impl<'k, T: Eq + Hash> Equivalent<&'k [T]> for &[T] {
     ghost equivalent = { λ form k. pointwise T.eq form.now k.now };
 
-    ghost hashes_alike = { λ form k. (items_Alike (record { fed = T.respects_eq })).fed form.now k.now };
+    ghost hashes_alike = { λ form k.
+        (items_Alike (record { fed = T.respects_eq })).fed form.now k.now };
 
-    ghost stands_for_equals = { λ form k other. (lists_equiv T.Eq.laws).congr form.now k.now other.now };
+    ghost stands_for_equals = { λ form k other.
+        (lists_equiv T.Eq.laws).congr form.now k.now other.now };
 
     fn equivalent(&self, key: &&'k [T]) -> bool {
         *self == *key
@@ -150,9 +157,11 @@ impl<'k, T: Eq + Hash> Equivalent<&'k [T]> for &[T] {
 impl<T: Eq + Hash, A: Allocator> Equivalent<Vec<T, A>> for &[T] {
     ghost equivalent = { λ form k. pointwise T.eq form.now k.items };
 
-    ghost hashes_alike = { λ form k. (items_Alike (record { fed = T.respects_eq })).fed form.now k.items };
+    ghost hashes_alike = { λ form k.
+        (items_Alike (record { fed = T.respects_eq })).fed form.now k.items };
 
-    ghost stands_for_equals = { λ form k other. (lists_equiv T.Eq.laws).congr form.now k.items other.items };
+    ghost stands_for_equals = { λ form k other.
+        (lists_equiv T.Eq.laws).congr form.now k.items other.items };
 
     fn equivalent(&self, key: &Vec<T, A>) -> bool {
         *self == key.as_slice()
@@ -176,7 +185,8 @@ impl<T: Eq + Hash, A: Allocator> Equivalent<BoxedSlice<T, A>> for &[T] {
 impl<'k, T: Eq + Hash, A: Allocator> Equivalent<CowSlice<'k, T, A>> for &[T] {
     ghost equivalent = { λ form k. pointwise T.eq form.now (cow_slice_items k) };
 
-    ghost hashes_alike = { λ form k. (items_Alike (record { fed = T.respects_eq })).fed form.now (cow_slice_items k) };
+    ghost hashes_alike = { λ form k.
+        (items_Alike (record { fed = T.respects_eq })).fed form.now (cow_slice_items k) };
 
     ghost stands_for_equals = { λ form k other.
         (lists_equiv T.Eq.laws).congr form.now (cow_slice_items k) (cow_slice_items other) };

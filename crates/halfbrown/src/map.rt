@@ -79,8 +79,8 @@ impl<K: Eq + Hash, V, S: BuildHasher, L: Limit> Model for LimitedHashMap<K, V, S
 
     ghost view = { λ m. state_in L.LIMIT m.store m.builder };
 
-    ghost invariant = { λ m. IsKept K.eq (key_hash S.BuildHasher S.Hasher.Hasher K.hash_input m.builder) L.LIMIT
-        m.store };
+    ghost invariant = { λ m. IsKept K.eq
+        (key_hash S.BuildHasher S.Hasher.Hasher K.hash_input m.builder) L.LIMIT m.store };
 }
 
 // Written out, since the limit is a type that no value of the map holds.

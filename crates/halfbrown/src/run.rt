@@ -81,7 +81,8 @@ pub fn run<K: Eq + Hash + Drop, V: Copy, S: BuildHasher, L: Limit>(
     ensures run { IfOk result (λ replies. (cost : Cost)
         × Runs L.LIMIT K.eq (key_hash S.BuildHasher S.Hasher.Hasher K.hash_input) map.old
         commands.items replies.items map.new cost) }
-    ensures stays_a_table { shrinks commands.items ≡ false → map.old.is_vec ≡ false → map.new.is_vec ≡ false }
+    ensures stays_a_table { shrinks commands.items ≡ false → map.old.is_vec ≡ false
+        → map.new.is_vec ≡ false }
     ensures empty { commands.items ≡ [] → IsOk result }
     ensures memory { IfOk result (λ replies. vec_capacity replies ≡ length commands.items) }
     ensures returned { IfErr result (λ back. back.items ≡ commands.items) }
@@ -106,7 +107,8 @@ pub fn run_counted<K: Eq + Hash + Drop, V: Copy, S: BuildHasher, L: Limit>(
 
     // Without `Shrink`: once a table, always a table; a run that ends with a vector has hashed nothing; and no run hashes more than
     // two keys for each command, and once as many as the limit.
-    ensures stays_a_table { shrinks commands.items ≡ false → map.old.is_vec ≡ false → map.new.is_vec ≡ false }
+    ensures stays_a_table { shrinks commands.items ≡ false → map.old.is_vec ≡ false
+        → map.new.is_vec ≡ false }
     ensures nothing_hashed { shrinks commands.items ≡ false → map.new.is_vec ≡ true
         → tally.new.asked ≡ tally.old.asked }
     ensures hashes { shrinks commands.items ≡ false
@@ -136,8 +138,9 @@ fn step<K: Eq + Hash + Drop, V: Copy, S: BuildHasher, L: Limit>(
     tally: &mut Tally,
 ) -> Reply<K, V>
     ensures step { Steps L.LIMIT K.eq map.old command result map.new }
-    ensures cost { GrewBy (command_cost L.LIMIT K.eq (key_hash S.BuildHasher S.Hasher.Hasher K.hash_input)
-        map.old command (is_refused result)) tally.old tally.new }
+    ensures cost { GrewBy (command_cost L.LIMIT K.eq
+        (key_hash S.BuildHasher S.Hasher.Hasher K.hash_input) map.old command (is_refused result))
+        tally.old tally.new }
 {
     match command {
         Command::Insert(key, value) => insert(map, key, value, tally),
@@ -168,8 +171,9 @@ fn insert<K: Eq + Hash + Drop, V, S: BuildHasher, L: Limit>(
     tally: &mut Tally,
 ) -> Reply<K, V>
     ensures step { Steps L.LIMIT K.eq map.old (Command.Insert key value) result map.new }
-    ensures cost { GrewBy (command_cost L.LIMIT K.eq (key_hash S.BuildHasher S.Hasher.Hasher K.hash_input)
-        map.old (Command.Insert key value) (is_refused result)) tally.old tally.new }
+    ensures cost { GrewBy (command_cost L.LIMIT K.eq
+        (key_hash S.BuildHasher S.Hasher.Hasher K.hash_input) map.old (Command.Insert key value)
+        (is_refused result)) tally.old tally.new }
 {
     match map.insert_counted(key, value, tally) {
         Ok(old) => Reply::Was(old),
@@ -185,8 +189,9 @@ fn insert_new<K: Eq + Hash + Drop, V: Copy, S: BuildHasher, L: Limit>(
     tally: &mut Tally,
 ) -> Reply<K, V>
     ensures step { Steps L.LIMIT K.eq map.old (Command.InsertNew key value) result map.new }
-    ensures cost { GrewBy (command_cost L.LIMIT K.eq (key_hash S.BuildHasher S.Hasher.Hasher K.hash_input)
-        map.old (Command.InsertNew key value) (is_refused result)) tally.old tally.new }
+    ensures cost { GrewBy (command_cost L.LIMIT K.eq
+        (key_hash S.BuildHasher S.Hasher.Hasher K.hash_input) map.old (Command.InsertNew key value)
+        (is_refused result)) tally.old tally.new }
 {
     if map.contains_key_counted(&key, tally) {
         return Reply::Present(key, value);
@@ -205,8 +210,9 @@ fn entry_or_insert<K: Eq + Hash + Drop, V: Copy, S: BuildHasher, L: Limit>(
     tally: &mut Tally,
 ) -> Reply<K, V>
     ensures step { Steps L.LIMIT K.eq map.old (Command.EntryOrInsert key value) result map.new }
-    ensures cost { GrewBy (command_cost L.LIMIT K.eq (key_hash S.BuildHasher S.Hasher.Hasher K.hash_input)
-        map.old (Command.EntryOrInsert key value) (is_refused result)) tally.old tally.new }
+    ensures cost { GrewBy (command_cost L.LIMIT K.eq
+        (key_hash S.BuildHasher S.Hasher.Hasher K.hash_input) map.old
+        (Command.EntryOrInsert key value) (is_refused result)) tally.old tally.new }
 {
     match map.entry_counted(key, tally) {
         Ok(entry) => Reply::Value(*entry.or_insert(value)),
@@ -222,8 +228,9 @@ fn raw_or_insert<K: Eq + Hash + Drop, V: Copy, S: BuildHasher, L: Limit>(
     tally: &mut Tally,
 ) -> Reply<K, V>
     ensures step { Steps L.LIMIT K.eq map.old (Command.RawOrInsert key value) result map.new }
-    ensures cost { GrewBy (command_cost L.LIMIT K.eq (key_hash S.BuildHasher S.Hasher.Hasher K.hash_input)
-        map.old (Command.RawOrInsert key value) (is_refused result)) tally.old tally.new }
+    ensures cost { GrewBy (command_cost L.LIMIT K.eq
+        (key_hash S.BuildHasher S.Hasher.Hasher K.hash_input) map.old
+        (Command.RawOrInsert key value) (is_refused result)) tally.old tally.new }
 {
     match map.raw_entry_mut_counted(tally) {
         Ok(entries) => {

@@ -29,7 +29,8 @@ impl<K: Eq + Hash, V, S: BuildHasher, L: Limit> LimitedHashMap<K, V, S, L> {
     pub fn entry(&mut self, key: K) -> Result<Entry<'_, K, V, S, L>, RefusedKey<K>>
     where
         K: Drop,
-        ensures* unchanged { sem 𝓛 (RestsIfRefused K.row V.row S.row L.row S.Hasher.row self.entry result) }
+        ensures* unchanged { sem 𝓛
+            (RestsIfRefused K.row V.row S.row L.row S.Hasher.row self.entry result) }
         ensures makes { MakesEntry L.LIMIT K.eq self.entry key result }
     {
         self.entry_counted(key, &mut Tally::new())
@@ -45,10 +46,12 @@ impl<K: Eq + Hash, V, S: BuildHasher, L: Limit> LimitedHashMap<K, V, S, L> {
     ) -> Result<Entry<'_, K, V, S, L>, RefusedKey<K>>
     where
         K: Drop,
-        ensures* unchanged { sem 𝓛 (RestsIfRefused K.row V.row S.row L.row S.Hasher.row self.entry result) }
+        ensures* unchanged { sem 𝓛
+            (RestsIfRefused K.row V.row S.row L.row S.Hasher.row self.entry result) }
         ensures makes { MakesEntry L.LIMIT K.eq self.entry key result }
-        ensures cost { InsertCosts L.LIMIT K.eq (key_hash S.BuildHasher S.Hasher.Hasher K.hash_input) self.old
-            key (is_ok result) tally.old tally.new }
+        ensures cost { InsertCosts L.LIMIT K.eq
+            (key_hash S.BuildHasher S.Hasher.Hasher K.hash_input) self.old key (is_ok result)
+            tally.old tally.new }
     {
         match self.prepare(&key, tally) {
             Ok(Ok(index)) => Ok(Entry::Occupied(OccupiedEntry { map: self, index })),
@@ -72,12 +75,15 @@ impl<K: Eq + Hash, V, S: BuildHasher, L: Limit> LimitedHashMap<K, V, S, L> {
     #[inline(always)]
     #[tactic(auto, unfolding(crate::specs::Entry::with_value))]
     pub fn get_index_entry(&mut self, index: usize) -> Option<OccupiedEntry<'_, K, V, S, L>>
-        ensures* unchanged { sem 𝓛 (RestsIfNoEntry K.row V.row S.row L.row S.Hasher.row self.entry result) }
-        ensures same_map { IfSome result (λ o. (map_ref (Occupied o)).ghost_name ≡ self.entry.ghost_name) }
+        ensures* unchanged { sem 𝓛
+            (RestsIfNoEntry K.row V.row S.row L.row S.Hasher.row self.entry result) }
+        ensures same_map { IfSome result
+            (λ o. (map_ref (Occupied o)).ghost_name ≡ self.entry.ghost_name) }
         ensures map { IfSome result (λ o. map_of (Occupied o) ≡ self.old) }
-        ensures pair { IfSome result (λ o. entry_pair (Occupied o) ≡ slice_get self.old.pairs index) }
-        ensures writes { IfSome result (λ o. (value : V)
-            → with_value (Occupied o) value ≡ with_pairs self.old (set_value self.old.pairs index value)) }
+        ensures pair { IfSome result
+            (λ o. entry_pair (Occupied o) ≡ slice_get self.old.pairs index) }
+        ensures writes { IfSome result (λ o. (value : V) → with_value (Occupied o) value
+            ≡ with_pairs self.old (set_value self.old.pairs index value)) }
         ensures held { IsSome result ↔ (index < length self.old.pairs) }
     {
         if index < self.len() {

@@ -38,7 +38,8 @@ impl<'a, K: Eq + Hash, V, S: BuildHasher, L: Limit> Entry<'a, K, V, S, L> {
     pub fn or_insert(self, default: V) -> &'a mut V
     where
         V: Drop,
-        ensures* writes_back { sem 𝓛 (EntryLends K.row V.row S.row L.row S.Hasher.row self.entry result) }
+        ensures* writes_back { sem 𝓛
+            (EntryLends K.row V.row S.row L.row S.Hasher.row self.entry result) }
         ensures value { result.now ≡ unwrap_or (entry_value self.entry) default }
     {
         match self {
@@ -55,7 +56,8 @@ impl<'a, K: Eq + Hash, V, S: BuildHasher, L: Limit> Entry<'a, K, V, S, L> {
     #[inline(always)]
     pub fn or_insert_with<F: FnOnce() -> V>(self, default: F) -> &'a mut V
         requires { entry_value self ≡ None → F.pre default }
-        ensures* writes_back { sem 𝓛 (EntryLends K.row V.row S.row L.row S.Hasher.row self.entry result) }
+        ensures* writes_back { sem 𝓛
+            (EntryLends K.row V.row S.row L.row S.Hasher.row self.entry result) }
         ensures value { UnwrapsOrElse (entry_value self.entry) (F.post default) result.now }
     {
         match self {
@@ -73,7 +75,8 @@ impl<'a, K: Eq + Hash, V, S: BuildHasher, L: Limit> Entry<'a, K, V, S, L> {
     pub fn or_default(self) -> &'a mut V
     where
         V: Default,
-        ensures* writes_back { sem 𝓛 (EntryLends K.row V.row S.row L.row S.Hasher.row self.entry result) }
+        ensures* writes_back { sem 𝓛
+            (EntryLends K.row V.row S.row L.row S.Hasher.row self.entry result) }
         ensures value { UnwrapsOrElse (entry_value self.entry) V.is_default result.now }
     {
         match self {
@@ -97,7 +100,8 @@ impl<'a, K: Eq + Hash, V, S: BuildHasher, L: Limit> Entry<'a, K, V, S, L> {
         ensures writes { (value : V) → with_value result value ≡ with_value self.entry value }
         ensures pairs_left { pairs_without result ≡ pairs_without self.entry }
         ensures vacant { entry_value self.entry ≡ None → map_of result ≡ map_of self.entry }
-        ensures occupied { IfSome (entry_value result) (λ value. map_of result ≡ with_value self.entry value) }
+        ensures occupied { IfSome (entry_value result)
+            (λ value. map_of result ≡ with_value self.entry value) }
     {
         match self {
             Entry::Occupied(mut entry) => {

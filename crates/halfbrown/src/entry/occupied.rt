@@ -62,7 +62,8 @@ impl<'a, K: Eq + Hash, V, S: BuildHasher, L: Limit> OccupiedEntry<'a, K, V, S, L
     #[inline(always)]
     pub fn index(&self) -> usize
         ensures within { result < length (map_of (Occupied self.now)).pairs }
-        ensures pair { slice_get (map_of (Occupied self.now)).pairs result ≡ entry_pair (Occupied self.now) }
+        ensures pair { slice_get (map_of (Occupied self.now)).pairs result
+            ≡ entry_pair (Occupied self.now) }
         ensures pairs_left { swap_remove_at (map_of (Occupied self.now)).pairs result
             ≡ pairs_without (Occupied self.now) }
     {
@@ -89,9 +90,11 @@ impl<'a, K: Eq + Hash, V, S: BuildHasher, L: Limit> OccupiedEntry<'a, K, V, S, L
     /// ```
     #[inline(always)]
     pub fn get_mut(&mut self) -> &mut V
-        ensures* writes_back { sem 𝓛 (OccupiedLends K.row V.row S.row L.row S.Hasher.row self.entry result) }
+        ensures* writes_back { sem 𝓛
+            (OccupiedLends K.row V.row S.row L.row S.Hasher.row self.entry result) }
         ensures value { entry_value (Occupied self.old) ≡ Some result.now }
-        ensures written { (w : V) → IsWritten (Occupied self.old) w (Occupied (with_entry_value self.old w)) }
+        ensures written { (w : V)
+            → IsWritten (Occupied self.old) w (Occupied (with_entry_value self.old w)) }
     {
         let index = self.index;
         self.map.value_at_mut(index)
@@ -106,7 +109,8 @@ impl<'a, K: Eq + Hash, V, S: BuildHasher, L: Limit> OccupiedEntry<'a, K, V, S, L
     #[inline(always)]
     #[tactic(auto, using(crate::proofs::lemmas::entry::Methods::occupied_writes))]
     pub fn into_mut(self) -> &'a mut V
-        ensures* writes_back { sem 𝓛 (EntryLends K.row V.row S.row L.row S.Hasher.row (Occupied self.entry) result) }
+        ensures* writes_back { sem 𝓛
+            (EntryLends K.row V.row S.row L.row S.Hasher.row (Occupied self.entry) result) }
         ensures value { entry_value (Occupied self.entry) ≡ Some result.now }
     {
         let map = self.map;
@@ -134,9 +138,11 @@ impl<'a, K: Eq + Hash, V, S: BuildHasher, L: Limit> OccupiedEntry<'a, K, V, S, L
     /// ```
     #[inline(always)]
     pub fn get_key_value_mut(&mut self) -> (&K, &mut V)
-        ensures* writes_back { sem 𝓛 (OccupiedLends K.row V.row S.row L.row S.Hasher.row self.entry result.1) }
+        ensures* writes_back { sem 𝓛
+            (OccupiedLends K.row V.row S.row L.row S.Hasher.row self.entry result.1) }
         ensures pair { entry_pair (Occupied self.old) ≡ Some (result.0.now, result.1.now) }
-        ensures written { (w : V) → IsWritten (Occupied self.old) w (Occupied (with_entry_value self.old w)) }
+        ensures written { (w : V)
+            → IsWritten (Occupied self.old) w (Occupied (with_entry_value self.old w)) }
     {
         let index = self.index;
         self.map.pair_at_mut(index)
@@ -204,8 +210,8 @@ impl<'a, K: Eq + Hash, V, S: BuildHasher, L: Limit> OccupiedEntry<'a, K, V, S, L
     where
         K: Drop,
         ensures value { entry_value (Occupied self.entry) ≡ Some result }
-        ensures after { WithPairs (map_of (Occupied self.entry)) (pairs_without (Occupied self.entry))
-            self.exit.0.now }
+        ensures after { WithPairs (map_of (Occupied self.entry))
+            (pairs_without (Occupied self.entry)) self.exit.0.now }
         ensures state { IsState K.eq L.LIMIT self.exit.0.now }
     {
         self.remove_entry().1
@@ -221,8 +227,8 @@ impl<'a, K: Eq + Hash, V, S: BuildHasher, L: Limit> OccupiedEntry<'a, K, V, S, L
     pub fn remove_entry(self) -> (K, V)
         ensures pair { entry_pair (Occupied self.entry) ≡ Some result }
         ensures value { entry_value (Occupied self.entry) ≡ Some result.1 }
-        ensures after { WithPairs (map_of (Occupied self.entry)) (pairs_without (Occupied self.entry))
-            self.exit.0.now }
+        ensures after { WithPairs (map_of (Occupied self.entry))
+            (pairs_without (Occupied self.entry)) self.exit.0.now }
         ensures state { IsState K.eq L.LIMIT self.exit.0.now }
     {
         let index = self.index;

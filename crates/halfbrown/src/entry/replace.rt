@@ -43,8 +43,8 @@ impl<'a, K: Eq + Hash, V, S: BuildHasher, L: Limit> OccupiedEntry<'a, K, V, S, L
         requires { (key : Bor K) (value : V) → entry_pair (Occupied self) ≡ Some (key.now, value)
             → F.pre f key value }
         ensures replaced { Replaced L.LIMIT K.eq (F.post f) (Occupied self.entry) result }
-        ensures cost { ReplacementCosts (key_hash S.BuildHasher S.Hasher.Hasher K.hash_input) result tally.old
-            tally.new }
+        ensures cost { ReplacementCosts (key_hash S.BuildHasher S.Hasher.Hasher K.hash_input)
+            result tally.old tally.new }
     {
         let index = self.index;
         let map = self.map;

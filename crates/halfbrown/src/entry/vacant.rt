@@ -53,7 +53,8 @@ impl<'a, K: Eq + Hash, V, S: BuildHasher, L: Limit> VacantEntry<'a, K, V, S, L> 
     /// ```
     #[inline(always)]
     pub fn insert(self, value: V) -> &'a mut V
-        ensures* writes_back { sem 𝓛 (EntryLends K.row V.row S.row L.row S.Hasher.row (Vacant self.entry) result) }
+        ensures* writes_back { sem 𝓛
+            (EntryLends K.row V.row S.row L.row S.Hasher.row (Vacant self.entry) result) }
         ensures value { result.now ≡ value }
     {
         let VacantEntry { map, key, vacancy } = self;

@@ -58,7 +58,8 @@ impl<'a, T, O> Iterator for Column<'a, T, O> {
     fn size_hint(&self) -> (usize, Option<usize>)
         ensures lower { IsWithinCount result.0 (at_most (length (column_left self.now))) }
         ensures upper { IfSome result.1 (UpTo (at_most (length (column_left self.now)))) }
-        ensures exact { result ≡ (length (column_left self.now), Some (length (column_left self.now))) }
+        ensures exact { result
+            ≡ (length (column_left self.now), Some (length (column_left self.now))) }
     {
         let len = self.len();
         (len, Some(len))

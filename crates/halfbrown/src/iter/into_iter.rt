@@ -28,7 +28,8 @@ impl<K, V> Model for IntoIter<K, V> {
 
     ghost view = { λ it. zip (into_iter_items it.keys) (into_iter_items it.values) };
 
-    ghost invariant = { λ it. length (into_iter_items it.values) ≡ length (into_iter_items it.keys) };
+    ghost invariant = { λ it.
+        length (into_iter_items it.values) ≡ length (into_iter_items it.keys) };
 }
 
 impl<K, V> IntoIter<K, V> {

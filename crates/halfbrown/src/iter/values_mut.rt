@@ -46,7 +46,8 @@ impl<'a, K, V> Iterator for ValuesMut<'a, K, V> {
     fn size_hint(&self) -> (usize, Option<usize>)
         ensures lower { IsWithinCount result.0 (at_most (length (values_mut_left self.now))) }
         ensures upper { IfSome result.1 (UpTo (at_most (length (values_mut_left self.now)))) }
-        ensures exact { result ≡ (length (values_mut_left self.now), Some (length (values_mut_left self.now))) }
+        ensures exact { result
+            ≡ (length (values_mut_left self.now), Some (length (values_mut_left self.now))) }
     {
         let len = self.len();
         (len, Some(len))

@@ -27,8 +27,8 @@ impl<K: Eq + Hash, V, S: BuildHasher, L: Limit> LimitedHashMap<K, V, S, L> {
     #[inline(always)]
     pub(crate) fn pair_at_mut(&mut self, index: usize) -> (&K, &mut V)
         requires { index < length self.old.pairs }
-        ensures* writes_back { sem 𝓛 (LendsValueAt K.row V.row S.row L.row S.Hasher.row K.Hash S.BuildHasher
-            S.Hasher.Hasher L.Limit self.entry index result.1) }
+        ensures* writes_back { sem 𝓛 (LendsValueAt K.row V.row S.row L.row S.Hasher.row K.Hash
+            S.BuildHasher S.Hasher.Hasher L.Limit self.entry index result.1) }
         ensures pair { slice_get self.old.pairs index ≡ Some (result.0.now, result.1.now) }
     {
         self.store.pair_at_mut(index)
@@ -38,7 +38,8 @@ impl<K: Eq + Hash, V, S: BuildHasher, L: Limit> LimitedHashMap<K, V, S, L> {
     #[inline(always)]
     pub(crate) fn set_key_at(&mut self, index: usize, key: K) -> K
         requires within { index < length self.old.pairs }
-        requires equal { IfSome (slice_get (keys_of self.old.pairs) index) (λ k. K.eq key k ≡ true) }
+        requires equal { IfSome (slice_get (keys_of self.old.pairs) index)
+            (λ k. K.eq key k ≡ true) }
         ensures old { slice_get (keys_of self.old.pairs) index ≡ Some result }
         ensures after { WithPairs self.old (set_key self.old.pairs index key) self.new }
         ensures replaced { HasKeyReplaced K.eq self.old.pairs key self.new.pairs }

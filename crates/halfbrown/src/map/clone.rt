@@ -48,8 +48,10 @@ impl<K: Eq + Hash, V, S: BuildHasher, L: Limit> LimitedHashMap<K, V, S, L> {
         V: Clone,
         S: Drop,
         requires keys { ClonesEqualKeys K.eq K.is_clone self.now }
-        requires builder { HashesAlike (key_hash S.BuildHasher S.Hasher.Hasher K.hash_input) self.now builder }
-        ensures cloned { IfOk result (IsCloneOf K.is_clone V.is_clone (λ _ it. it ≡ builder) self.now) }
+        requires builder { HashesAlike (key_hash S.BuildHasher S.Hasher.Hasher K.hash_input)
+            self.now builder }
+        ensures cloned { IfOk result (IsCloneOf K.is_clone V.is_clone
+            (λ _ it. it ≡ builder) self.now) }
         ensures refused { IfErr result (λ why. why ≡ Refusal.Memory) }
         ensures state { IfOk result (IsState K.eq L.LIMIT) }
     {

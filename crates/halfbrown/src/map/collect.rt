@@ -38,15 +38,14 @@ impl<K: Eq + Hash + Drop, V: Drop, S: BuildHasher + Default + Drop, L: Limit> Li
         requires { (it : I.IntoIter) → I.into_iter_gives items it
             → I.IntoIter.can_next it × IsFinite (I.IntoIter.remaining it) }
         // The iterator gave all its items, and its size hint was this number.
-        ensures collected { IfOk result (λ m. (it : I.IntoIter) × (gave : List (K × V)) × (hint : ℕ) × (cost : Cost)
-            × I.into_iter_gives items it × Drains I.IntoIter.next_gives it gave
-            × IsWithinCount hint (I.IntoIter.remaining it)
-            × IsCollection L.LIMIT K.eq (key_hash S.BuildHasher S.Hasher.Hasher K.hash_input) S.is_default hint gave
-            m cost) }
+        ensures collected { IfOk result (λ m. (it : I.IntoIter) × (gave : List (K × V)) × (hint : ℕ)
+            × (cost : Cost) × I.into_iter_gives items it × Drains I.IntoIter.next_gives it gave
+            × IsWithinCount hint (I.IntoIter.remaining it) × IsCollection L.LIMIT K.eq
+            (key_hash S.BuildHasher S.Hasher.Hasher K.hash_input) S.is_default hint gave m cost) }
         ensures refused { IfErr result (λ why. (it : I.IntoIter) × (hint : ℕ) × (cost : Cost)
             × I.into_iter_gives items it × IsWithinCount hint (I.IntoIter.remaining it)
-            × IsRefusedCollection L.LIMIT K.eq (key_hash S.BuildHasher S.Hasher.Hasher K.hash_input) S.is_default hint
-            (Gives I.IntoIter.next_gives it) why cost) }
+            × IsRefusedCollection L.LIMIT K.eq (key_hash S.BuildHasher S.Hasher.Hasher K.hash_input)
+            S.is_default hint (Gives I.IntoIter.next_gives it) why cost) }
         ensures state { IfOk result (IsState K.eq L.LIMIT) }
     {
         LimitedHashMap::from_iter_counted(alloc, items, &mut Tally::new())
@@ -60,17 +59,19 @@ impl<K: Eq + Hash + Drop, V: Drop, S: BuildHasher + Default + Drop, L: Limit> Li
     ) -> Result<Self, Refusal>
         requires { (it : I.IntoIter) → I.into_iter_gives items it
             → I.IntoIter.can_next it × IsFinite (I.IntoIter.remaining it) }
-        ensures collected { IfOk result (λ m. (it : I.IntoIter) × (gave : List (K × V)) × (hint : ℕ) × (cost : Cost)
-            × I.into_iter_gives items it × Drains I.IntoIter.next_gives it gave
-            × IsWithinCount hint (I.IntoIter.remaining it)
-            × IsCollection L.LIMIT K.eq (key_hash S.BuildHasher S.Hasher.Hasher K.hash_input) S.is_default hint gave
-            m cost × GrewBy cost tally.old tally.new) }
+        ensures collected { IfOk result (λ m. (it : I.IntoIter) × (gave : List (K × V)) × (hint : ℕ)
+            × (cost : Cost) × I.into_iter_gives items it × Drains I.IntoIter.next_gives it gave
+            × IsWithinCount hint (I.IntoIter.remaining it) × IsCollection L.LIMIT K.eq
+            (key_hash S.BuildHasher S.Hasher.Hasher K.hash_input) S.is_default hint gave m cost
+            × GrewBy cost tally.old tally.new) }
         ensures refused { IfErr result (λ why. (it : I.IntoIter) × (hint : ℕ) × (cost : Cost)
             × I.into_iter_gives items it × IsWithinCount hint (I.IntoIter.remaining it)
-            × IsRefusedCollection L.LIMIT K.eq (key_hash S.BuildHasher S.Hasher.Hasher K.hash_input) S.is_default hint
-            (Gives I.IntoIter.next_gives it) why cost × GrewBy cost tally.old tally.new) }
+            × IsRefusedCollection L.LIMIT K.eq (key_hash S.BuildHasher S.Hasher.Hasher K.hash_input)
+            S.is_default hint (Gives I.IntoIter.next_gives it) why cost
+            × GrewBy cost tally.old tally.new) }
         // A vector has hashed nothing.
-        ensures nothing_hashed { IfOk result (λ m. m.is_vec ≡ true → tally.new.asked ≡ tally.old.asked) }
+        ensures nothing_hashed { IfOk result
+            (λ m. m.is_vec ≡ true → tally.new.asked ≡ tally.old.asked) }
         ensures state { IfOk result (IsState K.eq L.LIMIT) }
     {
         let items = items.into_iter();
@@ -85,12 +86,11 @@ impl<K: Eq + Hash + Drop, V: Drop, S: BuildHasher + Default + Drop, L: Limit> Li
     /// assert_eq!(rt; ages.len(), 2);
     /// ```
     pub fn from_array<const N: usize>(alloc: Global, pairs: [(K, V); N]) -> Result<Self, Refusal>
-        ensures collected { IfOk result (λ m. (cost : Cost)
-            × IsCollection L.LIMIT K.eq (key_hash S.BuildHasher S.Hasher.Hasher K.hash_input) S.is_default N pairs
-            m cost) }
+        ensures collected { IfOk result (λ m. (cost : Cost) × IsCollection L.LIMIT K.eq
+            (key_hash S.BuildHasher S.Hasher.Hasher K.hash_input) S.is_default N pairs m cost) }
         ensures refused { IfErr result (λ why. (why ≡ Refusal.Memory) ⊎ ((cost : Cost)
-            × IsRefusedCollection L.LIMIT K.eq (key_hash S.BuildHasher S.Hasher.Hasher K.hash_input) S.is_default N
-            (AreFirst pairs) why cost)) }
+            × IsRefusedCollection L.LIMIT K.eq (key_hash S.BuildHasher S.Hasher.Hasher K.hash_input)
+            S.is_default N (AreFirst pairs) why cost)) }
         ensures state { IfOk result (IsState K.eq L.LIMIT) }
     {
         // A vector is gone over whatever the size of a pair is.
@@ -109,13 +109,15 @@ impl<K: Eq + Hash + Drop, V: Drop, S: BuildHasher + Default + Drop, L: Limit> Li
     ) -> Result<Self, Refusal>
         requires can { I.can_next items }
         requires ends { IsFinite (I.remaining items) }
-        ensures collected { IfOk result (λ m. (gave : List (K × V)) × (cost : Cost) × Drains I.next_gives items gave
-            × IsCollection L.LIMIT K.eq (key_hash S.BuildHasher S.Hasher.Hasher K.hash_input) S.is_default capacity
-            gave m cost × GrewBy cost tally.old tally.new) }
-        ensures refused { IfErr result (λ why. (cost : Cost)
-            × IsRefusedCollection L.LIMIT K.eq (key_hash S.BuildHasher S.Hasher.Hasher K.hash_input) S.is_default
-            capacity (Gives I.next_gives items) why cost × GrewBy cost tally.old tally.new) }
-        ensures nothing_hashed { IfOk result (λ m. m.is_vec ≡ true → tally.new.asked ≡ tally.old.asked) }
+        ensures collected { IfOk result
+            (λ m. (gave : List (K × V)) × (cost : Cost) × Drains I.next_gives items gave
+            × IsCollection L.LIMIT K.eq (key_hash S.BuildHasher S.Hasher.Hasher K.hash_input)
+            S.is_default capacity gave m cost × GrewBy cost tally.old tally.new) }
+        ensures refused { IfErr result (λ why. (cost : Cost) × IsRefusedCollection L.LIMIT K.eq
+            (key_hash S.BuildHasher S.Hasher.Hasher K.hash_input) S.is_default capacity
+            (Gives I.next_gives items) why cost × GrewBy cost tally.old tally.new) }
+        ensures nothing_hashed { IfOk result
+            (λ m. m.is_vec ≡ true → tally.new.asked ≡ tally.old.asked) }
         ensures state { IfOk result (IsState K.eq L.LIMIT) }
     {
         let mut map = LimitedHashMap::with_capacity_and_hasher(alloc, capacity, S::default())?;
@@ -138,10 +140,12 @@ impl<K: Eq + Hash + Drop, V: Drop, S: BuildHasher, L: Limit> LimitedHashMap<K, V
     pub fn extend<I: IntoIterator<Item = (K, V)>>(&mut self, items: I) -> Result<(), Refusal>
         requires { (it : I.IntoIter) → I.into_iter_gives items it
             → I.IntoIter.can_next it × IsFinite (I.IntoIter.remaining it) }
-        ensures extended { OnOk result ((it : I.IntoIter) × (gave : List (K × V)) × (cost : Cost)
-            × I.into_iter_gives items it × Drains I.IntoIter.next_gives it gave
-            × Extends L.LIMIT K.eq (key_hash S.BuildHasher S.Hasher.Hasher K.hash_input) self.old gave self.new cost) }
-        ensures refused { IfErr result (λ why. (it : I.IntoIter) × (cost : Cost) × I.into_iter_gives items it
+        ensures extended { OnOk result ((it : I.IntoIter) × (gave : List (K × V))
+            × (cost : Cost) × I.into_iter_gives items it × Drains I.IntoIter.next_gives it gave
+            × Extends L.LIMIT K.eq (key_hash S.BuildHasher S.Hasher.Hasher K.hash_input) self.old
+            gave self.new cost) }
+        ensures refused { IfErr result
+            (λ why. (it : I.IntoIter) × (cost : Cost) × I.into_iter_gives items it
             × IsRefusedInsertion L.LIMIT K.eq (key_hash S.BuildHasher S.Hasher.Hasher K.hash_input)
             (Gives I.IntoIter.next_gives it) self.old why self.new cost) }
     {
@@ -156,13 +160,14 @@ impl<K: Eq + Hash + Drop, V: Drop, S: BuildHasher, L: Limit> LimitedHashMap<K, V
     ) -> Result<(), Refusal>
         requires { (it : I.IntoIter) → I.into_iter_gives items it
             → I.IntoIter.can_next it × IsFinite (I.IntoIter.remaining it) }
-        ensures extended { OnOk result ((it : I.IntoIter) × (gave : List (K × V)) × (cost : Cost)
-            × I.into_iter_gives items it × Drains I.IntoIter.next_gives it gave
-            × Extends L.LIMIT K.eq (key_hash S.BuildHasher S.Hasher.Hasher K.hash_input) self.old gave self.new cost
-            × GrewBy cost tally.old tally.new) }
-        ensures refused { IfErr result (λ why. (it : I.IntoIter) × (cost : Cost) × I.into_iter_gives items it
-            × IsRefusedInsertion L.LIMIT K.eq (key_hash S.BuildHasher S.Hasher.Hasher K.hash_input)
-            (Gives I.IntoIter.next_gives it) self.old why self.new cost × GrewBy cost tally.old tally.new) }
+        ensures extended { OnOk result ((it : I.IntoIter) × (gave : List (K × V))
+            × (cost : Cost) × I.into_iter_gives items it × Drains I.IntoIter.next_gives it gave
+            × Extends L.LIMIT K.eq (key_hash S.BuildHasher S.Hasher.Hasher K.hash_input) self.old
+            gave self.new cost × GrewBy cost tally.old tally.new) }
+        ensures refused { IfErr result (λ why. (it : I.IntoIter)
+            × (cost : Cost) × I.into_iter_gives items it × IsRefusedInsertion L.LIMIT K.eq
+            (key_hash S.BuildHasher S.Hasher.Hasher K.hash_input) (Gives I.IntoIter.next_gives it)
+            self.old why self.new cost × GrewBy cost tally.old tally.new) }
     {
         for (key, value) in items {
             self.insert_counted(key, value, tally)?;
@@ -176,9 +181,8 @@ impl<K: Eq + Hash + Drop, V: Drop, S: BuildHasher + Default + Drop, L: Limit> Fr
     for LimitedHashMap<K, V, S, L> {
     type Alloc = Global;
 
-    ghost from_iter_gives = { λ items m. (hint : ℕ) × (cost : Cost)
-        × IsCollection L.LIMIT K.eq (key_hash S.BuildHasher S.Hasher.Hasher K.hash_input) S.is_default hint items
-        m cost };
+    ghost from_iter_gives = { λ items m. (hint : ℕ) × (cost : Cost) × IsCollection L.LIMIT K.eq
+        (key_hash S.BuildHasher S.Hasher.Hasher K.hash_input) S.is_default hint items m cost };
 
     fn from_iter<I: IntoIterator<Item = (K, V)>>(
         alloc: Global,
@@ -191,8 +195,8 @@ impl<K: Eq + Hash + Drop, V: Drop, S: BuildHasher + Default + Drop, L: Limit> Fr
 // Beside the inherent call, for code over any collection. On error the items before the refused one stay.
 impl<K: Eq + Hash + Drop, V: Drop, S: BuildHasher, L: Limit> Extend<(K, V)>
     for LimitedHashMap<K, V, S, L> {
-    ghost extend_gives = { λ old items new. (cost : Cost)
-        × Extends L.LIMIT K.eq (key_hash S.BuildHasher S.Hasher.Hasher K.hash_input) old items new cost };
+    ghost extend_gives = { λ old items new. (cost : Cost) × Extends L.LIMIT K.eq
+        (key_hash S.BuildHasher S.Hasher.Hasher K.hash_input) old items new cost };
 
     fn extend<I: IntoIterator<Item = (K, V)>>(&mut self, items: I) -> Result<(), AllocError> {
         match LimitedHashMap::extend(self, items) {

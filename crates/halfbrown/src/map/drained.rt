@@ -12,7 +12,8 @@ impl<K: Eq + Hash, V, S: BuildHasher, L: Limit> LimitedHashMap<K, V, S, L> {
     /// Takes the store out, with all pairs. An empty vector without memory is left, and the builder.
     #[inline(always)]
     pub(crate) fn take_store(&mut self) -> Drained<K, V>
-        ensures after { WithPairs self.old self.old.pairs (state_in L.LIMIT result self.new.builder) }
+        ensures after { WithPairs self.old self.old.pairs
+            (state_in L.LIMIT result self.new.builder) }
         ensures small { length result.pairs < 2 ^ 63 }
         ensures series { result.is_vec ≡ false → IsTableCapacity result.capacity }
         ensures exceeds { result.is_vec ≡ false → L.LIMIT < result.capacity }
@@ -26,9 +27,11 @@ impl<K: Eq + Hash, V, S: BuildHasher, L: Limit> LimitedHashMap<K, V, S, L> {
     where
         K: Drop,
         V: Drop,
-        requires series { (P.store drained).is_vec ≡ false → IsTableCapacity (P.store drained).capacity }
+        requires series { (P.store drained).is_vec ≡ false
+            → IsTableCapacity (P.store drained).capacity }
         requires exceeds { (P.store drained).is_vec ≡ false → L.LIMIT < (P.store drained).capacity }
-        ensures after { WithPairs (state_in L.LIMIT (P.store drained) self.old.builder) [] self.new }
+        ensures after { WithPairs (state_in L.LIMIT (P.store drained) self.old.builder)
+            [] self.new }
         ensures state { IsState K.eq L.LIMIT self.new }
     {
         self.store = drained.into_store();

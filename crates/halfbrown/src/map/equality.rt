@@ -38,8 +38,8 @@ impl<K: Eq + Hash, V: PartialEq, S: BuildHasher, L: Limit> LimitedHashMap<K, V, 
         tally: &mut Tally,
     ) -> bool
         ensures same { result ≡ same_pairs K.eq V.eq self.now.pairs other.now.pairs }
-        ensures cost { SearchesCost K.eq (key_hash S2.BuildHasher S2.Hasher.Hasher K.hash_input) other.now
-            (searched_keys K.eq V.eq self.now.pairs other.now.pairs) tally.old tally.new }
+        ensures cost { SearchesCost K.eq (key_hash S2.BuildHasher S2.Hasher.Hasher K.hash_input)
+            other.now (searched_keys K.eq V.eq self.now.pairs other.now.pairs) tally.old tally.new }
     {
         if self.len() != other.len() {
             return false;
@@ -55,8 +55,9 @@ impl<K: Eq + Hash, V: PartialEq, S: BuildHasher, L: Limit> LimitedHashMap<K, V, 
         tally: &mut Tally,
     ) -> bool
         ensures held { result ≡ list_all (holds_pair K.eq V.eq other.now.pairs) self.now.pairs }
-        ensures cost { SearchesCost K.eq (key_hash S2.BuildHasher S2.Hasher.Hasher K.hash_input) other.now
-            (keys_while_same K.eq V.eq self.now.pairs other.now.pairs) tally.old tally.new }
+        ensures cost { SearchesCost K.eq (key_hash S2.BuildHasher S2.Hasher.Hasher K.hash_input)
+            other.now (keys_while_same K.eq V.eq self.now.pairs other.now.pairs) tally.old
+            tally.new }
     {
         for index in 0..self.len() {
             let (key, value) = self.columns().pair_at(index);

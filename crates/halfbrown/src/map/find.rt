@@ -19,9 +19,10 @@ impl<K: Eq + Hash, V, S: BuildHasher, L: Limit> LimitedHashMap<K, V, S, L> {
     #[inline(always)]
     pub(crate) fn find<Q: Equivalent<K>>(&self, key: Q, tally: &mut Tally) -> Result<usize, Vacancy>
         ensures found { LooksUp (Q.equivalent key)
-            (key_hash S.BuildHasher S.Hasher.Hasher Q.hash_input self.now.builder key) self.now result }
-        ensures cost { CostsSearch S.BuildHasher S.Hasher.Hasher K.hash_input Q.hash_input Q.equivalent key
-            self.now tally.old tally.new }
+            (key_hash S.BuildHasher S.Hasher.Hasher Q.hash_input self.now.builder key) self.now
+            result }
+        ensures cost { CostsSearch S.BuildHasher S.Hasher.Hasher K.hash_input Q.hash_input
+            Q.equivalent key self.now tally.old tally.new }
         ensures state { IsState K.eq L.LIMIT self.now }
     {
         let hash = self.hash_in_table(&key, tally);
@@ -39,9 +40,10 @@ impl<K: Eq + Hash, V, S: BuildHasher, L: Limit> LimitedHashMap<K, V, S, L> {
         requires { self.now.is_vec ≡ false
             → hash ≡ key_hash S.BuildHasher S.Hasher.Hasher Q.hash_input self.now.builder key }
         ensures found { LooksUp (Q.equivalent key)
-            (key_hash S.BuildHasher S.Hasher.Hasher Q.hash_input self.now.builder key) self.now result }
-        ensures cost { CostsHashedSearch S.BuildHasher S.Hasher.Hasher K.hash_input Q.hash_input Q.equivalent key
-            self.now tally.old tally.new }
+            (key_hash S.BuildHasher S.Hasher.Hasher Q.hash_input self.now.builder key) self.now
+            result }
+        ensures cost { CostsHashedSearch S.BuildHasher S.Hasher.Hasher K.hash_input Q.hash_input
+            Q.equivalent key self.now tally.old tally.new }
         ensures state { IsState K.eq L.LIMIT self.now }
     {
         let matches = move |held: &K| -> bool
@@ -58,12 +60,12 @@ impl<K: Eq + Hash, V, S: BuildHasher, L: Limit> LimitedHashMap<K, V, S, L> {
         matches: &F,
         tally: &mut Tally,
     ) -> Result<usize, Vacancy>
-        requires { (key : Bor K) (index : ℕ) → slice_get (keys_of self.now.pairs) index ≡ Some key.now
-            → F.pre matches.now key }
+        requires { (key : Bor K) (index : ℕ)
+            → slice_get (keys_of self.now.pairs) index ≡ Some key.now → F.pre matches.now key }
         ensures found { Matches (FnReturnsAt F.Fn matches.now)
             (key_hash S.BuildHasher S.Hasher.Hasher K.hash_input) hash self.now result }
-        ensures cost { SearchCosts (key_hash S.BuildHasher S.Hasher.Hasher K.hash_input) hash self.now
-            (result_ok result) 0 tally.old tally.new }
+        ensures cost { SearchCosts (key_hash S.BuildHasher S.Hasher.Hasher K.hash_input) hash
+            self.now (result_ok result) 0 tally.old tally.new }
         ensures state { IsState K.eq L.LIMIT self.now }
     {
         self.store.find(hash, matches, tally)

@@ -47,8 +47,10 @@ impl<K: Eq + Hash, V, S: BuildHasher, L: Limit> LimitedHashMap<K, V, S, L> {
         ensures pairs { self.new.pairs ≡ self.old.pairs }
         ensures builder { self.new.builder ≡ self.old.builder }
         ensures form { OnOk result (self.new.is_vec ≡ is_vec_after L.LIMIT self.old) }
-        ensures capacity { OnOk result (HasCapacityAfter L.LIMIT self.old (switch_needs L.LIMIT self.old) self.new) }
-        ensures columns { OnOk result (HasColumnsAfter self.old (switch_needs L.LIMIT self.old) self.new) }
+        ensures capacity { OnOk result
+            (HasCapacityAfter L.LIMIT self.old (switch_needs L.LIMIT self.old) self.new) }
+        ensures columns { OnOk result
+            (HasColumnsAfter self.old (switch_needs L.LIMIT self.old) self.new) }
         ensures switched { OnOk result (self.new.capacity ≡ capacity_switched L.LIMIT self.old) }
         ensures same { is_full L.LIMIT self.old ≡ false → self.new ≡ self.old }
         ensures not_full { OnOk result (is_full L.LIMIT self.new ≡ false) }
@@ -57,8 +59,8 @@ impl<K: Eq + Hash, V, S: BuildHasher, L: Limit> LimitedHashMap<K, V, S, L> {
         ensures err { OnErr result (self.new ≡ self.old) }
         ensures refused { IfErr result (IsRefusal (switch_needs L.LIMIT self.old)) }
         ensures granted { OnOk result (IsGrantable (switch_needs L.LIMIT self.old)) }
-        ensures work { tally.new ≡ (if is_ok result then asked_more (switch_asked L.LIMIT self.old) tally.old
-            else tally.old) }
+        ensures work { tally.new ≡ (if is_ok result
+            then asked_more (switch_asked L.LIMIT self.old) tally.old else tally.old) }
         ensures state { IsState K.eq L.LIMIT self.new }
     {
         if !self.store.is_vec() || self.columns().len() < L::LIMIT {
@@ -80,7 +82,8 @@ impl<K: Eq + Hash, V, S: BuildHasher, L: Limit> LimitedHashMap<K, V, S, L> {
         ensures err { OnErr result (self.new ≡ self.old) }
         ensures refused { IfErr result (λ why. why ≡ refusal_of (L.LIMIT + 1)) }
         ensures granted { OnOk result (L.LIMIT + 1 ≤ 2 ^ 60) }
-        ensures work { tally.new ≡ (if is_ok result then asked_more L.LIMIT tally.old else tally.old) }
+        ensures work { tally.new
+            ≡ (if is_ok result then asked_more L.LIMIT tally.old else tally.old) }
         ensures state { IsState K.eq L.LIMIT self.new }
     {
         let needed = L::LIMIT.saturating_add(1);
@@ -93,8 +96,8 @@ impl<K: Eq + Hash, V, S: BuildHasher, L: Limit> LimitedHashMap<K, V, S, L> {
     /// The hash of a key in a table. In a vector nothing is hashed, and it is 0.
     #[inline(always)]
     pub(crate) fn hash_in_table<Q: Hash>(&self, key: &Q, tally: &mut Tally) -> u64
-        ensures hash { self.now.is_vec ≡ false
-            → result ≡ key_hash S.BuildHasher S.Hasher.Hasher Q.hash_input self.now.builder key.now }
+        ensures hash { self.now.is_vec ≡ false → result
+            ≡ key_hash S.BuildHasher S.Hasher.Hasher Q.hash_input self.now.builder key.now }
         ensures work { tally.new ≡ asked_more (search_asked self.now.is_vec) tally.old }
     {
         if self.store.is_vec() {
@@ -131,8 +134,8 @@ fn store_hashes<K: Hash, S: BuildHasher>(
 )
     requires empty { table.old.hashes ≡ [] }
     requires capacity { length keys.now ≤ capacity_of table.old.buckets }
-    ensures hashes { table.new.hashes ≡ map (key_hash S.BuildHasher S.Hasher.Hasher K.hash_input builder.now)
-        keys.now }
+    ensures hashes { table.new.hashes
+        ≡ map (key_hash S.BuildHasher S.Hasher.Hasher K.hash_input builder.now) keys.now }
     ensures buckets { table.new.buckets ≡ table.old.buckets }
     ensures work { tally.new ≡ asked_more (length keys.now) tally.old }
 {

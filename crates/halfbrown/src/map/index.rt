@@ -48,8 +48,8 @@ impl<K: Eq + Hash, V, S: BuildHasher, L: Limit> LimitedHashMap<K, V, S, L> {
     /// ```
     #[inline(always)]
     pub fn get_index_mut(&mut self, index: usize) -> Option<&mut V>
-        ensures* writes_back { sem 𝓛 (LendsValueIfAt K.row V.row S.row L.row S.Hasher.row K.Hash S.BuildHasher
-            S.Hasher.Hasher L.Limit self.entry index result) }
+        ensures* writes_back { sem 𝓛 (LendsValueIfAt K.row V.row S.row L.row S.Hasher.row K.Hash
+            S.BuildHasher S.Hasher.Hasher L.Limit self.entry index result) }
         ensures value { option_copied_mut result ≡ slice_get (values_of self.old.pairs) index }
         ensures held { IsSome result ↔ (index < length self.old.pairs) }
         ensures state { IsState K.eq L.LIMIT self.old }
@@ -81,7 +81,8 @@ impl<K: Eq + Hash, V, S: BuildHasher, L: Limit> LimitedHashMap<K, V, S, L> {
     /// ```
     #[inline(always)]
     pub fn last(&self) -> Option<(&K, &V)>
-        ensures pair { option_map deref_pair result ≡ slice_get self.now.pairs (length self.now.pairs - 1) }
+        ensures pair { option_map deref_pair result
+            ≡ slice_get self.now.pairs (length self.now.pairs - 1) }
         ensures held { IsSome result ↔ (0 < length self.now.pairs) }
     {
         self.get_index(self.len().saturating_sub(1))
@@ -105,8 +106,8 @@ impl<K: Eq + Hash, V, S: BuildHasher, L: Limit> LimitedHashMap<K, V, S, L> {
     pub fn get_index_of_counted<Q: Equivalent<K>>(&self, key: Q, tally: &mut Tally) -> Option<usize>
         ensures index { result ≡ index_of (Q.equivalent key) (keys_of self.now.pairs) }
         ensures found { FindsIndex (Q.equivalent key) self.now.pairs result }
-        ensures cost { CostsSearch S.BuildHasher S.Hasher.Hasher K.hash_input Q.hash_input Q.equivalent key
-            self.now tally.old tally.new }
+        ensures cost { CostsSearch S.BuildHasher S.Hasher.Hasher K.hash_input Q.hash_input
+            Q.equivalent key self.now tally.old tally.new }
         ensures state { IsState K.eq L.LIMIT self.now }
     {
         self.find(key, tally).ok()
@@ -139,7 +140,8 @@ impl<K: Eq + Hash, V, S: BuildHasher, L: Limit> LimitedHashMap<K, V, S, L> {
     #[inline]
     pub fn pop(&mut self) -> Option<(K, V)>
         ensures pairs { self.old.pairs ≡ self.new.pairs ++ option_to_list result }
-        ensures removes { RemovesAt L.LIMIT K.eq self.old (length self.old.pairs - 1) result self.new }
+        ensures removes { RemovesAt L.LIMIT K.eq self.old (length self.old.pairs - 1)
+            result self.new }
     {
         self.swap_remove_index(self.len().saturating_sub(1))
     }

@@ -50,8 +50,9 @@ impl<K: Eq + Hash, V, S: BuildHasher, L: Limit> LimitedHashMap<K, V, S, L> {
     where
         K: Drop,
         ensures inserts { Inserts L.LIMIT K.eq self.old key value result self.new }
-        ensures cost { InsertCosts L.LIMIT K.eq (key_hash S.BuildHasher S.Hasher.Hasher K.hash_input) self.old
-            key (is_ok result) tally.old tally.new }
+        ensures cost { InsertCosts L.LIMIT K.eq
+            (key_hash S.BuildHasher S.Hasher.Hasher K.hash_input) self.old key (is_ok result)
+            tally.old tally.new }
     {
         match self.prepare(&key, tally) {
             Ok(Ok(index)) => Ok(Some(self.set_at(index, value))),

@@ -17,8 +17,9 @@ impl<'a, K: Eq + Hash, V, S: BuildHasher, L: Limit> IntoIterator
 
     type IntoIter = Iter<'a, K, V>;
 
-    ghost into_iter_gives = { λ map it. (pairs_left it ≡ map.now.pairs) × (length map.now.pairs < 2 ^ 63)
-        × ShowsPairsInOrder K V × ShowsPairValuesInOrder K V × IsState K.eq L.LIMIT map.now };
+    ghost into_iter_gives = { λ map it. (pairs_left it ≡ map.now.pairs)
+        × (length map.now.pairs < 2 ^ 63) × ShowsPairsInOrder K V × ShowsPairValuesInOrder K V
+        × IsState K.eq L.LIMIT map.now };
 
     /// The pairs, each as `(&K, &V)`, in order, as `iter` lends them.
     ///
@@ -44,16 +45,18 @@ impl<'a, K: Eq + Hash, V, S: BuildHasher, L: Limit> IntoIterator
 
     type IntoIter = Iter<'a, K, V>;
 
-    ghost into_iter_gives = { λ map it. (pairs_left it ≡ map.now.pairs) × (length map.now.pairs < 2 ^ 63)
-        × ShowsPairsInOrder K V × ShowsPairValuesInOrder K V × IsState K.eq L.LIMIT map.now };
+    ghost into_iter_gives = { λ map it. (pairs_left it ≡ map.now.pairs)
+        × (length map.now.pairs < 2 ^ 63) × ShowsPairsInOrder K V × ShowsPairValuesInOrder K V
+        × IsState K.eq L.LIMIT map.now };
 
     // The values can be read alone, as upstream has it. `iter_mut` lends them to be written.
     #[inline(always)]
     fn into_iter(self) -> Iter<'a, K, V>
-        ensures* rests { sem 𝓛 (Rests K.row V.row S.row L.row S.Hasher.row K.Hash S.BuildHasher S.Hasher.Hasher L.Limit
-            self.entry) }
-        ensures into_iter_gives { (pairs_left result ≡ self.old.pairs) × (length self.old.pairs < 2 ^ 63)
-            × ShowsPairsInOrder K V × ShowsPairValuesInOrder K V × IsState K.eq L.LIMIT self.old }
+        ensures* rests { sem 𝓛 (Rests K.row V.row S.row L.row S.Hasher.row K.Hash S.BuildHasher
+            S.Hasher.Hasher L.Limit self.entry) }
+        ensures into_iter_gives { (pairs_left result ≡ self.old.pairs)
+            × (length self.old.pairs < 2 ^ 63) × ShowsPairsInOrder K V × ShowsPairValuesInOrder K V
+            × IsState K.eq L.LIMIT self.old }
     {
         (&*self).into_iter()
     }
@@ -65,8 +68,9 @@ impl<K: Eq + Hash + Drop, V: Drop, S: BuildHasher + Drop, L: Limit> IntoIterator
 
     type IntoIter = IntoIter<K, V>;
 
-    ghost into_iter_gives = { λ map it. (it ≡ map.pairs) × (length map.pairs < 2 ^ 63) × GivesInOrder (K × V)
-        × ShowsValuesInOrder (λ (pair : K × V). pair) × IsState K.eq L.LIMIT map };
+    ghost into_iter_gives = { λ map it. (it ≡ map.pairs) × (length map.pairs < 2 ^ 63)
+        × GivesInOrder (K × V) × ShowsValuesInOrder (λ (pair : K × V). pair)
+        × IsState K.eq L.LIMIT map };
 
     // The builder and the table are dropped at once: the iterator has the two columns alone.
     fn into_iter(self) -> IntoIter<K, V> {

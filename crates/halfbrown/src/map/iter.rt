@@ -80,13 +80,15 @@ impl<K: Eq + Hash, V, S: BuildHasher, L: Limit> LimitedHashMap<K, V, S, L> {
     /// ```
     #[inline(always)]
     pub fn iter_mut(&mut self) -> IterMut<'_, K, V>
-        ensures* writes_back { sem 𝓛 (LendsValues K.row V.row S.row L.row S.Hasher.row K.Hash S.BuildHasher
-            S.Hasher.Hasher L.Limit self.entry (iter_mut_name result)) }
+        ensures* writes_back { sem 𝓛 (LendsValues K.row V.row S.row L.row S.Hasher.row K.Hash
+            S.BuildHasher S.Hasher.Hasher L.Limit self.entry (iter_mut_name result)) }
         ensures left { iter_mut_left result ≡ self.old.pairs }
         ensures small { length self.old.pairs < 2 ^ 63 }
         ensures values_run { LendsValuesInOrder (iter_mut_left {K = K} {V = V}) }
-        ensures written { (vs : List V) → HasValues self.old.pairs vs (set_values self.old.pairs vs) }
-        ensures state { (vs : List V) → IsState K.eq L.LIMIT (with_pairs self.old (set_values self.old.pairs vs)) }
+        ensures written { (vs : List V)
+            → HasValues self.old.pairs vs (set_values self.old.pairs vs) }
+        ensures state { (vs : List V)
+            → IsState K.eq L.LIMIT (with_pairs self.old (set_values self.old.pairs vs)) }
     {
         let (keys, values) = self.store.columns_mut();
         IterMut::new(keys, values)
@@ -102,13 +104,15 @@ impl<K: Eq + Hash, V, S: BuildHasher, L: Limit> LimitedHashMap<K, V, S, L> {
     /// ```
     #[inline(always)]
     pub fn values_mut(&mut self) -> ValuesMut<'_, K, V>
-        ensures* writes_back { sem 𝓛 (LendsValues K.row V.row S.row L.row S.Hasher.row K.Hash S.BuildHasher
-            S.Hasher.Hasher L.Limit self.entry (values_mut_name result)) }
+        ensures* writes_back { sem 𝓛 (LendsValues K.row V.row S.row L.row S.Hasher.row K.Hash
+            S.BuildHasher S.Hasher.Hasher L.Limit self.entry (values_mut_name result)) }
         ensures left { values_mut_left result ≡ values_of self.old.pairs }
         ensures small { length self.old.pairs < 2 ^ 63 }
         ensures runs { YieldsMutRefsInOrder (ValuesMutSteps {K = K} {V = V}) values_mut_left }
-        ensures written { (vs : List V) → HasValues self.old.pairs vs (set_values self.old.pairs vs) }
-        ensures state { (vs : List V) → IsState K.eq L.LIMIT (with_pairs self.old (set_values self.old.pairs vs)) }
+        ensures written { (vs : List V)
+            → HasValues self.old.pairs vs (set_values self.old.pairs vs) }
+        ensures state { (vs : List V)
+            → IsState K.eq L.LIMIT (with_pairs self.old (set_values self.old.pairs vs)) }
     {
         let (_, values) = self.store.columns_mut();
         ValuesMut::new(values)
@@ -123,12 +127,14 @@ impl<K: Eq + Hash, V, S: BuildHasher, L: Limit> LimitedHashMap<K, V, S, L> {
     /// ```
     #[inline(always)]
     pub fn values_slice_mut(&mut self) -> &mut [V]
-        ensures* writes_back { sem 𝓛 (LendsValues K.row V.row S.row L.row S.Hasher.row K.Hash S.BuildHasher
-            S.Hasher.Hasher L.Limit self.entry result.ghost_name) }
+        ensures* writes_back { sem 𝓛 (LendsValues K.row V.row S.row L.row S.Hasher.row K.Hash
+            S.BuildHasher S.Hasher.Hasher L.Limit self.entry result.ghost_name) }
         ensures values { result.now ≡ values_of self.old.pairs }
         ensures small { length self.old.pairs < 2 ^ 63 }
-        ensures written { (vs : List V) → HasValues self.old.pairs vs (set_values self.old.pairs vs) }
-        ensures state { (vs : List V) → IsState K.eq L.LIMIT (with_pairs self.old (set_values self.old.pairs vs)) }
+        ensures written { (vs : List V)
+            → HasValues self.old.pairs vs (set_values self.old.pairs vs) }
+        ensures state { (vs : List V)
+            → IsState K.eq L.LIMIT (with_pairs self.old (set_values self.old.pairs vs)) }
     {
         let (_, values) = self.store.columns_mut();
         values

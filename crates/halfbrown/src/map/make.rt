@@ -37,7 +37,8 @@ impl<K: Eq + Hash, V, L: Limit> LimitedHashMap<K, V, DefaultHashBuilder, L> {
     /// assert!(rt; small.is_vec() && large.is_map());
     /// ```
     pub fn with_capacity(alloc: Global, capacity: usize) -> Result<Self, Refusal>
-        ensures makes { Makes ⟦<DefaultHashBuilder as Default>⟧.is_default (nat_le capacity L.LIMIT) capacity result }
+        ensures makes { Makes ⟦<DefaultHashBuilder as Default>⟧.is_default (nat_le capacity L.LIMIT)
+            capacity result }
         ensures state { IfOk result (IsState K.eq L.LIMIT) }
     {
         LimitedHashMap::with_capacity_and_hasher(alloc, capacity, BuildHasherDefault::new())
@@ -52,7 +53,8 @@ impl<K: Eq + Hash, V, L: Limit> LimitedHashMap<K, V, DefaultHashBuilder, L> {
     /// assert_eq!(rt; ages.capacity(), 32);
     /// ```
     pub fn vec_with_capacity(alloc: Global, capacity: usize) -> Result<Self, Refusal>
-        ensures makes { Makes ⟦<DefaultHashBuilder as Default>⟧.is_default true (min capacity L.LIMIT) result }
+        ensures makes { Makes ⟦<DefaultHashBuilder as Default>⟧.is_default true
+            (min capacity L.LIMIT) result }
         ensures state { IfOk result (IsState K.eq L.LIMIT) }
     {
         LimitedHashMap::with_capacity(alloc, capacity.min(L::LIMIT))

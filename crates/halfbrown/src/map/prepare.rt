@@ -22,13 +22,15 @@ impl<K: Eq + Hash, V, S: BuildHasher, L: Limit> LimitedHashMap<K, V, S, L> {
         key: &K,
         tally: &mut Tally,
     ) -> Result<Result<usize, Vacancy>, Refusal>
-        ensures ok { OnOk result (Prepares L.LIMIT self.old (insert_needs L.LIMIT K.eq self.old key.now) self.new) }
+        ensures ok { OnOk result
+            (Prepares L.LIMIT self.old (insert_needs L.LIMIT K.eq self.old key.now) self.new) }
         ensures ready { IfOk result (IsReadyFor K.eq
             (key_hash S.BuildHasher S.Hasher.Hasher K.hash_input) self.new key.now) }
         ensures refused { IfErr result (IsRefusal (insert_needs L.LIMIT K.eq self.old key.now)) }
         ensures err { OnErr result (self.new ≡ self.old) }
-        ensures cost { InsertCosts L.LIMIT K.eq (key_hash S.BuildHasher S.Hasher.Hasher K.hash_input) self.old
-            key.now (is_ok result) tally.old tally.new }
+        ensures cost { InsertCosts L.LIMIT K.eq
+            (key_hash S.BuildHasher S.Hasher.Hasher K.hash_input) self.old key.now (is_ok result)
+            tally.old tally.new }
         ensures state { IsState K.eq L.LIMIT self.new }
     {
         self.switch_if_full(tally)?;
@@ -43,7 +45,8 @@ impl<K: Eq + Hash, V, S: BuildHasher, L: Limit> LimitedHashMap<K, V, S, L> {
     #[inline(always)]
     pub(crate) fn prepare_new(&mut self, key: &K, tally: &mut Tally) -> Result<Vacancy, Refusal>
         requires { holds K.eq self.old.pairs key.now ≡ false }
-        ensures ok { OnOk result (Prepares L.LIMIT self.old (new_key_needs L.LIMIT self.old) self.new) }
+        ensures ok { OnOk result
+            (Prepares L.LIMIT self.old (new_key_needs L.LIMIT self.old) self.new) }
         ensures ready { IfOk result (HasVacancyFor K.eq
             (key_hash S.BuildHasher S.Hasher.Hasher K.hash_input) self.new key.now) }
         ensures refused { IfErr result (IsRefusal (new_key_needs L.LIMIT self.old)) }
@@ -62,12 +65,13 @@ impl<K: Eq + Hash, V, S: BuildHasher, L: Limit> LimitedHashMap<K, V, S, L> {
     /// Switches a full map and makes capacity for one pair more, whatever its key. Nothing is searched.
     #[inline(always)]
     pub(crate) fn prepare_any(&mut self, tally: &mut Tally) -> Result<(), Refusal>
-        ensures ok { OnOk result (Prepares L.LIMIT self.old (new_key_needs L.LIMIT self.old) self.new) }
+        ensures ok { OnOk result
+            (Prepares L.LIMIT self.old (new_key_needs L.LIMIT self.old) self.new) }
         ensures capacity { OnOk result (length self.new.pairs < self.new.capacity) }
         ensures refused { IfErr result (IsRefusal (new_key_needs L.LIMIT self.old)) }
         ensures err { OnErr result (self.new ≡ self.old) }
-        ensures work { tally.new ≡ (if is_ok result then asked_more (switch_asked L.LIMIT self.old) tally.old
-            else tally.old) }
+        ensures work { tally.new ≡ (if is_ok result
+            then asked_more (switch_asked L.LIMIT self.old) tally.old else tally.old) }
         ensures state { IsState K.eq L.LIMIT self.new }
     {
         self.switch_if_full(tally)?;
@@ -111,7 +115,8 @@ impl<K: Eq + Hash, V, S: BuildHasher, L: Limit> LimitedHashMap<K, V, S, L> {
             → IsVacancy self.old.is_vec (contents_of self.old) vacancy.hash vacancy }
         ensures ok { OnOk result (Prepares L.LIMIT self.old (addition_needs self.old) self.new) }
         ensures capacity { OnOk result (length self.new.pairs < self.new.capacity) }
-        ensures vacant { IfOk result (IsVacancy self.new.is_vec (contents_of self.new) vacancy.hash) }
+        ensures vacant { IfOk result
+            (IsVacancy self.new.is_vec (contents_of self.new) vacancy.hash) }
         ensures refused { IfErr result (IsRefusal (addition_needs self.old)) }
         ensures err { OnErr result (self.new ≡ self.old) }
         ensures work { tally.new ≡ looked_more tally.old

@@ -37,8 +37,8 @@ impl<K: Eq + Hash, V, S: BuildHasher, L: Limit> LimitedHashMap<K, V, S, L> {
         K: Drop,
         ensures removes { Removes L.LIMIT K.eq (Q.equivalent key) self.old
             (lookup (Q.equivalent key) self.old.pairs) result self.new }
-        ensures cost { CostsSearch S.BuildHasher S.Hasher.Hasher K.hash_input Q.hash_input Q.equivalent key
-            self.old tally.old tally.new }
+        ensures cost { CostsSearch S.BuildHasher S.Hasher.Hasher K.hash_input Q.hash_input
+            Q.equivalent key self.old tally.old tally.new }
     {
         let (_, value) = self.remove_entry_counted(key, tally)?;
         Some(value)
@@ -67,8 +67,8 @@ impl<K: Eq + Hash, V, S: BuildHasher, L: Limit> LimitedHashMap<K, V, S, L> {
     ) -> Option<(K, V)>
         ensures removes { Removes L.LIMIT K.eq (Q.equivalent key) self.old
             (lookup_entry (Q.equivalent key) self.old.pairs) result self.new }
-        ensures cost { CostsSearch S.BuildHasher S.Hasher.Hasher K.hash_input Q.hash_input Q.equivalent key
-            self.old tally.old tally.new }
+        ensures cost { CostsSearch S.BuildHasher S.Hasher.Hasher K.hash_input Q.hash_input
+            Q.equivalent key self.old tally.old tally.new }
     {
         let hash = self.hash_in_table(&key, tally);
         self.remove_hashed(hash, key, tally)
@@ -90,7 +90,8 @@ impl<K: Eq + Hash, V, S: BuildHasher, L: Limit> LimitedHashMap<K, V, S, L> {
         requires { hash ≡ key_hash S.BuildHasher S.Hasher.Hasher Q.hash_input self.old.builder key }
         ensures removes { Removes L.LIMIT K.eq (Q.equivalent key) self.old
             (lookup_entry (Q.equivalent key) self.old.pairs) result self.new }
-        ensures value { option_map (λ pair. pair.1) result ≡ lookup (Q.equivalent key) self.old.pairs }
+        ensures value { option_map (λ pair. pair.1) result
+            ≡ lookup (Q.equivalent key) self.old.pairs }
     {
         self.remove_entry_hashed_nocheck_counted(hash, key, &mut Tally::new())
     }
@@ -106,9 +107,10 @@ impl<K: Eq + Hash, V, S: BuildHasher, L: Limit> LimitedHashMap<K, V, S, L> {
         requires { hash ≡ key_hash S.BuildHasher S.Hasher.Hasher Q.hash_input self.old.builder key }
         ensures removes { Removes L.LIMIT K.eq (Q.equivalent key) self.old
             (lookup_entry (Q.equivalent key) self.old.pairs) result self.new }
-        ensures value { option_map (λ pair. pair.1) result ≡ lookup (Q.equivalent key) self.old.pairs }
-        ensures cost { CostsHashedSearch S.BuildHasher S.Hasher.Hasher K.hash_input Q.hash_input Q.equivalent key
-            self.old tally.old tally.new }
+        ensures value { option_map (λ pair. pair.1) result
+            ≡ lookup (Q.equivalent key) self.old.pairs }
+        ensures cost { CostsHashedSearch S.BuildHasher S.Hasher.Hasher K.hash_input Q.hash_input
+            Q.equivalent key self.old tally.old tally.new }
     {
         self.remove_hashed(hash, key, tally)
     }
@@ -125,9 +127,10 @@ impl<K: Eq + Hash, V, S: BuildHasher, L: Limit> LimitedHashMap<K, V, S, L> {
             → hash ≡ key_hash S.BuildHasher S.Hasher.Hasher Q.hash_input self.old.builder key }
         ensures removes { Removes L.LIMIT K.eq (Q.equivalent key) self.old
             (lookup_entry (Q.equivalent key) self.old.pairs) result self.new }
-        ensures value { option_map (λ pair. pair.1) result ≡ lookup (Q.equivalent key) self.old.pairs }
-        ensures cost { CostsHashedSearch S.BuildHasher S.Hasher.Hasher K.hash_input Q.hash_input Q.equivalent key
-            self.old tally.old tally.new }
+        ensures value { option_map (λ pair. pair.1) result
+            ≡ lookup (Q.equivalent key) self.old.pairs }
+        ensures cost { CostsHashedSearch S.BuildHasher S.Hasher.Hasher K.hash_input Q.hash_input
+            Q.equivalent key self.old tally.old tally.new }
     {
         let matches = move |held: &K| -> bool
             ensures { result ≡ Q.equivalent key held.now }

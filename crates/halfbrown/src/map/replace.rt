@@ -21,13 +21,13 @@ impl<K: Eq + Hash, V, S: BuildHasher, L: Limit> LimitedHashMap<K, V, S, L> {
         f: F,
     ) -> Option<(K, u64)>
         requires within { index < length self.old.pairs }
-        requires callable { (key : Bor K) (value : V) → slice_get self.old.pairs index ≡ Some (key.now, value)
-            → F.pre f key value }
+        requires callable { (key : Bor K) (value : V)
+            → slice_get self.old.pairs index ≡ Some (key.now, value) → F.pre f key value }
         ensures replaces { Replaces (F.post f) self.old.pairs index self.new.pairs
             (option_map (λ removed. removed.0) result) }
         ensures after { WithPairs self.old self.new.pairs self.new }
-        ensures hash { IfSome result (λ removed. self.new.is_vec ≡ false
-            → removed.1 ≡ key_hash S.BuildHasher S.Hasher.Hasher K.hash_input self.new.builder removed.0) }
+        ensures hash { IfSome result (λ removed. self.new.is_vec ≡ false → removed.1
+            ≡ key_hash S.BuildHasher S.Hasher.Hasher K.hash_input self.new.builder removed.0) }
         ensures absent { IfSome result (λ removed. holds K.eq self.new.pairs removed.0 ≡ false) }
         ensures capacity_left { OnSome result (length self.new.pairs < self.new.capacity) }
         ensures state { IsState K.eq L.LIMIT self.new }

@@ -36,8 +36,8 @@ impl<'a, K: Eq + Hash, V, S: BuildHasher, L: Limit> RawEntryBuilder<'a, K, V, S,
         tally: &mut Tally,
     ) -> Option<(&'a K, &'a V)>
         ensures reads { ReadsPair (Q.equivalent key) (map_in self.entry) result }
-        ensures cost { CostsSearch S.BuildHasher S.Hasher.Hasher K.hash_input Q.hash_input Q.equivalent key
-            (map_in self.entry) tally.old tally.new }
+        ensures cost { CostsSearch S.BuildHasher S.Hasher.Hasher K.hash_input Q.hash_input
+            Q.equivalent key (map_in self.entry) tally.old tally.new }
     {
         match self.map.find(key, tally) {
             Ok(index) => Some(self.map.columns().pair_at(index)),
@@ -57,7 +57,8 @@ impl<'a, K: Eq + Hash, V, S: BuildHasher, L: Limit> RawEntryBuilder<'a, K, V, S,
         hash: u64,
         key: Q,
     ) -> Option<(&'a K, &'a V)>
-        requires { hash ≡ key_hash S.BuildHasher S.Hasher.Hasher Q.hash_input (map_in self).builder key }
+        requires { hash
+            ≡ key_hash S.BuildHasher S.Hasher.Hasher Q.hash_input (map_in self).builder key }
         ensures { ReadsPair (Q.equivalent key) (map_in self.entry) result }
     {
         self.from_key_hashed_nocheck_counted(hash, key, &mut Tally::new())
@@ -71,10 +72,11 @@ impl<'a, K: Eq + Hash, V, S: BuildHasher, L: Limit> RawEntryBuilder<'a, K, V, S,
         key: Q,
         tally: &mut Tally,
     ) -> Option<(&'a K, &'a V)>
-        requires { hash ≡ key_hash S.BuildHasher S.Hasher.Hasher Q.hash_input (map_in self).builder key }
+        requires { hash
+            ≡ key_hash S.BuildHasher S.Hasher.Hasher Q.hash_input (map_in self).builder key }
         ensures reads { ReadsPair (Q.equivalent key) (map_in self.entry) result }
-        ensures cost { CostsHashedSearch S.BuildHasher S.Hasher.Hasher K.hash_input Q.hash_input Q.equivalent key
-            (map_in self.entry) tally.old tally.new }
+        ensures cost { CostsHashedSearch S.BuildHasher S.Hasher.Hasher K.hash_input Q.hash_input
+            Q.equivalent key (map_in self.entry) tally.old tally.new }
     {
         match self.map.find_hashed(hash, key, tally) {
             Ok(index) => Some(self.map.columns().pair_at(index)),
@@ -93,10 +95,11 @@ impl<'a, K: Eq + Hash, V, S: BuildHasher, L: Limit> RawEntryBuilder<'a, K, V, S,
     /// ```
     #[inline(always)]
     pub fn from_hash<F: Fn(&K) -> bool>(self, hash: u64, is_match: F) -> Option<(&'a K, &'a V)>
-        requires { (key : Bor K) (index : ℕ) → slice_get (keys_of (map_in self).pairs) index ≡ Some key.now
-            → F.pre is_match key }
-        ensures { FindsMatch (FnReturnsAt F.Fn is_match) (key_hash S.BuildHasher S.Hasher.Hasher K.hash_input) hash
-            (map_in self.entry) (option_map deref_pair result) }
+        requires { (key : Bor K) (index : ℕ)
+            → slice_get (keys_of (map_in self).pairs) index ≡ Some key.now → F.pre is_match key }
+        ensures { FindsMatch (FnReturnsAt F.Fn is_match)
+            (key_hash S.BuildHasher S.Hasher.Hasher K.hash_input) hash (map_in self.entry)
+            (option_map deref_pair result) }
     {
         self.from_hash_counted(hash, is_match, &mut Tally::new())
     }
@@ -109,12 +112,13 @@ impl<'a, K: Eq + Hash, V, S: BuildHasher, L: Limit> RawEntryBuilder<'a, K, V, S,
         is_match: F,
         tally: &mut Tally,
     ) -> Option<(&'a K, &'a V)>
-        requires { (key : Bor K) (index : ℕ) → slice_get (keys_of (map_in self).pairs) index ≡ Some key.now
-            → F.pre is_match key }
-        ensures found { FindsMatch (FnReturnsAt F.Fn is_match) (key_hash S.BuildHasher S.Hasher.Hasher K.hash_input) hash
-            (map_in self.entry) (option_map deref_pair result) }
-        ensures cost { FindingCosts (key_hash S.BuildHasher S.Hasher.Hasher K.hash_input) hash (map_in self.entry)
-            (option_map deref_pair result) tally.old tally.new }
+        requires { (key : Bor K) (index : ℕ)
+            → slice_get (keys_of (map_in self).pairs) index ≡ Some key.now → F.pre is_match key }
+        ensures found { FindsMatch (FnReturnsAt F.Fn is_match)
+            (key_hash S.BuildHasher S.Hasher.Hasher K.hash_input) hash (map_in self.entry)
+            (option_map deref_pair result) }
+        ensures cost { FindingCosts (key_hash S.BuildHasher S.Hasher.Hasher K.hash_input) hash
+            (map_in self.entry) (option_map deref_pair result) tally.old tally.new }
     {
         let index = self.map.find_match(hash, &is_match, tally).ok()?;
         Some(self.map.columns().pair_at(index))

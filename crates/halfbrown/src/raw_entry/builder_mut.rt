@@ -39,8 +39,8 @@ impl<'a, K: Eq + Hash, V, S: BuildHasher, L: Limit> RawEntryBuilderMut<'a, K, V,
         tally: &mut Tally,
     ) -> RawEntryMut<'a, K, V, S, L>
         ensures searches { Searches L.LIMIT K.eq (Q.equivalent key) self.entry result }
-        ensures cost { CostsSearch S.BuildHasher S.Hasher.Hasher K.hash_input Q.hash_input Q.equivalent key
-            (ready_map self.entry) tally.old tally.new }
+        ensures cost { CostsSearch S.BuildHasher S.Hasher.Hasher K.hash_input Q.hash_input
+            Q.equivalent key (ready_map self.entry) tally.old tally.new }
     {
         let RawEntryBuilderMut::Ready(ready) = self;
         match ready.map.find(key, tally) {
@@ -65,7 +65,8 @@ impl<'a, K: Eq + Hash, V, S: BuildHasher, L: Limit> RawEntryBuilderMut<'a, K, V,
         hash: u64,
         key: Q,
     ) -> RawEntryMut<'a, K, V, S, L>
-        requires { hash ≡ key_hash S.BuildHasher S.Hasher.Hasher Q.hash_input (ready_map self).builder key }
+        requires { hash
+            ≡ key_hash S.BuildHasher S.Hasher.Hasher Q.hash_input (ready_map self).builder key }
         ensures { Searches L.LIMIT K.eq (Q.equivalent key) self.entry result }
     {
         self.from_key_hashed_nocheck_counted(hash, key, &mut Tally::new())
@@ -79,10 +80,11 @@ impl<'a, K: Eq + Hash, V, S: BuildHasher, L: Limit> RawEntryBuilderMut<'a, K, V,
         key: Q,
         tally: &mut Tally,
     ) -> RawEntryMut<'a, K, V, S, L>
-        requires { hash ≡ key_hash S.BuildHasher S.Hasher.Hasher Q.hash_input (ready_map self).builder key }
+        requires { hash
+            ≡ key_hash S.BuildHasher S.Hasher.Hasher Q.hash_input (ready_map self).builder key }
         ensures searches { Searches L.LIMIT K.eq (Q.equivalent key) self.entry result }
-        ensures cost { CostsHashedSearch S.BuildHasher S.Hasher.Hasher K.hash_input Q.hash_input Q.equivalent key
-            (ready_map self.entry) tally.old tally.new }
+        ensures cost { CostsHashedSearch S.BuildHasher S.Hasher.Hasher K.hash_input Q.hash_input
+            Q.equivalent key (ready_map self.entry) tally.old tally.new }
     {
         let RawEntryBuilderMut::Ready(ready) = self;
         match ready.map.find_hashed(hash, key, tally) {
@@ -106,8 +108,8 @@ impl<'a, K: Eq + Hash, V, S: BuildHasher, L: Limit> RawEntryBuilderMut<'a, K, V,
     /// ```
     #[inline]
     pub fn from_hash<F: Fn(&K) -> bool>(self, hash: u64, is_match: F) -> RawEntryMut<'a, K, V, S, L>
-        requires { (key : Bor K) (index : ℕ) → slice_get (keys_of (ready_map self).pairs) index ≡ Some key.now
-            → F.pre is_match key }
+        requires { (key : Bor K) (index : ℕ)
+            → slice_get (keys_of (ready_map self).pairs) index ≡ Some key.now → F.pre is_match key }
         ensures { SearchesByMatch L.LIMIT K.eq (FnReturnsAt F.Fn is_match)
             (key_hash S.BuildHasher S.Hasher.Hasher K.hash_input) hash self.entry result }
     {
@@ -122,12 +124,12 @@ impl<'a, K: Eq + Hash, V, S: BuildHasher, L: Limit> RawEntryBuilderMut<'a, K, V,
         is_match: F,
         tally: &mut Tally,
     ) -> RawEntryMut<'a, K, V, S, L>
-        requires { (key : Bor K) (index : ℕ) → slice_get (keys_of (ready_map self).pairs) index ≡ Some key.now
-            → F.pre is_match key }
+        requires { (key : Bor K) (index : ℕ)
+            → slice_get (keys_of (ready_map self).pairs) index ≡ Some key.now → F.pre is_match key }
         ensures searches { SearchesByMatch L.LIMIT K.eq (FnReturnsAt F.Fn is_match)
             (key_hash S.BuildHasher S.Hasher.Hasher K.hash_input) hash self.entry result }
-        ensures cost { FindingCosts (key_hash S.BuildHasher S.Hasher.Hasher K.hash_input) hash (ready_map self.entry)
-            (found_pair result) tally.old tally.new }
+        ensures cost { FindingCosts (key_hash S.BuildHasher S.Hasher.Hasher K.hash_input) hash
+            (ready_map self.entry) (found_pair result) tally.old tally.new }
     {
         let RawEntryBuilderMut::Ready(ready) = self;
         match ready.map.find_match(hash, &is_match, tally) {

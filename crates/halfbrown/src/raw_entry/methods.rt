@@ -45,8 +45,9 @@ impl<'a, K: Eq + Hash, V, S: BuildHasher, L: Limit> RawEntryMut<'a, K, V, S, L> 
         V: Drop,
         requires { is_found self ≡ false → holds K.eq (raw_map self).pairs key ≡ false }
         ensures puts { PutsEntry L.LIMIT K.eq self.entry key value result }
-        ensures cost { tally.new ≡ (if is_found self.entry then tally.old else after_adding
-            (key_hash S.BuildHasher S.Hasher.Hasher K.hash_input) (raw_map self.entry) key tally.old) }
+        ensures cost { tally.new ≡ (if is_found self.entry then tally.old
+            else after_adding (key_hash S.BuildHasher S.Hasher.Hasher K.hash_input)
+            (raw_map self.entry) key tally.old) }
     {
         match self {
             RawEntryMut::Occupied(mut entry) => {
@@ -70,7 +71,8 @@ impl<'a, K: Eq + Hash, V, S: BuildHasher, L: Limit> RawEntryMut<'a, K, V, S, L> 
         K: Drop,
         V: Drop,
         requires { is_found self ≡ false → holds K.eq (raw_map self).pairs default_key ≡ false }
-        ensures { PutsEntry L.LIMIT K.eq self.entry default_key (unwrap_or (found_value self.entry) default_value) result }
+        ensures { PutsEntry L.LIMIT K.eq self.entry default_key
+            (unwrap_or (found_value self.entry) default_value) result }
     {
         self.or_insert_entry_counted(default_key, default_value, &mut Tally::new())
     }
@@ -87,9 +89,11 @@ impl<'a, K: Eq + Hash, V, S: BuildHasher, L: Limit> RawEntryMut<'a, K, V, S, L> 
         K: Drop,
         V: Drop,
         requires { is_found self ≡ false → holds K.eq (raw_map self).pairs default_key ≡ false }
-        ensures puts { PutsEntry L.LIMIT K.eq self.entry default_key (unwrap_or (found_value self.entry) default_value) result }
-        ensures cost { tally.new ≡ (if is_found self.entry then tally.old else after_adding
-            (key_hash S.BuildHasher S.Hasher.Hasher K.hash_input) (raw_map self.entry) default_key tally.old) }
+        ensures puts { PutsEntry L.LIMIT K.eq self.entry default_key
+            (unwrap_or (found_value self.entry) default_value) result }
+        ensures cost { tally.new ≡ (if is_found self.entry then tally.old
+            else after_adding (key_hash S.BuildHasher S.Hasher.Hasher K.hash_input)
+            (raw_map self.entry) default_key tally.old) }
     {
         match self {
             RawEntryMut::Occupied(entry) => {
@@ -117,7 +121,8 @@ impl<'a, K: Eq + Hash, V, S: BuildHasher, L: Limit> RawEntryMut<'a, K, V, S, L> 
         K: Drop,
         V: Drop,
         requires { is_found self ≡ false → holds K.eq (raw_map self).pairs default_key ≡ false }
-        ensures { (result.0.now, result.1.now) ≡ unwrap_or (found_pair self.entry) (default_key, default_value) }
+        ensures { (result.0.now, result.1.now)
+            ≡ unwrap_or (found_pair self.entry) (default_key, default_value) }
     {
         self.or_insert_counted(default_key, default_value, &mut Tally::new())
     }
@@ -134,9 +139,11 @@ impl<'a, K: Eq + Hash, V, S: BuildHasher, L: Limit> RawEntryMut<'a, K, V, S, L> 
         K: Drop,
         V: Drop,
         requires { is_found self ≡ false → holds K.eq (raw_map self).pairs default_key ≡ false }
-        ensures pair { (result.0.now, result.1.now) ≡ unwrap_or (found_pair self.entry) (default_key, default_value) }
-        ensures cost { tally.new ≡ (if is_found self.entry then tally.old else after_adding
-            (key_hash S.BuildHasher S.Hasher.Hasher K.hash_input) (raw_map self.entry) default_key tally.old) }
+        ensures pair { (result.0.now, result.1.now)
+            ≡ unwrap_or (found_pair self.entry) (default_key, default_value) }
+        ensures cost { tally.new ≡ (if is_found self.entry then tally.old
+            else after_adding (key_hash S.BuildHasher S.Hasher.Hasher K.hash_input)
+            (raw_map self.entry) default_key tally.old) }
     {
         match self {
             RawEntryMut::Occupied(entry) => entry.into_key_value(),
@@ -155,7 +162,8 @@ impl<'a, K: Eq + Hash, V, S: BuildHasher, L: Limit> RawEntryMut<'a, K, V, S, L> 
         requires callable { is_found self ≡ false → F.pre default }
         requires absent { is_found self ≡ false → (pair : K × V) → F.post default pair
             → holds K.eq (raw_map self).pairs pair.0 ≡ false }
-        ensures { UnwrapsOrElse (found_pair self.entry) (F.post default) (result.0.now, result.1.now) }
+        ensures { UnwrapsOrElse (found_pair self.entry) (F.post default)
+            (result.0.now, result.1.now) }
     {
         self.or_insert_with_counted(default, &mut Tally::new())
     }
@@ -170,9 +178,11 @@ impl<'a, K: Eq + Hash, V, S: BuildHasher, L: Limit> RawEntryMut<'a, K, V, S, L> 
         requires callable { is_found self ≡ false → F.pre default }
         requires absent { is_found self ≡ false → (pair : K × V) → F.post default pair
             → holds K.eq (raw_map self).pairs pair.0 ≡ false }
-        ensures pair { UnwrapsOrElse (found_pair self.entry) (F.post default) (result.0.now, result.1.now) }
-        ensures cost { tally.new ≡ (if is_found self.entry then tally.old else after_adding
-            (key_hash S.BuildHasher S.Hasher.Hasher K.hash_input) (raw_map self.entry) result.0.now tally.old) }
+        ensures pair { UnwrapsOrElse (found_pair self.entry) (F.post default)
+            (result.0.now, result.1.now) }
+        ensures cost { tally.new ≡ (if is_found self.entry then tally.old
+            else after_adding (key_hash S.BuildHasher S.Hasher.Hasher K.hash_input)
+            (raw_map self.entry) result.0.now tally.old) }
     {
         match self {
             RawEntryMut::Occupied(entry) => entry.into_key_value(),
@@ -191,16 +201,18 @@ impl<'a, K: Eq + Hash, V, S: BuildHasher, L: Limit> RawEntryMut<'a, K, V, S, L> 
     /// ```
     #[inline]
     pub fn and_modify<F: FnOnce(&K, &mut V)>(self, f: F) -> RawEntryMut<'a, K, V, S, L>
-        requires { (key : Bor K) (lent : MutBor V) → found_pair self ≡ Some (key.now, lent.now) → F.pre f key lent }
+        requires { (key : Bor K) (lent : MutBor V) → found_pair self ≡ Some (key.now, lent.now)
+            → F.pre f key lent }
         ensures modified { ModifiesPair F.FnOnce f (found_pair self.entry) (found_value result) }
         ensures same_map { (raw_ref result).ghost_name ≡ (raw_ref self.entry).ghost_name }
         ensures found { is_found result ≡ is_found self.entry }
         ensures key { found_key result ≡ found_key self.entry }
-        ensures writes { (key : K) (value : V) → pairs_with result key value ≡ pairs_with self.entry key value }
+        ensures writes { (key : K) (value : V)
+            → pairs_with result key value ≡ pairs_with self.entry key value }
         ensures pairs_left { without_found result ≡ without_found self.entry }
         ensures vacant { found_value self.entry ≡ None → raw_map result ≡ raw_map self.entry }
-        ensures occupied { (key : K) → IfSome (found_value result)
-            (λ value. WithPairs (raw_map self.entry) (pairs_with self.entry key value) (raw_map result)) }
+        ensures occupied { (key : K) → IfSome (found_value result) (λ value.
+            WithPairs (raw_map self.entry) (pairs_with self.entry key value) (raw_map result)) }
     {
         match self {
             RawEntryMut::Occupied(mut entry) => {

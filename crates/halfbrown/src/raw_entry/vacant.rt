@@ -35,7 +35,8 @@ impl<'a, K: Eq + Hash, V, S: BuildHasher, L: Limit> RawVacantEntryMut<'a, K, V, 
     pub fn insert_counted(self, key: K, value: V, tally: &mut Tally) -> (&'a K, &'a mut V)
         requires { holds K.eq (raw_map (Vacant self)).pairs key ≡ false }
         ensures lends { LendsPair key value result }
-        ensures cost { tally.new ≡ after_adding (key_hash S.BuildHasher S.Hasher.Hasher K.hash_input)
+        ensures cost { tally.new
+            ≡ after_adding (key_hash S.BuildHasher S.Hasher.Hasher K.hash_input)
             (raw_map (Vacant self.entry)) key tally.old }
     {
         self.insert_entry_counted(key, value, tally)
@@ -66,7 +67,8 @@ impl<'a, K: Eq + Hash, V, S: BuildHasher, L: Limit> RawVacantEntryMut<'a, K, V, 
     ) -> OccupiedEntry<'a, K, V, S, L>
         requires { holds K.eq (raw_map (Vacant self)).pairs key ≡ false }
         ensures adds { AddsEntry L.LIMIT K.eq (Vacant self.entry) key value result }
-        ensures cost { tally.new ≡ after_adding (key_hash S.BuildHasher S.Hasher.Hasher K.hash_input)
+        ensures cost { tally.new
+            ≡ after_adding (key_hash S.BuildHasher S.Hasher.Hasher K.hash_input)
             (raw_map (Vacant self.entry)) key tally.old }
     {
         let hash = self.map.hash_in_table(&key, tally);
@@ -81,7 +83,8 @@ impl<'a, K: Eq + Hash, V, S: BuildHasher, L: Limit> RawVacantEntryMut<'a, K, V, 
     /// ```
     #[inline]
     pub fn insert_hashed_nocheck(self, hash: u64, key: K, value: V) -> (&'a K, &'a mut V)
-        requires hash { hash ≡ key_hash S.BuildHasher S.Hasher.Hasher K.hash_input (raw_map (Vacant self)).builder key }
+        requires hash { hash ≡ key_hash S.BuildHasher S.Hasher.Hasher K.hash_input
+            (raw_map (Vacant self)).builder key }
         requires absent { holds K.eq (raw_map (Vacant self)).pairs key ≡ false }
         ensures { LendsPair key value result }
     {
@@ -97,7 +100,8 @@ impl<'a, K: Eq + Hash, V, S: BuildHasher, L: Limit> RawVacantEntryMut<'a, K, V, 
         value: V,
         tally: &mut Tally,
     ) -> (&'a K, &'a mut V)
-        requires hash { hash ≡ key_hash S.BuildHasher S.Hasher.Hasher K.hash_input (raw_map (Vacant self)).builder key }
+        requires hash { hash ≡ key_hash S.BuildHasher S.Hasher.Hasher K.hash_input
+            (raw_map (Vacant self)).builder key }
         requires absent { holds K.eq (raw_map (Vacant self)).pairs key ≡ false }
         ensures lends { LendsPair key value result }
         ensures cost { tally.new ≡ after_probe (key_hash S.BuildHasher S.Hasher.Hasher K.hash_input)
@@ -119,7 +123,8 @@ impl<'a, K: Eq + Hash, V, S: BuildHasher, L: Limit> RawVacantEntryMut<'a, K, V, 
         key: K,
         value: V,
     ) -> OccupiedEntry<'a, K, V, S, L>
-        requires hash { hash ≡ key_hash S.BuildHasher S.Hasher.Hasher K.hash_input (raw_map (Vacant self)).builder key }
+        requires hash { hash ≡ key_hash S.BuildHasher S.Hasher.Hasher K.hash_input
+            (raw_map (Vacant self)).builder key }
         requires absent { holds K.eq (raw_map (Vacant self)).pairs key ≡ false }
         ensures { AddsEntry L.LIMIT K.eq (Vacant self.entry) key value result }
     {
@@ -135,7 +140,8 @@ impl<'a, K: Eq + Hash, V, S: BuildHasher, L: Limit> RawVacantEntryMut<'a, K, V, 
         value: V,
         tally: &mut Tally,
     ) -> OccupiedEntry<'a, K, V, S, L>
-        requires hash { hash ≡ key_hash S.BuildHasher S.Hasher.Hasher K.hash_input (raw_map (Vacant self)).builder key }
+        requires hash { hash ≡ key_hash S.BuildHasher S.Hasher.Hasher K.hash_input
+            (raw_map (Vacant self)).builder key }
         requires absent { holds K.eq (raw_map (Vacant self)).pairs key ≡ false }
         ensures adds { AddsEntry L.LIMIT K.eq (Vacant self.entry) key value result }
         ensures cost { tally.new ≡ after_probe (key_hash S.BuildHasher S.Hasher.Hasher K.hash_input)
@@ -158,7 +164,8 @@ impl<'a, K: Eq + Hash, V, S: BuildHasher, L: Limit> RawVacantEntryMut<'a, K, V, 
         value: V,
         hasher: F,
     ) -> (&'a K, &'a mut V)
-        requires hash { hash ≡ key_hash S.BuildHasher S.Hasher.Hasher K.hash_input (raw_map (Vacant self)).builder key }
+        requires hash { hash ≡ key_hash S.BuildHasher S.Hasher.Hasher K.hash_input
+            (raw_map (Vacant self)).builder key }
         requires absent { holds K.eq (raw_map (Vacant self)).pairs key ≡ false }
         ensures { LendsPair key value result }
     {
@@ -175,7 +182,8 @@ impl<'a, K: Eq + Hash, V, S: BuildHasher, L: Limit> RawVacantEntryMut<'a, K, V, 
         _hasher: F,
         tally: &mut Tally,
     ) -> (&'a K, &'a mut V)
-        requires hash { hash ≡ key_hash S.BuildHasher S.Hasher.Hasher K.hash_input (raw_map (Vacant self)).builder key }
+        requires hash { hash ≡ key_hash S.BuildHasher S.Hasher.Hasher K.hash_input
+            (raw_map (Vacant self)).builder key }
         requires absent { holds K.eq (raw_map (Vacant self)).pairs key ≡ false }
         ensures lends { LendsPair key value result }
         ensures cost { tally.new ≡ after_probe (key_hash S.BuildHasher S.Hasher.Hasher K.hash_input)
@@ -187,8 +195,8 @@ impl<'a, K: Eq + Hash, V, S: BuildHasher, L: Limit> RawVacantEntryMut<'a, K, V, 
     // Adds a pair whose key is not held, under its hash, at which a vector does not look.
     #[inline(always)]
     fn add(self, hash: u64, key: K, value: V, tally: &mut Tally) -> OccupiedEntry<'a, K, V, S, L>
-        requires hash { (raw_map (Vacant self)).is_vec ≡ false
-            → hash ≡ key_hash S.BuildHasher S.Hasher.Hasher K.hash_input (raw_map (Vacant self)).builder key }
+        requires hash { (raw_map (Vacant self)).is_vec ≡ false → hash ≡ key_hash S.BuildHasher
+            S.Hasher.Hasher K.hash_input (raw_map (Vacant self)).builder key }
         requires absent { holds K.eq (raw_map (Vacant self)).pairs key ≡ false }
         ensures adds { AddsEntry L.LIMIT K.eq (Vacant self.entry) key value result }
         ensures cost { tally.new ≡ after_probe (key_hash S.BuildHasher S.Hasher.Hasher K.hash_input)
