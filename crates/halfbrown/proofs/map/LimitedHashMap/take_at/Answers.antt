@@ -1,6 +1,8 @@
-use Rattle.std.proofs.Common.{◌<◌, length, ap, arith}
+use Rattle.std.proofs.Common.{◌<◌, length, ap, ◌∙◌, arith}
+use Rattle.std.specs.Option.{option_map}
 use Rattle.halfbrown.specs.Costs.{key_hash}
 use Rattle.halfbrown.proofs.lemmas.map.Layout.{kept_taken, state_of}
+use Rattle.halfbrown.proofs.lemmas.entry.Methods.{value_of-pair}
 use Rattle.halfbrown.proofs.map.LimitedHashMap.take_at.Goals as goal
 
 pub invariant_of-self : goal.invariant_of-self
@@ -10,6 +12,11 @@ invariant_of-self g c =
     let within : c.args.index < length store.pairs = omega (arith, c.requires, ap length (ap (λ m. m.pairs) c.self.view_is)) in
     kept_taken g.K.PartialEq.eq (key_hash g.S.BuildHasher g.S.Hasher.Hasher g.K.Hash.hash_input c.self.inside.builder) g.L.Limit.LIMIT
     g.met.K.Eq.laws store c.swap_remove.new.self c.args.index c.self.invariant told.form within told.pairs told.hashes
+
+pub returns-clause-value : goal.returns-clause-value
+returns-clause-value g c =
+    let value = option_map (λ (pair : _ × _). pair.1) in
+    rw (← c.self.view_is) (value_of-pair c.self.inside.store.pairs c.args.index ∙ ap value c.swap_remove.ensures.removed)
 
 pub returns-clause-state : goal.returns-clause-state
 returns-clause-state g c =
