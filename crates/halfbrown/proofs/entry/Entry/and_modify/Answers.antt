@@ -12,3 +12,9 @@ returns-in-Occupied-clause-modified g c =
     record { lent = c.get_mut.result; result = c.f.result; left = _; before = refl; met = c.f.ensures; after = refl } in
     subst (λ (p : Option g.row.V.Denot × Option g.row.V.Denot). ModifiesValue g.F.FnOnce c.args.f p.0 p.1) (λ i. (sym old i, sym new i))
     changed
+
+pub returns-in-Occupied-clause-vacant : goal.returns-in-Occupied-clause-vacant
+returns-in-Occupied-clause-vacant g c none = cc (sym none ∙ ap entry_value c.in-Occupied.is ∙ c.get_mut.ensures.value)
+
+pub returns-in-Vacant-clause-modified : goal.returns-in-Vacant-clause-modified
+returns-in-Vacant-clause-modified g c = rw c.in-Vacant.is refl

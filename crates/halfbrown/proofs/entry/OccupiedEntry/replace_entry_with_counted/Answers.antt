@@ -1,6 +1,14 @@
 use Rattle.std.proofs.Common.{refl}
 use Rattle.halfbrown.proofs.lemmas.entry.Replace.{loses_pair, still_within, keeps, settled_within}
+use Rattle.halfbrown.proofs.lemmas.map.Find.{vacancy_for}
 use Rattle.halfbrown.proofs.entry.OccupiedEntry.replace_entry_with_counted.Goals as goal
+
+pub invariant_of-result : goal.invariant_of-result
+invariant_of-result g c = record {
+  capacity_left = c.in-Some.ensures.capacity_left;
+  absent = c.in-Some.ensures.absent;
+  vacant = ∣ vacancy_for _ _ _ _ c.in-Some.ensures.hash _ c.vacancy_for-vacancy.ensures.vacant ∣₁;
+}
 
 pub returns-in-Some-clause-replaced : goal.returns-in-Some-clause-replaced
 returns-in-Some-clause-replaced g c = record {

@@ -52,3 +52,9 @@ returns-in-Ok-Err g c =
         cost = c.in-Ok-Err.ensures.cost;
       },
     )
+
+pub invariant_of-result-in-Ok-Err : goal.invariant_of-result-in-Ok-Err
+invariant_of-result-in-Ok-Err g c =
+    let hash = key_hash g.S.BuildHasher g.S.Hasher.Hasher g.K.Hash.hash_input in
+    let ready = subst (IsReadyFor g.K.PartialEq.eq hash c.prepare.new.self c.args.key) c.in-Ok-Err.field-0-is c.in-Ok-Err.ensures.ready in
+    record { capacity_left = ready.capacity; absent = ready.absent.held; vacant = ∣ ready.vacant ∣₁ }
