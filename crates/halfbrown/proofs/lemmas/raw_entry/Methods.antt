@@ -1,6 +1,6 @@
 -- What a raw entry is once its pair is written, added or given another key.
 use Rattle.std.proofs.Common.{◌≡◌, ℕ, zero, suc, ◌<◌, List, [], ◌∷◌, ◌++◌, length, slice_get, None, Some, unwrap_or, refl, sym, ap, subst}
-use Rattle.std.proofs.Common.{◌∙◌, arith}
+use Rattle.std.proofs.Common.{◌∙◌, arith, true, is_some}
 use Rattle.std.proofs.lemmas.Map.Entries.{length-keys_of, length-values_of}
 use Rattle.std.proofs.lemmas.Option.{same_Some}
 use Rattle.std.specs.Map.{keys_of, values_of}
@@ -42,6 +42,11 @@ pub some_is_not_none : {X : Type 0} (xs : List X) (i : ℕ) → i < length xs �
 some_is_not_none [] i within none = omega arith
 some_is_not_none (x ∷ xs) zero within none = cc
 some_is_not_none (x ∷ xs) (suc i) within none = some_is_not_none xs i (omega arith) none
+
+pub is_some_within : {X : Type 0} (xs : List X) (i : ℕ) → i < length xs → true ≡ is_some (slice_get xs i)
+is_some_within [] i within = absurd (omega arith)
+is_some_within (x ∷ xs) zero within = refl
+is_some_within (x ∷ xs) (suc i) within = is_some_within xs i (omega arith)
 
 module _ {K V : Type 0} where
   -- a value that is held already

@@ -22,6 +22,9 @@ loop-command-init g c =
       exact = omega (arith, c.in-Ok.ensures.exact, c.len.ensures, c.args.commands.ok.0);
     }
 
+pub push_reserved-requires : goal.push_reserved-requires
+push_reserved-requires g c = omega (arith, c.loop-command.invariant.capacity, c.in-Some.ensures.len)
+
 pub loop-command-preserved : goal.loop-command-preserved
 loop-command-preserved g c =
     let old = c.args.map.now in

@@ -1,8 +1,9 @@
-use Rattle.std.proofs.Common.{sym, ap}
+use Rattle.std.proofs.Common.{Some, refl, sym, ap}
 use Rattle.std.specs.Fn.{FnReturnsAt}
 use Rattle.halfbrown.specs.Costs.{key_hash}
 use Rattle.halfbrown.specs.RawEntryBuilder.{ready_ref, ready_map}
 use Rattle.halfbrown.proofs.lemmas.raw_entry.Builder.{found_by_match, found_match}
+use Rattle.halfbrown.proofs.lemmas.raw_entry.Methods.{is_some_within}
 use Rattle.halfbrown.proofs.raw_entry.RawEntryBuilderMut.from_hash_counted.Goals as goal
 
 pub returns-in-Ok-clause-searches : goal.returns-in-Ok-clause-searches
@@ -15,3 +16,11 @@ returns-in-Ok-clause-searches g c = record {
       c.in-Ok.ensures.state.distinct;
   state = c.in-Ok.ensures.state;
 }
+
+pub returns-in-Ok-clause-cost : goal.returns-in-Ok-clause-cost
+returns-in-Ok-clause-cost g c = rw (ap ready_map c.self-1.given.1) (record {
+  index = Some c.in-Ok.index;
+  at = refl;
+  is_found = is_some_within _ c.in-Ok.index c.in-Ok.ensures.found.within;
+  costs = c.in-Ok.ensures.cost;
+})

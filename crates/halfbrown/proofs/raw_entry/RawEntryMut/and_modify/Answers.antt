@@ -40,3 +40,6 @@ returns-in-Occupied-clause-occupied g c key =
     (λ value. WithPairs (raw_map c.args.self) (pairs_with c.args.self key value) (with_value (Occupied o) left))) (sym new)
     (subst (λ entry. WithPairs (raw_map entry) (pairs_with entry key left) (with_value (Occupied o) left)) (sym c.in-Occupied.is)
     (held_with_pairs o key left))
+
+pub returns-in-Vacant-clause-modified : goal.returns-in-Vacant-clause-modified
+returns-in-Vacant-clause-modified g c = rw c.in-Vacant.is refl
