@@ -78,6 +78,13 @@ module _ {K V S : Type 0} (limit : ℕ) (eq : K → K → Bool) (hash : S → K 
           ∙ ap (λ w. w.looked + 1) spent;
     }
 
+    -- where capacity for a new key was refused
+    pub unmade_costs : is_full limit old ≡ false → InsertCosts limit eq hash old k false before after
+    unmade_costs room = record {
+      grew = subst (λ r. GrewBy (cost_by r true) before after) (sym (ap (λ full. full && true) room)) grew_held;
+      looked_once = λ table granted. absurd (true≢false (sym granted));
+    }
+
     module _ (sought : ℕ) (own : middle.is_vec ≡ false → sought ≡ hash middle.builder k) (final : Work)
         (probed : final ≡ looked_more after (growth_looks (hash middle.builder) middle sought true)) where
       growth_is : growth_looks (hash middle.builder) middle sought true

@@ -1,5 +1,4 @@
-use Rattle.std.proofs.Common.{Option, None, refl, sym, ap, subst, ◌∙◌}
-use Rattle.std.proofs.lemmas.Option.{none-some}
+use Rattle.std.proofs.Common.{Option, refl, sym, ap, subst, ◌∙◌}
 use Rattle.std.specs.Map.Calls.{MayWrite, ModifiesValue}
 use Rattle.halfbrown.specs.Entry.{entry_value}
 use Rattle.halfbrown.proofs.entry.Entry.and_modify.Goals as goal
@@ -15,9 +14,7 @@ returns-in-Occupied-clause-modified g c =
     changed
 
 pub returns-in-Occupied-clause-vacant : goal.returns-in-Occupied-clause-vacant
-returns-in-Occupied-clause-vacant g c none =
-    absurd (none-some c.get_mut.result.now (sym none ∙ ap entry_value c.in-Occupied.is ∙ c.get_mut.ensures.value))
+returns-in-Occupied-clause-vacant g c none = cc (sym none ∙ ap entry_value c.in-Occupied.is ∙ c.get_mut.ensures.value)
 
 pub returns-in-Vacant-clause-modified : goal.returns-in-Vacant-clause-modified
-returns-in-Vacant-clause-modified g c =
-    subst (λ before. ModifiesValue g.F.FnOnce c.args.f before None) (sym (ap entry_value c.in-Vacant.is)) refl
+returns-in-Vacant-clause-modified g c = rw c.in-Vacant.is refl

@@ -1,9 +1,14 @@
-use Rattle.std.proofs.Common.{refl, ap, ◌∙◌}
-use Rattle.half_store.specs.Probe.{looked_more}
-use Rattle.halfbrown.specs.Costs.{key_hash}
+use Rattle.std.proofs.Common.{refl}
 use Rattle.halfbrown.proofs.lemmas.entry.Replace.{loses_pair, still_within, keeps, settled_within}
-use Rattle.halfbrown.proofs.lemmas.map.Prepare.{same_probe}
+use Rattle.halfbrown.proofs.lemmas.map.Find.{vacancy_for}
 use Rattle.halfbrown.proofs.entry.OccupiedEntry.replace_entry_with_counted.Goals as goal
+
+pub invariant_of-result : goal.invariant_of-result
+invariant_of-result g c = record {
+  capacity_left = c.in-Some.ensures.capacity_left;
+  absent = c.in-Some.ensures.absent;
+  vacant = ∣ vacancy_for _ _ _ _ c.in-Some.ensures.hash _ c.vacancy_for-vacancy.ensures.vacant ∣₁;
+}
 
 pub returns-in-Some-clause-replaced : goal.returns-in-Some-clause-replaced
 returns-in-Some-clause-replaced g c = record {
@@ -11,13 +16,6 @@ returns-in-Some-clause-replaced g c = record {
   same_map = refl;
   state = c.in-Some.ensures.state;
 }
-
-pub returns-in-Some-clause-cost : goal.returns-in-Some-clause-cost
-returns-in-Some-clause-cost g c =
-    let m = c.replace_at.new.self in
-    let hash = key_hash g.S.BuildHasher g.S.Hasher.Hasher g.K.Hash.hash_input m.builder in
-    let same = same_probe hash m.is_vec m.capacity m.pairs c.in-Some.hash (hash c.in-Some.key) c.in-Some.ensures.hash in
-    c.vacancy_for-vacancy.ensures.work ∙ ap (looked_more c.args.tally.now) same
 
 pub settle-index-requires : goal.settle-index-requires
 settle-index-requires g c = still_within c.args.self c.replace_at.new.self c.in-None.ensures.replaces

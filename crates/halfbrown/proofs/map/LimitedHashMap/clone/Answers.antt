@@ -1,4 +1,4 @@
-use Rattle.std.proofs.Common.{◌≡◌, sym, subst}
+use Rattle.std.proofs.Common.{◌≡◌, sym, subst, rules}
 use Rattle.std.proofs.lemmas.Result.{IfOk-weaker}
 use Rattle.halfbrown.specs.Clone.{IsCloneOf}
 use Rattle.halfbrown.proofs.map.LimitedHashMap.clone.Goals as goal
@@ -10,11 +10,4 @@ returns-clause-cloned g c =
     let told = subst (λ m. E m.builder made) c.self.view_is c.in_ok-builder.ensures.cases in
     let is_clone = IsCloneOf g.K.Clone.is_clone g.V.Clone.is_clone in
     IfOk-weaker c.clone_with.result (is_clone (λ _ it. it ≡ made) c.args.self.now) (is_clone E c.args.self.now)
-    (λ copy clone. record {
-      form = clone.form;
-      pairs = clone.pairs;
-      same = clone.same;
-      capacity = clone.capacity;
-      columns = clone.columns;
-      builder = subst (E c.args.self.now.builder) (sym clone.builder) told;
-    }) c.clone_with.ensures.cloned
+    (λ copy clone. let also = subst (E c.args.self.now.builder) (sym clone.builder) told in search rules) c.clone_with.ensures.cloned

@@ -1,20 +1,12 @@
-use Rattle.std.proofs.Common.{◌≡◌, true, true≢false, sym, ap, ◌∙◌, arith, rules}
-use Rattle.std.specs.Result.{is_ok}
+use Rattle.std.proofs.Common.{◌≡◌, false, sym, ap, ◌∙◌, arith}
+use Rattle.std.proofs.lemmas.Bool.Decides.{nat_tests}
 use Rattle.std.proofs.lemmas.Result.{err_from_is_err_and}
+use Rattle.std.specs.Result.{is_ok}
 use Rattle.halfbrown.specs.Costs.{key_hash}
 use Rattle.halfbrown.specs.Growth.{is_full}
 use Rattle.halfbrown.specs.Pairs.{holds}
-use Rattle.halfbrown.proofs.lemmas.map.Prepare.{held_costs, missing_costs}
+use Rattle.halfbrown.proofs.lemmas.map.Prepare.{held_costs, missing_costs, unmade_costs}
 use Rattle.halfbrown.proofs.map.LimitedHashMap.prepare.Goals as goal
-
-pub returns-in_err-switch_if_full-clause-cost : goal.returns-in_err-switch_if_full-clause-cost
-returns-in_err-switch_if_full-clause-cost g c =
-    let full : is_full g.L.Limit.LIMIT c.args.self.now ≡ true = search rules in
-    let refused = ap is_ok (err_from_is_err_and c.from_residual.result c.from_residual.ensures.1).1 in
-    record {
-      grew = rw (full, refused) (grind (arith, c.in_err-switch_if_full.ensures.work));
-      looked_once = λ table granted. absurd (true≢false (sym granted ∙ refused));
-    }
 
 pub returns-in-Ok-clause-cost : goal.returns-in-Ok-clause-cost
 returns-in-Ok-clause-cost g c =
@@ -37,3 +29,16 @@ returns-in_ok-make_capacity_at-in-Err-clause-cost g c =
     c.in-Err.vacancy.hash (λ table. (missing.found.1 (omega (arith, missing.state.table_exceeds table)) table).0)
     c.make_capacity_at.new.tally c.in_ok-make_capacity_at-in-Err.ensures.work
     (ap (λ ps. holds eq ps key) (sym switched.pairs) ∙ missing.found.0.held)
+
+pub returns-in_err-make_capacity_at-in-Err-clause-cost : goal.returns-in_err-make_capacity_at-in-Err-clause-cost
+returns-in_err-make_capacity_at-in-Err-clause-cost g c =
+    let switched = c.in_ok-switch_if_full.ensures in
+    let out = c.from_residual-in_err-make_capacity_at-in-Err in
+    let told = c.in_err-make_capacity_at-in-Err.ensures in
+    let refused = ap is_ok (err_from_is_err_and out.result out.ensures.1).1 in
+    let room : is_full g.L.Limit.LIMIT c.args.self.now ≡ false = grind (arith, nat_tests, switched.capacity_left, told.refused.0) in
+    let still : c.make_capacity_at.new.tally ≡ c.find.new.tally = grind (arith, told.work) in
+    rw (refused, still) (unmade_costs g.L.Limit.LIMIT g.K.PartialEq.eq
+    (key_hash g.S.BuildHasher g.S.Hasher.Hasher g.K.Hash.hash_input) c.args.self.now c.args.key.now
+    c.switch_if_full.new.self c.args.tally.now c.switch_if_full.new.tally c.find.new.tally
+    switched.form switched.switched switched.pairs switched.builder switched.work c.in-Err.ensures.cost room)

@@ -1,12 +1,14 @@
-use Rattle.std.proofs.Common.{◌+◌, Some, None, refl, sym, subst, if◌then◌else◌, rules}
-use Rattle.halfbrown.specs.Growth.{HasCapacityAfter}
+use Rattle.std.proofs.Common.{◌≡◌, true, rules}
+use Rattle.halfbrown.specs.Growth.{is_full}
+use Rattle.halfbrown.proofs.lemmas.map.Growth.{on_ok_both}
 use Rattle.halfbrown.proofs.map.LimitedHashMap.switch_if_full.Goals as goal
 
-pub returns-then-not-is_vec-clause-not_full : goal.returns-then-not-is_vec-clause-not_full
-returns-then-not-is_vec-clause-not_full g c = search rules
+pub returns-clause-capacity : goal.returns-clause-capacity
+returns-clause-capacity g c =
+    let full : is_full g.L.Limit.LIMIT c.args.self.now ≡ true = search rules in
+    rw full (on_ok_both c.switch.result (λ form capacity. rw form capacity) c.switch.ensures.form c.switch.ensures.capacity)
 
-pub returns-then-not-is_vec-clause-capacity : goal.returns-then-not-is_vec-clause-capacity
-returns-then-not-is_vec-clause-capacity g c =
-    let m = c.args.self.now in
-    subst (λ full. HasCapacityAfter g.L.Limit.LIMIT m (if full then Some (g.L.Limit.LIMIT + 1) else None) m)
-    (sym (returns-then-not-is_vec-clause-not_full g c)) refl
+pub returns-clause-columns : goal.returns-clause-columns
+returns-clause-columns g c =
+    let full : is_full g.L.Limit.LIMIT c.args.self.now ≡ true = search rules in
+    rw full c.switch.ensures.columns

@@ -1,4 +1,4 @@
-use Rattle.std.proofs.Common.{◌<◌, length, slice_get, sym, ap, ◌∙◌, arith}
+use Rattle.std.proofs.Common.{◌<◌, length, ap, ◌∙◌, arith}
 use Rattle.std.specs.Option.{option_map}
 use Rattle.halfbrown.specs.Costs.{key_hash}
 use Rattle.halfbrown.proofs.lemmas.map.Layout.{kept_taken, state_of}
@@ -16,8 +16,7 @@ invariant_of-self g c =
 pub returns-clause-value : goal.returns-clause-value
 returns-clause-value g c =
     let value = option_map (λ (pair : _ × _). pair.1) in
-    value_of-pair c.args.self.now.pairs c.args.index ∙ ap (λ m. value (slice_get m.pairs c.args.index)) (sym c.self.view_is)
-    ∙ ap value c.swap_remove.ensures.removed
+    rw (← c.self.view_is) (value_of-pair c.self.inside.store.pairs c.args.index ∙ ap value c.swap_remove.ensures.removed)
 
 pub returns-clause-state : goal.returns-clause-state
 returns-clause-state g c =

@@ -11,3 +11,6 @@ returns-in-Ok-clause-reads g c =
       value = sym (ap (option_map (λ (pair : _ × _). pair.1)) at) ∙ sym (value_of-pair c.args.self.map.now.pairs c.in-Ok.index)
           ∙ sym c.in-Ok.ensures.found.value;
     }
+
+pub returns-in-Ok-clause-cost : goal.returns-in-Ok-clause-cost
+returns-in-Ok-clause-cost g c = c.in-Ok.ensures.cost

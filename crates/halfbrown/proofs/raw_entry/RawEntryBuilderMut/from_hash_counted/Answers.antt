@@ -1,6 +1,6 @@
-use Rattle.std.proofs.Common.{slice_get, Some, sym, ap, subst}
+use Rattle.std.proofs.Common.{Some, refl, sym, ap}
 use Rattle.std.specs.Fn.{FnReturnsAt}
-use Rattle.halfbrown.specs.Costs.{key_hash, SearchCosts}
+use Rattle.halfbrown.specs.Costs.{key_hash}
 use Rattle.halfbrown.specs.RawEntryBuilder.{ready_ref, ready_map}
 use Rattle.halfbrown.proofs.lemmas.raw_entry.Builder.{found_by_match, found_match}
 use Rattle.halfbrown.proofs.lemmas.raw_entry.Methods.{is_some_within}
@@ -18,14 +18,9 @@ returns-in-Ok-clause-searches g c = record {
 }
 
 pub returns-in-Ok-clause-cost : goal.returns-in-Ok-clause-cost
-returns-in-Ok-clause-cost g c =
-    let hash = key_hash g.S.BuildHasher g.S.Hasher.Hasher g.K.Hash.hash_input in
-    let index = c.in-Ok.index in
-    let ready = ap ready_map c.self-1.given.1 in
-    record {
-      index = Some index;
-      at = ap (λ m. slice_get m.pairs index) ready;
-      is_found = is_some_within _ index c.in-Ok.ensures.found.within;
-      costs = subst (λ m. SearchCosts hash c.args.hash m (Some index) 0 c.args.tally.now c.find_match.new.tally) (sym ready)
-          c.in-Ok.ensures.cost;
-    }
+returns-in-Ok-clause-cost g c = rw (ap ready_map c.self-1.given.1) (record {
+  index = Some c.in-Ok.index;
+  at = refl;
+  is_found = is_some_within _ c.in-Ok.index c.in-Ok.ensures.found.within;
+  costs = c.in-Ok.ensures.cost;
+})

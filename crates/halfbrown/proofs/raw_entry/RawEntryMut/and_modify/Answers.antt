@@ -1,4 +1,4 @@
-use Rattle.std.proofs.Common.{Option, None, IfSome, refl, sym, ap, subst, ◌∙◌}
+use Rattle.std.proofs.Common.{Option, IfSome, refl, sym, ap, subst, ◌∙◌}
 use Rattle.halfbrown.specs.Entry.{Occupied, with_value}
 use Rattle.halfbrown.specs.RawEntry.{found_pair, found_value, raw_map, pairs_with, MayWritePair, ModifiesPair}
 use Rattle.halfbrown.specs.State.{WithPairs}
@@ -42,5 +42,4 @@ returns-in-Occupied-clause-occupied g c key =
     (held_with_pairs o key left))
 
 pub returns-in-Vacant-clause-modified : goal.returns-in-Vacant-clause-modified
-returns-in-Vacant-clause-modified g c =
-    subst (λ before. ModifiesPair g.F.FnOnce c.args.f before None) (sym (ap found_pair c.in-Vacant.is)) refl
+returns-in-Vacant-clause-modified g c = rw c.in-Vacant.is refl

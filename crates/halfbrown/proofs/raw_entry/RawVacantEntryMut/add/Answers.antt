@@ -1,6 +1,4 @@
 use Rattle.std.proofs.Common.{refl}
-use Rattle.halfbrown.specs.Costs.{key_hash}
-use Rattle.halfbrown.specs.State.{contents_of}
 use Rattle.halfbrown.proofs.lemmas.map.Find.{vacancy_for}
 use Rattle.halfbrown.proofs.lemmas.raw_entry.Methods.{added_puts}
 use Rattle.halfbrown.proofs.lemmas.raw_entry.Builder.{adds_pair}
@@ -16,7 +14,4 @@ returns-clause-adds g c =
     }
 
 pub push-requires-clause-vacant : goal.push-requires-clause-vacant
-push-requires-clause-vacant g c =
-    let m = c.args.self.map.now in
-    let hash = key_hash g.S.BuildHasher g.S.Hasher.Hasher g.K.Hash.hash_input m.builder c.args.key in
-    vacancy_for m.is_vec (contents_of m) c.args.hash hash c.requires.hash c.vacancy_for-vacancy.result c.vacancy_for-vacancy.ensures.vacant
+push-requires-clause-vacant g c = vacancy_for _ _ _ _ c.requires.hash _ c.vacancy_for-vacancy.ensures.vacant
