@@ -39,10 +39,6 @@ contents_code = coded_via (coded_list (coded_option coded_ℕ)) (λ c. c.slots) 
 abbrev pub table_state : List ℕ → List (Option ℕ) → TableState
 table_state hashes slots = record { hashes = hashes; buckets = length slots; slots = slots }
 
--- no pair and no bucket
-abbrev pub no_buckets : TableState
-no_buckets = table_state [] []
-
 abbrev pub table_state_code : Coded TableState
 table_state_code =
     coded_via (coded× (coded_list coded_ℕ) (coded× coded_ℕ (coded_list (coded_option coded_ℕ)))) (λ t. (t.hashes, (t.buckets, t.slots)))

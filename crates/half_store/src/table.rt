@@ -3,15 +3,14 @@
 //! A bucket contains an entry index, and a column has the stored hash of each. There are no keys: a search is handed their
 //! column, and a test of a key. Probes go up from the home bucket of a hash, one bucket at a time, and a removal shifts
 //! back what follows it, so no tombstone is left.
-ghost use Rattle.std.specs.Prelude.{◌≡◌, ℕ, ◌+◌, ◌^◌, ◌<◌, ◌≤◌, true, false, [], ◌∷◌, ◌++◌, length, Some, slice_get, IfOk, OnErr};
+ghost use Rattle.std.specs.Prelude.{◌≡◌, ℕ, ◌+◌, ◌^◌, ◌<◌, ◌≤◌, [], ◌∷◌, ◌++◌, length, Some, slice_get, IfOk, OnErr};
 ghost use Rattle.std.specs.Borrow.{Bor};
 ghost use Rattle.std.specs.Fn.{FnReturnsAt};
-ghost use Rattle.std.specs.List.{swap_remove};
 ghost use Rattle.half_store.specs.Reach.{reach};
 ghost use Rattle.half_store.specs.Capacity.{capacity_of, IsBucketCount, capacity_for, buckets_of};
 ghost use Rattle.half_store.specs.Probe.{looked_more, LooksWithin, removal_reads};
 ghost use Rattle.half_store.specs.Search.{ReturnsAt};
-ghost use Rattle.half_store.specs.Table.{table_contents, with_hash_in, IsVacancyIn, no_buckets};
+ghost use Rattle.half_store.specs.Table.{table_contents, with_hash_in, IsVacancyIn};
 ghost use Rattle.half_store.specs.TableSearch.{FindsInTable, RemovesFromTable};
 
 mod deletion;
@@ -29,7 +28,6 @@ use crate::words::{WordArray, Words};
 use deletion::{remove_in, take_in};
 use find::find_in;
 use probe::first_empty;
-use std::alloc::Global;
 use std::marker::Model;
 
 /// Buckets that lead from a hash to the entry indices of the pairs that have it.

@@ -3,7 +3,7 @@ ghost use Rattle.std.specs.Prelude.{◌≡◌, ◌^◌, ◌<◌, ◌≤◌, [], 
 ghost use Rattle.std.specs.Borrow.{sem};
 ghost use Rattle.std.specs.Map.{keys_of, values_of};
 ghost use Rattle.half_store.specs.Columns.{no_pairs, columns_with};
-ghost use Rattle.half_store.specs.Pairs.{set_key, set_value, swap_remove_at};
+ghost use Rattle.half_store.specs.Pairs.{set_key, swap_remove_at};
 
 mod columns;
 mod memory;

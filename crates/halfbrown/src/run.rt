@@ -5,7 +5,7 @@ ghost use Rattle.halfbrown.specs.Run.{Runs, shrinks};
 ghost use Rattle.halfbrown.specs.RunCost.{command_cost};
 ghost use Rattle.halfbrown.specs.Step.{Steps, is_refused};
 
-use crate::{Limit, LimitedHashMap, Refused, RefusedKey};
+use crate::{Limit, LimitedHashMap, Refused};
 use half_store::{Refusal, Tally};
 use std::alloc::Global;
 use std::hash::{BuildHasher, Hash};

@@ -1,8 +1,8 @@
 //! Writing the pair at an entry index.
 ghost use Rattle.std.specs.Prelude.{◌≡◌, ◌<◌, Some, length, slice_get};
 ghost use Rattle.std.specs.Borrow.{sem};
-ghost use Rattle.std.specs.Map.{keys_of, values_of};
-ghost use Rattle.half_store.specs.Pairs.{set_key, set_value};
+ghost use Rattle.std.specs.Map.{keys_of};
+ghost use Rattle.half_store.specs.Pairs.{set_key};
 ghost use Rattle.half_store.specs.Store.{store_with_pairs};
 
 use super::Store;

@@ -1,5 +1,5 @@
 //! Making a table, growing and shrinking it. All memory is had before anything changes.
-ghost use Rattle.std.specs.Prelude.{◌≡◌, ◌+◌, ◌^◌, ◌<◌, ◌≤◌, ◌↔◌, ◌⊎◌, [], max, length, Err, IfOk, IsOk, OnOk, OnErr};
+ghost use Rattle.std.specs.Prelude.{◌≡◌, ◌^◌, ◌<◌, ◌≤◌, ◌↔◌, ◌⊎◌, [], length, Err, IfOk, IsOk};
 ghost use Rattle.half_store.specs.Capacity.{capacity_of, buckets_for, buckets_of, IsBucketCount};
 ghost use Rattle.half_store.specs.Words.{word_size};
 

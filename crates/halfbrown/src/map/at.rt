@@ -1,7 +1,7 @@
 //! Reading and writing a pair by its index.
 ghost use Rattle.std.specs.Prelude.{◌≡◌, ◌<◌, true, Some, IfSome, length, slice_get};
 ghost use Rattle.std.specs.Borrow.{sem};
-ghost use Rattle.std.specs.Map.{keys_of, values_of};
+ghost use Rattle.std.specs.Map.{keys_of};
 ghost use Rattle.half_store.specs.Pairs.{set_key};
 ghost use Rattle.halfbrown.specs.State.{IsState, WithPairs};
 ghost use Rattle.halfbrown.specs.Updates.{HasKeyReplaced};

@@ -1,7 +1,7 @@
 //! The store of a map, taken out so that its pairs can be drained, and put back once they are gone.
 ghost use Rattle.std.specs.Prelude.{◌≡◌, ◌^◌, ◌<◌, false, [], length};
 ghost use Rattle.halfbrown.specs.Layout.{state_in};
-ghost use Rattle.halfbrown.specs.State.{IsState, IsTableCapacity, WithPairs, with_pairs};
+ghost use Rattle.halfbrown.specs.State.{IsState, IsTableCapacity, WithPairs};
 
 use super::LimitedHashMap;
 use crate::Limit;
