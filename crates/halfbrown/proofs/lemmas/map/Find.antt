@@ -140,11 +140,6 @@ pub vacancy_for : (is_vec : Bool) (contents : Contents) (hash other : ℕ) → (
 vacancy_for is_vec contents hash other same vacancy vacant =
     λ table. ((vacant table).0 ∙ same table, subst (λ h. IsVacancyIn contents h vacancy.bucket) (same table) (vacant table).1)
 
--- a result whose value is kept
-pub ok_where_some : {T E : Type 0} (r : Result T E) (x : T) → Some x ≡ result_ok r → r ≡ Ok x
-ok_where_some (Ok y) x is = cc
-ok_where_some (Err e) x is = cc
-
 -- that a pair may be added here is one fact
 pub vacancy-prop : (is_vec : Bool) (contents : Contents) (hash : ℕ) (vacancy : Vacancy) → IsProp (IsVacancy is_vec contents hash vacancy)
 vacancy-prop is_vec contents hash vacancy = Prim.hlevel props

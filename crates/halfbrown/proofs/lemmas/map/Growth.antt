@@ -1,7 +1,6 @@
 -- A full vector holds as many pairs as the limit allows, and a form that is not full stays.
 use Rattle.std.proofs.Common.{◌≡◌, ℕ, Bool, true, false, ◌&&◌, ◌==◌, length, arith, true≢false, not, sym, ap, refl}
 use Rattle.std.proofs.lemmas.Bool.Decides.{nat_tests}
-use Rattle.std.specs.Prelude.{Result, Ok, Err, OnOk}
 use Rattle.halfbrown.specs.Growth.{is_full}
 use Rattle.halfbrown.specs.State.{State}
 
@@ -15,7 +14,3 @@ full_len limit m full = equal_of_both m.is_vec (length m.pairs) limit full
 pub form_stays : (is_vec full : Bool) → full ≡ false → is_vec ≡ (is_vec && not full)
 form_stays true full e = ap not (sym e)
 form_stays false full e = refl
-
-pub on_ok_both : {T E P Q R : Type 0} (r : Result T E) → (P → Q → R) → OnOk r P → OnOk r Q → OnOk r R
-on_ok_both (Ok x) both p q = both p q
-on_ok_both (Err e) both p q = tt

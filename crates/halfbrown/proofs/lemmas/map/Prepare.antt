@@ -26,7 +26,7 @@ grown_by true probe more same = refl
 grown_by false probe more same = refl
 
 -- a vector does not look at the hash
-pub same_probe : {K V : Type 0} (hash : K → ℕ) (is_vec : Bool) (capacity : ℕ) (pairs : List (K × V)) (sought own : ℕ)
+same_probe : {K V : Type 0} (hash : K → ℕ) (is_vec : Bool) (capacity : ℕ) (pairs : List (K × V)) (sought own : ℕ)
     → (is_vec ≡ false → sought ≡ own) → probe_length hash is_vec capacity pairs sought ≡ probe_length hash is_vec capacity pairs own
 same_probe hash true capacity pairs sought own same = refl
 same_probe hash false capacity pairs sought own same = ap (probe_length hash false capacity pairs) (same refl)

@@ -1,5 +1,3 @@
-use Rattle.std.proofs.Common.{refl, ap, ◌∙◌}
-use Rattle.halfbrown.specs.declared.run.Reply.TheVariants.{Found, Removed}
 use Rattle.halfbrown.proofs.run.step.Goals as goal
 
 pub returns-in-Insert-clause-step : goal.returns-in-Insert-clause-step
@@ -19,11 +17,3 @@ returns-in-EntryOrInsert-clause-step g c = rw c.in-EntryOrInsert.is c.entry_or_i
 
 pub returns-in-EntryOrInsert-clause-cost : goal.returns-in-EntryOrInsert-clause-cost
 returns-in-EntryOrInsert-clause-cost g c = rw c.in-EntryOrInsert.is c.entry_or_insert.ensures.cost
-
-pub returns-in-Get-clause-step : goal.returns-in-Get-clause-step
-returns-in-Get-clause-step g c = rw c.in-Get.is (ap Found (c.copied.ensures ∙ c.get_counted.ensures.value), refl)
-
-pub returns-in-Remove-clause-step : goal.returns-in-Remove-clause-step
-returns-in-Remove-clause-step g c =
-    let removes = c.remove_entry_counted.ensures.removes in
-    rw c.in-Remove.is (ap Removed removes.gives, removes.after)

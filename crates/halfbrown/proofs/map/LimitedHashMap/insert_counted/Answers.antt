@@ -1,4 +1,4 @@
-use Rattle.std.proofs.Common.{None, Some, refl, sym, subst, ◌∙◌}
+use Rattle.std.proofs.Common.{None, Some, sym, subst, ◌∙◌}
 use Rattle.halfbrown.specs.Costs.{key_hash}
 use Rattle.halfbrown.specs.Preparation.{IsReadyFor}
 use Rattle.halfbrown.proofs.lemmas.map.Insert.{inserted}
@@ -25,12 +25,3 @@ returns-in-Ok-Err-clause-inserts g c =
     inserted g.L.Limit.LIMIT eq g.met.K.Eq.laws c.args.self.now c.prepare.new.self c.push.new.self key c.args.value _ c.push.ensures.after
     (ready.absent.put_is key c.args.value)
     missing.ok None (sym ready.absent.value) c.push.ensures.state
-
-pub returns-in-Err-clause-inserts : goal.returns-in-Err-clause-inserts
-returns-in-Err-clause-inserts g c = record {
-  old_value = tt;
-  ok = tt;
-  put = tt;
-  returned = record { why = c.in-Err.ensures.refused; key = refl; value = refl; unchanged = c.in-Err.ensures.err };
-  state = c.in-Err.ensures.state;
-}

@@ -1,8 +1,5 @@
-use Rattle.std.proofs.Common.{◌≡◌, true, sym, ap, ◌∙◌, arith, rules}
-use Rattle.std.specs.Result.{is_ok}
-use Rattle.std.proofs.lemmas.Result.{err_from_is_err_and}
+use Rattle.std.proofs.Common.{sym, ap, ◌∙◌}
 use Rattle.halfbrown.specs.Costs.{key_hash}
-use Rattle.halfbrown.specs.Growth.{is_full}
 use Rattle.halfbrown.specs.Pairs.{holds}
 use Rattle.halfbrown.specs.State.{contents_of}
 use Rattle.halfbrown.proofs.lemmas.map.Growth.{form_stays}
@@ -29,9 +26,3 @@ returns-clause-ready g c =
           ∙ ap (λ s. hash s key) (sym prepared.ok.builder))
           c.vacancy_for.result c.vacancy_for.ensures.vacant;
     }
-
-pub returns-in_err-switch_if_full-clause-cost : goal.returns-in_err-switch_if_full-clause-cost
-returns-in_err-switch_if_full-clause-cost g c =
-    let full : is_full g.L.Limit.LIMIT c.args.self.now ≡ true = search rules in
-    let refused = ap is_ok (err_from_is_err_and c.from_residual.result c.from_residual.ensures.1).1 in
-    rw (full, refused) (grind (arith, c.in_err-switch_if_full.ensures.work))
