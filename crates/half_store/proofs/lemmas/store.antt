@@ -1,3 +1,2 @@
 -- Lemmas of the store.
-pub mod Memory
 pub mod States
