@@ -1,5 +1,6 @@
 //! Backward-shift deletion: after a removal the pairs that follow move back, so that no tombstone is needed.
-ghost use Rattle.std.specs.Prelude.{◌≡◌, ℕ, ◌+◌, ◌-◌, ◌^◌, ◌<◌, ◌≤◌, length, Some, IfOk, OnErr, slice_get, slice_set, slice_index, vec_capacity};
+ghost use Rattle.std.specs.Prelude.{◌≡◌, ℕ, ◌+◌, ◌-◌, ◌^◌, ◌<◌, ◌≤◌, Some, IfOk, OnErr};
+ghost use Rattle.std.specs.Prelude.{length, slice_get, slice_set, slice_index, vec_capacity};
 ghost use Rattle.std.specs.Borrow.{Bor};
 ghost use Rattle.std.specs.Fn.{FnReturnsAt};
 ghost use Rattle.std.specs.List.{swap_remove};
