@@ -9,7 +9,7 @@ use Rattle.half_store.specs.Pairs.{index_of}
 use Rattle.half_store.specs.Reach.{reach, HomesApart}
 use Rattle.half_store.specs.Capacity.{buckets_of, capacity_for}
 use Rattle.half_store.specs.Work.{Work, first_match_cost}
-use Rattle.halfbrown.specs.State.{State}
+use Rattle.halfbrown.specs.State.{State, state, contents_of}
 use Rattle.halfbrown.specs.Pairs.{holds}
 use Rattle.halfbrown.specs.Growth.{is_full, is_vec_after}
 
@@ -42,6 +42,22 @@ no_cost = record { asked = 0; compared = exactly 0; looked = exactly 0 }
 
 abbrev pub add_costs : Cost → Cost → Cost
 add_costs a b = record { asked = a.asked + b.asked; compared = add_ranges a.compared b.compared; looked = add_ranges a.looked b.looked }
+
+-- a cost, once so many more keys were hashed
+abbrev pub asks_more : ℕ → Cost → Cost
+asks_more n cost = record cost { asked = n + cost.asked }
+
+-- a cost, once exactly so many more buckets were read
+abbrev pub reads_more : ℕ → Cost → Cost
+reads_more n cost = record cost { looked = add_ranges cost.looked (exactly n) }
+
+-- a cost, but none where the call was refused before it did anything
+abbrev pub unless_refused : Bool → Cost → Cost
+unless_refused refused cost = record {
+  asked = if refused then 0 else cost.asked;
+  compared = if refused then exactly 0 else cost.compared;
+  looked = if refused then exactly 0 else cost.looked;
+}
 
 -- a number grew by one of this range
 pub record GrewWithin (range : Range) (before after : ℕ) : Type 0 where
@@ -116,6 +132,10 @@ module _ {S H K Q V : Type 0} (b : builder.Ghosts S H) (h : hasher.Ghosts H) (he
   abbrev pub CostsHashedSearch : Work → Work → Type 0
   CostsHashedSearch before after = CostsSearchAsking 0 before after
 
+-- the buckets that an insertion probe of a new key k reads, where the capacity is enough for it
+abbrev pub insertion_looks : {K V S : Type 0} → (S → K → ℕ) → State K V S → K → ℕ
+insertion_looks hash m k = probe_length (hash m.builder) m.is_vec m.capacity m.pairs (hash m.builder k)
+
 module _ {K V S : Type 0} (eq : K → K → Bool) (hash : S → K → ℕ) where
   -- what a search for k in the map costs
   abbrev pub search_cost_of : State K V S → K → Cost
@@ -155,47 +175,37 @@ module _ {K V S : Type 0} (limit : ℕ) where
   abbrev pub capacity_grown : State K V S → ℕ
   capacity_grown m = if addition_grows m then capacity_for (length m.pairs + 1) else capacity_switched m
 
+  -- the map once a granted switch is made: a search then depends on no other part of it
+  abbrev pub switched : State K V S → State K V S
+  switched m = state (is_vec_after limit m) m.pairs (capacity_switched m) m.columns m.builder (contents_of m)
+
+  -- the map once its capacity is enough for one pair more
+  abbrev pub grown : State K V S → State K V S
+  grown m = state (is_vec_after limit m) m.pairs (capacity_grown m) m.columns m.builder (contents_of m)
+
   module _ (eq : K → K → Bool) (hash : S → K → ℕ) where
-    -- the buckets that the insertion probe of a new key k reads, once the capacity is enough
-    abbrev pub insertion_probe_looks : State K V S → K → ℕ
-    insertion_probe_looks m k = probe_length (hash m.builder) (is_vec_after limit m) (capacity_grown m) m.pairs (hash m.builder k)
-
-    -- the comparisons of a search for k in the form that a granted switch leaves, and the buckets that it reads, with this capacity
-    abbrev pub switched_compares : State K V S → K → Range
-    switched_compares m k = search_compares (hash m.builder) (hash m.builder k) (index_of (eq k) (keys_of m.pairs)) (is_vec_after limit m) m.pairs
-
-    abbrev pub switched_looks : State K V S → ℕ → K → Range
-    switched_looks m capacity k = search_looks (hash m.builder) (hash m.builder k) (index_of (eq k) (keys_of m.pairs)) (is_vec_after limit m) capacity m.pairs
-
     -- what an insertion of k costs: the switch hashes each key, one search follows in the form that it left, and, where a new key made
     -- the table grow, one insertion probe; a refused switch costs nothing
     abbrev pub insert_cost : State K V S → K → Bool → Cost
-    insert_cost m k granted = record {
-      asked = insert_asked m granted;
-      compared = if is_switch_refused m granted then exactly 0 else switched_compares m k;
-      looked = if is_switch_refused m granted then exactly 0 else add_ranges
-          (switched_looks m (capacity_switched m) k)
-          (exactly (if granted && not (holds eq m.pairs k) && addition_grows m then insertion_probe_looks m k else 0));
-    }
+    insert_cost m k granted =
+        unless_refused (is_switch_refused m granted) (asks_more (switch_asked m)
+        (reads_more (if granted && not (holds eq m.pairs k) && addition_grows m then insertion_looks hash (grown m) k else 0)
+        (search_cost_of eq hash (switched m) k)))
 
     -- what an insertion of a new key k without a search costs: the switch and the key's own hash, and one insertion probe where it is
     -- granted
     abbrev pub new_key_cost : State K V S → K → Bool → Cost
     new_key_cost m k granted =
-        record { asked = insert_asked m granted; compared = exactly 0; looked = exactly (if granted then insertion_probe_looks m k else 0) }
+        record no_cost { asked = insert_asked m granted; looked = exactly (if granted then insertion_looks hash (grown m) k else 0) }
 
     -- what `raw_entry_mut`, `from_key` of k and `or_insert_entry` of k cost: the switch hashes each key, and one search follows, once the capacity
     -- is enough for one pair more; a new key is hashed again in a table, and one insertion probe made for it; where the capacity was refused
     -- they cost nothing
     abbrev pub raw_insert_cost : State K V S → K → Bool → Cost
-    raw_insert_cost m k granted = record {
-      asked = if granted then switch_asked m + search_asked (is_vec_after limit m) + (if holds eq m.pairs k then 0 else search_asked (is_vec_after limit m)) else 0;
-      compared = if granted then switched_compares m k else exactly 0;
-      looked = if granted then add_ranges
-          (switched_looks m (capacity_grown m) k)
-          (exactly (if holds eq m.pairs k then 0 else insertion_probe_looks m k))
-          else exactly 0;
-    }
+    raw_insert_cost m k granted =
+        let held = holds eq m.pairs k in
+        unless_refused (not granted) (asks_more (switch_asked m) (asks_more (if held then 0 else search_asked (is_vec_after limit m))
+        (reads_more (if held then 0 else insertion_looks hash (grown m) k) (search_cost_of eq hash (grown m) k))))
 
     -- what an insertion of k cost, by the tally before it and after
     pub record InsertCosts (m : State K V S) (k : K) (granted : Bool) (before after : Work) : Type 0 where

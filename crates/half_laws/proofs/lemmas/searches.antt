@@ -1,7 +1,8 @@
 -- What holds of every search.
-use Rattle.std.proofs.Common.{◌≡◌, ℕ, ◌+◌, ◌-◌, ◌<◌, ◌≤◌, ◌==◌, Bool, true, false, not, ◌&&◌, true≢false, inl, inr, refl, sym, ap, ◌∙◌}
+use Rattle.std.proofs.Common.{◌≡◌, ℕ, ◌+◌, ◌-◌, ◌<◌, ◌≤◌, ◌==◌, Bool, true, false, not, ◌&&◌, inl, inr, refl, sym, ap, ◌∙◌}
 use Rattle.std.proofs.Common.{subst, arith, List, length, map, cond, Option, None, is_some, IsPermutation, if◌then◌else◌}
 use Rattle.std.proofs.lemmas.Bool.{cases_lt, cases_Bool}
+use Rattle.std.proofs.lemmas.Grind.{common_steps}
 use Rattle.std.proofs.lemmas.List.Sorted.{IsPermutation-map, length_permutation, sum_by-IsPermutation, list_any-IsPermutation}
 use Rattle.std.proofs.lemmas.Map.Entries.{length-keys_of}
 use Rattle.std.proofs.Math.ListN.{length-map}
@@ -18,9 +19,9 @@ use Rattle.half_store.proofs.lemmas.table.Laws.{history_law as reach_history, cr
 use Rattle.halfbrown.specs.declared.run.Command.{Command}
 use Rattle.halfbrown.specs.declared.run.Command.TheVariants.{Insert, InsertNew, EntryOrInsert, RawOrInsert, Get, Remove}
 use Rattle.halfbrown.specs.Costs.{Range, Cost, GrewBy, GrewWithin, exactly, between, add_ranges, no_cost, search_asked, candidates}
-use Rattle.halfbrown.specs.Costs.{probe_length, search_compares, search_looks, search_cost, search_cost_of, switched_compares}
-use Rattle.halfbrown.specs.Costs.{switched_looks, insert_cost, raw_insert_cost, new_key_cost, insertion_probe_looks, is_switch_refused}
-use Rattle.halfbrown.specs.Costs.{capacity_switched, capacity_grown, addition_grows, SearchCosts, InsertCosts}
+use Rattle.halfbrown.specs.Costs.{probe_length, search_compares, search_looks, search_cost, search_cost_of, switched, grown, insertion_looks}
+use Rattle.halfbrown.specs.Costs.{insert_cost, raw_insert_cost, new_key_cost, is_switch_refused, capacity_switched, capacity_grown}
+use Rattle.halfbrown.specs.Costs.{addition_grows, SearchCosts, InsertCosts}
 use Rattle.half_laws.specs.MapLaws.{HoldSamePairs, GrewExactlyBy, HistoryLaw, InsertionHistoryLaw, CrowdedSearchLaw, CrowdedInsertionLaw}
 use Rattle.half_laws.specs.MapLaws.{CrowdedProbeLaw, CrowdedGrowthLaw, CrowdedUncheckedLaw, CommandCostLaw, CommandHashesLaw}
 use Rattle.half_laws.specs.MapLaws.{CommandBucketsLaw, finds_in_vector}
@@ -42,8 +43,7 @@ buckets-more capacity is some =
 
 -- a search in a table reads at most an unsuccessful probe
 looks_most : (held : Bool) (probe : ℕ) → (if held then between 1 (probe - 1) else exactly probe).most ≤ probe
-looks_most true probe = omega arith
-looks_most false probe = omega arith
+looks_most held probe = grind (arith, common_steps)
 
 -- a range of one number
 abbrev IsExact : Range → Type 0
@@ -69,9 +69,7 @@ grew_exactly cost before after compared looked grew = record {
 insertion_most : (refused grows : Bool) (searched : Range) (probe before after : ℕ) → grows ≡ false
     → GrewWithin (if refused then exactly 0 else add_ranges searched (exactly (if grows then probe else 0))) before after
     → after ≤ before + searched.most
-insertion_most true grows searched probe before after none grew = omega (arith, grew.most)
-insertion_most false true searched probe before after none grew = absurd (true≢false none)
-insertion_most false false searched probe before after none grew = omega (arith, grew.most)
+insertion_most refused grows searched probe before after none grew = grind (arith, common_steps, grew)
 
 -- one that makes the capacity grow for its key has searched in vain, and reads one more probe
 growing_reads : (refused granted held grows : Bool) (probe second before after : ℕ) → (granted && not held && grows) ≡ true
@@ -79,23 +77,16 @@ growing_reads : (refused granted held grows : Bool) (probe second before after :
     → GrewWithin (if refused then exactly 0 else add_ranges (if held then between 1 (probe - 1) else exactly probe)
     (exactly (if granted && not held && grows then second else 0))) before after
     → after ≡ before + (probe + second)
-growing_reads refused false held grows probe second before after some none grew = absurd (true≢false (sym some))
-growing_reads refused true true grows probe second before after some none grew = absurd (true≢false (sym some))
-growing_reads refused true false false probe second before after some none grew = absurd (true≢false (sym some))
-growing_reads true true false true probe second before after some none grew = absurd (true≢false none)
-growing_reads false true false true probe second before after some none grew = omega (arith, grew.least, grew.most)
+growing_reads refused granted held grows probe second before after some none grew = grind (arith, common_steps, grew)
 
 -- a granted call is not refused its switch
 granted_or_refused : (full granted : Bool) → (full && not granted && granted) ≡ false
-granted_or_refused false granted = refl
-granted_or_refused true false = refl
-granted_or_refused true true = refl
+granted_or_refused full granted = grind (arith, common_steps)
 
 -- an insertion without a search reads one probe at most
 unchecked_most : (granted : Bool) (probe before after : ℕ) → GrewWithin (exactly (if granted then probe else 0)) before after
     → after ≤ before + probe
-unchecked_most true probe before after grew = omega (arith, grew.most)
-unchecked_most false probe before after grew = omega (arith, grew.most)
+unchecked_most granted probe before after grew = grind (arith, common_steps, grew)
 
 -- what holds of two numbers holds of the one that is chosen
 of_both : (P : ℕ → Type 0) (b : Bool) (x y : ℕ) → P x → P y → P (if b then x else y)
@@ -104,13 +95,11 @@ of_both P false x y of_x of_y = of_y
 
 -- a map that does not stay a vector, and is no full one, is a table
 table_of : (is_vec full : Bool) → full ≡ false → (is_vec && not full) ≡ false → is_vec ≡ false
-table_of false full part stays = refl
-table_of true full part stays = absurd (true≢false (sym (ap not part) ∙ stays))
+table_of is_vec full part stays = grind (arith, common_steps)
 
 -- a key that is not held is not found in a vector
 never_found : (in_vector held : Bool) → held ≡ false → (in_vector && held) ≡ false
-never_found true held unheld = unheld
-never_found false held unheld = refl
+never_found in_vector held unheld = grind (arith, common_steps)
 
 module _ {K V S : Type 0} (hash : S → K → ℕ) where
   pub crowded_probe_law : CrowdedProbeLaw V hash
@@ -138,8 +127,8 @@ module _ {K V S : Type 0} (hash : S → K → ℕ) where
 
     module _ (m : State K V S) (s : IsState eq limit m) (stays : is_vec_after limit m ≡ false) where
       -- once the form has changed, the capacity is that of a table that the pairs fit
-      switched : IsTableCapacity (capacity_switched limit m) × (length m.pairs ≤ capacity_switched limit m)
-      switched =
+      switched_fits : IsTableCapacity (capacity_switched limit m) × (length m.pairs ≤ capacity_switched limit m)
+      switched_fits =
           elim (cases_Bool (is_full limit m)) [
             | inl full ↦
                 let l = buckets_for-least (limit + 1) in
@@ -151,16 +140,16 @@ module _ {K V S : Type 0} (hash : S → K → ℕ) where
           ]
 
       -- and so is the one that is enough for one pair more
-      grown : IsTableCapacity (capacity_grown limit m) × (length m.pairs ≤ capacity_grown limit m)
-      grown =
+      grown_fits : IsTableCapacity (capacity_grown limit m) × (length m.pairs ≤ capacity_grown limit m)
+      grown_fits =
           let l = buckets_for-least (length m.pairs + 1) in
           of_both (λ capacity. IsTableCapacity capacity × (length m.pairs ≤ capacity)) (addition_grows limit m) _ _
-          (capacity_for-capacity_of (buckets_for (length m.pairs + 1)) l.count, omega (arith, l.serves)) switched
+          (capacity_for-capacity_of (buckets_for (length m.pairs + 1)) l.count, omega (arith, l.serves)) switched_fits
 
     pub crowded_growth_law : CrowdedGrowthLaw V limit eq hash
     crowded_growth_law m k granted before after s stays grows costs =
-        let is = switched m s stays in
-        let more = grown m s stays in
+        let is = switched_fits m s stays in
+        let more = grown_fits m s stays in
         let h : K → ℕ = hash m.builder in
         let found : Option ℕ = index_of (eq k) (keys_of m.pairs) in
         let first : ℕ = probe_length h false (capacity_switched limit m) m.pairs (h k) in
@@ -193,7 +182,7 @@ module _ {K V S : Type 0} (hash : S → K → ℕ) where
         elim (cases_Bool (is_vec_after limit m)) [
           | inl vector ↦ absurd (omega (arith, most, ap probe vector))
           | inr stays ↦
-              let more = grown m s stays in
+              let more = grown_fits m s stays in
               crowded_probe_law m.builder (capacity_grown limit m) m.pairs (hash m.builder k) passed more.0 more.1
               (omega (arith, most, ap probe stays))
         ]
@@ -203,12 +192,12 @@ module _ {K V S : Type 0} (hash : S → K → ℕ) where
         let found : Option ℕ = index_of (eq k) (keys_of m.pairs) in
         let looks : Bool → Range = λ b. search_looks (hash m.builder) (hash m.builder k) found b (capacity_switched limit m) m.pairs in
         let read : after.looked ≤ before.looked + (looks (is_vec_after limit m)).most =
-        insertion_most (is_switch_refused limit m granted) _ (looks (is_vec_after limit m)) (insertion_probe_looks limit eq hash m k)
+        insertion_most (is_switch_refused limit m granted) _ (looks (is_vec_after limit m)) (insertion_looks hash (grown limit m) k)
         before.looked after.looked none costs.grew.looked in
         elim (cases_Bool (is_vec_after limit m)) [
           | inl vector ↦ absurd (omega (arith, read, ap (λ b. (looks b).most) vector))
           | inr stays ↦
-              let is = switched m s stays in
+              let is = switched_fits m s stays in
               let most = looks_most (is_some found)
               (probe_length (hash m.builder) false (capacity_switched limit m) m.pairs (hash m.builder k)) in
               crowded_probe_law m.builder (capacity_switched limit m) m.pairs (hash m.builder k) passed is.0 is.1
@@ -307,12 +296,12 @@ module _ {K V S : Type 0} (hash : S → K → ℕ) where
     insertion_exactly limit m k granted before after unheld costs =
         let stays : Bool = is_vec_after limit m in
         let probe : ℕ = if granted && not (holds eq m.pairs k)
-        && addition_grows limit m then insertion_probe_looks limit eq hash m k else 0 in
+        && addition_grows limit m then insertion_looks hash (grown limit m) k else 0 in
         grew_exactly (insert_cost limit eq hash m k granted) before after
-        (exact_unless_refused (is_switch_refused limit m granted) (switched_compares limit eq hash m k)
+        (exact_unless_refused (is_switch_refused limit m granted) (search_cost_of eq hash (switched limit m) k).compared
         (compares-exact (eq k) (hash m.builder) (hash m.builder k) m.pairs unheld stays))
         (exact_unless_refused (is_switch_refused limit m granted)
-        (add_ranges (switched_looks limit eq hash m (capacity_switched limit m) k) (exactly probe))
+        (add_ranges (search_cost_of eq hash (switched limit m) k).looked (exactly probe))
         (ap (λ n. n + probe) (looks-exact (eq k) (hash m.builder) (hash m.builder k) m.pairs unheld stays (capacity_switched limit m))))
         costs.grew
 
@@ -352,7 +341,7 @@ module _ {K V S : Type 0} (hash : S → K → ℕ) where
 
         -- the search of a switching call
         searched-alike : (stays (length xs) && holds eq xs k) ≡ false
-            → switched_compares limit eq hash first k ≡ switched_compares limit eq hash second k
+            → (search_cost_of eq hash (switched limit first) k).compared ≡ (search_cost_of eq hash (switched limit second) k).compared
         searched-alike none = compares-same builder xs ys p (eq k) (hash builder k) (stays (length xs)) none
             ∙ (λ i. search_compares (hash builder) (hash builder k) (index_of (eq k) (keys_of ys)) (stays (long i)) ys)
 
@@ -380,7 +369,7 @@ module _ {K V S : Type 0} (hash : S → K → ℕ) where
 
           raw-compared : (stays (length xs) && holds eq xs k) ≡ false
               → (raw_insert_cost limit eq hash first k granted).compared ≡ (raw_insert_cost limit eq hash second k granted).compared
-          raw-compared none = λ i. if granted then searched-alike none i else exactly 0
+          raw-compared none = λ i. if not granted then exactly 0 else searched-alike none i
 
           -- an insertion without a search, where the key is not held
           added-same : (if holds eq xs k then no_cost else new_key_cost limit eq hash first k granted)

@@ -1,6 +1,7 @@
 -- Lemmas of the map.
 pub mod Clone
 pub mod Collect
+pub mod Costs
 pub mod Equality
 pub mod Find
 pub mod Growth

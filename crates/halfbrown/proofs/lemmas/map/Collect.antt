@@ -22,7 +22,7 @@ use Rattle.halfbrown.specs.Growth.{is_full, insert_needs, IsRefusal}
 use Rattle.halfbrown.specs.Insertion.{Puts}
 use Rattle.halfbrown.specs.Making.{IsMade}
 use Rattle.halfbrown.specs.State.{State, IsState}
-use Rattle.halfbrown.proofs.lemmas.run.Runs.{costs_assoc, none_more, more_none, spent_both}
+use Rattle.halfbrown.proofs.lemmas.map.Costs.{costs_assoc, none_more, more_none, spent_both}
 
 or_none : {V : Type 0} (o : Option V) → option_or o None ≡ o
 or_none (Some v) = refl

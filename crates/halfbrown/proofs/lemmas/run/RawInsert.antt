@@ -1,19 +1,18 @@
 -- What an insertion through a raw entry costs: its switch, one search, and for a new key one hash and one insertion probe.
 use Rattle.std.proofs.Common.{◌≡◌, ℕ, ◌+◌, ◌<◌, Bool, true, false, not, nat_lt, List, length, Option, None, Some, MatchBool, MatchOption}
-use Rattle.std.proofs.Common.{cond, if◌then◌else◌, refl, sym, ap, subst, ◌∙◌, arith}
+use Rattle.std.proofs.Common.{cond, if◌then◌else◌, refl, sym, ap, subst, ◌∙◌, arith, add-zero}
 use Rattle.std.proofs.lemmas.Bool.Decides.{nat_tests}
-use Rattle.std.specs.Map.{keys_of}
 use Rattle.half_store.specs.Capacity.{capacity_for, grown_capacity}
-use Rattle.half_store.specs.Pairs.{index_of}
+use Rattle.half_store.specs.Probe.{looked_more}
 use Rattle.half_store.specs.Work.{Work, asked_more}
-use Rattle.halfbrown.specs.Costs.{Cost, GrewBy, Range, add_ranges, exactly, insertion_probe_looks, search_asked, search_compares}
-use Rattle.halfbrown.specs.Costs.{search_looks, switched_compares, switched_looks, probe_length, switch_asked, capacity_grown}
-use Rattle.halfbrown.specs.Costs.{raw_insert_cost, KeySearchCosts}
+use Rattle.halfbrown.specs.Costs.{GrewBy, asks_more, reads_more, insertion_looks, search_asked, search_cost_of, switch_asked, grown}
+use Rattle.halfbrown.specs.Costs.{capacity_grown, raw_insert_cost, KeySearchCosts}
 use Rattle.halfbrown.specs.Growth.{is_full, is_vec_after, new_key_needs}
 use Rattle.halfbrown.specs.Pairs.{holds}
 use Rattle.halfbrown.specs.Preparation.{Prepares}
 use Rattle.halfbrown.specs.RawEntry.{after_adding}
-use Rattle.halfbrown.specs.State.{State}
+use Rattle.halfbrown.specs.State.{State, state, contents_of}
+use Rattle.halfbrown.proofs.lemmas.map.Costs.{asked_first, asked_last, looked_last}
 
 less_is_true : (n m : ℕ) → n < m → nat_lt n m ≡ true
 less_is_true n m less = grind (arith, nat_tests)
@@ -52,6 +51,12 @@ module _ {K V S : Type 0} (limit : ℕ) (old m : State K V S) (prepared : Prepar
       (in_table (grown_capacity limit old.capacity) (new_key_needs limit old) m.is_vec m.capacity old.capacity form prepared.capacity)
       (full_fits form) refl
 
+-- what a vector's capacity does not change
+by_form : {X : Type 0} (f : Bool → ℕ → X) (is_vec : Bool) (a b : ℕ) → f true a ≡ f true b → (is_vec ≡ false → a ≡ b)
+    → f is_vec a ≡ f is_vec b
+by_form f true a b vector same = vector
+by_form f false a b vector same = ap (f false) (same refl)
+
 module _ {K V S : Type 0} (limit : ℕ) (eq : K → K → Bool) (hash : S → K → ℕ) (old m : State K V S) (k : K)
     (prepared : Prepares limit old (new_key_needs limit old) m) (left : length m.pairs < m.capacity)
     (before between searched after : Work) (spent : between ≡ asked_more (switch_asked limit old) before)
@@ -59,83 +64,42 @@ module _ {K V S : Type 0} (limit : ℕ) (eq : K → K → Bool) (hash : S → K 
   abbrev stays : Bool
   stays = is_vec_after limit old
 
-  -- what a search for k compares, and the buckets that it reads, in a map of these parts
-  abbrev compares : Bool → List (K × V) → S → Range
-  compares is_vec pairs builder = search_compares (hash builder) (hash builder k) (index_of (eq k) (keys_of pairs)) is_vec pairs
+  ready : stays ≡ false → m.capacity ≡ capacity_grown limit old
+  ready form = capacity_ready limit old m prepared left (prepared.form ∙ form)
 
-  abbrev looks : Bool → ℕ → List (K × V) → S → Range
-  looks is_vec capacity pairs builder = search_looks (hash builder) (hash builder k) (index_of (eq k) (keys_of pairs)) is_vec capacity pairs
+  -- a map of these parts
+  abbrev map_of : Bool → ℕ → List (K × V) → S → State K V S
+  map_of is_vec capacity pairs builder = state is_vec pairs capacity m.columns builder (contents_of m)
 
-  abbrev probe : Bool → ℕ → List (K × V) → S → ℕ
-  probe is_vec capacity pairs builder = probe_length (hash builder) is_vec capacity pairs (hash builder k)
+  -- what follows the search, by whether it found k
+  abbrev asks_by : Bool → ℕ
+  asks_by held = if held then 0 else search_asked stays
 
-  looks_by : (is_vec : Bool) → (is_vec ≡ false → m.capacity ≡ capacity_grown limit old)
-      → looks is_vec m.capacity old.pairs old.builder ≡ looks is_vec (capacity_grown limit old) old.pairs old.builder
-  looks_by true same = refl
-  looks_by false same = ap (λ n. looks false n old.pairs old.builder) (same refl)
+  abbrev reads_by : Bool → ℕ
+  reads_by held = if held then 0 else insertion_looks hash (grown limit old) k
 
-  probe_by : (is_vec : Bool) → (is_vec ≡ false → m.capacity ≡ capacity_grown limit old)
-      → probe is_vec m.capacity old.pairs old.builder ≡ probe is_vec (capacity_grown limit old) old.pairs old.builder
-  probe_by true same = refl
-  probe_by false same = ap (λ n. probe false n old.pairs old.builder) (same refl)
+  added_by : (held : Bool) → (if held then searched else after_adding hash m k searched)
+      ≡ looked_more (asked_more (asks_by held) searched) (reads_by held)
+  added_by true = sym (λ i. record searched { asked = add-zero searched.asked i; looked = add-zero searched.looked i })
+  added_by false = (λ i. looked_more (asked_more (search_asked (prepared.form i)) searched)
+      (insertion_looks hash (map_of (prepared.form i) m.capacity (prepared.pairs i) (prepared.builder i)) k))
+      ∙ by_form (λ form capacity. looked_more (asked_more (search_asked stays) searched)
+      (insertion_looks hash (map_of form capacity old.pairs old.builder) k)) stays m.capacity (capacity_grown limit old) refl ready
 
-  grown : stays ≡ false → m.capacity ≡ capacity_grown limit old
-  grown form = capacity_ready limit old m prepared left (prepared.form ∙ form)
-
-  search_grew : GrewBy (record {
-    asked = search_asked stays;
-    compared = switched_compares limit eq hash old k;
-    looked = switched_looks limit eq hash old (capacity_grown limit old) k;
-  }) between searched
-  search_grew =
-      subst (λ (c : Cost). GrewBy c between searched)
-      (λ i. record { asked = search_asked stays; compared = compares stays old.pairs old.builder; looked = looks_by stays grown i })
-      (subst (λ (c : Cost). GrewBy c between searched)
-      (λ i. record {
-        asked = search_asked (prepared.form i);
-        compared = compares (prepared.form i) (prepared.pairs i) (prepared.builder i);
-        looked = looks (prepared.form i) m.capacity (prepared.pairs i) (prepared.builder i);
-      }) search.grew)
-
-  probe_is : probe m.is_vec m.capacity m.pairs m.builder ≡ probe stays (capacity_grown limit old) old.pairs old.builder
-  probe_is = (λ i. probe (prepared.form i) m.capacity (prepared.pairs i) (prepared.builder i)) ∙ probe_by stays grown
-
-  -- the cost of a granted insertion, by whether the key is held
-  abbrev cost_by : Bool → Cost
-  cost_by held = record {
-    asked = switch_asked limit old + search_asked stays + (if held then 0 else search_asked stays);
-    compared = switched_compares limit eq hash old k;
-    looked = add_ranges (switched_looks limit eq hash old (capacity_grown limit old) k)
-        (exactly (if held then 0 else insertion_probe_looks limit eq hash old k));
-  }
-
-  costs_by : (held : Bool) → holds eq old.pairs k ≡ held → after ≡ (if held then searched else after_adding hash m k searched)
-      → GrewBy (raw_insert_cost limit eq hash old k true) before after
-  costs_by true held is = subst (λ h. GrewBy (cost_by h) before after) (sym held) (record {
-    asked = omega (arith, search_grew.asked, ap (λ w. w.asked) spent, ap (λ w. w.asked) is);
-    compared = record {
-      least = omega (arith, search_grew.compared.least, ap (λ w. w.compared) spent, ap (λ w. w.compared) is);
-      most = omega (arith, search_grew.compared.most, ap (λ w. w.compared) spent, ap (λ w. w.compared) is);
-    };
-    looked = record {
-      least = omega (arith, search_grew.looked.least, ap (λ w. w.looked) spent, ap (λ w. w.looked) is);
-      most = omega (arith, search_grew.looked.most, ap (λ w. w.looked) spent, ap (λ w. w.looked) is);
-    };
-  })
-  costs_by false held is = subst (λ h. GrewBy (cost_by h) before after) (sym held) (record {
-    asked = omega (arith, search_grew.asked, ap (λ w. w.asked) spent, ap (λ w. w.asked) is, ap search_asked prepared.form);
-    compared = record {
-      least = omega (arith, search_grew.compared.least, ap (λ w. w.compared) spent, ap (λ w. w.compared) is);
-      most = omega (arith, search_grew.compared.most, ap (λ w. w.compared) spent, ap (λ w. w.compared) is);
-    };
-    looked = record {
-      least = omega (arith, search_grew.looked.least, ap (λ w. w.looked) spent, ap (λ w. w.looked) is, probe_is);
-      most = omega (arith, search_grew.looked.most, ap (λ w. w.looked) spent, ap (λ w. w.looked) is, probe_is);
-    };
-  })
+  search_grew : GrewBy (search_cost_of eq hash (grown limit old) k) between searched
+  search_grew = subst (λ c. GrewBy c between searched)
+      ((λ i. search_cost_of eq hash (map_of (prepared.form i) m.capacity (prepared.pairs i) (prepared.builder i)) k)
+      ∙ by_form (λ form capacity. search_cost_of eq hash (map_of form capacity old.pairs old.builder) k) stays m.capacity
+      (capacity_grown limit old) refl ready) search.grew
 
   -- what an insertion of k through a raw entry cost
   pub raw_costs : after ≡ (if holds eq m.pairs k then searched else after_adding hash m k searched)
       → GrewBy (raw_insert_cost limit eq hash old k true) before after
-  raw_costs is = costs_by (holds eq old.pairs k) refl
-      (is ∙ ap (λ ps. cond (holds eq ps k) searched (after_adding hash m k searched)) prepared.pairs)
+  raw_costs is =
+      let held : Bool = holds eq old.pairs k in
+      let last = is ∙ ap (λ ps. cond (holds eq ps k) searched (after_adding hash m k searched)) prepared.pairs ∙ added_by held in
+      subst (GrewBy (raw_insert_cost limit eq hash old k true) before) (sym last)
+      (asked_first (switch_asked limit old) _ before _
+      (subst (λ w. GrewBy (asks_more (asks_by held) (reads_more (reads_by held) (search_cost_of eq hash (grown limit old) k))) w
+      (looked_more (asked_more (asks_by held) searched) (reads_by held))) spent
+      (asked_last (asks_by held) _ between _ (looked_last (reads_by held) _ between searched search_grew))))

@@ -1,41 +1,16 @@
 -- A run so far, and one step more.
 use Rattle.std.proofs.Common.{◌≡◌, ◌∙◌, ℕ, Bool, true, false, true≢false, ◌||◌, List, [], ◌∷◌, ◌++◌, length, ap, sym, refl, subst, arith}
-use Rattle.std.proofs.Common.{zero-add, add-zero, add_assoc, append_assoc, append-nil}
+use Rattle.std.proofs.Common.{append_assoc, append-nil}
 use Rattle.std.proofs.lemmas.List.{length-map, map-append}
 use Rattle.half_store.specs.Work.{Work}
 use Rattle.halfbrown.specs.declared.run.Command.{Command}
 use Rattle.halfbrown.specs.declared.run.Reply.{Reply}
 use Rattle.halfbrown.specs.State.{State, IsState}
 use Rattle.halfbrown.specs.Step.{Step, IsStep, is_shrink}
-use Rattle.halfbrown.specs.Costs.{Cost, GrewBy, no_cost, add_costs}
+use Rattle.halfbrown.specs.Costs.{Cost, GrewBy, add_costs}
 use Rattle.halfbrown.specs.Run.{Lead, Runs, shrinks, commands_of, replies_of, step_cost, cost_of}
+use Rattle.halfbrown.proofs.lemmas.map.Costs.{none_more, more_none, costs_assoc, spent_none, spent_both}
 use Rattle.halfbrown.proofs.lemmas.run.Steps.{PaysTwo, switch_left, step_pays_two}
-
-pub none_more : (more : Cost) → more ≡ add_costs no_cost more
-none_more more = simp zero-add
-
--- nothing more
-pub more_none : (more : Cost) → more ≡ add_costs more no_cost
-more_none more = simp add-zero
-
-pub costs_assoc : (a b c : Cost) → add_costs a (add_costs b c) ≡ add_costs (add_costs a b) c
-costs_assoc a b c = simp add_assoc
-
-pub spent_none : (w : Work) → GrewBy no_cost w w
-spent_none w = record {
-  asked = omega arith;
-  compared = record { least = omega arith; most = omega arith };
-  looked = record { least = omega arith; most = omega arith };
-}
-
--- what was spent before and after a moment is spent in all
-pub spent_both : (a b : Cost) (before middle after : Work) → GrewBy a before middle → GrewBy b middle after
-    → GrewBy (add_costs a b) before after
-spent_both a b before middle after first second = record {
-  asked = omega arith;
-  compared = record { least = omega arith; most = omega arith };
-  looked = record { least = omega arith; most = omega arith };
-}
 
 pub neither : (a b : Bool) → (a || b) ≡ false → (a ≡ false) × (b ≡ false)
 neither true b none = absurd (true≢false none)

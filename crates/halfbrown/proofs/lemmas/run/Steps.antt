@@ -1,6 +1,7 @@
 -- What one step does to the form, and how often it hashes.
-use Rattle.std.proofs.Common.{◌≡◌, ◌∙◌, ℕ, ◌+◌, ◌*◌, ◌≤◌, Bool, true, false, true≢false, not, ◌&&◌, ◌||◌, ◌==◌, nat_le, length, None, Some}
+use Rattle.std.proofs.Common.{◌≡◌, ◌∙◌, ℕ, ◌+◌, ◌*◌, ◌≤◌, Bool, true, false, not, ◌&&◌, ◌||◌, ◌==◌, nat_le, length, None, Some}
 use Rattle.std.proofs.Common.{unwrap_or, ap, sym, refl, subst, arith, if◌then◌else◌}
+use Rattle.std.proofs.lemmas.Grind.{common_steps}
 use Rattle.std.specs.Prelude.{MatchBool}
 use Rattle.half_store.specs.declared.refusal.Refusal.{Refusal}
 use Rattle.halfbrown.specs.declared.run.Command.{Command}
@@ -20,24 +21,18 @@ use Rattle.halfbrown.specs.Step.{form_changed}
 
 -- the form after a put
 put_form : (v full : Bool) → (v && not full) ≡ unwrap_or (if full then Some false else None) v
-put_form true true = refl
-put_form true false = refl
-put_form false true = refl
-put_form false false = refl
+put_form v full = grind (arith, common_steps)
 
 -- the form after `Shrink`
 shrunk_form : (v fits : Bool) → (v || fits) ≡ unwrap_or (if not v && fits then Some true else None) v
-shrunk_form true fits = refl
-shrunk_form false true = refl
-shrunk_form false false = refl
+shrunk_form v fits = grind (arith, common_steps)
 
 -- the most keys that a command hashes: two, but none in a vector, and all at the switch
 abbrev pub most_asked : ℕ → Bool → Bool → ℕ
 most_asked limit switches is_vec = if switches then limit + 2 else if is_vec then 0 else 2
 
 search_most : (limit : ℕ) (v : Bool) → search_asked v ≤ most_asked limit false v
-search_most limit true = omega arith
-search_most limit false = omega arith
+search_most limit v = grind (arith, common_steps)
 
 -- the keys that an insertion hashes
 abbrev inserted : ℕ → Bool → Bool → Bool → ℕ
@@ -45,31 +40,18 @@ inserted limit v long granted =
     if (v && long) && not granted then 0 else ((if v && long then limit else 0) + search_asked (v && not (v && long)))
 
 insert_most : (limit : ℕ) (v long granted : Bool) → inserted limit v long granted ≤ most_asked limit (granted && (v && long)) v
-insert_most limit true true true = omega arith
-insert_most limit true true false = omega arith
-insert_most limit true false true = omega arith
-insert_most limit true false false = omega arith
-insert_most limit false long true = omega arith
-insert_most limit false long false = omega arith
+insert_most limit v long granted = grind (arith, common_steps)
 
 -- a search, and then an insertion
 searched_most : (limit : ℕ) (v long granted : Bool)
     → search_asked v + inserted limit v long granted ≤ most_asked limit (granted && (v && long)) v
-searched_most limit true long granted = omega (arith, insert_most limit true long granted)
-searched_most limit false long true = omega arith
-searched_most limit false long false = omega arith
+searched_most limit v long granted = grind (arith, common_steps)
 
 raw_most : (limit : ℕ) (v long granted held : Bool)
     → (let hash : ℕ = search_asked (v && not (v && long)) in
-    if granted then (if v && long then limit else 0) + hash + (if held then 0 else hash) else 0)
+    if not granted then 0 else ((if v && long then limit else 0) + ((if held then 0 else hash) + hash)))
     ≤ most_asked limit (granted && (v && long)) v
-raw_most limit v long false held = omega arith
-raw_most limit true true true true = omega arith
-raw_most limit true true true false = omega arith
-raw_most limit true false true true = omega arith
-raw_most limit true false true false = omega arith
-raw_most limit false long true true = omega arith
-raw_most limit false long true false = omega arith
+raw_most limit v long granted held = grind (arith, common_steps)
 
 pub and_false : (b : Bool) → (b && false) ≡ false
 and_false true = refl
@@ -90,12 +72,7 @@ pub record PaysTwo (limit count asked : ℕ) (was is : Bool) : Type 0 where
 
 pays_two : (limit asked : ℕ) (v long puts : Bool) → asked ≤ most_asked limit (puts && (v && long)) v
     → PaysTwo limit 1 asked v (v && not (puts && (v && long)))
-pays_two limit asked true true true most = record { vector = λ e. absurd (true≢false (sym e)); all = omega arith }
-pays_two limit asked true true false most = record { vector = λ e. (refl, omega arith); all = omega arith }
-pays_two limit asked true false true most = record { vector = λ e. (refl, omega arith); all = omega arith }
-pays_two limit asked true false false most = record { vector = λ e. (refl, omega arith); all = omega arith }
-pays_two limit asked false long true most = record { vector = λ e. absurd (true≢false (sym e)); all = omega arith }
-pays_two limit asked false long false most = record { vector = λ e. absurd (true≢false (sym e)); all = omega arith }
+pays_two limit asked v long puts most = record { vector = λ e. (grind (arith, common_steps), grind (arith, common_steps)); all = grind (arith, common_steps) }
 
 module _ {K V S : Type 0} (limit : ℕ) (eq : K → K → Bool) where
   -- the form after a command, by its reply

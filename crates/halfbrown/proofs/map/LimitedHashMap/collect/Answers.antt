@@ -4,7 +4,7 @@ use Rattle.halfbrown.specs.Collection.{Gives, IsRefusedInsertion}
 use Rattle.halfbrown.specs.Costs.{key_hash, no_cost}
 use Rattle.halfbrown.specs.Making.{IsMade}
 use Rattle.halfbrown.proofs.lemmas.map.Collect.{at_error, collection_of, inserts_asked, inserts_state}
-use Rattle.halfbrown.proofs.lemmas.run.Runs.{spent_none}
+use Rattle.halfbrown.proofs.lemmas.map.Costs.{spent_none}
 use Rattle.halfbrown.proofs.map.LimitedHashMap.collect.Goals as goal
 
 pub returns-in_err-map-clause-refused : goal.returns-in_err-map-clause-refused
