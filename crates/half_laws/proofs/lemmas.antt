@@ -1,3 +1,6 @@
 -- Lemmas, by the module of src/ whose functions need them.
+pub mod crowding
+pub mod equality
+pub mod probes
 pub mod runs
 pub mod searches

@@ -1,8 +1,9 @@
+pub mod ComparisonLaws
 pub mod MapLaws
+pub mod ProbeLaws
 pub mod RunLaws
 -- What callers need of the words below, so that they list this crate alone.
 pub use Rattle.half_store.specs.Capacity
-pub use Rattle.half_store.specs.TableLaws
 pub use Rattle.half_store.specs.Work
 pub use Rattle.halfbrown.specs.Costs
 pub use Rattle.halfbrown.specs.Growth

@@ -16,7 +16,6 @@ pub mod Slots
 pub mod Store
 pub mod StoreLending
 pub mod Table
-pub mod TableLaws
 pub mod TableLayout
 pub mod TableSearch
 pub mod Words

@@ -15,7 +15,6 @@ ghost use Rattle.half_store.specs.TableSearch.{FindsInTable, RemovesFromTable};
 
 mod deletion;
 mod find;
-pub mod laws;
 mod memory;
 pub mod probe;
 mod rehash;

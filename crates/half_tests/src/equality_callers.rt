@@ -3,7 +3,8 @@ ghost use Rattle.std.specs.Prelude.{◌≡◌, ◌+◌, true, false, nat_eq, len
 ghost use Rattle.halfbrown.specs.Equality.{same_pairs};
 ghost use Rattle.halfbrown.specs.Pairs.{value_of};
 
-use halfbrown::{Limit, LimitedHashMap, Tally, laws};
+use half_laws::equality::{cost_of_equality, equality_of_maps};
+use halfbrown::{Limit, LimitedHashMap, Tally};
 use std::hash::{BuildHasher, Hash};
 
 /// Whether two maps give each name the same age.
@@ -13,7 +14,7 @@ pub fn same_ages<S: BuildHasher, T: BuildHasher, L: Limit, M: Limit>(
 ) -> bool
     ensures { IsTrue result → (name : _) → value_of nat_eq ours.now.pairs name ≡ value_of nat_eq theirs.now.pairs name }
 {
-    laws::equality::<u64, u32>();
+    equality_of_maps::<u64, u32>();
     ours.same_pairs(theirs)
 }
 
@@ -26,7 +27,7 @@ pub fn all_same<K: Eq + Hash, V: PartialEq, S: BuildHasher, L: Limit>(
     ensures same { IsTrue result → IsTrue (same_pairs K.eq V.eq first.now.pairs third.now.pairs) }
     ensures back { IsTrue result → IsTrue (same_pairs K.eq V.eq third.now.pairs first.now.pairs) }
 {
-    laws::equality::<K, V>();
+    equality_of_maps::<K, V>();
     *first == *second && *second == *third
 }
 
@@ -41,7 +42,7 @@ pub fn is_stored<K: Eq + Hash, V: PartialEq, S: BuildHasher, L: Limit, M: Limit>
     ensures in_a_table { stored.now.is_vec ≡ false → IsTrue result
         → tally.new.asked ≡ tally.old.asked + length map.now.pairs }
 {
-    laws::cost_of_equality::<K, V, S>();
+    cost_of_equality::<K, V, S>();
     // These tell the prover what holds of every map, and do nothing.
     let _ = map.len();
     let _ = stored.len();

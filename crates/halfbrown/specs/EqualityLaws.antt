@@ -1,16 +1,14 @@
 -- What holds of the equality of lists of pairs, and what follows of its cost.
-use Rattle.std.specs.Prelude.{◌≡◌, ◌≢◌, ℕ, ◌+◌, ◌*◌, ◌≤◌, Bool, true, ◌⊎◌, List, [], ◌∷◌, length, Option, None, Some, IsTrue, IsPermutation, ◌↔◌, refl}
+use Rattle.std.specs.Prelude.{◌≡◌, Bool, true, ◌⊎◌, List, [], ◌∷◌, Option, None, Some, IsTrue, refl}
 use Rattle.std.specs.Bool.{Decides, one_answer}
 use Rattle.std.specs.Cmp.{IsEquivalence, IsPartialEquivalence, equiv, partial_equiv_from_equiv}
 use Rattle.std.specs.HashMap.Eq.{lookup_congr}
-use Rattle.std.specs.List.{IsDistinct, list_all}
+use Rattle.std.specs.List.{list_all}
 use Rattle.std.specs.Map.{keys_of, lookup}
 use Rattle.std.specs.Option.{option_eq}
 use Rattle.std.proofs.Common.{cond, true≢false, sym, ap, ◌∙◌, inl, inr}
 use Rattle.std.proofs.lemmas.Bool.{and_parts, and_from, cases_Bool}
-use Rattle.half_store.specs.Work.{Work}
-use Rattle.halfbrown.specs.Costs.{search_asked, SearchesCost}
-use Rattle.halfbrown.specs.Equality.{same_pairs, same_value, holds_pair, searched_keys}
+use Rattle.halfbrown.specs.Equality.{same_pairs, same_value}
 use Rattle.halfbrown.specs.Pairs.{value_of}
 use Rattle.halfbrown.specs.State.{State}
 
@@ -26,38 +24,6 @@ module _ {K V : Type 0} (eq : K → K → Bool) (value_eq : V → V → Bool) wh
   -- two lists that are equal to a third are equal
   abbrev pub TransitiveLaw : Type 0
   TransitiveLaw = (left middle right : List (K × V)) → IsTrue (same_pairs eq value_eq left middle) → IsTrue (same_pairs eq value_eq middle right) → IsTrue (same_pairs eq value_eq left right)
-
-  -- two lists are equal exactly where each key has equal values in both
-  abbrev pub ValuesLaw : Type 0
-  ValuesLaw = (left right : List (K × V)) → IsTrue (same_pairs eq value_eq left right) ↔ ((k : K) → IsTrue (same_value eq value_eq left right k))
-
-  -- two lists of distinct keys are equal exactly where their lengths agree and the right holds each pair of the left
-  abbrev pub PairsLaw : Type 0
-  PairsLaw = (left right : List (K × V)) → IsDistinct eq (keys_of left) → IsDistinct eq (keys_of right)
-      → IsTrue (same_pairs eq value_eq left right) ↔ ((length left ≡ length right) × IsTrue (list_all (holds_pair eq value_eq right) left))
-
-  -- the order of pairs of distinct keys does not matter
-  abbrev pub OrderLaw : Type 0
-  OrderLaw = (pairs reordered other : List (K × V)) → IsDistinct eq (keys_of pairs) → IsPermutation pairs reordered → same_pairs eq value_eq reordered other ≡ same_pairs eq value_eq pairs other
-
-module _ {K V S : Type 0} (eq : K → K → Bool) (value_eq : V → V → Bool) where
-  -- the cost in numbers of the searches in a map for the keys of the left pairs: nothing where the lengths differ; else a hash for each search
-  -- in a table, and none in a vector, and in all no more hashes, comparisons and buckets than this
-  pub record ComparisonCosts (left : List (K × V)) (m : State K V S) (before after : Work) : Type 0 where
-    pub lengths_differ : length left ≢ length m.pairs → after ≡ before
-    pub asked : after.asked ≡ before.asked + search_asked m.is_vec * length (searched_keys eq value_eq left m.pairs)
-    pub asked_in_a_vector : m.is_vec ≡ true → after.asked ≡ before.asked
-    pub asked_at_most : after.asked ≤ before.asked + length left
-    pub asked_where_same : IsDistinct eq (keys_of left) → IsDistinct eq (keys_of m.pairs) → IsTrue (same_pairs eq value_eq left m.pairs)
-        → after.asked ≡ before.asked + search_asked m.is_vec * length left
-    pub compared_at_most : after.compared ≤ before.compared + length left * length m.pairs
-    pub looked_in_a_vector : m.is_vec ≡ true → after.looked ≡ before.looked
-    pub looked_at_most : after.looked ≤ before.looked + length left * (length m.pairs + 1)
-
-  -- a comparison that made these searches cost so much
-  abbrev pub ComparisonLaw : (S → K → ℕ) → Type 0
-  ComparisonLaw hash = (left : List (K × V)) (m : State K V S) (before after : Work)
-      → SearchesCost eq hash m (searched_keys eq value_eq left m.pairs) before after → ComparisonCosts left m before after
 
 module _ {K : Type 0} (test : K → Bool) where
   all_from_each : ((k : K) → test k ≡ true) → (ks : List K) → list_all test ks ≡ true

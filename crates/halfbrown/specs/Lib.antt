@@ -40,5 +40,4 @@ pub use Rattle.half_store.specs.Replaced
 pub use Rattle.half_store.specs.Search
 pub use Rattle.half_store.specs.Store
 pub use Rattle.half_store.specs.Table
-pub use Rattle.half_store.specs.TableLaws
 pub use Rattle.half_store.specs.Work

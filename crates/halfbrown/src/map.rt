@@ -16,7 +16,6 @@ mod index;
 mod insert;
 mod into_iter;
 mod iter;
-pub mod laws;
 mod make;
 mod prepare;
 mod remove;

@@ -15,7 +15,7 @@ use Rattle.half_store.specs.Table.{Contents}
 use Rattle.half_store.specs.Work.{Work, first_match_cost}
 use Rattle.half_store.proofs.lemmas.table.Reach.{reach-none}
 use Rattle.half_store.proofs.lemmas.capacity.{four-le_count, buckets_for-least, buckets_of-capacity_of, capacity_for-capacity_of}
-use Rattle.half_store.proofs.lemmas.table.Laws.{history_law as reach_history, crowding_law}
+use Rattle.half_laws.proofs.lemmas.probes.{history_law as reach_history, crowding_law}
 use Rattle.halfbrown.specs.declared.run.Command.{Command}
 use Rattle.halfbrown.specs.declared.run.Command.TheVariants.{Insert, InsertNew, EntryOrInsert, RawOrInsert, Get, Remove}
 use Rattle.halfbrown.specs.Costs.{Range, Cost, GrewBy, GrewWithin, exactly, between, add_ranges, no_cost, search_asked, candidates}

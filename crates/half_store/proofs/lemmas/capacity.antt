@@ -111,15 +111,6 @@ buckets_for-grown m c =
       least = λ o is s. more_buckets-least m o c is (capacity_of-below m o (omega arith));
     })
 
--- a bucket count below 2^63 is at most 2^62
-pub count-le : (m : ℕ) → IsBucketCount m → m < 2 ^ 63 → m ≤ 2 ^ 62
-count-le m (inl e) h = omega arith
-count-le m (inr (k, two, e)) h =
-    elim (cases_lt k 63) [
-      | inl l ↦ let low : k ≤ 62 = omega arith in let p : 2 ^ k ≤ 2 ^ 62 = pow-le-pow_right {n = 2} (omega arith) low in omega arith
-      | inr ge ↦ let p : 2 ^ 63 ≤ 2 ^ k = pow-le-pow_right {n = 2} (omega arith) ge in absurd (omega arith)
-    ]
-
 -- the capacity of a bucket count is one of the series
 pub capacity_for-capacity_of : (m : ℕ) → IsBucketCount m → capacity_of m ≡ capacity_for (capacity_of m)
 capacity_for-capacity_of m count =

@@ -2,10 +2,8 @@
 pub mod Buckets
 pub mod Circle
 pub mod Counts
-pub mod Crowding
 pub mod Deletion
 pub mod Find
-pub mod Laws
 pub mod Layout
 pub mod Mask
 pub mod Probe

@@ -15,7 +15,7 @@ impl<K: Eq + Hash, V: PartialEq, S: BuildHasher, L: Limit> LimitedHashMap<K, V, 
     /// another builder and another form.
     ///
     /// Where the lengths differ it costs nothing. Else it costs at most one search in the other map for each pair of
-    /// this one. `laws::equality` says what follows from the answer.
+    /// this one. The crate `half_laws` says what follows from the answer, and bounds its cost.
     ///
     /// ```
     /// let theirs = SizedHashMap::<u64, u32, DefaultHashBuilder, 0>::from_array(alloc, [(2, 41), (1, 36)])?;
@@ -31,7 +31,6 @@ impl<K: Eq + Hash, V: PartialEq, S: BuildHasher, L: Limit> LimitedHashMap<K, V, 
 
     /// `same_pairs`, with its work counted: nothing where the lengths differ, else one search in the other map for each
     /// pair of this one, in order, up to the first that is not held there. Comparisons of values are not counted.
-    /// `laws::cost_of_equality` has bounds.
     pub fn same_pairs_counted<S2: BuildHasher, M: Limit>(
         &self,
         other: &LimitedHashMap<K, V, S2, M>,

@@ -1,5 +1,5 @@
 -- What stays true of a store whose columns change.
-use Rattle.std.proofs.Common.{◌≡◌, ℕ, zero, suc, ◌≤◌, List, [], ◌∷◌, length, Option, None, Some, true, is_none, if◌then◌else◌, refl, sym}
+use Rattle.std.proofs.Common.{◌≡◌, ℕ, zero, suc, ◌≤◌, List, [], ◌∷◌, length, Option, None, Some, is_none, if◌then◌else◌, refl, sym}
 use Rattle.std.proofs.Common.{ap, subst, ◌∙◌}
 use Rattle.std.proofs.lemmas.Option.{same_Some}
 use Rattle.std.specs.Borrow.{Bor}
@@ -30,12 +30,6 @@ module _ {K V : Type 0} where
   pub vector_view : (columns : Columns K V) {index : Option TableState} {s : StoreState K V} → index ≡ None → store_of columns index ≡ s
       → vector_of columns ≡ s
   vector_view columns is view = ap (store_of columns) (sym is) ∙ view
-
-  -- a store that is a vector has none
-  pub no_index : (columns : Columns K V) (index : Option TableState) {s : StoreState K V} → store_of columns index ≡ s → s.is_vec ≡ true
-      → index ≡ None
-  no_index columns None view is = refl
-  no_index columns (Some t) view is = absurd (cc (ap (λ s. s.is_vec) view, is))
 
   -- and with one a table of both
   pub table_view : (columns : Columns K V) (t : TableState) {index : Option TableState} {s : StoreState K V} → index ≡ Some t

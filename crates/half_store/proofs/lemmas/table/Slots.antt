@@ -1,7 +1,7 @@
 -- Full buckets are loaded, empty ones are not; so a probe ends where `reach` says.
 use Rattle.std.proofs.Common.{◌≡◌, ◌≢◌, ℕ, zero, suc, ◌+◌, ◌-◌, ◌<◌, ◌≤◌, Bool, true, false, ltb, nat_lt, ◌⊎◌, inl, inr, refl, sym, ap, ◌∙◌}
 use Rattle.std.proofs.Common.{subst, arith, List, length, set, Option, Some, None, is_some, count_by}
-use Rattle.std.proofs.lemmas.Bool.{cases_lt, cases_eq, lt-ltb, false≢true, true≢false}
+use Rattle.std.proofs.lemmas.Bool.{cases_lt, cases_eq, lt-ltb, false≢true}
 use Rattle.std.proofs.lemmas.Nat.{mod_below}
 use Rattle.std.proofs.lemmas.List.{get_or_past, get_or-set_same, get_or-set_other}
 use borrow.Author.Tests.{ltb-true}
@@ -24,11 +24,7 @@ some≢none h e = cc
 pub full_from : (o : Option ℕ) (h : ℕ) → o ≡ Some h → o ≢ None
 full_from o h e z = some≢none h (sym e ∙ z)
 
--- a bucket that was read is empty, or full
-pub none_read : (o : Option (ℕ × ℕ)) {slot : Option ℕ} → option_map (λ p. p.1) o ≡ slot → is_some o ≡ false → slot ≡ None
-none_read None e none = sym e
-none_read (Some p) e none = absurd (true≢false none)
-
+-- a bucket that was read is full
 pub some_read : (o : Option (ℕ × ℕ)) {slot : Option ℕ} → option_map (λ p. p.1) o ≡ slot → is_some o ≡ true → slot ≢ None
 some_read None e some z = false≢true some
 some_read (Some p) e some z = some≢none p.1 (e ∙ z)

@@ -1,4 +1,4 @@
-use Rattle.std.proofs.Common.{◌≡◌, Ok, Err, refl, subst, arith}
+use Rattle.std.proofs.Common.{Ok, Err, refl, subst, arith}
 use Rattle.std.specs.Fn.{FnReturnsAt}
 use Rattle.half_store.specs.Buckets.{slots_by}
 use Rattle.half_store.specs.Search.{ReturnsAt}

@@ -1,4 +1,4 @@
-use Rattle.std.proofs.Common.{below_more, ap, ◌∙◌, arith, rules}
+use Rattle.std.proofs.Common.{below_more, arith, rules}
 use Rattle.std.specs.Fn.{FnReturnsAt}
 use Rattle.half_store.proofs.lemmas.counting.{returned_at}
 use Rattle.half_store.proofs.vecmap.search.first_match.Goals as goal

@@ -1,6 +1,6 @@
 use Rattle.halfbrown.specs.EqualityLaws.{reflexive, symmetric, transitive, same_pairs-Decides}
-use Rattle.halfbrown.proofs.lemmas.map.Equality.{order_law, pairs_law}
-use Rattle.halfbrown.proofs.map.laws.equality.Goals as goal
+use Rattle.half_laws.proofs.lemmas.equality.{order_law, pairs_law}
+use Rattle.half_laws.proofs.equality.equality_of_maps.Goals as goal
 
 pub returns-clause-reflexive : goal.returns-clause-reflexive
 returns-clause-reflexive g c = reflexive g.K.PartialEq.eq g.V.PartialEq.eq g.met.K.Eq.laws

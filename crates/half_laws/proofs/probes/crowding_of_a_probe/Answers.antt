@@ -1,5 +1,5 @@
-use Rattle.half_store.proofs.lemmas.table.Laws.{crowding_law, stops_law}
-use Rattle.half_store.proofs.table.laws.crowding_of_a_probe.Goals as goal
+use Rattle.half_laws.proofs.lemmas.probes.{crowding_law, stops_law}
+use Rattle.half_laws.proofs.probes.crowding_of_a_probe.Goals as goal
 
 pub returns-clause-crowded : goal.returns-clause-crowded
 returns-clause-crowded c = crowding_law

@@ -1,6 +1,6 @@
 //! What holds of `reach` for every list of held hashes. These functions do nothing: the laws are their contracts.
-ghost use Rattle.half_store.specs.TableLaws.{ReachHistoryLaw, NoBucketsLaw, NothingHeldLaw, OneBucketLaw, SharedHomeLaw};
-ghost use Rattle.half_store.specs.TableLaws.{ShortLaw, OnceRoundLaw, StopsLaw, CrowdingLaw};
+ghost use Rattle.half_laws.specs.ProbeLaws.{ReachHistoryLaw, NoBucketsLaw, NothingHeldLaw, OneBucketLaw, SharedHomeLaw};
+ghost use Rattle.half_laws.specs.ProbeLaws.{ShortLaw, OnceRoundLaw, StopsLaw, CrowdingLaw};
 
 /// The held hashes and the number of buckets decide how many buckets a probe reads. Their order decides nothing, and so
 /// neither does what was added and removed before.

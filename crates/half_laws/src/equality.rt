@@ -1,13 +1,14 @@
 //! What holds of equality. These functions do nothing: the laws are their contracts.
 ghost use Rattle.halfbrown.specs.Costs.{key_hash};
-ghost use Rattle.halfbrown.specs.EqualityLaws.{ReflexiveLaw, SymmetricLaw, TransitiveLaw, ValuesLaw, PairsLaw, OrderLaw, ComparisonLaw};
+ghost use Rattle.halfbrown.specs.EqualityLaws.{ReflexiveLaw, SymmetricLaw, TransitiveLaw};
+ghost use Rattle.half_laws.specs.ComparisonLaws.{ValuesLaw, PairsLaw, OrderLaw, ComparisonLaw};
 
 use std::hash::{BuildHasher, Hash};
 
 /// Holding the same pairs is an equivalence of maps where equality of their values is one, also across limits, builders
 /// and forms. None of these decides it, nor does the order of the pairs. The value of each key decides it, or, where
 /// the lengths agree, that one map holds each pair of the other.
-pub fn equality<K: Eq + Hash, V: PartialEq>()
+pub fn equality_of_maps<K: Eq + Hash, V: PartialEq>()
     ensures reflexive { ReflexiveLaw K.eq V.eq }
     ensures symmetric { SymmetricLaw K.eq V.eq }
     ensures transitive { TransitiveLaw K.eq V.eq }

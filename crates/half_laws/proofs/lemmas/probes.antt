@@ -5,11 +5,11 @@ use Rattle.std.proofs.lemmas.Bool.{cases_lt, cases_eq, cases_Bool, lt-ltb, both_
 use Rattle.std.proofs.lemmas.List.Sorted.{sum_by-IsPermutation}
 use Rattle.std.proofs.lemmas.List.Sums.{get_or-le-sum_by}
 use Rattle.half_store.specs.Reach.{home, probe_distance, bucket_after, load, loaded_within, is_loaded, loaded_run, reach, IsLoaded}
-use Rattle.half_store.specs.TableLaws.{IsCrowded, PassesLoaded, ReachHistoryLaw, NoBucketsLaw, NothingHeldLaw, OneBucketLaw, SharedHomeLaw}
-use Rattle.half_store.specs.TableLaws.{ShortLaw, OnceRoundLaw, CrowdingLaw, StopsLaw}
+use Rattle.half_laws.specs.ProbeLaws.{IsCrowded, PassesLoaded, ReachHistoryLaw, NoBucketsLaw, NothingHeldLaw, OneBucketLaw, SharedHomeLaw}
+use Rattle.half_laws.specs.ProbeLaws.{ShortLaw, OnceRoundLaw, CrowdingLaw, StopsLaw}
 use Rattle.half_store.proofs.lemmas.table.Circle.{distance_is, distance_self, after_is, bucket_after-zero, after_next, bucket_after-lt}
 use Rattle.half_store.proofs.lemmas.table.Counts.{tick, tick_yes}
-use Rattle.half_store.proofs.lemmas.table.Crowding.{load-le, loaded_from, run_leads}
+use Rattle.half_laws.proofs.lemmas.crowding.{load-le, loaded_from, run_leads}
 use Rattle.half_store.proofs.lemmas.table.Reach.{is_loaded-yes, loaded_run-is, reach-none, reach-some}
 use Rattle.half_store.proofs.lemmas.table.Slots.{home-lt}
 

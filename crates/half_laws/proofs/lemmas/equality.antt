@@ -1,0 +1,174 @@
+-- What decides the equality of maps, and what the searches of a comparison cost together.
+use Rattle.std.proofs.Common.{◌≡◌, ℕ, ◌≤◌, Bool, true, false, cond, List, [], ◌∷◌, length, Option, None}
+use Rattle.std.proofs.Common.{Some, is_some, refl, sym, ap, ◌∙◌, arith, ◌+◌, ◌-◌, ◌*◌, ◌==◌, subst}
+use Rattle.std.specs.Bool.{one_answer}
+use Rattle.std.specs.Cmp.{IsEquivalence}
+use Rattle.std.specs.List.{IsDistinct, list_all}
+use Rattle.std.specs.Map.{keys_of}
+use Rattle.std.specs.Option.{option_eq}
+use Rattle.std.proofs.lemmas.Bool.{and_parts}
+use Rattle.std.proofs.lemmas.List.Sums.{count_by-le-length}
+use Rattle.std.proofs.lemmas.Map.Entries.{length-keys_of}
+use Rattle.halfbrown.specs.Equality.{same_pairs, holds_pair, keys_while_same, searched_keys}
+use Rattle.halfbrown.specs.EqualityLaws.{same_pairs-Decides}
+use Rattle.half_laws.specs.ComparisonLaws.{OrderLaw, PairsLaw, ComparisonLaw}
+use Rattle.halfbrown.proofs.lemmas.map.Equality.{same_pairs-by_pairs, all_searched, none_searched}
+use Rattle.halfbrown.specs.Pairs.{value_of}
+use Rattle.halfbrown.proofs.CallerLemmas.{lookup_permuted}
+use Rattle.std.proofs.Math.Nat.{mul-le-mul_left}
+use Rattle.half_store.specs.Pairs.{index_of}
+use Rattle.half_store.specs.Work.{Work, first_match_cost}
+use Rattle.halfbrown.specs.Costs.{Range, between, candidates, exactly, probe_length, search_asked, KeySearchCosts, SearchesCost}
+use Rattle.halfbrown.specs.State.{State}
+use Rattle.halfbrown.proofs.lemmas.pairs.Indices.{first_of_index, first_within}
+
+module _ {K V : Type 0} (eq : K → K → Bool) (value_eq : V → V → Bool) (laws : IsEquivalence eq) where
+  pub pairs_law : PairsLaw eq value_eq
+  pairs_law = same_pairs-by_pairs eq value_eq laws
+
+  pub order_law : OrderLaw eq value_eq
+  order_law pairs reordered other distinct permuted =
+      let same = λ (k : K). ap (λ v. option_eq value_eq v (value_of eq other k))
+      (lookup_permuted eq laws pairs reordered distinct permuted k) in
+      one_answer (same_pairs eq value_eq reordered other) (same_pairs eq value_eq pairs other)
+      (same_pairs-Decides eq value_eq laws reordered other) (
+        λ as_pairs k. same k ∙ (same_pairs-Decides eq value_eq laws pairs other).0 as_pairs k,
+        λ each. (same_pairs-Decides eq value_eq laws pairs other).1 (λ k. sym (same k) ∙ each k),
+      )
+
+-- a search in a list compares at most all keys
+comparisons_most : {K V : Type 0} (test : K → Bool) (pairs : List (K × V)) (found : Option ℕ) → index_of test (keys_of pairs) ≡ found
+    → first_match_cost found (length pairs) ≤ length pairs
+comparisons_most test pairs None is = omega arith
+comparisons_most test pairs (Some i) is =
+    omega (arith, first_within test (keys_of pairs) i (first_of_index test (keys_of pairs) i is), length-keys_of pairs)
+
+compares_most : (is_vec held : Bool) (in_order candidates most : ℕ) → in_order ≤ most → candidates ≤ most
+    → (cond is_vec (exactly in_order) (cond held (between 1 candidates) (exactly candidates))).most ≤ most
+compares_most true held in_order candidates most vector table = vector
+compares_most false true in_order candidates most vector table = table
+compares_most false false in_order candidates most vector table = table
+
+looks_most : (is_vec held : Bool) (probe : ℕ) → (cond is_vec (exactly 0) (cond held (between 1 (probe - 1)) (exactly probe))).most ≤ probe
+looks_most true held probe = omega arith
+looks_most false true probe = omega arith
+looks_most false false probe = omega arith
+
+looks_none : (is_vec : Bool) (searched : Range) → is_vec ≡ true → (cond is_vec (exactly 0) searched).most ≡ 0
+looks_none is_vec searched vector = ap (λ b. (cond b (exactly 0) searched).most) vector
+
+module _ {K V S : Type 0} (eq : K → K → Bool) (hash : S → K → ℕ) (m : State K V S) where
+  none_cost : (before after : Work) → SearchesCost eq hash m [] before after → after ≡ before
+  unfolding SearchesCost
+  none_cost before after costs = costs
+
+  one_compares : (k : K) (before after : Work) → KeySearchCosts eq hash m k before after → after.compared ≤ before.compared + length m.pairs
+  one_compares k before after costs =
+      let found = index_of (eq k) (keys_of m.pairs) in
+      let few = count_by-le-length (λ q. hash m.builder q == hash m.builder k) (keys_of m.pairs) in
+      let most = compares_most m.is_vec (is_some found) (first_match_cost found (length m.pairs))
+      (candidates (hash m.builder) m.pairs (hash m.builder k)) (length m.pairs)
+      (comparisons_most (eq k) m.pairs found refl) (omega (arith, few, length-keys_of m.pairs)) in
+      omega (arith, costs.grew.compared.most, most)
+
+  one_looks : (k : K) (before after : Work) → KeySearchCosts eq hash m k before after → after.looked ≤ before.looked + (length m.pairs + 1)
+  one_looks k before after costs =
+      let most = looks_most m.is_vec (is_some (index_of (eq k) (keys_of m.pairs)))
+      (probe_length (hash m.builder) m.is_vec m.capacity m.pairs (hash m.builder k)) in
+      omega (arith, costs.grew.looked.most, most, costs.short)
+
+  asked_together : (ks : List K) (before after : Work) → SearchesCost eq hash m ks before after
+      → after.asked ≡ before.asked + search_asked m.is_vec * length ks
+  unfolding SearchesCost
+  asked_together [] before after costs = omega (arith, ap (λ w. w.asked) costs)
+  asked_together (k ∷ ks) before after costs =
+      omega (arith, costs.1.grew.asked, asked_together ks costs.0 after costs.2)
+
+  compared_together : (ks : List K) (before after : Work) → SearchesCost eq hash m ks before after
+      → after.compared ≤ before.compared + length ks * length m.pairs
+  unfolding SearchesCost
+  compared_together [] before after costs = omega (arith, ap (λ w. w.compared) costs)
+  compared_together (k ∷ ks) before after costs =
+      omega (arith, one_compares k before costs.0 costs.1, compared_together ks costs.0 after costs.2)
+
+  looked_together : (ks : List K) (before after : Work) → SearchesCost eq hash m ks before after
+      → after.looked ≤ before.looked + length ks * (length m.pairs + 1)
+  unfolding SearchesCost
+  looked_together [] before after costs = omega (arith, ap (λ w. w.looked) costs)
+  looked_together (k ∷ ks) before after costs =
+      omega (arith, one_looks k before costs.0 costs.1, looked_together ks costs.0 after costs.2)
+
+  -- in a vector no bucket is read
+  looked_in_vector : m.is_vec ≡ true → (ks : List K) (before after : Work) → SearchesCost eq hash m ks before after
+      → after.looked ≡ before.looked
+  unfolding SearchesCost
+  looked_in_vector vector [] before after costs = ap (λ w. w.looked) costs
+  looked_in_vector vector (k ∷ ks) before after costs =
+      let probe = probe_length (hash m.builder) m.is_vec m.capacity m.pairs (hash m.builder k) in
+      let none = looks_none m.is_vec (cond (is_some (index_of (eq k) (keys_of m.pairs))) (between 1 (probe - 1)) (exactly probe)) vector in
+      omega (arith, costs.1.grew.looked.least, costs.1.grew.looked.most, none, looked_in_vector vector ks costs.0 after costs.2)
+
+module _ {K V : Type 0} (eq : K → K → Bool) (value_eq : V → V → Bool) where
+  shorter_by : (held : Bool) (ks : List K) (n : ℕ) → length ks ≤ n → length (cond held ks []) ≤ n
+  shorter_by true ks n most = most
+  shorter_by false ks n most = omega arith
+
+  -- at most one search for each left pair
+  length_searched : (left right : List (K × V)) → length (keys_while_same eq value_eq left right) ≤ length left
+  length_searched [] right = omega arith
+  length_searched (p ∷ left) right =
+      omega (
+        arith,
+        shorter_by (holds_pair eq value_eq right p) (keys_while_same eq value_eq left right) (length left)
+            (length_searched left right),
+      )
+
+  searched_most : (left right : List (K × V)) → length (searched_keys eq value_eq left right) ≤ length left
+  searched_most left right =
+      shorter_by (length left == length right) (keys_while_same eq value_eq left right) (length left) (length_searched left right)
+
+  -- one for each, where all are held
+  length_all : (left right : List (K × V)) → list_all (holds_pair eq value_eq right) left ≡ true
+      → length (keys_while_same eq value_eq left right) ≡ length left
+  length_all [] right all = refl
+  length_all (p ∷ left) right all =
+      let both = and_parts (holds_pair eq value_eq right p) (list_all (holds_pair eq value_eq right) left) all in
+      omega (arith, ap (λ b. length (cond b (keys_while_same eq value_eq left right) [])) both.0, length_all left right both.1)
+
+-- one hash for each search at most
+asked_most : (is_vec : Bool) (searches most : ℕ) → searches ≤ most → search_asked is_vec * searches ≤ most
+asked_most true searches most within = omega arith
+asked_most false searches most within = omega (arith, within)
+
+asked_never : (is_vec : Bool) (searches : ℕ) → is_vec ≡ true → search_asked is_vec * searches ≡ 0
+asked_never is_vec searches vector = rw vector (omega arith)
+
+-- ---- what a comparison of two maps costs
+
+module _ {K V S : Type 0} (eq : K → K → Bool) (value_eq : V → V → Bool) (laws : IsEquivalence eq) (hash : S → K → ℕ) where
+  module _ (left : List (K × V)) (m : State K V S) where
+    all_are_searched : IsDistinct eq (keys_of left) → IsDistinct eq (keys_of m.pairs) → same_pairs eq value_eq left m.pairs ≡ true
+        → length (searched_keys eq value_eq left m.pairs) ≡ length left
+    all_are_searched left_distinct right_distinct same =
+        let both = (same_pairs-by_pairs eq value_eq laws left m.pairs left_distinct right_distinct).0 same in
+        sym (ap length (all_searched eq value_eq left m.pairs both.0)) ∙ length_all eq value_eq left m.pairs both.1
+
+  pub comparison_law : ComparisonLaw eq value_eq hash
+  comparison_law left m before after costs =
+      let searched = searched_keys eq value_eq left m.pairs in
+      let most = searched_most eq value_eq left m.pairs in
+      let asked = asked_together eq hash m searched before after costs in
+      let compared = compared_together eq hash m searched before after costs in
+      let looked = looked_together eq hash m searched before after costs in
+      record {
+        lengths_differ = λ differ. none_cost eq hash m before after
+            (subst (λ ks. SearchesCost eq hash m ks before after) (sym (none_searched eq value_eq left m.pairs differ)) costs);
+        asked = asked;
+        asked_in_a_vector = λ vector. omega (arith, asked, asked_never m.is_vec (length searched) vector);
+        asked_at_most = omega (arith, asked, asked_most m.is_vec (length searched) (length left) most);
+        asked_where_same = λ left_distinct right_distinct same.
+            asked ∙ ap (λ n. before.asked + search_asked m.is_vec * n) (all_are_searched left m left_distinct right_distinct same);
+        compared_at_most = omega (arith, compared, mul-le-mul_left (length m.pairs) most);
+        looked_in_a_vector = λ vector. looked_in_vector eq hash m vector searched before after costs;
+        looked_at_most = omega (arith, looked, mul-le-mul_left (length m.pairs + 1) most);
+      }
