@@ -1,12 +1,12 @@
 //! The form of a map, a vector or a table, and what depends on it: the switch of a full vector, the hash of a key, and
 //! where a pair goes whose value was replaced. Nothing else asks for the form.
-ghost use Rattle.std.specs.Prelude.{◌≡◌, ◌+◌, ◌≤◌, ◌<◌, ◌^◌, ◌↔◌, true, false, [], length, map, max, IsTrue};
+ghost use Rattle.std.specs.Prelude.{◌≡◌, ◌≤◌, ◌<◌, ◌↔◌, true, false, [], length, map, IsTrue};
 ghost use Rattle.std.specs.Prelude.{OnOk, OnErr, IfErr, is_ok, if◌then◌else◌};
-ghost use Rattle.half_store.specs.Capacity.{capacity_for, capacity_of};
-ghost use Rattle.half_store.specs.Refusal.{refusal_of};
+ghost use Rattle.half_store.specs.Capacity.{capacity_of};
 ghost use Rattle.half_store.specs.Work.{asked_more};
-ghost use Rattle.halfbrown.specs.Costs.{key_hash, search_asked, switch_asked, capacity_switched};
-ghost use Rattle.halfbrown.specs.Growth.{is_full, is_vec_after, IsRefusal, IsGrantable, HasCapacityAfter, HasColumnsAfter, switch_needs};
+ghost use Rattle.halfbrown.specs.Costs.{key_hash, search_asked, switch_asked};
+ghost use Rattle.halfbrown.specs.Growth.{is_full, switch_needs, IsRefusal};
+ghost use Rattle.halfbrown.specs.Preparation.{Prepares};
 ghost use Rattle.halfbrown.specs.Replacement.{MovesLast};
 ghost use Rattle.halfbrown.specs.State.{IsState};
 
@@ -44,21 +44,14 @@ impl<K: Eq + Hash, V, S: BuildHasher, L: Limit> LimitedHashMap<K, V, S, L> {
     /// Makes a full vector a table. It gets capacity for all pairs and one more first, and only then hashes the keys.
     #[inline(always)]
     pub(crate) fn switch_if_full(&mut self, tally: &mut Tally) -> Result<(), Refusal>
-        ensures pairs { self.new.pairs ≡ self.old.pairs }
-        ensures builder { self.new.builder ≡ self.old.builder }
-        ensures form { OnOk result (self.new.is_vec ≡ is_vec_after L.LIMIT self.old) }
-        ensures capacity { OnOk result
-            (HasCapacityAfter L.LIMIT self.old (switch_needs L.LIMIT self.old) self.new) }
-        ensures columns { OnOk result
-            (HasColumnsAfter self.old (switch_needs L.LIMIT self.old) self.new) }
-        ensures switched { OnOk result (self.new.capacity ≡ capacity_switched L.LIMIT self.old) }
+        ensures ok { OnOk result
+            (Prepares L.LIMIT self.old (switch_needs L.LIMIT self.old) self.new) }
         ensures same { is_full L.LIMIT self.old ≡ false → self.new ≡ self.old }
         ensures not_full { OnOk result (is_full L.LIMIT self.new ≡ false) }
         ensures capacity_left { OnOk result (is_full L.LIMIT self.old ≡ true
             → length self.new.pairs < self.new.capacity) }
         ensures err { OnErr result (self.new ≡ self.old) }
         ensures refused { IfErr result (IsRefusal (switch_needs L.LIMIT self.old)) }
-        ensures granted { OnOk result (IsGrantable (switch_needs L.LIMIT self.old)) }
         ensures work { tally.new ≡ (if is_ok result
             then asked_more (switch_asked L.LIMIT self.old) tally.old else tally.old) }
         ensures state { IsState K.eq L.LIMIT self.new }
@@ -73,17 +66,13 @@ impl<K: Eq + Hash, V, S: BuildHasher, L: Limit> LimitedHashMap<K, V, S, L> {
     #[inline(never)]
     fn switch(&mut self, tally: &mut Tally) -> Result<(), Refusal>
         requires { is_full L.LIMIT self.old ≡ true }
-        ensures pairs { self.new.pairs ≡ self.old.pairs }
-        ensures builder { self.new.builder ≡ self.old.builder }
-        ensures form { OnOk result (self.new.is_vec ≡ false) }
-        ensures capacity { OnOk result (self.new.capacity ≡ capacity_for (L.LIMIT + 1)) }
-        ensures columns { OnOk result (self.new.columns ≡ max self.old.columns self.new.capacity) }
+        ensures ok { OnOk result
+            (Prepares L.LIMIT self.old (switch_needs L.LIMIT self.old) self.new) }
         ensures capacity_left { OnOk result (length self.new.pairs < self.new.capacity) }
         ensures err { OnErr result (self.new ≡ self.old) }
-        ensures refused { IfErr result (λ why. why ≡ refusal_of (L.LIMIT + 1)) }
-        ensures granted { OnOk result (L.LIMIT + 1 ≤ 2 ^ 60) }
-        ensures work { tally.new
-            ≡ (if is_ok result then asked_more L.LIMIT tally.old else tally.old) }
+        ensures refused { IfErr result (IsRefusal (switch_needs L.LIMIT self.old)) }
+        ensures work { tally.new ≡ (if is_ok result
+            then asked_more (switch_asked L.LIMIT self.old) tally.old else tally.old) }
         ensures state { IsState K.eq L.LIMIT self.new }
     {
         let needed = L::LIMIT.saturating_add(1);

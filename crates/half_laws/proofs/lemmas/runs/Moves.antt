@@ -12,9 +12,8 @@ use Rattle.halfbrown.specs.Run.{Lead, shrinks, commands_of}
 use Rattle.halfbrown.specs.State.{State, IsState, IsTableCapacity}
 use Rattle.halfbrown.specs.Step.{Step, IsStep, is_shrink}
 use Rattle.halfbrown.proofs.CallerLemmas.{len_put}
-use Rattle.halfbrown.proofs.lemmas.map.Growth.{full_len, form_stays}
+use Rattle.halfbrown.proofs.lemmas.map.Growth.{full_len, form_stays, and_false}
 use Rattle.halfbrown.proofs.lemmas.run.Runs.{neither}
-use Rattle.halfbrown.proofs.lemmas.run.Steps.{and_false}
 use Rattle.half_laws.specs.RunLaws.{MovesLaw, is_reserve, reserves, moved}
 use Rattle.half_laws.proofs.lemmas.runs.Memory.{first_of_both}
 use Rattle.half_laws.proofs.lemmas.runs.Changes.{IsDue, PutsDue, Changes, step_changes}

@@ -1,16 +1,31 @@
 -- A full vector holds as many pairs as the limit allows, and a form that is not full stays.
-use Rattle.std.proofs.Common.{◌≡◌, ℕ, Bool, true, false, ◌&&◌, ◌==◌, length, arith, true≢false, not, sym, ap, refl}
+use Rattle.std.proofs.Common.{◌≡◌, ◌∙◌, ℕ, ◌+◌, Bool, true, false, ◌&&◌, length, arith, not, sym, ap, refl}
+use Rattle.std.proofs.lemmas.Bool.{MatchBool-at_false}
 use Rattle.std.proofs.lemmas.Bool.Decides.{nat_tests}
-use Rattle.halfbrown.specs.Growth.{is_full}
+use Rattle.std.specs.Prelude.{Some, None, if◌then◌else◌}
+use Rattle.half_store.specs.Capacity.{capacity_for}
+use Rattle.halfbrown.specs.Costs.{capacity_switched}
+use Rattle.halfbrown.specs.Growth.{is_full, switch_needs, Grants}
+use Rattle.halfbrown.specs.Preparation.{Prepares}
 use Rattle.halfbrown.specs.State.{State}
 
-equal_of_both : (b : Bool) (n limit : ℕ) → (b && (n == limit)) ≡ true → n ≡ limit
-equal_of_both true n limit both = grind (arith, nat_tests)
-equal_of_both false n limit both = absurd (true≢false (sym both))
+pub and_false : (b : Bool) → (b && false) ≡ false
+and_false true = refl
+and_false false = refl
 
 pub full_len : {K V S : Type 0} (limit : ℕ) (m : State K V S) → is_full limit m ≡ true → length m.pairs ≡ limit
-full_len limit m full = equal_of_both m.is_vec (length m.pairs) limit full
+full_len limit m full = grind (arith, nat_tests)
 
 pub form_stays : (is_vec full : Bool) → full ≡ false → is_vec ≡ (is_vec && not full)
 form_stays true full e = ap not (sym e)
 form_stays false full e = refl
+
+module _ {K V S : Type 0} (limit : ℕ) (old new : State K V S) where
+  capacity_by : (full : Bool) → Grants limit (old.is_vec && not full) old (if full then Some (limit + 1) else None) new
+      → new.capacity ≡ (if full then capacity_for (limit + 1) else old.capacity)
+  capacity_by false granted = granted.capacity
+  capacity_by true granted = MatchBool-at_false _ _ (granted.form ∙ and_false old.is_vec) granted.capacity
+
+  -- the capacity once a granted switch is made
+  pub switched_capacity : Prepares limit old (switch_needs limit old) new → new.capacity ≡ capacity_switched limit old
+  switched_capacity = capacity_by (is_full limit old)

@@ -18,6 +18,7 @@ use Rattle.halfbrown.specs.RunCost.{command_cost}
 use Rattle.halfbrown.specs.State.{State}
 use Rattle.halfbrown.specs.Step.{command_needs, Steps, Leaves, granted_reply, is_refused, is_put, is_shrink, Step, IsStep, switches}
 use Rattle.halfbrown.specs.Step.{form_changed}
+use Rattle.halfbrown.proofs.lemmas.map.Growth.{and_false}
 
 -- the form after a put
 put_form : (v full : Bool) → (v && not full) ≡ unwrap_or (if full then Some false else None) v
@@ -52,10 +53,6 @@ raw_most : (limit : ℕ) (v long granted held : Bool)
     if not granted then 0 else ((if v && long then limit else 0) + ((if held then 0 else hash) + hash)))
     ≤ most_asked limit (granted && (v && long)) v
 raw_most limit v long granted held = grind (arith, common_steps)
-
-pub and_false : (b : Bool) → (b && false) ≡ false
-and_false true = refl
-and_false false = refl
 
 -- what is left to pay for a switch
 abbrev pub switch_left : ℕ → Bool → ℕ

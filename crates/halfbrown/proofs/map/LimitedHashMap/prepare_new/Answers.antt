@@ -17,7 +17,7 @@ returns-clause-ready g c =
     let now = c.make_capacity.new.self in
     record {
       absent = absent_of_unheld (eq key) now.pairs
-          (ap (λ ps. holds eq ps key) (prepared.ok.pairs ∙ c.switch_if_full.ensures.pairs) ∙ c.requires);
+          (ap (λ ps. holds eq ps key) (prepared.ok.pairs ∙ c.in_ok-switch_if_full.ensures.ok.pairs) ∙ c.requires);
       capacity = prepared.capacity;
       vacant = vacancy_for now.is_vec (contents_of now) c.hash_in_table-hash.result (hash now.builder key)
           (λ form.
