@@ -1,5 +1,6 @@
 -- What decides the equality of maps, and what the searches of a comparison cost together.
 use Rattle.std.proofs.Common.{◌≡◌, ℕ, ◌≤◌, Bool, true, false, cond, List, [], ◌∷◌, length, Option, None}
+use Rattle.std.proofs.lemmas.Grind.{common_steps}
 use Rattle.std.proofs.Common.{Some, is_some, refl, sym, ap, ◌∙◌, arith, ◌+◌, ◌-◌, ◌*◌, ◌==◌, subst}
 use Rattle.std.specs.Bool.{one_answer}
 use Rattle.std.specs.Cmp.{IsEquivalence}
@@ -45,14 +46,10 @@ comparisons_most test pairs (Some i) is =
 
 compares_most : (is_vec held : Bool) (in_order candidates most : ℕ) → in_order ≤ most → candidates ≤ most
     → (cond is_vec (exactly in_order) (cond held (between 1 candidates) (exactly candidates))).most ≤ most
-compares_most true held in_order candidates most vector table = vector
-compares_most false true in_order candidates most vector table = table
-compares_most false false in_order candidates most vector table = table
+compares_most is_vec held in_order candidates most vector table = grind (arith, common_steps)
 
 looks_most : (is_vec held : Bool) (probe : ℕ) → (cond is_vec (exactly 0) (cond held (between 1 (probe - 1)) (exactly probe))).most ≤ probe
-looks_most true held probe = omega arith
-looks_most false true probe = omega arith
-looks_most false false probe = omega arith
+looks_most is_vec held probe = grind (arith, common_steps)
 
 looks_none : (is_vec : Bool) (searched : Range) → is_vec ≡ true → (cond is_vec (exactly 0) searched).most ≡ 0
 looks_none is_vec searched vector = ap (λ b. (cond b (exactly 0) searched).most) vector

@@ -1,5 +1,6 @@
 -- The laws of form and of hashes, by induction over the steps.
 use Rattle.std.proofs.Common.{◌≡◌, ◌∙◌, ℕ, ◌+◌, ◌*◌, ◌≤◌, Bool, true, false, not, ◌&&◌, ◌||◌, ◌==◌, List, [], ◌∷◌, length, fold, count_by}
+use Rattle.std.proofs.lemmas.Grind.{common_steps}
 use Rattle.std.proofs.Common.{cond, Option, None, Some, unwrap_or, ap, refl, arith, if◌then◌else◌}
 use Rattle.std.specs.List.{list_any}
 use Rattle.std.specs.Option.{option_or}
@@ -21,9 +22,7 @@ last_of_both (Some is_vec) earlier first = refl
 
 -- nothing switches where neither a step nor what follows it does
 neither_switches : (v now later : Bool) → ((v && not now) && not later) ≡ (v && not (now || later))
-neither_switches false now later = refl
-neither_switches true true later = refl
-neither_switches true false later = refl
+neither_switches v now later = grind (arith, common_steps)
 
 -- a vector that does not switch stays one
 vector_stays : (back : Bool) → unwrap_or (if back then Some true else None) true ≡ true
@@ -36,18 +35,11 @@ once_if b = cond b 1 0
 
 -- at most two keys, and those of a switch
 most_of_both : (limit later : ℕ) (switched v : Bool) → most_asked limit switched v + limit * later ≤ 2 + limit * (once_if switched + later)
-most_of_both limit later true v = omega arith
-most_of_both limit later false true = omega arith
-most_of_both limit later false false = omega arith
+most_of_both limit later switched v = grind (arith, common_steps)
 
 -- a vector that becomes a table has no switch left
 once_less : (v long puts : Bool) → once_if (puts && (v && long)) + once_if (v && not (puts && (v && long))) ≤ once_if v
-once_less true true true = omega arith
-once_less true true false = omega arith
-once_less true false true = omega arith
-once_less true false false = omega arith
-once_less false long true = omega arith
-once_less false long false = omega arith
+once_less v long puts = grind (arith, common_steps)
 
 once_most : (v : Bool) → once_if v ≤ 1
 once_most true = omega arith

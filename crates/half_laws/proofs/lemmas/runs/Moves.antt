@@ -1,8 +1,8 @@
 -- How many pairs a run moves: each step pays two, and what a map has paid and not used is its credit.
 use Rattle.std.proofs.Common.{◌≡◌, ◌≢◌, ◌∙◌, ℕ, suc, ◌+◌, ◌-◌, ◌*◌, ◌<◌, ◌≤◌, nat_lt, ◌==◌, inl, inr, Bool, true, false, true≢false, not}
 use Rattle.std.proofs.Common.{◌&&◌, cond, List, [], ◌∷◌, length, sum_by, Option, None, Some, ap, sym, refl, subst, arith, if◌then◌else◌}
-use Rattle.std.specs.Prelude.{MatchBool}
-use Rattle.std.proofs.lemmas.Bool.{cases_lt, cases_Bool, eq-eqb, lt-ltb, le-ltb}
+use Rattle.std.proofs.lemmas.Bool.{cases_lt, cases_Bool, eq-eqb, lt-ltb, le-ltb, MatchBool-at_true, MatchBool-at_false}
+use Rattle.std.proofs.lemmas.Grind.{common_steps}
 use Rattle.std.proofs.lemmas.List.Sums.{sum_by-cons}
 use Rattle.half_store.specs.Capacity.{IsBucketCount, capacity_of, more_buckets, buckets_for, capacity_for, grown_capacity}
 use Rattle.half_store.proofs.lemmas.capacity.{more_buckets-some, buckets_for-least, buckets_for-grown, quarter}
@@ -44,43 +44,22 @@ budget_high : (limit capacity : ℕ) → limit ≤ capacity → budget limit tru
 budget_high limit capacity high = rw (le-ltb capacity limit high) refl
 
 budget_most : (limit : ℕ) (is_vec : Bool) (capacity : ℕ) → budget limit is_vec capacity ≤ 2 * limit
-budget_most limit false capacity = omega arith
-budget_most limit true capacity =
-    elim (cases_lt capacity limit) [
-      | inl low ↦ omega (arith, budget_low limit capacity low)
-      | inr high ↦ omega (arith, budget_high limit capacity high)
-    ]
+budget_most limit is_vec capacity = grind (arith, common_steps)
 
 vector_grows : (limit capacity len more grown : ℕ) → len ≤ capacity → capacity ≤ len → capacity < limit → more ≤ len + 1
     → grown ≡ grown_capacity limit capacity (len + 1)
     → len + ((2 * more - grown) + budget limit true grown) ≤ (2 * len - capacity) + budget limit true capacity + 2
-vector_grows limit capacity len more grown fits filled low most is =
-    elim (cases_lt grown limit) [
-      | inl less ↦ omega (arith, is, budget_low limit capacity low, budget_low limit grown less)
-      | inr all ↦ omega (arith, is, budget_low limit capacity low, budget_high limit grown all)
-    ]
+vector_grows limit capacity len more grown fits filled low most is = grind (arith, common_steps)
 
 -- the Booleans of a form
 not_full_len : (v : Bool) (n limit : ℕ) → v ≡ true → (v && (n == limit)) ≡ false → n ≢ limit
-not_full_len true n limit vec other same = true≢false (sym (eq-eqb n limit same) ∙ other)
-not_full_len false n limit vec other same = true≢false (sym vec)
-
--- what holds for a form that is known
-on_true : (P Q : Type 0) (b : Bool) → b ≡ true → MatchBool b P Q → P
-on_true P Q true e fact = fact
-on_true P Q false e fact = absurd (true≢false (sym e))
-
-on_false : (P Q : Type 0) (b : Bool) → b ≡ false → MatchBool b P Q → Q
-on_false P Q true e fact = absurd (true≢false e)
-on_false P Q false e fact = fact
+not_full_len v n limit vec other same = grind (arith, common_steps)
 
 cond_most : (held : Bool) (n len : ℕ) → n ≡ cond held len (len + 1) → n ≤ len + 1
-cond_most true n len e = omega arith
-cond_most false n len e = omega arith
+cond_most held n len e = grind (arith, common_steps)
 
 moved_by : (same : Bool) (len : ℕ) → (if same then 0 else len) ≤ len
-moved_by true len = omega arith
-moved_by false len = omega arith
+moved_by same len = grind (arith, common_steps)
 
 module _ {K V S : Type 0} (limit : ℕ) (eq : K → K → Bool) where
   -- the pairs that are moved between two states
@@ -154,9 +133,9 @@ module _ {K V S : Type 0} (limit : ℕ) (eq : K → K → Bool) where
     grown_pays full form (Some n) due after =
         elim (cases_Bool old.is_vec) [
           | inl vec ↦
-              let grown = on_true _ _ new.is_vec (form ∙ vec) after in
+              let grown = MatchBool-at_true _ _ (form ∙ vec) after in
               vector_pays full vec form due.1 (grown ∙ ap (grown_capacity limit old.capacity) due.0)
-          | inr table ↦ table_pays table form due.1 (on_false _ _ new.is_vec (form ∙ table) after ∙ ap capacity_for due.0)
+          | inr table ↦ table_pays table form due.1 (MatchBool-at_false _ _ (form ∙ table) after ∙ ap capacity_for due.0)
         ]
 
     put_pays : (put : PutsDue limit eq old new) → Pays old new
@@ -166,7 +145,7 @@ module _ {K V S : Type 0} (limit : ℕ) (eq : K → K → Bool) where
           → Pays old new
       by true yes_full no_full form after =
           let table = form ∙ and_false old.is_vec in
-          switch_pays (yes_full refl) table (on_false _ _ new.is_vec table after)
+          switch_pays (yes_full refl) table (MatchBool-at_false _ _ table after)
       by false yes_full no_full form after =
           grown_pays (no_full refl) (form ∙ sym (form_stays old.is_vec false refl)) put.needs put.due after
 

@@ -1,5 +1,6 @@
 -- What becomes of items that are put one after another: of which keys the pairs are, and with which values.
 use Rattle.std.proofs.Common.{◌≡◌, Bool, true, false, not, ◌&&◌, cond, List, [], ◌∷◌, ◌++◌, Option, None, Some, reverse}
+use Rattle.std.proofs.lemmas.Grind.{common_steps}
 use Rattle.std.proofs.Common.{refl, sym, ap, ◌∙◌, ℕ, true≢false, Result, Ok, Err, IsErr, IsErrAnd, IfErr, OnOk}
 use Rattle.std.proofs.Common.{subst, nat_le, ◌+◌, inl, inr, arith, if◌then◌else◌}
 use Rattle.std.proofs.lemmas.List.{reverse-append}
@@ -77,9 +78,7 @@ module _ {K V : Type 0} (eq : K → K → Bool) where
 -- an insertion that leaves a vector has hashed nothing
 asked_nothing : (limit : ℕ) (v full : Bool) → v ≡ true → (v && not full) ≡ true
     → (if full && not true then 0 else ((if full then limit else 0) + search_asked (v && not full))) ≡ 0
-asked_nothing limit true false form stays = refl
-asked_nothing limit true true form stays = absurd (true≢false (sym stays))
-asked_nothing limit false full form stays = absurd (true≢false (sym form))
+asked_nothing limit v full form stays = grind (arith, common_steps)
 
 and_left : (a b : Bool) → (a && b) ≡ true → a ≡ true
 and_left true b both = refl
