@@ -1,7 +1,8 @@
 -- What follows of changed lists of pairs, for callers: the set `map_facts` has those that `grind` applies, and `using` takes it.
 use Rattle.std.proofs.Common.{◌≡◌, ℕ, suc, ◌+◌, ◌<◌, ◌≤◌, Bool, true, false, cond, ◌||◌, ◌⊎◌, inl, inr, List, [], ◌∷◌, ◌++◌, length, take}
+use Rattle.std.proofs.lemmas.Grind.{common_steps}
 use Rattle.std.proofs.Common.{reverse}
-use Rattle.std.proofs.Common.{get_or, slice_get, Option, None, Some, is_some, IsSome, unwrap_or, count_by, refl, sym, ap, subst, ◌∙◌}
+use Rattle.std.proofs.Common.{get_or, slice_get, Option, None, Some, is_some, unwrap_or, count_by, refl, sym, ap, subst, ◌∙◌}
 use Rattle.std.proofs.Common.{true≢false, append-nil, arith}
 use Rattle.std.specs.Cmp.{IsEquivalence}
 use Rattle.std.specs.List.{IsDistinct, filter, list_any}
@@ -9,7 +10,6 @@ use Rattle.std.specs.Map.{keys_of, values_of, lookup, lookup_entry}
 use Rattle.std.specs.Option.{option_map, option_map_or}
 use Rattle.std.proofs.lemmas.Cmp.{nat_eq_equiv}
 use Rattle.std.proofs.lemmas.List.{map-append, take_more}
-use Rattle.std.proofs.lemmas.List.Elements.{filter-append}
 use Rattle.std.proofs.lemmas.List.Sorted.{IsPermutation-reverse}
 use Rattle.std.proofs.lemmas.List.Sums.{count_by-le-length, fold_push}
 use Rattle.std.proofs.lemmas.Map.Entries.{none_past_head, option_filter}
@@ -36,10 +36,6 @@ module _ {K V : Type 0} (test : K → Bool) where
   pub holds_by-any : (ps : List (K × V)) → holds_by test ps ≡ list_any test (keys_of ps)
   holds_by-any [] = refl
   holds_by-any (p ∷ ps) = held_past p ps (test p.0) (holds_by-any ps)
-
-  -- where a key that passes is held there is a value
-  pub some_of_held : (ps : List (K × V)) → holds_by test ps ≡ true → IsSome (lookup test ps)
-  some_of_held ps h = h
 
   value_by : (o : Option V) → is_some o ≡ true → (v : V) × (o ≡ Some v)
   value_by None h = absurd (true≢false (sym h))
@@ -116,32 +112,12 @@ module _ {K V : Type 0} (eq : K → K → Bool) where
 -- ---- after a value was set
 
 module _ {K V : Type 0} (eq : K → K → Bool) (laws : IsEquivalence eq) (test : K → Bool) (form : IsForm eq test) where
-  set_here : (b : Bool) (w v : V) (rest : Option V)
-      → cond b (Some v) rest ≡ cond b (option_map (λ _. v) (cond b (Some w) rest)) (cond b (Some w) rest)
-  set_here true w v rest = refl
-  set_here false w v rest = refl
-
-  past_is : (p : K × V) (q : K) → test p.0 ≡ false → eq q p.0 ≡ true → (b : Bool) → test q ≡ b → test q ≡ false
-  past_is p q fails same false e = e
-  past_is p q fails same true e = absurd (true≢false (sym (form q p.0 e ∙ same) ∙ fails))
-
-  set_past : (p : K × V) (ps : List (K × V)) (v : V) (q : K)
-      → value_of eq (set_by test ps v) q ≡ cond (test q) (option_map (λ _. v) (value_of eq ps q)) (value_of eq ps q)
-      → test p.0 ≡ false → (b : Bool) → eq q p.0 ≡ b
-      → cond b (Some p.1) (value_of eq (set_by test ps v) q)
-      ≡ cond (test q) (option_map (λ _. v) (cond b (Some p.1) (value_of eq ps q))) (cond b (Some p.1) (value_of eq ps q))
-  set_past p ps v q more fails true same = sym (ap (λ c. cond c (Some v) (Some p.1)) (past_is p q fails same (test q) refl))
-  set_past p ps v q more fails false apart = more
-
   set_by_cases : (p : K × V) (ps : List (K × V)) (v : V) (q : K)
       → value_of eq (set_by test ps v) q ≡ cond (test q) (option_map (λ _. v) (value_of eq ps q)) (value_of eq ps q)
       → (b : Bool) → test p.0 ≡ b
       → value_of eq (cond b ((p.0, v) ∷ ps) (p ∷ set_by test ps v)) q
       ≡ cond (test q) (option_map (λ _. v) (value_of eq (p ∷ ps) q)) (value_of eq (p ∷ ps) q)
-  set_by_cases p ps v q more true passes =
-      set_here (eq q p.0) p.1 v (value_of eq ps q)
-      ∙ ap (λ c. cond c (option_map (λ _. v) (value_of eq (p ∷ ps) q)) (value_of eq (p ∷ ps) q)) (sym (form p.0 q passes ∙ laws.symm p.0 q))
-  set_by_cases p ps v q more false fails = set_past p ps v q more fails (eq q p.0) refl
+  set_by_cases p ps v q more fact5 passes = grind (arith, common_steps)
 
   same_either : (o : Option V) (b : Bool) → o ≡ cond b o o
   same_either o true = refl
@@ -262,9 +238,7 @@ module _ {K : Type 0} {eq : K → K → Bool} (laws : IsEquivalence eq) where
 
 group_push : {K X : Type 0} (eq : K → K → Bool) (q : K) (xs : List (K × X)) (x : K × X)
     → values_of (filter (λ x. eq q x.0) (xs ++ x ∷ [])) ≡ values_of (filter (λ x. eq q x.0) xs) ++ values_of (cond (eq q x.0) (x ∷ []) [])
-group_push eq q xs x =
-    ap values_of (filter-append (λ x. eq q x.0) xs (x ∷ []))
-    ∙ map-append (λ p. p.1) (filter (λ x. eq q x.0) xs) (cond (eq q x.0) (x ∷ []) [])
+group_push eq q xs x = grind (arith, common_steps)
 
 module _ {K X V : Type 0} {eq : K → K → Bool} (laws : IsEquivalence eq) (read : V → List X) where
   groups_by : (xs : List (K × X)) (x : X) {old new : List (K × V)} {k : K} {v : V} → HasPut eq old k v new

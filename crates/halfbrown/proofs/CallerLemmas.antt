@@ -1,6 +1,7 @@
 -- What callers read off a list of pairs after a put or a removal: which key has which value, and how many pairs there are.
 use Rattle.std.proofs.Common.{◌≡◌, ℕ, suc, ◌+◌, Bool, true, false, cond, List, [], ◌∷◌, ◌++◌, length, get_or, Option, None, Some, is_some}
-use Rattle.std.proofs.Common.{Result, Ok, Err, OnOk, refl, sym, ap, subst, ◌∙◌, arith, true≢false}
+use Rattle.std.proofs.lemmas.Grind.{common_steps}
+use Rattle.std.proofs.Common.{refl, sym, ap, subst, ◌∙◌, arith}
 use Rattle.std.specs.Cmp.{IsEquivalence}
 use Rattle.std.specs.List.{IsDistinct}
 use Rattle.std.specs.List.Sorted.{IsPermutation}
@@ -30,11 +31,6 @@ grown_by false new old grown = omega arith
 taken_from : (held : Bool) (new old : ℕ) → new + cond held 1 0 ≡ old → old ≡ cond held (new + 1) new
 taken_from true new old sum = sym sum
 taken_from false new old sum = omega arith
-
--- what follows of a granted call
-pub if_put : {A E P Q : Type 0} (r : Result A E) → OnOk r P → (P → Q) → OnOk r Q
-if_put (Ok a) p follows = follows p
-if_put (Err e) p follows = tt
 
 step_past : {K V : Type 0} (p : K × V) (set appended : List (K × V)) (other : Option V)
     → cond (is_some other) (p ∷ set) (p ∷ appended) ≡ p ∷ cond (is_some other) set appended
@@ -101,9 +97,7 @@ module _ {K V : Type 0} (eq : K → K → Bool) where
 module _ {K : Type 0} (eq : K → K → Bool) (laws : IsEquivalence eq) where
   form_apart_by : (test : K → Bool) → IsForm eq test → (k : K) → test k ≡ false → (x : K) → eq k x ≡ true → (b : Bool) → test x ≡ b
       → test x ≡ false
-  form_apart_by test form k fails x same false e = e
-  form_apart_by test form k fails x same true e =
-      absurd (true≢false (sym (form x k e ∙ laws.symm x k ∙ same) ∙ fails))
+  form_apart_by test form k fails x same fact6 e = grind (arith, common_steps)
 
   -- a form that does not stand for a key stands for none of its equals
   pub form_apart : (test : K → Bool) → IsForm eq test → (k : K) → test k ≡ false → (x : K) → eq k x ≡ true → test x ≡ false
@@ -160,19 +154,11 @@ module _ {K V : Type 0} (eq : K → K → Bool) (laws : IsEquivalence eq) where
 
   -- ---- a put
 
-  put_behind : (p : K × V) (k q : K) (v : V) (rest : Option V) → eq k p.0 ≡ false → (b : Bool) → eq k q ≡ b
-      → cond (eq q p.0) (Some p.1) (cond b (Some v) rest) ≡ cond b (Some v) (cond (eq q p.0) (Some p.1) rest)
-  put_behind p k q v rest other true same = ap (λ b. cond b (Some p.1) (Some v)) (sym (laws.congr k q p.0 same) ∙ other)
-  put_behind p k q v rest other false apart = refl
-
   put_by : (p : K × V) (ps : List (K × V)) (k : K) (v : V) (q : K)
       → value_of eq (put eq ps k v) q ≡ cond (eq k q) (Some v) (value_of eq ps q)
       → (b : Bool) → eq k p.0 ≡ b
       → value_of eq (cond b ((p.0, v) ∷ ps) (p ∷ put eq ps k v)) q ≡ cond (eq k q) (Some v) (value_of eq (p ∷ ps) q)
-  put_by p ps k v q more true at =
-      let same : eq q p.0 ≡ eq k q = laws.symm q p.0 ∙ sym (laws.congr k p.0 q at) in
-      put_over (eq q p.0) v p.1 (lookup (eq q) ps) ∙ ap (λ b. cond b (Some v) (value_of eq (p ∷ ps) q)) same
-  put_by p ps k v q more false at = ap (cond (eq q p.0) (Some p.1)) more ∙ put_behind p k q v (lookup (eq q) ps) at (eq k q) refl
+  put_by p ps k v q more fact6 at = grind (arith, common_steps)
 
   -- the equals of the key have the value that was put, and each other key has what it had
   pub lookup_put : (ps : List (K × V)) (k : K) (v : V) (q : K) → value_of eq (put eq ps k v) q ≡ cond (eq k q) (Some v) (value_of eq ps q)
@@ -182,9 +168,7 @@ module _ {K V : Type 0} (eq : K → K → Bool) (laws : IsEquivalence eq) where
   put_other_past : (p : K × V) (ps : List (K × V)) (k : K) (v : V) (test : K → Bool) → lookup test (put eq ps k v) ≡ lookup test ps
       → ((x : K) → eq k x ≡ true → test x ≡ false) → (b : Bool) → eq k p.0 ≡ b
       → lookup test (cond b ((p.0, v) ∷ ps) (p ∷ put eq ps k v)) ≡ lookup test (p ∷ ps)
-  put_other_past p ps k v test more apart true at =
-      ap (λ b. cond b (Some v) (lookup test ps)) (apart p.0 at) ∙ sym (ap (λ b. cond b (Some p.1) (lookup test ps)) (apart p.0 at))
-  put_other_past p ps k v test more apart false at = ap (cond (test p.0) (Some p.1)) more
+  put_other_past p ps k v test more apart fact7 at = grind (arith, common_steps)
 
   -- a test that accepts no equal of the key finds what it found
   pub put_other : (ps : List (K × V)) (k : K) (v : V) (test : K → Bool) → ((x : K) → eq k x ≡ true → test x ≡ false)

@@ -69,10 +69,7 @@ module _ {K V S : Type 0} (eq : K → K → Bool) (hash : S → K → ℕ) (m : 
       omega (arith, costs.grew.compared.most, most)
 
   one_looks : (k : K) (before after : Work) → KeySearchCosts eq hash m k before after → after.looked ≤ before.looked + (length m.pairs + 1)
-  one_looks k before after costs =
-      let most = looks_most m.is_vec (is_some (index_of (eq k) (keys_of m.pairs)))
-      (probe_length (hash m.builder) m.is_vec m.capacity m.pairs (hash m.builder k)) in
-      omega (arith, costs.grew.looked.most, most, costs.short)
+  one_looks k before after costs = grind (arith, common_steps)
 
   asked_together : (ks : List K) (before after : Work) → SearchesCost eq hash m ks before after
       → after.asked ≡ before.asked + search_asked m.is_vec * length ks

@@ -1,5 +1,6 @@
 -- Work that is added up.
-use Rattle.std.proofs.Common.{◌≡◌, ℕ, ◌+◌, refl, ap, arith}
+use Rattle.std.proofs.Common.{◌≡◌, ℕ, ◌+◌, refl, arith}
+use Rattle.std.proofs.lemmas.Grind.{common_steps}
 use Rattle.half_store.specs.Probe.{looked_more}
 use Rattle.half_store.specs.Work.{Work, one_looked}
 
@@ -10,6 +11,4 @@ pub looked_more-zero : (w : Work) → w ≡ looked_more w 0
 looked_more-zero w = same_work w (looked_more w 0) refl refl (omega arith)
 
 pub looked_more-one : (w v : Work) (n : ℕ) → v ≡ looked_more w n → one_looked v ≡ looked_more w (n + 1)
-looked_more-one w v n e =
-    same_work (one_looked v) (looked_more w (n + 1)) (ap (λ (x : Work). x.asked) e) (ap (λ (x : Work). x.compared) e)
-    (omega (arith, ap (λ (x : Work). x.looked) e))
+looked_more-one w v n e = grind (arith, common_steps)

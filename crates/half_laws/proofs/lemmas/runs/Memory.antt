@@ -1,16 +1,13 @@
 -- How much capacity and memory a run leaves, by induction over the steps.
 use Rattle.std.proofs.Common.{◌≡◌, ℕ, zero, suc, ◌+◌, ◌*◌, ◌≤◌, max, inl, inr, Bool, true, false, ◌&&◌, List, [], ◌∷◌, length, fold, Option}
+use Rattle.std.proofs.lemmas.Grind.{common_steps}
 use Rattle.std.proofs.Common.{None, Some, sym, ap, refl, subst, arith, if◌then◌else◌}
 use Rattle.std.specs.Prelude.{MatchBool}
-use Rattle.std.proofs.lemmas.Bool.{cases_lt}
-use Rattle.std.proofs.lemmas.Bool.Decides.{nat_tests}
-use Rattle.std.proofs.lemmas.Nat.{mul-le}
-use Rattle.half_store.specs.Capacity.{IsBucketCount, capacity_of, buckets_of, more_buckets, buckets_for_more, buckets_for, capacity_for}
+use Rattle.half_store.specs.Capacity.{IsBucketCount, capacity_of, buckets_for_more, buckets_for, capacity_for}
 use Rattle.half_store.specs.Capacity.{grown_capacity}
 use Rattle.half_store.specs.Memory.{bytes}
 use Rattle.half_store.specs.Store.{allowed}
-use Rattle.half_store.specs.Words.{word_size}
-use Rattle.half_store.proofs.lemmas.capacity.{more_buckets-some, buckets_for-least}
+use Rattle.half_store.proofs.lemmas.capacity.{buckets_for-least}
 use Rattle.halfbrown.specs.Growth.{is_full, HasCapacityAfter, HasCapacityShrunk, HasColumnsAfter, HasColumnsShrunk}
 use Rattle.halfbrown.specs.Run.{Lead, commands_of}
 use Rattle.halfbrown.specs.State.{State, IsState}
@@ -22,16 +19,7 @@ use Rattle.half_laws.proofs.lemmas.runs.Changes.{IsDue, Changes, step_changes}
 
 -- the next of the series is twice as large, or 3
 more_most : (n m : ℕ) → IsBucketCount m → capacity_of m ≤ 2 * n + 1 → capacity_of (buckets_for_more n m) ≤ 2 * suc n + 1
-more_most n m count few =
-    elim (cases_lt n (capacity_of m)) [
-      | inl lt ↦ let e : buckets_for_more n m ≡ m = grind (arith, nat_tests) in rw e (omega arith)
-      | inr ge ↦
-          let e : buckets_for_more n m ≡ more_buckets m = grind (arith, nat_tests) in
-          rw e (elim (cases_lt 0 m) [
-            | inl some ↦ rw (more_buckets-some m some) (omega arith)
-            | inr none ↦ let z : m ≡ 0 = omega arith in rw z (omega arith)
-          ])
-    ]
+more_most n m count few = grind (arith, common_steps)
 
 capacity_for-most : (n : ℕ) → capacity_for n ≤ 2 * n + 1
 unfolding buckets_for
@@ -47,21 +35,10 @@ most_least : {X : Type 0} (f : X → ℕ) (xs : List X) (n : ℕ) → n ≤ fold
 most_least f [] n = omega arith
 most_least f (x ∷ xs) n = omega (arith, most_least f xs (max n (f x)))
 
-word_size-le : (a b : ℕ) → a ≤ b → word_size a ≤ word_size b
-word_size-le a b l = grind (arith, nat_tests)
-
 -- with no more capacity, and no more memory of the columns, the arrays take no more bytes
 bytes-le : (key value : ℕ) (is_vec : Bool) (capacity columns most : ℕ) → capacity ≤ most → columns ≤ most
     → bytes key value is_vec capacity columns ≤ bytes key value false most most
-bytes-le key value true capacity columns most few least =
-    omega (arith, mul-le key columns key most (omega arith) least, mul-le value columns value most (omega arith) least)
-bytes-le key value false capacity columns most few least =
-    omega (
-      arith,
-      mul-le key columns key most (omega arith) least,
-      mul-le value columns value most (omega arith) least,
-      mul-le (word_size capacity) (buckets_of capacity) (word_size most) (buckets_of most) (word_size-le capacity most few) (omega arith),
-    )
+bytes-le key value is_vec capacity columns most few least = grind (arith, common_steps)
 
 module _ {K V S : Type 0} (limit : ℕ) (eq : K → K → Bool) where
   switch_due : (m : State K V S) → IsState eq limit m → (needs : Option ℕ) → IsDue m needs

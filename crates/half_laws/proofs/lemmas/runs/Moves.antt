@@ -1,7 +1,7 @@
 -- How many pairs a run moves: each step pays two, and what a map has paid and not used is its credit.
-use Rattle.std.proofs.Common.{◌≡◌, ◌≢◌, ◌∙◌, ℕ, suc, ◌+◌, ◌-◌, ◌*◌, ◌<◌, ◌≤◌, nat_lt, ◌==◌, inl, inr, Bool, true, false, true≢false, not}
+use Rattle.std.proofs.Common.{◌≡◌, ◌∙◌, ℕ, suc, ◌+◌, ◌-◌, ◌*◌, ◌≤◌, nat_lt, ◌==◌, inl, inr, Bool, true, false, true≢false, not}
 use Rattle.std.proofs.Common.{◌&&◌, cond, List, [], ◌∷◌, length, sum_by, Option, None, Some, ap, sym, refl, subst, arith, if◌then◌else◌}
-use Rattle.std.proofs.lemmas.Bool.{cases_lt, cases_Bool, eq-eqb, lt-ltb, le-ltb, MatchBool-at_true, MatchBool-at_false}
+use Rattle.std.proofs.lemmas.Bool.{cases_lt, cases_Bool, eq-eqb, le-ltb, MatchBool-at_true, MatchBool-at_false}
 use Rattle.std.proofs.lemmas.Grind.{common_steps}
 use Rattle.std.proofs.lemmas.List.Sums.{sum_by-cons}
 use Rattle.half_store.specs.Capacity.{IsBucketCount, capacity_of, more_buckets, buckets_for, capacity_for, grown_capacity}
@@ -37,23 +37,11 @@ table_doubles capacity is =
 abbrev budget : ℕ → Bool → ℕ → ℕ
 budget limit is_vec capacity = if is_vec then (if nat_lt capacity limit then 2 * limit else limit) else 0
 
-budget_low : (limit capacity : ℕ) → capacity < limit → budget limit true capacity ≡ 2 * limit
-budget_low limit capacity low = rw (lt-ltb capacity limit low) refl
-
 budget_high : (limit capacity : ℕ) → limit ≤ capacity → budget limit true capacity ≡ limit
 budget_high limit capacity high = rw (le-ltb capacity limit high) refl
 
 budget_most : (limit : ℕ) (is_vec : Bool) (capacity : ℕ) → budget limit is_vec capacity ≤ 2 * limit
 budget_most limit is_vec capacity = grind (arith, common_steps)
-
-vector_grows : (limit capacity len more grown : ℕ) → len ≤ capacity → capacity ≤ len → capacity < limit → more ≤ len + 1
-    → grown ≡ grown_capacity limit capacity (len + 1)
-    → len + ((2 * more - grown) + budget limit true grown) ≤ (2 * len - capacity) + budget limit true capacity + 2
-vector_grows limit capacity len more grown fits filled low most is = grind (arith, common_steps)
-
--- the Booleans of a form
-not_full_len : (v : Bool) (n limit : ℕ) → v ≡ true → (v && (n == limit)) ≡ false → n ≢ limit
-not_full_len v n limit vec other same = grind (arith, common_steps)
 
 cond_most : (held : Bool) (n len : ℕ) → n ≡ cond held len (len + 1) → n ≤ len + 1
 cond_most held n len e = grind (arith, common_steps)
@@ -103,16 +91,7 @@ module _ {K V S : Type 0} (limit : ℕ) (eq : K → K → Bool) where
 
     vector_pays : is_full limit old ≡ false → old.is_vec ≡ true → new.is_vec ≡ old.is_vec → old.capacity ≤ length old.pairs
         → new.capacity ≡ grown_capacity limit old.capacity (length old.pairs + 1) → Pays old new
-    vector_pays full vec form filled capacity =
-        let apart = not_full_len old.is_vec (length old.pairs) limit vec full in
-        let low : old.capacity < limit = omega (arith, apart, state.vector_capacity vec) in
-        omega (
-          arith,
-          moves,
-          vector_grows limit old.capacity (length old.pairs) (length new.pairs) new.capacity state.fits filled low few capacity,
-          ap (λ v. budget limit v new.capacity) (form ∙ vec),
-          ap (λ v. budget limit v old.capacity) vec,
-        )
+    vector_pays full vec form filled capacity = grind (arith, common_steps)
 
     table_pays : old.is_vec ≡ false → new.is_vec ≡ old.is_vec → old.capacity ≤ length old.pairs
         → new.capacity ≡ capacity_for (length old.pairs + 1) → Pays old new

@@ -1,14 +1,13 @@
 -- What decides the replies: form and pairs before a command, the command, and the refusal decide its reply, and form and pairs after it.
 use Rattle.std.proofs.Common.{◌≡◌, ◌∙◌, ℕ, Bool, true, false, not, ◌&&◌, ◌==◌, nat_le, List, [], ◌∷◌, length, Option, None, Some, unwrap_or}
+use Rattle.std.proofs.Common.{arith}
+use Rattle.std.proofs.lemmas.Grind.{common_steps}
 use Rattle.std.proofs.Common.{ap, sym, refl, if◌then◌else◌}
-use Rattle.std.specs.Prelude.{MatchBool}
 use Rattle.half_store.specs.declared.refusal.Refusal.{Refusal}
 use Rattle.halfbrown.specs.declared.run.Command.{Command}
-use Rattle.halfbrown.specs.declared.run.Command.TheVariants.{Insert, InsertNew, EntryOrInsert, RawOrInsert, Remove, Clear, Reserve, Shrink}
+use Rattle.halfbrown.specs.declared.run.Command.TheVariants.{Insert, InsertNew, EntryOrInsert, RawOrInsert, Remove, Clear}
 use Rattle.halfbrown.specs.declared.run.Reply.{Reply}
 use Rattle.halfbrown.specs.declared.run.Reply.TheVariants.{Refused}
-use Rattle.halfbrown.specs.Growth.{new_key_needs}
-use Rattle.halfbrown.specs.Insertion.{Puts}
 use Rattle.halfbrown.specs.Pairs.{holds, put, take_out}
 use Rattle.halfbrown.specs.State.{State}
 use Rattle.halfbrown.specs.Step.{Step, Steps, IsStep, Leaves, value_or, granted_reply, refusal_in, is_put, is_shrink}
@@ -36,23 +35,9 @@ module _ {K V : Type 0} (limit : ℕ) (eq : K → K → Bool) where
   pairs_by (Some why) pairs command = pairs
 
 module _ {K V S : Type 0} (limit : ℕ) (eq : K → K → Bool) where
-  new_pairs : (old new : State K V S) (k : K) (v : V) (held : Bool)
-      → MatchBool held (new ≡ old) (Puts limit eq old k v (new_key_needs limit old) new)
-      → new.pairs ≡ (if held then old.pairs else put eq old.pairs k v)
-  new_pairs old new k v true leaves = ap (λ m. m.pairs) leaves
-  new_pairs old new k v false leaves = leaves.pairs
-
   pairs_left : (old new : State K V S) (command : Command K V) → Leaves limit eq old command new
       → new.pairs ≡ pairs_after limit eq old.pairs command
-  pairs_left old new (Insert k v) leaves = leaves.pairs
-  pairs_left old new (InsertNew k v) leaves = new_pairs old new k v (holds eq old.pairs k) leaves
-  pairs_left old new (EntryOrInsert k v) leaves = leaves.pairs
-  pairs_left old new (RawOrInsert k v) leaves = leaves.pairs
-  pairs_left old new (Remove k) leaves = leaves.pairs
-  pairs_left old new Clear leaves = leaves.pairs
-  pairs_left old new (Reserve additional) leaves = leaves.granted.pairs
-  pairs_left old new Shrink leaves = leaves.pairs
-  pairs_left old new command leaves = ap (λ m. m.pairs) leaves
+  pairs_left old new command leaves = grind (arith, common_steps)
 
   answered : (old new : State K V S) (command : Command K V) (reply : Reply K V) → Steps limit eq old command reply new
       → (reply ≡ reply_by limit eq (refusal_in reply) old.is_vec old.pairs command)

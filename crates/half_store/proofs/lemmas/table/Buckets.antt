@@ -1,5 +1,6 @@
 -- The words of the buckets: the hashes that they stand for, and that each entry index stands in one of them.
 use Rattle.std.proofs.Common.{◌≡◌, ◌≢◌, ℕ, zero, suc, ◌+◌, ◌-◌, ◌<◌, ◌≤◌, Bool, true, false, ◌==◌, inl, inr, refl, sym, ap, ◌∙◌, arith}
+use Rattle.std.proofs.lemmas.Grind.{common_steps}
 use Rattle.std.proofs.Common.{List, [], ◌∷◌, length, set, slice_index, replicate, count_by, Some, None}
 use Rattle.std.specs.List.{All, slice_get}
 use Rattle.std.proofs.lemmas.Bool.{cases_lt, cases_eq, cases_Bool, eq-eqb, ne_eqb}
@@ -69,9 +70,7 @@ word-lt words p full = elim (cases_lt p (length words)) [ inl l ↦ l | inr past
 -- no word is greater
 module _ (number : ℕ) (words : List ℕ) where
   pub within-at : (p : ℕ) → All (λ word. word ≤ number) words → slice_index words p ≤ number
-  within-at p w =
-      elim (cases_lt p (length words))
-      [ inl l ↦ All-get_or (λ word. word ≤ number) words p 0 l w | inr past ↦ omega (arith, get_or_past words p 0 past) ]
+  within-at p w = grind (arith, common_steps)
 
   within-from : ((p : ℕ) → slice_index words p ≤ number) → All (λ word. word ≤ number) words
   within-from each = All-from_get_or (λ word. word ≤ number) words 0 (λ p l. each p)

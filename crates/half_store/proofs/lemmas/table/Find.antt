@@ -1,5 +1,6 @@
 -- What a search of a table finds, and what a probe costs.
 use Rattle.std.proofs.Common.{◌≡◌, ℕ, ◌+◌, ◌-◌, ◌<◌, ◌≤◌, Bool, true, false, inl, inr, refl, sym, ap, ◌∙◌, subst, arith, List, length}
+use Rattle.std.proofs.lemmas.Grind.{common_steps}
 use Rattle.std.proofs.Common.{slice_index, Option, Some, count_by, ◌==◌}
 use Rattle.std.specs.List.{slice_get, swap_remove}
 use Rattle.std.specs.Prelude.{Result, Ok, Err, IfOk, IfErr, OnOk, OnErr}
@@ -14,7 +15,7 @@ use Rattle.half_store.specs.Table.{TableState, table_state}
 use Rattle.half_store.specs.TableLayout.{IsIndexed}
 use Rattle.half_store.specs.TableSearch.{FindsInTable, RemovesFromTable, without_bucket}
 use Rattle.half_store.specs.Work.{Work}
-use Rattle.half_store.proofs.lemmas.table.Buckets.{length-slots_by, slot_of_word, word_of_slot, some_bucket}
+use Rattle.half_store.proofs.lemmas.table.Buckets.{length-slots_by, slot_of_word, some_bucket}
 use Rattle.half_store.proofs.lemmas.table.Circle.{distance_self}
 use Rattle.half_store.proofs.lemmas.table.Layout.{index-counted, index-vacant, at_home, buckets_seen}
 use Rattle.half_store.proofs.lemmas.table.Slots.{full_from, full-lt}
@@ -38,10 +39,7 @@ module _ {hashes words : List ℕ} (x : IsIndexed hashes words) (hash : ℕ) whe
 
   -- the entry index at a bucket of this hash has this hash
   index_at : (p : ℕ) → slot_at slots p ≡ Some hash → slice_get hashes (slice_index words p - 1) ≡ Some hash
-  index_at p is =
-      let found = word_of_slot hashes words p hash is in
-      let index : slice_index words p - 1 ≡ found.0 = omega (arith, found.1) in
-      ap (slice_get hashes) index ∙ found.2
+  index_at p is = grind (arith, common_steps)
 
   -- what holds of what stands in each bucket of this hash holds of each entry index of this hash
   each_index : (P : ℕ → Type 0) → ((p : ℕ) → slot_at slots p ≡ Some hash → P (slice_index words p - 1)) → (index : ℕ)
@@ -148,9 +146,7 @@ module _ (hashes words hashes' words' : List ℕ) {t : TableState} (view : table
   pub taken_cost : (old new : Work) (result : Result ℕ ℕ)
       → IfOk result (λ index. LooksWithin (removal_reads hashes (length words) index) old new)
       → IfOk result (λ index. LooksWithin (removal_reads t.hashes t.buckets index) old new)
-  taken_cost old new (Ok index) cost =
-      subst (λ n. LooksWithin n old new) (λ i. removal_reads (view i).hashes (count_viewed i) index) cost
-  taken_cost old new (Err bucket) cost = tt
+  taken_cost old new result cost = grind (arith, common_steps)
 
   pub taken_none : (old new : Work) (result : Result ℕ ℕ)
       → OnErr result ((hashes' ≡ hashes) × (words' ≡ words) × (new ≡ old))

@@ -1,9 +1,10 @@
 -- The index of a table: what its buckets say of its hashes, a pair that is added, one that is removed, and no pair at all.
-use Rattle.std.proofs.Common.{◌≡◌, ◌≢◌, ℕ, zero, suc, ◌+◌, ◌-◌, ◌<◌, ◌≤◌, Bool, true, inl, inr, refl, sym, ap, ◌∙◌, subst, arith, List, []}
-use Rattle.std.proofs.Common.{◌∷◌, ◌++◌, length, set, get_or, slice_index, replicate, Option, Some, None}
+use Rattle.std.proofs.Common.{◌≡◌, ◌≢◌, ℕ, zero, suc, ◌+◌, ◌<◌, ◌≤◌, Bool, true, inl, inr, refl, sym, ap, ◌∙◌, subst, arith, List, []}
+use Rattle.std.proofs.lemmas.Grind.{common_steps}
+use Rattle.std.proofs.Common.{◌∷◌, ◌++◌, length, set, slice_index, replicate, Option, Some, None}
 use Rattle.std.specs.List.{swap_remove}
 use Rattle.std.proofs.lemmas.Bool.{cases_lt, cases_eq}
-use Rattle.std.proofs.lemmas.List.{length-set, length_push, length-replicate, length-take, get_or-take, get_or_append_left, get_or_push}
+use Rattle.std.proofs.lemmas.List.{length-set, length_push, length-replicate, get_or_append_left, get_or_push}
 use Rattle.std.proofs.lemmas.List.{get_or-replicate, get_or_past}
 use Rattle.std.proofs.lemmas.List.Sums.{count_by-le-length}
 use Rattle.std.proofs.lemmas.Option.{same_Some, slice_get-get_or, slice_get_within, get_or_from_slice_get}
@@ -58,21 +59,14 @@ ordered-add slots p h w o =
 
 -- what `swap_remove` leaves, entry index by entry index
 length-swap_remove : (xs : List ℕ) (i last : ℕ) → suc last ≡ length xs → length (swap_remove xs i 0) ≡ last
-length-swap_remove xs i last e =
-    let x : ℕ = get_or xs (length xs - 1) 0 in
-    length-take (length xs - 1) (set xs i x) ∙ omega (arith, length-set xs i x)
+length-swap_remove xs i last e = grind (arith, common_steps)
 
 swap_remove-at : (xs : List ℕ) (i last : ℕ) → suc last ≡ length xs → i < last → slice_index (swap_remove xs i 0) i ≡ slice_index xs last
-swap_remove-at xs i last e l =
-    let x : ℕ = get_or xs (length xs - 1) 0 in
-    let end : length xs - 1 ≡ last = omega arith in
-    get_or-take (length xs - 1) (set xs i x) i 0 (omega arith) ∙ word_set xs i x (omega arith) ∙ ap (slice_index xs) end
+swap_remove-at xs i last e l = grind (arith, common_steps)
 
 swap_remove-other : (xs : List ℕ) (i k last : ℕ) → suc last ≡ length xs → k < last → k ≢ i
     → slice_index (swap_remove xs i 0) k ≡ slice_index xs k
-swap_remove-other xs i k last e l ne =
-    let x : ℕ = get_or xs (length xs - 1) 0 in
-    get_or-take (length xs - 1) (set xs i x) k 0 (omega arith) ∙ word_other xs i k x ne
+swap_remove-other xs i k last e l ne = grind (arith, common_steps)
 
 module _ {hashes words : List ℕ} (x : IsIndexed hashes words) where
   abbrev slots : List (Option ℕ)

@@ -1,6 +1,7 @@
 -- Masks of bucket counts, which are powers of two.
 use Rattle.std.proofs.Common.{◌≡◌, ℕ, ◌+◌, ◌-◌, ◌%◌, ◌^◌, ◌<◌, ◌≤◌, bit_and, inl, inr, ap, sym, ◌∙◌, arith}
-use Rattle.std.proofs.Math.Nat.{pow-le-pow_right, add-mod_left, mod-eq_of_lt}
+use Rattle.std.proofs.lemmas.Grind.{common_steps}
+use Rattle.std.proofs.Math.Nat.{pow-le-pow_right, mod-eq_of_lt}
 use Rattle.std.proofs.lemmas.Bool.{cases_lt}
 use Rattle.std.proofs.lemmas.Nat.{and_mask}
 use Rattle.half_store.specs.Capacity.{IsBucketCount}
@@ -14,9 +15,7 @@ mask_mod n m (inr (k, two, e)) h = ap (λ c. bit_and n (c - 1)) e ∙ and_mask n
 
 -- less than twice round
 mod_once : (n m : ℕ) → m ≤ n → n < m + m → n % m ≡ n - m
-mod_once n m ge lt =
-    let whole : n ≡ m + (n - m) = omega arith in
-    ap (λ k. k % m) whole ∙ add-mod_left m (n - m) ∙ mod-eq_of_lt (omega arith)
+mod_once n m ge lt = grind (arith, common_steps)
 
 -- the probe distance from one bucket up to another
 pub mask_distance : (m a b : ℕ) → IsBucketCount m → a < m → b < m → bit_and (b + (m - a)) (m - 1) ≡ probe_distance m a b

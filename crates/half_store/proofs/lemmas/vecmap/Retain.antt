@@ -1,19 +1,17 @@
 -- What the loop of `retain` keeps: the pairs before an index were asked of, and those that stay are the first.
 use Rattle.std.proofs.Common.{◌≡◌, ℕ, zero, suc, ◌+◌, ◌<◌, ◌≤◌, Bool, true, false, cond, List, [], ◌∷◌, ◌++◌, length, get_or, set, map}
+use Rattle.std.proofs.lemmas.Grind.{common_steps}
 use Rattle.std.proofs.Common.{take, drop, refl, sym, ap, ◌∙◌, subst, arith}
 use Rattle.std.proofs.lemmas.List.{append-nil, append_assoc, drop_all, drop-set-lt, set-get_or}
-use Rattle.std.proofs.Math.Seq.{drop-cons}
 use Rattle.std.specs.List.{swap, zip}
 use Rattle.std.specs.Map.Calls.{CallableOnEachPair, RetainsPairs}
 use Rattle.half_store.specs.Pairs.{set_value}
-use Rattle.half_store.proofs.lemmas.vecmap.Zip.{get_or_within, get_or-zip, zip-set}
+use Rattle.half_store.proofs.lemmas.vecmap.Zip.{get_or-zip, zip-set}
 use Rattle.half_store.proofs.lemmas.store.States.{length-set_value}
 
 module _ {X : Type 0} where
   pub drop-begins : (xs : List X) (i : ℕ) (x : X) → i < length xs → x ≡ get_or xs i x → drop i xs ≡ x ∷ drop (i + 1) xs
-  drop-begins xs i x within read =
-      let more : suc i ≡ i + 1 = omega arith in
-      drop-cons xs i x within ∙ (λ j. sym read j ∷ drop (more j) xs)
+  drop-begins xs i x within read = grind (arith, common_steps)
 
   drop-swap : (xs : List X) (n i : ℕ) → n ≤ i → drop (i + 1) (swap xs n i) ≡ drop (i + 1) xs
   drop-swap [] n i le = refl
@@ -29,11 +27,7 @@ module _ {X : Type 0} where
   front (x ∷ xs) (suc n) (suc i) d le within = ap (λ l. x ∷ l) (front xs n i d (omega arith) (omega arith))
 
   take-swap : (xs : List X) (n i : ℕ) (x : X) → n ≤ i → i < length xs → x ≡ get_or xs i x → take (n + 1) (swap xs n i) ≡ take n xs ++ x ∷ []
-  take-swap [] n i x le within read = absurd (omega arith)
-  take-swap (d ∷ xs) n i x le within read =
-      let more : n + 1 ≡ suc n = omega arith in
-      ap (λ m. take m (swap (d ∷ xs) n i)) more ∙ front (d ∷ xs) n i d le within
-      ∙ ap (λ y. take n (d ∷ xs) ++ y ∷ []) (get_or_within (d ∷ xs) i d x within ∙ sym read)
+  take-swap xs n i x le within read = grind (arith, common_steps)
 
   pub swap-self : (xs : List X) (i : ℕ) → swap xs i i ≡ xs
   swap-self [] i = refl

@@ -1,7 +1,7 @@
 -- What becomes of items that are put one after another: of which keys the pairs are, and with which values.
 use Rattle.std.proofs.Common.{◌≡◌, Bool, true, false, not, ◌&&◌, cond, List, [], ◌∷◌, ◌++◌, Option, None, Some, reverse}
 use Rattle.std.proofs.lemmas.Grind.{common_steps}
-use Rattle.std.proofs.Common.{refl, sym, ap, ◌∙◌, ℕ, true≢false, Result, Ok, Err, IsErr, IsErrAnd, IfErr, OnOk}
+use Rattle.std.proofs.Common.{refl, sym, ap, ◌∙◌, ℕ, Result, Ok, Err, IsErr, IsErrAnd, IfErr, OnOk}
 use Rattle.std.proofs.Common.{subst, nat_le, ◌+◌, inl, inr, arith, if◌then◌else◌}
 use Rattle.std.proofs.lemmas.List.{reverse-append}
 use Rattle.std.specs.Cmp.{IsEquivalence}

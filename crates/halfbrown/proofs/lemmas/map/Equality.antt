@@ -1,5 +1,6 @@
 -- When two lists of pairs of distinct keys are equal as maps: they are of one length, and the right holds each pair of the left.
 use Rattle.std.proofs.Common.{◌≡◌, ℕ, ◌≤◌, Bool, true, false, true≢false, cond, List, [], ◌∷◌, length, get_or, slice_get, Option, None}
+use Rattle.std.proofs.lemmas.Grind.{common_steps}
 use Rattle.std.proofs.Common.{not, Some, is_some, inl, inr, refl, sym, ap, ◌∙◌, arith, suc, ◌&&◌, drop, ◌+◌, subst}
 use Rattle.std.specs.Bool.{Decides, one_answer}
 use Rattle.std.specs.Borrow.{Bor}
@@ -18,7 +19,6 @@ use Rattle.std.proofs.lemmas.Option.{slice_get-get_or, slice_get_within, get_or_
 use Rattle.halfbrown.specs.Equality.{same_value, same_pairs, holds_pair, keys_while_same, searched_keys}
 use Rattle.halfbrown.specs.EqualityLaws.{equal_has_same, same_pairs-Decides}
 use Rattle.halfbrown.specs.Pairs.{value_of}
-use Rattle.std.proofs.Math.Bool.{not-not}
 use Rattle.std.proofs.Math.ListN.{drop_of_length-le}
 use Rattle.std.proofs.Math.Seq.{drop-cons}
 use Rattle.half_store.specs.Work.{Work}
@@ -27,14 +27,10 @@ use Rattle.halfbrown.specs.State.{State}
 
 module _ {V : Type 0} (value_eq : V → V → Bool) where
   some_right : (a b : Option V) → option_eq value_eq a b ≡ true → is_some a ≡ true → is_some b ≡ true
-  some_right None b same some = absurd (true≢false (sym some))
-  some_right (Some v) None same some = same
-  some_right (Some v) (Some w) same some = refl
+  some_right a b same some = grind (arith, common_steps)
 
   some_left : (a b : Option V) → option_eq value_eq a b ≡ true → is_some b ≡ true → is_some a ≡ true
-  some_left None None same some = some
-  some_left None (Some w) same some = same
-  some_left (Some v) b same some = refl
+  some_left a b same some = grind (arith, common_steps)
 
   some_is_held : (v : V) (b : Option V) → option_eq value_eq (Some v) b ≡ option_map_or (value_eq v) b false
   some_is_held v None = refl
@@ -155,9 +151,7 @@ module _ {K V : Type 0} (eq : K → K → Bool) (value_eq : V → V → Bool) (p
   -- a pair is held unless its value differs from what a search for its key found
   pub held_unless : (found : Option (Bor V)) (differs : Bool) → option_copied found ≡ value_of eq ps k
       → differs ≡ not (option_eq (λ x y. value_eq x.now y.now) (Some v) found) → holds_pair eq value_eq ps (k, v.now) ≡ not differs
-  held_unless None differs is compared = ap (λ o. option_map_or (value_eq v.now) o false) (sym is) ∙ ap not (sym compared)
-  held_unless (Some w) differs is compared =
-      ap (λ o. option_map_or (value_eq v.now) o false) (sym is) ∙ sym (not-not (value_eq v.now w.now)) ∙ ap not (sym compared)
+  held_unless found differs is compared = grind (arith, common_steps)
 
 module _ {K V S : Type 0} (eq : K → K → Bool) (hash : S → K → ℕ) (m : State K V S) where
   pub costs_none : (work : Work) → SearchesCost eq hash m [] work work

@@ -1,10 +1,11 @@
 -- What a search costs.
 use Rattle.std.proofs.Common.{◌≡◌, ℕ, ◌+◌, ◌-◌, ◌≤◌, ◌==◌, Bool, true, false, List, [], ◌∷◌, length, map, count_by, fold, cond, Option}
-use Rattle.std.proofs.Common.{None, Some, IfNone, IfSome, is_some, refl, ap, sym, subst, ◌∙◌, arith, true≢false, ◌<◌, get_or, slice_get}
+use Rattle.std.proofs.lemmas.Grind.{common_steps}
+use Rattle.std.proofs.Common.{None, Some, IfNone, IfSome, is_some, refl, ap, sym, subst, ◌∙◌, arith, ◌<◌, get_or, slice_get}
 use Rattle.std.proofs.Math.ListN.{length-map}
 use Rattle.std.proofs.lemmas.Map.Entries.{length-keys_of}
 use Rattle.std.specs.Map.{keys_of}
-use Rattle.half_store.specs.Reach.{reach, HomesApart}
+use Rattle.half_store.specs.Reach.{reach}
 use Rattle.half_store.specs.Capacity.{buckets_of}
 use Rattle.half_store.specs.Probe.{AddsFinding, after_missing}
 use Rattle.half_store.specs.Work.{Work, compared_more, first_match_cost}
@@ -52,19 +53,6 @@ module _ {K V S : Type 0} (hash : S → K → ℕ) (sought : ℕ) (m : State K V
     short_probe = subst (λ b. probe_length (hash m.builder) b m.capacity m.pairs sought ≤ length m.pairs + 1) (sym form)
         (omega (arith, near, probed, ap length is_map, length-map (keys_of m.pairs) (hash m.builder), length-keys_of m.pairs))
 
-    found_costs : (index : ℕ) → AddsFinding hashes buckets sought before after → SearchCosts hash sought m (Some index) 0 before after
-    found_costs index adds = record {
-      grew = subst (λ b. GrewBy (search_cost (hash m.builder) sought (Some index) 0 b m.capacity m.pairs) before after) (sym form) (record {
-        asked = omega (arith, adds.asked);
-        compared = record { least = omega (arith, adds.compared_some); most = omega (arith, adds.compared_most, counted) };
-        looked = record { least = omega (arith, adds.looked_some); most = omega (arith, adds.looked_most, probed) };
-      });
-      looked_once = λ in_table found apart. adds.looked_once
-          (subst (λ hs. HomesApart hs buckets) (sym is_map)
-          (subst (λ n. HomesApart (map (hash m.builder) (keys_of m.pairs)) n) (sym is_count) apart));
-      short = short_probe;
-    }
-
     missing_costs : after ≡ after_missing hashes buckets sought before → SearchCosts hash sought m None 0 before after
     missing_costs spent = record {
       grew = subst (λ b. GrewBy (search_cost (hash m.builder) sought None 0 b m.capacity m.pairs) before after) (sym form) (record {
@@ -79,18 +67,6 @@ module _ {K V S : Type 0} (hash : S → K → ℕ) (sought : ℕ) (m : State K V
       short = short_probe;
     }
 
-  vector_costs : m.is_vec ≡ true → (index : Option ℕ) → after ≡ compared_more (first_match_cost index (length m.pairs)) before
-      → SearchCosts hash sought m index 0 before after
-  vector_costs form index spent = record {
-    grew = subst (λ b. GrewBy (search_cost (hash m.builder) sought index 0 b m.capacity m.pairs) before after) (sym form) (record {
-      asked = omega (arith, ap (λ w. w.asked) spent);
-      compared = record { least = omega (arith, ap (λ w. w.compared) spent); most = omega (arith, ap (λ w. w.compared) spent) };
-      looked = record { least = omega (arith, ap (λ w. w.looked) spent); most = omega (arith, ap (λ w. w.looked) spent) };
-    });
-    looked_once = λ in_table. absurd (true≢false (sym form ∙ in_table));
-    short = subst (λ b. probe_length (hash m.builder) b m.capacity m.pairs sought ≤ length m.pairs + 1) (sym form) (omega arith);
-  }
-
   -- what a search by a match costs, from what the store says of its work
   pub match_costs : (is_vec : Bool) → m.is_vec ≡ is_vec → (index : Option ℕ) (hashes : List ℕ) (capacity : ℕ)
       → (is_vec ≡ false → hashes ≡ map (hash m.builder) (keys_of m.pairs)) → (is_vec ≡ false → capacity ≡ m.capacity)
@@ -98,11 +74,7 @@ module _ {K V S : Type 0} (hash : S → K → ℕ) (sought : ℕ) (m : State K V
       → (is_vec ≡ false → IfSome index (λ _. AddsFinding hashes (buckets_of capacity) sought before after))
       → (is_vec ≡ false → IfNone index (after ≡ after_missing hashes (buckets_of capacity) sought before))
       → (is_vec ≡ false → reach hashes (buckets_of capacity) sought ≤ length hashes + 1) → SearchCosts hash sought m index 0 before after
-  match_costs true form index hashes capacity is_map is_capacity vector found missing near = vector_costs form index (vector refl)
-  match_costs false form None hashes capacity is_map is_capacity vector found missing near =
-      missing_costs hashes (buckets_of capacity) form (is_map refl) (ap buckets_of (is_capacity refl)) (near refl) (missing refl)
-  match_costs false form (Some index) hashes capacity is_map is_capacity vector found missing near =
-      found_costs hashes (buckets_of capacity) form (is_map refl) (ap buckets_of (is_capacity refl)) (near refl) index (found refl)
+  match_costs is_vec form index hashes capacity is_map is_capacity vector found missing near = grind (arith, common_steps)
 
 module _ {K V S : Type 0} (hash : S → K → ℕ) (sought own : ℕ) (m : State K V S) (before after : Work) (index : Option ℕ) where
   -- a vector looks at no hash

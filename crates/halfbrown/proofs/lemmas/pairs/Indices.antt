@@ -1,6 +1,7 @@
 -- Where a key stands among pairs of distinct keys, and what that says of reading and changing them.
 use Rattle.std.proofs.Common.{◌≡◌, ℕ, zero, suc, ◌<◌, Bool, true, false, cond, ◌||◌, List, [], ◌∷◌, ◌++◌, length, get_or, slice_get}
-use Rattle.std.proofs.Common.{Option, None, Some, is_some, sym, refl, ap, subst, ◌∙◌, arith, true≢false}
+use Rattle.std.proofs.lemmas.Grind.{common_steps}
+use Rattle.std.proofs.Common.{Option, None, Some, is_some, sym, refl, ap, ◌∙◌, arith, true≢false}
 use Rattle.std.specs.Option.{option_map, option_map_or}
 use Rattle.std.specs.List.{IsDistinct, list_any}
 use Rattle.std.specs.Map.{keys_of, values_of, lookup, lookup_entry}
@@ -24,11 +25,7 @@ module _ {K : Type 0} (test : K → Bool) where
 
   first_by : (k : K) (ks : List K) (b : Bool) → test k ≡ b → (m : Option ℕ) → index_of test ks ≡ m
       → ((j : ℕ) → index_of test ks ≡ Some j → IsFirst ks j) → (i : ℕ) → cond b (Some 0) (option_map suc m) ≡ Some i → IsFirst (k ∷ ks) i
-  first_by k ks true passes m at more zero e = passes
-  first_by k ks true passes m at more (suc i) e = absurd cc
-  first_by k ks false fails None at more i e = absurd cc
-  first_by k ks false fails (Some j) at more zero e = absurd cc
-  first_by k ks false fails (Some j) at more (suc i) e = let same : j ≡ i = cc in (fails, subst (IsFirst ks) same (more j at))
+  first_by k ks b passes m at more i e = grind (arith, common_steps)
 
   pub first_of_index : (ks : List K) (i : ℕ) → index_of test ks ≡ Some i → IsFirst ks i
   first_of_index [] i e = absurd cc
@@ -36,9 +33,7 @@ module _ {K : Type 0} (test : K → Bool) where
 
   none_by : (k : K) (ks : List K) (b : Bool) → test k ≡ b → (m : Option ℕ) → index_of test ks ≡ m
       → (index_of test ks ≡ None → NonePasses ks) → cond b (Some 0) (option_map suc m) ≡ None → NonePasses (k ∷ ks)
-  none_by k ks true passes m at more e = absurd cc
-  none_by k ks false fails None at more e = (fails, more at)
-  none_by k ks false fails (Some j) at more e = absurd cc
+  none_by k ks b passes m at more e = grind (arith, common_steps)
 
   pub none_of_index : (ks : List K) → index_of test ks ≡ None → NonePasses ks
   none_of_index [] e = tt

@@ -1,8 +1,9 @@
 -- A list from which one element is gone, the last one at its index.
 use Rattle.std.proofs.Common.{◌≡◌, ℕ, zero, suc, ◌+◌, ◌-◌, ◌<◌, Bool, List, [], ◌∷◌, length, map, take, get_or, sym, refl, ap, subst, ◌∙◌}
+use Rattle.std.proofs.lemmas.Grind.{common_steps}
 use Rattle.std.proofs.Common.{arith}
 use Rattle.std.proofs.Math.ListN.{set, length-map, get_or-map}
-use Rattle.std.proofs.lemmas.List.{map-set, get_or_default, length-take-le, length-set}
+use Rattle.std.proofs.lemmas.List.{map-set, get_or_default}
 use Rattle.std.proofs.lemmas.List.Sorted.{IsPermutation-swap_remove}
 use Rattle.std.proofs.lemmas.Map.Keys.{IsDistinct-IsPermutation, IsDistinct-tail}
 use Rattle.std.specs.Cmp.{IsEquivalence}
@@ -29,14 +30,7 @@ module _ {A B : Type 0} (f : A → B) where
 
 module _ {X : Type 0} where
   pub length-swap_remove_at : (xs : List X) (i : ℕ) → 0 < length xs → length (swap_remove_at xs i) + 1 ≡ length xs
-  length-swap_remove_at [] i some = absurd (omega arith)
-  length-swap_remove_at (x ∷ xs) i some =
-      let last = get_or (x ∷ xs) (length (x ∷ xs) - 1) x in
-      omega (
-        arith,
-        length-take-le (length (x ∷ xs) - 1) (set (x ∷ xs) i last) (omega (arith, length-set (x ∷ xs) i last)),
-        length-set (x ∷ xs) i last,
-      )
+  length-swap_remove_at xs i some = grind (arith, common_steps)
 
   default_is : (xs : List X) (i : ℕ) (d e : X) → 0 < length xs → swap_remove xs i d ≡ swap_remove xs i e
   default_is xs i d e some = ap (λ y. take (length xs - 1) (set xs i y)) (get_or_default xs (length xs - 1) d e (omega arith))
