@@ -1,9 +1,8 @@
 -- What follows of changed lists of pairs, for callers: the set `map_facts` has those that `grind` applies, and `using` takes it.
 use Rattle.std.proofs.Common.{◌≡◌, ℕ, suc, ◌+◌, ◌<◌, ◌≤◌, Bool, true, false, cond, ◌||◌, ◌⊎◌, inl, inr, List, [], ◌∷◌, ◌++◌, length, take}
+use Rattle.std.proofs.Common.{reverse, get_or, slice_get, Option, None, Some, is_some, unwrap_or, count_by, refl, sym, ap, subst, ◌∙◌}
+use Rattle.std.proofs.Common.{append-nil, arith}
 use Rattle.std.proofs.lemmas.Grind.{common_steps}
-use Rattle.std.proofs.Common.{reverse}
-use Rattle.std.proofs.Common.{get_or, slice_get, Option, None, Some, is_some, unwrap_or, count_by, refl, sym, ap, subst, ◌∙◌}
-use Rattle.std.proofs.Common.{true≢false, append-nil, arith}
 use Rattle.std.specs.Cmp.{IsEquivalence}
 use Rattle.std.specs.List.{IsDistinct, filter, list_any}
 use Rattle.std.specs.Map.{keys_of, values_of, lookup, lookup_entry}
@@ -29,8 +28,7 @@ use Rattle.halfbrown.specs.Gathering.{add_key, first_of_each, CountsEach, Groups
 module _ {K V : Type 0} (test : K → Bool) where
   held_past : (p : K × V) (ps : List (K × V)) (b : Bool) → holds_by test ps ≡ list_any test (keys_of ps)
       → is_some (cond b (Some p.1) (lookup test ps)) ≡ (b || list_any test (keys_of ps))
-  held_past p ps true more = refl
-  held_past p ps false more = more
+  held_past p ps b more = grind (arith, common_steps)
 
   -- a key that passes is held exactly where any key passes
   pub holds_by-any : (ps : List (K × V)) → holds_by test ps ≡ list_any test (keys_of ps)
@@ -38,8 +36,7 @@ module _ {K V : Type 0} (test : K → Bool) where
   holds_by-any (p ∷ ps) = held_past p ps (test p.0) (holds_by-any ps)
 
   value_by : (o : Option V) → is_some o ≡ true → (v : V) × (o ≡ Some v)
-  value_by None h = absurd (true≢false (sym h))
-  value_by (Some v) h = (v, refl)
+  value_by o h = grind (arith, common_steps)
 
   -- that value
   pub value_of_held : (ps : List (K × V)) → holds_by test ps ≡ true → (v : V) × (lookup test ps ≡ Some v)
@@ -81,8 +78,7 @@ module _ {K V : Type 0} (test : K → Bool) where
 
   set_same_by : (p : K × V) (ps : List (K × V)) (v : V) → (lookup test ps ≡ Some v → set_by test ps v ≡ ps) → (b : Bool)
       → cond b (Some p.1) (lookup test ps) ≡ Some v → cond b ((p.0, v) ∷ ps) (p ∷ set_by test ps v) ≡ p ∷ ps
-  set_same_by p ps v more true found = let same : p.1 ≡ v = cc in ap (λ w. (p.0, w) ∷ ps) (sym same)
-  set_same_by p ps v more false found = ap (λ l. p ∷ l) (more found)
+  set_same_by p ps v more b found = grind (arith, common_steps)
 
   -- the value that is held, set again, changes nothing
   pub set_same : (ps : List (K × V)) (v : V) → lookup test ps ≡ Some v → set_by test ps v ≡ ps
@@ -117,11 +113,10 @@ module _ {K V : Type 0} (eq : K → K → Bool) (laws : IsEquivalence eq) (test 
       → (b : Bool) → test p.0 ≡ b
       → value_of eq (cond b ((p.0, v) ∷ ps) (p ∷ set_by test ps v)) q
       ≡ cond (test q) (option_map (λ _. v) (value_of eq (p ∷ ps) q)) (value_of eq (p ∷ ps) q)
-  set_by_cases p ps v q more fact5 passes = grind (arith, common_steps)
+  set_by_cases p ps v q more b passes = grind (arith, common_steps)
 
   same_either : (o : Option V) (b : Bool) → o ≡ cond b o o
-  same_either o true = refl
-  same_either o false = refl
+  same_either o b = grind (arith, common_steps)
 
   -- a key that the test accepts has the value where it had one, and each other key what it had
   pub lookup_set : (ps : List (K × V)) (v : V) (q : K)
@@ -134,8 +129,7 @@ module _ {K V : Type 0} (eq : K → K → Bool) (laws : IsEquivalence eq) (test 
 keys_kept : {K V : Type 0} (f : K → Bool) (p : K × V) (ps : List (K × V)) → keys_of (filter (λ p. f p.0) ps) ≡ filter f (keys_of ps)
     → (b : Bool)
     → keys_of (cond b (p ∷ filter (λ p. f p.0) ps) (filter (λ p. f p.0) ps)) ≡ cond b (p.0 ∷ filter f (keys_of ps)) (filter f (keys_of ps))
-keys_kept f p ps more true = ap (λ ks. p.0 ∷ ks) more
-keys_kept f p ps more false = more
+keys_kept f p ps more b = grind (arith, common_steps)
 
 -- the keys that a test of keys keeps
 pub keys_filter : {K V : Type 0} (f : K → Bool) (ps : List (K × V)) → keys_of (filter (λ p. f p.0) ps) ≡ filter f (keys_of ps)
@@ -144,22 +138,14 @@ keys_filter f (p ∷ ps) = keys_kept f p ps (keys_filter f ps) (f p.0)
 
 module _ {K V : Type 0} (eq : K → K → Bool) (laws : IsEquivalence eq) (f : K × V → Bool) where
   absent_entry : (o : Option (K × V)) → option_map (λ p. p.1) o ≡ None → option_map (λ p. p.1) (option_filter f o) ≡ None
-  absent_entry None none = refl
-  absent_entry (Some p) none = absurd cc
+  absent_entry o none = grind (arith, common_steps)
 
   kept_by : (p : K × V) (ps : List (K × V)) (q : K) → IsDistinct eq (keys_of (p ∷ ps))
       → lookup (eq q) (filter f ps) ≡ option_map (λ p. p.1) (option_filter f (lookup_entry (eq q) ps))
       → (b c : Bool) → eq q p.0 ≡ b → f p ≡ c
       → lookup (eq q) (cond c (p ∷ filter f ps) (filter f ps))
       ≡ option_map (λ p. p.1) (option_filter f (cond b (Some p) (lookup_entry (eq q) ps)))
-  kept_by p ps q distinct more true true same kept =
-      ap (λ b. cond b (Some p.1) (lookup (eq q) (filter f ps))) same ∙ sym (ap (λ b. option_map (λ p. p.1) (cond b (Some p) None)) kept)
-  kept_by p ps q distinct more true false same gone =
-      let none : lookup (eq q) ps ≡ None = lookup-none (eq q) ps (none_past_head laws q p ps distinct same) in
-      more ∙ absent_entry (lookup_entry (eq q) ps) (value_of_entry (eq q) ps ∙ none)
-      ∙ sym (ap (λ b. option_map (λ p. p.1) (cond b (Some p) None)) gone)
-  kept_by p ps q distinct more false true apart kept = ap (λ b. cond b (Some p.1) (lookup (eq q) (filter f ps))) apart ∙ more
-  kept_by p ps q distinct more false false apart gone = more
+  kept_by p ps q distinct more b c same kept = grind (arith, common_steps, absent_entry, cond, lookup-none, none_past_head, value_of_entry)
 
   -- what a key has of the pairs that are kept
   pub lookup_filter : (ps : List (K × V)) (q : K) → IsDistinct eq (keys_of ps)
@@ -256,8 +242,7 @@ module _ {K X V : Type 0} {eq : K → K → Bool} (laws : IsEquivalence eq) (rea
       ∙ sym (group_push eq q xs (k, x))
 
   unwrapped : (o : Option V) (d : V) → read d ≡ [] → read (unwrap_or o d) ≡ option_map_or read o []
-  unwrapped None d empty = empty
-  unwrapped (Some v) d empty = refl
+  unwrapped o d empty = grind (arith, common_steps)
 
   -- a put of the values of a key with one more gathers one item more; d, which has none, is put where the key is new
   pub grouped_more : (xs : List (K × X)) (x : X) (d : V) {old new : List (K × V)} {k : K} {v : V} → GroupsEach eq read xs old

@@ -1,7 +1,7 @@
 -- What callers read off a list of pairs after a put or a removal: which key has which value, and how many pairs there are.
-use Rattle.std.proofs.Common.{◌≡◌, ℕ, suc, ◌+◌, Bool, true, false, cond, List, [], ◌∷◌, ◌++◌, length, get_or, Option, None, Some, is_some}
+use Rattle.std.proofs.Common.{◌≡◌, ℕ, ◌+◌, Bool, true, false, cond, List, [], ◌∷◌, ◌++◌, length, get_or, Option, None, Some, is_some, refl}
+use Rattle.std.proofs.Common.{sym, ap, subst, ◌∙◌, arith}
 use Rattle.std.proofs.lemmas.Grind.{common_steps}
-use Rattle.std.proofs.Common.{refl, sym, ap, subst, ◌∙◌, arith}
 use Rattle.std.specs.Cmp.{IsEquivalence}
 use Rattle.std.specs.List.{IsDistinct}
 use Rattle.std.specs.List.Sorted.{IsPermutation}
@@ -21,36 +21,22 @@ use Rattle.halfbrown.proofs.lemmas.pairs.Indices.{IsFirst, first_of_index, first
 use Rattle.halfbrown.proofs.lemmas.pairs.SwapRemove.{IsPermutation-swap_remove_at, length-swap_remove_at}
 
 put_over : {V : Type 0} (b : Bool) (v w : V) (other : Option V) → cond b (Some v) other ≡ cond b (Some v) (cond b (Some w) other)
-put_over true v w other = refl
-put_over false v w other = refl
-
-grown_by : (held : Bool) (new old : ℕ) → new ≡ cond held old (old + 1) → suc new ≡ cond held (suc old) (suc old + 1)
-grown_by true new old grown = omega arith
-grown_by false new old grown = omega arith
+put_over b v w other = grind (arith, common_steps)
 
 taken_from : (held : Bool) (new old : ℕ) → new + cond held 1 0 ≡ old → old ≡ cond held (new + 1) new
-taken_from true new old sum = sym sum
-taken_from false new old sum = omega arith
-
-step_past : {K V : Type 0} (p : K × V) (set appended : List (K × V)) (other : Option V)
-    → cond (is_some other) (p ∷ set) (p ∷ appended) ≡ p ∷ cond (is_some other) set appended
-step_past p set appended (Some w) = refl
-step_past p set appended None = refl
+taken_from held new old sum = grind (arith, common_steps)
 
 step_by : {K V : Type 0} (p : K × V) (here set appended : List (K × V)) (other : Option V) (b : Bool)
     → cond (is_some (cond b (Some p.1) other)) (cond b here (p ∷ set)) (p ∷ appended) ≡ cond b here (p ∷ cond (is_some other) set appended)
-step_by p here set appended other true = refl
-step_by p here set appended other false = step_past p set appended other
+step_by p here set appended other b = grind (arith, common_steps)
 
 keys_choice : {K V : Type 0} (b : Bool) (xs ys : List (K × V)) → keys_of (cond b xs ys) ≡ cond b (keys_of xs) (keys_of ys)
-keys_choice true xs ys = refl
-keys_choice false xs ys = refl
+keys_choice b xs ys = grind (arith, common_steps)
 
 module _ {K V : Type 0} (test : K → Bool) where
   keys_set_past : (p : K × V) (ps : List (K × V)) (v : V) → keys_of (set_by test ps v) ≡ keys_of ps
       → (b : Bool) → keys_of (cond b ((p.0, v) ∷ ps) (p ∷ set_by test ps v)) ≡ keys_of (p ∷ ps)
-  keys_set_past p ps v more true = refl
-  keys_set_past p ps v more false = ap (λ ks. p.0 ∷ ks) more
+  keys_set_past p ps v more b = grind (arith, common_steps)
 
   -- a value that is set leaves the keys
   pub keys_set : (ps : List (K × V)) (v : V) → keys_of (set_by test ps v) ≡ keys_of ps
@@ -60,10 +46,7 @@ module _ {K V : Type 0} (test : K → Bool) where
 module _ {K V : Type 0} (eq : K → K → Bool) where
   -- a put leaves the keys where an equal one is held, and else adds its key at the end
   pub keys_put : (ps : List (K × V)) (k : K) (v : V) → keys_of (put eq ps k v) ≡ cond (holds eq ps k) (keys_of ps) (keys_of ps ++ k ∷ [])
-  keys_put ps k v =
-      keys_choice (holds eq ps k) (set_by (eq k) ps v) (ps ++ (k, v) ∷ [])
-      ∙ ap (λ ks. cond (holds eq ps k) ks (keys_of (ps ++ (k, v) ∷ []))) (keys_set (eq k) ps v)
-      ∙ ap (cond (holds eq ps k) (keys_of ps)) (map-append (λ p. p.0) ps ((k, v) ∷ []))
+  keys_put ps k v = grind (arith, common_steps, cond, keys_choice, keys_set, map-append)
 
   -- a put, one pair at a time
   pub put_step : (p : K × V) (ps : List (K × V)) (k : K) (v : V) → put eq (p ∷ ps) k v ≡ cond (eq k p.0) ((p.0, v) ∷ ps) (p ∷ put eq ps k v)
@@ -72,8 +55,7 @@ module _ {K V : Type 0} (eq : K → K → Bool) where
   len_by : (p : K × V) (ps : List (K × V)) (k : K) (v : V) → length (put eq ps k v) ≡ cond (holds eq ps k) (length ps) (length ps + 1)
       → (b : Bool) → length (cond b ((p.0, v) ∷ ps) (p ∷ put eq ps k v))
       ≡ cond (is_some (cond b (Some p.1) (value_of eq ps k))) (length (p ∷ ps)) (length (p ∷ ps) + 1)
-  len_by p ps k v more true = refl
-  len_by p ps k v more false = grown_by (holds eq ps k) (length (put eq ps k v)) (length ps) more
+  len_by p ps k v more b = grind (arith, common_steps)
 
   -- there is one pair more where the key was not held
   pub len_put : (ps : List (K × V)) (k : K) (v : V) → length (put eq ps k v) ≡ cond (holds eq ps k) (length ps) (length ps + 1)
@@ -97,7 +79,7 @@ module _ {K V : Type 0} (eq : K → K → Bool) where
 module _ {K : Type 0} (eq : K → K → Bool) (laws : IsEquivalence eq) where
   form_apart_by : (test : K → Bool) → IsForm eq test → (k : K) → test k ≡ false → (x : K) → eq k x ≡ true → (b : Bool) → test x ≡ b
       → test x ≡ false
-  form_apart_by test form k fails x same fact6 e = grind (arith, common_steps)
+  form_apart_by test form k fails x same b e = grind (arith, common_steps)
 
   -- a form that does not stand for a key stands for none of its equals
   pub form_apart : (test : K → Bool) → IsForm eq test → (k : K) → test k ≡ false → (x : K) → eq k x ≡ true → test x ≡ false
@@ -158,7 +140,7 @@ module _ {K V : Type 0} (eq : K → K → Bool) (laws : IsEquivalence eq) where
       → value_of eq (put eq ps k v) q ≡ cond (eq k q) (Some v) (value_of eq ps q)
       → (b : Bool) → eq k p.0 ≡ b
       → value_of eq (cond b ((p.0, v) ∷ ps) (p ∷ put eq ps k v)) q ≡ cond (eq k q) (Some v) (value_of eq (p ∷ ps) q)
-  put_by p ps k v q more fact6 at = grind (arith, common_steps)
+  put_by p ps k v q more b at = grind (arith, common_steps)
 
   -- the equals of the key have the value that was put, and each other key has what it had
   pub lookup_put : (ps : List (K × V)) (k : K) (v : V) (q : K) → value_of eq (put eq ps k v) q ≡ cond (eq k q) (Some v) (value_of eq ps q)
@@ -168,7 +150,7 @@ module _ {K V : Type 0} (eq : K → K → Bool) (laws : IsEquivalence eq) where
   put_other_past : (p : K × V) (ps : List (K × V)) (k : K) (v : V) (test : K → Bool) → lookup test (put eq ps k v) ≡ lookup test ps
       → ((x : K) → eq k x ≡ true → test x ≡ false) → (b : Bool) → eq k p.0 ≡ b
       → lookup test (cond b ((p.0, v) ∷ ps) (p ∷ put eq ps k v)) ≡ lookup test (p ∷ ps)
-  put_other_past p ps k v test more apart fact7 at = grind (arith, common_steps)
+  put_other_past p ps k v test more apart b at = grind (arith, common_steps)
 
   -- a test that accepts no equal of the key finds what it found
   pub put_other : (ps : List (K × V)) (k : K) (v : V) (test : K → Bool) → ((x : K) → eq k x ≡ true → test x ≡ false)
@@ -192,9 +174,7 @@ module _ {K V : Type 0} (eq : K → K → Bool) (laws : IsEquivalence eq) where
   -- a form that stands for the key finds the value
   pub put_same : (ps : List (K × V)) (k : K) (v : V) (test : K → Bool) → IsForm eq test → test k ≡ true
       → lookup test (put eq ps k v) ≡ Some v
-  put_same ps k v test form passes =
-      let same : test ≡ eq k = λ i x. form k x passes i in
-      ap (λ t. lookup t (put eq ps k v)) same ∙ value_of_put ps k v
+  put_same ps k v test form passes = grind (arith, common_steps, value_of_put)
 
   form_put_by : (ps : List (K × V)) (k : K) (v : V) (test : K → Bool) → IsForm eq test → (b : Bool) → test k ≡ b
       → lookup test (put eq ps k v) ≡ cond b (Some v) (lookup test ps)
@@ -207,14 +187,7 @@ module _ {K V : Type 0} (eq : K → K → Bool) (laws : IsEquivalence eq) where
   form_put ps k v test form = form_put_by ps k v test form (test k) refl
 
   pub has_put : (ps : List (K × V)) (k : K) (v : V) → HasPut eq ps k v (put eq ps k v)
-  has_put ps k v = record {
-    held = held_put ps k v;
-    value = value_of_put ps k v;
-    equals = equal_of_put ps k v;
-    others = other_of_put ps k v;
-    len = len_put eq ps k v;
-    keys = keys_put eq ps k v;
-  }
+  has_put ps k v = grind (arith, common_steps, equal_of_put, held_put, keys_put, len_put, other_of_put, value_of_put)
 
   -- ---- a removal
 
@@ -235,8 +208,7 @@ module _ {K V : Type 0} (eq : K → K → Bool) (laws : IsEquivalence eq) where
 
   module _ (ps : List (K × V)) (distinct : IsDistinct eq (keys_of ps)) (k : K) where
     absent_by : value_of eq ps k ≡ None → (q : K) (b : Bool) → eq k q ≡ b → value_of eq ps q ≡ cond b None (value_of eq ps q)
-    absent_by absent q true same = value_of_equal ps k q same ∙ absent
-    absent_by absent q false other = refl
+    absent_by absent q b same = grind (arith, common_steps)
 
     split_by : (left : List (K × V)) → IsSplit ps k left → (q : K) (b : Bool) → eq k q ≡ b
         → value_of eq left q ≡ cond b None (value_of eq ps q)
@@ -252,12 +224,7 @@ module _ {K V : Type 0} (eq : K → K → Bool) (laws : IsEquivalence eq) where
 
     taken_by : (index : Option ℕ) → index ≡ index_of (eq k) (keys_of ps) → (q : K)
         → value_of eq (take_out eq ps k) q ≡ cond (eq k q) None (value_of eq ps q)
-    taken_by (Some i) is q =
-        let left = split_first ps k i (first_of_index (eq k) (keys_of ps) i (sym is)) in
-        ap (λ l. value_of eq l q) (index_found (eq k) ps i is).take_is ∙ split_by (swap_remove_at ps i) left q (eq k q) refl
-    taken_by None is q =
-        let absent = absent_of_index (eq k) ps is in
-        ap (λ l. value_of eq l q) absent.take_is ∙ absent_by absent.value q (eq k q) refl
+    taken_by index is q = grind (arith, common_steps, absent_by, absent_of_index, first_of_index, index_found, split_by, split_first)
 
     -- no equal of the key has a value, and each other key has what it had
     pub lookup_taken : (q : K) → value_of eq (take_out eq ps k) q ≡ cond (eq k q) None (value_of eq ps q)
@@ -291,13 +258,7 @@ module _ {K V : Type 0} (eq : K → K → Bool) (laws : IsEquivalence eq) where
     form_taken = form_taken_by (index_of (eq k) (keys_of ps)) refl
 
     pub has_removed : HasRemoved eq ps k (take_out eq ps k)
-    has_removed = record {
-      not_held = held_taken;
-      no_value = value_of_taken;
-      equals = equal_of_taken;
-      others = other_of_taken;
-      len = taken_from (holds eq ps k) (length (take_out eq ps k)) (length ps) (len_taken eq ps k);
-    }
+    has_removed = grind (arith, common_steps, equal_of_taken, held_taken, len_taken, other_of_taken, taken_from, value_of_taken)
 
   -- ---- a removal by a test
 

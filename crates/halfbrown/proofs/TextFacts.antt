@@ -1,6 +1,7 @@
 -- Pairs under what is read of their keys, as texts under their bytes: a look-up, a put, a set value and a removal there.
-use Rattle.std.proofs.Common.{◌≡◌, ℕ, suc, ◌+◌, ◌<◌, ◌≤◌, length, String, arith, take, get_or, unwrap_or, subst, Bool, true, false, cond}
-use Rattle.std.proofs.Common.{List, [], ◌∷◌, ◌++◌, map, Option, None, Some, is_some, refl, sym, ap, ◌∙◌}
+use Rattle.std.proofs.Common.{◌≡◌, ℕ, suc, ◌+◌, ◌<◌, ◌≤◌, length, String, arith, take, get_or, unwrap_or, subst, Bool, false, cond, List}
+use Rattle.std.proofs.Common.{[], ◌∷◌, ◌++◌, map, Option, None, Some, is_some, refl, sym, ap, ◌∙◌}
+use Rattle.std.proofs.lemmas.Grind.{common_steps}
 use Rattle.std.specs.Bool.{nat_eq}
 use Rattle.std.specs.Cmp.Lexicographic.{pointwise, nat_list_eq_equiv}
 use Rattle.std.specs.List.{IsDistinct, AllByRecursion}
@@ -32,8 +33,7 @@ module _ {K B V : Type 0} (read : K → B) (test : B → Bool) where
       → keyed_by read (set_by (λ k. test (read k)) ps v) ≡ set_by test (keyed_by read ps) v
       → (b : Bool) → keyed_by read (cond b ((p.0, v) ∷ ps) (p ∷ set_by (λ k. test (read k)) ps v))
       ≡ cond b ((read p.0, v) ∷ keyed_by read ps) ((read p.0, p.1) ∷ set_by test (keyed_by read ps) v)
-  set_read_by p ps v more true = refl
-  set_read_by p ps v more false = ap (λ l. (read p.0, p.1) ∷ l) more
+  set_read_by p ps v more b = grind (arith, common_steps)
 
   pub keyed_by-set : (ps : List (K × V)) (v : V) → keyed_by read (set_by (λ k. test (read k)) ps v) ≡ set_by test (keyed_by read ps) v
   keyed_by-set [] v = refl
@@ -56,8 +56,7 @@ module _ {K B V : Type 0} (read : K → B) (test : B → Bool) where
 
 put_read_by : {K B V : Type 0} (read : K → B) (b : Bool) (xs ys : List (K × V))
     → keyed_by read (cond b xs ys) ≡ cond b (keyed_by read xs) (keyed_by read ys)
-put_read_by read true xs ys = refl
-put_read_by read false xs ys = refl
+put_read_by read b xs ys = grind (arith, common_steps)
 
 module _ {K B V : Type 0} (read : K → B) (same : B → B → Bool) where
   -- a put, where keys are equal exactly where what is read of them is

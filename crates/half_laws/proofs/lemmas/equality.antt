@@ -1,7 +1,7 @@
 -- What decides the equality of maps, and what the searches of a comparison cost together.
-use Rattle.std.proofs.Common.{◌≡◌, ℕ, ◌≤◌, Bool, true, false, cond, List, [], ◌∷◌, length, Option, None}
+use Rattle.std.proofs.Common.{◌≡◌, ℕ, ◌≤◌, Bool, true, false, cond, List, [], ◌∷◌, length, Option, None, Some, is_some, refl, sym, ap, ◌∙◌}
+use Rattle.std.proofs.Common.{arith, ◌+◌, ◌-◌, ◌*◌, ◌==◌, subst}
 use Rattle.std.proofs.lemmas.Grind.{common_steps}
-use Rattle.std.proofs.Common.{Some, is_some, refl, sym, ap, ◌∙◌, arith, ◌+◌, ◌-◌, ◌*◌, ◌==◌, subst}
 use Rattle.std.specs.Bool.{one_answer}
 use Rattle.std.specs.Cmp.{IsEquivalence}
 use Rattle.std.specs.List.{IsDistinct, list_all}
@@ -60,13 +60,7 @@ module _ {K V S : Type 0} (eq : K → K → Bool) (hash : S → K → ℕ) (m : 
   none_cost before after costs = costs
 
   one_compares : (k : K) (before after : Work) → KeySearchCosts eq hash m k before after → after.compared ≤ before.compared + length m.pairs
-  one_compares k before after costs =
-      let found = index_of (eq k) (keys_of m.pairs) in
-      let few = count_by-le-length (λ q. hash m.builder q == hash m.builder k) (keys_of m.pairs) in
-      let most = compares_most m.is_vec (is_some found) (first_match_cost found (length m.pairs))
-      (candidates (hash m.builder) m.pairs (hash m.builder k)) (length m.pairs)
-      (comparisons_most (eq k) m.pairs found refl) (omega (arith, few, length-keys_of m.pairs)) in
-      omega (arith, costs.grew.compared.most, most)
+  one_compares k before after costs = grind (arith, common_steps, compares_most, comparisons_most, count_by-le-length, is_some, length-keys_of)
 
   one_looks : (k : K) (before after : Work) → KeySearchCosts eq hash m k before after → after.looked ≤ before.looked + (length m.pairs + 1)
   one_looks k before after costs = grind (arith, common_steps)
@@ -143,9 +137,7 @@ module _ {K V S : Type 0} (eq : K → K → Bool) (value_eq : V → V → Bool) 
   module _ (left : List (K × V)) (m : State K V S) where
     all_are_searched : IsDistinct eq (keys_of left) → IsDistinct eq (keys_of m.pairs) → same_pairs eq value_eq left m.pairs ≡ true
         → length (searched_keys eq value_eq left m.pairs) ≡ length left
-    all_are_searched left_distinct right_distinct same =
-        let both = (same_pairs-by_pairs eq value_eq laws left m.pairs left_distinct right_distinct).0 same in
-        sym (ap length (all_searched eq value_eq left m.pairs both.0)) ∙ length_all eq value_eq left m.pairs both.1
+    all_are_searched left_distinct right_distinct same = grind (arith, common_steps, all_searched, length_all, same_pairs-by_pairs)
 
   pub comparison_law : ComparisonLaw eq value_eq hash
   comparison_law left m before after costs =

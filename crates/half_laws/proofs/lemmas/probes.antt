@@ -1,6 +1,7 @@
 -- What holds of `reach` for every list of held hashes.
-use Rattle.std.proofs.Common.{◌≡◌, ℕ, zero, suc, ◌-◌, ◌<◌, ◌≤◌, true, false, nat_lt, inl, inr, refl, sym, ap, ◌∙◌, subst, arith, List, []}
+use Rattle.std.proofs.Common.{◌≡◌, ℕ, zero, suc, ◌-◌, ◌<◌, ◌≤◌, true, false, nat_lt, inl, inr, refl, sym, ap, ◌∙◌, subst, arith, List}
 use Rattle.std.proofs.Common.{length, get_or, sum_by, Contains, IsPermutation}
+use Rattle.std.proofs.lemmas.Grind.{common_steps}
 use Rattle.std.proofs.lemmas.Bool.{cases_lt, cases_eq, cases_Bool, lt-ltb, both_ways}
 use Rattle.std.proofs.lemmas.List.Sorted.{sum_by-IsPermutation}
 use Rattle.std.proofs.lemmas.List.Sums.{get_or-le-sum_by}
@@ -92,11 +93,7 @@ module _ (hashes : List ℕ) (m : ℕ) where
   not_loaded last e loaded = both_ways (is_loaded hashes m last) e (is_loaded-yes hashes m last loaded)
 
   pub unloaded : (last : ℕ) → (IsLoaded hashes m last → ⊥) → is_loaded hashes m last ≡ false
-  unloaded last free =
-      elim (cases_Bool (is_loaded hashes m last)) [
-        | inr e ↦ e
-        | inl e ↦ absurd (free (loaded_from hashes m last e))
-      ]
+  unloaded last free = grind (arith, common_steps, loaded_from)
 
   -- a run of as many loaded buckets as the table has would be home to as many hashes
   full_circle : (b : ℕ) → b < m → length hashes < m → ((k : ℕ) → k < m → is_loaded hashes m (bucket_after m b k) ≡ true) → ⊥
@@ -142,9 +139,7 @@ pub no_buckets_law : NoBucketsLaw
 no_buckets_law hashes hash = reach-none hashes 0 hash refl
 
 pub crowding_law : CrowdingLaw
-crowding_law hashes m hash passed few l =
-    let some : 0 < m = omega arith in
-    crowded_run hashes m hash passed some few (omega (arith, reach-some hashes m hash some))
+crowding_law hashes m hash passed few l = grind (arith, common_steps, crowded_run, reach-some)
 
 pub once_round_law : OnceRoundLaw
 once_round_law hashes m hash =
@@ -185,9 +180,7 @@ one_bucket_law hashes m hash some =
     )
 
 pub nothing_held_law : NothingHeldLaw
-nothing_held_law m hash some =
-    (one_bucket_law [] m hash some).1
-    (λ (loaded : IsLoaded [] m (home m hash)). absurd (omega (arith, loaded.1, loaded.3, load-le [] m (home m hash) loaded.0)))
+nothing_held_law m hash some = grind (arith, common_steps, load-le, one_bucket_law)
 
 -- a bucket that is home to a hash has a load
 home-load : (hashes : List ℕ) (m held : ℕ) → 0 < m → Contains hashes held → 1 ≤ load hashes m (home m held) 1

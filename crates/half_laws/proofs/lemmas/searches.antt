@@ -1,7 +1,6 @@
 -- What holds of every search.
-use Rattle.std.proofs.Common.{◌≡◌, ℕ, ◌+◌, ◌-◌, ◌<◌, ◌≤◌, ◌==◌, Bool, true, false, not, ◌&&◌, inl, inr, refl, sym, ap, ◌∙◌}
-use Rattle.std.proofs.Common.{subst, arith, List, length, map, cond, Option, None, is_some, IsPermutation, if◌then◌else◌}
-use Rattle.std.proofs.lemmas.Bool.{cases_lt, cases_Bool}
+use Rattle.std.proofs.Common.{◌≡◌, ℕ, ◌+◌, ◌-◌, ◌<◌, ◌≤◌, ◌==◌, Bool, true, false, not, ◌&&◌, refl, sym, ap, ◌∙◌, subst, arith, List}
+use Rattle.std.proofs.Common.{length, map, cond, Option, None, is_some, IsPermutation, if◌then◌else◌}
 use Rattle.std.proofs.lemmas.Grind.{common_steps}
 use Rattle.std.proofs.lemmas.List.Sorted.{IsPermutation-map, length_permutation, sum_by-IsPermutation, list_any-IsPermutation}
 use Rattle.std.proofs.lemmas.Map.Entries.{length-keys_of}
@@ -17,7 +16,7 @@ use Rattle.half_store.proofs.lemmas.table.Reach.{reach-none}
 use Rattle.half_store.proofs.lemmas.capacity.{four-le_count, buckets_for-least, buckets_of-capacity_of, capacity_for-capacity_of}
 use Rattle.half_laws.proofs.lemmas.probes.{history_law as reach_history, crowding_law}
 use Rattle.halfbrown.specs.declared.run.Command.{Command}
-use Rattle.halfbrown.specs.declared.run.Command.TheVariants.{Insert, InsertNew, EntryOrInsert, RawOrInsert, Get, Remove}
+use Rattle.halfbrown.specs.declared.run.Command.TheVariants.{Insert, InsertNew, EntryOrInsert, RawOrInsert}
 use Rattle.halfbrown.specs.Costs.{Range, Cost, GrewBy, GrewWithin, exactly, between, add_ranges, no_cost, search_asked, candidates}
 use Rattle.halfbrown.specs.Costs.{probe_length, search_compares, search_looks, search_cost, search_cost_of, switched, grown, insertion_looks}
 use Rattle.halfbrown.specs.Costs.{insert_cost, raw_insert_cost, new_key_cost, is_switch_refused, capacity_switched, capacity_grown}
@@ -103,48 +102,20 @@ never_found in_vector held unheld = grind (arith, common_steps)
 
 module _ {K V S : Type 0} (hash : S → K → ℕ) where
   pub crowded_probe_law : CrowdedProbeLaw V hash
-  crowded_probe_law builder capacity pairs sought passed is fits l =
-      let hashes : List ℕ = map (hash builder) (keys_of pairs) in
-      let m : ℕ = buckets_of capacity in
-      let h : ℕ = sought in
-      let some : 0 < m = elim (cases_lt 0 m) [
-        | inl s ↦ s
-        | inr none ↦ absurd (omega (arith, reach-none hashes m h (omega arith)))
-      ] in
-      let few : length hashes < m =
-      omega (arith, buckets-more capacity is some, length-map (keys_of pairs) (hash builder), length-keys_of pairs) in
-      crowding_law hashes m h passed few l
+  crowded_probe_law builder capacity pairs sought passed is fits l = grind (arith, common_steps, buckets-more, crowding_law, length-keys_of, length-map, map, reach-none)
 
   module _ (limit : ℕ) (eq : K → K → Bool) where
     pub crowded_search_law : CrowdedSearchLaw V limit eq hash
-    crowded_search_law m sought found asked before after passed state form costs l =
-        let probe : ℕ = probe_length (hash m.builder) false m.capacity m.pairs sought in
-        let grew : GrewWithin (search_looks (hash m.builder) sought found false m.capacity m.pairs) before.looked after.looked =
-        subst (λ b. GrewWithin (search_looks (hash m.builder) sought found b m.capacity m.pairs) before.looked after.looked) form
-        costs.grew.looked in
-        let most = looks_most (is_some found) probe in
-        crowded_probe_law m.builder m.capacity m.pairs sought passed (state.table_capacity form) state.fits (omega (arith, grew.most, most))
+    crowded_search_law m sought found asked before after passed state form costs l = grind (arith, common_steps, crowded_probe_law, is_some, looks_most)
 
     module _ (m : State K V S) (s : IsState eq limit m) (stays : is_vec_after limit m ≡ false) where
       -- once the form has changed, the capacity is that of a table that the pairs fit
       switched_fits : IsTableCapacity (capacity_switched limit m) × (length m.pairs ≤ capacity_switched limit m)
-      switched_fits =
-          elim (cases_Bool (is_full limit m)) [
-            | inl full ↦
-                let l = buckets_for-least (limit + 1) in
-                let held = full_len limit m full in
-                rw full (capacity_for-capacity_of (buckets_for (limit + 1)) l.count, omega (arith, l.serves))
-            | inr part ↦
-                let fits = s.fits in
-                rw part (s.table_capacity (table_of m.is_vec (is_full limit m) part stays), fits)
-          ]
+      switched_fits = grind (arith, common_steps, buckets_for-least, capacity_for-capacity_of, full_len, table_of)
 
       -- and so is the one that is enough for one pair more
       grown_fits : IsTableCapacity (capacity_grown limit m) × (length m.pairs ≤ capacity_grown limit m)
-      grown_fits =
-          let l = buckets_for-least (length m.pairs + 1) in
-          of_both (λ capacity. IsTableCapacity capacity × (length m.pairs ≤ capacity)) (addition_grows limit m) _ _
-          (capacity_for-capacity_of (buckets_for (length m.pairs + 1)) l.count, omega (arith, l.serves)) switched_fits
+      grown_fits = grind (arith, common_steps, buckets_for-least, capacity_for-capacity_of, of_both, switched_fits)
 
     pub crowded_growth_law : CrowdedGrowthLaw V limit eq hash
     crowded_growth_law m k granted before after s stays grows costs =
@@ -175,34 +146,10 @@ module _ {K V S : Type 0} (hash : S → K → ℕ) where
         }
 
     pub crowded_unchecked_law : CrowdedUncheckedLaw V limit eq hash
-    crowded_unchecked_law m k granted before after passed s grew l =
-        let probe : Bool → ℕ = λ b. probe_length (hash m.builder) b (capacity_grown limit m) m.pairs (hash m.builder k) in
-        let most : after.looked ≤ before.looked + probe (is_vec_after limit m) =
-        unchecked_most granted (probe (is_vec_after limit m)) before.looked after.looked grew.looked in
-        elim (cases_Bool (is_vec_after limit m)) [
-          | inl vector ↦ absurd (omega (arith, most, ap probe vector))
-          | inr stays ↦
-              let more = grown_fits m s stays in
-              crowded_probe_law m.builder (capacity_grown limit m) m.pairs (hash m.builder k) passed more.0 more.1
-              (omega (arith, most, ap probe stays))
-        ]
+    crowded_unchecked_law m k granted before after passed s grew l = grind (arith, common_steps, crowded_probe_law, grown_fits, unchecked_most)
 
     pub crowded_insertion_law : CrowdedInsertionLaw V limit eq hash
-    crowded_insertion_law m k granted before after passed s none costs l =
-        let found : Option ℕ = index_of (eq k) (keys_of m.pairs) in
-        let looks : Bool → Range = λ b. search_looks (hash m.builder) (hash m.builder k) found b (capacity_switched limit m) m.pairs in
-        let read : after.looked ≤ before.looked + (looks (is_vec_after limit m)).most =
-        insertion_most (is_switch_refused limit m granted) _ (looks (is_vec_after limit m)) (insertion_looks hash (grown limit m) k)
-        before.looked after.looked none costs.grew.looked in
-        elim (cases_Bool (is_vec_after limit m)) [
-          | inl vector ↦ absurd (omega (arith, read, ap (λ b. (looks b).most) vector))
-          | inr stays ↦
-              let is = switched_fits m s stays in
-              let most = looks_most (is_some found)
-              (probe_length (hash m.builder) false (capacity_switched limit m) m.pairs (hash m.builder k)) in
-              crowded_probe_law m.builder (capacity_switched limit m) m.pairs (hash m.builder k) passed is.0 is.1
-              (omega (arith, read, most, ap (λ b. (looks b).most) stays))
-        ]
+    crowded_insertion_law m k granted before after passed s none costs l = grind (arith, common_steps, crowded_probe_law, insertion_most, is_some, looks_most, switched_fits)
 
   keys-permutation : (xs ys : List (K × V)) → IsPermutation xs ys → IsPermutation (keys_of xs) (keys_of ys)
   keys-permutation xs ys p = IsPermutation-map (λ (e : K × V). e.0) xs ys p
@@ -258,17 +205,12 @@ module _ {K V S : Type 0} (hash : S → K → ℕ) where
     compares-same : (is_vec : Bool) → (is_vec && holds_by test xs) ≡ false
         → search_compares (hash builder) sought (index_of test (keys_of xs)) is_vec xs
         ≡ search_compares (hash builder) sought (index_of test (keys_of ys)) is_vec ys
-    compares-same true unheld =
-        ap exactly (comparisons-unheld test xs unheld ∙ sym (length_permutation xs ys p)
-        ∙ sym (comparisons-unheld test ys (sym held-same ∙ unheld)))
-    compares-same false none = λ i. if found-same i then between 1 (candidates-same i) else exactly (candidates-same i)
+    compares-same is_vec unheld = grind (arith, common_steps, candidates-same, comparisons-unheld, found-same, held-same, length_permutation)
 
     looks-same : (is_vec : Bool) (capacity : ℕ)
         → search_looks (hash builder) sought (index_of test (keys_of xs)) is_vec capacity xs
         ≡ search_looks (hash builder) sought (index_of test (keys_of ys)) is_vec capacity ys
-    looks-same true capacity = refl
-    looks-same false capacity = λ i. let probe = reach-same (buckets_of capacity) i in
-        if found-same i then between 1 (probe - 1) else exactly probe
+    looks-same is_vec capacity = grind (arith, common_steps, found-same, reach-same)
 
   pub history_law : HistoryLaw V hash
   history_law a b test sought asked a_before a_after b_before b_after same unheld a_costs b_costs =
@@ -386,32 +328,15 @@ module _ {K V S : Type 0} (hash : S → K → ℕ) where
 
       buckets-same : (command : Command K V) (refused : Bool)
           → (command_cost limit eq hash first command refused).looked ≡ (command_cost limit eq hash second command refused).looked
-      buckets-same (Insert k v) refused = insert-looked k (not refused)
-      buckets-same (InsertNew k v) refused = λ i. add_ranges (search-looked k i) (added-same k (not refused) i).looked
-      buckets-same (EntryOrInsert k v) refused = insert-looked k (not refused)
-      buckets-same (RawOrInsert k v) refused = raw-looked k (not refused)
-      buckets-same (Get k) refused = search-looked k
-      buckets-same (Remove k) refused = search-looked k
-      buckets-same command refused = refl
+      buckets-same command refused = grind (arith, common_steps, added-same, insert-looked, not, raw-looked, search-looked)
 
       compared-same : (command : Command K V) (refused : Bool) → finds_in_vector limit eq first command ≡ false
           → (command_cost limit eq hash first command refused).compared ≡ (command_cost limit eq hash second command refused).compared
-      compared-same (Insert k v) refused none = insert-compared k (not refused) none
-      compared-same (InsertNew k v) refused none = λ i. add_ranges (search-compared k none i) (added-same k (not refused) i).compared
-      compared-same (EntryOrInsert k v) refused none = insert-compared k (not refused) none
-      compared-same (RawOrInsert k v) refused none = raw-compared k (not refused) none
-      compared-same (Get k) refused none = search-compared k none
-      compared-same (Remove k) refused none = search-compared k none
-      compared-same command refused none = refl
+      compared-same command refused none = grind (arith, common_steps, added-same, insert-compared, not, raw-compared, search-compared)
 
       cost-same : (command : Command K V) (refused : Bool) → finds_in_vector limit eq first command ≡ false
           → command_cost limit eq hash first command refused ≡ command_cost limit eq hash second command refused
-      cost-same command refused none =
-          λ i. record {
-            asked = hashes-same command refused i;
-            compared = compared-same command refused none i;
-            looked = buckets-same command refused i;
-          }
+      cost-same command refused none = grind (arith, common_steps, buckets-same, compared-same, hashes-same, looked)
 
     -- two maps of the same form, capacity and builder
     module _ (a b : State K V S) (same : HoldSamePairs a b) where

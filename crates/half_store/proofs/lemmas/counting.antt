@@ -1,5 +1,6 @@
 -- What a comparison says that was made with the key at an index.
 use Rattle.std.proofs.Common.{◌≡◌, ℕ, ◌-◌, ◌<◌, ◌≤◌, Bool, List, Some, length, get_or, slice_get, slice_index, sym, ap, subst, ◌∙◌, arith}
+use Rattle.std.proofs.lemmas.Grind.{common_steps}
 use Rattle.std.proofs.lemmas.Option.{get_or_from_slice_get, slice_get-get_or, slice_get_within}
 use Rattle.half_store.specs.Buckets.{slots_by}
 use Rattle.half_store.specs.Search.{ReturnsAt}
@@ -16,9 +17,7 @@ module _ {K : Type 0} (hashes words : List ℕ) (keys : List K) (bucket hash ind
     (full : slot_at (slots_by hashes words) bucket ≡ Some hash) (entry : index ≡ slice_index words bucket - 1) where
   -- the pair in a full bucket has a key
   pub key_within : index < length keys
-  key_within =
-      let at = word_of_slot hashes words bucket hash full in
-      omega (arith, slice_get_within hashes at.0 hash at.2, at.1, entry, enough)
+  key_within = grind (arith, common_steps, slice_get_within, word_of_slot)
 
   -- this one
   pub key_in_bucket : (key : K) → key ≡ get_or keys index key → slice_get keys (slice_index words bucket - 1) ≡ Some key

@@ -1,17 +1,18 @@
 -- What a step does to pairs and capacity: it puts a pair, or keeps the capacity and adds none, or shrinks. A `Reserve` is left out.
-use Rattle.std.proofs.Common.{◌≡◌, ℕ, ◌+◌, ◌≤◌, nat_lt, ◌⊎◌, inl, inr, Bool, true, false, true≢false, cond, length, Option, None, Some, ap}
-use Rattle.std.proofs.Common.{refl, arith, if◌then◌else◌}
+use Rattle.std.proofs.Common.{◌≡◌, ℕ, ◌+◌, ◌≤◌, nat_lt, ◌⊎◌, inl, inr, Bool, true, false, cond, length, Option, None, Some, ap, refl, arith}
+use Rattle.std.proofs.Common.{if◌then◌else◌}
+use Rattle.std.proofs.lemmas.Grind.{common_steps}
 use Rattle.std.specs.Prelude.{IfSome, MatchBool}
 use Rattle.std.proofs.lemmas.Bool.Decides.{nat_tests}
 use Rattle.halfbrown.specs.declared.run.Command.{Command}
-use Rattle.halfbrown.specs.declared.run.Command.TheVariants.{Insert, InsertNew, EntryOrInsert, RawOrInsert, Remove, Clear, Reserve, Shrink}
+use Rattle.halfbrown.specs.declared.run.Command.TheVariants.{InsertNew}
 use Rattle.halfbrown.specs.declared.run.Reply.{Reply}
 use Rattle.halfbrown.specs.declared.run.Reply.TheVariants.{Refused}
 use Rattle.halfbrown.specs.Growth.{addition_needs, new_key_needs, insert_needs, is_full, Shrinks}
 use Rattle.halfbrown.specs.Insertion.{Puts}
-use Rattle.halfbrown.specs.Pairs.{holds, take_out}
+use Rattle.halfbrown.specs.Pairs.{holds}
 use Rattle.halfbrown.specs.State.{State}
-use Rattle.halfbrown.specs.Step.{Step, Steps, IsStep, Leaves, value_or, is_shrink}
+use Rattle.halfbrown.specs.Step.{Step, Steps, IsStep, Leaves, is_shrink}
 use Rattle.halfbrown.proofs.CallerLemmas.{len_taken}
 use Rattle.half_laws.specs.RunLaws.{is_reserve}
 
@@ -83,28 +84,7 @@ module _ {K V S : Type 0} (limit : ℕ) (eq : K → K → Bool) where
 
   leaves_changed : (old new : State K V S) (command : Command K V) → is_reserve command ≡ false → Leaves limit eq old command new
       → Changes old command new
-  leaves_changed old new (Insert k v) none leaves = inl (puts_any old new k v leaves)
-  leaves_changed old new (InsertNew k v) none leaves = held_changes old new k v (holds eq old.pairs k) leaves
-  leaves_changed old new (EntryOrInsert k v) none leaves = inl (puts_any old new k (value_or eq old.pairs k v) leaves)
-  leaves_changed old new (RawOrInsert k v) none leaves = inl (puts_new old new k (value_or eq old.pairs k v) leaves)
-  leaves_changed old new (Remove k) none leaves =
-      let len = cond_least (holds eq old.pairs k) (length (take_out eq old.pairs k)) (length old.pairs) (len_taken eq old.pairs k) in
-      inr (inl (record {
-        form = leaves.form;
-        capacity = leaves.capacity;
-        columns = leaves.columns;
-        len = omega (arith, ap length leaves.pairs, len);
-      }))
-  leaves_changed old new Clear none leaves =
-      inr (inl (record {
-        form = leaves.form;
-        capacity = leaves.capacity;
-        columns = leaves.columns;
-        len = omega (arith, ap length leaves.pairs);
-      }))
-  leaves_changed old new (Reserve additional) none leaves = absurd (true≢false none)
-  leaves_changed old new Shrink none leaves = inr (inr (refl, leaves))
-  leaves_changed old new command none leaves = inr (inl (keeps_all old new leaves))
+  leaves_changed old new command none leaves = grind (arith, common_steps, cond_least, held_changes, keeps_all, len_taken, puts_any, puts_new)
 
   changes_by : (old new : State K V S) (command : Command K V) (reply : Reply K V) → Steps limit eq old command reply new
       → is_reserve command ≡ false → Changes old command new

@@ -1,7 +1,7 @@
 -- How much capacity and memory a run leaves, by induction over the steps.
 use Rattle.std.proofs.Common.{◌≡◌, ℕ, zero, suc, ◌+◌, ◌*◌, ◌≤◌, max, inl, inr, Bool, true, false, ◌&&◌, List, [], ◌∷◌, length, fold, Option}
-use Rattle.std.proofs.lemmas.Grind.{common_steps}
 use Rattle.std.proofs.Common.{None, Some, sym, ap, refl, subst, arith, if◌then◌else◌}
+use Rattle.std.proofs.lemmas.Grind.{common_steps}
 use Rattle.std.specs.Prelude.{MatchBool}
 use Rattle.half_store.specs.Capacity.{IsBucketCount, capacity_of, buckets_for_more, buckets_for, capacity_for}
 use Rattle.half_store.specs.Capacity.{grown_capacity}

@@ -1,13 +1,13 @@
 -- How many pairs a run moves: each step pays two, and what a map has paid and not used is its credit.
-use Rattle.std.proofs.Common.{◌≡◌, ◌∙◌, ℕ, suc, ◌+◌, ◌-◌, ◌*◌, ◌≤◌, nat_lt, ◌==◌, inl, inr, Bool, true, false, true≢false, not}
-use Rattle.std.proofs.Common.{◌&&◌, cond, List, [], ◌∷◌, length, sum_by, Option, None, Some, ap, sym, refl, subst, arith, if◌then◌else◌}
-use Rattle.std.proofs.lemmas.Bool.{cases_lt, cases_Bool, eq-eqb, le-ltb, MatchBool-at_true, MatchBool-at_false}
+use Rattle.std.proofs.Common.{◌≡◌, ◌∙◌, ℕ, suc, ◌+◌, ◌-◌, ◌*◌, ◌≤◌, nat_lt, ◌==◌, inl, inr, Bool, true, false, true≢false, not, ◌&&◌, cond}
+use Rattle.std.proofs.Common.{List, [], ◌∷◌, length, sum_by, Option, Some, ap, sym, refl, subst, arith, if◌then◌else◌}
 use Rattle.std.proofs.lemmas.Grind.{common_steps}
+use Rattle.std.proofs.lemmas.Bool.{cases_lt, eq-eqb, le-ltb, MatchBool-at_false}
 use Rattle.std.proofs.lemmas.List.Sums.{sum_by-cons}
 use Rattle.half_store.specs.Capacity.{IsBucketCount, capacity_of, more_buckets, buckets_for, capacity_for, grown_capacity}
 use Rattle.half_store.proofs.lemmas.capacity.{more_buckets-some, buckets_for-least, buckets_for-grown, quarter}
 use Rattle.halfbrown.specs.Growth.{is_full, HasCapacityAfter}
-use Rattle.halfbrown.specs.Pairs.{holds, put}
+use Rattle.halfbrown.specs.Pairs.{put}
 use Rattle.halfbrown.specs.Run.{Lead, shrinks, commands_of}
 use Rattle.halfbrown.specs.State.{State, IsState, IsTableCapacity}
 use Rattle.halfbrown.specs.Step.{Step, IsStep, is_shrink}
@@ -75,19 +75,7 @@ module _ {K V S : Type 0} (limit : ℕ) (eq : K → K → Bool) where
         omega (arith, moved_none old new capacity, ap (λ v. budget limit v new.capacity) form, ap (budget limit old.is_vec) capacity)
 
     switch_pays : is_full limit old ≡ true → new.is_vec ≡ false → new.capacity ≡ capacity_for (limit + 1) → Pays old new
-    switch_pays full form capacity =
-        let vec = first_of_both old.is_vec (length old.pairs == limit) full in
-        let len = full_len limit old full in
-        omega (
-          arith,
-          moves,
-          len,
-          state.vector_capacity vec,
-          (buckets_for-least (limit + 1)).serves,
-          ap (λ v. budget limit v new.capacity) form,
-          ap (λ v. budget limit v old.capacity) vec,
-          budget_high limit old.capacity (omega (arith, len)),
-        )
+    switch_pays full form capacity = grind (arith, common_steps, buckets_for-least, budget_high, first_of_both, full_len, moves)
 
     vector_pays : is_full limit old ≡ false → old.is_vec ≡ true → new.is_vec ≡ old.is_vec → old.capacity ≤ length old.pairs
         → new.capacity ≡ grown_capacity limit old.capacity (length old.pairs + 1) → Pays old new
@@ -95,27 +83,11 @@ module _ {K V S : Type 0} (limit : ℕ) (eq : K → K → Bool) where
 
     table_pays : old.is_vec ≡ false → new.is_vec ≡ old.is_vec → old.capacity ≤ length old.pairs
         → new.capacity ≡ capacity_for (length old.pairs + 1) → Pays old new
-    table_pays table form filled capacity =
-        let same : length old.pairs ≡ old.capacity = omega arith in
-        omega (
-          arith,
-          moves,
-          table_doubles old.capacity (state.table_capacity table),
-          ap (λ n. capacity_for (n + 1)) same,
-          ap (λ v. budget limit v new.capacity) (form ∙ table),
-          ap (λ v. budget limit v old.capacity) table,
-        )
+    table_pays table form filled capacity = grind (arith, common_steps, moves, table_doubles)
 
     grown_pays : is_full limit old ≡ false → new.is_vec ≡ old.is_vec → (needs : Option ℕ) → IsDue old needs
         → HasCapacityAfter limit old needs new → Pays old new
-    grown_pays full form None due after = stays_pays form after
-    grown_pays full form (Some n) due after =
-        elim (cases_Bool old.is_vec) [
-          | inl vec ↦
-              let grown = MatchBool-at_true _ _ (form ∙ vec) after in
-              vector_pays full vec form due.1 (grown ∙ ap (grown_capacity limit old.capacity) due.0)
-          | inr table ↦ table_pays table form due.1 (MatchBool-at_false _ _ (form ∙ table) after ∙ ap capacity_for due.0)
-        ]
+    grown_pays full form needs due after = grind (arith, common_steps, stays_pays, table_pays, vector_pays)
 
     put_pays : (put : PutsDue limit eq old new) → Pays old new
     put_pays put = by (is_full limit old) (λ e. e) (λ e. e) put.puts.form put.puts.capacity where
@@ -129,9 +101,7 @@ module _ {K V S : Type 0} (limit : ℕ) (eq : K → K → Bool) where
           grown_pays (no_full refl) (form ∙ sym (form_stays old.is_vec false refl)) put.needs put.due after
 
   put_few : (old new : State K V S) → PutsDue limit eq old new → length new.pairs ≤ length old.pairs + 1
-  put_few old new put =
-      let most = cond_most (holds eq old.pairs put.key) _ (length old.pairs) (len_put eq old.pairs put.key put.value) in
-      omega (arith, ap length put.puts.pairs, most)
+  put_few old new put = grind (arith, common_steps, cond_most, len_put)
 
   step_pays : (s : Step K V S) → IsState eq limit s.before → IsStep limit eq s → is_shrink s.command ≡ false → is_reserve s.command ≡ false
       → Pays s.before s.after

@@ -1,8 +1,7 @@
 -- What decides the replies: form and pairs before a command, the command, and the refusal decide its reply, and form and pairs after it.
-use Rattle.std.proofs.Common.{◌≡◌, ◌∙◌, ℕ, Bool, true, false, not, ◌&&◌, ◌==◌, nat_le, List, [], ◌∷◌, length, Option, None, Some, unwrap_or}
-use Rattle.std.proofs.Common.{arith}
+use Rattle.std.proofs.Common.{◌≡◌, ◌∙◌, ℕ, Bool, not, nat_le, List, [], ◌∷◌, Option, None, Some, unwrap_or, arith, ap, sym, refl}
+use Rattle.std.proofs.Common.{if◌then◌else◌}
 use Rattle.std.proofs.lemmas.Grind.{common_steps}
-use Rattle.std.proofs.Common.{ap, sym, refl, if◌then◌else◌}
 use Rattle.half_store.specs.declared.refusal.Refusal.{Refusal}
 use Rattle.halfbrown.specs.declared.run.Command.{Command}
 use Rattle.halfbrown.specs.declared.run.Command.TheVariants.{Insert, InsertNew, EntryOrInsert, RawOrInsert, Remove, Clear}
@@ -10,7 +9,7 @@ use Rattle.halfbrown.specs.declared.run.Reply.{Reply}
 use Rattle.halfbrown.specs.declared.run.Reply.TheVariants.{Refused}
 use Rattle.halfbrown.specs.Pairs.{holds, put, take_out}
 use Rattle.halfbrown.specs.State.{State}
-use Rattle.halfbrown.specs.Step.{Step, Steps, IsStep, Leaves, value_or, granted_reply, refusal_in, is_put, is_shrink}
+use Rattle.halfbrown.specs.Step.{Step, Steps, IsStep, Leaves, value_or, granted_reply, refusal_in}
 use Rattle.halfbrown.proofs.lemmas.run.Steps.{form_of_step}
 use Rattle.half_laws.specs.RunLaws.{IsAlike, RepliesLaw}
 
@@ -47,21 +46,7 @@ module _ {K V S : Type 0} (limit : ℕ) (eq : K → K → Bool) where
 
   step_alike : (s t : Step K V S) → IsStep limit eq s → IsStep limit eq t → IsAlike s.before t.before → s.command ≡ t.command
       → refusal_in s.reply ≡ refusal_in t.reply → (s.reply ≡ t.reply) × IsAlike s.after t.after
-  step_alike s t s_step t_step alike command refusal =
-      let s_is = answered s.before s.after s.command s.reply s_step in
-      let t_is = answered t.before t.after t.command t.reply t_step in
-      let reply : s.reply ≡ t.reply =
-      s_is.0 ∙ (λ i. reply_by limit eq (refusal i) (alike.form i) (alike.pairs i) (command i)) ∙ sym t_is.0 in (
-        reply,
-        record {
-          form = form_of_step limit eq s s_step
-              ∙ (λ i. unwrap_or (if is_put (reply i) && (alike.form i && (length (alike.pairs i) == limit)) then Some false
-              else if is_shrink (command i) && not (alike.form i) && nat_le (length (alike.pairs i)) limit then Some true else None)
-              (alike.form i))
-              ∙ sym (form_of_step limit eq t t_step);
-          pairs = s_is.1 ∙ (λ i. pairs_by limit eq (refusal i) (alike.pairs i) (command i)) ∙ sym t_is.1;
-        },
-      )
+  step_alike s t s_step t_step alike command refusal = grind (arith, common_steps, answered, form_of_step, nat_le, not, unwrap_or)
 
   same_alike : (a b c d : State K V S) → IsAlike a b → c ≡ a → d ≡ b → IsAlike c d
   same_alike a b c d alike left right = record {

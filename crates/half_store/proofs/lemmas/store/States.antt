@@ -1,6 +1,7 @@
 -- What stays true of a store whose columns change.
-use Rattle.std.proofs.Common.{◌≡◌, ℕ, zero, suc, ◌≤◌, List, [], ◌∷◌, length, Option, None, Some, is_none, if◌then◌else◌, refl, sym}
-use Rattle.std.proofs.Common.{ap, subst, ◌∙◌}
+use Rattle.std.proofs.Common.{◌≡◌, ℕ, zero, suc, List, [], ◌∷◌, length, Option, None, Some, is_none, if◌then◌else◌, refl, sym, arith, ap}
+use Rattle.std.proofs.Common.{subst, ◌∙◌}
+use Rattle.std.proofs.lemmas.Grind.{common_steps}
 use Rattle.std.proofs.lemmas.Option.{same_Some}
 use Rattle.std.specs.Borrow.{Bor}
 use Rattle.half_store.specs.Capacity.{capacity_of}
@@ -44,15 +45,7 @@ module _ {K V : Type 0} where
   -- with the same index the form stays, and with the same capacity of the columns all capacities do
   pub keeps_form : (index : Option TableState) (old new : Columns K V) {s : StoreState K V} → store_of old index ≡ s
       → new.capacity ≡ old.capacity → KeepsForm s (store_of new index)
-  keeps_form None old new view capacity =
-      record {
-        form = ap (λ s. s.is_vec) view;
-        capacity = capacity ∙ ap (λ s. s.capacity) view;
-        columns = capacity
-            ∙ ap (λ s. s.columns) view;
-      }
-  keeps_form (Some t) old new view capacity =
-      record { form = ap (λ s. s.is_vec) view; capacity = ap (λ s. s.capacity) view; columns = capacity ∙ ap (λ s. s.columns) view }
+  keeps_form index old new view capacity = grind (arith, common_steps)
 
   -- and of a table that has another index with as many buckets
   pub table_keeps_form : (old new : Columns K V) {t after : TableState} {index : Option TableState} {s : StoreState K V} → index ≡ Some t
@@ -70,9 +63,7 @@ module _ {K V : Type 0} where
   -- as many pairs, with the same capacity, have the same index
   pub kept_store : (index : Option TableState) (old new : Columns K V) → length new.pairs ≡ length old.pairs → new.capacity ≡ old.capacity
       → IsStore old index → IsStore new index
-  kept_store None old new len capacity is = tt
-  kept_store (Some t) old new len capacity is =
-      record { len = is.len ∙ sym len; backed = subst (λ n. capacity_of t.buckets ≤ n) (sym capacity) is.backed }
+  kept_store index old new len capacity is = grind (arith, common_steps)
 
   module _ (old : List (K × V)) (index : ℕ) (new : List (K × V)) (key : K) where
     kept_by : (answer : Option V) → new ≡ replaced old index answer → None ≡ (if is_none answer then Some key else None) → (v : V)

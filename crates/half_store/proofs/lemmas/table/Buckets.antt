@@ -1,12 +1,12 @@
 -- The words of the buckets: the hashes that they stand for, and that each entry index stands in one of them.
 use Rattle.std.proofs.Common.{◌≡◌, ◌≢◌, ℕ, zero, suc, ◌+◌, ◌-◌, ◌<◌, ◌≤◌, Bool, true, false, ◌==◌, inl, inr, refl, sym, ap, ◌∙◌, arith}
-use Rattle.std.proofs.lemmas.Grind.{common_steps}
 use Rattle.std.proofs.Common.{List, [], ◌∷◌, length, set, slice_index, replicate, count_by, Some, None}
+use Rattle.std.proofs.lemmas.Grind.{common_steps}
 use Rattle.std.specs.List.{All, slice_get}
 use Rattle.std.proofs.lemmas.Bool.{cases_lt, cases_eq, cases_Bool, eq-eqb, ne_eqb}
 use Rattle.std.proofs.lemmas.List.{length-map, length-set, map-set, get_or-set_same, get_or-set_other, get_or_past, ext_get_or, same_lists}
 use Rattle.std.proofs.lemmas.List.{length-replicate, get_or-replicate}
-use Rattle.std.proofs.lemmas.List.Elements.{All-get_or, All-from_get_or, All-set, All-replicate}
+use Rattle.std.proofs.lemmas.List.Elements.{All-from_get_or, All-set, All-replicate}
 use Rattle.std.proofs.lemmas.List.Sums.{sum_by-cons, sum_by-set, get_or-le-sum_by}
 use Rattle.std.proofs.lemmas.Option.{slice_get-get_or}
 use borrow.Author.Tests.{eqb-true}
@@ -203,18 +203,7 @@ module _ {last : ℕ} {words : List ℕ} (each : EachOnce (suc last) words) (ind
   remove-other q nb nl = word_other (set words last_bucket (suc index)) bucket q 0 nb ∙ word_other words last_bucket q (suc index) nl
 
   count-remove : (test : ℕ → Bool) → test 0 ≡ false → count_by test words° + tick (test (suc last)) ≡ count_by test words
-  count-remove test fails =
-      let now : slice_index (set words last_bucket (suc index)) bucket ≡ suc index =
-      elim (cases_eq bucket last_bucket) [
-        | inl e ↦ ap (slice_index (set words last_bucket (suc index))) e ∙ word_set words last_bucket (suc index) in_last
-        | inr ne ↦ word_other words last_bucket bucket (suc index) ne ∙ at
-      ] in
-      let there = count-set test words last_bucket (suc index) in_last in
-      let here = count-set test (set words last_bucket (suc index)) bucket 0
-      (omega (arith, length-set words last_bucket (suc index), in_bucket)) in
-      let old = ap (λ word. tick (test word)) at_last in
-      let gone = ap (λ word. tick (test word)) now in
-      omega (arith, tick_no _ fails)
+  count-remove test fails = grind (arith, common_steps, count-set, in_bucket, in_last, length-set, set, slice_index, tick, tick_no, word_other, word_set)
 
   pub EachOnce-remove : EachOnce last words°
   EachOnce-remove = record {
@@ -239,9 +228,7 @@ module _ {last : ℕ} {words : List ℕ} (each : EachOnce (suc last) words) (ind
   }
 
 pub EachOnce-none : (words : List ℕ) → EachOnce 0 words → words ≡ replicate (length words) 0
-EachOnce-none words each =
-    same_lists words (replicate (length words) 0) (sym (length-replicate {A = ℕ} (length words) 0))
-    (λ k d l. omega (arith, All-get_or (λ word. word ≤ 0) words k d l each.within, get_or-replicate (length words) k 0 d l))
+EachOnce-none words each = grind (arith, common_steps, get_or-replicate, length-replicate, replicate, same_lists)
 
 pub EachOnce-empty : (count : ℕ) → EachOnce 0 (replicate count 0)
 EachOnce-empty count = record { within = All-replicate (λ word. word ≤ 0) count 0 (omega arith); once = λ index l. absurd (omega arith) }

@@ -1,7 +1,8 @@
 -- Backward-shift deletion: what holds while the probe goes on, and that the order is whole again at its end.
 use Rattle.std.proofs.Common.{◌≡◌, ◌≢◌, ℕ, ◌+◌, ◌-◌, ◌<◌, ◌≤◌, ◌⊎◌, inl, inr, sym, ap, ◌∙◌, subst, arith, List, length, set, slice_index}
 use Rattle.std.proofs.Common.{Option, Some, None}
-use Rattle.std.proofs.lemmas.Bool.{cases_lt, cases_eq}
+use Rattle.std.proofs.lemmas.Grind.{common_steps}
+use Rattle.std.proofs.lemmas.Bool.{cases_eq}
 use Rattle.std.proofs.lemmas.List.{length-set, set-set}
 use Rattle.std.proofs.lemmas.Option.{same_Some}
 use Rattle.half_store.specs.Buckets.{slot_by, slots_by, EachOnce}
@@ -11,33 +12,14 @@ use Rattle.half_store.specs.TableLayout.{HasGap, IsIndexedButFor, IsVacantBeside
 use Rattle.half_store.proofs.lemmas.table.Buckets.{length-slots_by, slot_by-at, slot_of_word, slot_of_zero, word_set, word_other, within-at}
 use Rattle.half_store.proofs.lemmas.table.Buckets.{EachOnce-move}
 use Rattle.half_store.proofs.lemmas.table.Circle.{distance_is, after_is, next_farther, probe_distance-lt, distance_same}
-use Rattle.half_store.proofs.lemmas.table.Slots.{slot_set, slot_other, full_from, full-lt, home-lt}
+use Rattle.half_store.proofs.lemmas.table.Slots.{full_from, full-lt, home-lt}
 
 -- a pair that stands outside the stretch from the gap to an empty bucket, and comes before that bucket, comes before the gap
 outside : (m start gap bucket h q : ℕ) → start < m → gap < m → bucket < m → h < m → q < m → q ≢ gap → q ≢ bucket
     → probe_distance m start gap < probe_distance m start bucket
     → (probe_distance m start q ≤ probe_distance m start gap) ⊎ (probe_distance m start bucket ≤ probe_distance m start q)
     → probe_distance m h q < probe_distance m h bucket → probe_distance m h q < probe_distance m h gap
-outside m start gap bucket h q in_start in_gap in_bucket in_h in_q off_gap off_bucket order (inl near) before =
-    omega (
-      arith,
-      distance_is m start gap in_start,
-      distance_is m start bucket in_start,
-      distance_is m start q in_start,
-      distance_is m h q in_h,
-      distance_is m h bucket in_h,
-      distance_is m h gap in_h,
-    )
-outside m start gap bucket h q in_start in_gap in_bucket in_h in_q off_gap off_bucket order (inr far) before =
-    omega (
-      arith,
-      distance_is m start gap in_start,
-      distance_is m start bucket in_start,
-      distance_is m start q in_start,
-      distance_is m h q in_h,
-      distance_is m h bucket in_h,
-      distance_is m h gap in_h,
-    )
+outside m start gap bucket h q in_start in_gap in_bucket in_h in_q off_gap off_bucket order side before = grind (arith, common_steps, distance_is)
 
 -- a pair at this bucket comes before another bucket on the way from its home
 abbrev Before : ℕ → ℕ → ℕ → ℕ → Type 0
@@ -77,34 +59,10 @@ module _ (m : ℕ) (hashes words : List ℕ) (start bucket : ℕ) (size : length
   in_start = omega (arith, x.gap.within, long_start)
 
   pub Ahead-start : (vacant : ℕ) → IsVacantBeside (around hashes words start) start vacant → Ahead m hashes words start start bucket vacant
-  Ahead-start vacant v =
-      let apart = v.2 in
-      let in_v : vacant < m = omega (arith, v.0, long_start) in
-      let bucket_is = after_is m start 1 in
-      let to_bucket = distance_is m start bucket in_start in
-      let to_v = distance_is m start vacant in_start in
-      record { inside = in_v; none = v.1; near = omega (arith, in_start) }
+  Ahead-start vacant v = grind (arith, common_steps, after_is, distance_is, in_start, long_start)
 
   pub Shifts-start : Shifts m hashes words start start bucket
-  Shifts-start =
-      let v = x.gap.another in
-      let apart = v.1.2 in
-      let in_v = (Ahead-start v.0 v.1).inside in
-      let bucket_is = after_is m start 1 in
-      let to_bucket = distance_is m start bucket in_start in
-      let to_start = distance_is m start start in_start in
-      let to_v = distance_is m start v.0 in_start in
-      record {
-        each = x.each;
-        size = size;
-        start_in = in_start;
-        gap_in = in_start;
-        bucket_in = omega (arith, in_start);
-        behind = omega (arith, in_start);
-        others = λ at w hash is in_w none ne.
-            subst (λ n. Before n hash at w) long_start (x.gap.others at w hash is (omega (arith, long_start)) none ne);
-        passed = λ at hash is far near. absurd (omega arith);
-      }
+  Shifts-start = grind (arith, common_steps, after_is, distance_is, in_start, long_start)
 
 module _ {m : ℕ} {hashes words : List ℕ} {start gap bucket : ℕ} (s : Shifts m hashes words start gap bucket) where
   abbrev slots : List (Option ℕ)
@@ -126,17 +84,7 @@ module _ {m : ℕ} {hashes words : List ℕ} {start gap bucket : ℕ} (s : Shift
 
   -- the gap is so far back, at first by one bucket
   pub gap_distance : probe_distance m gap bucket + probe_distance m start gap ≡ probe_distance m start bucket
-  gap_distance =
-      omega (
-        arith,
-        s.behind,
-        s.bucket_in,
-        s.gap_in,
-        s.start_in,
-        distance_is m start gap s.start_in,
-        distance_is m start bucket s.start_in,
-        distance_is m gap bucket s.gap_in,
-      )
+  gap_distance = grind (arith, common_steps, distance_is)
 
   pub first_distance : bucket ≡ bucket_after m gap 1 → probe_distance m gap bucket ≡ 1
   first_distance e = omega (arith, apart, s.gap_in, s.bucket_in, after_is m gap 1, distance_is m gap bucket s.gap_in)
@@ -149,28 +97,7 @@ module _ {m : ℕ} {hashes words : List ℕ} {start gap bucket : ℕ} (s : Shift
 
   -- the probe ends at an empty bucket: the order is whole
   pub Shifts-end : slice_index words bucket ≡ 0 → ProbeInvariant slots
-  Shifts-end zero_word = record {
-    before = λ q v h is in_v none_v.
-        let none = slot_of_zero hashes (set words gap 0) bucket (word_is ∙ zero_word) in
-        let in_q = within q h is in
-        let in_h = home-lt m h (omega arith) in
-        let not_bucket : q ≢ bucket = λ same. full_from _ h is (ap (slot_at slots) same ∙ none) in
-        let before = s.others q bucket h is s.bucket_in none apart in
-        let beyond = outside m start gap bucket (home m h) q s.start_in s.gap_in s.bucket_in in_h in_q
-        (not_gap q h is) not_bucket s.behind in
-        subst (λ n. Before n h q v) (sym long)
-        (elim (cases_eq v gap) [
-          | inr ne ↦ s.others q v h is (omega (arith, long)) none_v ne
-          | inl e ↦ subst (Before m h q) (sym e)
-              (elim (cases_lt (probe_distance m start gap) (probe_distance m start q)) [
-                | inr low ↦ beyond (inl low) before
-                | inl after ↦ elim (cases_lt (probe_distance m start q) (probe_distance m start bucket)) [
-                  | inl near ↦ s.passed q h is after near
-                  | inr far ↦ beyond (inr far) before
-                ]
-              ])
-        ]);
-  }
+  Shifts-end zero_word = grind (arith, common_steps, apart, full_from, home-lt, long, not_gap, outside, set, slot_of_zero, within, word_is)
 
   module _ {vacant : ℕ} (a : Ahead m hashes words start gap bucket vacant) (next : ℕ) (some : slice_index words bucket ≢ 0)
       (e : next ≡ bucket_after m bucket 1) where
@@ -188,12 +115,7 @@ module _ {m : ℕ} {hashes words : List ℕ} {start gap bucket : ℕ} (s : Shift
 
     -- the empty bucket is ahead of a full one too
     farther : probe_distance m start bucket < probe_distance m start vacant
-    farther =
-        elim (cases_eq (probe_distance m start bucket) (probe_distance m start vacant)) [
-          | inr ne ↦ omega (arith, a.near)
-          | inl same ↦ absurd (full_from _ hash is
-              (ap (slot_at slots) (distance_same m start s.start_in bucket vacant s.bucket_in a.inside same) ∙ a.none))
-        ]
+    farther = grind (arith, common_steps, distance_same, full_from, is)
 
     next-lt : next < m
     next-lt = omega (arith, after_is m bucket 1, s.bucket_in)
@@ -248,14 +170,7 @@ module _ {m : ℕ} {hashes words : List ℕ} {start gap bucket : ℕ} (s : Shift
         ∙ sym (slot_by-at hashes (set words gap 0) q)
 
     pub Ahead-move : Ahead m hashes words' start bucket next vacant
-    Ahead-move =
-        let off : (q : ℕ) → probe_distance m start q ≢ probe_distance m start vacant → vacant ≢ q =
-        λ q ne same. ne (ap (probe_distance m start) (sym same)) in
-        record {
-          inside = a.inside;
-          none = other vacant (off bucket (omega (arith, farther))) (off gap (omega (arith, farther, s.behind))) ∙ a.none;
-          near = omega (arith, one_farther, farther);
-        }
+    Ahead-move = grind (arith, common_steps, farther, one_farther, other)
 
     -- the pair at the bucket is moved into the gap: it does not pass its home
     pub Shifts-move : probe_distance m gap bucket ≤ probe_distance m (home m hash) bucket → Shifts m hashes words' start bucket next
@@ -304,17 +219,4 @@ module _ {m : ℕ} {hashes words : List ℕ} {start gap bucket : ℕ} (s : Shift
 -- a bucket that is emptied is the only gap
 pub HasGap-remove : (slots : List (Option ℕ)) → ProbeInvariant slots → SomeVacant slots → (bucket : ℕ) → slot_at slots bucket ≢ None
     → HasGap (set slots bucket None) bucket
-HasGap-remove slots ordered (v, in_v, none_v) bucket full =
-    let same : length (set slots bucket None) ≡ length slots = length-set slots bucket None in
-    let in_bucket = full-lt slots bucket full in
-    let emptied : slot_at (set slots bucket None) bucket ≡ None = slot_set slots bucket None in_bucket in
-    let other : (q : ℕ) → q ≢ bucket → slot_at (set slots bucket None) q ≡ slot_at slots q = λ q ne. slot_other slots bucket q None ne in
-    let apart : v ≢ bucket = λ e. full (ap (slot_at slots) (sym e) ∙ none_v) in
-    record {
-      within = omega arith;
-      vacant = emptied;
-      another = (v, (omega arith, other v apart ∙ none_v, apart));
-      others = λ q w h is in_w none_w np.
-          let nq : q ≢ bucket = λ e. full_from _ h is (ap (slot_at (set slots bucket None)) e ∙ emptied) in
-          subst (λ n. Before n h q w) (sym same) (ordered.before q w h (sym (other q nq) ∙ is) (omega arith) (sym (other w np) ∙ none_w));
-    }
+HasGap-remove slots ordered vacant bucket full = grind (arith, common_steps)

@@ -1,10 +1,9 @@
 -- What a search of a table finds, and what a probe costs.
-use Rattle.std.proofs.Common.{◌≡◌, ℕ, ◌+◌, ◌-◌, ◌<◌, ◌≤◌, Bool, true, false, inl, inr, refl, sym, ap, ◌∙◌, subst, arith, List, length}
+use Rattle.std.proofs.Common.{◌≡◌, ℕ, ◌+◌, ◌-◌, ◌<◌, ◌≤◌, Bool, true, false, refl, sym, ap, ◌∙◌, subst, arith, List, length, slice_index}
+use Rattle.std.proofs.Common.{Option, Some, count_by, ◌==◌}
 use Rattle.std.proofs.lemmas.Grind.{common_steps}
-use Rattle.std.proofs.Common.{slice_index, Option, Some, count_by, ◌==◌}
 use Rattle.std.specs.List.{slice_get, swap_remove}
 use Rattle.std.specs.Prelude.{Result, Ok, Err, IfOk, IfErr, OnOk, OnErr}
-use Rattle.std.proofs.lemmas.Bool.{cases_eq}
 use Rattle.std.proofs.lemmas.List.Sums.{count_by-le-length}
 use Rattle.std.proofs.lemmas.Option.{slice_get_within, get_or_from_slice_get}
 use Rattle.half_store.specs.Buckets.{slots_by}
@@ -52,31 +51,12 @@ module _ {hashes words : List ℕ} (x : IsIndexed hashes words) (hash : ℕ) whe
 
   -- no probe reads more buckets than one past the held pairs
   short : reach hashes (length slots) hash ≤ length hashes + 1
-  short =
-      elim (cases_eq (length slots) 0) [
-        | inl none ↦ omega (arith, reach-none hashes (length slots) hash none)
-        | inr some ↦ reach_short slots x.ordered hashes (index-counted x) hash
-            (index-vacant x (omega (arith, length-slots_by hashes words)))
-      ]
+  short = grind (arith, common_steps, index-counted, index-vacant, length-slots_by, reach-none, reach_short)
 
   -- a search where there are no buckets
   pub finds_none : (returns : ℕ → Bool → Type 0) (w : Work) → length words ≡ 0
       → FindsInTable returns (table_state hashes slots) hash (Err 0) w w
-  finds_none returns w none =
-      let long = length-slots_by hashes words in
-      let room = x.room in
-      record {
-        found = tt;
-        accepted = tt;
-        refused = λ index is. absurd (omega (arith, slice_get_within hashes index hash is));
-        vacancy = λ some. absurd (omega arith);
-        missing_cost = same_work w (after_missing hashes (length slots) hash w) refl
-            (omega (arith, count_by-le-length (λ h. h == hash) hashes))
-            (omega (arith, reach-none hashes (length slots) hash (omega arith)));
-        found_cost = tt;
-        short = short;
-        buckets = buckets_seen hashes words x refl;
-      }
+  finds_none returns w none = grind (arith, common_steps, buckets_seen, count_by-le-length, length-slots_by, reach-none, same_work, short, slice_get_within)
 
   -- what a search says of the slots, where there are some, is what callers see
   pub finds : (returns : ℕ → Bool → Type 0) (result : Result (ℕ × ℕ) ℕ) (old new : Work)
@@ -130,18 +110,10 @@ module _ {hashes words : List ℕ} (x : IsIndexed hashes words) (hash : ℕ) whe
 
 -- A search that removes what it finds, in the words of callers.
 module _ (hashes words hashes' words' : List ℕ) {t : TableState} (view : table_state hashes (slots_by hashes words) ≡ t) where
-  count_viewed : length words ≡ t.buckets
-  count_viewed = sym (length-slots_by hashes words) ∙ ap (λ u. u.buckets) view
-
   pub taken_removes : (hash : ℕ) (result : Result ℕ ℕ) → length words' ≡ length words
       → IfOk result (λ index. slice_get t.hashes index ≡ Some hash) → IfOk result (λ index. hashes' ≡ swap_remove hashes index 0)
       → IfOk result (λ index. RemovesFromTable t index (table_state hashes' (slots_by hashes' words')) hash)
-  taken_removes hash (Ok index) len found left = record {
-    hash = found;
-    hashes = left ∙ ap (λ u. swap_remove u.hashes index 0) view;
-    buckets = length-slots_by hashes' words' ∙ len ∙ count_viewed;
-  }
-  taken_removes hash (Err bucket) len found left = tt
+  taken_removes hash result len found left = grind (arith, common_steps)
 
   pub taken_cost : (old new : Work) (result : Result ℕ ℕ)
       → IfOk result (λ index. LooksWithin (removal_reads hashes (length words) index) old new)

@@ -1,7 +1,7 @@
 -- The index of a table: what its buckets say of its hashes, a pair that is added, one that is removed, and no pair at all.
-use Rattle.std.proofs.Common.{◌≡◌, ◌≢◌, ℕ, zero, suc, ◌+◌, ◌<◌, ◌≤◌, Bool, true, inl, inr, refl, sym, ap, ◌∙◌, subst, arith, List, []}
+use Rattle.std.proofs.Common.{◌≡◌, ◌≢◌, ℕ, zero, suc, ◌+◌, ◌<◌, ◌≤◌, Bool, true, inl, inr, refl, sym, ap, ◌∙◌, subst, arith, List, [], ◌∷◌}
+use Rattle.std.proofs.Common.{◌++◌, length, set, slice_index, replicate, Option, Some, None}
 use Rattle.std.proofs.lemmas.Grind.{common_steps}
-use Rattle.std.proofs.Common.{◌∷◌, ◌++◌, length, set, slice_index, replicate, Option, Some, None}
 use Rattle.std.specs.List.{swap_remove}
 use Rattle.std.proofs.lemmas.Bool.{cases_lt, cases_eq}
 use Rattle.std.proofs.lemmas.List.{length-set, length_push, length-replicate, get_or_append_left, get_or_push}
@@ -20,7 +20,6 @@ use Rattle.half_store.proofs.lemmas.table.Buckets.{EachOnce-add, EachOnce-remove
 use Rattle.half_store.proofs.lemmas.table.Buckets.{remove-other, count_each}
 use Rattle.half_store.specs.Words.{AreWordsFor}
 use Rattle.half_store.proofs.lemmas.capacity.{four-le_count, buckets_of-capacity_of}
-use Rattle.half_store.proofs.lemmas.words.{sized_as}
 use Rattle.half_store.proofs.lemmas.table.Circle.{distance_is, distance_self, distance_same}
 use Rattle.half_store.proofs.lemmas.table.Counts.{count_to, count_to-same, count_to-le, count_to-all, count_by-count_to}
 use Rattle.half_store.proofs.lemmas.table.Deletion.{HasGap-remove}
@@ -30,32 +29,7 @@ use Rattle.half_store.proofs.lemmas.table.Slots.{vacancy_for}
 
 -- a pair that is added where its probe ended keeps the probe invariant
 ordered-add : (slots : List (Option ℕ)) (p h : ℕ) → IsVacancyFor slots h p → ProbeInvariant slots → ProbeInvariant (set slots p (Some h))
-ordered-add slots p h w o =
-    let m : ℕ = length slots in
-    let in_p : p < m = w.within in
-    let same : length (set slots p (Some h)) ≡ m = length-set slots p (Some h) in
-    let now : slot_at (set slots p (Some h)) p ≡ Some h = slot_set slots p (Some h) in_p in
-    record {
-      before = λ q v g is in_v none.
-          let v_old : v ≢ p = λ e. full_from _ h now (ap (slot_at (set slots p (Some h))) (sym e) ∙ none) in
-          let in_v' : v < m = omega arith in
-          let none' : slot_at slots v ≡ None = sym (slot_other slots p v (Some h) v_old) ∙ none in
-          subst (λ n. probe_distance n (home n g) q < probe_distance n (home n g) v) (sym same)
-          (elim (cases_eq q p) [
-            | inr ne ↦ o.before q v g (sym (slot_other slots p q (Some h) ne) ∙ is) in_v' none'
-            | inl e ↦
-                let hash : h ≡ g = same_Some h g (sym now ∙ ap (slot_at (set slots p (Some h))) (sym e) ∙ is) in
-                let to_p : IsVacancyFor slots g p = subst (λ k. IsVacancyFor slots k p) hash w in
-                subst (λ x. probe_distance m (home m g) x < probe_distance m (home m g) v) (sym e)
-                (elim (cases_lt (probe_distance m (home m g) p) (probe_distance m (home m g) v)) [
-                  | inl less ↦ less
-                  | inr ge ↦ elim (cases_eq (probe_distance m (home m g) v) (probe_distance m (home m g) p)) [
-                    | inl at ↦ absurd (v_old (distance_same m (home m g) (home-lt m g (omega arith)) v p in_v' in_p at))
-                    | inr off ↦ absurd (to_p.passed v in_v' (omega arith) none')
-                  ]
-                ])
-          ]);
-    }
+ordered-add slots p h w o = grind (arith, common_steps, distance_same, full_from, home-lt, length-set, same_Some, set, slot_other, slot_set)
 
 -- what `swap_remove` leaves, entry index by entry index
 length-swap_remove : (xs : List ℕ) (i last : ℕ) → suc last ≡ length xs → length (swap_remove xs i 0) ≡ last
@@ -143,12 +117,7 @@ module _ {hashes words : List ℕ} (x : IsIndexed hashes words) where
   -- a probe from the pair's home bucket comes to it sooner than an unsuccessful one ends
   pub nearer : (index bucket : ℕ) → index < length hashes → slice_index words bucket ≡ suc index
       → IsNearer hashes (length words) (slice_index hashes index) bucket
-  nearer index bucket in_hashes word =
-      let hash : ℕ = slice_index hashes index in
-      let vacant = index-vacant (let l = word-lt words bucket (omega arith) in omega arith) in
-      let past = reach_past_pair slots x.ordered hashes index-counted hash bucket
-      (slot_of_word hashes words bucket index in_hashes word) vacant in
-      subst (λ m. probe_distance m (home m hash) bucket + 1 < reach hashes m hash) long (omega (arith, past))
+  nearer index bucket in_hashes word = grind (arith, common_steps, index-counted, index-vacant, long, reach_past_pair, slice_index, slot_of_word, word-lt)
 
   module _ (p h : ℕ) (w : IsVacancyFor slots h p) where
     abbrev hashes' : List ℕ
@@ -310,9 +279,7 @@ IsIndexed-as {hashes} {hashes'} {words} {words'} h w x = subst (λ y. IsIndexed 
 pub IsTable-as : {hashes words hashes' words' : List ℕ} {most most' capacity : ℕ} → hashes' ≡ hashes → words' ≡ words → most' ≡ most
     → IsIndexed hashes words → AreWordsFor most (capacity_of (length words)) → capacity ≡ capacity_of (length words)
     → IsTable hashes' words' most' capacity
-IsTable-as h w m x sized exact =
-    let same = ap capacity_of (ap length w) in
-    record { indexed = IsIndexed-as h w x; sized = sized_as (sym m) (sym same) sized; exact = omega (arith, same, exact) }
+IsTable-as h w m x sized exact = grind (arith, common_steps)
 
 -- the columns of a table, as they are lent, are its value
 pub view_lent : {hashes hs words ws : List ℕ} {t : TableState} → table_state hs (slots_by hs ws) ≡ t → hashes ≡ hs → ws ≡ words

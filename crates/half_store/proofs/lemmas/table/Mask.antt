@@ -28,12 +28,7 @@ mask_distance m a b count in_a in_b =
 
 -- the bucket after this one
 pub mask_next : (m b : ℕ) → IsBucketCount m → b < m → bit_and (b + 1) (m - 1) ≡ bucket_after m b 1
-mask_next m b count in_b =
-    mask_mod (b + 1) m count (omega arith)
-    ∙ elim (cases_lt (b + 1) m) [
-      | inl l ↦ mod-eq_of_lt l ∙ omega (arith, after_is m b 1)
-      | inr ge ↦ mod_once (b + 1) m (omega arith) (omega arith) ∙ omega (arith, after_is m b 1)
-    ]
+mask_next m b count in_b = grind (arith, common_steps, after_is, mask_mod, mod-eq_of_lt, mod_once)
 
 -- a bucket count below 2^64 is at most half of that
 pub count-le_half : (m : ℕ) → IsBucketCount m → m < 2 ^ 64 → m ≤ 2 ^ 63

@@ -1,6 +1,7 @@
 -- Where probes end, and what they read and compare, over the held hashes alone.
 use Rattle.std.proofs.Common.{◌≡◌, ◌≢◌, ℕ, ◌+◌, ◌-◌, ◌<◌, ◌≤◌, Bool, true, false, nat_lt, ◌==◌, ◌&&◌, inl, inr, refl, sym, ap, ◌∙◌, subst}
 use Rattle.std.proofs.Common.{arith, List, length, Option, Some, None, count_by}
+use Rattle.std.proofs.lemmas.Grind.{common_steps}
 use Rattle.std.proofs.lemmas.Bool.{cases_lt, cases_eq, cases_Bool, lt-ltb, le-ltb, eq-eqb, ne_eqb, and_parts, and_from, and_left, and_right}
 use Rattle.std.proofs.lemmas.Option.{same_Some}
 use Rattle.std.proofs.lemmas.List.Sums.{count_by-le-length}
@@ -13,7 +14,7 @@ use Rattle.half_store.proofs.lemmas.table.Counts.{count_to, count_to-same, count
 use Rattle.half_store.proofs.lemmas.table.Counts.{ahead_size}
 use Rattle.half_store.proofs.lemmas.table.Reach.{is_loaded-yes, is_loaded-no, loaded_run-is, reach-some}
 use Rattle.half_store.specs.Work.{Work, one_looked, one_compared}
-use Rattle.half_store.proofs.lemmas.table.Slots.{Probes, home_distance, Probes-start, Probes-vacancy, Probes-distance, Probes-next}
+use Rattle.half_store.proofs.lemmas.table.Slots.{Probes, home_distance, Probes-vacancy, Probes-distance, Probes-next}
 use Rattle.half_store.proofs.lemmas.table.Slots.{slot_cases, full_from, home-lt, full-lt, vacancy_for, full_loaded, vacant_unloaded}
 use Rattle.half_store.proofs.lemmas.table.Slots.{stored_passes, passes_stored}
 
@@ -45,16 +46,7 @@ module _ (slots : List (Option ℕ)) where
 
   pub passed-skip : (start hash d p : ℕ) → start < m → p < m → probe_distance m start p ≡ d
       → stored (λ held. held == hash) (slot_at slots p) ≡ false → passed start hash (d + 1) ≡ passed start hash d
-  passed-skip start hash d p in_start in_p at other =
-      sym (count_to-same (passes start hash d) (passes start hash (d + 1)) m (λ q in_q.
-      elim (cases_eq (probe_distance m start q) d) [
-        | inl e ↦
-            let same : q ≡ p = distance_same m start in_start q p in_q in_p (e ∙ sym at) in
-            let none : stored (λ held. held == hash) (slot_at slots q) ≡ false =
-            ap (λ x. stored (λ held. held == hash) (slot_at slots x)) same ∙ other in
-            and_right _ _ none ∙ sym (and_right _ _ none)
-        | inr ne ↦ same_and _ _ _ (same_order _ _ ne)
-      ]))
+  passed-skip start hash d p in_start in_p at other = grind (arith, common_steps, and_right, count_to-same, distance_same, same_and, same_order)
 
   pub passed-one : (start hash d p : ℕ) → start < m → p < m → probe_distance m start p ≡ d → slot_at slots p ≡ Some hash
       → passed start hash (d + 1) ≡ passed start hash d + 1
@@ -112,10 +104,7 @@ module _ (slots : List (Option ℕ)) (ordered : ProbeInvariant slots) where
 
     full_on_the_way : (b p : ℕ) → b < (m slots) → p < (m slots) → FullBefore slots b p → (k : ℕ) → k < probe_distance (m slots) b p
         → slot_at slots (bucket_after (m slots) b k) ≢ None
-    full_on_the_way b p in_b in_p full k l =
-        let s = probe_distance-lt (m slots) b in_b p in_p in
-        full (bucket_after (m slots) b k) (bucket_after-lt (m slots) b in_b k (omega arith))
-        (subst (λ n. n < probe_distance (m slots) b p) (sym (probe_distance-bucket_after (m slots) b in_b k (omega arith))) l)
+    full_on_the_way b p in_b in_p full k l = grind (arith, common_steps, bucket_after-lt, probe_distance-bucket_after, probe_distance-lt)
 
     -- a probe that ends at an empty bucket has read what `reach` says
     pub reach_at_vacancy : (hash p : ℕ) → IsVacancyFor slots hash p → reach hashes (m slots) hash ≡ distance_from_home slots hash p + 1
@@ -178,15 +167,7 @@ pub record Searches (slots : List (Option ℕ)) (hash : ℕ) (Refused : ℕ → 
 pub Searches-start : (slots : List (Option ℕ)) (hash : ℕ) (Refused : ℕ → Type 0) (bucket : ℕ) (w : Work) → bucket < length slots
     → bucket ≡ home (length slots) hash
     → Searches slots hash Refused bucket w w
-Searches-start slots hash Refused bucket w in_bucket e =
-    let none = home_distance slots hash bucket in_bucket e in
-    record {
-      probe = Probes-start slots hash bucket in_bucket e;
-      asked = refl;
-      looked = omega arith;
-      compared = omega (arith, ap (passed slots (home (length slots) hash) hash) none, passed-zero slots (home (length slots) hash) hash);
-      refused = λ o is near. absurd (omega arith);
-    }
+Searches-start slots hash Refused bucket w in_bucket e = grind (arith, common_steps, home_distance, passed-zero)
 
 module _ {slots : List (Option ℕ)} {hash : ℕ} {Refused : ℕ → Type 0} {bucket : ℕ} {old now : Work}
     (s : Searches slots hash Refused bucket old now) where
@@ -219,21 +200,12 @@ module _ {slots : List (Option ℕ)} {hash : ℕ} {Refused : ℕ → Type 0} {bu
     -- the bucket holds another hash
     pub Searches-skip : (held : ℕ) → slot_at slots bucket ≡ Some held → held ≢ hash → new ≡ one_looked now
         → Searches slots hash Refused next old new
-    Searches-skip held is other work =
-        let same = passed-skip slots (home (length slots) hash) hash far bucket start_in s.probe.inside refl
-        (ap (stored (λ h. h == hash)) is ∙ ne_eqb held hash other) in
-        goes_on (full_from _ held is) (ap (λ (w : Work). w.asked) work) (ap (λ (w : Work). w.looked) work)
-        (omega (arith, ap (λ (w : Work). w.compared) work, s.compared, same))
-        (λ z. absurd (other (same_Some held hash (sym is ∙ z))))
+    Searches-skip held is other work = grind (arith, common_steps, full_from, goes_on, ne_eqb, passed-skip, same_Some, start_in)
 
     -- the bucket holds a pair of the hash, which was refused
     pub Searches-refused : slot_at slots bucket ≡ Some hash → Refused bucket → new ≡ one_compared (one_looked now)
         → Searches slots hash Refused next old new
-    Searches-refused is no_match work =
-        let more = passed-one slots (home (length slots) hash) hash far bucket start_in s.probe.inside refl is in
-        goes_on (full_from _ hash is) (ap (λ (w : Work). w.asked) work) (ap (λ (w : Work). w.looked) work)
-        (omega (arith, ap (λ (w : Work). w.compared) work, s.compared, more))
-        (λ z. no_match)
+    Searches-refused is no_match work = grind (arith, common_steps, full_from, goes_on, passed-one, start_in)
 
   -- the bucket holds a pair of the hash: at most as many comparisons as there are such pairs
   pub Searches-found : slot_at slots bucket ≡ Some hash → now.compared + 1 ≤ old.compared + count_by (stored (λ held. held == hash)) slots

@@ -1,6 +1,7 @@
 -- Full buckets are loaded, empty ones are not; so a probe ends where `reach` says.
 use Rattle.std.proofs.Common.{◌≡◌, ◌≢◌, ℕ, zero, suc, ◌+◌, ◌-◌, ◌<◌, ◌≤◌, Bool, true, false, ltb, nat_lt, ◌⊎◌, inl, inr, refl, sym, ap, ◌∙◌}
 use Rattle.std.proofs.Common.{subst, arith, List, length, set, Option, Some, None, is_some, count_by}
+use Rattle.std.proofs.lemmas.Grind.{common_steps}
 use Rattle.std.proofs.lemmas.Bool.{cases_lt, cases_eq, lt-ltb, false≢true}
 use Rattle.std.proofs.lemmas.Nat.{mod_below}
 use Rattle.std.proofs.lemmas.List.{get_or_past, get_or-set_same, get_or-set_other}
@@ -153,9 +154,6 @@ module _ (slots : List (Option ℕ)) (hash bucket : ℕ) (in_bucket : bucket < l
   pub home_distance : distance_from_home slots hash bucket ≡ 0
   home_distance = ap (λ b. probe_distance (length slots) b bucket) (sym e) ∙ distance_self (length slots) bucket in_bucket
 
-  pub Probes-start : Probes slots hash bucket
-  Probes-start = record { inside = in_bucket; passed = λ o in_o near. absurd (omega (arith, home_distance)) }
-
 module _ {slots : List (Option ℕ)} {hash bucket : ℕ} where
   pub Probes-vacancy : Probes slots hash bucket → slot_at slots bucket ≡ None → IsVacancyFor slots hash bucket
   Probes-vacancy w none = record { within = w.inside; vacant = none; passed = w.passed }
@@ -168,19 +166,10 @@ module _ {slots : List (Option ℕ)} {hash bucket : ℕ} where
 
     same_bucket : (o : ℕ) → o < length slots → distance_from_home slots hash o ≡ distance_from_home slots hash bucket
         → slot_at slots o ≢ None
-    same_bucket o in_o at =
-        subst (λ p. slot_at slots p ≢ None)
-        (sym (distance_same (length slots) (home (length slots) hash) in_home o bucket in_o w.inside at)) full
+    same_bucket o in_o at = grind (arith, common_steps, distance_same, in_home)
 
     farther : distance_from_home slots hash bucket < distance_from_home slots hash vacant.0
-    farther =
-        elim (cases_lt (distance_from_home slots hash bucket) (distance_from_home slots hash vacant.0)) [
-          | inl far ↦ far
-          | inr near ↦ elim (cases_eq (distance_from_home slots hash vacant.0) (distance_from_home slots hash bucket)) [
-            | inl at ↦ absurd (same_bucket vacant.0 vacant.1 at vacant.2)
-            | inr ne ↦ absurd (w.passed vacant.0 vacant.1 (omega arith) vacant.2)
-          ]
-        ]
+    farther = grind (arith, common_steps, same_bucket)
 
     pub Probes-distance : distance_from_home slots hash next ≡ distance_from_home slots hash bucket + 1
     Probes-distance = next_farther (length slots) (home (length slots) hash) bucket vacant.0 next in_home w.inside vacant.1 farther e

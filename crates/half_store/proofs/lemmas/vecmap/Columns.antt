@@ -1,5 +1,6 @@
 -- What the two columns of a `VecMap` are to its list of pairs.
-use Rattle.std.proofs.Common.{◌≡◌, ℕ, List, length, refl, sym, ap, ◌∙◌}
+use Rattle.std.proofs.Common.{◌≡◌, ℕ, List, length, ◌∙◌, arith}
+use Rattle.std.proofs.lemmas.Grind.{common_steps}
 use Rattle.std.proofs.lemmas.Map.Made.{keys_of-zip}
 use Rattle.std.proofs.lemmas.Slice.Zip.{seconds-zip}
 use Rattle.std.specs.List.{zip, refill}
@@ -28,20 +29,7 @@ module _ {K V Z : Type 0} where
 
   pub opened : (keys : Vec K Z) (values : Vec V Z) (map : Columns K V) → seen keys values ≡ map → AreEven keys values
       → Opened keys values map
-  opened keys values map view even =
-      let same : zip keys.items values.items ≡ map.pairs = ap (λ m. m.pairs) view in
-      let n : length keys.items ≡ length map.pairs = sym (length-zip keys.items values.items even.length) ∙ ap length same in
-      record {
-        pairs = same;
-        capacity = ap (λ m. m.capacity) view;
-        values_capacity = even.capacity ∙ ap (λ m. m.capacity) view;
-        keys_are = sym (keys_of-zip keys.items values.items even.length) ∙ ap keys_of same;
-        values_are = sym (seconds-zip keys.items values.items even.length) ∙ ap values_of same;
-        keys_length = n;
-        values_length = even.length ∙ n;
-        keys_len = keys.ok.0 ∙ n;
-        values_len = values.ok.0 ∙ even.length ∙ n;
-      }
+  opened keys values map view even = grind (arith, common_steps, keys_of-zip, length-zip, seconds-zip)
 
 module _ {K V Z : Type 0} {keys : Vec K Z} {values : Vec V Z} {map : Columns K V} (o : Opened keys values map) where
   -- a map of these pairs, whose columns keep their capacity
@@ -54,9 +42,4 @@ module _ {K V Z : Type 0} where
   pub written : (keys : Vec K Z) (values : Vec V Z) (map : Columns K V) → seen keys values ≡ map → AreEven keys values → (w : List V)
       → ◌≡◌ {A = Columns K V} (record { pairs = zip keys.items (refill values.len values.items w); capacity = keys.cap })
       (columns_with map (set_values map.pairs w))
-  written keys values map view even w =
-      let o = opened keys values map view even in
-      pairs_are o
-      (ap (λ n. zip keys.items (refill n values.items w)) values.ok.0 ∙ zip-refill keys.items values.items w even.length
-      ∙ ap (λ ps. set_values ps w) o.pairs)
-      refl
+  written keys values map view even w = grind (arith, common_steps, opened, pairs_are, zip-refill)

@@ -1,7 +1,7 @@
 -- What the loop of `retain` keeps: the pairs before an index were asked of, and those that stay are the first.
 use Rattle.std.proofs.Common.{◌≡◌, ℕ, zero, suc, ◌+◌, ◌<◌, ◌≤◌, Bool, true, false, cond, List, [], ◌∷◌, ◌++◌, length, get_or, set, map}
-use Rattle.std.proofs.lemmas.Grind.{common_steps}
 use Rattle.std.proofs.Common.{take, drop, refl, sym, ap, ◌∙◌, subst, arith}
+use Rattle.std.proofs.lemmas.Grind.{common_steps}
 use Rattle.std.proofs.lemmas.List.{append-nil, append_assoc, drop_all, drop-set-lt, set-get_or}
 use Rattle.std.specs.List.{swap, zip}
 use Rattle.std.specs.Map.Calls.{CallableOnEachPair, RetainsPairs}
@@ -44,12 +44,7 @@ map-get_or f (x ∷ xs) zero d = refl
 map-get_or f (x ∷ xs) (suc i) d = map-get_or f xs i d
 
 pub map-swap : {X Y : Type 0} (f : X → Y) (xs : List X) (i j : ℕ) → map f (swap xs i j) ≡ swap (map f xs) i j
-map-swap f [] i j = refl
-map-swap f (d ∷ xs) i j =
-    let l : List _ = d ∷ xs in
-    map-set f (set l i (get_or l j d)) j (get_or l i d)
-    ∙ ap (λ m. set m j (f (get_or l i d))) (map-set f l i (get_or l j d) ∙ ap (set (map f l) i) (map-get_or f l j d))
-    ∙ ap (set (set (map f l) i (get_or (map f l) j (f d))) j) (map-get_or f l i d)
+map-swap f xs i j = grind (arith, common_steps, get_or, map, map-get_or, map-set, set)
 
 module _ {K V : Type 0} where
   drop-suc : (ps : List (K × V)) (i : ℕ) (v : V) → drop (suc i) (set_value ps i v) ≡ drop (suc i) ps
@@ -58,9 +53,7 @@ module _ {K V : Type 0} where
   drop-suc (p ∷ ps) (suc i) v = drop-suc ps i v
 
   drop-set_value : (ps : List (K × V)) (i : ℕ) (v : V) → drop (i + 1) (set_value ps i v) ≡ drop (i + 1) ps
-  drop-set_value ps i v =
-      let more : i + 1 ≡ suc i = omega arith in
-      ap (λ n. drop n (set_value ps i v)) more ∙ drop-suc ps i v ∙ ap (λ n. drop n ps) (sym more)
+  drop-set_value ps i v = grind (arith, common_steps, drop, drop-suc)
 
   take-set_value : (ps : List (K × V)) (n i : ℕ) (v : V) → n ≤ i → take n (set_value ps i v) ≡ take n ps
   take-set_value ps zero i v le = refl
@@ -76,16 +69,7 @@ module _ {K V : Type 0} where
 
   -- a swap in each column is one in the list of pairs
   pub zip-swap : (ks : List K) (vs : List V) (i j : ℕ) → length vs ≡ length ks → zip (swap ks i j) (swap vs i j) ≡ swap (zip ks vs) i j
-  zip-swap [] [] i j even = refl
-  zip-swap [] (v ∷ vs) i j even = absurd (omega arith)
-  zip-swap (k ∷ ks) [] i j even = absurd (omega arith)
-  zip-swap (k ∷ ks) (v ∷ vs) i j even =
-      let us : List K = k ∷ ks in
-      let ws : List V = v ∷ vs in
-      let read = λ (n : ℕ). sym (get_or-zip us ws n k v even) in
-      zip-set (set us i (get_or us j k)) (set ws i (get_or ws j v)) j (get_or us i k) (get_or ws i v)
-      ∙ ap (λ l. set l j (get_or us i k, get_or ws i v)) (zip-set us ws i (get_or us j k) (get_or ws j v) ∙ ap (set (zip us ws) i) (read j))
-      ∙ ap (set (set (zip us ws) i (get_or (zip us ws) j (k, v))) j) (read i)
+  zip-swap ks vs i j even = grind (arith, common_steps, get_or, get_or-zip, set, zip-set)
 
 module _ {F K V : Type 0} (T : F → K → V → Bool → V → F → Type 0) (Q : F → K → V → Type 0) where
   -- from f and these pairs on, where the first i were asked of and n of them stay, any run over the rest goes on to a run over all

@@ -1,6 +1,6 @@
 -- Two columns side by side as one list of pairs.
-use Rattle.std.proofs.Common.{◌≡◌, ℕ, zero, suc, ◌-◌, ◌<◌, List, [], ◌∷◌, ◌++◌, length, get_or, take, Some, sym, refl, ap, ◌∙◌}
-use Rattle.std.proofs.Common.{arith}
+use Rattle.std.proofs.Common.{◌≡◌, ℕ, zero, suc, ◌-◌, ◌<◌, List, [], ◌∷◌, ◌++◌, length, get_or, take, Some, sym, refl, ap, ◌∙◌, arith}
+use Rattle.std.proofs.lemmas.Grind.{common_steps}
 use Rattle.std.proofs.Math.ListN.{set}
 use Rattle.std.proofs.lemmas.List.{take_all}
 use Rattle.std.specs.List.{AllZip, zip, slice_get, swap_remove, refill}
@@ -84,11 +84,7 @@ module _ {K V : Type 0} where
   -- a swap removal in each column is one in the list of pairs
   zip-swap_remove : (ks : List K) (vs : List V) (i : ℕ) (k : K) (v : V) → length vs ≡ length ks
       → zip (swap_remove ks i k) (swap_remove vs i v) ≡ swap_remove (zip ks vs) i (k, v)
-  zip-swap_remove ks vs i k v even =
-      let n = length ks - 1 in
-      ap (λ m. zip (swap_remove ks i k) (take (m - 1) (set vs i (get_or vs (m - 1) v)))) even
-      ∙ zip-take n _ _ ∙ ap (take n) (zip-set ks vs i _ _ ∙ ap (set (zip ks vs) i) (sym (get_or-zip ks vs n k v even)))
-      ∙ ap (λ m. take (m - 1) (set (zip ks vs) i (get_or (zip ks vs) (m - 1) (k, v)))) (sym (length-zip ks vs even))
+  zip-swap_remove ks vs i k v even = grind (arith, common_steps, get_or, get_or-zip, length-zip, set, take, zip-set, zip-take)
 
   pub zip-swap_remove_at : (ks : List K) (vs : List V) (i : ℕ) (k : K) (v : V) → length vs ≡ length ks
       → zip (swap_remove ks i k) (swap_remove vs i v) ≡ swap_remove_at (zip ks vs) i

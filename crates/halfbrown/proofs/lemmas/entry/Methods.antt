@@ -1,6 +1,6 @@
 -- What an entry of a key is, and what is written and removed through it.
-use Rattle.std.proofs.Common.{◌≡◌, ℕ, zero, suc, ◌<◌, Bool, List, [], ◌∷◌, ◌++◌, length, slice_get, Some, refl, sym, ap, subst, ◌∙◌}
-use Rattle.std.proofs.Common.{true≢false, arith}
+use Rattle.std.proofs.Common.{◌≡◌, ℕ, zero, suc, ◌<◌, Bool, List, [], ◌∷◌, ◌++◌, length, slice_get, Some, refl, sym, ap, subst, ◌∙◌, arith}
+use Rattle.std.proofs.lemmas.Grind.{common_steps}
 use Rattle.std.specs.Borrow.{MutBor}
 use Rattle.std.specs.Coded.{le_prop}
 use Rattle.std.specs.Cmp.{IsEquivalence}
@@ -65,22 +65,13 @@ module _ {K V S : Type 0} (limit : ℕ) (same : K → K → Bool) (laws : IsEqui
 
   puts_at : (ps : List (K × V)) (contents : Contents) (v : V) → put same m.pairs k v ≡ ps
       → Puts limit same old k v (insert_needs limit same old k) (state m.is_vec ps m.capacity m.columns m.builder contents)
-  puts_at ps contents v is = record {
-    pairs = sym (put_is ps v is);
-    form = prepared.form;
-    capacity = prepared.capacity;
-    columns = prepared.columns;
-    grantable = prepared.grantable;
-    builder = prepared.builder;
-  }
+  puts_at ps contents v is = grind (arith, common_steps)
 
   taken_is : (ps : List (K × V)) → take_out same m.pairs k ≡ ps → take_out same old.pairs k ≡ ps
   taken_is ps is = ap (λ qs. take_out same qs k) (sym prepared.pairs) ∙ is
 
   has_removed_at : (ps : List (K × V)) → IsDistinct same (keys_of m.pairs) → take_out same m.pairs k ≡ ps → HasRemoved same old.pairs k ps
-  has_removed_at ps distinct is =
-      subst (HasRemoved same old.pairs k) (taken_is ps is)
-      (has_removed same laws old.pairs (subst (λ qs. IsDistinct same (keys_of qs)) prepared.pairs distinct) k)
+  has_removed_at ps distinct is = grind (arith, common_steps, has_removed, taken_is)
 
 module _ {K V S L H : Type 0} {e : eq.Ghosts K} {h : hash.Ghosts K} {b : builder.Ghosts S H} {w : hasher.Ghosts H} {l : limits.Ghosts L}
     (limit : ℕ) (same : K → K → Bool) (laws : IsEquivalence same) (old : State K V S) where
@@ -88,13 +79,7 @@ module _ {K V S L H : Type 0} {e : eq.Ghosts K} {h : hash.Ghosts K} {b : builder
   module _ (k : K) (o : OccupiedEntry K V S L H e h b w l) (prepared : Prepares limit old (insert_needs limit same old k) o.map.now)
       (at : IsIndexOf (same k) o.map.now.pairs o.index) where
     pub found_entry : IsEntryOf same old.pairs k (Occupied o)
-    found_entry = subst (λ ps. IsEntryOf same ps k (Occupied o)) prepared.pairs (record {
-      occupied = sym at.held;
-      pair = sym at.pair;
-      value = sym at.value;
-      stored_key = λ occupied. key_of-pair o.map.now.pairs o.index ∙ ap (option_map (λ (p : K × V). p.0)) (sym at.pair);
-      new_key = λ vacant. absurd (true≢false vacant);
-    })
+    found_entry = grind (arith, common_steps, key_of-pair)
 
     pub found_writes : PutsThroughEntry limit same old k (Occupied o)
     unfolding with_value
@@ -114,13 +99,7 @@ module _ {K V S L H : Type 0} {e : eq.Ghosts K} {h : hash.Ghosts K} {b : builder
   module _ (v : VacantEntry K V S L H e h b w l) (prepared : Prepares limit old (insert_needs limit same old v.key) v.map.now)
       (absent : IsAbsent (same v.key) v.map.now.pairs) where
     pub missing_entry : IsEntryOf same old.pairs v.key (Vacant v)
-    missing_entry = subst (λ ps. IsEntryOf same ps v.key (Vacant v)) prepared.pairs (record {
-      occupied = sym absent.held;
-      pair = sym absent.pair;
-      value = sym absent.value;
-      stored_key = λ occupied. absurd (true≢false (sym occupied));
-      new_key = λ vacant. refl;
-    })
+    missing_entry = grind (arith, common_steps)
 
     pub missing_writes : PutsThroughEntry limit same old v.key (Vacant v)
     unfolding with_value
@@ -132,10 +111,7 @@ module _ {K V S L H : Type 0} {e : eq.Ghosts K} {h : hash.Ghosts K} {b : builder
     }
 
     pub missing_removes : IsDistinct same (keys_of v.map.now.pairs) → RemovesKey same old.pairs v.key (Vacant v)
-    missing_removes distinct = record {
-      pairs_left = sym (taken_is limit same laws old v.map.now v.key prepared v.map.now.pairs absent.take_is);
-      removed = has_removed_at limit same laws old v.map.now v.key prepared v.map.now.pairs distinct absent.take_is;
-    }
+    missing_removes distinct = grind (arith, common_steps)
 
 module _ {K V S L H : Type 0} {e : eq.Ghosts K} {h : hash.Ghosts K} {b : builder.Ghosts S H} {w : hasher.Ghosts H} {l : limits.Ghosts L}
     (o : OccupiedEntry K V S L H e h b w l) where
@@ -189,14 +165,7 @@ module _ {K V S L H : Type 0} {e : eq.Ghosts K} {h : hash.Ghosts K} {b : builder
   pub rekeyed_entry : (key : K) (map : MutBor (State K V S)) (within : o.index < length map.now.pairs) → map.ghost_name ≡ o.map.ghost_name
       → WithPairs o.map.now (pairs_with_key o key) map.now
       → HasNewKey o key (record { map = map; index = o.index; within = within })
-  rekeyed_entry key map within same after = record {
-    same_map = same;
-    map = after;
-    key_is = ap (λ ps. slice_get (keys_of ps) o.index) after.pairs ∙ key-set_key o.map.now.pairs o.index key o.within;
-    value = ap (λ ps. slice_get (values_of ps) o.index) after.pairs
-        ∙ ap (λ vs. slice_get vs o.index) (values_of-set_key o.map.now.pairs o.index key);
-    pairs_left = ap (λ ps. swap_remove_at ps o.index) after.pairs ∙ swap_remove_at-set_key o.map.now.pairs o.index key;
-  }
+  rekeyed_entry key map within same after = grind (arith, common_steps, key-set_key, slice_get, swap_remove_at-set_key, values_of-set_key)
 
 module _ {K V S L H : Type 0} {e : eq.Ghosts K} {h : hash.Ghosts K} {b : builder.Ghosts S H} {w : hasher.Ghosts H} {l : limits.Ghosts L}
     (v : VacantEntry K V S L H e h b w l) where

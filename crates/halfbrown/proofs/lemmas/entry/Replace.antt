@@ -1,8 +1,8 @@
 -- What an entry is after its value was handed to a closure.
 use Rattle.std.proofs.Common.{◌≡◌, ℕ, zero, suc, ◌-◌, ◌<◌, Bool, true, false, List, [], ◌∷◌, ◌++◌, length, take, set, slice_get, Option}
 use Rattle.std.proofs.Common.{None, Some, MatchOption, if◌then◌else◌, refl, sym, ap, subst, ◌∙◌, arith}
+use Rattle.std.proofs.lemmas.Grind.{common_steps}
 use Rattle.std.proofs.Math.ListN.{length-append}
-use Rattle.std.proofs.lemmas.List.{take-set-le}
 use Rattle.std.proofs.lemmas.Option.{same_Some}
 use Rattle.std.specs.Borrow.{Bor, MutBor}
 use Rattle.std.specs.Map.{values_of}
@@ -23,13 +23,8 @@ use Rattle.std.specs.declared.hash.Hasher as hasher
 use Rattle.std.specs.declared.hash.BuildHasher as builder
 use Rattle.halfbrown.specs.declared.limit.Limit as limits
 
-take-front : {X : Type 0} (xs ys : List X) → take (length xs) (xs ++ ys) ≡ xs
-take-front [] ys = refl
-take-front (x ∷ xs) ys = ap (λ l. x ∷ l) (take-front xs ys)
-
 front_of : {X : Type 0} (xs : List X) (x y : X) (n : ℕ) → n ≡ length xs → take n (set (xs ++ x ∷ []) (length xs) y) ≡ xs
-front_of xs x y n is = take-set-le n (xs ++ x ∷ []) (length xs) y (omega arith) ∙ ap (λ m. take m (xs ++ x ∷ [])) is
-    ∙ take-front xs (x ∷ [])
+front_of xs x y n is = grind (arith, common_steps)
 
 -- the last element that is taken out leaves the others as they are
 pub swap_remove_at-last : {X : Type 0} (xs : List X) (x : X) → swap_remove_at (xs ++ x ∷ []) (length xs) ≡ xs
@@ -187,11 +182,7 @@ module _ {K V S L H : Type 0} {e : eq.Ghosts K} {h : hash.Ghosts K} {b : builder
       module _ (m : State K V S) (index : ℕ) (vector : n.is_vec ≡ true → MovesLast n o.index index m)
           (table : n.is_vec ≡ false → (m ≡ n) × (index ≡ o.index)) where
         within_by : (is_vec : Bool) → n.is_vec ≡ is_vec → index < length m.pairs
-        within_by true form =
-            let moves = vector form in
-            omega (arith, ap length moves.moved.2.pairs, length-append (swap_remove_at n.pairs o.index) (moves.moved.0 ∷ []), moves.last_is)
-        within_by false form = let stays = table form in
-            omega (arith, still_within, ap (λ (old : State K V S). length old.pairs) stays.0, stays.1)
+        within_by is_vec form = grind (arith, common_steps, length-append, still_within)
 
         pub settled_within : index < length m.pairs
         settled_within = within_by n.is_vec refl

@@ -1,5 +1,6 @@
 -- What the fields of a clone keep.
 use Rattle.std.proofs.Common.{◌≡◌, ℕ, suc, ◌<◌, ◌≤◌, Bool, true, false, List, [], ◌∷◌, length, map, cond, sym, refl, ap, subst, ◌∙◌, arith}
+use Rattle.std.proofs.lemmas.Grind.{common_steps}
 use Rattle.std.specs.Cmp.{IsEquivalence}
 use Rattle.std.specs.List.{AllZip, AllByRecursion, Contains, IsDistinct}
 use Rattle.std.specs.Map.{keys_of}
@@ -33,8 +34,7 @@ map-zip f g (x ∷ xs) (y ∷ ys) zip = λ i. zip.0 i ∷ map-zip f g xs ys zip.
 
 clone_fits : (limit len capacity : ℕ) (is_vec : Bool) → len ≤ allowed limit is_vec capacity
     → len ≤ allowed limit is_vec (cond is_vec len capacity)
-clone_fits limit len capacity true fits = omega arith
-clone_fits limit len capacity false fits = fits
+clone_fits limit len capacity is_vec fits = grind (arith, common_steps)
 
 module _ {K : Type 0} (eq : K → K → Bool) (laws : IsEquivalence eq) where
   all_apart : (k l : K) (ks ls : List K) → eq k l ≡ true → AllZip (λ x y. eq x y ≡ true) ks ls → AllByRecursion (λ y. eq k y ≡ false) ks

@@ -1,8 +1,7 @@
 -- What becomes of items that are put one after another: of which keys the pairs are, and with which values.
-use Rattle.std.proofs.Common.{◌≡◌, Bool, true, false, not, ◌&&◌, cond, List, [], ◌∷◌, ◌++◌, Option, None, Some, reverse}
+use Rattle.std.proofs.Common.{◌≡◌, Bool, true, false, not, ◌&&◌, cond, List, [], ◌∷◌, ◌++◌, Option, None, Some, reverse, refl, sym, ap, ◌∙◌}
+use Rattle.std.proofs.Common.{ℕ, Result, IsErr, IsErrAnd, IfErr, OnOk, subst, nat_le, ◌+◌, inl, inr, arith, if◌then◌else◌}
 use Rattle.std.proofs.lemmas.Grind.{common_steps}
-use Rattle.std.proofs.Common.{refl, sym, ap, ◌∙◌, ℕ, Result, Ok, Err, IsErr, IsErrAnd, IfErr, OnOk}
-use Rattle.std.proofs.Common.{subst, nat_le, ◌+◌, inl, inr, arith, if◌then◌else◌}
 use Rattle.std.proofs.lemmas.List.{reverse-append}
 use Rattle.std.specs.Cmp.{IsEquivalence}
 use Rattle.std.specs.Map.{keys_of}
@@ -26,20 +25,16 @@ use Rattle.halfbrown.specs.State.{State, IsState}
 use Rattle.halfbrown.proofs.lemmas.map.Costs.{costs_assoc, none_more, more_none, spent_both}
 
 or_none : {V : Type 0} (o : Option V) → option_or o None ≡ o
-or_none (Some v) = refl
-or_none None = refl
+or_none o = grind (arith, common_steps)
 
 or_past : {V : Type 0} (b : Bool) (v : V) (o other : Option V) → cond b (Some v) (option_or o other) ≡ option_or (cond b (Some v) o) other
-or_past true v o other = refl
-or_past false v o other = refl
+or_past b v o other = grind (arith, common_steps)
 
 or_assoc : {V : Type 0} (o p other : Option V) → option_or (option_or o p) other ≡ option_or o (option_or p other)
-or_assoc (Some v) p other = refl
-or_assoc None p other = refl
+or_assoc o p other = grind (arith, common_steps)
 
 one_of : {V : Type 0} (b : Bool) (v : V) (other : Option V) → option_or (cond b (Some v) None) other ≡ cond b (Some v) other
-one_of true v other = refl
-one_of false v other = refl
+one_of b v other = grind (arith, common_steps)
 
 module _ {K V : Type 0} (eq : K → K → Bool) where
   keys_put_all : (ps items : List (K × V)) → keys_of (put_all eq ps items) ≡ add_keys eq (keys_of ps) (keys_of items)
@@ -81,8 +76,7 @@ asked_nothing : (limit : ℕ) (v full : Bool) → v ≡ true → (v && not full)
 asked_nothing limit v full form stays = grind (arith, common_steps)
 
 and_left : (a b : Bool) → (a && b) ≡ true → a ≡ true
-and_left true b both = refl
-and_left false b both = both
+and_left a b both = grind (arith, common_steps)
 
 -- one call of an iterator more
 pub yields_more : {I X : Type 0} (steps : I → Option X → I → Type 0) (s : I) (xs : List X) (t : I) (x : X) (u : I) → Yields steps s xs t
@@ -192,15 +186,7 @@ module _ {K V S : Type 0} (limit : ℕ) (eq : K → K → Bool) (hash : S → K 
 
   pub extends_of : IsEquivalence eq → (old new : State K V S) (items : List (K × V)) (cost : Cost)
       → InsertsAll limit eq hash old items new cost → Extends limit eq hash old items new cost
-  extends_of laws old new items cost inserts =
-      let pairs = inserts_pairs old new items cost inserts in
-      record {
-        pairs = pairs;
-        keys = ap keys_of pairs ∙ keys_put_all eq old.pairs items;
-        values = λ k. ap (λ ps. value_of eq ps k) pairs ∙ value_put_all eq laws old.pairs items k;
-        builder = inserts_builder old new items cost inserts;
-        inserted = inserts;
-      }
+  extends_of laws old new items cost inserts = grind (arith, common_steps, inserts_builder, inserts_pairs, keys_put_all, value_put_all)
 
   -- ---- collections
 
@@ -253,5 +239,4 @@ gave_first s (x ∷ xs) t y = y.1.0 ∙ ap (λ l. x ∷ l) (gave_first y.0 xs t 
 -- what an error says, where the result is this error
 pub at_error : {A E : Type 0} (r : Result A E) (e : E) (P : Type 0) (Q : E → Type 0) → IsErr r × IsErrAnd r (λ why. why ≡ e) → Q e
     → OnOk r P × IfErr r Q
-at_error (Ok a) e P Q told holds = absurd told.1
-at_error (Err why) e P Q told holds = (tt, subst Q (sym told.1) holds)
+at_error r e P Q told holds = grind (arith, common_steps)

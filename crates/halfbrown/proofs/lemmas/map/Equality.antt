@@ -1,15 +1,15 @@
 -- When two lists of pairs of distinct keys are equal as maps: they are of one length, and the right holds each pair of the left.
-use Rattle.std.proofs.Common.{◌≡◌, ℕ, ◌≤◌, Bool, true, false, true≢false, cond, List, [], ◌∷◌, length, get_or, slice_get, Option, None}
+use Rattle.std.proofs.Common.{◌≡◌, ℕ, ◌≤◌, Bool, true, false, true≢false, cond, List, [], ◌∷◌, length, get_or, slice_get, Option, None, not}
+use Rattle.std.proofs.Common.{Some, is_some, inl, inr, refl, sym, ap, ◌∙◌, arith, suc, ◌&&◌, drop, ◌+◌, subst}
 use Rattle.std.proofs.lemmas.Grind.{common_steps}
-use Rattle.std.proofs.Common.{not, Some, is_some, inl, inr, refl, sym, ap, ◌∙◌, arith, suc, ◌&&◌, drop, ◌+◌, subst}
-use Rattle.std.specs.Bool.{Decides, one_answer}
+use Rattle.std.specs.Bool.{Decides}
 use Rattle.std.specs.Borrow.{Bor}
 use Rattle.std.specs.Cmp.{IsEquivalence}
 use Rattle.std.specs.HashMap.Eq.{lookup_congr}
 use Rattle.std.specs.List.{AllByRecursion, IsDistinct, list_all}
 use Rattle.std.specs.Map.{keys_of, lookup}
 use Rattle.std.specs.Option.{option_copied, option_eq, option_map_or}
-use Rattle.std.proofs.lemmas.Bool.{cases_Bool, eq-eqb, ne_eqb}
+use Rattle.std.proofs.lemmas.Bool.{cases_Bool}
 use Rattle.std.proofs.lemmas.List.Sums.{AllPass-from_list_all, list_all-from_AllPass}
 use Rattle.std.proofs.lemmas.Map.Entries.{place_from_lookup, lookup_from_place, length-keys_of}
 use Rattle.std.proofs.lemmas.Map.Keys.{IsDistinct-cons}
@@ -33,8 +33,7 @@ module _ {V : Type 0} (value_eq : V → V → Bool) where
   some_left a b same some = grind (arith, common_steps)
 
   some_is_held : (v : V) (b : Option V) → option_eq value_eq (Some v) b ≡ option_map_or (value_eq v) b false
-  some_is_held v None = refl
-  some_is_held v (Some w) = refl
+  some_is_held v b = grind (arith, common_steps)
 
 module _ {K V : Type 0} (eq : K → K → Bool) where
   -- no held key is equal to one that has no value
@@ -50,9 +49,7 @@ module _ {K V : Type 0} (eq : K → K → Bool) (value_eq : V → V → Bool) (l
   -- each key of one list has a value in the other, so it is at most as long
   length_most : (ps qs : List (K × V)) → IsDistinct eq (keys_of ps)
       → ((k : K) → is_some (value_of eq ps k) ≡ true → is_some (value_of eq qs k) ≡ true) → length ps ≤ length qs
-  length_most ps qs distinct has =
-      let most = length-le_from_keys laws (keys_of ps) qs distinct (λ k held. has k (is_some-lookup (eq k) ps ∙ held)) in
-      omega (arith, most, length-keys_of ps)
+  length_most ps qs distinct has = grind (arith, common_steps, is_some-lookup, length-keys_of, length-le_from_keys)
 
   module _ (left_distinct : IsDistinct eq (keys_of left)) where
     -- a pair of the left is held on the right exactly where its key has the same value in both
@@ -79,9 +76,7 @@ module _ {K V : Type 0} (eq : K → K → Bool) (value_eq : V → V → Bool) (l
 
     has_of_held : list_all (holds_pair eq value_eq right) left ≡ true → (k : K) (found : Option V) → value_of eq left k ≡ found
         → is_some found ≡ true → is_some (value_of eq right k) ≡ true
-    has_of_held all k None is some = absurd (true≢false (sym some))
-    has_of_held all k (Some v) is some =
-        some_right value_eq (value_of eq left k) (value_of eq right k) (same_of_held all k v is) (ap is_some is)
+    has_of_held all k found is some = grind (arith, common_steps, is_some, same_of_held, some_right)
 
     -- where the lengths agree, the right has no key beside those
     none_of_none : length left ≡ length right → list_all (holds_pair eq value_eq right) left ≡ true → (k : K) → value_of eq left k ≡ None
@@ -100,9 +95,7 @@ module _ {K V : Type 0} (eq : K → K → Bool) (value_eq : V → V → Bool) (l
 
     same_by : length left ≡ length right → list_all (holds_pair eq value_eq right) left ≡ true → (k : K) (found : Option V)
         → value_of eq left k ≡ found → same_value eq value_eq left right k ≡ true
-    same_by lengths all k None is = ap (λ v. option_eq value_eq v (value_of eq right k)) is
-        ∙ none_of_none lengths all k is (value_of eq right k) refl
-    same_by lengths all k (Some v) is = same_of_held all k v is
+    same_by lengths all k found is = grind (arith, common_steps, none_of_none, same_of_held)
 
     module _ (right_distinct : IsDistinct eq (keys_of right)) where
       same_lengths : same_pairs eq value_eq left right ≡ true → length left ≡ length right
@@ -120,16 +113,10 @@ module _ {K V : Type 0} (eq : K → K → Bool) (value_eq : V → V → Bool) (l
       )
 
       pub unequal_lengths : (length left ≡ length right → ⊥) → false ≡ same_pairs eq value_eq left right
-      unequal_lengths differ =
-          elim (cases_Bool (same_pairs eq value_eq left right)) [
-            | inl same ↦ absurd (differ (same_lengths same))
-            | inr other ↦ sym other
-          ]
+      unequal_lengths differ = grind (arith, common_steps, same_lengths)
 
       pub all_is_same : length left ≡ length right → list_all (holds_pair eq value_eq right) left ≡ same_pairs eq value_eq left right
-      all_is_same lengths =
-          one_answer (list_all (holds_pair eq value_eq right) left) (same_pairs eq value_eq left right)
-          (λ all. (lengths, all), λ both. both.1) same_pairs-by_pairs
+      all_is_same lengths = grind (arith, common_steps, same_pairs-by_pairs)
 
 -- What searches for several keys, one after another, cost together.
 
@@ -194,10 +181,8 @@ module _ {K V S : Type 0} (eq : K → K → Bool) (hash : S → K → ℕ) (m : 
 
 module _ {K V : Type 0} (eq : K → K → Bool) (value_eq : V → V → Bool) where
   pub none_searched : (left right : List (K × V)) → (length left ≡ length right → ⊥) → [] ≡ searched_keys eq value_eq left right
-  none_searched left right differ =
-      sym (ap (λ b. cond b (keys_while_same eq value_eq left right) []) (ne_eqb (length left) (length right) differ))
+  none_searched left right differ = grind (arith, common_steps)
 
   pub all_searched : (left right : List (K × V)) → length left ≡ length right
       → keys_while_same eq value_eq left right ≡ searched_keys eq value_eq left right
-  all_searched left right same =
-      sym (ap (λ b. cond b (keys_while_same eq value_eq left right) []) (eq-eqb (length left) (length right) same))
+  all_searched left right same = grind (arith, common_steps)

@@ -1,24 +1,22 @@
 -- What a search costs.
-use Rattle.std.proofs.Common.{◌≡◌, ℕ, ◌+◌, ◌-◌, ◌≤◌, ◌==◌, Bool, true, false, List, [], ◌∷◌, length, map, count_by, fold, cond, Option}
+use Rattle.std.proofs.Common.{◌≡◌, ℕ, ◌+◌, ◌≤◌, ◌==◌, Bool, true, false, List, [], ◌∷◌, length, map, count_by, fold, cond, Option, None}
+use Rattle.std.proofs.Common.{IfNone, IfSome, refl, ap, sym, ◌∙◌, arith, ◌<◌, get_or, slice_get}
 use Rattle.std.proofs.lemmas.Grind.{common_steps}
-use Rattle.std.proofs.Common.{None, Some, IfNone, IfSome, is_some, refl, ap, sym, subst, ◌∙◌, arith, ◌<◌, get_or, slice_get}
-use Rattle.std.proofs.Math.ListN.{length-map}
 use Rattle.std.proofs.lemmas.Map.Entries.{length-keys_of}
 use Rattle.std.specs.Map.{keys_of}
 use Rattle.half_store.specs.Reach.{reach}
 use Rattle.half_store.specs.Capacity.{buckets_of}
 use Rattle.half_store.specs.Probe.{AddsFinding, after_missing}
 use Rattle.half_store.specs.Work.{Work, compared_more, first_match_cost}
-use Rattle.halfbrown.specs.Costs.{Cost, GrewBy, between, exactly, candidates, probe_length, search_cost, SearchCosts}
-use Rattle.halfbrown.specs.State.{State, contents_of}
+use Rattle.halfbrown.specs.Costs.{candidates, probe_length, SearchCosts}
+use Rattle.halfbrown.specs.State.{State}
 use Rattle.std.proofs.Props.{props}
 use Rattle.half_store.specs.Store.{IsVacancy, StoreState}
-use Rattle.half_store.specs.Table.{Contents, IsVacancyIn}
+use Rattle.half_store.specs.Table.{Contents}
 use Rattle.half_store.specs.declared.store.vacancy.Vacancy.{Vacancy}
 use Rattle.std.proofs.lemmas.Option.{same_Some, slice_get-get_or, slice_get-map}
 use Rattle.std.specs.List.{IsDistinct}
-use Rattle.std.specs.Option.{option_map}
-use Rattle.std.specs.Prelude.{Result, Ok, Err}
+use Rattle.std.specs.Prelude.{Result}
 use Rattle.std.specs.Result.{result_ok}
 use Rattle.half_store.specs.Pairs.{index_of}
 use Rattle.half_store.specs.Search.{Finds}
@@ -49,23 +47,8 @@ module _ {K V S : Type 0} (hash : S → K → ℕ) (sought : ℕ) (m : State K V
     probed : reach hashes buckets sought ≡ probe_length (hash m.builder) false m.capacity m.pairs sought
     probed = λ i. reach (is_map i) (is_count i) sought
 
-    short_probe : probe_length (hash m.builder) m.is_vec m.capacity m.pairs sought ≤ length m.pairs + 1
-    short_probe = subst (λ b. probe_length (hash m.builder) b m.capacity m.pairs sought ≤ length m.pairs + 1) (sym form)
-        (omega (arith, near, probed, ap length is_map, length-map (keys_of m.pairs) (hash m.builder), length-keys_of m.pairs))
-
     missing_costs : after ≡ after_missing hashes buckets sought before → SearchCosts hash sought m None 0 before after
-    missing_costs spent = record {
-      grew = subst (λ b. GrewBy (search_cost (hash m.builder) sought None 0 b m.capacity m.pairs) before after) (sym form) (record {
-        asked = omega (arith, ap (λ w. w.asked) spent);
-        compared = record {
-          least = omega (arith, ap (λ w. w.compared) spent, counted);
-          most = omega (arith, ap (λ w. w.compared) spent, counted);
-        };
-        looked = record { least = omega (arith, ap (λ w. w.looked) spent, probed); most = omega (arith, ap (λ w. w.looked) spent, probed) };
-      });
-      looked_once = λ in_table found. absurd cc;
-      short = short_probe;
-    }
+    missing_costs spent = grind (arith, common_steps)
 
   -- what a search by a match costs, from what the store says of its work
   pub match_costs : (is_vec : Bool) → m.is_vec ≡ is_vec → (index : Option ℕ) (hashes : List ℕ) (capacity : ℕ)
@@ -77,27 +60,9 @@ module _ {K V S : Type 0} (hash : S → K → ℕ) (sought : ℕ) (m : State K V
   match_costs is_vec form index hashes capacity is_map is_capacity vector found missing near = grind (arith, common_steps)
 
 module _ {K V S : Type 0} (hash : S → K → ℕ) (sought own : ℕ) (m : State K V S) (before after : Work) (index : Option ℕ) where
-  -- a vector looks at no hash
-  cost_in_vector : m.is_vec ≡ true → (h : ℕ)
-      → search_cost (hash m.builder) h index 0 m.is_vec m.capacity m.pairs
-      ≡ record { asked = 0; compared = exactly (first_match_cost index (length m.pairs)); looked = exactly 0 }
-  cost_in_vector form h = λ i. record {
-    asked = 0;
-    compared = cond (form i) (exactly (first_match_cost index (length m.pairs)))
-        (cond (is_some index) (between 1 (candidates (hash m.builder) m.pairs h)) (exactly (candidates (hash m.builder) m.pairs h)));
-    looked = cond (form i) (exactly 0)
-        (cond (is_some index) (between 1 (probe_length (hash m.builder) m.is_vec m.capacity m.pairs h - 1))
-        (exactly (probe_length (hash m.builder) m.is_vec m.capacity m.pairs h)));
-  }
-
   costs_by_form : (is_vec : Bool) → m.is_vec ≡ is_vec → (is_vec ≡ false → sought ≡ own) → SearchCosts hash sought m index 0 before after
       → SearchCosts hash own m index 0 before after
-  costs_by_form true form same costs = record {
-    grew = subst (λ (c : Cost). GrewBy c before after) (cost_in_vector form sought ∙ sym (cost_in_vector form own)) costs.grew;
-    looked_once = costs.looked_once;
-    short = subst (λ b. probe_length (hash m.builder) b m.capacity m.pairs own ≤ length m.pairs + 1) (sym form) (omega arith);
-  }
-  costs_by_form false form same costs = subst (λ h. SearchCosts hash h m index 0 before after) (same refl) costs
+  costs_by_form is_vec form same costs = grind (arith, common_steps)
 
   -- the costs under one hash are those under another that is the same in a table
   pub costs_for_other : (m.is_vec ≡ false → sought ≡ own) → SearchCosts hash sought m index 0 before after
@@ -109,8 +74,7 @@ module _ {K V S : Type 0} (hash : S → K → ℕ) (sought own : ℕ) (m : State
 -- a vacancy for one hash is one for another that is the same in a table
 pub vacancy_for : (is_vec : Bool) (contents : Contents) (hash other : ℕ) → (is_vec ≡ false → hash ≡ other) → (vacancy : Vacancy)
     → IsVacancy is_vec contents hash vacancy → IsVacancy is_vec contents other vacancy
-vacancy_for is_vec contents hash other same vacancy vacant =
-    λ table. ((vacant table).0 ∙ same table, subst (λ h. IsVacancyIn contents h vacancy.bucket) (same table) (vacant table).1)
+vacancy_for is_vec contents hash other same vacancy vacant = grind (arith, common_steps)
 
 -- that a pair may be added here is one fact
 pub vacancy-prop : (is_vec : Bool) (contents : Contents) (hash : ℕ) (vacancy : Vacancy) → IsProp (IsVacancy is_vec contents hash vacancy)
@@ -121,8 +85,7 @@ vacancy-prop is_vec contents hash vacancy = Prim.hlevel props
 -- the index that a search by a test found is that of the first key that passes
 module _ {K V S : Type 0} (test : K → Bool) (sought : ℕ) (m : State K V S) where
   pub found_is_index : (result : Result ℕ Vacancy) → LooksUp test sought m result → result_ok result ≡ index_of test (keys_of m.pairs)
-  found_is_index (Ok index) at = sym at.index_is
-  found_is_index (Err vacancy) at = sym at.0.index
+  found_is_index result at = grind (arith, common_steps)
 
 module _ {K V S : Type 0} (test : K → Bool) (returns : K → Bool → Type 0) (decides : (k : K) (b : Bool) → returns k b → b ≡ test k)
     (eq : K → K → Bool) (one_class : (k other : K) → test k ≡ true → test other ≡ eq k other)
@@ -150,28 +113,11 @@ module _ {K V S : Type 0} (test : K → Bool) (returns : K → Bool → Type 0) 
 
     -- a search by the match is one for the key, under its own hash
     pub looks_up : (result : Result ℕ Vacancy) → Matches returns hash sought m result → LooksUp test own m result
-    looks_up (Ok index) found = index_of_match index found
-    looks_up (Err vacancy) (none, vacant) =
-        (absent_of_no_match none, λ some. vacancy_for m.is_vec (contents_of m) sought own known vacancy (vacant some))
+    looks_up result found = grind (arith, common_steps, absent_of_no_match, index_of_match, vacancy_for)
 
 module _ {K V S : Type 0} (returns : K → Bool → Type 0) (hash : S → K → ℕ) (sought limit : ℕ) (s : StoreState K V) (builder : S)
     (hashed : s.is_vec ≡ false → s.hashes ≡ map (hash builder) (keys_of s.pairs)) where
   -- a search of the store by the match is one of the map
   pub matches_of : (result : Result ℕ Vacancy) → Finds returns sought s result
       → Matches returns hash sought (state_in limit s builder) result
-  matches_of (Ok index) found = record {
-    within = found.within;
-    accepted = found.accepted;
-    first = found.first;
-    hashed = λ table k at. same_Some _ _ (ap (option_map (hash builder)) (sym at)
-        ∙ sym (slice_get-map (hash builder) (keys_of s.pairs) index) ∙ ap (λ hs. slice_get hs index) (sym (hashed table))
-        ∙ found.hashed table k at);
-  }
-  matches_of (Err vacancy) (none, vacant) = (
-    record {
-      refused = λ index k at own. none.refused index k at
-          (λ table. ap (λ hs. slice_get hs index) (hashed table) ∙ slice_get-map (hash builder) (keys_of s.pairs) index
-          ∙ ap (option_map (hash builder)) at ∙ ap Some (own table));
-    },
-    λ some table. vacant (omega (arith, some, table_capacity_is limit s.is_vec s.capacity table)) table,
-  )
+  matches_of result found = grind (arith, common_steps, same_Some, slice_get, slice_get-map, table_capacity_is)

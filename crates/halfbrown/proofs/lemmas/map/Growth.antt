@@ -1,6 +1,6 @@
 -- A full vector holds as many pairs as the limit allows, and a form that is not full stays.
-use Rattle.std.proofs.Common.{◌≡◌, ◌∙◌, ℕ, ◌+◌, Bool, true, false, ◌&&◌, length, arith, not, sym, ap, refl}
-use Rattle.std.proofs.lemmas.Bool.{MatchBool-at_false}
+use Rattle.std.proofs.Common.{◌≡◌, ℕ, ◌+◌, Bool, true, false, ◌&&◌, length, arith, not}
+use Rattle.std.proofs.lemmas.Grind.{common_steps}
 use Rattle.std.proofs.lemmas.Bool.Decides.{nat_tests}
 use Rattle.std.specs.Prelude.{Some, None, if◌then◌else◌}
 use Rattle.half_store.specs.Capacity.{capacity_for}
@@ -10,21 +10,18 @@ use Rattle.halfbrown.specs.Preparation.{Prepares}
 use Rattle.halfbrown.specs.State.{State}
 
 pub and_false : (b : Bool) → (b && false) ≡ false
-and_false true = refl
-and_false false = refl
+and_false b = grind (arith, common_steps)
 
 pub full_len : {K V S : Type 0} (limit : ℕ) (m : State K V S) → is_full limit m ≡ true → length m.pairs ≡ limit
 full_len limit m full = grind (arith, nat_tests)
 
 pub form_stays : (is_vec full : Bool) → full ≡ false → is_vec ≡ (is_vec && not full)
-form_stays true full e = ap not (sym e)
-form_stays false full e = refl
+form_stays is_vec full e = grind (arith, common_steps)
 
 module _ {K V S : Type 0} (limit : ℕ) (old new : State K V S) where
   capacity_by : (full : Bool) → Grants limit (old.is_vec && not full) old (if full then Some (limit + 1) else None) new
       → new.capacity ≡ (if full then capacity_for (limit + 1) else old.capacity)
-  capacity_by false granted = granted.capacity
-  capacity_by true granted = MatchBool-at_false _ _ (granted.form ∙ and_false old.is_vec) granted.capacity
+  capacity_by full granted = grind (arith, common_steps)
 
   -- the capacity once a granted switch is made
   pub switched_capacity : Prepares limit old (switch_needs limit old) new → new.capacity ≡ capacity_switched limit old

@@ -1,6 +1,7 @@
 -- What the fields of a map keep, from call to call.
 use Rattle.std.proofs.Common.{◌≡◌, ◌≢◌, ℕ, zero, suc, ◌<◌, ◌≤◌, Bool, true, false, List, [], ◌∷◌, ◌++◌, length, slice_get, Some, map, sym}
 use Rattle.std.proofs.Common.{refl, ap, subst, ◌∙◌, arith, true≢false, if◌then◌else◌}
+use Rattle.std.proofs.lemmas.Grind.{common_steps}
 use Rattle.std.proofs.lemmas.List.{map-append}
 use Rattle.std.proofs.Math.ListN.{length-append}
 use Rattle.std.specs.Cmp.{IsEquivalence}
@@ -21,12 +22,10 @@ use Rattle.halfbrown.proofs.lemmas.pairs.SwapRemove.{map-swap_remove_at, length-
 use Rattle.halfbrown.proofs.lemmas.pairs.Indices.{none_of_index, any_of_none}
 
 within_limit : (limit : ℕ) (is_vec : Bool) (capacity : ℕ) → is_vec ≡ true → allowed limit is_vec capacity ≤ limit
-within_limit limit true capacity form = omega arith
-within_limit limit false capacity form = absurd (true≢false (sym form))
+within_limit limit is_vec capacity form = grind (arith, common_steps)
 
 pub table_capacity_is : (limit : ℕ) (is_vec : Bool) (capacity : ℕ) → is_vec ≡ false → capacity ≡ allowed limit is_vec capacity
-table_capacity_is limit true capacity form = absurd (true≢false form)
-table_capacity_is limit false capacity form = refl
+table_capacity_is limit is_vec capacity form = grind (arith, common_steps)
 
 module _ {K V : Type 0} where
   keys_of-push : (ps : List (K × V)) (k : K) (v : V) → keys_of (ps ++ (k, v) ∷ []) ≡ keys_of ps ++ k ∷ []
@@ -43,21 +42,12 @@ module _ {K V : Type 0} where
     pub kept_as : (old new : StoreState K V) → IsKept eq hash limit old → KeepsForm old new → IsDistinct eq (keys_of new.pairs)
         → length new.pairs ≤ allowed limit old.is_vec old.capacity → (old.is_vec ≡ false → new.hashes ≡ map hash (keys_of new.pairs))
         → IsKept eq hash limit new
-    kept_as old new kept keeps distinct fits hashed = record {
-      distinct = distinct;
-      fits = subst (λ t. t) (λ i. length new.pairs ≤ allowed limit (sym keeps.form i) (sym keeps.capacity i)) fits;
-      hashed = λ table. hashed (sym keeps.form ∙ table);
-      series = λ table. subst IsTableCapacity (sym keeps.capacity) (kept.series (sym keeps.form ∙ table));
-      exceeds = λ table. subst (λ n. limit < n) (sym keeps.capacity) (kept.exceeds (sym keeps.form ∙ table));
-    }
+    kept_as old new kept keeps distinct fits hashed = grind (arith, common_steps)
 
     -- the same keys
     pub kept_keys : (s : StoreState K V) (ps : List (K × V)) → IsKept eq hash limit s → keys_of ps ≡ keys_of s.pairs
         → length ps ≡ length s.pairs → IsKept eq hash limit (store_with_pairs s ps)
-    kept_keys s ps kept keys len =
-        kept_as s (store_with_pairs s ps) kept (record { form = refl; capacity = refl; columns = refl })
-        (subst (IsDistinct eq) (sym keys) kept.distinct)
-        (omega (arith, kept.fits)) (λ table. kept.hashed table ∙ ap (map hash) (sym keys))
+    kept_keys s ps kept keys len = grind (arith, common_steps)
 
     -- a pair has another value
     pub kept_value : (s : StoreState K V) (i : ℕ) (v : V) → IsKept eq hash limit s
@@ -133,10 +123,4 @@ module _ {K V : Type 0} where
 
     -- what the fields keep is what holds of the state
     pub state_of : {S : Type 0} (s : StoreState K V) (builder : S) → IsKept eq hash limit s → IsState eq limit (state_in limit s builder)
-    state_of s builder kept = record {
-      distinct = kept.distinct;
-      fits = kept.fits;
-      vector_capacity = within_limit limit s.is_vec s.capacity;
-      table_capacity = λ table. subst IsTableCapacity (table_capacity_is limit s.is_vec s.capacity table) (kept.series table);
-      table_exceeds = λ table. subst (λ n. limit < n) (table_capacity_is limit s.is_vec s.capacity table) (kept.exceeds table);
-    }
+    state_of s builder kept = grind (arith, common_steps)

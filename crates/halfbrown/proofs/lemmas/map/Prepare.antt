@@ -1,5 +1,5 @@
 -- What a granted insertion costs: its switch, one search, and, where a new key made the table grow, one insertion probe.
-use Rattle.std.proofs.Common.{◌≡◌, ℕ, ◌+◌, Bool, true, false, true≢false, is_some, sym, ap, subst, ◌∙◌, arith}
+use Rattle.std.proofs.Common.{◌≡◌, ℕ, ◌+◌, Bool, true, false, is_some, sym, ap, subst, ◌∙◌, arith}
 use Rattle.std.proofs.lemmas.Grind.{common_steps}
 use Rattle.std.specs.Map.{keys_of}
 use Rattle.half_store.specs.Pairs.{index_of}
@@ -29,15 +29,9 @@ module _ {K V S : Type 0} (limit : ℕ) (eq : K → K → Bool) (hash : S → K 
 
   -- where capacity for a new key was refused
   pub unmade_costs : is_full limit old ≡ false → InsertCosts limit eq hash old k false before after
-  unmade_costs room = record {
-    grew = grind (arith, common_steps);
-    looked_once = λ table granted. absurd (true≢false (sym granted));
-  }
+  unmade_costs room = grind (arith, common_steps)
 
   pub missing_costs : (sought : ℕ) → (middle.is_vec ≡ false → sought ≡ hash middle.builder k) → (final : Work)
       → final ≡ looked_more after (growth_looks (hash middle.builder) middle sought true) → holds eq old.pairs k ≡ false
       → InsertCosts limit eq hash old k true before final
-  missing_costs sought own final probed missing = record {
-    grew = grind (arith, common_steps);
-    looked_once = λ table granted found. absurd (true≢false (sym found ∙ missing));
-  }
+  missing_costs sought own final probed missing = grind (arith, common_steps)

@@ -1,7 +1,8 @@
 -- Removals: what the map is without the pair that was found.
 use Rattle.std.specs.Map.{lookup, lookup_entry}
-use Rattle.std.proofs.Common.{◌≡◌, ℕ, ◌-◌, ◌≤◌, Bool, true, [], ◌∷◌, ◌++◌, length, slice_get, Option, None, Some, option_to_list, refl, sym}
-use Rattle.std.proofs.Common.{ap, subst, ◌∙◌}
+use Rattle.std.proofs.Common.{arith, ◌≡◌, ℕ, ◌-◌, ◌≤◌, Bool, true, [], ◌∷◌, ◌++◌, length, slice_get, Option, None, Some, option_to_list}
+use Rattle.std.proofs.Common.{refl, sym, ap, subst, ◌∙◌}
+use Rattle.std.proofs.lemmas.Grind.{common_steps}
 use Rattle.std.specs.Cmp.{IsEquivalence}
 use Rattle.std.proofs.lemmas.List.{append-nil}
 use Rattle.std.proofs.lemmas.Option.{slice_get_past, slice_get_within}
@@ -28,23 +29,13 @@ module _ {K V S : Type 0} (limit : ℕ) (eq : K → K → Bool) (test : K → Bo
       → IsState eq limit new
       → WithPairs old (take_out_by test old.pairs) new → (held result : Option R) → result ≡ held
       → Removes limit eq test old held result new
-  removed_as laws one_class before now after held result gives = record {
-    gives = gives;
-    after = after;
-    removed = subst (HasRemovedBy eq test old.pairs) (sym after.pairs) (has_removed_by eq laws test one_class old.pairs before.distinct);
-    state = now;
-  }
+  removed_as laws one_class before now after held result gives = grind (arith, common_steps, has_removed_by)
 
   -- the same removal, of which the value is returned
   pub removed_value : (pair : Option (K × V)) (value : Option V) → value ≡ option_map (λ p. p.1) pair
       → Removes limit eq test old (lookup_entry test old.pairs) pair new
       → Removes limit eq test old (lookup test old.pairs) value new
-  removed_value pair value is removes = record {
-    gives = is ∙ ap (option_map (λ p. p.1)) removes.gives ∙ value_of_entry test old.pairs;
-    after = removes.after;
-    removed = removes.removed;
-    state = removes.state;
-  }
+  removed_value pair value is removes = grind (arith, common_steps, value_of_entry)
 
 -- a store without the pair that a search of it found
 module _ {K V S : Type 0} (limit : ℕ) (eq : K → K → Bool) (laws : IsEquivalence eq) (hash : K → ℕ) (builder : S) (old new : StoreState K V)

@@ -1,6 +1,7 @@
 -- What a closure's answer makes of a pair.
 use Rattle.std.proofs.Common.{◌≡◌, ℕ, zero, suc, ◌<◌, Bool, false, List, [], ◌∷◌, length, map, get_or, slice_get, Option, None, Some}
 use Rattle.std.proofs.Common.{IfNone, IfSome, sym, ap, subst, ◌∙◌, arith}
+use Rattle.std.proofs.lemmas.Grind.{common_steps}
 use Rattle.std.proofs.lemmas.Map.Entries.{length-keys_of}
 use Rattle.std.proofs.lemmas.Option.{same_Some, slice_get_within}
 use Rattle.std.specs.Borrow.{Bor}
@@ -74,6 +75,4 @@ module _ {K V : Type 0} (eq : K → K → Bool) (laws : IsEquivalence eq) (hash 
   -- no equal key is held any more
   pub absent_replaced : (result : Option (K × ℕ)) → Replaces returns old.pairs index new.pairs (option_map (λ removed. removed.0) result)
       → IfSome result (λ removed. holds eq new.pairs removed.0 ≡ false)
-  absent_replaced None r = tt
-  absent_replaced (Some removed) r = let lost = lost_pair r in (λ j. holds eq (lost.1 j) (sym lost.2 j))
-      ∙ unheld_after eq laws old.pairs kept.distinct index r.key r.value r.pair
+  absent_replaced result r = grind (arith, common_steps, lost_pair, unheld_after)

@@ -1,5 +1,6 @@
 -- What a closure's acceptance of pairs leaves of their keys.
-use Rattle.std.proofs.Common.{◌≡◌, Bool, true, false, cond, List, [], ◌∷◌, sym, subst}
+use Rattle.std.proofs.Common.{◌≡◌, Bool, false, cond, List, [], ◌∷◌, sym, subst, arith}
+use Rattle.std.proofs.lemmas.Grind.{common_steps}
 use Rattle.std.proofs.lemmas.Map.Keys.{IsDistinct-head, IsDistinct-tail, IsDistinct-cons}
 use Rattle.std.specs.List.{IsDistinct, AllByRecursion}
 use Rattle.std.specs.Map.{keys_of}
@@ -9,8 +10,7 @@ module _ {F K V : Type 0} (T : F → K → V → Bool → V → F → Type 0) wh
   -- with the pair, or without it
   either : (P : List (K × V) → Type 0) (b : Bool) (p : K × V) (rest kept : List (K × V)) → P (p ∷ rest) → P rest
       → kept ≡ cond b (p ∷ rest) rest → P kept
-  either P true p rest kept with_it without is = subst P (sym is) with_it
-  either P false p rest kept with_it without is = subst P (sym is) without
+  either P b p rest kept with_it without is = grind (arith, common_steps)
 
   all_retained : (P : K → Type 0) (f : F) (ps kept : List (K × V)) → RetainsPairs T f ps kept → AllByRecursion P (keys_of ps)
       → AllByRecursion P (keys_of kept)

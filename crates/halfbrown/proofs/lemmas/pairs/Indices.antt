@@ -1,13 +1,13 @@
 -- Where a key stands among pairs of distinct keys, and what that says of reading and changing them.
-use Rattle.std.proofs.Common.{◌≡◌, ℕ, zero, suc, ◌<◌, Bool, true, false, cond, ◌||◌, List, [], ◌∷◌, ◌++◌, length, get_or, slice_get}
+use Rattle.std.proofs.Common.{◌≡◌, ℕ, zero, suc, ◌<◌, Bool, true, false, cond, ◌||◌, List, [], ◌∷◌, length, get_or, slice_get, Option, None}
+use Rattle.std.proofs.Common.{Some, is_some, sym, refl, ap, ◌∙◌, arith, true≢false}
 use Rattle.std.proofs.lemmas.Grind.{common_steps}
-use Rattle.std.proofs.Common.{Option, None, Some, is_some, sym, refl, ap, ◌∙◌, arith, true≢false}
-use Rattle.std.specs.Option.{option_map, option_map_or}
+use Rattle.std.specs.Option.{option_map}
 use Rattle.std.specs.List.{IsDistinct, list_any}
 use Rattle.std.specs.Map.{keys_of, values_of, lookup, lookup_entry}
 use Rattle.std.proofs.lemmas.Map.Entries.{length-keys_of}
 use Rattle.std.proofs.lemmas.Map.Keys.{apart_from_distinct}
-use Rattle.half_store.specs.Pairs.{index_of, set_value, swap_remove_at}
+use Rattle.half_store.specs.Pairs.{index_of, set_value}
 use Rattle.halfbrown.specs.Pairs.{holds_by, set_by}
 use Rattle.halfbrown.specs.Lookup.{IsIndexOf, IsAbsent}
 
@@ -97,8 +97,7 @@ module _ {K : Type 0} (test : K → Bool) where
 
     value_behind : (p : K × V) (ps : List (K × V)) (b : Bool) → option_map (λ q. q.1) (lookup_entry test ps) ≡ lookup test ps
         → option_map (λ q. q.1) (cond b (Some p) (lookup_entry test ps)) ≡ cond b (Some p.1) (lookup test ps)
-    value_behind p ps true more = refl
-    value_behind p ps false more = more
+    value_behind p ps b more = grind (arith, common_steps)
 
     -- the value of the first pair that passes
     pub value_of_entry : (ps : List (K × V)) → option_map (λ q. q.1) (lookup_entry test ps) ≡ lookup test ps
@@ -116,31 +115,14 @@ module _ {K V : Type 0} (test : K → Bool) where
   set_first (p ∷ ps) (suc i) v f = ap (λ b. cond b ((p.0, v) ∷ ps) (p ∷ set_by test ps v)) f.0 ∙ ap (λ l. p ∷ l) (set_first ps i v f.1)
 
   pub index_of_first : (ps : List (K × V)) (i : ℕ) → IsFirst test (keys_of ps) i → IsIndexOf test ps i
-  index_of_first ps i f = record {
-    within = omega (arith, first_within test (keys_of ps) i f, length-keys_of ps);
-    index_is = index_of-first test (keys_of ps) i f;
-    held = held_first test ps i f;
-    value = lookup_first test ps i f;
-    pair = entry_first test ps i f;
-    set_is = λ v. set_first ps i v f;
-    put_is = λ k v. ap (λ b. cond b (set_by test ps v) (ps ++ (k, v) ∷ [])) (held_first test ps i f) ∙ set_first ps i v f;
-    take_is = ap (λ n. option_map_or (swap_remove_at ps) n ps) (index_of-first test (keys_of ps) i f);
-  }
+  index_of_first ps i f = grind (arith, common_steps, cond, entry_first, first_within, held_first, index_of-first, length-keys_of, lookup_first, set_first)
 
   pub absent_of_none : (ps : List (K × V)) → NonePasses test (keys_of ps) → IsAbsent test ps
-  absent_of_none ps n = record {
-    index = index_of-none test (keys_of ps) n;
-    held = ap is_some (lookup_none test ps n);
-    value = lookup_none test ps n;
-    pair = entry_none test ps n;
-    put_is = λ k v. ap (λ m. cond (is_some m) (set_by test ps v) (ps ++ (k, v) ∷ [])) (lookup_none test ps n);
-    take_is = ap (λ m. option_map_or (swap_remove_at ps) m ps) (index_of-none test (keys_of ps) n);
-  }
+  absent_of_none ps n = grind (arith, common_steps, cond, entry_none, index_of-none, is_some, lookup_none)
 
   unheld_by : (p : K × V) (ps : List (K × V)) (b : Bool) → test p.0 ≡ b → (is_some (lookup test ps) ≡ false → NonePasses test (keys_of ps))
       → is_some (cond b (Some p.1) (lookup test ps)) ≡ false → NonePasses test (keys_of (p ∷ ps))
-  unheld_by p ps true passes more h = absurd (true≢false h)
-  unheld_by p ps false fails more h = (fails, more h)
+  unheld_by p ps b passes more h = grind (arith, common_steps)
 
   none_of_unheld : (ps : List (K × V)) → is_some (lookup test ps) ≡ false → NonePasses test (keys_of ps)
   none_of_unheld [] h = tt

@@ -1,5 +1,6 @@
 -- The index of a pair, which is that of its key.
-use Rattle.std.proofs.Common.{◌≡◌, ℕ, suc, ◌-◌, Bool, List, [], ◌∷◌, ◌++◌, length, take, get_or, slice_get, Some, sym, ap, ◌∙◌, arith}
+use Rattle.std.proofs.Common.{◌≡◌, ℕ, ◌-◌, Bool, List, [], ◌∷◌, ◌++◌, length, take, get_or, slice_get, Some, sym, ap, ◌∙◌, arith}
+use Rattle.std.proofs.lemmas.Grind.{common_steps}
 use Rattle.std.proofs.Math.Seq.{take-suc, take-length}
 use Rattle.std.proofs.lemmas.List.{take-set-le}
 use Rattle.std.proofs.lemmas.Option.{get_or_from_slice_get, slice_get_within}
@@ -26,10 +27,4 @@ module _ {K V : Type 0} (same : K → K → Bool) (laws : IsEquivalence same) wh
 module _ {X : Type 0} where
   -- where the last element is taken out, the others stay as they are
   pub last_taken : (xs : List X) (x : X) → slice_get xs (length xs - 1) ≡ Some x → xs ≡ swap_remove_at xs (length xs - 1) ++ x ∷ []
-  last_taken [] x at = absurd cc
-  last_taken (y ∷ ys) x at =
-      let xs = y ∷ ys in
-      let last = length xs - 1 in
-      let longer : length xs ≡ suc last = omega arith in
-      sym (take-length xs) ∙ ap (λ n. take n xs) longer ∙ take-suc xs last y (omega arith)
-      ∙ (λ i. sym (take-set-le last xs last (get_or xs last y) (omega arith)) i ++ get_or_from_slice_get xs last x y at i ∷ [])
+  last_taken xs x at = grind (arith, common_steps, get_or, get_or_from_slice_get, take, take-length, take-set-le, take-suc)

@@ -1,6 +1,7 @@
 -- What a put, and a set value, are for the key that passes a test.
-use Rattle.std.specs.Map.{keys_of, lookup}
-use Rattle.std.proofs.Common.{◌≡◌, ℕ, zero, suc, ◌+◌, Bool, true, List, [], ◌∷◌, ◌++◌, length, cond, get_or, slice_get, IfSome, sym, ap, subst, ◌∙◌}
+use Rattle.std.specs.Map.{keys_of}
+use Rattle.std.proofs.Common.{arith, ◌≡◌, ℕ, zero, suc, Bool, true, List, [], ◌∷◌, cond, get_or, slice_get, IfSome, sym, ap, subst, ◌∙◌}
+use Rattle.std.proofs.lemmas.Grind.{common_steps}
 use Rattle.std.specs.Cmp.{IsEquivalence}
 use Rattle.half_store.specs.Pairs.{set_value}
 use Rattle.halfbrown.specs.Lookup.{IsIndexOf}
@@ -32,14 +33,7 @@ module _ {K : Type 0} (same : K → K → Bool) (laws : IsEquivalence same) (tes
 
     -- what is put for a key that passes is set
     set_of_put : holds_by test ps ≡ true → HasPut same ps k v qs → HasSetBy same test ps v qs
-    set_of_put held put = record {
-      held = ap (λ (t : K → Bool). holds_by t qs) (sym same_test) ∙ put.held;
-      value = ap (λ (t : K → Bool). lookup t qs) (sym same_test) ∙ put.value;
-      equals = λ q e. put.equals q (sym (one_class k q passes) ∙ e);
-      others = λ q e. put.others q (sym (one_class k q passes) ∙ e);
-      len = put.len ∙ ap (λ b. cond b (length ps) (length ps + 1)) (ap (λ (t : K → Bool). holds_by t ps) same_test ∙ held);
-      keys = put.keys ∙ ap (λ b. cond b (keys_of ps) (keys_of ps ++ k ∷ [])) (ap (λ (t : K → Bool). holds_by t ps) same_test ∙ held);
-    }
+    set_of_put held put = grind (arith, common_steps, cond, same_test)
 
   -- the value of the key that was found is set
   pub has_set_by : {V : Type 0} (ps : List (K × V)) (i : ℕ) (v : V) → IsIndexOf test ps i → HasSetBy same test ps v (set_value ps i v)

@@ -1,7 +1,6 @@
 -- A list from which one element is gone, the last one at its index.
-use Rattle.std.proofs.Common.{◌≡◌, ℕ, zero, suc, ◌+◌, ◌-◌, ◌<◌, Bool, List, [], ◌∷◌, length, map, take, get_or, sym, refl, ap, subst, ◌∙◌}
+use Rattle.std.proofs.Common.{◌≡◌, ℕ, zero, suc, ◌+◌, ◌-◌, ◌<◌, Bool, List, [], ◌∷◌, length, map, take, get_or, refl, ap, subst, arith}
 use Rattle.std.proofs.lemmas.Grind.{common_steps}
-use Rattle.std.proofs.Common.{arith}
 use Rattle.std.proofs.Math.ListN.{set, length-map, get_or-map}
 use Rattle.std.proofs.lemmas.List.{map-set, get_or_default}
 use Rattle.std.proofs.lemmas.List.Sorted.{IsPermutation-swap_remove}
@@ -18,11 +17,7 @@ module _ {A B : Type 0} (f : A → B) where
   map-take (suc n) (x ∷ xs) = ap (λ l. f x ∷ l) (map-take n xs)
 
   map-swap_remove : (xs : List A) (i : ℕ) (d : A) → map f (swap_remove xs i d) ≡ swap_remove (map f xs) i (f d)
-  map-swap_remove xs i d =
-      map-take (length xs - 1) (set xs i (get_or xs (length xs - 1) d))
-      ∙ ap (take (length xs - 1))
-      (map-set f xs i (get_or xs (length xs - 1) d) ∙ ap (set (map f xs) i) (sym (get_or-map f xs (length xs - 1) d)))
-      ∙ ap (λ n. take (n - 1) (set (map f xs) i (get_or (map f xs) (n - 1) (f d)))) (sym (length-map xs f))
+  map-swap_remove xs i d = grind (arith, common_steps, get_or, get_or-map, length-map, map, map-set, map-take, set, take)
 
   pub map-swap_remove_at : (xs : List A) (i : ℕ) → map f (swap_remove_at xs i) ≡ swap_remove_at (map f xs) i
   map-swap_remove_at [] i = refl

@@ -1,7 +1,6 @@
 -- Pairs of which one has another value.
-use Rattle.std.proofs.Common.{◌≡◌, ℕ, zero, suc, ◌-◌, ◌<◌, inl, inr, List, [], ◌∷◌, length, take, set, get_or, slice_get, Some, refl, sym}
-use Rattle.std.proofs.Common.{ap, ◌∙◌, arith}
-use Rattle.std.proofs.lemmas.Bool.{cases_eq}
+use Rattle.std.proofs.Common.{◌≡◌, ℕ, zero, suc, ◌<◌, List, [], ◌∷◌, length, take, set, get_or, slice_get, Some, refl, ap, ◌∙◌, arith}
+use Rattle.std.proofs.lemmas.Grind.{common_steps}
 use Rattle.std.proofs.lemmas.List.{length-set, take-set-le, get_or-set_other, get_or_default}
 use Rattle.std.specs.Map.{values_of}
 use Rattle.half_store.specs.Pairs.{set_value, swap_remove_at}
@@ -14,23 +13,11 @@ module _ {X : Type 0} where
 
   taken_by : (xs : List X) (n i : ℕ) (a d e : X) → n < length xs
       → take n (set (set xs i a) i (get_or (set xs i a) n d)) ≡ take n (set xs i (get_or xs n e))
-  taken_by xs n i a d e within =
-      elim (cases_eq i n) [
-        | inl same ↦ take-set-le n (set xs i a) i (get_or (set xs i a) n d) (omega arith) ∙ take-set-le n xs i a (omega arith)
-            ∙ sym (take-set-le n xs i (get_or xs n e) (omega arith))
-        | inr apart ↦
-            ap (λ y. take n (set (set xs i a) i y)) (get_or-set_other xs i n a d (λ e. apart (sym e)) ∙ get_or_default xs n d e within)
-            ∙ ap (take n) (set-twice xs i a (get_or xs n e))
-      ]
+  taken_by xs n i a d e within = grind (arith, common_steps, get_or, get_or-set_other, get_or_default, set, set-twice, take, take-set-le)
 
   -- an element that is taken out may be another
   pub swap_remove_at-set : (xs : List X) (i : ℕ) (a : X) → swap_remove_at (set xs i a) i ≡ swap_remove_at xs i
-  swap_remove_at-set [] i a = refl
-  swap_remove_at-set (x ∷ xs) zero a = taken_by (x ∷ xs) (length (x ∷ xs) - 1) zero a a x (omega arith)
-  swap_remove_at-set (x ∷ xs) (suc i) a =
-      let long = ap suc (length-set xs i a) in
-      ap (λ n. take (n - 1) (set (set (x ∷ xs) (suc i) a) (suc i) (get_or (set (x ∷ xs) (suc i) a) (n - 1) x))) long
-      ∙ taken_by (x ∷ xs) (length (x ∷ xs) - 1) (suc i) a x x (omega arith)
+  swap_remove_at-set xs i a = grind (arith, common_steps, get_or, length-set, set, take, taken_by)
 
 module _ {K V : Type 0} where
   set_value-set : (ps : List (K × V)) (i : ℕ) (v : V) (d : K × V) → set_value ps i v ≡ set ps i ((get_or ps i d).0, v)

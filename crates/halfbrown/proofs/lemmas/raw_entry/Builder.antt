@@ -1,6 +1,7 @@
 -- What the raw entry of a key is, where a search found it, and where none is held.
-use Rattle.std.proofs.Common.{◌≡◌, ℕ, Bool, true, false, [], ◌∷◌, ◌++◌, slice_get, Option, None, Some}
-use Rattle.std.proofs.Common.{IfSome, refl, sym, subst, ◌∙◌, true≢false}
+use Rattle.std.proofs.Common.{◌≡◌, ℕ, Bool, true, false, [], ◌∷◌, ◌++◌, slice_get, Option, None, Some, arith, IfSome, refl, sym, subst, ◌∙◌}
+use Rattle.std.proofs.Common.{true≢false}
+use Rattle.std.proofs.lemmas.Grind.{common_steps}
 use Rattle.std.specs.Cmp.{IsEquivalence}
 use Rattle.std.specs.List.{IsDistinct}
 use Rattle.std.specs.Map.{keys_of}
@@ -104,6 +105,4 @@ module _ {K V S : Type 0} (returns : K → Bool → Type 0) (hash_of : S → K �
   -- the pair at the index that a match found, in the map that was ready
   pub found_match : (ready m : State K V S) (index : ℕ) → ready ≡ m → IsMatch returns hash_of sought m index
       → FindsMatch returns hash_of sought ready (slice_get m.pairs index)
-  found_match ready m index is at =
-      subst (λ n. FindsMatch returns hash_of sought n (slice_get m.pairs index)) (sym is)
-      (match_at m index (slice_get m.pairs index) refl at)
+  found_match ready m index is at = grind (arith, common_steps, match_at, slice_get)

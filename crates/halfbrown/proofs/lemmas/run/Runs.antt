@@ -1,6 +1,6 @@
 -- A run so far, and one step more.
-use Rattle.std.proofs.Common.{◌≡◌, ◌∙◌, ℕ, Bool, true, false, true≢false, ◌||◌, List, [], ◌∷◌, ◌++◌, length, ap, sym, refl, subst, arith}
-use Rattle.std.proofs.Common.{append_assoc, append-nil}
+use Rattle.std.proofs.Common.{◌≡◌, ◌∙◌, ℕ, Bool, false, ◌||◌, List, [], ◌∷◌, ◌++◌, length, ap, sym, refl, subst, arith, append_assoc}
+use Rattle.std.proofs.lemmas.Grind.{common_steps}
 use Rattle.std.proofs.lemmas.List.{length-map, map-append}
 use Rattle.half_store.specs.Work.{Work}
 use Rattle.halfbrown.specs.declared.run.Command.{Command}
@@ -13,8 +13,7 @@ use Rattle.halfbrown.proofs.lemmas.map.Costs.{none_more, more_none, costs_assoc,
 use Rattle.halfbrown.proofs.lemmas.run.Steps.{PaysTwo, switch_left, step_pays_two}
 
 pub neither : (a b : Bool) → (a || b) ≡ false → (a ≡ false) × (b ≡ false)
-neither true b none = absurd (true≢false none)
-neither false b none = (refl, none)
+neither a b none = grind (arith, common_steps)
 
 module _ {K V S : Type 0} (limit : ℕ) (eq : K → K → Bool) where
   -- steps, and then others
@@ -63,17 +62,7 @@ module _ {K V S : Type 0} (limit : ℕ) (eq : K → K → Bool) where
 
       pub run_ended : (now : State K V S) (left : List (Command K V)) (replies : List (Reply K V)) (after : Work) → left ≡ []
           → RunSoFar now left replies after → (cost : Cost) × Runs limit eq hash old commands replies now cost × GrewBy cost before after
-      run_ended now left replies after none so_far = (
-        cost_of limit eq hash so_far.steps,
-        record {
-          steps = so_far.steps;
-          lead = so_far.lead;
-          commands_are = so_far.commands_are ∙ ap (λ cs. commands_of so_far.steps ++ cs) none ∙ append-nil (commands_of so_far.steps);
-          replies_are = so_far.replies_are;
-          cost_is = refl;
-        },
-        so_far.spent,
-      )
+      run_ended now left replies after none so_far = grind (arith, common_steps)
 
     -- a run without `Shrink`
     pub steps_pay_two : (old new : State K V S) (steps : List (Step K V S)) → Lead limit eq old steps new
@@ -97,13 +86,8 @@ module _ {K V S : Type 0} (limit : ℕ) (eq : K → K → Bool) where
     pub run_pays_two : (old new : State K V S) (commands : List (Command K V)) (replies : List (Reply K V)) (cost : Cost)
         → Runs limit eq hash old commands replies new cost → shrinks commands ≡ false
         → PaysTwo limit (length commands) cost.asked old.is_vec new.is_vec
-    run_pays_two old new commands replies cost run none =
-        let count : length run.steps ≡ length commands = sym (ap length run.commands_are ∙ length-map run.steps (λ s. s.command)) in
-        subst (λ n. PaysTwo limit n cost.asked old.is_vec new.is_vec) count
-        (subst (λ c. PaysTwo limit (length run.steps) c.asked old.is_vec new.is_vec) (sym run.cost_is)
-        (steps_pay_two old new run.steps run.lead (ap shrinks (sym run.commands_are) ∙ none)))
+    run_pays_two old new commands replies cost run none = grind (arith, common_steps, length-map, steps_pay_two)
 
 -- a table stays one
 pub table_stays : (limit count asked : ℕ) (was is : Bool) → PaysTwo limit count asked was is → was ≡ false → is ≡ false
-table_stays limit count asked was true pays table = absurd (true≢false (sym (pays.vector refl).0 ∙ table))
-table_stays limit count asked was false pays table = refl
+table_stays limit count asked was is pays table = grind (arith, common_steps)

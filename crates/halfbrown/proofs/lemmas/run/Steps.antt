@@ -1,6 +1,5 @@
 -- What one step does to the form, and how often it hashes.
-use Rattle.std.proofs.Common.{◌≡◌, ℕ, ◌+◌, ◌*◌, ◌≤◌, Bool, true, false, not, ◌&&◌}
-use Rattle.std.proofs.Common.{unwrap_or, arith, if◌then◌else◌}
+use Rattle.std.proofs.Common.{◌≡◌, ℕ, ◌+◌, ◌*◌, ◌≤◌, Bool, true, false, not, ◌&&◌, unwrap_or, arith, if◌then◌else◌}
 use Rattle.std.proofs.lemmas.Grind.{common_steps}
 use Rattle.halfbrown.specs.Run.{step_cost}
 use Rattle.halfbrown.specs.Step.{is_shrink, Step, IsStep, switches}
@@ -15,8 +14,7 @@ abbrev pub switch_left : ℕ → Bool → ℕ
 switch_left limit is_vec = if is_vec then limit else 0
 
 pub switch_left_most : (limit : ℕ) (is_vec : Bool) → switch_left limit is_vec ≤ limit
-switch_left_most limit true = omega arith
-switch_left_most limit false = omega arith
+switch_left_most limit is_vec = grind (arith, common_steps)
 
 -- what leaves a vector was one and hashed nothing; in all two keys are hashed for each command, and once those of a switch
 pub record PaysTwo (limit count asked : ℕ) (was is : Bool) : Type 0 where
@@ -39,7 +37,4 @@ module _ {K V S : Type 0} (limit : ℕ) (eq : K → K → Bool) where
 
     pub step_pays_two : (s : Step K V S) → IsStep limit eq s → is_shrink s.command ≡ false
         → PaysTwo limit 1 (step_cost limit eq hash s).asked s.before.is_vec s.after.is_vec
-    step_pays_two s step none = record {
-      vector = λ e. (grind (arith, common_steps, form_unshrunk s step none), grind (arith, common_steps, form_unshrunk s step none, asked_of_step s step));
-      all = grind (arith, common_steps, form_unshrunk s step none, asked_of_step s step);
-    }
+    step_pays_two s step none = grind (arith, common_steps, asked_of_step, form_unshrunk)

@@ -1,4 +1,5 @@
-use Rattle.std.proofs.Common.{◌≡◌, [], sym, subst, arith}
+use Rattle.std.proofs.Common.{[], sym, subst, arith}
+use Rattle.std.proofs.lemmas.Grind.{common_steps}
 use Rattle.std.proofs.lemmas.List.{nil_from_length}
 use Rattle.std.specs.Vec.Iter.{into_iter_items}
 use Rattle.halfbrown.specs.Costs.{key_hash}
@@ -53,12 +54,7 @@ loop-command-preserved g c =
     }
 
 pub returns-clause-run : goal.returns-clause-run
-returns-clause-run g c =
-    let none : into_iter_items c.loop-command.left ≡ [] =
-    nil_from_length _ (omega (arith, c.in_default-next.ensures.cases.0, c.loop-command.left.rest.ok.0)) in
-    run_ended g.L.Limit.LIMIT g.K.PartialEq.eq (key_hash g.S.BuildHasher g.S.Hasher.Hasher g.K.Hash.hash_input)
-    c.args.map.now c.args.commands.items c.args.tally.now c.loop-command.map (into_iter_items c.loop-command.left)
-    c.loop-command.replies.items c.loop-command.tally none c.loop-command.invariant.so_far
+returns-clause-run g c = grind (arith, common_steps, nil_from_length, run_ended)
 
 pub returns-clause-stays_a_table : goal.returns-clause-stays_a_table
 returns-clause-stays_a_table g c none =

@@ -1,4 +1,5 @@
 use Rattle.std.proofs.Common.{◌≡◌, Ok, Err, length, slice_get, refl, sym, ap, subst, ◌∙◌, arith, true≢false}
+use Rattle.std.proofs.lemmas.Grind.{common_steps}
 use Rattle.std.proofs.lemmas.Map.Entries.{length-keys_of}
 use Rattle.std.proofs.lemmas.Option.{slice_get_within}
 use Rattle.std.specs.Fn.{FnReturnsAt}
@@ -42,17 +43,10 @@ returns-in-None-clause-found g c =
     )
 
 pub find-requires-clause-keys : goal.find-requires-clause-keys
-find-requires-clause-keys g c =
-    let columns = c.self.inside.columns in
-    let kept = subst (IsStore columns) c.in-Some.is c.self.invariant in
-    omega (arith, kept.len, ap length c.keys-2.ensures.keys, length-keys_of columns.pairs)
+find-requires-clause-keys g c = grind (arith, common_steps, length-keys_of)
 
 pub find-requires-clause-callable : goal.find-requires-clause-callable
-find-requires-clause-callable g c =
-    let columns = c.self.inside.columns in
-    let is : table_of columns c.in-Some.table ≡ c.args.self.now = ap (store_of columns) (sym c.in-Some.is) ∙ c.self.view_is in
-    λ key index own here. c.requires key index
-    (ap (λ s. slice_get (keys_of s.pairs) index) (sym is) ∙ ap (λ ks. slice_get ks index) (sym c.keys-2.ensures.keys) ∙ here)
+find-requires-clause-callable g c = grind (arith, common_steps, slice_get)
 
 pub returns-in-Ok-clause-found : goal.returns-in-Ok-clause-found
 returns-in-Ok-clause-found g c =

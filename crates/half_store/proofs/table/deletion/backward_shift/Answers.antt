@@ -1,4 +1,5 @@
 use Rattle.std.proofs.Common.{◌≡◌, ◌≢◌, ◌-◌, ◌^◌, ◌<◌, ◌≤◌, ◌∙◌, ℕ, List, inl, inr, length, set, slice_index, refl, sym, ap, subst, arith}
+use Rattle.std.proofs.lemmas.Grind.{common_steps}
 use Rattle.std.proofs.lemmas.Bool.{cases_lt}
 use Rattle.std.proofs.lemmas.List.{length-set, set-get_or}
 use Rattle.half_store.specs.Capacity.{capacity_of, IsBucketCount}
@@ -46,14 +47,7 @@ returns-clause-indexed g c =
     }
 
 pub returns-clause-cost : goal.returns-clause-cost
-returns-clause-cost g c = λ vacant is.
-    let i = c.loop-word.invariant in
-    let end = ap (λ m. probe_distance m c.args.removed vacant) c.count-count.ensures in
-    record {
-      asked = ap (λ (w : Work). w.asked) i.counted;
-      compared = ap (λ (w : Work). w.compared) i.counted;
-      looked = omega (arith, ap (λ (w : Work). w.looked) i.counted, (i.ahead vacant is).near, end);
-    }
+returns-clause-cost g c = grind (arith, common_steps)
 
 -- the probe distances that are compared have no sign
 unsigned : {count m gap bucket start distance from_home : ℕ} {hashes words : List ℕ} → IsBucketCount count → m ≡ count → m < 2 ^ 64
@@ -88,14 +82,7 @@ set_word-requires-clause-fits g c =
     omega (arith, i.read, word_within i.shifts, i.most, c.requires.fits)
 
 pub overflow_add-distance : goal.overflow_add-distance
-overflow_add-distance g c =
-    let l = c.loop-word in
-    let s = l.invariant.shifts in
-    let near = probe_distance-lt c.count-count.result l.gap s.gap_in l.bucket s.bucket_in in
-    elim (cases_lt c.probe_distance-from_home.result l.distance) [
-      | inl lt ↦ omega (arith, c.if_less-distance.ensures.less lt, l.invariant.apart, near, c.count-count.type_inv)
-      | inr ge ↦ omega (arith, c.if_less-distance.ensures.not_less ge)
-    ]
+overflow_add-distance g c = grind (arith, common_steps, probe_distance-lt)
 
 pub loop-word-smaller : goal.loop-word-smaller
 loop-word-smaller g c =

@@ -1,5 +1,5 @@
-use Rattle.std.proofs.Common.{◌≡◌, ◌∙◌, ℕ, suc, ◌+◌, ◌<◌, inl, inr, length, slice_index, sym, ap, arith}
-use Rattle.std.proofs.lemmas.Bool.{cases_eq}
+use Rattle.std.proofs.Common.{◌≡◌, ◌∙◌, ℕ, suc, ◌+◌, ◌<◌, length, slice_index, sym, ap, arith}
+use Rattle.std.proofs.lemmas.Grind.{common_steps}
 use Rattle.half_store.specs.Probe.{looked_more}
 use Rattle.half_store.specs.Reach.{home, probe_distance, bucket_after}
 use Rattle.half_store.proofs.lemmas.table.Buckets.{word-lt, some_bucket}
@@ -14,17 +14,7 @@ begins : (hash : ℕ) {count m bucket : ℕ} → count ≡ m → bucket ≡ home
 begins hash e value = value ∙ ap (λ n. home n hash) e
 
 pub loop-bucket-init : goal.loop-bucket-init
-loop-bucket-init g c =
-    let m = length (g.B.Words.words c.args.buckets.now) in
-    let e = c.count-count.ensures in
-    let at = begins _ e c.home-bucket.ensures.value in
-    let here : c.home-bucket.result < m = omega (arith, c.home-bucket.ensures.bound, e) in
-    let none = sym (ap (λ b. probe_distance m b c.home-bucket.result) at) ∙ distance_self m c.home-bucket.result here in
-    record {
-      inside = here;
-      counted = looked_more-zero c.args.tally.now ∙ ap (looked_more c.args.tally.now) (sym none);
-      ahead = λ target is. omega (arith, none);
-    }
+loop-bucket-init g c = grind (arith, common_steps, begins, distance_self, looked_more-zero)
 
 -- what a step of the loop is given
 module _ (g : Over) (c : goal.After-next-bucket g) (target : ℕ)
@@ -42,17 +32,7 @@ module _ (g : Over) (c : goal.After-next-bucket g) (target : ℕ)
   in_target = word-lt (g.B.Words.words c.args.buckets.now) target (omega arith)
 
   farther : probe_distance m start c.loop-bucket.bucket < probe_distance m start target
-  farther =
-      elim (cases_eq (probe_distance m start c.loop-bucket.bucket) (probe_distance m start target)) [
-        | inr ne ↦ omega (arith, c.loop-bucket.invariant.ahead target is)
-        | inl same ↦ absurd (c.loop-bucket-test.true (omega (
-          arith,
-          c.word_at.ensures.value,
-          is,
-          ap (slice_index (g.B.Words.words c.args.buckets.now))
-              (distance_same m start in_start c.loop-bucket.bucket target c.loop-bucket.invariant.inside in_target same),
-        )))
-      ]
+  farther = grind (arith, common_steps, distance_same, in_start, in_target, slice_index)
 
   one_on : probe_distance m start c.next-bucket.result ≡ probe_distance m start c.loop-bucket.bucket + 1
   one_on =

@@ -1,4 +1,5 @@
-use Rattle.std.proofs.Common.{Ok, Err, refl, subst, arith}
+use Rattle.std.proofs.Common.{Err, refl, subst, arith}
+use Rattle.std.proofs.lemmas.Grind.{common_steps}
 use Rattle.std.specs.Fn.{FnReturnsAt}
 use Rattle.half_store.specs.Buckets.{slots_by}
 use Rattle.half_store.specs.Search.{ReturnsAt}
@@ -7,20 +8,7 @@ use Rattle.half_store.specs.TableSearch.{FindsInTable}
 use Rattle.half_store.proofs.table.deletion.take_in.Goals as goal
 
 pub returns-in-Ok : goal.returns-in-Ok
-returns-in-Ok g c =
-    let told = c.remove_at.ensures in
-    record {
-      finds = subst (λ hs. FindsInTable (ReturnsAt (FnReturnsAt g.F.Fn c.args.matches.now) c.args.keys.now)
-          (table_state hs (slots_by hs (g.B.Words.words c.args.buckets.now))) c.args.hash (Ok c.in-Ok.index) c.args.tally.now
-          c.find_with_bucket.new.tally) c.as_slice.ensures.value c.in-Ok.ensures.finds;
-      hashes = told.hashes;
-      cost = record { asked = told.cost.asked; compared = told.cost.compared; looked = omega (arith, told.cost.looked) };
-      capacity = told.capacity;
-      indexed = told.indexed;
-      len = told.len;
-      most = told.most;
-      same = tt;
-    }
+returns-in-Ok g c = grind (arith, common_steps)
 
 pub returns-in-Err : goal.returns-in-Err
 returns-in-Err g c = record {

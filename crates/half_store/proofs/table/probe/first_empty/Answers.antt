@@ -1,21 +1,14 @@
 use Rattle.std.proofs.Common.{sym, ap, ◌∙◌, arith}
+use Rattle.std.proofs.lemmas.Grind.{common_steps}
 use Rattle.half_store.specs.Probe.{looked_more}
-use Rattle.half_store.specs.Reach.{home, bucket_after}
+use Rattle.half_store.specs.Reach.{bucket_after}
 use Rattle.half_store.proofs.lemmas.table.Buckets.{length-slots_by}
-use Rattle.half_store.proofs.lemmas.table.Slots.{some_read, home_distance, Probes-start, Probes-distance, Probes-next, Probes-ahead}
+use Rattle.half_store.proofs.lemmas.table.Slots.{some_read, home_distance, Probes-distance, Probes-next, Probes-ahead}
 use Rattle.half_store.proofs.lemmas.tally.{looked_more-zero, looked_more-one}
 use Rattle.half_store.proofs.table.probe.first_empty.Goals as goal
 
 pub loop-bucket-init : goal.loop-bucket-init
-loop-bucket-init g c =
-    let same = c.count-count.ensures
-    ∙ sym (length-slots_by (g.P.Buckets.hashes c.args.buckets.now) (g.P.Buckets.words c.args.buckets.now)) in
-    let at = c.home-bucket.ensures.value ∙ ap (λ m. home m c.args.hash) same in
-    record {
-      probe = Probes-start _ c.args.hash c.home-bucket.result (omega arith) at;
-      counted = looked_more-zero c.args.tally.now
-          ∙ ap (looked_more c.args.tally.now) (sym (home_distance _ c.args.hash c.home-bucket.result (omega arith) at));
-    }
+loop-bucket-init g c = grind (arith, common_steps, home_distance, length-slots_by, looked_more-zero)
 
 pub loop-bucket-preserved : goal.loop-bucket-preserved
 loop-bucket-preserved g c =

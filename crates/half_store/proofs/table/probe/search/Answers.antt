@@ -1,4 +1,5 @@
 use Rattle.std.proofs.Common.{◌-◌, false, slice_index, Some, sym, ap, subst, ◌∙◌, arith}
+use Rattle.std.proofs.lemmas.Grind.{common_steps}
 use Rattle.std.specs.Fn.{FnReturnsAt}
 use Rattle.half_store.specs.Buckets.{slots_by}
 use Rattle.half_store.specs.Reach.{home, bucket_after}
@@ -54,15 +55,7 @@ returns-in-None-clause-compared_most g c =
     omega arith
 
 pub returns-then-compare-clause-found : goal.returns-then-compare-clause-found
-returns-then-compare-clause-found g c = record {
-  found = record { found = sym c.in-Some.ensures.hash ∙ ap Some c.if-held-hash.true; passed = c.loop-index.invariant.probe.passed };
-  entry = c.in-Some.ensures.index;
-  looked = omega (
-    arith,
-    ap (λ (w : Work). w.looked) (c.compare.ensures.counted ∙ ap one_compared c.in-Some.ensures.counted),
-    c.loop-index.invariant.looked,
-  );
-}
+returns-then-compare-clause-found g c = grind (arith, common_steps)
 
 pub returns-then-compare-clause-compared_most : goal.returns-then-compare-clause-compared_most
 returns-then-compare-clause-compared_most g c =

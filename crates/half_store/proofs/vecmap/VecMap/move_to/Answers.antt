@@ -1,4 +1,5 @@
 use Rattle.std.proofs.Common.{length, ap, ◌∙◌, arith}
+use Rattle.std.proofs.lemmas.Grind.{common_steps}
 use Rattle.std.specs.Map.{keys_of, values_of}
 use Rattle.half_store.proofs.lemmas.vecmap.Columns.{opened}
 use Rattle.half_store.proofs.vecmap.VecMap.move_to.Goals as goal
@@ -12,10 +13,7 @@ move_to-requires-clause-len g c = (opened c.fresh.inside.keys c.fresh.inside.val
     ∙ ap length c.requires.empty
 
 pub move_to-requires-clause-fits : goal.move_to-requires-clause-fits
-move_to-requires-clause-fits g c =
-    let o = opened c.self.inside.keys c.self.inside.values c.args.self.now c.self.view_is c.self.invariant in
-    let fresh = opened c.fresh.inside.keys c.fresh.inside.values c.args.fresh c.fresh.view_is c.fresh.invariant in
-    omega (arith, o.keys_len, fresh.capacity, c.requires.fits)
+move_to-requires-clause-fits g c = grind (arith, common_steps, opened)
 
 pub move_to-requires-2-clause-empty : goal.move_to-requires-2-clause-empty
 move_to-requires-2-clause-empty g c =
@@ -28,7 +26,4 @@ move_to-requires-2-clause-len g c =
     ∙ ap length c.requires.empty
 
 pub move_to-requires-2-clause-fits : goal.move_to-requires-2-clause-fits
-move_to-requires-2-clause-fits g c =
-    let o = opened c.self.inside.keys c.self.inside.values c.args.self.now c.self.view_is c.self.invariant in
-    let fresh = opened c.fresh.inside.keys c.fresh.inside.values c.args.fresh c.fresh.view_is c.fresh.invariant in
-    omega (arith, o.values_len, fresh.values_capacity, c.requires.fits)
+move_to-requires-2-clause-fits g c = grind (arith, common_steps, opened)

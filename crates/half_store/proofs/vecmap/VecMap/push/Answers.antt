@@ -1,5 +1,5 @@
-use Rattle.std.proofs.Common.{[], ◌∷◌, ◌++◌, ap, ◌∙◌, arith}
-use Rattle.std.specs.List.{zip}
+use Rattle.std.proofs.Common.{arith}
+use Rattle.std.proofs.lemmas.Grind.{common_steps}
 use Rattle.half_store.proofs.lemmas.vecmap.Columns.{opened, pairs_are}
 use Rattle.half_store.proofs.lemmas.vecmap.Zip.{zip_push}
 use Rattle.half_store.proofs.vecmap.VecMap.push.Goals as goal
@@ -15,10 +15,4 @@ push_reserved-requires-2 g c =
     omega (arith, o.values_len, o.values_capacity, c.requires)
 
 pub returns : goal.returns
-returns g c =
-    let o = opened c.self.inside.keys c.self.inside.values c.args.self.now c.self.view_is c.self.invariant in
-    pairs_are o
-    ((λ j. zip (c.push_reserved.ensures.items j) (c.push_reserved-2.ensures.items j))
-    ∙ zip_push c.self.inside.keys.items c.self.inside.values.items c.args.key c.args.value c.self.invariant.length
-    ∙ ap (λ ps. ps ++ (c.args.key, c.args.value) ∷ []) o.pairs)
-    c.push_reserved.ensures.capacity
+returns g c = grind (arith, common_steps, opened, pairs_are, zip_push)

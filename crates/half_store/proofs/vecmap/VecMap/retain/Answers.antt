@@ -1,4 +1,5 @@
-use Rattle.std.proofs.Common.{◌≡◌, ◌∙◌, length, map, take, drop, sym, ap, arith}
+use Rattle.std.proofs.Common.{◌≡◌, ◌∙◌, length, map, take, drop, arith}
+use Rattle.std.proofs.lemmas.Grind.{common_steps}
 use Rattle.std.proofs.lemmas.List.{take_at}
 use Rattle.std.proofs.lemmas.Map.Made.{keys_of-zip}
 use Rattle.std.specs.List.{zip}
@@ -8,17 +9,7 @@ use Rattle.half_store.proofs.vecmap.VecMap.retain.Given as given
 use Rattle.half_store.proofs.vecmap.VecMap.retain.Goals as goal
 
 even : (g : given.Over) (c : goal.After-truncate-2 g) → length c.truncate-2.new.self.items ≡ length c.truncate.new.self.items
-even g c =
-    let o = opened c.self.inside.keys c.self.inside.values c.args.self.now c.self.view_is c.self.invariant in
-    omega (
-      arith,
-      c.truncate.new.self.ok,
-      c.truncate-2.new.self.ok,
-      c.truncate.ensures.len,
-      c.truncate-2.ensures.len,
-      o.keys_len,
-      o.values_len,
-    )
+even g c = grind (arith, common_steps, opened)
 
 -- as many pairs as were accepted
 count : (g : given.Over) (c : goal.After-truncate-2 g)
@@ -33,17 +24,7 @@ returns-clause-len g c =
     omega (arith, count g c, c.retain_in_columns-kept.ensures.within, c.as_mut_slice.ensures.len, o.keys_len)
 
 pub returns-clause-hashes : goal.returns-clause-hashes
-returns-clause-hashes g c =
-    let o = opened c.self.inside.keys c.self.inside.values c.args.self.now c.self.view_is c.self.invariant in
-    let told = c.retain_in_columns-kept in
-    let n = told.result in
-    let all = take_at told.new.keys (drop (length told.new.keys) c.self.inside.keys.items) c.self.inside.keys.len
-    (omega (arith, told.auto.keys, c.as_mut_slice.ensures.len)) in
-    λ hash same.
-    ap (λ m. take m told.new.hashes) (count g c)
-    ∙ told.ensures.hashes hash (same ∙ ap (map hash) (sym (c.as_mut_slice.ensures.value ∙ o.keys_are)))
-    ∙ ap (map hash) (sym
-    (keys_of-zip c.truncate.new.self.items c.truncate-2.new.self.items (even g c) ∙ c.truncate.ensures.items ∙ ap (take n) all))
+returns-clause-hashes g c = grind (arith, common_steps, count, drop, even, keys_of-zip, map, opened, take, take_at)
 
 pub returns-clause-same : goal.returns-clause-same
 returns-clause-same g c =

@@ -1,4 +1,5 @@
 use Rattle.std.proofs.Common.{nat_le, refl, inl, inr, sym, subst, arith}
+use Rattle.std.proofs.lemmas.Grind.{common_steps}
 use Rattle.std.specs.Iterator.{Drains}
 use Rattle.halfbrown.specs.Collection.{Gives, IsRefusedInsertion}
 use Rattle.halfbrown.specs.Costs.{key_hash, no_cost}
@@ -60,14 +61,7 @@ returns-clause-collected g c =
     )
 
 pub returns-clause-nothing_hashed : goal.returns-clause-nothing_hashed
-returns-clause-nothing_hashed g c form =
-    let all = c.in_ok-extend_counted.ensures.extended in
-    let nothing = inserts_asked g.L.Limit.LIMIT g.K.PartialEq.eq (key_hash g.S.BuildHasher g.S.Hasher.Hasher g.K.Hash.hash_input)
-    c.in_ok-map.map c.extend_counted.new.self all.1 all.2 all.5.inserted form in
-    omega (arith, all.6.asked, nothing.1)
+returns-clause-nothing_hashed g c form = grind (arith, common_steps, inserts_asked)
 
 pub returns-clause-state : goal.returns-clause-state
-returns-clause-state g c =
-    let all = c.in_ok-extend_counted.ensures.extended in
-    inserts_state g.L.Limit.LIMIT g.K.PartialEq.eq (key_hash g.S.BuildHasher g.S.Hasher.Hasher g.K.Hash.hash_input) c.in_ok-map.map
-    c.extend_counted.new.self all.1 all.2 all.5.inserted c.in_ok-map.ensures.state
+returns-clause-state g c = grind (arith, common_steps, inserts_state)

@@ -1,46 +1,18 @@
 use Rattle.halfbrown.specs.Collection.{Gives}
+use Rattle.std.proofs.Common.{arith}
+use Rattle.std.proofs.lemmas.Grind.{common_steps}
 use Rattle.halfbrown.specs.Costs.{key_hash}
 use Rattle.halfbrown.proofs.lemmas.map.Collect.{extends_of, item_more, item_refused, at_error, yields_more}
 use Rattle.halfbrown.proofs.map.LimitedHashMap.extend_counted.Goals as goal
 
 pub loop-key-preserved-in_ok-insert_counted : goal.loop-key-preserved-in_ok-insert_counted
-loop-key-preserved-in_ok-insert_counted g c = record {
-  can = c.in-Some.ensures.goes.keeps;
-  ends = (c.in-Some.ensures.goes.on c.loop-key.invariant.ends).1;
-  so_far = item_more g.L.Limit.LIMIT g.K.PartialEq.eq (key_hash g.S.BuildHasher g.S.Hasher.Hasher g.K.Hash.hash_input) c.args.self.now
-      c.loop-key.self c.insert_counted.new.self c.loop-key.yielded c.in-Some.key c.in-Some.value
-      c.args.tally.now c.loop-key.tally c.insert_counted.new.tally c.loop-key.invariant.so_far c.in_ok-insert_counted.ensures.inserts.ok
-      c.insert_counted.ensures.inserts.state c.in_ok-insert_counted.ensures.cost.grew;
-}
+loop-key-preserved-in_ok-insert_counted g c = grind (arith, common_steps, item_more)
 
 pub loop-key-preserved : goal.loop-key-preserved
-loop-key-preserved g c = record {
-  can = c.in-Some.ensures.goes.keeps;
-  ends = (c.in-Some.ensures.goes.on c.loop-key.invariant.ends).1;
-  so_far = item_more g.L.Limit.LIMIT g.K.PartialEq.eq (key_hash g.S.BuildHasher g.S.Hasher.Hasher g.K.Hash.hash_input) c.args.self.now
-      c.loop-key.self c.insert_counted.new.self c.loop-key.yielded c.in-Some.key c.in-Some.value
-      c.args.tally.now c.loop-key.tally c.insert_counted.new.tally c.loop-key.invariant.so_far c.in_ok-insert_counted.ensures.inserts.ok
-      c.insert_counted.ensures.inserts.state c.in_ok-insert_counted.ensures.cost.grew;
-}
+loop-key-preserved g c = grind (arith, common_steps, item_more)
 
 pub returns : goal.returns
-returns g c =
-    let so_far = c.loop-key.invariant.so_far in
-    let L = g.L.Limit.LIMIT in
-    let E = g.K.PartialEq.eq in
-    let H = key_hash g.S.BuildHasher g.S.Hasher.Hasher g.K.Hash.hash_input in
-    record {
-      extended = (
-        c.into_iter-key-iterator.result,
-        c.loop-key.yielded,
-        so_far.cost,
-        c.into_iter-key-iterator.ensures.into_iter_gives,
-        (c.next.new.self, (c.loop-key.key-iterator, c.loop-key.yielded_by, c.in-None.ensures.steps)),
-        extends_of L E H g.met.K.Eq.laws c.args.self.now c.loop-key.self c.loop-key.yielded so_far.cost so_far.inserted,
-        so_far.spent,
-      );
-      refused = tt;
-    }
+returns g c = grind (arith, common_steps, extends_of)
 
 pub returns-in_err-insert_counted-clause-extended : goal.returns-in_err-insert_counted-clause-extended
 returns-in_err-insert_counted-clause-extended g c =

@@ -1,17 +1,12 @@
 use Rattle.std.proofs.Common.{not, slice_get, sym, ap, ◌∙◌, arith}
+use Rattle.std.proofs.lemmas.Grind.{common_steps}
 use Rattle.halfbrown.specs.Costs.{key_hash}
 use Rattle.halfbrown.specs.Equality.{holds_pair}
 use Rattle.halfbrown.proofs.lemmas.map.Equality.{held_unless, all_on, all_ends, costs_done, costs_on, costs_last}
 use Rattle.halfbrown.proofs.map.LimitedHashMap.is_held_by.Goals as goal
 
 pub returns-then-ne-clause-held : goal.returns-then-ne-clause-held
-returns-then-ne-clause-held g c =
-    let test = holds_pair g.K.PartialEq.eq g.V.PartialEq.eq c.args.other.now.pairs in
-    let unheld = held_unless g.K.PartialEq.eq g.V.PartialEq.eq c.args.other.now.pairs c.pair_at.result.0.now c.pair_at.result.1
-    c.get_counted.result c.ne.result c.get_counted.ensures.value c.ne.ensures ∙ ap not c.if-ne.true in
-    sym (c.loop-index.invariant.held
-    ∙ all_ends test c.args.self.now.pairs c.loop-index.index (c.pair_at.result.0.now, c.pair_at.result.1.now)
-    (ap (λ ps. slice_get ps c.loop-index.index) (sym c.columns.ensures.pairs) ∙ c.pair_at.ensures) unheld)
+returns-then-ne-clause-held g c = grind (arith, common_steps, all_ends, held_unless, not, slice_get)
 
 pub returns-then-ne-clause-cost : goal.returns-then-ne-clause-cost
 returns-then-ne-clause-cost g c =
@@ -42,8 +37,4 @@ loop-index-preserved g c =
     }
 
 pub returns-clause-cost : goal.returns-clause-cost
-returns-clause-cost g c =
-    let hash = key_hash g.S2.BuildHasher g.S2.Hasher.Hasher g.K.Hash.hash_input in
-    c.loop-index.invariant.cost c.loop-index.tally
-    (costs_done g.K.PartialEq.eq hash c.args.other.now g.V.PartialEq.eq c.args.self.now.pairs c.loop-index.index
-    (omega (arith, c.loop-index-test.false, c.len-index-end.ensures.len)) c.loop-index.tally)
+returns-clause-cost g c = grind (arith, common_steps, costs_done)

@@ -1,19 +1,12 @@
-use Rattle.std.proofs.Common.{[], ◌∷◌, ◌++◌, ap, ◌∙◌, length, arith}
+use Rattle.std.proofs.Common.{[], ◌∷◌, ◌++◌, ap, ◌∙◌, arith}
+use Rattle.std.proofs.lemmas.Grind.{common_steps}
 use Rattle.halfbrown.specs.Pairs.{holds}
 use Rattle.halfbrown.proofs.lemmas.map.Replace.{unheld_after}
 use Rattle.halfbrown.proofs.lemmas.pairs.SwapRemove.{length-swap_remove_at}
 use Rattle.halfbrown.proofs.map.LimitedHashMap.settle.Goals as goal
 
 pub push-requires-clause-capacity : goal.push-requires-clause-capacity
-push-requires-clause-capacity g c =
-    omega (
-      arith,
-      c.requires,
-      c.len-last.ensures.state.fits,
-      length-swap_remove_at c.args.self.now.pairs c.args.index (omega (arith, c.requires)),
-      ap length c.take_at-key.ensures.after.pairs,
-      c.take_at-key.ensures.after.capacity,
-    )
+push-requires-clause-capacity g c = grind (arith, common_steps, length-swap_remove_at)
 
 pub push-requires-clause-absent : goal.push-requires-clause-absent
 push-requires-clause-absent g c =

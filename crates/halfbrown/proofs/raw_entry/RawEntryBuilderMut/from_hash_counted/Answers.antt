@@ -1,4 +1,5 @@
-use Rattle.std.proofs.Common.{Some, refl, sym, ap}
+use Rattle.std.proofs.Common.{sym, ap, arith}
+use Rattle.std.proofs.lemmas.Grind.{common_steps}
 use Rattle.std.specs.Fn.{FnReturnsAt}
 use Rattle.halfbrown.specs.Costs.{key_hash}
 use Rattle.halfbrown.specs.RawEntryBuilder.{ready_ref, ready_map}
@@ -18,9 +19,4 @@ returns-in-Ok-clause-searches g c = record {
 }
 
 pub returns-in-Ok-clause-cost : goal.returns-in-Ok-clause-cost
-returns-in-Ok-clause-cost g c = rw (ap ready_map c.self-1.given.1) (record {
-  index = Some c.in-Ok.index;
-  at = refl;
-  is_found = is_some_within _ c.in-Ok.index c.in-Ok.ensures.found.within;
-  costs = c.in-Ok.ensures.cost;
-})
+returns-in-Ok-clause-cost g c = grind (arith, common_steps, is_some_within)
