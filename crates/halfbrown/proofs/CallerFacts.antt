@@ -21,7 +21,7 @@ use Rattle.halfbrown.specs.Updates.{HasPut}
 use Rattle.halfbrown.proofs.CallerLemmas.{value_of_equal, lookup_permuted}
 use Rattle.halfbrown.proofs.lemmas.pairs.Indices.{value_of_entry}
 use Rattle.halfbrown.proofs.lemmas.pairs.SwapRemove.{map-swap_remove_at}
-use Rattle.halfbrown.specs.Gathering.{add_key, first_of_each, CountsEach, GroupsEach}
+use Rattle.halfbrown.specs.Gathering.{add_key, CountsEach, GroupsEach}
 
 -- ---- whether a key is held, and where
 
@@ -192,22 +192,13 @@ module _ {K : Type 0} {eq : K → K → Bool} (laws : IsEquivalence eq) where
   counts_by : (xs : List K) {old new : List (K × ℕ)} {k : K} {v : ℕ} → HasPut eq old k v new → v ≡ unwrap_or (value_of eq old k) 0 + 1
       → (q : K) → unwrap_or (value_of eq old q) 0 ≡ count_by (eq q) xs → (b : Bool) → eq k q ≡ b
       → unwrap_or (value_of eq new q) 0 ≡ count_by (eq q) (xs ++ k ∷ [])
-  counts_by xs {old} {new} {k} {v} puts more q before true same =
-      ap (λ o. unwrap_or o 0) (puts.equals q same) ∙ more
-      ∙ ap (λ o. unwrap_or o 0 + 1) (sym (value_of_equal eq laws old k q same)) ∙ ap (λ n. n + 1) before
-      ∙ ap (λ b. count_by (eq q) xs + cond b 1 0) (sym (laws.symm q k ∙ same)) ∙ sym (count_push q xs k)
-  counts_by xs {old} {new} {k} {v} puts more q before false apart =
-      let n : count_by (eq q) xs ≡ count_by (eq q) xs + 0 = omega arith in
-      ap (λ o. unwrap_or o 0) (puts.others q apart) ∙ before ∙ n
-      ∙ ap (λ b. count_by (eq q) xs + cond b 1 0) (sym (laws.symm q k ∙ apart)) ∙ sym (count_push q xs k)
+  counts_by xs {old} {new} {k} {v} puts more q before true same = grind (arith, common_steps, count_by, count_push, unwrap_or, value_of_equal)
+  counts_by xs {old} {new} {k} {v} puts more q before false apart = grind (arith, common_steps, count_by, count_push, unwrap_or)
 
   -- a put of one more counts one item more
   pub counted_more : (xs : List K) {old new : List (K × ℕ)} {k : K} {v : ℕ} → CountsEach eq xs old → HasPut eq old k v new
       → v ≡ unwrap_or (value_of eq old k) 0 + 1 → CountsEach eq (xs ++ k ∷ []) new
-  counted_more xs {old} {new} {k} {v} before puts more = record {
-    counts = λ q. counts_by xs puts more q (before.counts q) (eq k q) refl;
-    keys = (keys_after_put old new k v puts).1 ∙ ap (λ ks. add_key eq ks k) before.keys ∙ sym (fold_push (add_key eq) [] xs k);
-  }
+  counted_more xs {old} {new} {k} {v} before puts more = grind (arith, common_steps, counts_by, fold_push, keys_after_put)
 
   -- the same in a loop over a slice
   pub counted_step : (xs : List K) (i : ℕ) {old new : List (K × ℕ)} {k : K} {v : ℕ} → CountsEach eq (take i xs) old → HasPut eq old k v new
@@ -231,15 +222,8 @@ module _ {K X V : Type 0} {eq : K → K → Bool} (laws : IsEquivalence eq) (rea
       → read v ≡ option_map_or read (value_of eq old k) [] ++ x ∷ []
       → (q : K) → option_map_or read (value_of eq old q) [] ≡ values_of (filter (λ x. eq q x.0) xs) → (b : Bool) → eq k q ≡ b
       → option_map_or read (value_of eq new q) [] ≡ values_of (filter (λ x. eq q x.0) (xs ++ (k, x) ∷ []))
-  groups_by xs x {old} {new} {k} {v} puts more q before true same =
-      ap (λ o. option_map_or read o []) (puts.equals q same) ∙ more
-      ∙ ap (λ o. option_map_or read o [] ++ x ∷ []) (sym (value_of_equal eq laws old k q same)) ∙ ap (λ l. l ++ x ∷ []) before
-      ∙ ap (λ b. values_of (filter (λ x. eq q x.0) xs) ++ values_of (cond b ((k, x) ∷ []) [])) (sym (laws.symm q k ∙ same))
-      ∙ sym (group_push eq q xs (k, x))
-  groups_by xs x {old} {new} {k} {v} puts more q before false apart =
-      ap (λ o. option_map_or read o []) (puts.others q apart) ∙ before ∙ sym (append-nil (values_of (filter (λ x. eq q x.0) xs)))
-      ∙ ap (λ b. values_of (filter (λ x. eq q x.0) xs) ++ values_of (cond b ((k, x) ∷ []) [])) (sym (laws.symm q k ∙ apart))
-      ∙ sym (group_push eq q xs (k, x))
+  groups_by xs x {old} {new} {k} {v} puts more q before true same = grind (arith, common_steps, group_push, value_of_equal)
+  groups_by xs x {old} {new} {k} {v} puts more q before false apart = grind (arith, common_steps, append-nil, group_push)
 
   unwrapped : (o : Option V) (d : V) → read d ≡ [] → read (unwrap_or o d) ≡ option_map_or read o []
   unwrapped o d empty = grind (arith, common_steps)
@@ -248,13 +232,7 @@ module _ {K X V : Type 0} {eq : K → K → Bool} (laws : IsEquivalence eq) (rea
   pub grouped_more : (xs : List (K × X)) (x : X) (d : V) {old new : List (K × V)} {k : K} {v : V} → GroupsEach eq read xs old
       → HasPut eq old k v new
       → read d ≡ [] → read v ≡ read (unwrap_or (value_of eq old k) d) ++ x ∷ [] → GroupsEach eq read (xs ++ (k, x) ∷ []) new
-  grouped_more xs x d {old} {new} {k} {v} before puts empty more =
-      let added = more ∙ ap (λ l. l ++ x ∷ []) (unwrapped (value_of eq old k) d empty) in
-      record {
-        groups = λ q. groups_by xs x puts added q (before.groups q) (eq k q) refl;
-        keys = (keys_after_put old new k v puts).1 ∙ ap (λ ks. add_key eq ks k) before.keys ∙ sym (fold_push (add_key eq) [] (keys_of xs) k)
-            ∙ ap (first_of_each eq) (sym (map-append (λ p. p.0) xs ((k, x) ∷ [])));
-      }
+  grouped_more xs x d {old} {new} {k} {v} before puts empty more = grind (arith, common_steps, fold_push, groups_by, keys_after_put, map-append, unwrapped)
 
   -- the same in a loop over a slice
   pub grouped_step : (xs : List (K × X)) (i : ℕ) (x : X) (d : V) {old new : List (K × V)} {k : K} {v : V}
@@ -262,6 +240,4 @@ module _ {K X V : Type 0} {eq : K → K → Bool} (laws : IsEquivalence eq) (rea
       → HasPut eq old k v new → i < length xs → (k, x) ≡ get_or xs i (k, x) → read d ≡ []
       → read v ≡ read (unwrap_or (value_of eq old k) d) ++ x ∷ []
       → GroupsEach eq read (take (i + 1) xs) new
-  grouped_step xs i x d {old} {new} {k} {v} before puts within item empty more =
-      subst (λ ys. GroupsEach eq read ys new) (ap (λ y. take i xs ++ y ∷ []) item ∙ sym (take_more xs i (k, x) within))
-      (grouped_more (take i xs) x d before puts empty more)
+  grouped_step xs i x d {old} {new} {k} {v} before puts within item empty more = grind (arith, common_steps, grouped_more, take, take_more)

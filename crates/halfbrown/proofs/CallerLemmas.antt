@@ -67,10 +67,7 @@ module _ {K V : Type 0} (eq : K → K → Bool) where
   len_taken_by ps k (Some i) is =
       let at = index_found (eq k) ps i is in
       rw (at.held) (ap (λ l. length l + 1) at.take_is ∙ length-swap_remove_at ps i (omega arith))
-  len_taken_by ps k None is =
-      let absent = absent_of_index (eq k) ps is in
-      let unheld : holds eq ps k ≡ false = ap is_some absent.value in
-      rw unheld (omega (arith, ap length absent.take_is))
+  len_taken_by ps k None is = grind (arith, common_steps, absent_of_index)
 
   -- there is one pair fewer where the key was held
   pub len_taken : (ps : List (K × V)) (k : K) → length (take_out eq ps k) + cond (holds eq ps k) 1 0 ≡ length ps
@@ -273,24 +270,10 @@ module _ {K V : Type 0} (eq : K → K → Bool) (laws : IsEquivalence eq) where
         let k = get_or (keys_of ps) i d in
         let passes : test k ≡ true = first_passes test (keys_of ps) i d (first_of_index test (keys_of ps) i (sym is)) in
         subst (λ t. HasRemovedBy eq t ps (take_out_by t ps)) (sym (test_is k passes)) (has_removed ps distinct k)
-    removed_by d None is =
-        let absent = absent_of_index test ps is in
-        subst (HasRemovedBy eq test ps) (sym absent.take_is) (record {
-          not_held = absent.held;
-          no_value = absent.value;
-          equals = λ q passes. ap (λ t. lookup t ps) (sym (test_is q passes)) ∙ absent.value;
-          others = λ q fails. refl;
-          len = ap (λ b. cond b (length ps + 1) (length ps)) (sym absent.held);
-        })
+    removed_by d None is = grind (arith, common_steps, absent_of_index, test_is)
 
     removed_from : (qs : List (K × V)) → qs ≡ ps → HasRemovedBy eq test ps (take_out_by test ps)
-    removed_from [] none = subst (λ rs. HasRemovedBy eq test rs (take_out_by test rs)) none (record {
-      not_held = refl;
-      no_value = refl;
-      equals = λ q passes. refl;
-      others = λ q fails. refl;
-      len = refl;
-    })
+    removed_from [] none = grind (arith, common_steps)
     removed_from (p ∷ qs) some = removed_by p.0 (index_of test (keys_of ps)) refl
 
     -- no key that passes has a value, and each other key has what it had

@@ -1,6 +1,7 @@
 -- What each step of a `Drain` gives and leaves, along a run.
 use mathlib.Core.HLevel.{is_prop→PathP}
-use Rattle.std.proofs.Common.{◌≡◌, ◌<◌, false, [], ◌∷◌, length, refl, ap, subst, ◌∙◌}
+use Rattle.std.proofs.Common.{arith, ◌≡◌, ◌<◌, false, [], ◌∷◌, length, refl, ap, subst}
+use Rattle.std.proofs.lemmas.Grind.{common_steps}
 use Rattle.std.proofs.Props.{props}
 use Rattle.std.proofs.iter.runs.Sources.{as_is, from_front}
 use Rattle.std.specs.Iterator.Runs.{YieldsInOrder}
@@ -33,12 +34,4 @@ module _ {K V S L H : Type 0} {e : eq.Ghosts K} {h : hash.Ghosts K} {b : builder
 
   pub keeps_along : (s : Drain K V S L (StoreState K V) H e h b w l p) → KeepsAlong s
   keeps_along s [] t y = subst (Keeps s) y (record { map = refl; form = refl; capacity = refl; columns = refl })
-  keeps_along s (x ∷ xs) t y =
-      let first = y.1.1 in
-      let others = keeps_along y.0 xs t y.2 in
-      record {
-        map = others.map ∙ first.map;
-        form = others.form ∙ first.form;
-        capacity = others.capacity ∙ first.capacity;
-        columns = others.columns ∙ first.columns;
-      }
+  keeps_along s (x ∷ xs) t y = grind (arith, common_steps, keeps_along y.0 xs t y.2)

@@ -3,8 +3,7 @@ use Rattle.std.proofs.Common.{◌≡◌, ℕ, zero, suc, ◌+◌, ◌*◌, ◌�
 use Rattle.std.proofs.Common.{None, Some, sym, ap, refl, subst, arith, if◌then◌else◌}
 use Rattle.std.proofs.lemmas.Grind.{common_steps}
 use Rattle.std.specs.Prelude.{MatchBool}
-use Rattle.half_store.specs.Capacity.{IsBucketCount, capacity_of, buckets_for_more, buckets_for, capacity_for}
-use Rattle.half_store.specs.Capacity.{grown_capacity}
+use Rattle.half_store.specs.Capacity.{IsBucketCount, capacity_of, buckets_for_more, buckets_for, capacity_for, grown_capacity}
 use Rattle.half_store.specs.Memory.{bytes}
 use Rattle.half_store.specs.Store.{allowed}
 use Rattle.half_store.proofs.lemmas.capacity.{buckets_for-least}

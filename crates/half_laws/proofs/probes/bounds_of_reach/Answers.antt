@@ -1,5 +1,4 @@
-use Rattle.half_laws.proofs.lemmas.probes.{no_buckets_law, nothing_held_law, one_bucket_law, shared_home_law, short_law}
-use Rattle.half_laws.proofs.lemmas.probes.{once_round_law}
+use Rattle.half_laws.proofs.lemmas.probes.{no_buckets_law, nothing_held_law, one_bucket_law, shared_home_law, short_law, once_round_law}
 use Rattle.half_laws.proofs.probes.bounds_of_reach.Goals as goal
 
 pub returns-clause-no_buckets : goal.returns-clause-no_buckets

@@ -1,10 +1,9 @@
 -- What stays true of a store whose columns change.
 use Rattle.std.proofs.Common.{◌≡◌, ℕ, zero, suc, List, [], ◌∷◌, length, Option, None, Some, is_none, if◌then◌else◌, refl, sym, arith, ap}
-use Rattle.std.proofs.Common.{subst, ◌∙◌}
+use Rattle.std.proofs.Common.{◌∙◌}
 use Rattle.std.proofs.lemmas.Grind.{common_steps}
 use Rattle.std.proofs.lemmas.Option.{same_Some}
 use Rattle.std.specs.Borrow.{Bor}
-use Rattle.half_store.specs.Capacity.{capacity_of}
 use Rattle.half_store.specs.Columns.{Columns}
 use Rattle.half_store.specs.Pairs.{set_key, set_value, set_values, swap_remove_at}
 use Rattle.half_store.specs.Replaced.{replaced, Replaces}
@@ -51,14 +50,7 @@ module _ {K V : Type 0} where
   pub table_keeps_form : (old new : Columns K V) {t after : TableState} {index : Option TableState} {s : StoreState K V} → index ≡ Some t
       → store_of old index ≡ s → after.buckets ≡ t.buckets → new.capacity ≡ old.capacity
       → KeepsForm s (table_of new after)
-  table_keeps_form old new {t} is view buckets columns =
-      let was = table_view old t is view in
-      record {
-        form = ap (λ s. s.is_vec) was;
-        capacity = ap capacity_of buckets ∙ ap (λ s. s.capacity) was;
-        columns = columns
-            ∙ ap (λ s. s.columns) was;
-      }
+  table_keeps_form old new {t} is view buckets columns = grind (arith, common_steps, table_view)
 
   -- as many pairs, with the same capacity, have the same index
   pub kept_store : (index : Option TableState) (old new : Columns K V) → length new.pairs ≡ length old.pairs → new.capacity ≡ old.capacity
@@ -92,6 +84,4 @@ module _ {K V : Type 0} where
       {s : StoreState K V}
       → store_of old was ≡ s → Replaces returns old.pairs at new.pairs removed
       → Replaces returns s.pairs at (store_of new index).pairs removed
-  replaces_in_store {returns} {at} {removed} old new was index view r =
-      subst (λ ps. Replaces returns ps at (store_of new index).pairs removed) (sym (pairs_of-store old was) ∙ ap (λ s. s.pairs) view)
-      (subst (λ ps. Replaces returns old.pairs at ps removed) (sym (pairs_of-store new index)) r)
+  replaces_in_store {returns} {at} {removed} old new was index view r = grind (arith, common_steps, pairs_of-store)

@@ -1,5 +1,6 @@
 -- Counting the buckets that pass a test.
 use Rattle.std.proofs.Common.{◌≡◌, ◌≢◌, ℕ, zero, suc, ◌+◌, ◌-◌, ◌<◌, ◌≤◌, Bool, true, false, cond, ltb, ◌⊎◌, inl, inr, refl, sym, ap, ◌∙◌}
+use Rattle.std.proofs.lemmas.Grind.{common_steps}
 use Rattle.std.proofs.Common.{arith, List, length, get_or, take, min, count_by}
 use Rattle.std.proofs.lemmas.Bool.{cases_lt, cases_eq, lt-ltb, le-ltb}
 use Rattle.std.proofs.lemmas.List.{take_all}
@@ -24,10 +25,7 @@ count_to Q (suc n) = tick (Q n) + count_to Q n
 
 pub count_to-same : (Q R : ℕ → Bool) (n : ℕ) → ((p : ℕ) → p < n → Q p ≡ R p) → count_to Q n ≡ count_to R n
 count_to-same Q R zero h = refl
-count_to-same Q R (suc n) h =
-    let rest = count_to-same Q R n (λ p l. h p (omega arith)) in
-    let here = ap tick (h n (omega arith)) in
-    omega arith
+count_to-same Q R (suc n) h = grind (arith, common_steps, count_to-same Q R n (λ p l. h p (omega arith)))
 
 one_le : (b c : Bool) → (b ≡ true → c ≡ true) → tick b ≤ tick c
 one_le true c h = rw (h refl) (omega arith)
@@ -35,10 +33,7 @@ one_le false c h = omega arith
 
 pub count_to-le : (Q R : ℕ → Bool) (n : ℕ) → ((p : ℕ) → p < n → Q p ≡ true → R p ≡ true) → count_to Q n ≤ count_to R n
 count_to-le Q R zero h = omega arith
-count_to-le Q R (suc n) h =
-    let rest = count_to-le Q R n (λ p l. h p (omega arith)) in
-    let here = one_le (Q n) (R n) (h n (omega arith)) in
-    omega arith
+count_to-le Q R (suc n) h = grind (arith, common_steps, one_le, count_to-le Q R n (λ p l. h p (omega arith)))
 
 -- one bucket more passes
 pub count_to-lt : (Q R : ℕ → Bool) (n x : ℕ) → x < n → Q x ≡ false → R x ≡ true → ((p : ℕ) → p < n → Q p ≡ true → R p ≡ true)
@@ -76,10 +71,7 @@ count_to_more Q R (suc n) x l q r h =
 
 pub count_to-none : (Q : ℕ → Bool) (n : ℕ) → ((p : ℕ) → p < n → Q p ≡ false) → count_to Q n ≡ 0
 count_to-none Q zero h = refl
-count_to-none Q (suc n) h =
-    let rest = count_to-none Q n (λ p l. h p (omega arith)) in
-    let here = tick_no (Q n) (h n (omega arith)) in
-    omega arith
+count_to-none Q (suc n) h = grind (arith, common_steps, tick_no, count_to-none Q n (λ p l. h p (omega arith)))
 
 count_by-take : {X : Type 0} (f : X → Bool) (xs : List X) (d : X) (n : ℕ) → n ≤ length xs
     → count_by f (take n xs) ≡ count_to (λ p. f (get_or xs p d)) n
@@ -101,9 +93,7 @@ one_if s t = elim (cases_lt s t) [ inl h ↦ inl (h, tick_yes _ (lt-ltb s t h)) 
 stretch_part : (m b t n : ℕ) → b < m → t ≤ m → n ≤ m
     → count_to (λ p. ltb (probe_distance m p b) t) n ≡ (min n (b + 1) - (b + 1 - t)) + (n - (b + m + 1 - t))
 stretch_part m b t zero in_b in_t in_n = omega arith
-stretch_part m b t (suc n) in_b in_t in_n =
-    let rest = stretch_part m b t n in_b in_t (omega arith) in
-    omega (arith, one_if (probe_distance m n b) t, distance_is m n b (omega arith))
+stretch_part m b t (suc n) in_b in_t in_n = grind (arith, common_steps, distance_is, one_if, stretch_part m b t n in_b in_t (omega arith))
 
 -- a stretch of t buckets has t buckets
 pub stretch_size : (m b t : ℕ) → b < m → t ≤ m → count_to (λ p. ltb (probe_distance m p b) t) m ≡ t
@@ -113,9 +103,7 @@ stretch_size m b t in_b in_t = stretch_part m b t m in_b in_t (omega arith) ∙ 
 ahead_part : (m b t n : ℕ) → b < m → t ≤ m → n ≤ m
     → count_to (λ p. ltb (probe_distance m b p) t) n ≡ (min n (b + t) - b) + min n (b + t - m)
 ahead_part m b t zero in_b in_t in_n = omega arith
-ahead_part m b t (suc n) in_b in_t in_n =
-    let rest = ahead_part m b t n in_b in_t (omega arith) in
-    omega (arith, one_if (probe_distance m b n) t, distance_is m b n in_b)
+ahead_part m b t (suc n) in_b in_t in_n = grind (arith, common_steps, distance_is, one_if, ahead_part m b t n in_b in_t (omega arith))
 
 -- there are t of them
 pub ahead_size : (m b t : ℕ) → b < m → t ≤ m → count_to (λ p. ltb (probe_distance m b p) t) m ≡ t

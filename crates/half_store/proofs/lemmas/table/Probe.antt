@@ -14,9 +14,8 @@ use Rattle.half_store.proofs.lemmas.table.Counts.{count_to, count_to-same, count
 use Rattle.half_store.proofs.lemmas.table.Counts.{ahead_size}
 use Rattle.half_store.proofs.lemmas.table.Reach.{is_loaded-yes, is_loaded-no, loaded_run-is, reach-some}
 use Rattle.half_store.specs.Work.{Work, one_looked, one_compared}
-use Rattle.half_store.proofs.lemmas.table.Slots.{Probes, home_distance, Probes-vacancy, Probes-distance, Probes-next}
-use Rattle.half_store.proofs.lemmas.table.Slots.{slot_cases, full_from, home-lt, full-lt, vacancy_for, full_loaded, vacant_unloaded}
-use Rattle.half_store.proofs.lemmas.table.Slots.{stored_passes, passes_stored}
+use Rattle.half_store.proofs.lemmas.table.Slots.{Probes, home_distance, Probes-vacancy, Probes-distance, Probes-next, slot_cases, full_from}
+use Rattle.half_store.proofs.lemmas.table.Slots.{home-lt, full-lt, vacancy_for, full_loaded, vacant_unloaded, stored_passes, passes_stored}
 
 -- the hashes are those that are stored, counted by each test
 abbrev pub SameCounts : List ℕ → List (Option ℕ) → Type 0

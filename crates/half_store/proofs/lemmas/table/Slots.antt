@@ -175,19 +175,8 @@ module _ {slots : List (Option ℕ)} {hash bucket : ℕ} where
     Probes-distance = next_farther (length slots) (home (length slots) hash) bucket vacant.0 next in_home w.inside vacant.1 farther e
 
     pub Probes-next : Probes slots hash next
-    Probes-next = record {
-      inside = omega (arith, after_is (length slots) bucket 1, w.inside);
-      passed = λ o in_o near. elim (cases_eq (distance_from_home slots hash o) (distance_from_home slots hash bucket)) [
-        | inl at ↦ same_bucket o in_o at
-        | inr ne ↦ w.passed o in_o (omega (arith, Probes-distance))
-      ];
-    }
+    Probes-next = grind (arith, common_steps, Probes-distance, after_is, same_bucket)
 
     -- fewer buckets are ahead of the next one
     pub Probes-ahead : length slots - distance_from_home slots hash next < length slots - distance_from_home slots hash bucket
-    Probes-ahead = omega (
-      arith,
-      Probes-distance,
-      farther,
-      probe_distance-lt (length slots) (home (length slots) hash) in_home vacant.0 vacant.1,
-    )
+    Probes-ahead = grind (arith, common_steps, Probes-distance, farther, in_home, probe_distance-lt)

@@ -42,10 +42,7 @@ module _ {K : Type 0} (eq : K → K → Bool) (laws : IsEquivalence eq) where
   all_apart k l [] [] same zip all = tt
   all_apart k l [] (y ∷ ls) same zip all = absurd zip
   all_apart k l (x ∷ ks) [] same zip all = absurd zip
-  all_apart k l (x ∷ ks) (y ∷ ls) same zip all = (
-    sym (laws.congr k l y same) ∙ laws.symm k y ∙ sym (laws.congr x y k zip.0) ∙ laws.symm x k ∙ all.0,
-    all_apart k l ks ls same zip.1 all.1,
-  )
+  all_apart k l (x ∷ ks) (y ∷ ls) same zip all = grind (arith, common_steps, all_apart k l ks ls same zip.1 all.1)
 
   -- distinct keys stay distinct where each is replaced by its equal
   pub IsDistinct-zip : (ks ls : List K) → AllZip (λ x y. eq x y ≡ true) ks ls → IsDistinct eq ks → IsDistinct eq ls

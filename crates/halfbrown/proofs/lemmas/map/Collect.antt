@@ -18,7 +18,7 @@ use Rattle.std.specs.declared.vec.IntoIter.{IntoIter}
 use Rattle.half_store.specs.Work.{Work}
 use Rattle.half_store.specs.declared.refusal.Refusal.{Refusal}
 use Rattle.halfbrown.specs.Costs.{Cost, GrewBy, no_cost, add_costs, search_asked, insert_cost}
-use Rattle.halfbrown.specs.Growth.{is_full, insert_needs, IsRefusal}
+use Rattle.halfbrown.specs.Growth.{insert_needs, IsRefusal}
 use Rattle.halfbrown.specs.Insertion.{Puts}
 use Rattle.halfbrown.specs.Making.{IsMade}
 use Rattle.halfbrown.specs.State.{State, IsState}
@@ -39,10 +39,7 @@ one_of b v other = grind (arith, common_steps)
 module _ {K V : Type 0} (eq : K → K → Bool) where
   keys_put_all : (ps items : List (K × V)) → keys_of (put_all eq ps items) ≡ add_keys eq (keys_of ps) (keys_of items)
   keys_put_all ps [] = refl
-  keys_put_all ps (p ∷ items) =
-      keys_put_all (put eq ps p.0 p.1) items
-      ∙ ap (λ ks. add_keys eq ks (keys_of items))
-      (keys_put eq ps p.0 p.1 ∙ ap (λ b. cond b (keys_of ps) (keys_of ps ++ p.0 ∷ [])) (holds_by-any (eq p.0) ps))
+  keys_put_all ps (p ∷ items) = grind (arith, common_steps, holds_by-any, keys_put, keys_put_all (put eq ps p.0 p.1) items)
 
   value_append : (ps qs : List (K × V)) (k : K) → value_of eq (ps ++ qs) k ≡ option_or (value_of eq ps k) (value_of eq qs k)
   value_append [] qs k = refl
@@ -53,16 +50,7 @@ module _ {K V : Type 0} (eq : K → K → Bool) where
     value_put_all : (ps items : List (K × V)) (k : K)
         → value_of eq (put_all eq ps items) k ≡ option_or (last_value_of eq items k) (value_of eq ps k)
     value_put_all ps [] k = refl
-    value_put_all ps (p ∷ items) k =
-        let last = last_value_of eq items k in
-        let old = value_of eq ps k in
-        let here = cond (eq k p.0) (Some p.1) None in
-        value_put_all (put eq ps p.0 p.1) items k
-        ∙ ap (option_or last) (lookup_put eq laws ps p.0 p.1 k ∙ ap (λ b. cond b (Some p.1) old) (laws.symm p.0 k)
-        ∙ sym (one_of (eq k p.0) p.1 old))
-        ∙ sym (or_assoc last here old)
-        ∙ ap (λ o. option_or o old)
-        (sym (ap (λ l. value_of eq l k) (reverse-append (p ∷ []) items) ∙ value_append (reverse items) (p ∷ []) k))
+    value_put_all ps (p ∷ items) k = grind (arith, common_steps, lookup_put, one_of, or_assoc, reverse, reverse-append, value_append, value_put_all (put eq ps p.0 p.1) items k)
 
     -- each key has the value of the last of the items that has its equal
     values_of_collected : (items : List (K × V)) (k : K) → value_of eq (collected eq items) k ≡ last_value_of eq items k
@@ -178,11 +166,7 @@ module _ {K V S : Type 0} (limit : ℕ) (eq : K → K → Bool) (hash : S → K 
   pub inserts_asked : (old new : State K V S) (items : List (K × V)) (cost : Cost) → InsertsAll limit eq hash old items new cost
       → new.is_vec ≡ true → (old.is_vec ≡ true) × (cost.asked ≡ 0)
   inserts_asked old new [] cost inserts form = (sym (ap (λ m. m.is_vec) inserts.0) ∙ form, ap (λ c. c.asked) inserts.1)
-  inserts_asked old new (p ∷ items) cost inserts form =
-      let rest = inserts_asked inserts.0 new items inserts.1 inserts.4 form in
-      let stays = sym inserts.2.form ∙ rest.0 in
-      let was = and_left old.is_vec (not (is_full limit old)) stays in
-      (was, omega (arith, ap (λ c. c.asked) inserts.5, asked_nothing limit old.is_vec (is_full limit old) was stays, rest.1))
+  inserts_asked old new (p ∷ items) cost inserts form = grind (arith, common_steps, and_left, asked_nothing, not, inserts_asked inserts.0 new items inserts.1 inserts.4 form)
 
   pub extends_of : IsEquivalence eq → (old new : State K V S) (items : List (K × V)) (cost : Cost)
       → InsertsAll limit eq hash old items new cost → Extends limit eq hash old items new cost

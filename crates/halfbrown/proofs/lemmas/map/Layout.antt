@@ -1,6 +1,6 @@
 -- What the fields of a map keep, from call to call.
 use Rattle.std.proofs.Common.{◌≡◌, ◌≢◌, ℕ, zero, suc, ◌<◌, ◌≤◌, Bool, true, false, List, [], ◌∷◌, ◌++◌, length, slice_get, Some, map, sym}
-use Rattle.std.proofs.Common.{refl, ap, subst, ◌∙◌, arith, true≢false, if◌then◌else◌}
+use Rattle.std.proofs.Common.{refl, ap, subst, ◌∙◌, arith, true≢false}
 use Rattle.std.proofs.lemmas.Grind.{common_steps}
 use Rattle.std.proofs.lemmas.List.{map-append}
 use Rattle.std.proofs.Math.ListN.{length-append}
@@ -59,41 +59,20 @@ module _ {K V : Type 0} where
     pub kept_pushed : IsEquivalence eq → (s : StoreState K V) (k : K) (v : V) (vacancy : Vacancy) → IsKept eq hash limit s
         → IsAbsent (eq k) s.pairs → length s.pairs < allowed limit s.is_vec s.capacity
         → (s.is_vec ≡ false → vacancy.hash ≡ hash k) → IsKept eq hash limit (store_pushed s k v vacancy)
-    kept_pushed laws s k v vacancy kept absent room own =
-        let keys : keys_of (s.pairs ++ (k, v) ∷ []) ≡ keys_of s.pairs ++ k ∷ [] = keys_of-push s.pairs k v in
-        kept_as s (store_pushed s k v vacancy) kept (record { form = refl; capacity = refl; columns = refl })
-        (subst (IsDistinct eq) (sym keys)
-        (IsDistinct-push laws (keys_of s.pairs) k kept.distinct
-        (any_of_none (eq k) (keys_of s.pairs) (none_of_index (eq k) (keys_of s.pairs) absent.index))))
-        (omega (arith, length-append s.pairs ((k, v) ∷ [])))
-        (λ table. ap (λ b. if b then s.hashes else s.hashes ++ vacancy.hash ∷ []) table ∙ (λ i. kept.hashed table i ++ own table i ∷ [])
-        ∙ sym (map-append hash (keys_of s.pairs) (k ∷ [])) ∙ ap (map hash) (sym keys))
+    kept_pushed laws s k v vacancy kept absent room own = grind (arith, common_steps, IsDistinct-push, any_of_none, kept_as, keys_of-push, length-append, map, map-append, none_of_index)
 
     -- a pair has another key, equal to its own and of the same hash
     pub kept_key : IsEquivalence eq → (s : StoreState K V) (i : ℕ) (old new : K) → IsKept eq hash limit s
         → slice_get (keys_of s.pairs) i ≡ Some old → eq old new ≡ true → hash old ≡ hash new
         → IsKept eq hash limit (store_with_pairs s (set_key s.pairs i new))
-    kept_key laws s i old new kept at same alike =
-        let keys = keys_of-set_key s.pairs i new in
-        kept_as s (store_with_pairs s (set_key s.pairs i new)) kept (record { form = refl; capacity = refl; columns = refl })
-        (subst (IsDistinct eq) (sym keys) (IsDistinct-set eq laws old new same (keys_of s.pairs) i at kept.distinct))
-        (omega (arith, length-set_key s.pairs i new, kept.fits))
-        (λ table. kept.hashed table ∙ sym (map-set_alike hash (keys_of s.pairs) i old new at alike) ∙ ap (map hash) (sym keys))
+    kept_key laws s i old new kept at same alike = grind (arith, common_steps, IsDistinct-set, kept_as, keys_of-set_key, length-set_key, map, map-set_alike)
 
     -- a pair is gone, the last one at its index
     pub kept_taken : IsEquivalence eq → (old new : StoreState K V) (i : ℕ) → IsKept eq hash limit old → KeepsForm old new
         → i < length old.pairs
         → new.pairs ≡ swap_remove_at old.pairs i → (old.is_vec ≡ false → new.hashes ≡ swap_remove_at old.hashes i)
         → IsKept eq hash limit new
-    kept_taken laws old new i kept keeps within pairs hashes =
-        let keys : keys_of new.pairs ≡ swap_remove_at (keys_of old.pairs) i = ap keys_of pairs
-        ∙ map-swap_remove_at (λ p. p.0) old.pairs i in
-        kept_as old new kept keeps
-        (subst (IsDistinct eq) (sym keys)
-        (IsDistinct-swap_remove_at eq laws (keys_of old.pairs) i (omega (arith, length-keys_of old.pairs)) kept.distinct))
-        (omega (arith, ap length pairs, length-swap_remove_at old.pairs i (omega arith), kept.fits))
-        (λ table. hashes table ∙ ap (λ hs. swap_remove_at hs i) (kept.hashed table) ∙ sym (map-swap_remove_at hash (keys_of old.pairs) i)
-        ∙ ap (map hash) (sym keys))
+    kept_taken laws old new i kept keeps within pairs hashes = grind (arith, common_steps, IsDistinct-swap_remove_at, kept_as, length-keys_of, length-swap_remove_at, map, map-swap_remove_at)
 
     -- no pairs
     pub kept_none : (old new : StoreState K V) → IsKept eq hash limit old → KeepsForm old new → new.pairs ≡ [] → new.hashes ≡ []

@@ -72,10 +72,7 @@ module _ {K V S : Type 0} (limit : ℕ) (eq : K → K → Bool) (laws : IsEquiva
       _ _ (sym taken.removed ∙ sym found.pair)
   removes_found test own one_class (Ok index) None taken found = absurd taken
   removes_found test own one_class (Err vacancy) (Some pair) taken found = absurd taken
-  removes_found test own one_class (Err vacancy) None same found =
-      subst (λ s. Removes limit eq test was (lookup_entry test old.pairs) None (state_in limit s builder)) (sym same)
-      (removed_as limit eq test was was laws one_class was_state was_state
-      (record { pairs = sym found.0.take_is; form = refl; capacity = refl; columns = refl; builder = refl }) _ _ (sym found.0.pair))
+  removes_found test own one_class (Err vacancy) None same found = grind (arith, common_steps, removed_as, was_state)
 
 module _ {K V S : Type 0} (limit : ℕ) (eq : K → K → Bool) (old : State K V S) (index : ℕ) where
   -- the pair at an index is taken out

@@ -1,6 +1,6 @@
 -- What a closure's answer makes of a pair.
 use Rattle.std.proofs.Common.{◌≡◌, ℕ, zero, suc, ◌<◌, Bool, false, List, [], ◌∷◌, length, map, get_or, slice_get, Option, None, Some}
-use Rattle.std.proofs.Common.{IfNone, IfSome, sym, ap, subst, ◌∙◌, arith}
+use Rattle.std.proofs.Common.{IfNone, IfSome, sym, ap, ◌∙◌, arith}
 use Rattle.std.proofs.lemmas.Grind.{common_steps}
 use Rattle.std.proofs.lemmas.Map.Entries.{length-keys_of}
 use Rattle.std.proofs.lemmas.Option.{same_Some, slice_get_within}
@@ -54,12 +54,7 @@ module _ {K V : Type 0} (eq : K → K → Bool) (laws : IsEquivalence eq) (hash 
       → Replaces returns old.pairs index new.pairs (option_map (λ removed. removed.0) result)
       → IfSome result (λ _. old.is_vec ≡ false → new.hashes ≡ swap_remove_at old.hashes index) → IfNone result (new.hashes ≡ old.hashes)
       → IsKept eq hash limit new
-  kept_replaced within None r lost stays =
-      let value = kept_value r in
-      let keys = ap keys_of value.2 ∙ keys_of-set_value old.pairs index value.0 in
-      kept_as eq hash limit old new kept keeps (subst (IsDistinct eq) (sym keys) kept.distinct)
-      (omega (arith, ap length value.2, length-set_value old.pairs index value.0, kept.fits))
-      (λ table. stays ∙ kept.hashed table ∙ ap (map hash) (sym keys))
+  kept_replaced within None r lost stays = grind (arith, common_steps, kept_as, kept_value, keys_of-set_value, length-set_value, map)
   kept_replaced within (Some removed) r lost stays = kept_taken eq hash limit laws old new index kept keeps within (lost_pair r).1 lost
 
   -- the hash that comes back with a key is its own

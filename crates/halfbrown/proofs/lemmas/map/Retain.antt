@@ -15,9 +15,7 @@ module _ {F K V : Type 0} (T : F → K → V → Bool → V → F → Type 0) wh
   all_retained : (P : K → Type 0) (f : F) (ps kept : List (K × V)) → RetainsPairs T f ps kept → AllByRecursion P (keys_of ps)
       → AllByRecursion P (keys_of kept)
   all_retained P f [] kept r all = subst (λ qs. AllByRecursion P (keys_of qs)) (sym r) tt
-  all_retained P f (p ∷ ps) kept r all =
-      let rest = all_retained P r.2 ps r.3 r.5 all.1 in
-      either (λ qs. AllByRecursion P (keys_of qs)) r.0 (p.0, r.1) r.3 kept (all.0, rest) rest r.6
+  all_retained P f (p ∷ ps) kept r all = grind (arith, common_steps, either, all_retained P r.2 ps r.3 r.5 all.1)
 
   -- distinct keys stay distinct
   pub IsDistinct-retained : (eq : K → K → Bool) (f : F) (ps kept : List (K × V)) → RetainsPairs T f ps kept → IsDistinct eq (keys_of ps)

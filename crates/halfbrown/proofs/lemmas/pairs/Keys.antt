@@ -1,5 +1,6 @@
 -- Pairs of which one has another key, equal to its own.
 use Rattle.std.proofs.Common.{◌≡◌, ℕ, zero, suc, ◌<◌, Bool, true, false, cond, List, [], ◌∷◌, length, map, set, get_or, slice_get, Option}
+use Rattle.std.proofs.lemmas.Grind.{common_steps}
 use Rattle.std.proofs.Common.{Some, IfSome, refl, sym, ap, subst, ◌∙◌, arith}
 use Rattle.std.proofs.lemmas.Option.{same_Some}
 use Rattle.std.specs.Cmp.{IsEquivalence}
@@ -105,10 +106,7 @@ module _ {K V : Type 0} (eq : K → K → Bool) (laws : IsEquivalence eq) (old n
   pair_of-set_key : (ps : List (K × V)) (i : ℕ) → slice_get (keys_of ps) i ≡ Some old → (q : K) → eq new q ≡ false
       → pair_of eq (set_key ps i new) q ≡ pair_of eq ps q
   pair_of-set_key [] i at q other = refl
-  pair_of-set_key (p ∷ ps) zero at q other =
-      let apart : eq q new ≡ false = laws.symm q new ∙ other in
-      let apart_old : eq q p.0 ≡ false = ap (eq q) (same_Some p.0 old at) ∙ sym (alike eq laws old new same q) ∙ apart in
-      ap (λ b. cond b (Some (new, p.1)) (pair_of eq ps q)) apart ∙ sym (ap (λ b. cond b (Some p) (pair_of eq ps q)) apart_old)
+  pair_of-set_key (p ∷ ps) zero at q other = grind (arith, common_steps, alike, same_Some)
   pair_of-set_key (p ∷ ps) (suc i) at q other = ap (cond (eq q p.0) (Some p)) (pair_of-set_key ps i at q other)
 
   -- the pair of the key is the key itself with the value that was there

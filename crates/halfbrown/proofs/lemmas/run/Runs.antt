@@ -26,9 +26,7 @@ module _ {K V S : Type 0} (limit : ℕ) (eq : K → K → Bool) where
     pub cost_of-append : (first second : List (Step K V S))
         → cost_of limit eq hash (first ++ second) ≡ add_costs (cost_of limit eq hash first) (cost_of limit eq hash second)
     cost_of-append [] second = none_more (cost_of limit eq hash second)
-    cost_of-append (s ∷ first) second =
-        ap (add_costs (step_cost limit eq hash s)) (cost_of-append first second)
-        ∙ costs_assoc (step_cost limit eq hash s) (cost_of limit eq hash first) (cost_of limit eq hash second)
+    cost_of-append (s ∷ first) second = grind (arith, common_steps, costs_assoc, cost_of-append first second)
 
     module _ (old : State K V S) (commands : List (Command K V)) (before : Work) where
       -- the steps so far lead from old to now, with the replies so far; these commands are left, and the tally grew by the cost so far
@@ -67,9 +65,7 @@ module _ {K V S : Type 0} (limit : ℕ) (eq : K → K → Bool) where
     -- a run without `Shrink`
     pub steps_pay_two : (old new : State K V S) (steps : List (Step K V S)) → Lead limit eq old steps new
         → shrinks (commands_of steps) ≡ false → PaysTwo limit (length steps) (cost_of limit eq hash steps).asked old.is_vec new.is_vec
-    steps_pay_two old new [] lead none =
-        let same = ap (λ m. m.is_vec) lead in
-        record { vector = λ e. (sym same ∙ e, refl); all = omega (arith, ap (switch_left limit) same) }
+    steps_pay_two old new [] lead none = grind (arith, common_steps, switch_left)
     steps_pay_two old new (s ∷ steps) lead none =
         let parts = neither (is_shrink s.command) (shrinks (commands_of steps)) none in
         let first = step_pays_two limit eq hash s lead.1 parts.0 in

@@ -8,9 +8,8 @@ use Rattle.json.specs.Token as token
 use Rattle.json.specs.Tree.{items_depth, members_depth, ItemsHaveNumbers, MembersHaveNumbers}
 use Rattle.json.specs.Value.{items_of}
 use Rattle.json_at.proofs.Reading.{seen}
-use Rattle.json_at.proofs.Writing.{member_tokens, shown, value_tokens, items_nest, members_nest}
-use Rattle.json_at.proofs.Writing.{list_tokens, list_nests, object_tokens, object_nests}
-use Rattle.json_at.proofs.Writing.{list_writable, item_writable, object_writable, member_writable}
+use Rattle.json_at.proofs.Writing.{member_tokens, shown, value_tokens, items_nest, members_nest, list_tokens, list_nests, object_tokens}
+use Rattle.json_at.proofs.Writing.{object_nests, list_writable, item_writable, object_writable, member_writable}
 use Rattle.json_at.proofs.value.Value.+write.Goals as goal
 use Rattle.json_at.specs.Json.{json_of, members_of}
 
