@@ -1,4 +1,5 @@
 use Rattle.std.proofs.Common.{◌≡◌, ◌*◌, inr, refl, ◌∙◌, arith}
+use Rattle.std.proofs.lemmas.Grind.{common_steps}
 use Rattle.half_store.specs.Capacity.{more_buckets, buckets_for}
 use Rattle.half_store.proofs.lemmas.capacity.{buckets_for-is, four-le_count, more_buckets-count, more_buckets-some, more_buckets-least}
 use Rattle.half_store.proofs.lemmas.capacity.{capacity_of-below}
@@ -29,6 +30,4 @@ loop-buckets-preserved c =
     }
 
 pub returns-clause-value : goal.returns-clause-value
-returns-clause-value c =
-    let i = c.loop-buckets.invariant in
-    buckets_for-is c.args.needed c.loop-buckets.buckets record { count = i.count; serves = omega arith; least = i.least }
+returns-clause-value c = grind (arith, common_steps, buckets_for-is)

@@ -77,9 +77,7 @@ if_less-distance-requires g c =
     record { first = small.0; second = small.1 }
 
 pub set_word-requires-clause-fits : goal.set_word-requires-clause-fits
-set_word-requires-clause-fits g c =
-    let i = c.loop-word.invariant in
-    omega (arith, i.read, word_within i.shifts, i.most, c.requires.fits)
+set_word-requires-clause-fits g c = grind (arith, common_steps, word_within)
 
 pub overflow_add-distance : goal.overflow_add-distance
 overflow_add-distance g c = grind (arith, common_steps, probe_distance-lt)

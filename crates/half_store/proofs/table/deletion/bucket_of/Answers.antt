@@ -1,7 +1,7 @@
 use Rattle.std.proofs.Common.{◌≡◌, ◌∙◌, ℕ, suc, ◌+◌, ◌<◌, length, slice_index, sym, ap, arith}
 use Rattle.std.proofs.lemmas.Grind.{common_steps}
 use Rattle.half_store.specs.Probe.{looked_more}
-use Rattle.half_store.specs.Reach.{home, probe_distance, bucket_after}
+use Rattle.half_store.specs.Reach.{home, probe_distance}
 use Rattle.half_store.proofs.lemmas.table.Buckets.{word-lt, some_bucket}
 use Rattle.half_store.proofs.lemmas.table.Circle.{distance_self, distance_same, next_farther, probe_distance-lt}
 use Rattle.half_store.proofs.lemmas.table.Layout.{nearer}
@@ -35,9 +35,7 @@ module _ (g : Over) (c : goal.After-next-bucket g) (target : ℕ)
   farther = grind (arith, common_steps, distance_same, in_start, in_target, slice_index)
 
   one_on : probe_distance m start c.next-bucket.result ≡ probe_distance m start c.loop-bucket.bucket + 1
-  one_on =
-      next_farther m start c.loop-bucket.bucket target c.next-bucket.result in_start c.loop-bucket.invariant.inside in_target farther
-      (c.next-bucket.ensures.value ∙ ap (λ n. bucket_after n c.loop-bucket.bucket 1) c.count-count.ensures)
+  one_on = grind (arith, common_steps, farther, in_start, in_target, next_farther)
 
 pub loop-bucket-preserved : goal.loop-bucket-preserved
 loop-bucket-preserved g c =
@@ -60,9 +58,7 @@ loop-bucket-smaller g c =
     )
 
 pub returns-clause-near : goal.returns-clause-near
-returns-clause-near g c =
-    nearer c.requires.indexed c.args.index c.loop-bucket.bucket c.requires.within
-    (omega (arith, c.loop-bucket-test.false, c.word_at.ensures.value))
+returns-clause-near g c = grind (arith, common_steps, nearer)
 
 pub returns-clause-cost : goal.returns-clause-cost
 returns-clause-cost g c =

@@ -1,4 +1,5 @@
-use Rattle.std.proofs.Common.{◌≡◌, ◌+◌, ◌-◌, ◌<◌, ◌∙◌, ℕ, suc, List, Some, length, set, take, sym, ap, subst, arith}
+use Rattle.std.proofs.Common.{◌≡◌, ◌+◌, ◌-◌, ◌<◌, ◌∙◌, ℕ, suc, List, length, set, take, sym, ap, subst, arith}
+use Rattle.std.proofs.lemmas.Grind.{common_steps}
 use Rattle.std.specs.List.{swap_remove}
 use Rattle.std.proofs.lemmas.List.{get_or_default, length-set}
 use Rattle.std.proofs.lemmas.Option.{slice_get-get_or}
@@ -53,6 +54,4 @@ returns-clause-cost g c =
     }
 
 pub returns-clause-hash : goal.returns-clause-hash
-returns-clause-hash g c =
-    slice_get-get_or c.args.hashes.now.items c.args.index c.swap_remove-hash.result c.requires.within
-    ∙ ap Some (sym c.swap_remove-hash.ensures.value)
+returns-clause-hash g c = grind (arith, common_steps, slice_get-get_or)

@@ -24,9 +24,4 @@ loop-bucket-preserved g c =
     }
 
 pub loop-bucket-smaller : goal.loop-bucket-smaller
-loop-bucket-smaller g c =
-    let same = c.count-count.ensures
-    ∙ sym (length-slots_by (g.P.Buckets.hashes c.args.buckets.now) (g.P.Buckets.words c.args.buckets.now)) in
-    Probes-ahead c.loop-bucket.invariant.probe c.requires.vacant c.next-bucket.result
-    (some_read c.read.result c.read.ensures.hash (sym c.loop-bucket-test.ensures))
-    (c.next-bucket.ensures.value ∙ ap (λ m. bucket_after m c.loop-bucket.bucket 1) same)
+loop-bucket-smaller g c = grind (arith, common_steps, Probes-ahead, length-slots_by, some_read)

@@ -22,9 +22,7 @@ loop-index-init g c =
     c.home-bucket.result c.args.tally.now (omega arith) (c.home-bucket.ensures.value ∙ ap (λ m. home m c.args.hash) same)
 
 pub bounds-keys-index : goal.bounds-keys-index
-bounds-keys-index g c =
-    key_within (g.P.Buckets.hashes c.args.buckets.now) (g.P.Buckets.words c.args.buckets.now) c.args.keys.now c.loop-index.bucket
-    c.in-Some.held c.in-Some.index c.requires.keys (sym c.in-Some.ensures.hash) c.in-Some.ensures.index
+bounds-keys-index g c = grind (arith, common_steps, key_within)
 
 pub compare-requires : goal.compare-requires
 compare-requires g c =
@@ -83,9 +81,4 @@ loop-index-preserved g c =
     ]
 
 pub loop-index-smaller : goal.loop-index-smaller
-loop-index-smaller g c =
-    let same = c.count-count.ensures
-    ∙ sym (length-slots_by (g.P.Buckets.hashes c.args.buckets.now) (g.P.Buckets.words c.args.buckets.now)) in
-    Probes-ahead c.loop-index.invariant.probe c.requires.vacant c.next-bucket.result
-    (full_from _ c.in-Some.held (sym c.in-Some.ensures.hash))
-    (c.next-bucket.ensures.value ∙ ap (λ m. bucket_after m c.loop-index.bucket 1) same)
+loop-index-smaller g c = grind (arith, common_steps, Probes-ahead, full_from, length-slots_by)

@@ -1,23 +1,15 @@
-use Rattle.std.proofs.Common.{◌≡◌, ◌+◌, ◌<◌, ◌∙◌, [], suc, length, set, take, slice_index, refl, sym, ap, subst, arith}
+use Rattle.std.proofs.Common.{◌≡◌, ◌+◌, ◌<◌, ◌∙◌, suc, length, set, take, slice_index, ap, arith}
+use Rattle.std.proofs.lemmas.Grind.{common_steps}
 use Rattle.std.proofs.lemmas.List.{length-take, length-set, take_more}
 use Rattle.half_store.specs.Capacity.{capacity_of}
-use Rattle.half_store.specs.TableLayout.{IsIndexed}
 use Rattle.half_store.proofs.lemmas.table.Layout.{index-vacant, IsIndexed-empty, IsIndexed-add, IsIndexed-as}
 use Rattle.half_store.proofs.table.rehash.rehash.Goals as goal
 
 pub loop-index-init : goal.loop-index-init
-loop-index-init g c =
-    let words = g.B.Words.words c.args.buckets.now in
-    record {
-      indexed = subst (IsIndexed []) (sym c.requires.empty) (IsIndexed-empty (length words) c.requires.count);
-      len = refl;
-      most = refl;
-    }
+loop-index-init g c = grind (arith, common_steps, IsIndexed-empty)
 
 pub first_empty-bucket-requires-clause-vacant : goal.first_empty-bucket-requires-clause-vacant
-first_empty-bucket-requires-clause-vacant g c =
-    let same = ap capacity_of c.loop-index.invariant.len in
-    index-vacant c.loop-index.invariant.indexed (omega (arith, same, c.requires.capacity, c.loop-index-test.true))
+first_empty-bucket-requires-clause-vacant g c = grind (arith, common_steps, index-vacant)
 
 pub loop-index-preserved : goal.loop-index-preserved
 loop-index-preserved g c =

@@ -5,14 +5,10 @@ use Rattle.half_store.proofs.lemmas.vecmap.Zip.{zip_push}
 use Rattle.half_store.proofs.vecmap.VecMap.push.Goals as goal
 
 pub push_reserved-requires : goal.push_reserved-requires
-push_reserved-requires g c =
-    let o = opened c.self.inside.keys c.self.inside.values c.args.self.now c.self.view_is c.self.invariant in
-    omega (arith, o.keys_len, o.capacity, c.requires)
+push_reserved-requires g c = grind (arith, common_steps, opened)
 
 pub push_reserved-requires-2 : goal.push_reserved-requires-2
-push_reserved-requires-2 g c =
-    let o = opened c.self.inside.keys c.self.inside.values c.args.self.now c.self.view_is c.self.invariant in
-    omega (arith, o.values_len, o.values_capacity, c.requires)
+push_reserved-requires-2 g c = grind (arith, common_steps, opened)
 
 pub returns : goal.returns
 returns g c = grind (arith, common_steps, opened, pairs_are, zip_push)

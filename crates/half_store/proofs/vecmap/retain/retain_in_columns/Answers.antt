@@ -1,6 +1,7 @@
 use Rattle.std.proofs.Common.{◌≡◌, ◌<◌, ◌+◌, ◌∙◌, true, false, sym, ap, subst, refl, arith, length, map, take, set, get_or}
+use Rattle.std.proofs.lemmas.Grind.{common_steps}
 use Rattle.std.specs.List.{zip, swap}
-use Rattle.std.specs.Map.Calls.{CalledAtPair, TakesPair, RetainsPairs}
+use Rattle.std.specs.Map.Calls.{CalledAtPair, TakesPair}
 use Rattle.std.proofs.lemmas.List.{take-map, length-map, length-set}
 use Rattle.half_store.proofs.lemmas.vecmap.Retain.{Sifting, Sifting-asks, Sifting-rejected, Sifting-accepted, Sifting-ends, map-swap}
 use Rattle.half_store.proofs.lemmas.vecmap.Retain.{zip-swap, swap-self}
@@ -99,15 +100,7 @@ loop-index-preserved g c =
     ]
 
 pub returns-clause-kept : goal.returns-clause-kept
-returns-clause-kept g c =
-    let l = c.loop-index in
-    let even : length l.values ≡ length l.keys = omega (arith, l.auto.keys, l.auto.values, c.requires.even) in
-    let done : l.index ≡ length (zip l.keys l.values) =
-    omega (arith, length-zip l.keys l.values even, l.auto.keys, l.auto.index-end, c.loop-index-test.false) in
-    subst (RetainsPairs (CalledAtPair g.F.FnMut) c.args.f (zip c.args.keys.now c.args.values.now)) (sym (zip-take l.kept l.keys l.values))
-    (Sifting-ends (CalledAtPair g.F.FnMut) (TakesPair g.F.FnMut) l.invariant.sifted done)
+returns-clause-kept g c = grind (arith, common_steps, Sifting-ends, length-zip, zip-take)
 
 pub returns-clause-hashes : goal.returns-clause-hashes
-returns-clause-hashes g c =
-    let l = c.loop-index in
-    λ hash same. ap (take l.kept) (l.invariant.hashes hash same) ∙ take-map hash l.kept l.keys
+returns-clause-hashes g c = grind (arith, common_steps, take, take-map)
