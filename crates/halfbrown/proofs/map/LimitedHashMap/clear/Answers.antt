@@ -1,4 +1,6 @@
 use Rattle.halfbrown.specs.Costs.{key_hash}
+use Rattle.std.proofs.Common.{arith}
+use Rattle.std.proofs.lemmas.Grind.{common_steps}
 use Rattle.halfbrown.proofs.lemmas.map.Layout.{kept_none, state_of}
 use Rattle.halfbrown.proofs.map.LimitedHashMap.clear.Goals as goal
 
@@ -9,6 +11,4 @@ invariant_of-self g c =
     c.self.inside.store c.clear.new.self c.self.invariant told.form told.pairs told.hashes
 
 pub returns-clause-state : goal.returns-clause-state
-returns-clause-state g c =
-    state_of g.K.PartialEq.eq (key_hash g.S.BuildHasher g.S.Hasher.Hasher g.K.Hash.hash_input c.self.inside.builder) g.L.Limit.LIMIT
-    c.clear.new.self c.self.inside.builder (invariant_of-self g c)
+returns-clause-state g c = grind (arith, common_steps, invariant_of-self, state_of)

@@ -1,4 +1,5 @@
 use Rattle.std.proofs.Common.{◌<◌, length, sym, ap, subst, arith}
+use Rattle.std.proofs.lemmas.Grind.{common_steps}
 use Rattle.half_store.specs.Store.{IsVacancy, allowed}
 use Rattle.halfbrown.specs.Costs.{key_hash}
 use Rattle.halfbrown.specs.Layout.{IsKept}
@@ -28,6 +29,4 @@ invariant_of-self g c =
     (λ table. (vacant table).0))
 
 pub returns-clause-state : goal.returns-clause-state
-returns-clause-state g c =
-    state_of g.K.PartialEq.eq (key_hash g.S.BuildHasher g.S.Hasher.Hasher g.K.Hash.hash_input c.self.inside.builder) g.L.Limit.LIMIT
-    c.push.new.self c.self.inside.builder (invariant_of-self g c)
+returns-clause-state g c = grind (arith, common_steps, invariant_of-self, state_of)

@@ -1,4 +1,6 @@
 use Rattle.std.proofs.Common.{◌<◌, sym, subst, ◌∙◌}
+use Rattle.std.proofs.Common.{arith}
+use Rattle.std.proofs.lemmas.Grind.{common_steps}
 use Rattle.halfbrown.specs.Costs.{key_hash}
 use Rattle.halfbrown.specs.State.{IsTableCapacity}
 use Rattle.halfbrown.proofs.lemmas.map.Layout.{kept_made, state_of}
@@ -13,6 +15,4 @@ invariant_of-self g c =
     (λ table. subst (λ n. g.L.Limit.LIMIT < n) (sym told.form.capacity) (c.requires.exceeds (sym told.form.form ∙ table)))
 
 pub returns-clause-state : goal.returns-clause-state
-returns-clause-state g c =
-    state_of g.K.PartialEq.eq (key_hash g.S.BuildHasher g.S.Hasher.Hasher g.K.Hash.hash_input c.self.inside.builder) g.L.Limit.LIMIT
-    c.into_store.result c.self.inside.builder (invariant_of-self g c)
+returns-clause-state g c = grind (arith, common_steps, invariant_of-self, state_of)

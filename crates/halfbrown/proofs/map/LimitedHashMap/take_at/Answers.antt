@@ -1,5 +1,5 @@
-use Rattle.std.proofs.Common.{◌<◌, length, ap, ◌∙◌, arith}
-use Rattle.std.specs.Option.{option_map}
+use Rattle.std.proofs.Common.{◌<◌, length, ap, arith}
+use Rattle.std.proofs.lemmas.Grind.{common_steps}
 use Rattle.halfbrown.specs.Costs.{key_hash}
 use Rattle.halfbrown.proofs.lemmas.map.Layout.{kept_taken, state_of}
 use Rattle.halfbrown.proofs.lemmas.entry.Methods.{value_of-pair}
@@ -14,11 +14,7 @@ invariant_of-self g c =
     g.met.K.Eq.laws store c.swap_remove.new.self c.args.index c.self.invariant told.form within told.pairs told.hashes
 
 pub returns-clause-value : goal.returns-clause-value
-returns-clause-value g c =
-    let value = option_map (λ (pair : _ × _). pair.1) in
-    rw (← c.self.view_is) (value_of-pair c.self.inside.store.pairs c.args.index ∙ ap value c.swap_remove.ensures.removed)
+returns-clause-value g c = grind (arith, common_steps, value_of-pair)
 
 pub returns-clause-state : goal.returns-clause-state
-returns-clause-state g c =
-    state_of g.K.PartialEq.eq (key_hash g.S.BuildHasher g.S.Hasher.Hasher g.K.Hash.hash_input c.self.inside.builder) g.L.Limit.LIMIT
-    c.swap_remove.new.self c.self.inside.builder (invariant_of-self g c)
+returns-clause-state g c = grind (arith, common_steps, invariant_of-self, state_of)

@@ -1,4 +1,5 @@
 use Rattle.std.proofs.Common.{arith}
+use Rattle.std.proofs.lemmas.Grind.{common_steps}
 use Rattle.halfbrown.specs.Costs.{key_hash}
 use Rattle.halfbrown.proofs.lemmas.map.Layout.{kept_made, state_of}
 use Rattle.halfbrown.proofs.map.LimitedHashMap.with_capacity_and_hasher.Goals as goal
@@ -10,6 +11,4 @@ invariant_of-result g c =
     c.in_ok-with_capacity.field-0 made.pairs made.hashes made.series (λ table. omega (arith, made.exceeds table, c.LIMIT.ensures))
 
 pub returns-clause-state : goal.returns-clause-state
-returns-clause-state g c =
-    state_of g.K.PartialEq.eq (key_hash g.S.BuildHasher g.S.Hasher.Hasher g.K.Hash.hash_input c.args.builder) g.L.Limit.LIMIT
-    c.in_ok-with_capacity.field-0 c.args.builder (invariant_of-result g c)
+returns-clause-state g c = grind (arith, common_steps, invariant_of-result, state_of)

@@ -1,4 +1,6 @@
 use Rattle.halfbrown.specs.Costs.{key_hash}
+use Rattle.std.proofs.Common.{arith}
+use Rattle.std.proofs.lemmas.Grind.{common_steps}
 use Rattle.halfbrown.proofs.lemmas.map.Layout.{kept_empty, state_of}
 use Rattle.halfbrown.proofs.map.LimitedHashMap.with_hasher.Goals as goal
 
@@ -8,6 +10,4 @@ invariant_of-result g c =
     c.new.ensures
 
 pub returns-clause-state : goal.returns-clause-state
-returns-clause-state g c =
-    state_of g.K.PartialEq.eq (key_hash g.S.BuildHasher g.S.Hasher.Hasher g.K.Hash.hash_input c.args.builder) g.L.Limit.LIMIT c.new.result
-    c.args.builder (invariant_of-result g c)
+returns-clause-state g c = grind (arith, common_steps, invariant_of-result, state_of)
