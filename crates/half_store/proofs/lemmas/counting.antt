@@ -1,5 +1,5 @@
 -- What a comparison says that was made with the key at an index.
-use Rattle.std.proofs.Common.{◌≡◌, ℕ, ◌-◌, ◌<◌, ◌≤◌, Bool, List, Some, length, get_or, slice_get, slice_index, sym, ap, subst, ◌∙◌, arith}
+use Rattle.std.proofs.Common.{◌≡◌, ℕ, ◌-◌, ◌<◌, ◌≤◌, Bool, List, Some, length, get_or, slice_get, slice_index, sym, ap, ◌∙◌, arith}
 use Rattle.std.proofs.lemmas.Grind.{common_steps}
 use Rattle.std.proofs.lemmas.Option.{get_or_from_slice_get, slice_get-get_or, slice_get_within}
 use Rattle.half_store.specs.Buckets.{slots_by}
@@ -10,8 +10,7 @@ use Rattle.half_store.proofs.lemmas.table.Buckets.{word_of_slot}
 -- the match returned it at this index
 pub returned_at : {K : Type 0} (returns : K → Bool → Type 0) (keys : List K) (index : ℕ) (key : K) (answer : Bool)
     → key ≡ get_or keys index key → returns key answer → ReturnsAt returns keys index answer
-returned_at returns keys index key answer is met =
-    λ k at. subst (λ x. returns x answer) (is ∙ get_or_from_slice_get keys index k key at) met
+returned_at returns keys index key answer is met = grind (arith, common_steps, get_or_from_slice_get)
 
 module _ {K : Type 0} (hashes words : List ℕ) (keys : List K) (bucket hash index : ℕ) (enough : length hashes ≤ length keys)
     (full : slot_at (slots_by hashes words) bucket ≡ Some hash) (entry : index ≡ slice_index words bucket - 1) where

@@ -40,8 +40,7 @@ slots_by-same hashes hashes' words words' long same =
 -- the bucket of an entry index has its hash
 pub slot_of_word : (hashes words : List ℕ) (bucket index : ℕ) → index < length hashes → slice_index words bucket ≡ suc index
     → slot_at (slots_by hashes words) bucket ≡ Some (slice_index hashes index)
-slot_of_word hashes words bucket index in_hashes word =
-    slot_by-at hashes words bucket ∙ ap (slot_by hashes) word ∙ slice_get-get_or hashes index 0 in_hashes
+slot_of_word hashes words bucket index in_hashes word = grind (arith, common_steps, slice_get-get_or, slot_by-at)
 
 pub slot_of_zero : (hashes words : List ℕ) (bucket : ℕ) → slice_index words bucket ≡ 0 → slot_at (slots_by hashes words) bucket ≡ None
 slot_of_zero hashes words bucket word = slot_by-at hashes words bucket ∙ ap (slot_by hashes) word
@@ -143,8 +142,7 @@ module _ {number : ℕ} {words : List ℕ} (each : EachOnce number words) where
   -- one entry index more, in an empty bucket
   pub EachOnce-add : (p : ℕ) → p < length words → slice_index words p ≡ 0 → EachOnce (suc number) (set words p (suc number))
   EachOnce-add p in_p none = record {
-    within = within-set (suc number) words p (suc number) (omega arith)
-        (within-from (suc number) words (λ q. omega (arith, within-at number words q each.within)));
+    within = grind (arith, common_steps, within-at, within-from, within-set);
     once = λ index l.
         let write = count-set (is_index index) words p (suc number) in_p in
         let free : tick (is_index index (slice_index words p)) ≡ 0 =
@@ -166,8 +164,7 @@ module _ {number : ℕ} {words : List ℕ} (each : EachOnce number words) where
   pub EachOnce-move : (from to : ℕ) → from < length words → to < length words → from ≢ to → slice_index words to ≡ 0
       → EachOnce number (set (set words to (slice_index words from)) from 0)
   EachOnce-move from to in_from in_to apart none = record {
-    within = within-set number _ from 0 (omega arith)
-        (within-set number words to (slice_index words from) (within-at number words from each.within) each.within);
+    within = grind (arith, common_steps, slice_index, within-at, within-set);
     once = λ index l.
         let word : ℕ = slice_index words from in
         let there = count-set (is_index index) words to word in_to in

@@ -292,5 +292,4 @@ count_seen hashes words view = sym (length-slots_by hashes words) ∙ ap (λ v. 
 
 pub buckets_seen : (hashes words : List ℕ) {t : TableState} → IsIndexed hashes words → table_state hashes (slots_by hashes words) ≡ t
     → t.buckets ≡ buckets_of (capacity_of t.buckets)
-buckets_seen hashes words x view =
-    subst (λ m. m ≡ buckets_of (capacity_of m)) (count_seen hashes words view) (sym (buckets_of-capacity_of (length words) x.count))
+buckets_seen hashes words x view = grind (arith, common_steps, buckets_of-capacity_of, count_seen)

@@ -1,8 +1,8 @@
 -- Where probes end, and what they read and compare, over the held hashes alone.
-use Rattle.std.proofs.Common.{◌≡◌, ◌≢◌, ℕ, ◌+◌, ◌-◌, ◌<◌, ◌≤◌, Bool, true, false, nat_lt, ◌==◌, ◌&&◌, inl, inr, refl, sym, ap, ◌∙◌, subst}
+use Rattle.std.proofs.Common.{◌≡◌, ◌≢◌, ℕ, ◌+◌, ◌-◌, ◌<◌, ◌≤◌, Bool, true, false, nat_lt, ◌==◌, ◌&&◌, inl, inr, refl, sym, ap, ◌∙◌}
 use Rattle.std.proofs.Common.{arith, List, length, Option, Some, None, count_by}
 use Rattle.std.proofs.lemmas.Grind.{common_steps}
-use Rattle.std.proofs.lemmas.Bool.{cases_lt, cases_eq, cases_Bool, lt-ltb, le-ltb, eq-eqb, ne_eqb, and_parts, and_from, and_left, and_right}
+use Rattle.std.proofs.lemmas.Bool.{cases_Bool, lt-ltb, le-ltb, eq-eqb, ne_eqb, and_parts, and_from, and_left, and_right}
 use Rattle.std.proofs.lemmas.Option.{same_Some}
 use Rattle.std.proofs.lemmas.List.Sums.{count_by-le-length}
 use borrow.Author.Tests.{ltb-true, eqb-true}
@@ -40,8 +40,7 @@ module _ (slots : List (Option ℕ)) where
   same_and a b c e = ap (λ x. x && c) e
 
   same_order : (s d : ℕ) → s ≢ d → nat_lt s d ≡ nat_lt s (d + 1)
-  same_order s d ne = elim (cases_lt s d)
-      [ inl l ↦ lt-ltb s d l ∙ sym (lt-ltb s (d + 1) (omega arith)) | inr g ↦ le-ltb s d g ∙ sym (le-ltb s (d + 1) (omega arith)) ]
+  same_order s d ne = grind (arith, common_steps, le-ltb, lt-ltb)
 
   pub passed-skip : (start hash d p : ℕ) → start < m → p < m → probe_distance m start p ≡ d
       → stored (λ held. held == hash) (slot_at slots p) ≡ false → passed start hash (d + 1) ≡ passed start hash d
@@ -187,13 +186,7 @@ module _ {slots : List (Option ℕ)} {hash : ℕ} {Refused : ℕ → Type 0} {bu
           asked = asked ∙ s.asked;
           looked = omega (arith, looked, s.looked);
           compared = omega (arith, compared, ap (passed slots (home (length slots) hash) hash) one);
-          refused = λ o is near. elim (cases_eq (distance_from_home slots hash o) far) [
-            | inr ne ↦ s.refused o is (omega arith)
-            | inl at ↦
-                let same = distance_same (length slots) (home (length slots) hash) start_in o bucket
-                (full-lt slots o (full_from _ hash is)) s.probe.inside at in
-                subst Refused (sym same) (here (ap (slot_at slots) (sym same) ∙ is))
-          ];
+          refused = λ o is near. grind (arith, common_steps, distance_same, full-lt, full_from, start_in);
         }
 
     -- the bucket holds another hash

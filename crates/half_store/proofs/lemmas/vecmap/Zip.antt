@@ -1,5 +1,5 @@
 -- Two columns side by side as one list of pairs.
-use Rattle.std.proofs.Common.{◌≡◌, ℕ, zero, suc, ◌-◌, ◌<◌, List, [], ◌∷◌, ◌++◌, length, get_or, take, Some, sym, refl, ap, ◌∙◌, arith}
+use Rattle.std.proofs.Common.{◌≡◌, ℕ, zero, suc, ◌<◌, List, [], ◌∷◌, ◌++◌, length, get_or, take, Some, sym, refl, ap, ◌∙◌, arith}
 use Rattle.std.proofs.lemmas.Grind.{common_steps}
 use Rattle.std.proofs.Math.ListN.{set}
 use Rattle.std.proofs.lemmas.List.{take_all}
@@ -14,8 +14,7 @@ get_or_within (x ∷ xs) (suc i) d e within = get_or_within xs i d e (omega arit
 -- a swap removal does not depend on the default
 pub swap_remove_at_is : {X : Type 0} (xs : List X) (i : ℕ) (d : X) → swap_remove xs i d ≡ swap_remove_at xs i
 swap_remove_at_is [] i d = refl
-swap_remove_at_is (x ∷ xs) i d =
-    ap (λ y. take (length (x ∷ xs) - 1) (set (x ∷ xs) i y)) (get_or_within (x ∷ xs) (length (x ∷ xs) - 1) d x (omega arith))
+swap_remove_at_is (x ∷ xs) i d = grind (arith, common_steps, get_or_within, set, take)
 
 module _ {K V : Type 0} where
   pub length-zip : (ks : List K) (vs : List V) → length vs ≡ length ks → length (zip ks vs) ≡ length ks
