@@ -175,11 +175,11 @@ module _ {K V S : Type 0} (limit : ℕ) where
   abbrev pub capacity_grown : State K V S → ℕ
   capacity_grown m = if addition_grows m then capacity_for (length m.pairs + 1) else capacity_switched m
 
-  -- the map once a granted switch is made: a search then depends on no other part of it
+  -- the map once a granted switch is made, as far as a cost depends on it: its memory and its buckets are not said
   abbrev pub switched : State K V S → State K V S
   switched m = state (is_vec_after limit m) m.pairs (capacity_switched m) m.columns m.builder (contents_of m)
 
-  -- the map once its capacity is enough for one pair more
+  -- the same once the capacity is enough for one pair more
   abbrev pub grown : State K V S → State K V S
   grown m = state (is_vec_after limit m) m.pairs (capacity_grown m) m.columns m.builder (contents_of m)
 
