@@ -12,7 +12,7 @@ use Rattle.halfbrown.specs.Costs.{Cost, add_costs}
 use Rattle.halfbrown.specs.Memory.{bytes}
 use Rattle.halfbrown.specs.Run.{Lead, Runs, shrinks, commands_of, replies_of, cost_of}
 use Rattle.halfbrown.specs.State.{State, IsState}
-use Rattle.halfbrown.specs.Step.{Step, refusal_in, switches, form_changed}
+use Rattle.halfbrown.specs.Step.{Step, refusal_in, says_vec, is_shrink, switches, form_changed}
 
 -- whether the command is `Reserve`
 abbrev pub is_reserve : {K V : Type 0} → Command K V → Bool
@@ -33,9 +33,9 @@ module _ {K V S : Type 0} where
   abbrev pub last_change : ℕ → List (Step K V S) → Option Bool
   last_change limit steps = fold (λ earlier s. option_or (form_changed limit s) earlier) None steps
 
-  -- which steps were refused, and why
-  abbrev pub refusals_of : List (Step K V S) → List (Option Refusal)
-  refusals_of steps = map (λ s. refusal_in s.reply) steps
+  -- what memory decided in each step: whether it was refused, and why, and whether a `Shrink` left a vector
+  abbrev pub outcomes_of : List (Step K V S) → List (Option Refusal × Bool)
+  outcomes_of steps = map (λ s. (refusal_in s.reply, is_shrink s.command && says_vec s.reply)) steps
 
   -- the most pairs that the map held at once
   abbrev pub most_held : State K V S → List (Step K V S) → ℕ
@@ -67,11 +67,12 @@ module _ {K : Type 0} (V S : Type 0) (limit : ℕ) (eq : K → K → Bool) where
   abbrev pub OneSwitchLaw : Type 0
   OneSwitchLaw = EachRun (λ old steps new. shrinks (commands_of steps) ≡ false → count_by (switches limit) steps ≤ 1)
 
-  -- two runs of the same commands from states that are alike, in which the same commands are refused for the same reasons, have the
-  -- same replies and end in states that are alike: capacity, builder, hashes and history decide nothing
+  -- two runs of the same commands from states that are alike, in which the same commands are refused for the same reasons and each
+  -- `Shrink` leaves the same form, have the same replies and end in states that are alike: capacity, builder, hashes and history decide
+  -- nothing
   abbrev pub RepliesLaw : Type 0
   RepliesLaw = EachRun (λ a a_steps a_new. EachRun (λ b b_steps b_new. IsAlike a b
-      → commands_of a_steps ≡ commands_of b_steps → refusals_of a_steps ≡ refusals_of b_steps
+      → commands_of a_steps ≡ commands_of b_steps → outcomes_of a_steps ≡ outcomes_of b_steps
       → (replies_of a_steps ≡ replies_of b_steps) × IsAlike a_new b_new))
 
   -- without `Reserve` a map has capacity for at most eight pairs more than twice the most that it held at once, or for what it had at first

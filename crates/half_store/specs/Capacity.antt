@@ -1,5 +1,5 @@
 -- The rules for growth: how many buckets a table has, how many pairs it may hold, and how far a vector grows.
-use Rattle.std.specs.Prelude.{◌≡◌, ℕ, zero, suc, ◌+◌, ◌-◌, ◌*◌, ◌/◌, ◌^◌, ◌≤◌, ◌⊎◌, ◌==◌, min, max, nat_lt, if◌then◌else◌}
+use Rattle.std.specs.Prelude.{◌≡◌, ℕ, zero, suc, ◌+◌, ◌-◌, ◌*◌, ◌/◌, ◌^◌, ◌≤◌, ◌⊎◌, Bool, ◌||◌, ◌==◌, min, max, nat_lt, nat_le, if◌then◌else◌}
 
 -- the capacity that a vector grows to where it has less than is needed: twice what it was, at least eight and what is needed, and at most
 -- the limit
@@ -38,6 +38,18 @@ buckets_for (suc pairs) = buckets_for_more pairs (buckets_for pairs)
 -- the least of the capacities 0, 3, 6, 12, 24, .. that is enough for so many pairs
 abbrev pub capacity_for : ℕ → ℕ
 capacity_for pairs = capacity_of (buckets_for pairs)
+
+-- the least capacity of a form that is enough for this many pairs: a vector's is their number
+abbrev pub least_capacity : Bool → ℕ → ℕ
+least_capacity is_vec pairs = if is_vec then pairs else capacity_for pairs
+
+-- whether the form is the vector after `shrink_to_fit`: it was, or the limit allows the pairs. This is the one call that goes back
+abbrev pub vec_shrunk : ℕ → Bool → ℕ → Bool
+vec_shrunk limit is_vec pairs = is_vec || nat_le pairs limit
+
+-- the capacity after `shrink_to_fit`
+abbrev pub shrunk_capacity : ℕ → Bool → ℕ → ℕ
+shrunk_capacity limit is_vec pairs = least_capacity (vec_shrunk limit is_vec pairs) pairs
 
 -- the capacity of a bucket count is enough for so many pairs, and each other count that is enough for them is no smaller
 pub record IsLeastFor (pairs buckets : ℕ) : Type 0 where

@@ -1,6 +1,6 @@
 //! What callers build on the map, proved from its public contracts alone: names of a scope, a set of labels, few ages, and a map
 //! under random hashes.
-ghost use Rattle.std.specs.Prelude.{◌≡◌, Some, true, false, not, nat_le, length, [], OnOk, IfOk, IfErr};
+ghost use Rattle.std.specs.Prelude.{◌≡◌, ◌⊎◌, Some, true, false, not, ◌||◌, nat_le, length, [], OnOk, IfOk, IfErr};
 ghost use Rattle.std.specs.Option.{option_copied};
 ghost use Rattle.std.specs.String.{string_bytes};
 ghost use Rattle.halfbrown.specs.Growth.{insert_needs, new_key_needs};
@@ -83,9 +83,11 @@ pub fn stored<K: Eq + Hash + Copy, S: BuildHasher, L: Limit>(
     Ok(counts[&key])
 }
 
-/// Removes the ages from forty on, and gives back the memory that is not needed: few ages are a vector again.
+/// Removes the ages from forty on, and gives back the memory that is not needed: few ages are a vector again, unless memory
+/// is refused, and then the form stays.
 pub fn keep_the_young<S: BuildHasher, L: Limit>(ages: &mut LimitedHashMap<u64, u32, S, L>)
-    ensures vector { ages.new.is_vec ≡ nat_le (length ages.new.pairs) L.LIMIT }
+    ensures vector { (ages.new.is_vec ≡ (ages.old.is_vec || nat_le (length ages.new.pairs) L.LIMIT))
+        ⊎ (ages.new.is_vec ≡ ages.old.is_vec) }
 {
     ages.retain(|_, age| *age < 40);
     ages.shrink_to_fit();

@@ -5,6 +5,7 @@
 mod caller_tests;
 pub mod callers;
 pub mod collection_callers;
+pub mod condition_callers;
 pub mod copy_callers;
 pub mod cost_callers;
 pub mod counting_callers;

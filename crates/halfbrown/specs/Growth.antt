@@ -1,8 +1,8 @@
 -- Where a call needs more capacity, how much, and what the capacity is afterwards.
-use Rattle.std.specs.Prelude.{◌≡◌, ℕ, ◌+◌, ◌^◌, ◌<◌, ◌≤◌, ◌⊎◌, Bool, not, ◌&&◌, ◌||◌, ◌==◌, nat_lt, nat_le, min, max, length, Option, None, Some, IfNone, IfSome, MatchBool, MatchOption, if◌then◌else◌}
+use Rattle.std.specs.Prelude.{◌≡◌, ℕ, ◌+◌, ◌^◌, ◌<◌, ◌≤◌, ◌⊎◌, Bool, not, ◌&&◌, ◌==◌, nat_lt, max, length, Option, None, Some, IfNone, IfSome, MatchBool, MatchOption, if◌then◌else◌}
 use Rattle.half_store.specs.declared.refusal.Refusal.{Refusal}
 use Rattle.half_store.specs.Refusal.{refusal_of}
-use Rattle.half_store.specs.Capacity.{capacity_for, grown_capacity}
+use Rattle.half_store.specs.Capacity.{capacity_for, grown_capacity, least_capacity, vec_shrunk, shrunk_capacity}
 use Rattle.half_store.specs.Store.{allowed}
 use Rattle.halfbrown.specs.State.{State}
 use Rattle.halfbrown.specs.Pairs.{holds}
@@ -27,30 +27,13 @@ HasColumnsAfter old needs new = MatchOption needs (new.columns ≡ old.columns) 
 abbrev pub reserve_needs : {K V S : Type 0} → ℕ → State K V S → ℕ → Option ℕ
 reserve_needs limit m total = let most = allowed limit m.is_vec total in if nat_lt m.capacity most then Some most else None
 
--- whether the form is the vector after `shrink_to_fit`: it was, or the limit allows the pairs. This is the one call that goes back
-abbrev pub vec_shrunk : ℕ → Bool → ℕ → Bool
-vec_shrunk limit is_vec count = is_vec || nat_le count limit
-
--- the capacity after `shrink_to_fit`: the least that the pairs fit, or, where pairs are held and memory was refused, what it was, of
--- which a vector has no more than the limit
-abbrev pub HasCapacityShrunk : {K V S : Type 0} → ℕ → State K V S → State K V S → Type 0
-HasCapacityShrunk limit old new =
-    (new.capacity ≡ (if new.is_vec then length old.pairs else capacity_for (length old.pairs)))
-    ⊎ ((0 < length old.pairs) × (new.capacity ≡ allowed limit new.is_vec old.capacity))
-
--- the columns' memory after `shrink_to_fit`: for no more than the pairs in a vector, and than the capacity in a table, or, where memory was
--- refused, what it was
-abbrev pub HasColumnsShrunk : {K V S : Type 0} → State K V S → State K V S → Type 0
-HasColumnsShrunk old new =
-    (new.columns ≡ min (if new.is_vec then length old.pairs else new.capacity) old.columns) ⊎ (new.columns ≡ old.columns)
-
 -- the capacity that a constructor for so many pairs needs
 abbrev pub making_needs : ℕ → Option ℕ
 making_needs needed = if needed == 0 then None else Some needed
 
 -- the capacity of a new map that was made for so many pairs
 abbrev pub HasCapacityMade : {K V S : Type 0} → ℕ → State K V S → Type 0
-HasCapacityMade needed m = m.capacity ≡ (if m.is_vec then needed else capacity_for needed)
+HasCapacityMade needed m = m.capacity ≡ least_capacity m.is_vec needed
 
 module _ {K V S : Type 0} (limit : ℕ) where
   -- a vector that holds as many pairs as the limit allows
@@ -97,9 +80,18 @@ module _ {K V S : Type 0} (limit : ℕ) where
     pub enough : allowed limit old.is_vec (length old.pairs + additional) ≤ new.capacity
 
   -- capacity is given back, and so is the table where the limit allows the pairs
-  pub record Shrinks (old new : State K V S) : Type 0 where
+  pub record IsShrunk (old new : State K V S) : Type 0 where
     pub pairs : new.pairs ≡ old.pairs
     pub form : new.is_vec ≡ vec_shrunk limit old.is_vec (length old.pairs)
-    pub capacity : HasCapacityShrunk limit old new
-    pub columns : HasColumnsShrunk old new
+    pub capacity : new.capacity ≡ shrunk_capacity limit old.is_vec (length old.pairs)
+    pub columns : new.columns ≡ new.capacity
     pub builder : new.builder ≡ old.builder
+
+  -- giving capacity back needs memory: there are pairs, and smaller columns than these fit them
+  pub record NeedsToShrink (old : State K V S) : Type 0 where
+    pub some : 0 < shrunk_capacity limit old.is_vec (length old.pairs)
+    pub less : shrunk_capacity limit old.is_vec (length old.pairs) < old.columns
+
+  -- after `shrink_to_fit` capacity is given back, or, where that needs memory, all is as before
+  abbrev pub Shrinks : State K V S → State K V S → Type 0
+  Shrinks old new = IsShrunk old new ⊎ (NeedsToShrink old × (new ≡ old))

@@ -1,11 +1,11 @@
 -- What one command replies and does.
-use Rattle.std.specs.Prelude.{◌≡◌, ℕ, ◌+◌, Bool, true, false, not, ◌&&◌, nat_le, List, [], length, Option, None, Some, is_some, unwrap_or, MatchBool, if◌then◌else◌}
+use Rattle.std.specs.Prelude.{◌≡◌, ℕ, ◌+◌, Bool, true, false, not, ◌&&◌, List, [], length, Option, None, Some, is_some, unwrap_or, MatchBool, if◌then◌else◌}
 use Rattle.half_store.specs.declared.refusal.Refusal.{Refusal}
 use Rattle.halfbrown.specs.declared.run.Command.{Command}
 use Rattle.halfbrown.specs.declared.run.Command.TheVariants.{Insert, InsertNew, EntryOrInsert, RawOrInsert, Get, Remove, Clear, Reserve, Shrink, IsVec, Len}
 use Rattle.halfbrown.specs.declared.run.Reply.{Reply}
 use Rattle.halfbrown.specs.declared.run.Reply.TheVariants.{Was, Added, Present, Value, Found, Removed, Done, Form, Length, Refused}
-use Rattle.halfbrown.specs.Growth.{is_full, vec_shrunk, insert_needs, new_key_needs, reserve_needs, IsRefusal, Reserves, Shrinks}
+use Rattle.halfbrown.specs.Growth.{is_full, insert_needs, new_key_needs, reserve_needs, IsRefusal, Reserves, Shrinks}
 use Rattle.halfbrown.specs.Insertion.{Puts}
 use Rattle.halfbrown.specs.Pairs.{value_of, pair_of, holds, take_out}
 use Rattle.halfbrown.specs.State.{State, WithPairs}
@@ -14,19 +14,19 @@ use Rattle.halfbrown.specs.State.{State, WithPairs}
 abbrev pub value_or : {K V : Type 0} → (K → K → Bool) → List (K × V) → K → V → V
 value_or eq pairs k v = unwrap_or (value_of eq pairs k) v
 
--- the reply to a granted command: the form and the pairs in order decide it
-abbrev pub granted_reply : {K V : Type 0} → ℕ → (K → K → Bool) → Bool → List (K × V) → Command K V → Reply K V
-granted_reply limit eq is_vec pairs (Insert k v) = Was (value_of eq pairs k)
-granted_reply limit eq is_vec pairs (InsertNew k v) = if holds eq pairs k then Present k v else Added
-granted_reply limit eq is_vec pairs (EntryOrInsert k v) = Value (value_or eq pairs k v)
-granted_reply limit eq is_vec pairs (RawOrInsert k v) = Value (value_or eq pairs k v)
-granted_reply limit eq is_vec pairs (Get k) = Found (value_of eq pairs k)
-granted_reply limit eq is_vec pairs (Remove k) = Removed (pair_of eq pairs k)
-granted_reply limit eq is_vec pairs Clear = Done
-granted_reply limit eq is_vec pairs (Reserve additional) = Done
-granted_reply limit eq is_vec pairs Shrink = Form (vec_shrunk limit is_vec (length pairs))
-granted_reply limit eq is_vec pairs IsVec = Form is_vec
-granted_reply limit eq is_vec pairs Len = Length (length pairs)
+-- the reply to a granted command: the form after it and the pairs before it, in order, decide it
+abbrev pub granted_reply : {K V : Type 0} → (K → K → Bool) → Bool → List (K × V) → Command K V → Reply K V
+granted_reply eq is_vec pairs (Insert k v) = Was (value_of eq pairs k)
+granted_reply eq is_vec pairs (InsertNew k v) = if holds eq pairs k then Present k v else Added
+granted_reply eq is_vec pairs (EntryOrInsert k v) = Value (value_or eq pairs k v)
+granted_reply eq is_vec pairs (RawOrInsert k v) = Value (value_or eq pairs k v)
+granted_reply eq is_vec pairs (Get k) = Found (value_of eq pairs k)
+granted_reply eq is_vec pairs (Remove k) = Removed (pair_of eq pairs k)
+granted_reply eq is_vec pairs Clear = Done
+granted_reply eq is_vec pairs (Reserve additional) = Done
+granted_reply eq is_vec pairs Shrink = Form is_vec
+granted_reply eq is_vec pairs IsVec = Form is_vec
+granted_reply eq is_vec pairs Len = Length (length pairs)
 
 module _ {K V S : Type 0} (limit : ℕ) (eq : K → K → Bool) where
   -- the capacity that the command needs, where it needs more
@@ -53,7 +53,7 @@ module _ {K V S : Type 0} (limit : ℕ) (eq : K → K → Bool) where
   -- from old, the command may have this reply and leave new: a refused command comes back, with the reason, and has changed nothing
   abbrev pub Steps : State K V S → Command K V → Reply K V → State K V S → Type 0
   Steps old command (Refused back why) new = (back ≡ command) × IsRefusal (command_needs old command) why × (new ≡ old)
-  Steps old command reply new = (reply ≡ granted_reply limit eq old.is_vec old.pairs command) × Leaves old command new
+  Steps old command reply new = (reply ≡ granted_reply eq new.is_vec old.pairs command) × Leaves old command new
 
 -- the reason, where the reply is a refusal
 abbrev pub refusal_in : {K V : Type 0} → Reply K V → Option Refusal
@@ -70,6 +70,11 @@ is_put (Was before) = true
 is_put Added = true
 is_put (Value value) = true
 is_put reply = false
+
+-- whether the reply is that the form is the vector
+abbrev pub says_vec : {K V : Type 0} → Reply K V → Bool
+says_vec (Form is_vec) = is_vec
+says_vec reply = false
 
 -- whether the command is `Shrink`
 abbrev pub is_shrink : {K V : Type 0} → Command K V → Bool
@@ -92,9 +97,9 @@ module _ {K V S : Type 0} (limit : ℕ) where
   abbrev pub switches : Step K V S → Bool
   switches s = is_put s.reply && is_full limit s.before
 
-  -- whether the step made a table a vector: it is a `Shrink`, and the limit allows the pairs
+  -- whether the step made a table a vector: it is a `Shrink`, and says so
   abbrev pub goes_back : Step K V S → Bool
-  goes_back s = is_shrink s.command && not s.before.is_vec && nat_le (length s.before.pairs) limit
+  goes_back s = is_shrink s.command && not s.before.is_vec && says_vec s.reply
 
   -- whether the form is the vector after a step that changed it; none where the step did not
   abbrev pub form_changed : Step K V S → Option Bool

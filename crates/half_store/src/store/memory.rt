@@ -1,16 +1,16 @@
 //! The capacity of a store: making it, and giving it back. All memory is had before anything changes.
-ghost use Rattle.std.specs.Prelude.{◌≡◌, ℕ, ◌^◌, ◌<◌, ◌≤◌, ◌⊎◌, ◌||◌, false, [], min, max};
+ghost use Rattle.std.specs.Prelude.{◌≡◌, ℕ, ◌^◌, ◌<◌, ◌≤◌, false, [], max};
 ghost use Rattle.std.specs.Prelude.{length, nat_le, IsOk, IfOk, OnOk, OnErr, IfErr, if◌then◌else◌};
 ghost use Rattle.std.specs.List.{AllZip};
-ghost use Rattle.half_store.specs.Capacity.{capacity_for};
+ghost use Rattle.half_store.specs.Capacity.{capacity_for, least_capacity, vec_shrunk, shrunk_capacity};
 ghost use Rattle.half_store.specs.Memory.{arrays_of, bytes_of, bytes};
 ghost use Rattle.half_store.specs.Refusal.{refusal_of};
-ghost use Rattle.half_store.specs.Store.{allowed, capacity_within, reserved, reserved_capacity};
+ghost use Rattle.half_store.specs.Store.{capacity_within, reserved, reserved_capacity};
 
 use super::Store;
 use crate::refusal::check_size;
 use crate::{Arrays, Refusal, Table, VecMap};
-use std::alloc::Global;
+use std::alloc::{AllocError, Global};
 
 impl<K, V> Store<K, V> {
     /// No pairs, with capacity for so many: a vector with exactly this capacity where the limit allows them, else a table.
@@ -22,7 +22,7 @@ impl<K, V> Store<K, V> {
         ensures form { IfOk result (λ s. s.is_vec ≡ nat_le capacity limit) }
         ensures pairs { IfOk result (λ s. s.pairs ≡ []) }
         ensures hashes { IfOk result (λ s. s.hashes ≡ []) }
-        ensures capacity { IfOk result (λ s. s.capacity ≡ (if s.is_vec then capacity else capacity_for capacity)) }
+        ensures capacity { IfOk result (λ s. s.capacity ≡ least_capacity s.is_vec capacity) }
         ensures columns { IfOk result (λ s. s.columns ≡ s.capacity) }
         ensures series { IfOk result (λ s. s.is_vec ≡ false → s.capacity ≡ capacity_for s.capacity) }
         ensures exceeds { IfOk result (λ s. s.is_vec ≡ false → limit < s.capacity) }
@@ -103,32 +103,30 @@ impl<K, V> Store<K, V> {
         Ok(())
     }
 
-    /// Makes a table of no more pairs than the limit a vector, and shrinks the capacity to the least that the pairs fit.
-    /// Where memory is refused it stays; going back needs none, nor does a store with no pairs.
-    pub fn shrink_to_fit(&mut self, limit: usize)
-        requires { self.old.is_vec ≡ false → limit < self.old.capacity }
+    /// Makes a table of no more pairs than the limit a vector, and shrinks the capacity to the least that the pairs fit. On
+    /// error nothing changes.
+    pub fn shrink_to_fit(&mut self, limit: usize) -> Result<(), AllocError>
         ensures pairs { self.new.pairs ≡ self.old.pairs }
-        ensures form { self.new.is_vec ≡ (self.old.is_vec || nat_le (length self.old.pairs) limit) }
+        ensures form { OnOk result (self.new.is_vec ≡ vec_shrunk limit self.old.is_vec (length self.old.pairs)) }
+        ensures capacity { OnOk result (self.new.capacity
+            ≡ shrunk_capacity limit self.old.is_vec (length self.old.pairs)) }
+        ensures columns { OnOk result (self.new.columns ≡ self.new.capacity) }
         ensures hashes { self.new.is_vec ≡ false → self.new.hashes ≡ self.old.hashes }
-        ensures capacity { (self.new.capacity ≡ (if self.new.is_vec then length self.old.pairs
-            else capacity_for (length self.old.pairs)))
-            ⊎ ((0 < length self.old.pairs)
-            × (allowed limit self.new.is_vec self.new.capacity ≡ allowed limit self.new.is_vec self.old.capacity)) }
-        ensures columns { (self.new.columns ≡ min (if self.new.is_vec then length self.old.pairs else self.new.capacity)
-            self.old.columns) ⊎ (self.new.columns ≡ self.old.columns) }
-        ensures series { self.new.is_vec ≡ false → self.new.capacity ≡ capacity_for self.new.capacity }
-        ensures fits { self.new.is_vec ≡ false → length self.old.pairs ≤ self.new.capacity }
+        ensures series { OnOk result (self.new.is_vec ≡ false → self.new.capacity ≡ capacity_for self.new.capacity) }
+        ensures fits { OnOk result (length self.old.pairs ≤ self.new.capacity) }
+        ensures err { OnErr result (self.new ≡ self.old) }
+        ensures some { OnErr result (0 < shrunk_capacity limit self.old.is_vec (length self.old.pairs)) }
+        ensures less { OnErr result (shrunk_capacity limit self.old.is_vec (length self.old.pairs) < self.old.columns) }
     {
-        if self.columns.len() <= limit {
-            self.table = None;
+        let Some(table) = &mut self.table else {
+            return self.columns.shrink_to_fit();
+        };
+        if self.columns.len() > limit {
+            return self.columns.shrink_beside(table);
         }
-        match &mut self.table {
-            Some(table) => {
-                table.shrink_to_fit();
-                self.columns.shrink_to(table.capacity());
-            }
-            None => self.columns.shrink_to(0),
-        }
+        self.columns.shrink_to_fit()?;
+        self.table = None;
+        Ok(())
     }
 
     /// Clones of the pairs in the same form, with the same stored hashes. A table has the same capacity, and a vector none to

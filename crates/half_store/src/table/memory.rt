@@ -1,5 +1,5 @@
-//! Making a table, growing and shrinking it. All memory is had before anything changes.
-ghost use Rattle.std.specs.Prelude.{◌≡◌, ◌^◌, ◌<◌, ◌≤◌, ◌↔◌, ◌⊎◌, [], length, Err, IfOk, IsOk};
+//! Making a table, and moving its pairs into another one.
+ghost use Rattle.std.specs.Prelude.{◌≡◌, ◌^◌, ◌<◌, ◌≤◌, ◌↔◌, [], length, Err, IfOk, IsOk};
 ghost use Rattle.half_store.specs.Capacity.{capacity_of, buckets_for, buckets_of, IsBucketCount};
 ghost use Rattle.half_store.specs.Words.{word_size};
 
@@ -27,22 +27,6 @@ impl Table {
         Ok(Table::empty(alloc, buckets_for(needed))?)
     }
 
-    /// Shrinks to the least number of buckets that the pairs fit. Where memory is refused the capacity stays; with no pairs
-    /// there are no buckets afterwards, and no memory is needed.
-    pub fn shrink_to_fit(&mut self)
-        ensures hashes { self.new.hashes ≡ self.old.hashes }
-        ensures fewer { self.new.buckets ≤ self.old.buckets }
-        ensures buckets { (self.new.buckets ≡ buckets_for (length self.old.hashes)) ⊎ (self.new ≡ self.old) }
-        ensures empty { length self.old.hashes ≡ 0 → self.new.buckets ≡ 0 }
-    {
-        let buckets = buckets_for(self.len());
-        if buckets < self.buckets.count() {
-            if let Ok(fresh) = Table::empty(*self.hashes.allocator(), buckets) {
-                self.move_to(fresh);
-            }
-        }
-    }
-
     /// A table with as many buckets and the same stored hashes.
     pub fn copy(&self) -> Result<Table, AllocError>
         ensures ok { IfOk result (λ t. t ≡ self.now) }
@@ -53,8 +37,8 @@ impl Table {
         Ok(Table { buckets, hashes })
     }
 
-    // So many empty buckets.
-    fn empty(alloc: Global, buckets: usize) -> Result<Table, AllocError>
+    /// An empty table of this many buckets.
+    pub(crate) fn empty(alloc: Global, buckets: usize) -> Result<Table, AllocError>
         requires { IsBucketCount buckets }
         ensures hashes { IfOk result (λ t. t.hashes ≡ []) }
         ensures buckets { IfOk result (λ t. t.buckets ≡ buckets) }

@@ -1,10 +1,11 @@
 //! The capacity of the two columns: making it, and giving it back. All memory is had before anything changes.
-ghost use Rattle.std.specs.Prelude.{◌≡◌, ◌^◌, ◌<◌, ◌≤◌, ◌⊎◌, max, min, [], length, IsOk, IfOk, OnOk, OnErr, IfErr};
+ghost use Rattle.std.specs.Prelude.{◌≡◌, ◌^◌, ◌<◌, ◌≤◌, max, [], length, IsOk, IfOk, OnOk, OnErr, IfErr};
 ghost use Rattle.std.specs.List.{AllZip};
-ghost use Rattle.half_store.specs.Capacity.{capacity_of, grown_capacity};
+ghost use Rattle.half_store.specs.Capacity.{capacity_of, capacity_for, grown_capacity};
 ghost use Rattle.half_store.specs.Refusal.{refusal_of};
 
 use super::VecMap;
+use crate::capacity::{buckets_for, capacity_of};
 use crate::column::{clone_all, grow_beside, move_to};
 use crate::refusal::check_size;
 use crate::{Refusal, Table};
@@ -64,20 +65,44 @@ impl<K, V> VecMap<K, V> {
         (self.keys.capacity(), self.values.capacity())
     }
 
-    /// Shrinks the capacity to `needed` pairs, or to those that are held. Where memory is refused it stays; down to nothing
-    /// it needs no memory.
-    pub fn shrink_to(&mut self, needed: usize)
+    /// Shrinks the capacity to the pairs. On error nothing changes.
+    pub fn shrink_to_fit(&mut self) -> Result<(), AllocError>
         ensures pairs { self.new.pairs ≡ self.old.pairs }
-        ensures capacity { (self.new.capacity ≡ min (max needed (length self.old.pairs)) self.old.capacity)
-            ⊎ (self.new.capacity ≡ self.old.capacity) }
-        ensures frees { length self.old.pairs ≡ 0 → needed ≡ 0 → self.new.capacity ≡ 0 }
+        ensures ok { OnOk result (self.new.capacity ≡ length self.old.pairs) }
+        ensures err { OnErr result (self.new ≡ self.old) }
+        ensures needed { OnErr result ((0 < length self.old.pairs) × (length self.old.pairs < self.old.capacity)) }
     {
-        let kept = needed.max(self.len());
-        if kept < self.capacity() {
-            if let Ok(fresh) = VecMap::with_capacity(self.allocator(), kept) {
-                self.move_to(fresh);
-            }
+        if self.len() < self.capacity() {
+            let fresh = VecMap::with_capacity(self.allocator(), self.len())?;
+            self.move_to(fresh);
         }
+        Ok(())
+    }
+
+    /// Shrinks a table and its columns to the least capacity that the pairs fit. On error nothing changes.
+    pub(crate) fn shrink_beside(&mut self, table: &mut Table) -> Result<(), AllocError>
+        requires len { length table.old.hashes ≡ length self.old.pairs }
+        requires backed { capacity_of table.old.buckets ≤ self.old.capacity }
+        ensures pairs { self.new.pairs ≡ self.old.pairs }
+        ensures hashes { table.new.hashes ≡ table.old.hashes }
+        ensures columns { OnOk result (self.new.capacity ≡ capacity_for (length self.old.pairs)) }
+        ensures table { OnOk result (capacity_of table.new.buckets ≡ capacity_for (length self.old.pairs)) }
+        ensures series { capacity_of table.new.buckets ≡ capacity_for (capacity_of table.new.buckets) }
+        ensures fits { length self.old.pairs ≤ capacity_of table.new.buckets }
+        ensures err { OnErr result ((self.new ≡ self.old) × (table.new ≡ table.old)) }
+        ensures needed { OnErr result ((0 < capacity_for (length self.old.pairs))
+            × (capacity_for (length self.old.pairs) < self.old.capacity)) }
+    {
+        let buckets = buckets_for(table.len());
+        let capacity = capacity_of(buckets);
+        if table.capacity() == capacity && self.capacity() == capacity {
+            return Ok(());
+        }
+        let fresh = Table::empty(self.allocator(), buckets)?;
+        let columns = VecMap::with_capacity(self.allocator(), capacity)?;
+        table.move_to(fresh);
+        self.move_to(columns);
+        Ok(())
     }
 
     /// Makes the capacity enough for `needed` pairs in all, and no greater where that needs memory. On error nothing changes.

@@ -1,5 +1,5 @@
 //! Growing and shrinking the capacity.
-ghost use Rattle.std.specs.Prelude.{◌≡◌, ◌+◌, length, nat_le, OnOk, OnErr, IfErr};
+ghost use Rattle.std.specs.Prelude.{◌≡◌, ◌+◌, length, OnOk, OnErr, IfErr};
 ghost use Rattle.halfbrown.specs.Growth.{reserve_needs, IsRefusal, Reserves, Shrinks};
 ghost use Rattle.halfbrown.specs.State.{IsState};
 
@@ -35,8 +35,8 @@ impl<K: Eq + Hash, V, S: BuildHasher, L: Limit> LimitedHashMap<K, V, S, L> {
     /// the pairs fit. For a table that is the least of its series. The pairs keep their order. Nothing is hashed or
     /// compared.
     ///
-    /// Going back to a vector needs no memory, and always succeeds. Smaller columns and a smaller table need some, and
-    /// stay as they are where it is refused. An empty map needs none, and has capacity 0 afterwards.
+    /// Smaller columns and a smaller table need memory. Where that is refused nothing changes: a table stays one. A map
+    /// with no pairs needs none, and has capacity 0 afterwards; nor does a vector whose capacity is its length.
     ///
     /// ```
     /// let mut ages = HashMap::<u64, u32>::with_capacity(alloc, 100)?; // a table
@@ -47,9 +47,9 @@ impl<K: Eq + Hash, V, S: BuildHasher, L: Limit> LimitedHashMap<K, V, S, L> {
     /// ```
     pub fn shrink_to_fit(&mut self)
         ensures after { Shrinks L.LIMIT self.old self.new }
-        ensures vector { self.new.is_vec ≡ nat_le (length self.new.pairs) L.LIMIT }
         ensures state { IsState K.eq L.LIMIT self.new }
     {
-        self.store.shrink_to_fit(L::LIMIT);
+        // Where memory is refused, nothing has changed.
+        let _ = self.store.shrink_to_fit(L::LIMIT);
     }
 }

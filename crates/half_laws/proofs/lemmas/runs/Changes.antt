@@ -8,7 +8,7 @@ use Rattle.halfbrown.specs.declared.run.Command.{Command}
 use Rattle.halfbrown.specs.declared.run.Command.TheVariants.{InsertNew}
 use Rattle.halfbrown.specs.declared.run.Reply.{Reply}
 use Rattle.halfbrown.specs.declared.run.Reply.TheVariants.{Refused}
-use Rattle.halfbrown.specs.Growth.{addition_needs, new_key_needs, insert_needs, is_full, Shrinks}
+use Rattle.halfbrown.specs.Growth.{addition_needs, new_key_needs, insert_needs, is_full, IsShrunk}
 use Rattle.halfbrown.specs.Insertion.{Puts}
 use Rattle.halfbrown.specs.Pairs.{holds}
 use Rattle.halfbrown.specs.State.{State}
@@ -55,7 +55,7 @@ module _ {K V S : Type 0} (limit : ℕ) (eq : K → K → Bool) where
     pub len : length new.pairs ≤ length old.pairs
 
   abbrev pub Changes : State K V S → Command K V → State K V S → Type 0
-  Changes old command new = PutsDue old new ⊎ (Keeps old new ⊎ ((is_shrink command ≡ true) × Shrinks limit old new))
+  Changes old command new = PutsDue old new ⊎ (Keeps old new ⊎ ((is_shrink command ≡ true) × IsShrunk limit old new))
 
   keeps_all : (old new : State K V S) → new ≡ old → Keeps old new
   keeps_all old new same = record {

@@ -4,10 +4,10 @@ use Rattle.std.proofs.Common.{None, Some, sym, ap, refl, subst, arith, if◌then
 use Rattle.std.proofs.lemmas.Grind.{common_steps}
 use Rattle.std.specs.Prelude.{MatchBool}
 use Rattle.half_store.specs.Capacity.{IsBucketCount, capacity_of, buckets_for_more, buckets_for, capacity_for, grown_capacity}
+use Rattle.half_store.specs.Capacity.{least_capacity, vec_shrunk}
 use Rattle.half_store.specs.Memory.{bytes}
-use Rattle.half_store.specs.Store.{allowed}
 use Rattle.half_store.proofs.lemmas.capacity.{buckets_for-least}
-use Rattle.halfbrown.specs.Growth.{is_full, HasCapacityAfter, HasCapacityShrunk, HasColumnsAfter, HasColumnsShrunk}
+use Rattle.halfbrown.specs.Growth.{is_full, HasCapacityAfter, HasColumnsAfter, IsShrunk}
 use Rattle.halfbrown.specs.Run.{Lead, commands_of}
 use Rattle.halfbrown.specs.State.{State, IsState}
 use Rattle.halfbrown.specs.Step.{Step, IsStep}
@@ -62,17 +62,13 @@ module _ {K V S : Type 0} (limit : ℕ) (eq : K → K → Bool) where
     by true e = omega (arith, e, due.0, due.1)
     by false e = omega (arith, e, due.0, capacity_for-most n)
 
-  least_most : (old : State K V S) (is_vec : Bool) → IsModest old (if is_vec then length old.pairs else capacity_for (length old.pairs))
+  least_most : (old : State K V S) (is_vec : Bool) → IsModest old (least_capacity is_vec (length old.pairs))
   least_most old true = omega arith
   least_most old false = omega (arith, capacity_for-most (length old.pairs))
 
-  allowed_most : (old : State K V S) (is_vec : Bool) → IsModest old (allowed limit is_vec old.capacity)
-  allowed_most old true = omega arith
-  allowed_most old false = omega arith
-
-  shrunk_most : (old new : State K V S) → HasCapacityShrunk limit old new → IsModest old new.capacity
-  shrunk_most old new (inl least) = subst (IsModest old) (sym least) (least_most old new.is_vec)
-  shrunk_most old new (inr kept) = subst (IsModest old) (sym kept.1) (allowed_most old new.is_vec)
+  shrunk_most : (old new : State K V S) → IsShrunk limit old new → IsModest old new.capacity
+  shrunk_most old new shrunk =
+      subst (IsModest old) (sym shrunk.capacity) (least_most old (vec_shrunk limit old.is_vec (length old.pairs)))
 
   step_most : (s : Step K V S) → IsState eq limit s.before → IsStep limit eq s → is_reserve s.command ≡ false
       → IsModest s.before s.after.capacity
@@ -80,7 +76,7 @@ module _ {K V S : Type 0} (limit : ℕ) (eq : K → K → Bool) where
     by : Changes limit eq s.before s.command s.after → IsModest s.before s.after.capacity
     by (inl put) = after_most s.before s.after _ (switch_due s.before state put.needs put.due) put.puts.capacity
     by (inr (inl keeps)) = omega (arith, keeps.capacity)
-    by (inr (inr shrinks)) = shrunk_most s.before s.after shrinks.1.capacity
+    by (inr (inr shrinks)) = shrunk_most s.before s.after shrinks.1
 
   -- from a state that holds no more than `top`
   steps_most : (old new : State K V S) (steps : List (Step K V S)) (top : ℕ) → Lead limit eq old steps new → IsState eq limit old
@@ -111,17 +107,13 @@ module _ {K V S : Type 0} (limit : ℕ) (eq : K → K → Bool) where
   put_takes old new None after most = omega (arith, after)
   put_takes old new (Some n) after most = omega (arith, after, most)
 
-  shrunk_takes : (old new : State K V S) → HasColumnsShrunk old new → TakesNoMore old new.columns
-  shrunk_takes old new (inl fewer) = omega (arith, fewer)
-  shrunk_takes old new (inr same) = omega (arith, same)
-
   step_takes : (s : Step K V S) → IsState eq limit s.before → IsStep limit eq s → is_reserve s.command ≡ false
       → TakesNoMore s.before s.after.columns
   step_takes s state step none = by (step_changes limit eq s step none) where
     by : Changes limit eq s.before s.command s.after → TakesNoMore s.before s.after.columns
     by (inl put) = put_takes s.before s.after _ put.puts.columns (step_most s state step none)
     by (inr (inl keeps)) = omega (arith, keeps.columns)
-    by (inr (inr shrinks)) = shrunk_takes s.before s.after shrinks.1.columns
+    by (inr (inr shrinks)) = omega (arith, shrinks.1.columns, step_most s state step none)
 
   steps_take : (old new : State K V S) (steps : List (Step K V S)) (top : ℕ) → Lead limit eq old steps new → IsState eq limit old
       → reserves (commands_of steps) ≡ false → length old.pairs ≤ top

@@ -26,7 +26,7 @@ module _ {K V : Type 0} (limit : ℕ) (eq : K → K → Bool) where
 
   -- reply and pairs, by the refusal
   abbrev reply_by : Option Refusal → Bool → List (K × V) → Command K V → Reply K V
-  reply_by None is_vec pairs command = granted_reply limit eq is_vec pairs command
+  reply_by None is_vec pairs command = granted_reply eq is_vec pairs command
   reply_by (Some why) is_vec pairs command = Refused command why
 
   abbrev pairs_by : Option Refusal → List (K × V) → Command K V → List (K × V)
@@ -39,7 +39,7 @@ module _ {K V S : Type 0} (limit : ℕ) (eq : K → K → Bool) where
   pairs_left old new command leaves = grind (arith, common_steps)
 
   answered : (old new : State K V S) (command : Command K V) (reply : Reply K V) → Steps limit eq old command reply new
-      → (reply ≡ reply_by limit eq (refusal_in reply) old.is_vec old.pairs command)
+      → (reply ≡ reply_by limit eq (refusal_in reply) new.is_vec old.pairs command)
       × (new.pairs ≡ pairs_by limit eq (refusal_in reply) old.pairs command)
   answered old new command (Refused back why) step = ((λ i. Refused (step.0 i) why), ap (λ m. m.pairs) step.2)
   answered old new command reply step = (step.0, pairs_left old new command step.1)
