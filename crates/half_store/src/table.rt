@@ -20,10 +20,10 @@ pub mod probe;
 mod rehash;
 mod retain;
 
-use crate::Tally;
 use crate::buckets::HashedBuckets;
 use crate::capacity::capacity_of;
 use crate::words::{WordArray, Words};
+use crate::{Tally, uncounted};
 use deletion::{remove_in, take_in};
 use find::find_in;
 use probe::first_empty;
@@ -179,7 +179,7 @@ impl Table {
         requires { index < length self.old.hashes }
         ensures { RemovesFromTable self.old index self.new result }
     {
-        self.remove_counted(index, &mut Tally::new())
+        uncounted!(self.remove_counted(index))
     }
 
     /// `remove`. It reads fewer buckets than two unsuccessful probes: for the hash of the pair, and for that of the last one.

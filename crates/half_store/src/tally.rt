@@ -26,6 +26,18 @@ impl Model for Tally {
 
 const _: () = prove!(size_of::<Tally>() == 0);
 
+/// A counted call whose count nobody asks for: `uncounted!(map.get_counted(key))` calls
+/// `map.get_counted(key, &mut Tally::new())`. Each plain call is written so, and the libraries make a tally nowhere else.
+#[macro_export]
+macro_rules! uncounted {
+    ($of:ident.$call:ident($($given:expr),*)) => {
+        $of.$call($($given,)* &mut $crate::Tally::new())
+    };
+    ($($call:ident)::+($($given:expr),*)) => {
+        $($call)::+($($given,)* &mut $crate::Tally::new())
+    };
+}
+
 impl Tally {
     /// A tally that has seen no work.
     #[inline(always)]

@@ -6,7 +6,7 @@ ghost use Rattle.halfbrown.specs.RunCost.{command_cost};
 ghost use Rattle.halfbrown.specs.Step.{Steps, is_refused};
 
 use crate::{Limit, LimitedHashMap, Refused};
-use half_store::{Refusal, Tally};
+use half_store::{Refusal, Tally, uncounted};
 use std::alloc::Global;
 use std::hash::{BuildHasher, Hash};
 
@@ -88,7 +88,7 @@ pub fn run<K: Eq + Hash + Drop, V: Copy, S: BuildHasher, L: Limit>(
     ensures returned { IfErr result (λ back. back.items ≡ commands.items) }
     ensures err { OnErr result (map.new ≡ map.old) }
 {
-    run_counted(alloc, map, commands, &mut Tally::new())
+    uncounted!(run_counted(alloc, map, commands))
 }
 
 /// `run`, with the work of all commands counted.

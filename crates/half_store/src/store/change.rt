@@ -12,7 +12,7 @@ ghost use Rattle.half_store.specs.Store.{store_pushed, IsVacancy, KeepsForm};
 
 use super::Store;
 use super::vacancy::Vacancy;
-use crate::Tally;
+use crate::{Tally, uncounted};
 
 impl<K, V> Store<K, V> {
     /// Adds a pair at the end, at a vacancy for its hash. The capacity must be enough for it. It reads no bucket.
@@ -59,7 +59,7 @@ impl<K, V> Store<K, V> {
                 Err(_) => None,
             };
         };
-        match table.take(self.columns.keys(), hash, matches, tally, &mut Tally::new()) {
+        match uncounted!(table.take(self.columns.keys(), hash, matches, tally)) {
             Ok(index) => Some(self.columns.swap_remove(index)),
             Err(_) => None,
         }

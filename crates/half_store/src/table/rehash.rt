@@ -4,9 +4,9 @@ ghost use Rattle.half_store.specs.Capacity.{capacity_of, IsBucketCount};
 ghost use Rattle.half_store.specs.TableLayout.{IsIndexed};
 
 use super::probe::first_empty;
-use crate::Tally;
 use crate::buckets::HashedBuckets;
 use crate::words::Words;
+use crate::{Tally, uncounted};
 
 /// Puts all pairs into empty buckets, in the order of their entry indices.
 pub(super) fn rehash<B: Words>(buckets: &mut B, hashes: &[u64])
@@ -23,7 +23,7 @@ pub(super) fn rehash<B: Words>(buckets: &mut B, hashes: &[u64])
             buckets,
             hashes: &hashes[..index],
         };
-        let bucket = first_empty(&held, hashes[index], &mut Tally::new());
+        let bucket = uncounted!(first_empty(&held, hashes[index]));
         buckets.set_word(bucket, index + 1);
     }
 }

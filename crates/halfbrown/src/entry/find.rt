@@ -9,7 +9,7 @@ ghost use Rattle.halfbrown.specs.State.{with_pairs};
 
 use super::{Entry, OccupiedEntry, VacantEntry};
 use crate::{Limit, LimitedHashMap, RefusedKey};
-use half_store::Tally;
+use half_store::{Tally, uncounted};
 use std::hash::{BuildHasher, Hash};
 
 impl<K: Eq + Hash, V, S: BuildHasher, L: Limit> LimitedHashMap<K, V, S, L> {
@@ -33,7 +33,7 @@ impl<K: Eq + Hash, V, S: BuildHasher, L: Limit> LimitedHashMap<K, V, S, L> {
             (RestsIfRefused K.row V.row S.row L.row S.Hasher.row self.entry result) }
         ensures makes { MakesEntry L.LIMIT K.eq self.entry key result }
     {
-        self.entry_counted(key, &mut Tally::new())
+        uncounted!(self.entry_counted(key))
     }
 
     /// `entry`, with its work counted: one search, one hash for each pair at a switch, and one insertion probe where a new

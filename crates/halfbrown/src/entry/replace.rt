@@ -7,7 +7,7 @@ ghost use Rattle.halfbrown.specs.Replacement.{Replaced, ReplacementCosts};
 
 use super::{Entry, OccupiedEntry, VacantEntry};
 use crate::Limit;
-use half_store::Tally;
+use half_store::{Tally, uncounted};
 use std::hash::{BuildHasher, Hash};
 
 impl<'a, K: Eq + Hash, V, S: BuildHasher, L: Limit> OccupiedEntry<'a, K, V, S, L> {
@@ -30,7 +30,7 @@ impl<'a, K: Eq + Hash, V, S: BuildHasher, L: Limit> OccupiedEntry<'a, K, V, S, L
             → F.pre f key value }
         ensures { Replaced L.LIMIT K.eq (F.post f) (Occupied self.entry) result }
     {
-        self.replace_entry_with_counted(f, &mut Tally::new())
+        uncounted!(self.replace_entry_with_counted(f))
     }
 
     /// `replace_entry_with`, with its work counted: one insertion probe where the pair is removed from a table.

@@ -8,7 +8,7 @@ ghost use Rattle.halfbrown.specs.State.{IsState};
 
 use super::LimitedHashMap;
 use crate::Limit;
-use half_store::{Refusal, Tally};
+use half_store::{Refusal, Tally, uncounted};
 use std::alloc::{AllocError, Global};
 use std::hash::{BuildHasher, Hash};
 
@@ -48,7 +48,7 @@ impl<K: Eq + Hash + Drop, V: Drop, S: BuildHasher + Default + Drop, L: Limit> Li
             S.is_default hint (Gives I.IntoIter.next_gives it) why cost) }
         ensures state { IfOk result (IsState K.eq L.LIMIT) }
     {
-        LimitedHashMap::from_iter_counted(alloc, items, &mut Tally::new())
+        uncounted!(LimitedHashMap::from_iter_counted(alloc, items))
     }
 
     /// `from_iter`, with its work counted: that of the insertions.
@@ -97,7 +97,7 @@ impl<K: Eq + Hash + Drop, V: Drop, S: BuildHasher + Default + Drop, L: Limit> Li
         let Ok(pairs) = Vec::from_array(alloc, pairs) else {
             return Err(Refusal::Memory);
         };
-        LimitedHashMap::collect(alloc, N, pairs.into_iter(), &mut Tally::new())
+        uncounted!(LimitedHashMap::collect(alloc, N, pairs.into_iter()))
     }
 
     // A map made with this capacity, and the items inserted.
@@ -149,7 +149,7 @@ impl<K: Eq + Hash + Drop, V: Drop, S: BuildHasher, L: Limit> LimitedHashMap<K, V
             × IsRefusedInsertion L.LIMIT K.eq (key_hash S.BuildHasher S.Hasher.Hasher K.hash_input)
             (Gives I.IntoIter.next_gives it) self.old why self.new cost) }
     {
-        self.extend_counted(items, &mut Tally::new())
+        uncounted!(self.extend_counted(items))
     }
 
     /// `extend`, with its work counted: that of the insertions.

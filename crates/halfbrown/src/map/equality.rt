@@ -7,7 +7,7 @@ ghost use Rattle.halfbrown.specs.EqualityLaws.{same_maps_per, same_maps_equiv};
 
 use super::LimitedHashMap;
 use crate::Limit;
-use half_store::Tally;
+use half_store::{Tally, uncounted};
 use std::hash::{BuildHasher, Hash};
 
 impl<K: Eq + Hash, V: PartialEq, S: BuildHasher, L: Limit> LimitedHashMap<K, V, S, L> {
@@ -26,7 +26,7 @@ impl<K: Eq + Hash, V: PartialEq, S: BuildHasher, L: Limit> LimitedHashMap<K, V, 
     pub fn same_pairs<S2: BuildHasher, M: Limit>(&self, other: &LimitedHashMap<K, V, S2, M>) -> bool
         ensures { result ≡ same_pairs K.eq V.eq self.now.pairs other.now.pairs }
     {
-        self.same_pairs_counted(other, &mut Tally::new())
+        uncounted!(self.same_pairs_counted(other))
     }
 
     /// `same_pairs`, with its work counted: nothing where the lengths differ, else one search in the other map for each

@@ -12,7 +12,7 @@ ghost use Rattle.halfbrown.specs.State.{IsState};
 
 use super::LimitedHashMap;
 use crate::Limit;
-use half_store::{Refusal, Table, Tally, Vacancy, counting};
+use half_store::{Refusal, Table, Tally, Vacancy, counting, uncounted};
 use std::hash::{BuildHasher, Hash};
 
 impl<K: Eq + Hash, V, S: BuildHasher, L: Limit> LimitedHashMap<K, V, S, L> {
@@ -130,6 +130,6 @@ fn store_hashes<K: Hash, S: BuildHasher>(
 {
     for key in keys {
         let hash = counting::hash_one(builder, key, tally);
-        table.add(hash, &mut Tally::new());
+        uncounted!(table.add(hash));
     }
 }

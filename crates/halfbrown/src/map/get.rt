@@ -11,7 +11,7 @@ ghost use Rattle.halfbrown.specs.Updates.{HasSetBy};
 
 use super::LimitedHashMap;
 use crate::{Equivalent, Limit};
-use half_store::Tally;
+use half_store::{Tally, uncounted};
 use std::hash::{BuildHasher, Hash};
 use std::ops::Index;
 
@@ -28,7 +28,7 @@ impl<K: Eq + Hash, V, S: BuildHasher, L: Limit> LimitedHashMap<K, V, S, L> {
     pub fn get<Q: Equivalent<K>>(&self, key: Q) -> Option<&V>
         ensures { option_copied result ≡ lookup (Q.equivalent key) self.now.pairs }
     {
-        self.get_counted(key, &mut Tally::new())
+        uncounted!(self.get_counted(key))
     }
 
     /// `get`, with its work counted: one hash in a table and none in a vector, and in a table no key of another hash is
@@ -53,7 +53,7 @@ impl<K: Eq + Hash, V, S: BuildHasher, L: Limit> LimitedHashMap<K, V, S, L> {
     pub fn get_key_value<Q: Equivalent<K>>(&self, key: Q) -> Option<(&K, &V)>
         ensures { option_map deref_pair result ≡ lookup_entry (Q.equivalent key) self.now.pairs }
     {
-        self.get_key_value_counted(key, &mut Tally::new())
+        uncounted!(self.get_key_value_counted(key))
     }
 
     /// `get_key_value`, with its work counted: that of one search.
@@ -89,7 +89,7 @@ impl<K: Eq + Hash, V, S: BuildHasher, L: Limit> LimitedHashMap<K, V, S, L> {
         ensures written { OnSome result ((written : V) → HasSetBy K.eq (Q.equivalent key)
             self.old.pairs written (set_by (Q.equivalent key) self.old.pairs written)) }
     {
-        self.get_mut_counted(key, &mut Tally::new())
+        uncounted!(self.get_mut_counted(key))
     }
 
     /// `get_mut`, with its work counted: that of one search.
@@ -120,7 +120,7 @@ impl<K: Eq + Hash, V, S: BuildHasher, L: Limit> LimitedHashMap<K, V, S, L> {
     pub fn contains_key<Q: Equivalent<K>>(&self, key: Q) -> bool
         ensures { result ≡ holds_by (Q.equivalent key) self.now.pairs }
     {
-        self.contains_key_counted(key, &mut Tally::new())
+        uncounted!(self.contains_key_counted(key))
     }
 
     /// `contains_key`, with its work counted: that of one search.
@@ -177,6 +177,6 @@ impl<K: Eq + Hash, V, S: BuildHasher, L: Limit, Q: Equivalent<K>> Index<Q>
     /// ```
     #[inline(always)]
     fn index(&self, key: Q) -> &V {
-        self.index_counted(key, &mut Tally::new())
+        uncounted!(self.index_counted(key))
     }
 }

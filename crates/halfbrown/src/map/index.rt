@@ -12,7 +12,7 @@ ghost use Rattle.halfbrown.specs.State.{IsState};
 
 use super::LimitedHashMap;
 use crate::{Equivalent, Limit};
-use half_store::Tally;
+use half_store::{Tally, uncounted};
 use std::hash::{BuildHasher, Hash};
 
 impl<K: Eq + Hash, V, S: BuildHasher, L: Limit> LimitedHashMap<K, V, S, L> {
@@ -98,7 +98,7 @@ impl<K: Eq + Hash, V, S: BuildHasher, L: Limit> LimitedHashMap<K, V, S, L> {
         ensures index { result ≡ index_of (Q.equivalent key) (keys_of self.now.pairs) }
         ensures found { FindsIndex (Q.equivalent key) self.now.pairs result }
     {
-        self.get_index_of_counted(key, &mut Tally::new())
+        uncounted!(self.get_index_of_counted(key))
     }
 
     /// `get_index_of`, with its work counted: that of one search.

@@ -11,7 +11,7 @@ ghost use Rattle.halfbrown.specs.State.{IsState, WithPairs, contents_of};
 
 use super::LimitedHashMap;
 use crate::{Limit, Refused};
-use half_store::{Tally, Vacancy};
+use half_store::{Tally, Vacancy, uncounted};
 use std::hash::{BuildHasher, Hash};
 use std::mem::replace;
 
@@ -36,7 +36,7 @@ impl<K: Eq + Hash, V, S: BuildHasher, L: Limit> LimitedHashMap<K, V, S, L> {
         K: Drop,
         ensures { Inserts L.LIMIT K.eq self.old key value result self.new }
     {
-        self.insert_counted(key, value, &mut Tally::new())
+        uncounted!(self.insert_counted(key, value))
     }
 
     /// `insert`, with its work counted.
@@ -79,7 +79,7 @@ impl<K: Eq + Hash, V, S: BuildHasher, L: Limit> LimitedHashMap<K, V, S, L> {
         requires { holds K.eq self.old.pairs key ≡ false }
         ensures { InsertsNewKey L.LIMIT K.eq self.old key value result self.new }
     {
-        self.insert_nocheck_counted(key, value, &mut Tally::new())
+        uncounted!(self.insert_nocheck_counted(key, value))
     }
 
     /// `insert_nocheck`, with its work counted: the hashes of the switch, and one hash in a table; no key is compared.

@@ -9,7 +9,7 @@ ghost use Rattle.halfbrown.specs.State.{IsState, WithPairs};
 
 use super::LimitedHashMap;
 use crate::{Equivalent, Limit};
-use half_store::Tally;
+use half_store::{Tally, uncounted};
 use std::hash::{BuildHasher, Hash};
 
 impl<K: Eq + Hash, V, S: BuildHasher, L: Limit> LimitedHashMap<K, V, S, L> {
@@ -27,7 +27,7 @@ impl<K: Eq + Hash, V, S: BuildHasher, L: Limit> LimitedHashMap<K, V, S, L> {
         ensures { Removes L.LIMIT K.eq (Q.equivalent key) self.old
             (lookup (Q.equivalent key) self.old.pairs) result self.new }
     {
-        self.remove_counted(key, &mut Tally::new())
+        uncounted!(self.remove_counted(key))
     }
 
     /// `remove`, with its work counted: that of one search.
@@ -55,7 +55,7 @@ impl<K: Eq + Hash, V, S: BuildHasher, L: Limit> LimitedHashMap<K, V, S, L> {
         ensures { Removes L.LIMIT K.eq (Q.equivalent key) self.old
             (lookup_entry (Q.equivalent key) self.old.pairs) result self.new }
     {
-        self.remove_entry_counted(key, &mut Tally::new())
+        uncounted!(self.remove_entry_counted(key))
     }
 
     /// `remove_entry`, with its work counted: that of one search.
@@ -93,7 +93,7 @@ impl<K: Eq + Hash, V, S: BuildHasher, L: Limit> LimitedHashMap<K, V, S, L> {
         ensures value { option_map (λ pair. pair.1) result
             ≡ lookup (Q.equivalent key) self.old.pairs }
     {
-        self.remove_entry_hashed_nocheck_counted(hash, key, &mut Tally::new())
+        uncounted!(self.remove_entry_hashed_nocheck_counted(hash, key))
     }
 
     /// `remove_entry_hashed_nocheck`, with its work counted: that of one search, with no hash.

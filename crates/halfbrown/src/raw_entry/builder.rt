@@ -12,7 +12,7 @@ ghost use Rattle.halfbrown.specs.RawSearch.{ReadsPair};
 
 use super::RawEntryBuilder;
 use crate::{Equivalent, Limit};
-use half_store::Tally;
+use half_store::{Tally, uncounted};
 use std::hash::{BuildHasher, Hash};
 
 impl<'a, K: Eq + Hash, V, S: BuildHasher, L: Limit> RawEntryBuilder<'a, K, V, S, L> {
@@ -25,7 +25,7 @@ impl<'a, K: Eq + Hash, V, S: BuildHasher, L: Limit> RawEntryBuilder<'a, K, V, S,
     pub fn from_key<Q: Equivalent<K>>(self, key: Q) -> Option<(&'a K, &'a V)>
         ensures { ReadsPair (Q.equivalent key) (map_in self.entry) result }
     {
-        self.from_key_counted(key, &mut Tally::new())
+        uncounted!(self.from_key_counted(key))
     }
 
     /// `from_key`, with its work counted: that of one search.
@@ -61,7 +61,7 @@ impl<'a, K: Eq + Hash, V, S: BuildHasher, L: Limit> RawEntryBuilder<'a, K, V, S,
             ≡ key_hash S.BuildHasher S.Hasher.Hasher Q.hash_input (map_in self).builder key }
         ensures { ReadsPair (Q.equivalent key) (map_in self.entry) result }
     {
-        self.from_key_hashed_nocheck_counted(hash, key, &mut Tally::new())
+        uncounted!(self.from_key_hashed_nocheck_counted(hash, key))
     }
 
     /// `from_key_hashed_nocheck`, with its work counted: that of one search, with no hash.
@@ -101,7 +101,7 @@ impl<'a, K: Eq + Hash, V, S: BuildHasher, L: Limit> RawEntryBuilder<'a, K, V, S,
             (key_hash S.BuildHasher S.Hasher.Hasher K.hash_input) hash (map_in self.entry)
             (option_map deref_pair result) }
     {
-        self.from_hash_counted(hash, is_match, &mut Tally::new())
+        uncounted!(self.from_hash_counted(hash, is_match))
     }
 
     /// `from_hash`, with its work counted: that of one search, with no hash.

@@ -11,7 +11,7 @@ ghost use Rattle.halfbrown.specs.RawSearch.{Searches, SearchesByMatch};
 
 use super::{RawEntryBuilderMut, RawEntryMut, RawVacantEntryMut};
 use crate::{Equivalent, Limit, OccupiedEntry};
-use half_store::Tally;
+use half_store::{Tally, uncounted};
 use std::hash::{BuildHasher, Hash};
 
 impl<'a, K: Eq + Hash, V, S: BuildHasher, L: Limit> RawEntryBuilderMut<'a, K, V, S, L> {
@@ -28,7 +28,7 @@ impl<'a, K: Eq + Hash, V, S: BuildHasher, L: Limit> RawEntryBuilderMut<'a, K, V,
     pub fn from_key<Q: Equivalent<K>>(self, key: Q) -> RawEntryMut<'a, K, V, S, L>
         ensures { Searches L.LIMIT K.eq (Q.equivalent key) self.entry result }
     {
-        self.from_key_counted(key, &mut Tally::new())
+        uncounted!(self.from_key_counted(key))
     }
 
     /// `from_key`, with its work counted: that of one search.
@@ -69,7 +69,7 @@ impl<'a, K: Eq + Hash, V, S: BuildHasher, L: Limit> RawEntryBuilderMut<'a, K, V,
             ≡ key_hash S.BuildHasher S.Hasher.Hasher Q.hash_input (ready_map self).builder key }
         ensures { Searches L.LIMIT K.eq (Q.equivalent key) self.entry result }
     {
-        self.from_key_hashed_nocheck_counted(hash, key, &mut Tally::new())
+        uncounted!(self.from_key_hashed_nocheck_counted(hash, key))
     }
 
     /// `from_key_hashed_nocheck`, with its work counted: that of one search, with no hash.
@@ -113,7 +113,7 @@ impl<'a, K: Eq + Hash, V, S: BuildHasher, L: Limit> RawEntryBuilderMut<'a, K, V,
         ensures { SearchesByMatch L.LIMIT K.eq (FnReturnsAt F.Fn is_match)
             (key_hash S.BuildHasher S.Hasher.Hasher K.hash_input) hash self.entry result }
     {
-        self.from_hash_counted(hash, is_match, &mut Tally::new())
+        uncounted!(self.from_hash_counted(hash, is_match))
     }
 
     /// `from_hash`, with its work counted: that of one search, with no hash.

@@ -9,7 +9,7 @@ ghost use Rattle.halfbrown.specs.RawSearch.{MakesReady};
 
 use super::{Prepared, RawEntryBuilder, RawEntryBuilderMut};
 use crate::{Limit, LimitedHashMap};
-use half_store::{Refusal, Tally};
+use half_store::{Refusal, Tally, uncounted};
 use std::hash::{BuildHasher, Hash};
 
 impl<K: Eq + Hash, V, S: BuildHasher, L: Limit> LimitedHashMap<K, V, S, L> {
@@ -41,7 +41,7 @@ impl<K: Eq + Hash, V, S: BuildHasher, L: Limit> LimitedHashMap<K, V, S, L> {
             (RestsIfUnready K.row V.row S.row L.row S.Hasher.row self.entry result) }
         ensures makes { MakesReady L.LIMIT K.eq self.entry result }
     {
-        self.raw_entry_mut_counted(&mut Tally::new())
+        uncounted!(self.raw_entry_mut_counted())
     }
 
     /// `raw_entry_mut`, with its work counted: one hash for each pair at a switch, and nothing else.

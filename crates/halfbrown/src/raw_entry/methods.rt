@@ -10,7 +10,7 @@ ghost use Rattle.halfbrown.specs.State.{WithPairs};
 
 use super::RawEntryMut;
 use crate::{Limit, OccupiedEntry};
-use half_store::Tally;
+use half_store::{Tally, uncounted};
 use std::hash::{BuildHasher, Hash};
 
 impl<'a, K: Eq + Hash, V, S: BuildHasher, L: Limit> RawEntryMut<'a, K, V, S, L> {
@@ -29,7 +29,7 @@ impl<'a, K: Eq + Hash, V, S: BuildHasher, L: Limit> RawEntryMut<'a, K, V, S, L> 
         requires { is_found self ≡ false → holds K.eq (raw_map self).pairs key ≡ false }
         ensures { PutsEntry L.LIMIT K.eq self.entry key value result }
     {
-        self.insert_counted(key, value, &mut Tally::new())
+        uncounted!(self.insert_counted(key, value))
     }
 
     /// `insert`, with its work counted: nothing where a pair was found, and else that of a vacant entry's `insert`.
@@ -74,7 +74,7 @@ impl<'a, K: Eq + Hash, V, S: BuildHasher, L: Limit> RawEntryMut<'a, K, V, S, L> 
         ensures { PutsEntry L.LIMIT K.eq self.entry default_key
             (unwrap_or (found_value self.entry) default_value) result }
     {
-        self.or_insert_entry_counted(default_key, default_value, &mut Tally::new())
+        uncounted!(self.or_insert_entry_counted(default_key, default_value))
     }
 
     /// `or_insert_entry`, with its work counted: nothing where a pair was found, and else that of a vacant entry's `insert`.
@@ -124,7 +124,7 @@ impl<'a, K: Eq + Hash, V, S: BuildHasher, L: Limit> RawEntryMut<'a, K, V, S, L> 
         ensures { (result.0.now, result.1.now)
             ≡ unwrap_or (found_pair self.entry) (default_key, default_value) }
     {
-        self.or_insert_counted(default_key, default_value, &mut Tally::new())
+        uncounted!(self.or_insert_counted(default_key, default_value))
     }
 
     /// `or_insert`, with its work counted: nothing where a pair was found, and else that of a vacant entry's `insert`.
@@ -145,10 +145,8 @@ impl<'a, K: Eq + Hash, V, S: BuildHasher, L: Limit> RawEntryMut<'a, K, V, S, L> 
             else after_adding (key_hash S.BuildHasher S.Hasher.Hasher K.hash_input)
             (raw_map self.entry) default_key tally.old) }
     {
-        match self {
-            RawEntryMut::Occupied(entry) => entry.into_key_value(),
-            RawEntryMut::Vacant(entry) => entry.insert_counted(default_key, default_value, tally),
-        }
+        self.or_insert_entry_counted(default_key, default_value, tally)
+            .into_key_value()
     }
 
     /// `or_insert` with a pair that is made only where none was found.
@@ -165,7 +163,7 @@ impl<'a, K: Eq + Hash, V, S: BuildHasher, L: Limit> RawEntryMut<'a, K, V, S, L> 
         ensures { UnwrapsOrElse (found_pair self.entry) (F.post default)
             (result.0.now, result.1.now) }
     {
-        self.or_insert_with_counted(default, &mut Tally::new())
+        uncounted!(self.or_insert_with_counted(default))
     }
 
     /// `or_insert_with`, with its work counted: nothing where a pair was found, and else that of a vacant entry's `insert`.

@@ -11,7 +11,7 @@ ghost use Rattle.halfbrown.specs.RawEntry.{Vacant, raw_map, AddsEntry, LendsPair
 
 use super::RawVacantEntryMut;
 use crate::{Limit, OccupiedEntry};
-use half_store::Tally;
+use half_store::{Tally, uncounted};
 use std::hash::{BuildHasher, Hash};
 
 impl<'a, K: Eq + Hash, V, S: BuildHasher, L: Limit> RawVacantEntryMut<'a, K, V, S, L> {
@@ -27,7 +27,7 @@ impl<'a, K: Eq + Hash, V, S: BuildHasher, L: Limit> RawVacantEntryMut<'a, K, V, 
         requires { holds K.eq (raw_map (Vacant self)).pairs key ≡ false }
         ensures { LendsPair key value result }
     {
-        self.insert_counted(key, value, &mut Tally::new())
+        uncounted!(self.insert_counted(key, value))
     }
 
     /// `insert`, with its work counted: one hash and one insertion probe in a table, and nothing in a vector.
@@ -54,7 +54,7 @@ impl<'a, K: Eq + Hash, V, S: BuildHasher, L: Limit> RawVacantEntryMut<'a, K, V, 
         requires { holds K.eq (raw_map (Vacant self)).pairs key ≡ false }
         ensures { AddsEntry L.LIMIT K.eq (Vacant self.entry) key value result }
     {
-        self.insert_entry_counted(key, value, &mut Tally::new())
+        uncounted!(self.insert_entry_counted(key, value))
     }
 
     /// `insert_entry`, with its work counted: that of `insert`.
@@ -88,7 +88,7 @@ impl<'a, K: Eq + Hash, V, S: BuildHasher, L: Limit> RawVacantEntryMut<'a, K, V, 
         requires absent { holds K.eq (raw_map (Vacant self)).pairs key ≡ false }
         ensures { LendsPair key value result }
     {
-        self.insert_hashed_nocheck_counted(hash, key, value, &mut Tally::new())
+        uncounted!(self.insert_hashed_nocheck_counted(hash, key, value))
     }
 
     /// `insert_hashed_nocheck`, with its work counted: one insertion probe in a table, and nothing in a vector.
@@ -107,7 +107,8 @@ impl<'a, K: Eq + Hash, V, S: BuildHasher, L: Limit> RawVacantEntryMut<'a, K, V, 
         ensures cost { tally.new ≡ after_probe (key_hash S.BuildHasher S.Hasher.Hasher K.hash_input)
             (raw_map (Vacant self.entry)) hash tally.old }
     {
-        self.add(hash, key, value, tally).into_key_value()
+        self.insert_entry_hashed_nocheck_counted(hash, key, value, tally)
+            .into_key_value()
     }
 
     /// `insert_hashed_nocheck`, but returns the pair's entry.
@@ -128,7 +129,7 @@ impl<'a, K: Eq + Hash, V, S: BuildHasher, L: Limit> RawVacantEntryMut<'a, K, V, 
         requires absent { holds K.eq (raw_map (Vacant self)).pairs key ≡ false }
         ensures { AddsEntry L.LIMIT K.eq (Vacant self.entry) key value result }
     {
-        self.insert_entry_hashed_nocheck_counted(hash, key, value, &mut Tally::new())
+        uncounted!(self.insert_entry_hashed_nocheck_counted(hash, key, value))
     }
 
     /// `insert_entry_hashed_nocheck`, with its work counted: that of `insert_hashed_nocheck`.
@@ -169,7 +170,7 @@ impl<'a, K: Eq + Hash, V, S: BuildHasher, L: Limit> RawVacantEntryMut<'a, K, V, 
         requires absent { holds K.eq (raw_map (Vacant self)).pairs key ≡ false }
         ensures { LendsPair key value result }
     {
-        self.insert_with_hasher_counted(hash, key, value, hasher, &mut Tally::new())
+        uncounted!(self.insert_with_hasher_counted(hash, key, value, hasher))
     }
 
     /// `insert_with_hasher`, with its work counted: that of `insert_hashed_nocheck`.

@@ -10,7 +10,7 @@ use Rattle.halfbrown.specs.declared.entry.OccupiedEntry.{OccupiedEntry}
 use Rattle.halfbrown.specs.declared.raw_entry.RawEntryMut.{RawEntryMut}
 use Rattle.halfbrown.specs.declared.raw_entry.RawVacantEntryMut.{RawVacantEntryMut}
 use Rattle.halfbrown.specs.Entry.{entry_key, entry_value, map_of, with_value, IsWritten}
-use Rattle.halfbrown.specs.RawEntry.{Occupied, Vacant, found_value, pairs_with, PutsThroughRawEntry}
+use Rattle.halfbrown.specs.RawEntry.{Occupied, Vacant, found_key, found_pair, found_value, pairs_with, PutsThroughRawEntry}
 use Rattle.halfbrown.specs.State.{WithPairs}
 use Rattle.halfbrown.proofs.lemmas.entry.Methods.{key_of-pair, value_of-pair, set_value-last, value-last}
 use Rattle.halfbrown.proofs.lemmas.entry.Replace.{swap_remove_at-last}
@@ -54,6 +54,13 @@ module _ {K V : Type 0} where
   set_value-held [] i d = refl
   set_value-held (p ∷ ps) zero d = refl
   set_value-held (p ∷ ps) (suc i) d = ap (λ l. p ∷ l) (set_value-held ps i d)
+
+  -- a pair that is there, or else another, has its key and its value
+  pair_or : (ps : List (K × V)) (i : ℕ) (k : K) (v : V)
+      → (unwrap_or (slice_get (keys_of ps) i) k, unwrap_or (slice_get (values_of ps) i) v) ≡ unwrap_or (slice_get ps i) (k, v)
+  pair_or [] i k v = refl
+  pair_or (p ∷ ps) zero k v = refl
+  pair_or (p ∷ ps) (suc i) k v = pair_or ps i k v
 
   -- the key of a pair that was just appended
   key-last : (ps : List (K × V)) (k : K) (v : V) → slice_get (keys_of (ps ++ (k, v) ∷ [])) (length ps) ≡ Some k
@@ -145,3 +152,9 @@ module _ {K V S L H : Type 0} {e : eq.Ghosts K} {h : hash.Ghosts K} {b : builder
     held_puts entry o is key value within =
         subst (λ found. PutsThroughRawEntry found key (unwrap_or (found_value found) value)
         (record { map = o.map; index = o.index; within = within })) (sym is) (held_puts_at o key value within)
+
+    -- the key and the value that are held once a pair is added where none was found
+    pub found_or : (entry : RawEntryMut K V S L H e h b w l) (key : K) (value : V)
+        → (unwrap_or (found_key entry) key, unwrap_or (found_value entry) value) ≡ unwrap_or (found_pair entry) (key, value)
+    found_or (Occupied o) key value = pair_or o.map.now.pairs o.index key value
+    found_or (Vacant v) key value = refl

@@ -3,8 +3,8 @@ use Rattle.halfbrown.proofs.raw_entry.RawVacantEntryMut.insert_hashed_nocheck_co
 
 pub returns-clause-lends : goal.returns-clause-lends
 returns-clause-lends g c =
-    let entry = c.add.result in
-    let puts = c.add.ensures.adds.puts in
+    let entry = c.insert_entry_hashed_nocheck_counted.result in
+    let puts = c.insert_entry_hashed_nocheck_counted.ensures.adds.puts in
     record {
       key = lent_key entry.map.now.pairs entry.index _ _ _ c.into_key_value.ensures puts.key_is;
       value = lent_value entry.map.now.pairs entry.index _ _ _ c.into_key_value.ensures puts.value_is;
