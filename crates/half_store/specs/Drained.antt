@@ -1,5 +1,5 @@
 -- What is left of a store whose pairs are taken out.
-use Rattle.std.specs.Prelude.{◌≡◌, ℕ, ◌≤◌, length, Option, Some, None}
+use Rattle.std.specs.Prelude.{◌≡◌, ℕ, length, Option, Some, None}
 use Rattle.std.specs.List.{zip}
 use Rattle.std.specs.VecDeque.{deque_capacity}
 use Rattle.std.specs.declared.collections.VecDeque.{VecDeque}
@@ -8,10 +8,10 @@ use Rattle.half_store.specs.Columns.{Columns}
 use Rattle.half_store.specs.Store.{StoreState, store_of}
 use Rattle.half_store.specs.Table.{TableState}
 
--- a table that the pairs had has no more capacity than the columns
+-- a table that the pairs had has the capacity of the columns
 abbrev pub IsBacked : ℕ → Option TableState → Type 0
 IsBacked columns None = Unit {0}
-IsBacked columns (Some t) = capacity_of t.buckets ≤ columns
+IsBacked columns (Some t) = capacity_of t.buckets ≡ columns
 
 module _ {K V Z : Type 0} (keys : VecDeque K Z) (values : VecDeque V Z) where
   -- the pairs that are still to come, with the capacity of the columns

@@ -1,49 +1,48 @@
 -- What contracts see of a store.
-use Rattle.std.specs.Prelude.{◌≡◌, ℕ, ◌+◌, ◌≤◌, Bool, true, false, List, [], ◌∷◌, ◌++◌, length, min, Option, None, Some, if◌then◌else◌}
+use Rattle.std.specs.Prelude.{◌≡◌, ℕ, ◌+◌, Bool, true, false, List, [], ◌∷◌, ◌++◌, length, min, Option, None, Some, if◌then◌else◌}
 use Rattle.half_store.specs.declared.store.vacancy.Vacancy.{Vacancy}
 use Rattle.half_store.specs.Capacity.{capacity_of, capacity_for, grown_capacity}
 use Rattle.half_store.specs.Columns.{Columns}
 use Rattle.half_store.specs.Table.{TableState, Contents, table_contents, no_contents, contents_code, with_hash_in, IsVacancyIn}
 use base.Stored.{Coded, coded×, coded_list, coded_ℕ, coded_bool, coded_via}
 
--- the form, the pairs in order, how many fit, and the capacity that each column has; the stored hashes by entry index and what the buckets contain, of which a vector has none
+-- the form, the pairs in order, and for how many there is memory; the stored hashes by entry index and what the buckets contain, of
+-- which a vector has none
 pub record StoreState (K V : Type 0) : Type 0 where
   pub is_vec : Bool
   pub pairs : List (K × V)
   pub capacity : ℕ
-  pub columns : ℕ
   pub hashes : List ℕ
   pub contents : Contents
 
 module _ {K V : Type 0} where
   -- a vector of these columns
   abbrev pub vector_of : Columns K V → StoreState K V
-  vector_of columns = record { is_vec = true; pairs = columns.pairs; capacity = columns.capacity; columns = columns.capacity; hashes = []; contents = no_contents }
+  vector_of columns = record { is_vec = true; pairs = columns.pairs; capacity = columns.capacity; hashes = []; contents = no_contents }
 
-  -- a table over these columns, which decides how many pairs fit
+  -- a table over these columns
   abbrev pub table_of : Columns K V → TableState → StoreState K V
-  table_of columns t = record { is_vec = false; pairs = columns.pairs; capacity = capacity_of t.buckets; columns = columns.capacity; hashes = t.hashes; contents = table_contents t }
+  table_of columns t = record { is_vec = false; pairs = columns.pairs; capacity = capacity_of t.buckets; hashes = t.hashes; contents = table_contents t }
 
   -- columns without a table are a vector
   abbrev pub store_of : Columns K V → Option TableState → StoreState K V
   store_of columns None = vector_of columns
   store_of columns (Some t) = table_of columns t
 
-  -- a table has a hash for each pair, and no more capacity than the columns
+  -- a table has a hash for each pair, and the capacity of the columns
   pub record IsTableOver (columns : Columns K V) (t : TableState) : Type 0 where
     pub len : length t.hashes ≡ length columns.pairs
-    pub backed : capacity_of t.buckets ≤ columns.capacity
+    pub backed : capacity_of t.buckets ≡ columns.capacity
 
   -- what is always true of the columns and the table
   abbrev pub IsStore : Columns K V → Option TableState → Type 0
   IsStore columns None = Unit {0}
   IsStore columns (Some t) = IsTableOver columns t
 
-  -- the form and all capacities stay
+  -- the form and the capacity stay
   pub record KeepsForm (old new : StoreState K V) : Type 0 where
     pub form : new.is_vec ≡ old.is_vec
     pub capacity : new.capacity ≡ old.capacity
-    pub columns : new.columns ≡ old.columns
 
   -- the store with these pairs, all else the same
   abbrev pub store_with_pairs : StoreState K V → List (K × V) → StoreState K V
@@ -54,10 +53,6 @@ abbrev pub allowed : ℕ → Bool → ℕ → ℕ
 allowed limit is_vec capacity = if is_vec then min capacity limit else capacity
 
 module _ {K V : Type 0} (limit : ℕ) where
-  -- how many pairs fit the store
-  abbrev pub capacity_within : StoreState K V → ℕ
-  capacity_within s = allowed limit s.is_vec s.capacity
-
   -- how many pairs in all a reservation for so many more is for
   abbrev pub reserved : StoreState K V → ℕ → ℕ
   reserved s additional = allowed limit s.is_vec (length s.pairs + additional)
@@ -81,19 +76,17 @@ store_pushed s k v vacancy = record {
   is_vec = s.is_vec;
   pairs = s.pairs ++ (k, v) ∷ [];
   capacity = s.capacity;
-  columns = s.columns;
   hashes = if s.is_vec then s.hashes else s.hashes ++ vacancy.hash ∷ [];
   contents = filled s.is_vec s.contents vacancy;
 }
 
 abbrev pub store_code : {K V : Type 0} → Coded K → Coded V → Coded (StoreState K V)
-store_code k v = coded_via (coded× coded_bool (coded× (coded_list (coded× k v)) (coded× coded_ℕ (coded× coded_ℕ (coded× (coded_list coded_ℕ) contents_code)))))
-    (λ s. (s.is_vec, (s.pairs, (s.capacity, (s.columns, (s.hashes, s.contents))))))
+store_code k v = coded_via (coded× coded_bool (coded× (coded_list (coded× k v)) (coded× coded_ℕ (coded× (coded_list coded_ℕ) contents_code))))
+    (λ s. (s.is_vec, (s.pairs, (s.capacity, (s.hashes, s.contents)))))
     (λ a b e i. record {
       is_vec = (e i).0;
       pairs = (e i).1.0;
       capacity = (e i).1.1.0;
-      columns = (e i).1.1.1.0;
-      hashes = (e i).1.1.1.1.0;
-      contents = (e i).1.1.1.1.1;
+      hashes = (e i).1.1.1.0;
+      contents = (e i).1.1.1.1;
     })

@@ -2,7 +2,7 @@
 //! index.
 ghost use Rattle.std.specs.Prelude.{◌≡◌, ◌<◌, []};
 ghost use Rattle.half_store.specs.Columns.{no_pairs};
-ghost use Rattle.half_store.specs.Store.{vector_of, capacity_within, KeepsForm};
+ghost use Rattle.half_store.specs.Store.{vector_of, KeepsForm};
 
 mod at;
 mod change;
@@ -56,15 +56,12 @@ impl<K, V> Store<K, V> {
         self.table.is_none()
     }
 
-    /// How many pairs fit before more memory is needed; in a vector no more than the limit.
+    /// How many pairs fit before more memory is needed.
     #[inline(always)]
-    pub fn capacity(&self, limit: usize) -> usize
-        ensures { result ≡ capacity_within limit self.now }
+    pub fn capacity(&self) -> usize
+        ensures { result ≡ self.now.capacity }
     {
-        match &self.table {
-            Some(table) => table.capacity(),
-            None => self.columns.capacity().min(limit),
-        }
+        self.columns.capacity()
     }
 
     /// Removes all pairs. The form and the capacity stay.

@@ -5,7 +5,7 @@ ghost use Rattle.std.specs.List.{AllZip};
 ghost use Rattle.half_store.specs.Capacity.{capacity_for, least_capacity, vec_shrunk, shrunk_capacity};
 ghost use Rattle.half_store.specs.Memory.{arrays_of, bytes_of, bytes};
 ghost use Rattle.half_store.specs.Refusal.{refusal_of};
-ghost use Rattle.half_store.specs.Store.{capacity_within, reserved, reserved_capacity};
+ghost use Rattle.half_store.specs.Store.{reserved, reserved_capacity};
 
 use super::Store;
 use crate::refusal::check_size;
@@ -23,7 +23,6 @@ impl<K, V> Store<K, V> {
         ensures pairs { IfOk result (λ s. s.pairs ≡ []) }
         ensures hashes { IfOk result (λ s. s.hashes ≡ []) }
         ensures capacity { IfOk result (λ s. s.capacity ≡ least_capacity s.is_vec capacity) }
-        ensures columns { IfOk result (λ s. s.columns ≡ s.capacity) }
         ensures series { IfOk result (λ s. s.is_vec ≡ false → s.capacity ≡ capacity_for s.capacity) }
         ensures exceeds { IfOk result (λ s. s.is_vec ≡ false → limit < s.capacity) }
         ensures granted { OnOk result (capacity ≤ 2 ^ 60) }
@@ -46,9 +45,9 @@ impl<K, V> Store<K, V> {
 
     /// For how many elements each array has memory.
     pub fn arrays(&self) -> Arrays
-        ensures each { result ≡ arrays_of self.now.is_vec self.now.capacity self.now.columns }
+        ensures each { result ≡ arrays_of self.now.is_vec self.now.capacity }
         ensures bytes { (key value : ℕ) → bytes_of key value result
-            ≡ bytes key value self.now.is_vec self.now.capacity self.now.columns }
+            ≡ bytes key value self.now.is_vec self.now.capacity }
     {
         let (keys, values) = self.columns.capacities();
         let (hashes, words, word_size) = match &self.table {
@@ -72,18 +71,16 @@ impl<K, V> Store<K, V> {
         ensures pairs { self.new.pairs ≡ self.old.pairs }
         ensures form { self.new.is_vec ≡ self.old.is_vec }
         ensures hashes { self.new.hashes ≡ self.old.hashes }
-        ensures enough { OnOk result (reserved limit self.old additional ≤ capacity_within limit self.new) }
-        ensures unneeded { OnOk result (reserved limit self.old additional ≤ capacity_within limit self.old
+        ensures enough { OnOk result (reserved limit self.old additional ≤ self.new.capacity) }
+        ensures unneeded { OnOk result (reserved limit self.old additional ≤ self.old.capacity
             → self.new ≡ self.old) }
-        ensures grown { OnOk result (capacity_within limit self.old < reserved limit self.old additional
+        ensures grown { OnOk result (self.old.capacity < reserved limit self.old additional
             → self.new.capacity ≡ reserved_capacity limit self.old additional) }
-        ensures columns { OnOk result (capacity_within limit self.old < reserved limit self.old additional
-            → self.new.columns ≡ max self.old.columns (reserved_capacity limit self.old additional)) }
         ensures more { self.old.capacity ≤ self.new.capacity }
         ensures series { self.new.is_vec ≡ false → self.new.capacity ≡ capacity_for self.new.capacity }
-        ensures granted { OnOk result (capacity_within limit self.old < reserved limit self.old additional
+        ensures granted { OnOk result (self.old.capacity < reserved limit self.old additional
             → reserved limit self.old additional ≤ 2 ^ 60) }
-        ensures refused { IfErr result (λ why. (capacity_within limit self.old < reserved limit self.old additional)
+        ensures refused { IfErr result (λ why. (self.old.capacity < reserved limit self.old additional)
             × (why ≡ refusal_of (reserved limit self.old additional))) }
         ensures err { OnErr result (self.new ≡ self.old) }
     {
@@ -99,8 +96,7 @@ impl<K, V> Store<K, V> {
             return Err(Refusal::Size);
         };
         let fresh = Table::with_capacity(self.columns.allocator(), needed)?;
-        self.columns.reserve_beside(fresh.capacity(), table, fresh)?;
-        Ok(())
+        Ok(self.columns.reserve_beside(table, fresh)?)
     }
 
     /// Makes a table of no more pairs than the limit a vector, and shrinks the capacity to the least that the pairs fit. On
@@ -110,13 +106,12 @@ impl<K, V> Store<K, V> {
         ensures form { OnOk result (self.new.is_vec ≡ vec_shrunk limit self.old.is_vec (length self.old.pairs)) }
         ensures capacity { OnOk result (self.new.capacity
             ≡ shrunk_capacity limit self.old.is_vec (length self.old.pairs)) }
-        ensures columns { OnOk result (self.new.columns ≡ self.new.capacity) }
         ensures hashes { self.new.is_vec ≡ false → self.new.hashes ≡ self.old.hashes }
         ensures series { OnOk result (self.new.is_vec ≡ false → self.new.capacity ≡ capacity_for self.new.capacity) }
         ensures fits { OnOk result (length self.old.pairs ≤ self.new.capacity) }
         ensures err { OnErr result (self.new ≡ self.old) }
         ensures some { OnErr result (0 < shrunk_capacity limit self.old.is_vec (length self.old.pairs)) }
-        ensures less { OnErr result (shrunk_capacity limit self.old.is_vec (length self.old.pairs) < self.old.columns) }
+        ensures less { OnErr result (shrunk_capacity limit self.old.is_vec (length self.old.pairs) < self.old.capacity) }
     {
         let Some(table) = &mut self.table else {
             return self.columns.shrink_to_fit();
@@ -140,7 +135,6 @@ impl<K, V> Store<K, V> {
             self.now.pairs s.pairs) }
         ensures capacity { IfOk result (λ s. s.capacity
             ≡ (if self.now.is_vec then length self.now.pairs else self.now.capacity)) }
-        ensures columns { IfOk result (λ s. s.columns ≡ s.capacity) }
         ensures hashes { IfOk result (λ s. s.hashes ≡ self.now.hashes) }
         ensures refused { IfErr result (λ why. why ≡ Refusal.Memory) }
     {

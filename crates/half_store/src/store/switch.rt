@@ -17,8 +17,7 @@ impl<K, V> Store<K, V> {
         ensures capacity { IfOk result (λ t. capacity_of t.buckets ≡ capacity_for needed) }
         ensures enough { OnOk result (needed ≤ capacity_for needed) }
         ensures series { OnOk result (capacity_for needed ≡ capacity_for (capacity_for needed)) }
-        ensures backed { OnOk result (capacity_for needed ≤ self.new.capacity) }
-        ensures columns { OnOk result (self.new.columns ≡ max self.old.columns (capacity_for needed)) }
+        ensures columns { OnOk result (self.new.capacity ≡ max self.old.capacity (capacity_for needed)) }
         ensures granted { OnOk result (needed ≤ 2 ^ 60) }
         ensures refused { IfErr result (λ why. why ≡ refusal_of needed) }
         ensures err { OnErr result (self.new ≡ self.old) }
@@ -32,8 +31,8 @@ impl<K, V> Store<K, V> {
     pub fn switch_to(&mut self, table: Table)
         requires vector { self.old.is_vec ≡ true }
         requires len { length table.hashes ≡ length self.old.pairs }
-        requires backed { capacity_of table.buckets ≤ self.old.capacity }
-        ensures { self.new ≡ table_of (record { pairs = self.old.pairs; capacity = self.old.columns }) table }
+        requires backed { capacity_of table.buckets ≡ self.old.capacity }
+        ensures { self.new ≡ table_of (record { pairs = self.old.pairs; capacity = self.old.capacity }) table }
     {
         self.table = Some(table);
     }

@@ -82,7 +82,7 @@ impl<K, V> VecMap<K, V> {
     /// Shrinks a table and its columns to the least capacity that the pairs fit. On error nothing changes.
     pub(crate) fn shrink_beside(&mut self, table: &mut Table) -> Result<(), AllocError>
         requires len { length table.old.hashes ≡ length self.old.pairs }
-        requires backed { capacity_of table.old.buckets ≤ self.old.capacity }
+        requires backed { capacity_of table.old.buckets ≡ self.old.capacity }
         ensures pairs { self.new.pairs ≡ self.old.pairs }
         ensures hashes { table.new.hashes ≡ table.old.hashes }
         ensures columns { OnOk result (self.new.capacity ≡ capacity_for (length self.old.pairs)) }
@@ -95,7 +95,7 @@ impl<K, V> VecMap<K, V> {
     {
         let buckets = buckets_for(table.len());
         let capacity = capacity_of(buckets);
-        if table.capacity() == capacity && self.capacity() == capacity {
+        if table.capacity() == capacity {
             return Ok(());
         }
         let fresh = Table::empty(self.allocator(), buckets)?;
@@ -120,28 +120,24 @@ impl<K, V> VecMap<K, V> {
         Ok(())
     }
 
-    /// `reserve`, beside which the pairs of a table move into a fresh one. They move before the values do, so that the buckets
-    /// and the values are not both there twice.
+    /// Grows to the capacity of an empty table, into which the pairs of this one move. They move before the values do, so that
+    /// the buckets and the values are not both there twice. On error nothing changes.
     pub(crate) fn reserve_beside(
         &mut self,
-        needed: usize,
         table: &mut Table,
         fresh: Table,
     ) -> Result<(), AllocError>
         requires empty { fresh.hashes ≡ [] }
         requires fits { length table.old.hashes ≤ capacity_of fresh.buckets }
+        requires more { self.old.capacity < capacity_of fresh.buckets }
         ensures pairs { self.new.pairs ≡ self.old.pairs }
-        ensures ok { OnOk result (self.new.capacity ≡ max self.old.capacity needed) }
+        ensures ok { OnOk result (self.new.capacity ≡ capacity_of fresh.buckets) }
         ensures hashes { table.new.hashes ≡ table.old.hashes }
         ensures buckets { OnOk result (table.new.buckets ≡ fresh.buckets) }
+        ensures series { OnOk result (self.new.capacity ≡ capacity_for self.new.capacity) }
         ensures err { OnErr result ((self.new ≡ self.old) × (table.new ≡ table.old)) }
-        ensures needed { OnErr result (self.old.capacity < needed) }
     {
-        if needed <= self.capacity() {
-            table.move_to(fresh);
-            return Ok(());
-        }
-        let values = grow_beside(&mut self.keys, needed)?;
+        let values = grow_beside(&mut self.keys, fresh.capacity())?;
         table.move_to(fresh);
         move_to(&mut self.values, values);
         Ok(())

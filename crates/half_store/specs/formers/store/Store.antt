@@ -5,7 +5,6 @@ use Rattle.std_collections.specs.Layout.Former.{entry, on_value, entries_puts, e
 use mathlib.Core.Former.{Former, children, const, list, pair, this, via}
 use mathlib.Core.Path.{refl, sym, ap, ◌∙◌}
 use native.Mathlib.Nat.{ℕ_set}
-use native.Mathlib.Bridge.{le_prop}
 use lib.ListN.{length-map}
 use base.Stored.{gcons, coded×, coded_ℕ, coded_bool, coded_list}
 use denote.RattleType.{RattleType}
@@ -26,18 +25,17 @@ use Rattle.half_store.specs.formers.vecmap.VecMap as columns
 
 -- what a store has beside its form and its pairs
 abbrev Rest : Type 0
-Rest = ℕ × (ℕ × (List ℕ × Contents))
+Rest = ℕ × (List ℕ × Contents)
 
 abbrev pub the_former : Former {0} → Type 0 → Former {0}
 the_former g K = via (pair (const Bool) (pair (list (entry g K)) (const Rest))) (λ X. StoreState K (g.Of X))
-    (λ X s. (s.is_vec, (s.pairs, (s.capacity, (s.columns, (s.hashes, s.contents))))))
+    (λ X s. (s.is_vec, (s.pairs, (s.capacity, (s.hashes, s.contents)))))
     (λ X v. record {
       is_vec = v.0;
       pairs = v.1.0;
       capacity = v.1.1.0;
-      columns = v.1.1.1.0;
-      hashes = v.1.1.1.1.0;
-      contents = v.1.1.1.1.1;
+      hashes = v.1.1.1.0;
+      contents = v.1.1.1.1;
     }) (λ X s. refl) (λ X v. refl)
 
 abbrev pub the_weighed : {g : Former {0}} → Weighed g → (K : Type 0) → Weighed (the_former g K)
@@ -59,7 +57,7 @@ fields K = via (pair (columns.the_former this K) (const (Option TableState))) (�
 
 IsStore-prop : {K X : Type 0} (c : Columns K X) (t : Option TableState) → IsProp (IsStore c t)
 IsStore-prop c None p q = refl
-IsStore-prop c (Some t) p q = λ i. record { len = ℕ_set _ _ p.len q.len i; backed = le_prop p.backed q.backed i }
+IsStore-prop c (Some t) p q = λ i. record { len = ℕ_set _ _ p.len q.len i; backed = ℕ_set _ _ p.backed q.backed i }
 
 module _ {K X Y : Type 0} (h : X → Y) (c : Columns K X) where
   abbrev mapped : Columns K Y
@@ -96,6 +94,6 @@ module _ (K R R' : RattleType) (h : R.Denot → R'.Denot) where
 
   pub the_codes_placed : Recodes R R' h → Recodes (C.the_row K R) (C.the_row K R') ((the_former this K.Denot).map R.Denot R'.Denot h)
   the_codes_placed e s =
-      let code = coded× coded_ℕ (coded× coded_ℕ (coded× (coded_list coded_ℕ) contents_code)) in
-      let rest = code.code (s.capacity, (s.columns, (s.hashes, s.contents))) in
+      let code = coded× coded_ℕ (coded× (coded_list coded_ℕ) contents_code) in
+      let rest = code.code (s.capacity, (s.hashes, s.contents)) in
       ap (λ x. gcons (coded_bool.code s.is_vec) (gcons x rest)) (entries_recoded K R R' h e s.pairs)
