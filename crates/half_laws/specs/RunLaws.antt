@@ -80,16 +80,11 @@ module _ {K : Type 0} (V S : Type 0) (limit : ℕ) (eq : K → K → Bool) where
   CapacityLaw = EachRun (λ old steps new. IsState eq limit old → reserves (commands_of steps) ≡ false
       → new.capacity ≤ max old.capacity (2 * most_held old steps + 8))
 
-  -- and each column has memory for no more
-  abbrev pub MemoryLaw : Type 0
-  MemoryLaw = EachRun (λ old steps new. IsState eq limit old → reserves (commands_of steps) ≡ false
-      → new.columns ≤ max (max old.columns old.capacity) (2 * most_held old steps + 8))
-
   -- so all arrays take at most the bytes of a table with that capacity, whatever bytes a key and a value have
   abbrev pub BytesLaw : Type 0
   BytesLaw = EachRun (λ old steps new. IsState eq limit old → reserves (commands_of steps) ≡ false → (key value : ℕ)
-      → let most : ℕ = max (max old.columns old.capacity) (2 * most_held old steps + 8) in
-      bytes key value new ≤ store.bytes key value false most most)
+      → let most : ℕ = max old.capacity (2 * most_held old steps + 8) in
+      bytes key value new ≤ store.bytes key value false most)
 
   -- without `Shrink` and `Reserve` a run moves at most two pairs for each command, and once those that it began with and twice the limit
   abbrev pub MovesLaw : Type 0

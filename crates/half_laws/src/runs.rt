@@ -2,7 +2,7 @@
 //! laws are their contracts.
 ghost use Rattle.halfbrown.specs.Costs.{key_hash};
 ghost use Rattle.half_laws.specs.RunLaws.{FormLaw, UnswitchedLaw, SwitchLaw, TableLaw, NothingHashedLaw, RepliesLaw, SplitLaw, JoinLaw};
-ghost use Rattle.half_laws.specs.RunLaws.{HashesLaw, OneSwitchLaw, AmortizedHashesLaw, CapacityLaw, MemoryLaw, BytesLaw, MovesLaw};
+ghost use Rattle.half_laws.specs.RunLaws.{HashesLaw, OneSwitchLaw, AmortizedHashesLaw, CapacityLaw, BytesLaw, MovesLaw};
 
 use halfbrown::Limit;
 use std::hash::{BuildHasher, Hash};
@@ -45,12 +45,10 @@ pub fn hashes_of_a_run<K: Eq + Hash, V, S: BuildHasher, L: Limit>()
 {}
 
 /// After a run without `Reserve` the capacity is at most eight more than twice the most pairs that the map held at
-/// once, or what it was at first. The columns of keys and values have memory for no more, or for what they had at first,
-/// and all arrays take at most the bytes of a table with that capacity. What was inserted and removed on the way leaves no
-/// more.
+/// once, or what it was at first, and all arrays take at most the bytes of a table with that capacity. What was inserted
+/// and removed on the way leaves no more.
 pub fn capacity_of_a_run<K: Eq + Hash, V, S: BuildHasher, L: Limit>()
     ensures capacity { CapacityLaw V S L.LIMIT K.eq }
-    ensures memory { MemoryLaw V S L.LIMIT K.eq }
     ensures bytes { BytesLaw V S L.LIMIT K.eq }
 {}
 

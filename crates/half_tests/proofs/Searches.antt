@@ -104,7 +104,7 @@ module _ (rule : Rule) (held : List (ℕ × ℕ)) (capacity : ℕ) (k : ℕ) whe
     -- the parts of the state that costs depend on, from those that it has to those of the table
     cost_is : search_cost_of eqb builder_hash m k ≡ table_cost (is_some (index_of (eqb k) (keys_of held)))
     cost_is i = search_cost_of eqb (λ b. number_hash (table.builder i))
-        (state (table.form i) (table.pairs i) (table.capacity i) m.columns m.builder (contents_of m)) k
+        (state (table.form i) (table.pairs i) (table.capacity i) m.builder (contents_of m)) k
 
     found_is : holds eqb held k ≡ true → is_some (index_of (eqb k) (keys_of m.pairs)) ≡ true
     found_is present = found_where_held (eqb k) m.pairs ∙ ap (λ ps. holds eqb ps k) table.pairs ∙ present
@@ -139,7 +139,7 @@ module _ (rule : Rule) (held : List (ℕ × ℕ)) (capacity : ℕ) (k : ℕ) whe
     insert_cost_is : insert_cost 0 eqb builder_hash m k true
         ≡ table_insert_cost (is_some (index_of (eqb k) (keys_of held))) (holds eqb held k)
     insert_cost_is i = insert_cost 0 eqb (λ b. number_hash (table.builder i))
-        (state (table.form i) (table.pairs i) (table.capacity i) m.columns m.builder (contents_of m)) k true
+        (state (table.form i) (table.pairs i) (table.capacity i) m.builder (contents_of m)) k true
 
     -- a new key that is granted: each key of its hash is compared, its probe is read to the end, and another one after growth
     pub inserting : (before after : Work) → InsertCosts 0 eqb builder_hash m k true before after → holds eqb held k ≡ false

@@ -40,12 +40,12 @@ vector_with rule keys k old new vector fresh below pairs form builder =
 module _ (limit : ℕ) (rule : Rule) (held : List (ℕ × ℕ)) (k : ℕ) (m : State ℕ ℕ Counting) (vector : IsVector rule held m) where
   -- what a granted insertion costs, by what the vector holds
   insert_cost_is : insert_cost limit eqb builder_hash m k true
-      ≡ insert_cost limit eqb (λ b. number_hash rule) (state true held m.capacity m.columns m.builder (contents_of m)) k true
+      ≡ insert_cost limit eqb (λ b. number_hash rule) (state true held m.capacity m.builder (contents_of m)) k true
   insert_cost_is i = insert_cost limit eqb (λ b. number_hash (vector.builder i))
-      (state (vector.form i) (vector.pairs i) m.capacity m.columns m.builder (contents_of m)) k true
+      (state (vector.form i) (vector.pairs i) m.capacity m.builder (contents_of m)) k true
 
   pub inserting_grew : (before after : Work) → InsertCosts limit eqb builder_hash m k true before after
-      → GrewBy (insert_cost limit eqb (λ b. number_hash rule) (state true held m.capacity m.columns m.builder (contents_of m)) k true)
+      → GrewBy (insert_cost limit eqb (λ b. number_hash rule) (state true held m.capacity m.builder (contents_of m)) k true)
       before after
   inserting_grew before after cost = subst (λ c. GrewBy c before after) insert_cost_is cost.grew
 

@@ -27,5 +27,4 @@ pub record IsCloneOf {K V S : Type 0} (key_clone : K → K → Type 0) (value_cl
   pub pairs : ArePairClones key_clone value_clone old.pairs new.pairs
   pub same : ClonesAreCopies key_clone → ClonesAreCopies value_clone → new.pairs ≡ old.pairs
   pub capacity : new.capacity ≡ (if old.is_vec then length old.pairs else old.capacity)
-  pub columns : new.columns ≡ new.capacity
   pub builder : builder_clone old.builder new.builder

@@ -177,11 +177,11 @@ module _ {K V S : Type 0} (limit : ℕ) where
 
   -- the map once a granted switch is made, as far as a cost depends on it: its memory and its buckets are not said
   abbrev pub switched : State K V S → State K V S
-  switched m = state (is_vec_after limit m) m.pairs (capacity_switched m) m.columns m.builder (contents_of m)
+  switched m = state (is_vec_after limit m) m.pairs (capacity_switched m) m.builder (contents_of m)
 
   -- the same once the capacity is enough for one pair more
   abbrev pub grown : State K V S → State K V S
-  grown m = state (is_vec_after limit m) m.pairs (capacity_grown m) m.columns m.builder (contents_of m)
+  grown m = state (is_vec_after limit m) m.pairs (capacity_grown m) m.builder (contents_of m)
 
   module _ (eq : K → K → Bool) (hash : S → K → ℕ) where
     -- what an insertion of k costs: the switch hashes each key, one search follows in the form that it left, and, where a new key made

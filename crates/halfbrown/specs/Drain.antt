@@ -14,10 +14,10 @@ use Rattle.halfbrown.specs.declared.limit.Limit as limits
 use Rattle.halfbrown.specs.Layout.{state_in}
 use Rattle.halfbrown.specs.State.{State, with_pairs}
 
--- the map, of this limit, as it is once the `Drain` is dropped: its own store again, with no pair
+-- the map as it is once the `Drain` is dropped: its own store again, with no pair
 abbrev pub map_after : {K V S L P H : Type 0} {e : eq.Ghosts K} {h : hash.Ghosts K} {b : builder.Ghosts S H} {w : hasher.Ghosts H} {l : limits.Ghosts L} {p : taken.Ghosts P K V}
-    → ℕ → Drain K V S L P H e h b w l p → State K V S
-map_after {p} limit d = with_pairs (state_in limit (p.store d.pairs) d.map.now.builder) []
+    → Drain K V S L P H e h b w l p → State K V S
+map_after {p} d = with_pairs (state_in (p.store d.pairs) d.map.now.builder) []
 
 module _ {K V S L H : Type 0} {e : eq.Ghosts K} {h : hash.Ghosts K} {b : builder.Ghosts S H} {w : hasher.Ghosts H} {l : limits.Ghosts L} {p : taken.Ghosts (StoreState K V) K V} where
   -- the pairs that are still to come, first to last
@@ -28,12 +28,11 @@ module _ {K V S L H : Type 0} {e : eq.Ghosts K} {h : hash.Ghosts K} {b : builder
   abbrev pub lender : Drain K V S L (StoreState K V) H e h b w l p → GName
   lender d = d.map.ghost_name
 
-  -- old and new borrow the same map, and leave it in the same form, with the same capacity, memory and builder
+  -- old and new borrow the same map, and leave it in the same form, with the same capacity and builder
   pub record Keeps (old new : Drain K V S L (StoreState K V) H e h b w l p) : Type 0 where
     pub map : new.map ≡ old.map
     pub form : new.pairs.is_vec ≡ old.pairs.is_vec
     pub capacity : new.pairs.capacity ≡ old.pairs.capacity
-    pub columns : new.pairs.columns ≡ old.pairs.columns
 
   -- `next` took s to t, and returned r: the first pair that was still to come; or None, and nothing changed
   abbrev pub DrainSteps : Drain K V S L (StoreState K V) H e h b w l p → Option (K × V) → Drain K V S L (StoreState K V) H e h b w l p → Type 0

@@ -1,5 +1,5 @@
 -- Where a call needs more capacity, how much, and what the capacity is afterwards.
-use Rattle.std.specs.Prelude.{◌≡◌, ℕ, ◌+◌, ◌^◌, ◌<◌, ◌≤◌, ◌⊎◌, Bool, not, ◌&&◌, ◌==◌, nat_lt, max, length, Option, None, Some, IfNone, IfSome, MatchBool, MatchOption, if◌then◌else◌}
+use Rattle.std.specs.Prelude.{◌≡◌, ℕ, ◌+◌, ◌^◌, ◌<◌, ◌≤◌, ◌⊎◌, Bool, not, ◌&&◌, ◌==◌, nat_lt, length, Option, None, Some, IfNone, IfSome, MatchBool, MatchOption, if◌then◌else◌}
 use Rattle.half_store.specs.declared.refusal.Refusal.{Refusal}
 use Rattle.half_store.specs.Refusal.{refusal_of}
 use Rattle.half_store.specs.Capacity.{capacity_for, grown_capacity, least_capacity, vec_shrunk, shrunk_capacity}
@@ -17,11 +17,6 @@ abbrev pub HasCapacityAfter : {K V S : Type 0} → ℕ → State K V S → Optio
 HasCapacityAfter limit old needs new =
     MatchOption needs (new.capacity ≡ old.capacity)
     (λ n. MatchBool new.is_vec (new.capacity ≡ grown_capacity limit old.capacity n) (new.capacity ≡ capacity_for n))
-
--- the columns' memory after a granted call: where it needs no more capacity, the same; else each column has memory for as many pairs as fit,
--- and gives none back
-abbrev pub HasColumnsAfter : {K V S : Type 0} → State K V S → Option ℕ → State K V S → Type 0
-HasColumnsAfter old needs new = MatchOption needs (new.columns ≡ old.columns) (λ n. new.columns ≡ max old.columns new.capacity)
 
 -- the capacity that a reservation for so many pairs in all needs, where there is less
 abbrev pub reserve_needs : {K V S : Type 0} → ℕ → State K V S → ℕ → Option ℕ
@@ -70,7 +65,6 @@ module _ {K V S : Type 0} (limit : ℕ) where
     pub pairs : new.pairs ≡ old.pairs
     pub form : new.is_vec ≡ is_vec
     pub capacity : HasCapacityAfter limit old needs new
-    pub columns : HasColumnsAfter old needs new
     pub grantable : IsGrantable needs
     pub builder : new.builder ≡ old.builder
 
@@ -84,13 +78,12 @@ module _ {K V S : Type 0} (limit : ℕ) where
     pub pairs : new.pairs ≡ old.pairs
     pub form : new.is_vec ≡ vec_shrunk limit old.is_vec (length old.pairs)
     pub capacity : new.capacity ≡ shrunk_capacity limit old.is_vec (length old.pairs)
-    pub columns : new.columns ≡ new.capacity
     pub builder : new.builder ≡ old.builder
 
-  -- giving capacity back needs memory: there are pairs, and smaller columns than these fit them
+  -- giving capacity back needs memory: there are pairs, and they fit less
   pub record NeedsToShrink (old : State K V S) : Type 0 where
     pub some : 0 < shrunk_capacity limit old.is_vec (length old.pairs)
-    pub less : shrunk_capacity limit old.is_vec (length old.pairs) < old.columns
+    pub less : shrunk_capacity limit old.is_vec (length old.pairs) < old.capacity
 
   -- after `shrink_to_fit` capacity is given back, or, where that needs memory, all is as before
   abbrev pub Shrinks : State K V S → State K V S → Type 0

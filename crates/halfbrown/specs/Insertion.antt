@@ -1,7 +1,7 @@
 -- What an insertion does where it is granted, and what it hands back where it is refused.
 use Rattle.std.specs.Prelude.{◌≡◌, ℕ, Bool, Option, Result, OnOk, IfOk, IfErr}
 use Rattle.halfbrown.specs.declared.refused.Refused.{Refused}
-use Rattle.halfbrown.specs.Growth.{is_vec_after, insert_needs, new_key_needs, IsRefusal, IsGrantable, HasCapacityAfter, HasColumnsAfter}
+use Rattle.halfbrown.specs.Growth.{is_vec_after, insert_needs, new_key_needs, IsRefusal, IsGrantable, HasCapacityAfter}
 use Rattle.halfbrown.specs.Pairs.{put, value_of}
 use Rattle.halfbrown.specs.State.{State, IsState}
 use Rattle.halfbrown.specs.Updates.{HasPut}
@@ -13,7 +13,6 @@ module _ {K V S : Type 0} where
     pub pairs : new.pairs ≡ put eq old.pairs k v
     pub form : new.is_vec ≡ is_vec_after limit old
     pub capacity : HasCapacityAfter limit old needs new
-    pub columns : HasColumnsAfter old needs new
     pub grantable : IsGrantable needs
     pub builder : new.builder ≡ old.builder
 

@@ -10,7 +10,6 @@ module _ {K V S : Type 0} (is_builder : S → Type 0) where
     pub form : m.is_vec ≡ true
     pub pairs : m.pairs ≡ []
     pub capacity : m.capacity ≡ 0
-    pub columns : m.columns ≡ 0
     pub builder : is_builder m.builder
 
   module _ (is_vec : Bool) (needed : ℕ) where
@@ -19,7 +18,6 @@ module _ {K V S : Type 0} (is_builder : S → Type 0) where
       pub form : m.is_vec ≡ is_vec
       pub pairs : m.pairs ≡ []
       pub capacity : HasCapacityMade needed m
-      pub columns : m.columns ≡ m.capacity
       pub builder : is_builder m.builder
       pub grantable : IsGrantable (making_needs needed)
 

@@ -5,4 +5,4 @@ use Rattle.halfbrown.specs.State.{State}
 
 -- the bytes of a map's arrays, where a key has so many, and a value so many
 abbrev pub bytes : {K V S : Type 0} → ℕ → ℕ → State K V S → ℕ
-bytes key value m = store.bytes key value m.is_vec m.capacity m.columns
+bytes key value m = store.bytes key value m.is_vec m.capacity

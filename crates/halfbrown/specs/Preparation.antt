@@ -11,7 +11,7 @@ use Rattle.halfbrown.specs.State.{State, state, contents_of}
 module _ {K V S : Type 0} where
   -- the map with one pair more, which is added here
   abbrev pub pushed : State K V S → K → V → Vacancy → State K V S
-  pushed m k v vacancy = state m.is_vec (m.pairs ++ (k, v) ∷ []) m.capacity m.columns m.builder (filled m.is_vec (contents_of m) vacancy)
+  pushed m k v vacancy = state m.is_vec (m.pairs ++ (k, v) ∷ []) m.capacity m.builder (filled m.is_vec (contents_of m) vacancy)
 
   -- the buckets that making capacity for a pair of this hash reads, whose vacancy is known: where the table grows, those of an insertion probe
   abbrev pub growth_looks : (K → ℕ) → State K V S → ℕ → Bool → ℕ

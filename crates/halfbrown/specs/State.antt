@@ -6,21 +6,19 @@ use Rattle.half_store.specs.Capacity.{capacity_for}
 use Rattle.half_store.specs.Table.{Contents, contents_code}
 use base.Stored.{Coded, coded×, coded_list, coded_ℕ, coded_bool, coded_via}
 
--- the form, the pairs in order, the capacity, the pairs that the columns of keys and values have memory for, and the builder; what the buckets
--- contain is private
+-- the form, the pairs in order, the capacity, and the builder; what the buckets contain is private
 pub record State (K V S : Type 0) : Type 0 where
   pub is_vec : Bool
   pub pairs : List (K × V)
   pub capacity : ℕ
-  pub columns : ℕ
   pub builder : S
   contents : Contents
 
 module _ {K V S : Type 0} where
   -- the state of these parts
-  abbrev pub state : Bool → List (K × V) → ℕ → ℕ → S → Contents → State K V S
-  state is_vec pairs capacity columns builder contents =
-      record { is_vec = is_vec; pairs = pairs; capacity = capacity; columns = columns; builder = builder; contents = contents }
+  abbrev pub state : Bool → List (K × V) → ℕ → S → Contents → State K V S
+  state is_vec pairs capacity builder contents =
+      record { is_vec = is_vec; pairs = pairs; capacity = capacity; builder = builder; contents = contents }
 
   -- what the buckets contain
   abbrev pub contents_of : State K V S → Contents
@@ -30,24 +28,22 @@ module _ {K V S : Type 0} where
   abbrev pub with_pairs : State K V S → List (K × V) → State K V S
   with_pairs m ps = record m { pairs = ps }
 
-  -- new is old with these pairs: form, capacity, memory and builder are the same
+  -- new is old with these pairs: form, capacity and builder are the same
   pub record WithPairs (old : State K V S) (ps : List (K × V)) (new : State K V S) : Type 0 where
     pub pairs : new.pairs ≡ ps
     pub form : new.is_vec ≡ old.is_vec
     pub capacity : new.capacity ≡ old.capacity
-    pub columns : new.columns ≡ old.columns
     pub builder : new.builder ≡ old.builder
 
 abbrev pub state_code : {K V S : Type 0} → Coded K → Coded V → Coded S → Coded (State K V S)
-state_code k v s = coded_via (coded× coded_bool (coded× (coded_list (coded× k v)) (coded× coded_ℕ (coded× coded_ℕ (coded× s contents_code)))))
-    (λ m. (m.is_vec, (m.pairs, (m.capacity, (m.columns, (m.builder, m.contents))))))
+state_code k v s = coded_via (coded× coded_bool (coded× (coded_list (coded× k v)) (coded× coded_ℕ (coded× s contents_code))))
+    (λ m. (m.is_vec, (m.pairs, (m.capacity, (m.builder, m.contents)))))
     (λ a b e i. record {
       is_vec = (e i).0;
       pairs = (e i).1.0;
       capacity = (e i).1.1.0;
-      columns = (e i).1.1.1.0;
-      builder = (e i).1.1.1.1.0;
-      contents = (e i).1.1.1.1.1;
+      builder = (e i).1.1.1.0;
+      contents = (e i).1.1.1.1;
     })
 
 -- one of the capacities that a table may have: 0, 3, 6, 12, 24, ..

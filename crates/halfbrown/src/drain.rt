@@ -1,5 +1,5 @@
 //! What `drain` returns: the pairs of a map, taken out of it in order.
-ghost use Rattle.std.specs.Prelude.{◌≡◌, ◌^◌, ◌<◌, false, [], length, Some, IfSome};
+ghost use Rattle.std.specs.Prelude.{◌≡◌, ◌^◌, ◌<◌, ◌≤◌, true, false, [], length, Some, IfSome};
 ghost use Rattle.std.specs.Iterator.{at_most, UpTo as IsUpTo};
 ghost use Rattle.std.specs.Iterator.SizeHint.{IsWithinCount};
 ghost use Rattle.halfbrown.specs.State.{IsState, IsTableCapacity, WithPairs};
@@ -30,6 +30,7 @@ pub struct Drain<
     map: &'a mut LimitedHashMap<K, V, S, L>,
     // its store, with the pairs that are still to come
     pairs: P,
+    ghost within: { (P.store pairs).is_vec ≡ true → (P.store pairs).capacity ≤ L.LIMIT },
     ghost series: { (P.store pairs).is_vec ≡ false → IsTableCapacity (P.store pairs).capacity },
     ghost exceeds: { (P.store pairs).is_vec ≡ false → L.LIMIT < (P.store pairs).capacity },
 }
@@ -39,7 +40,7 @@ impl<'a, K: Eq + Hash + Drop, V: Drop, S: BuildHasher, L: Limit, P: IntoStore<K,
     ghost use Rattle.halfbrown.specs.Drain.{map_after};
 
     fn drop(self)
-        ensures after { WithPairs (map_after L.LIMIT self.entry) [] self.exit.0.now }
+        ensures after { WithPairs (map_after self.entry) [] self.exit.0.now }
         ensures state { IsState K.eq L.LIMIT self.exit.0.now }
     {
         let Drain { map, pairs } = self;
@@ -66,7 +67,7 @@ impl<K: Eq + Hash, V, S: BuildHasher, L: Limit> LimitedHashMap<K, V, S, L> {
         ensures pairs { rest result ≡ self.old.pairs }
         ensures small { length (rest result) < 2 ^ 63 }
         ensures same_map { lender result ≡ self.entry.ghost_name }
-        ensures after { WithPairs self.old [] (map_after L.LIMIT result) }
+        ensures after { WithPairs self.old [] (map_after result) }
         ensures runs { RunsInOrder result }
         ensures keeps { KeepsAlong result }
     {

@@ -76,7 +76,7 @@ impl<K: Eq + Hash, V, S: BuildHasher, L: Limit> Model for LimitedHashMap<K, V, S
 
     ghost coded = { state_code K.code V.code S.code };
 
-    ghost view = { λ m. state_in L.LIMIT m.store m.builder };
+    ghost view = { λ m. state_in m.store m.builder };
 
     ghost invariant = { λ m. IsKept K.eq
         (key_hash S.BuildHasher S.Hasher.Hasher K.hash_input m.builder) L.LIMIT m.store };
@@ -146,7 +146,7 @@ impl<K: Eq + Hash, V, S: BuildHasher, L: Limit> LimitedHashMap<K, V, S, L> {
     pub fn capacity(&self) -> usize
         ensures { result ≡ self.now.capacity }
     {
-        self.store.capacity(L::LIMIT)
+        self.store.capacity()
     }
 
     /// Removes all pairs. The form, the capacity and the builder stay. Nothing is hashed.

@@ -215,9 +215,9 @@ module _ {K V S : Type 0} (hash : S → K → ℕ) where
   pub history_law : HistoryLaw V hash
   history_law a b test sought asked a_before a_after b_before b_after same unheld a_costs b_costs =
       let alike : cost_asking test sought asked a
-      ≡ cost_asking test sought asked (state b.is_vec a.pairs b.capacity a.columns b.builder (contents_of a)) =
-      λ i. cost_asking test sought asked (state (same.form i) a.pairs (same.capacity i) a.columns (same.builder i) (contents_of a)) in
-      let moved : cost_asking test sought asked (state b.is_vec a.pairs b.capacity a.columns b.builder (contents_of a))
+      ≡ cost_asking test sought asked (state b.is_vec a.pairs b.capacity b.builder (contents_of a)) =
+      λ i. cost_asking test sought asked (state (same.form i) a.pairs (same.capacity i) (same.builder i) (contents_of a)) in
+      let moved : cost_asking test sought asked (state b.is_vec a.pairs b.capacity b.builder (contents_of a))
       ≡ cost_asking test sought asked b = λ i. record {
         asked = asked;
         compared = compares-same b.builder a.pairs b.pairs same.pairs test sought b.is_vec
@@ -248,13 +248,13 @@ module _ {K V S : Type 0} (hash : S → K → ℕ) where
         costs.grew
 
   module _ (limit : ℕ) (eq : K → K → Bool) where
-    module _ (is_vec : Bool) (xs ys : List (K × V)) (capacity some_columns other_columns : ℕ) (builder : S) (some others : Contents)
+    module _ (is_vec : Bool) (xs ys : List (K × V)) (capacity : ℕ) (builder : S) (some others : Contents)
         (p : IsPermutation xs ys) where
       abbrev first : State K V S
-      first = state is_vec xs capacity some_columns builder some
+      first = state is_vec xs capacity builder some
 
       abbrev second : State K V S
-      second = state is_vec ys capacity other_columns builder others
+      second = state is_vec ys capacity builder others
 
       long : length xs ≡ length ys
       long = sym (length_permutation xs ys p)
@@ -341,10 +341,10 @@ module _ {K V S : Type 0} (hash : S → K → ℕ) where
     -- two maps of the same form, capacity and builder
     module _ (a b : State K V S) (same : HoldSamePairs a b) where
       abbrev moved : State K V S
-      moved = state b.is_vec a.pairs b.capacity a.columns b.builder (contents_of a)
+      moved = state b.is_vec a.pairs b.capacity b.builder (contents_of a)
 
       alike : a ≡ moved
-      alike = λ i. state (same.form i) a.pairs (same.capacity i) a.columns (same.builder i) (contents_of a)
+      alike = λ i. state (same.form i) a.pairs (same.capacity i) (same.builder i) (contents_of a)
 
       unheld-too : (k : K) → holds eq a.pairs k ≡ false → holds eq b.pairs k ≡ false
       unheld-too k unheld = sym (held-same b.builder a.pairs b.pairs same.pairs (eq k) (hash b.builder k)) ∙ unheld
@@ -352,7 +352,7 @@ module _ {K V S : Type 0} (hash : S → K → ℕ) where
       insertions-alike : (k : K) (granted : Bool) → holds eq a.pairs k ≡ false
           → insert_cost limit eq hash a k granted ≡ insert_cost limit eq hash b k granted
       insertions-alike k granted unheld = ap (λ m. insert_cost limit eq hash m k granted) alike
-          ∙ insert-same b.is_vec a.pairs b.pairs b.capacity a.columns b.columns b.builder (contents_of a) (contents_of b) same.pairs k
+          ∙ insert-same b.is_vec a.pairs b.pairs b.capacity b.builder (contents_of a) (contents_of b) same.pairs k
           granted (never_found (is_vec_after limit moved) (holds eq a.pairs k) unheld)
 
     pub insertion_history_law : InsertionHistoryLaw V limit eq hash
@@ -365,16 +365,16 @@ module _ {K V S : Type 0} (hash : S → K → ℕ) where
 
     pub command_cost_law : CommandCostLaw V limit eq hash
     command_cost_law a b command refused same none = ap (λ m. command_cost limit eq hash m command refused) (alike a b same)
-        ∙ cost-same b.is_vec a.pairs b.pairs b.capacity a.columns b.columns b.builder (contents_of a) (contents_of b) same.pairs command
+        ∙ cost-same b.is_vec a.pairs b.pairs b.capacity b.builder (contents_of a) (contents_of b) same.pairs command
         refused
         (subst (λ m. finds_in_vector limit eq m command ≡ false) (alike a b same) none)
 
     pub command_hashes_law : CommandHashesLaw V limit eq hash
     command_hashes_law a b command refused same = ap (λ m. (command_cost limit eq hash m command refused).asked) (alike a b same)
-        ∙ hashes-same b.is_vec a.pairs b.pairs b.capacity a.columns b.columns b.builder (contents_of a) (contents_of b) same.pairs command
+        ∙ hashes-same b.is_vec a.pairs b.pairs b.capacity b.builder (contents_of a) (contents_of b) same.pairs command
         refused
 
     pub command_buckets_law : CommandBucketsLaw V limit eq hash
     command_buckets_law a b command refused same = ap (λ m. (command_cost limit eq hash m command refused).looked) (alike a b same)
-        ∙ buckets-same b.is_vec a.pairs b.pairs b.capacity a.columns b.columns b.builder (contents_of a) (contents_of b) same.pairs command
+        ∙ buckets-same b.is_vec a.pairs b.pairs b.capacity b.builder (contents_of a) (contents_of b) same.pairs command
         refused

@@ -1,5 +1,5 @@
 //! The capacity of a store: making it, and giving it back. All memory is had before anything changes.
-ghost use Rattle.std.specs.Prelude.{◌≡◌, ℕ, ◌^◌, ◌<◌, ◌≤◌, false, [], max};
+ghost use Rattle.std.specs.Prelude.{◌≡◌, ℕ, ◌^◌, ◌<◌, ◌≤◌, true, false, [], max};
 ghost use Rattle.std.specs.Prelude.{length, nat_le, IsOk, IfOk, OnOk, OnErr, IfErr, if◌then◌else◌};
 ghost use Rattle.std.specs.List.{AllZip};
 ghost use Rattle.half_store.specs.Capacity.{capacity_for, least_capacity, vec_shrunk, shrunk_capacity};
@@ -23,6 +23,7 @@ impl<K, V> Store<K, V> {
         ensures pairs { IfOk result (λ s. s.pairs ≡ []) }
         ensures hashes { IfOk result (λ s. s.hashes ≡ []) }
         ensures capacity { IfOk result (λ s. s.capacity ≡ least_capacity s.is_vec capacity) }
+        ensures within { IfOk result (λ s. s.is_vec ≡ true → s.capacity ≤ limit) }
         ensures series { IfOk result (λ s. s.is_vec ≡ false → s.capacity ≡ capacity_for s.capacity) }
         ensures exceeds { IfOk result (λ s. s.is_vec ≡ false → limit < s.capacity) }
         ensures granted { OnOk result (capacity ≤ 2 ^ 60) }

@@ -1,6 +1,6 @@
 -- What each step of a `Drain` gives and leaves, along a run.
 use mathlib.Core.HLevel.{is_prop→PathP}
-use Rattle.std.proofs.Common.{arith, ◌≡◌, ◌<◌, false, [], ◌∷◌, length, refl, ap, subst}
+use Rattle.std.proofs.Common.{arith, ◌≡◌, ◌<◌, ◌≤◌, true, false, [], ◌∷◌, length, refl, ap, subst}
 use Rattle.std.proofs.lemmas.Grind.{common_steps}
 use Rattle.std.proofs.Props.{props}
 use Rattle.std.proofs.iter.runs.Sources.{as_is, from_front}
@@ -23,6 +23,8 @@ module _ {K V S L H : Type 0} {e : eq.Ghosts K} {h : hash.Ghosts K} {b : builder
   same_drain s t map pairs = λ i. record {
     map = map i;
     pairs = pairs i;
+    within = is_prop→PathP (λ j. (p.store (pairs j)).is_vec ≡ true → (p.store (pairs j)).capacity ≤ l.LIMIT) (λ j. Prim.hlevel props)
+        t.within s.within i;
     series = is_prop→PathP (λ j. (p.store (pairs j)).is_vec ≡ false → IsTableCapacity (p.store (pairs j)).capacity) (λ j. Prim.hlevel props)
         t.series s.series i;
     exceeds = is_prop→PathP (λ j. (p.store (pairs j)).is_vec ≡ false → l.LIMIT < (p.store (pairs j)).capacity) (λ j. Prim.hlevel props)
@@ -33,5 +35,5 @@ module _ {K V S L H : Type 0} {e : eq.Ghosts K} {h : hash.Ghosts K} {b : builder
   runs r t = as_is r (rest r.from) (from_front DrainSteps (λ y. y) rest (λ s t h. ap length h.0) (λ s x t h. h.0) r t)
 
   pub keeps_along : (s : Drain K V S L (StoreState K V) H e h b w l p) → KeepsAlong s
-  keeps_along s [] t y = subst (Keeps s) y (record { map = refl; form = refl; capacity = refl; columns = refl })
+  keeps_along s [] t y = subst (Keeps s) y (record { map = refl; form = refl; capacity = refl })
   keeps_along s (x ∷ xs) t y = grind (arith, common_steps, keeps_along y.0 xs t y.2)

@@ -1,6 +1,6 @@
 //! Maps made from items.
-ghost use Rattle.std.specs.Prelude.{◌≡◌, ◌⊎◌, ℕ, true, List, IfOk, IfErr, OnOk};
-ghost use Rattle.std.specs.Iterator.{IsFinite, Drains};
+ghost use Rattle.std.specs.Prelude.{◌≡◌, ◌⊎◌, ℕ, ⊤, true, List, IfOk, IfErr, OnOk, OnErr};
+ghost use Rattle.std.specs.Iterator.{IsFinite, Drains, DrainsIf, ExtendsWithItems};
 ghost use Rattle.std.specs.Iterator.SizeHint.{IsWithinCount};
 ghost use Rattle.halfbrown.specs.Collection.{Gives, AreFirst, Extends, IsCollection, IsRefusedCollection, IsRefusedInsertion};
 ghost use Rattle.halfbrown.specs.Costs.{key_hash, Cost, GrewBy};
@@ -187,7 +187,15 @@ impl<K: Eq + Hash + Drop, V: Drop, S: BuildHasher + Default + Drop, L: Limit> Fr
     fn from_iter<I: IntoIterator<Item = (K, V)>>(
         alloc: Global,
         items: I,
-    ) -> Result<Self, AllocError> {
+    ) -> Result<Self, AllocError>
+        ensures ran { IfOk result (λ m. (it : I.IntoIter) × (gave : List (K × V)) × I.into_iter_gives items it
+            × DrainsIf I.IntoIter.next_gives ⊤ it gave × ((hint : ℕ) × (cost : Cost) × IsCollection L.LIMIT K.eq
+            (key_hash S.BuildHasher S.Hasher.Hasher K.hash_input) S.is_default hint gave m cost)) }
+        ensures refused { OnErr result ((it : I.IntoIter) × (why : Refusal) × (hint : ℕ) × (cost : Cost)
+            × I.into_iter_gives items it × IsRefusedCollection L.LIMIT K.eq
+            (key_hash S.BuildHasher S.Hasher.Hasher K.hash_input) S.is_default hint
+            (Gives I.IntoIter.next_gives it) why cost) }
+    {
         Ok(LimitedHashMap::from_iter(alloc, items)?)
     }
 }
@@ -198,7 +206,15 @@ impl<K: Eq + Hash + Drop, V: Drop, S: BuildHasher, L: Limit> Extend<(K, V)>
     ghost extend_gives = { λ old items new. (cost : Cost) × Extends L.LIMIT K.eq
         (key_hash S.BuildHasher S.Hasher.Hasher K.hash_input) old items new cost };
 
-    fn extend<I: IntoIterator<Item = (K, V)>>(&mut self, items: I) -> Result<(), AllocError> {
+    fn extend<I: IntoIterator<Item = (K, V)>>(&mut self, items: I) -> Result<(), AllocError>
+        ensures ran { ExtendsWithItems I.into_iter_gives I.IntoIter.next_gives (λ old gave new. (cost : Cost)
+            × Extends L.LIMIT K.eq (key_hash S.BuildHasher S.Hasher.Hasher K.hash_input) old gave new cost)
+            items self.old self.new result }
+        ensures refused { OnErr result ((it : I.IntoIter) × (why : Refusal) × (cost : Cost)
+            × I.into_iter_gives items it × IsRefusedInsertion L.LIMIT K.eq
+            (key_hash S.BuildHasher S.Hasher.Hasher K.hash_input) (Gives I.IntoIter.next_gives it)
+            self.old why self.new cost) }
+    {
         match LimitedHashMap::extend(self, items) {
             Ok(()) => Ok(()),
             Err(_) => Err(AllocError),

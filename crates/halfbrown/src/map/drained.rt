@@ -1,5 +1,5 @@
 //! The store of a map, taken out so that its pairs can be drained, and put back once they are gone.
-ghost use Rattle.std.specs.Prelude.{◌≡◌, ◌^◌, ◌<◌, false, [], length};
+ghost use Rattle.std.specs.Prelude.{◌≡◌, ◌^◌, ◌<◌, ◌≤◌, true, false, [], length};
 ghost use Rattle.halfbrown.specs.Layout.{state_in};
 ghost use Rattle.halfbrown.specs.State.{IsState, IsTableCapacity, WithPairs};
 
@@ -13,8 +13,9 @@ impl<K: Eq + Hash, V, S: BuildHasher, L: Limit> LimitedHashMap<K, V, S, L> {
     #[inline(always)]
     pub(crate) fn take_store(&mut self) -> Drained<K, V>
         ensures after { WithPairs self.old self.old.pairs
-            (state_in L.LIMIT result self.new.builder) }
+            (state_in result self.new.builder) }
         ensures small { length result.pairs < 2 ^ 63 }
+        ensures within { result.is_vec ≡ true → result.capacity ≤ L.LIMIT }
         ensures series { result.is_vec ≡ false → IsTableCapacity result.capacity }
         ensures exceeds { result.is_vec ≡ false → L.LIMIT < result.capacity }
     {
@@ -27,10 +28,11 @@ impl<K: Eq + Hash, V, S: BuildHasher, L: Limit> LimitedHashMap<K, V, S, L> {
     where
         K: Drop,
         V: Drop,
+        requires within { (P.store drained).is_vec ≡ true → (P.store drained).capacity ≤ L.LIMIT }
         requires series { (P.store drained).is_vec ≡ false
             → IsTableCapacity (P.store drained).capacity }
         requires exceeds { (P.store drained).is_vec ≡ false → L.LIMIT < (P.store drained).capacity }
-        ensures after { WithPairs (state_in L.LIMIT (P.store drained) self.old.builder)
+        ensures after { WithPairs (state_in (P.store drained) self.old.builder)
             [] self.new }
         ensures state { IsState K.eq L.LIMIT self.new }
     {

@@ -30,7 +30,6 @@ impl<K: Eq + Hash, V, S: BuildHasher, L: Limit> LimitedHashMap<K, V, S, L> {
         ensures len { length self.new.pairs ≤ length self.old.pairs }
         ensures form { self.new.is_vec ≡ self.old.is_vec }
         ensures capacity { self.new.capacity ≡ self.old.capacity }
-        ensures columns { self.new.columns ≡ self.old.columns }
         ensures builder { self.new.builder ≡ self.old.builder }
         ensures state { IsState K.eq L.LIMIT self.new }
     {

@@ -47,11 +47,10 @@ module _ {K V S : Type 0} (limit : ℕ) (eq : K → K → Bool) where
     pub due : IsDue old needs
     pub puts : Puts limit eq old key value (if is_full limit old then Some (limit + 1) else needs) new
 
-  -- form, capacity and memory stay, and no pair is added
+  -- form and capacity stay, and no pair is added
   pub record Keeps (old new : State K V S) : Type 0 where
     pub form : new.is_vec ≡ old.is_vec
     pub capacity : new.capacity ≡ old.capacity
-    pub columns : new.columns ≡ old.columns
     pub len : length new.pairs ≤ length old.pairs
 
   abbrev pub Changes : State K V S → Command K V → State K V S → Type 0
@@ -61,7 +60,6 @@ module _ {K V S : Type 0} (limit : ℕ) (eq : K → K → Bool) where
   keeps_all old new same = record {
     form = ap (λ m. m.is_vec) same;
     capacity = ap (λ m. m.capacity) same;
-    columns = ap (λ m. m.columns) same;
     len = omega (arith, ap (λ m. length m.pairs) same);
   }
 

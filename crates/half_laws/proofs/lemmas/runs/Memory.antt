@@ -7,13 +7,13 @@ use Rattle.half_store.specs.Capacity.{IsBucketCount, capacity_of, buckets_for_mo
 use Rattle.half_store.specs.Capacity.{least_capacity, vec_shrunk}
 use Rattle.half_store.specs.Memory.{bytes}
 use Rattle.half_store.proofs.lemmas.capacity.{buckets_for-least}
-use Rattle.halfbrown.specs.Growth.{is_full, HasCapacityAfter, HasColumnsAfter, IsShrunk}
+use Rattle.halfbrown.specs.Growth.{is_full, HasCapacityAfter, IsShrunk}
 use Rattle.halfbrown.specs.Run.{Lead, commands_of}
 use Rattle.halfbrown.specs.State.{State, IsState}
 use Rattle.halfbrown.specs.Step.{Step, IsStep}
 use Rattle.halfbrown.proofs.lemmas.map.Growth.{full_len}
 use Rattle.halfbrown.proofs.lemmas.run.Runs.{neither}
-use Rattle.half_laws.specs.RunLaws.{CapacityLaw, MemoryLaw, BytesLaw, is_reserve, reserves, most_held}
+use Rattle.half_laws.specs.RunLaws.{CapacityLaw, BytesLaw, is_reserve, reserves, most_held}
 use Rattle.half_laws.proofs.lemmas.runs.Changes.{IsDue, Changes, step_changes}
 
 -- the next of the series is twice as large, or 3
@@ -34,10 +34,10 @@ most_least : {X : Type 0} (f : X → ℕ) (xs : List X) (n : ℕ) → n ≤ fold
 most_least f [] n = omega arith
 most_least f (x ∷ xs) n = omega (arith, most_least f xs (max n (f x)))
 
--- with no more capacity, and no more memory of the columns, the arrays take no more bytes
-bytes-le : (key value : ℕ) (is_vec : Bool) (capacity columns most : ℕ) → capacity ≤ most → columns ≤ most
-    → bytes key value is_vec capacity columns ≤ bytes key value false most most
-bytes-le key value is_vec capacity columns most few least = grind (arith, common_steps)
+-- with no more capacity the arrays take no more bytes
+bytes-le : (key value : ℕ) (is_vec : Bool) (capacity most : ℕ) → capacity ≤ most
+    → bytes key value is_vec capacity ≤ bytes key value false most
+bytes-le key value is_vec capacity most few = grind (arith, common_steps)
 
 module _ {K V S : Type 0} (limit : ℕ) (eq : K → K → Bool) where
   switch_due : (m : State K V S) → IsState eq limit m → (needs : Option ℕ) → IsDue m needs
@@ -98,47 +98,7 @@ module _ {K V S : Type 0} (limit : ℕ) (eq : K → K → Bool) where
   pub capacity_law : CapacityLaw V S limit eq
   capacity_law old new steps lead state none = steps_most old new steps (length old.pairs) lead state none (omega arith)
 
-  -- the memory of each column after a step: what it was, or the capacity, or for at most eight pairs more than twice the pairs
-  abbrev TakesNoMore : State K V S → ℕ → Type 0
-  TakesNoMore old columns = columns ≤ max (max old.columns old.capacity) (2 * length old.pairs + 8)
-
-  put_takes : (old new : State K V S) (needs : Option ℕ) → HasColumnsAfter old needs new → IsModest old new.capacity
-      → TakesNoMore old new.columns
-  put_takes old new None after most = omega (arith, after)
-  put_takes old new (Some n) after most = omega (arith, after, most)
-
-  step_takes : (s : Step K V S) → IsState eq limit s.before → IsStep limit eq s → is_reserve s.command ≡ false
-      → TakesNoMore s.before s.after.columns
-  step_takes s state step none = by (step_changes limit eq s step none) where
-    by : Changes limit eq s.before s.command s.after → TakesNoMore s.before s.after.columns
-    by (inl put) = put_takes s.before s.after _ put.puts.columns (step_most s state step none)
-    by (inr (inl keeps)) = omega (arith, keeps.columns)
-    by (inr (inr shrinks)) = omega (arith, shrinks.1.columns, step_most s state step none)
-
-  steps_take : (old new : State K V S) (steps : List (Step K V S)) (top : ℕ) → Lead limit eq old steps new → IsState eq limit old
-      → reserves (commands_of steps) ≡ false → length old.pairs ≤ top
-      → new.columns ≤ max (max old.columns old.capacity) (2 * fold (λ most s. max most (length s.after.pairs)) top steps + 8)
-  steps_take old new [] top lead state none few = omega (arith, ap (λ m. m.columns) lead)
-  steps_take old new (s ∷ steps) top lead state none few =
-      let parts = neither (is_reserve s.command) (reserves (commands_of steps)) none in
-      let next = max top (length s.after.pairs) in
-      let before = subst (IsState eq limit) (sym lead.0) state in
-      omega (
-        arith,
-        ap (λ m. m.columns) lead.0,
-        ap (λ m. m.capacity) lead.0,
-        ap (λ m. length m.pairs) lead.0,
-        step_most s before lead.1 parts.0,
-        step_takes s before lead.1 parts.0,
-        most_least (λ s. length s.after.pairs) steps next,
-        steps_take s.after new steps next lead.3 lead.2 parts.1 (omega arith),
-      )
-
-  pub memory_law : MemoryLaw V S limit eq
-  memory_law old new steps lead state none = steps_take old new steps (length old.pairs) lead state none (omega arith)
-
   pub bytes_law : BytesLaw V S limit eq
   bytes_law old new steps lead state none key value =
-      let most : ℕ = max (max old.columns old.capacity) (2 * most_held old steps + 8) in
-      bytes-le key value new.is_vec new.capacity new.columns most (omega (arith, capacity_law old new steps lead state none))
-      (omega (arith, memory_law old new steps lead state none))
+      bytes-le key value new.is_vec new.capacity (max old.capacity (2 * most_held old steps + 8))
+      (capacity_law old new steps lead state none)

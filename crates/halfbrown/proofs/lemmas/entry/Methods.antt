@@ -64,7 +64,7 @@ module _ {K V S : Type 0} (limit : ℕ) (same : K → K → Bool) (laws : IsEqui
   has_put_at ps v is = subst (HasPut same old.pairs k v) (put_is ps v is) (has_put same laws old.pairs k v)
 
   puts_at : (ps : List (K × V)) (contents : Contents) (v : V) → put same m.pairs k v ≡ ps
-      → Puts limit same old k v (insert_needs limit same old k) (state m.is_vec ps m.capacity m.columns m.builder contents)
+      → Puts limit same old k v (insert_needs limit same old k) (state m.is_vec ps m.capacity m.builder contents)
   puts_at ps contents v is = grind (arith, common_steps)
 
   taken_is : (ps : List (K × V)) → take_out same m.pairs k ≡ ps → take_out same old.pairs k ≡ ps

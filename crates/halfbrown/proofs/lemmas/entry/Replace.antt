@@ -54,12 +54,11 @@ module _ {K V S L H : Type 0} {e : eq.Ghosts K} {h : hash.Ghosts K} {b : builder
       let loss : LosesPair (Occupied o) r.key (Vacant v) = record {
         key_is = ap Some (sym lost.2);
         no_value = refl;
-        map = record { pairs = lost.1; form = after.form; capacity = after.capacity; columns = after.columns; builder = after.builder };
+        map = record { pairs = lost.1; form = after.form; capacity = after.capacity; builder = after.builder };
         writes = λ value. record {
           pairs = λ j. lost.1 j ++ (sym lost.2 j, value) ∷ [];
           form = after.form;
           capacity = after.capacity;
-          columns = after.columns;
           builder = after.builder;
         };
         pairs_left = lost.1;
@@ -99,7 +98,6 @@ module _ {K V S L H : Type 0} {e : eq.Ghosts K} {h : hash.Ghosts K} {b : builder
               pairs = now ∙ ap (λ b. if b then swap_remove_at ps o.index ++ (r.key, v) ∷ [] else set_value ps o.index v) (sym form);
               form = ap (λ m. m.is_vec) same ∙ after.form;
               capacity = ap (λ m. m.capacity) same ∙ after.capacity;
-              columns = ap (λ m. m.columns) same ∙ after.columns;
               builder = ap (λ m. m.builder) same ∙ after.builder;
             };
             writes = λ u. record {
@@ -107,7 +105,6 @@ module _ {K V S L H : Type 0} {e : eq.Ghosts K} {h : hash.Ghosts K} {b : builder
                   ∙ ap (λ b. if b then swap_remove_at ps o.index ++ (r.key, u) ∷ [] else set_value ps o.index u) (sym form);
               form = ap (λ m. m.is_vec) same ∙ after.form;
               capacity = ap (λ m. m.capacity) same ∙ after.capacity;
-              columns = ap (λ m. m.columns) same ∙ after.columns;
               builder = ap (λ m. m.builder) same ∙ after.builder;
             };
             pairs_left = ap (λ qs. swap_remove_at qs o.index) now ∙ swap_remove_at-set_value ps o.index v;
@@ -153,7 +150,6 @@ module _ {K V S L H : Type 0} {e : eq.Ghosts K} {h : hash.Ghosts K} {b : builder
                 pairs = now ∙ ap (λ b. if b then front ++ (r.key, v) ∷ [] else set_value ps o.index v) (sym form);
                 form = moved.form ∙ after.form;
                 capacity = moved.capacity ∙ after.capacity;
-                columns = moved.columns ∙ after.columns;
                 builder = moved.builder ∙ after.builder;
               };
               writes = λ u. record {
@@ -161,7 +157,6 @@ module _ {K V S L H : Type 0} {e : eq.Ghosts K} {h : hash.Ghosts K} {b : builder
                     ∙ ap (λ b. if b then front ++ (r.key, u) ∷ [] else set_value ps o.index u) (sym form);
                 form = moved.form ∙ after.form;
                 capacity = moved.capacity ∙ after.capacity;
-                columns = moved.columns ∙ after.columns;
                 builder = moved.builder ∙ after.builder;
               };
               pairs_left = (λ j. swap_remove_at (now j) (end j)) ∙ swap_remove_at-last front (r.key, v);

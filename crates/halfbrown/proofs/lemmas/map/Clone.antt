@@ -4,7 +4,7 @@ use Rattle.std.proofs.lemmas.Grind.{common_steps}
 use Rattle.std.specs.Cmp.{IsEquivalence}
 use Rattle.std.specs.List.{AllZip, AllByRecursion, Contains, IsDistinct}
 use Rattle.std.specs.Map.{keys_of}
-use Rattle.half_store.specs.Store.{StoreState, allowed}
+use Rattle.half_store.specs.Store.{StoreState}
 use Rattle.halfbrown.specs.Clone.{ArePairClones}
 use Rattle.halfbrown.specs.Layout.{IsKept}
 use Rattle.halfbrown.specs.State.{IsTableCapacity}
@@ -32,9 +32,8 @@ map-zip f g [] (y ∷ ys) zip = absurd zip
 map-zip f g (x ∷ xs) [] zip = absurd zip
 map-zip f g (x ∷ xs) (y ∷ ys) zip = λ i. zip.0 i ∷ map-zip f g xs ys zip.1 i
 
-clone_fits : (limit len capacity : ℕ) (is_vec : Bool) → len ≤ allowed limit is_vec capacity
-    → len ≤ allowed limit is_vec (cond is_vec len capacity)
-clone_fits limit len capacity is_vec fits = grind (arith, common_steps)
+clone_fits : (len capacity : ℕ) (is_vec : Bool) → len ≤ capacity → len ≤ cond is_vec len capacity
+clone_fits len capacity is_vec fits = grind (arith, common_steps)
 
 module _ {K : Type 0} (eq : K → K → Bool) (laws : IsEquivalence eq) where
   all_apart : (k l : K) (ks ls : List K) → eq k l ≡ true → AllZip (λ x y. eq x y ≡ true) ks ls → AllByRecursion (λ y. eq k y ≡ false) ks
@@ -63,8 +62,11 @@ module _ {K : Type 0} (eq : K → K → Bool) (laws : IsEquivalence eq) where
       ∙ ap (λ b. cond b (length old.pairs) old.capacity) table in
       record {
         distinct = IsDistinct-zip (keys_of old.pairs) (keys_of new.pairs) alike kept.distinct;
-        fits = subst (λ t. t) (λ i. sym len i ≤ allowed limit (sym form i) (sym capacity i))
-            (clone_fits limit (length old.pairs) old.capacity old.is_vec kept.fits);
+        fits = omega (arith, len, capacity, clone_fits (length old.pairs) old.capacity old.is_vec kept.fits);
+        within = λ vector.
+            let in_vector = sym form ∙ vector in
+            let exact = capacity ∙ ap (λ b. cond b (length old.pairs) old.capacity) in_vector in
+            omega (arith, exact, kept.fits, kept.within in_vector);
         hashed = λ table. let in_table = sym form ∙ table in hashes ∙ kept.hashed in_table ∙ sym (hashed in_table);
         series = λ table. let in_table = sym form ∙ table in subst IsTableCapacity (sym (table_capacity in_table)) (kept.series in_table);
         exceeds = λ table. let in_table = sym form

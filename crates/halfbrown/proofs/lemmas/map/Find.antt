@@ -24,7 +24,6 @@ use Rattle.halfbrown.specs.Layout.{state_in}
 use Rattle.halfbrown.specs.Lookup.{IsIndexOf, IsAbsent, LooksUp}
 use Rattle.halfbrown.specs.Match.{IsMatch, HasNoMatch, Matches}
 use Rattle.halfbrown.proofs.lemmas.pairs.Indices.{first_matched, index_of_first, none_at, absent_of_none}
-use Rattle.halfbrown.proofs.lemmas.map.Layout.{table_capacity_is}
 
 module _ {K : Type 0} (hash : K → ℕ) (h : ℕ) where
   fold-map : (ks : List K) (n : ℕ) → fold (λ a x. a + cond (x == h) 1 0) n (map hash ks) ≡ fold (λ a q. a + cond (hash q == h) 1 0) n ks
@@ -51,13 +50,13 @@ module _ {K V S : Type 0} (hash : S → K → ℕ) (sought : ℕ) (m : State K V
     missing_costs spent = grind (arith, common_steps)
 
   -- what a search by a match costs, from what the store says of its work
-  pub match_costs : (is_vec : Bool) → m.is_vec ≡ is_vec → (index : Option ℕ) (hashes : List ℕ) (capacity : ℕ)
-      → (is_vec ≡ false → hashes ≡ map (hash m.builder) (keys_of m.pairs)) → (is_vec ≡ false → capacity ≡ m.capacity)
+  pub match_costs : (is_vec : Bool) → m.is_vec ≡ is_vec → (index : Option ℕ) (hashes : List ℕ)
+      → (is_vec ≡ false → hashes ≡ map (hash m.builder) (keys_of m.pairs))
       → (is_vec ≡ true → after ≡ compared_more (first_match_cost index (length m.pairs)) before)
-      → (is_vec ≡ false → IfSome index (λ _. AddsFinding hashes (buckets_of capacity) sought before after))
-      → (is_vec ≡ false → IfNone index (after ≡ after_missing hashes (buckets_of capacity) sought before))
-      → (is_vec ≡ false → reach hashes (buckets_of capacity) sought ≤ length hashes + 1) → SearchCosts hash sought m index 0 before after
-  match_costs is_vec form index hashes capacity is_map is_capacity vector found missing near = grind (arith, common_steps)
+      → (is_vec ≡ false → IfSome index (λ _. AddsFinding hashes (buckets_of m.capacity) sought before after))
+      → (is_vec ≡ false → IfNone index (after ≡ after_missing hashes (buckets_of m.capacity) sought before))
+      → (is_vec ≡ false → reach hashes (buckets_of m.capacity) sought ≤ length hashes + 1) → SearchCosts hash sought m index 0 before after
+  match_costs is_vec form index hashes is_map vector found missing near = grind (arith, common_steps)
 
 module _ {K V S : Type 0} (hash : S → K → ℕ) (sought own : ℕ) (m : State K V S) (before after : Work) (index : Option ℕ) where
   costs_by_form : (is_vec : Bool) → m.is_vec ≡ is_vec → (is_vec ≡ false → sought ≡ own) → SearchCosts hash sought m index 0 before after
@@ -115,9 +114,9 @@ module _ {K V S : Type 0} (test : K → Bool) (returns : K → Bool → Type 0) 
     pub looks_up : (result : Result ℕ Vacancy) → Matches returns hash sought m result → LooksUp test own m result
     looks_up result found = grind (arith, common_steps, absent_of_no_match, index_of_match, vacancy_for)
 
-module _ {K V S : Type 0} (returns : K → Bool → Type 0) (hash : S → K → ℕ) (sought limit : ℕ) (s : StoreState K V) (builder : S)
+module _ {K V S : Type 0} (returns : K → Bool → Type 0) (hash : S → K → ℕ) (sought : ℕ) (s : StoreState K V) (builder : S)
     (hashed : s.is_vec ≡ false → s.hashes ≡ map (hash builder) (keys_of s.pairs)) where
   -- a search of the store by the match is one of the map
   pub matches_of : (result : Result ℕ Vacancy) → Finds returns sought s result
-      → Matches returns hash sought (state_in limit s builder) result
-  matches_of result found = grind (arith, common_steps, same_Some, slice_get, slice_get-map, table_capacity_is)
+      → Matches returns hash sought (state_in s builder) result
+  matches_of result found = grind (arith, common_steps, same_Some, slice_get, slice_get-map)

@@ -43,17 +43,17 @@ module _ {K V : Type 0} where
 
 -- a map whose values are lent, from its fields: what it is with each list of values that comes back
 module _ {K V S : Type 0} (eq : K → K → Bool) (hash : K → ℕ) (limit : ℕ) (s : StoreState K V) (builder : S) (map : State K V S)
-    (is : state_in limit s builder ≡ map) where
+    (is : state_in s builder ≡ map) where
   pub record LentValues : Type 0 where
     pub back : (vs : List V)
-        → state_in limit (store_with_pairs s (set_values s.pairs vs)) builder ≡ with_pairs map (set_values map.pairs vs)
+        → state_in (store_with_pairs s (set_values s.pairs vs)) builder ≡ with_pairs map (set_values map.pairs vs)
     pub pairs : s.pairs ≡ map.pairs
     pub small : length map.pairs < 2 ^ 63
     pub written : (vs : List V) → HasValues map.pairs vs (set_values map.pairs vs)
     pub state : (vs : List V) → IsState eq limit (with_pairs map (set_values map.pairs vs))
 
   comes_back : (vs : List V)
-      → state_in limit (store_with_pairs s (set_values s.pairs vs)) builder ≡ with_pairs map (set_values map.pairs vs)
+      → state_in (store_with_pairs s (set_values s.pairs vs)) builder ≡ with_pairs map (set_values map.pairs vs)
   comes_back vs = ap (λ m. with_pairs m (set_values m.pairs vs)) is
 
   pub lent_values : IsKept eq hash limit s → length s.pairs < 2 ^ 63 → LentValues

@@ -12,7 +12,7 @@ use Rattle.std.proofs.lemmas.Map.Keys.{IsDistinct-push}
 use Rattle.half_store.proofs.lemmas.store.States.{length-set_key, length-set_value}
 use Rattle.half_store.specs.Columns.{no_pairs}
 use Rattle.half_store.specs.Pairs.{set_key, set_value, swap_remove_at}
-use Rattle.half_store.specs.Store.{StoreState, KeepsForm, allowed, store_pushed, store_with_pairs, vector_of}
+use Rattle.half_store.specs.Store.{StoreState, KeepsForm, store_pushed, store_with_pairs, vector_of}
 use Rattle.half_store.specs.declared.store.vacancy.Vacancy.{Vacancy}
 use Rattle.halfbrown.specs.Layout.{IsKept, state_in}
 use Rattle.halfbrown.specs.Lookup.{IsAbsent}
@@ -20,12 +20,6 @@ use Rattle.halfbrown.specs.State.{IsState, IsTableCapacity}
 use Rattle.halfbrown.proofs.lemmas.pairs.Keys.{keys_of-set_key, map-set_alike, IsDistinct-set}
 use Rattle.halfbrown.proofs.lemmas.pairs.SwapRemove.{map-swap_remove_at, length-swap_remove_at, IsDistinct-swap_remove_at}
 use Rattle.halfbrown.proofs.lemmas.pairs.Indices.{none_of_index, any_of_none}
-
-within_limit : (limit : ℕ) (is_vec : Bool) (capacity : ℕ) → is_vec ≡ true → allowed limit is_vec capacity ≤ limit
-within_limit limit is_vec capacity form = grind (arith, common_steps)
-
-pub table_capacity_is : (limit : ℕ) (is_vec : Bool) (capacity : ℕ) → is_vec ≡ false → capacity ≡ allowed limit is_vec capacity
-table_capacity_is limit is_vec capacity form = grind (arith, common_steps)
 
 module _ {K V : Type 0} where
   keys_of-push : (ps : List (K × V)) (k : K) (v : V) → keys_of (ps ++ (k, v) ∷ []) ≡ keys_of ps ++ k ∷ []
@@ -40,7 +34,7 @@ module _ {K V : Type 0} where
   module _ (eq : K → K → Bool) (hash : K → ℕ) (limit : ℕ) where
     -- other pairs in the same form, with their hashes
     pub kept_as : (old new : StoreState K V) → IsKept eq hash limit old → KeepsForm old new → IsDistinct eq (keys_of new.pairs)
-        → length new.pairs ≤ allowed limit old.is_vec old.capacity → (old.is_vec ≡ false → new.hashes ≡ map hash (keys_of new.pairs))
+        → length new.pairs ≤ old.capacity → (old.is_vec ≡ false → new.hashes ≡ map hash (keys_of new.pairs))
         → IsKept eq hash limit new
     kept_as old new kept keeps distinct fits hashed = grind (arith, common_steps)
 
@@ -57,7 +51,7 @@ module _ {K V : Type 0} where
 
     -- one more pair, whose key is not held
     pub kept_pushed : IsEquivalence eq → (s : StoreState K V) (k : K) (v : V) (vacancy : Vacancy) → IsKept eq hash limit s
-        → IsAbsent (eq k) s.pairs → length s.pairs < allowed limit s.is_vec s.capacity
+        → IsAbsent (eq k) s.pairs → length s.pairs < s.capacity
         → (s.is_vec ≡ false → vacancy.hash ≡ hash k) → IsKept eq hash limit (store_pushed s k v vacancy)
     kept_pushed laws s k v vacancy kept absent room own = grind (arith, common_steps, IsDistinct-push, any_of_none, kept_as, keys_of-push, length-append, map, map-append, none_of_index)
 
@@ -83,13 +77,15 @@ module _ {K V : Type 0} where
         (λ table. no_hashes ∙ ap (λ ps. map hash (keys_of ps)) (sym none))
 
     -- a new store
-    pub kept_made : (s : StoreState K V) → s.pairs ≡ [] → s.hashes ≡ [] → (s.is_vec ≡ false → IsTableCapacity s.capacity)
+    pub kept_made : (s : StoreState K V) → s.pairs ≡ [] → s.hashes ≡ [] → (s.is_vec ≡ true → s.capacity ≤ limit)
+        → (s.is_vec ≡ false → IsTableCapacity s.capacity)
         → (s.is_vec ≡ false → limit < s.capacity) → IsKept eq hash limit s
     unfolding IsDistinct
-    kept_made s none no_hashes series exceeds = record {
+    kept_made s none no_hashes within series exceeds = record {
       distinct = subst (λ ps. IsDistinct eq (keys_of ps)) (sym none) tt;
       fits = omega (arith, ap length none);
       hashed = λ table. no_hashes ∙ ap (λ ps. map hash (keys_of ps)) (sym none);
+      within = within;
       series = series;
       exceeds = exceeds;
     }
@@ -98,8 +94,9 @@ module _ {K V : Type 0} where
     pub kept_empty : (s : StoreState K V) → s ≡ vector_of no_pairs → IsKept eq hash limit s
     kept_empty s is =
         let no_table : s.is_vec ≢ false = λ table. true≢false (sym (ap (λ s. s.is_vec) is) ∙ table) in
-        kept_made s (ap (λ s. s.pairs) is) (ap (λ s. s.hashes) is) (λ table. absurd (no_table table)) (λ table. absurd (no_table table))
+        kept_made s (ap (λ s. s.pairs) is) (ap (λ s. s.hashes) is) (λ vector. omega (arith, ap (λ s. s.capacity) is))
+        (λ table. absurd (no_table table)) (λ table. absurd (no_table table))
 
     -- what the fields keep is what holds of the state
-    pub state_of : {S : Type 0} (s : StoreState K V) (builder : S) → IsKept eq hash limit s → IsState eq limit (state_in limit s builder)
+    pub state_of : {S : Type 0} (s : StoreState K V) (builder : S) → IsKept eq hash limit s → IsState eq limit (state_in s builder)
     state_of s builder kept = grind (arith, common_steps)

@@ -10,7 +10,7 @@ use Rattle.std.specs.Option.{option_map}
 use Rattle.std.specs.Prelude.{Result, Ok, Err}
 use Rattle.half_store.specs.Pairs.{swap_remove_at}
 use Rattle.half_store.specs.Removal.{TakesFound}
-use Rattle.half_store.specs.Store.{StoreState, allowed}
+use Rattle.half_store.specs.Store.{StoreState}
 use Rattle.half_store.specs.declared.store.vacancy.Vacancy.{Vacancy}
 use Rattle.halfbrown.specs.Layout.{IsKept, state_in}
 use Rattle.halfbrown.specs.Lookup.{LooksUp}
@@ -50,7 +50,7 @@ module _ {K V S : Type 0} (limit : ℕ) (eq : K → K → Bool) (laws : IsEquiva
   kept_found (Err vacancy) None same = subst (IsKept eq hash limit) (sym same) kept
 
   abbrev was : State K V S
-  was = state_in limit old builder
+  was = state_in old builder
 
   was_state : IsState eq limit was
   was_state = state_of eq hash limit old builder kept
@@ -58,15 +58,14 @@ module _ {K V S : Type 0} (limit : ℕ) (eq : K → K → Bool) (laws : IsEquiva
   -- is the map without the pair of the key that was searched for
   pub removes_found : (test : K → Bool) (own : ℕ) → ((k other : K) → test k ≡ true → test other ≡ eq k other)
       → (search : Result ℕ Vacancy) (result : Option (K × V)) → TakesFound old new search result → LooksUp test own was search
-      → Removes limit eq test was (lookup_entry test old.pairs) result (state_in limit new builder)
+      → Removes limit eq test was (lookup_entry test old.pairs) result (state_in new builder)
   removes_found test own one_class (Ok index) (Some pair) taken found =
-      removed_as limit eq test was (state_in limit new builder) laws one_class was_state
+      removed_as limit eq test was (state_in new builder) laws one_class was_state
       (state_of eq hash limit new builder (kept_found (Ok index) (Some pair) taken))
       (record {
         pairs = taken.pairs ∙ sym found.take_is;
         form = taken.form.form;
-        capacity = λ i. allowed limit (taken.form.form i) (taken.form.capacity i);
-        columns = taken.form.columns;
+        capacity = taken.form.capacity;
         builder = refl;
       })
       _ _ (sym taken.removed ∙ sym found.pair)

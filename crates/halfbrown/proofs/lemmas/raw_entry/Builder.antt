@@ -42,7 +42,7 @@ module _ {K : Type 0} (same : K → K → Bool) (laws : IsEquivalence same) (tes
       equal = passes_at same laws test one_class (keys_of o.map.now.pairs) o.index (first_of_index test (keys_of o.map.now.pairs) o.index at.index_is);
       puts = λ k v. sym (at.put_is k v);
       put = λ k v. has_put_by same laws test one_class o.map.now.pairs (set_value o.map.now.pairs o.index v) k v (sym (at.put_is k v));
-      writes = λ occupied v. record { pairs = sym (at.set_is v); form = refl; capacity = refl; columns = refl; builder = refl };
+      writes = λ occupied v. record { pairs = sym (at.set_is v); form = refl; capacity = refl; builder = refl };
       written = λ occupied v. has_set_by same laws test one_class o.map.now.pairs o.index v at;
       takes = sym at.take_is;
       removed = subst (HasRemovedBy same test o.map.now.pairs) at.take_is

@@ -77,7 +77,7 @@ module _ {K V S L H : Type 0} {e : eq.Ghosts K} {h : hash.Ghosts K} {b : builder
   pub held_with_pairs : (key : K) (value : V)
       → WithPairs (map_of (entries.Occupied o)) (pairs_with (Occupied o) key value) (with_value (entries.Occupied o) value)
   unfolding with_value
-  held_with_pairs key value = record { pairs = refl; form = refl; capacity = refl; columns = refl; builder = refl }
+  held_with_pairs key value = record { pairs = refl; form = refl; capacity = refl; builder = refl }
 
   -- a value that is written again
   pub held_twice : (key : K) (value again : V)
@@ -118,7 +118,6 @@ module _ {K V S L H : Type 0} {e : eq.Ghosts K} {h : hash.Ghosts K} {b : builder
           pairs = (λ i. set_value (after.pairs i) (last i) u) ∙ set_value-last ps key value u;
           form = after.form;
           capacity = after.capacity;
-          columns = after.columns;
           builder = after.builder;
         };
         pairs_left = (λ i. swap_remove_at (after.pairs i) (last i)) ∙ swap_remove_at-last ps (key, value);
@@ -136,7 +135,6 @@ module _ {K V S L H : Type 0} {e : eq.Ghosts K} {h : hash.Ghosts K} {b : builder
         pairs = sym (set_value-held o.map.now.pairs o.index value);
         form = refl;
         capacity = refl;
-        columns = refl;
         builder = refl;
       };
       key_is = key_there o key;

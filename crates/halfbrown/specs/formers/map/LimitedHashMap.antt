@@ -22,7 +22,7 @@ use denote.HoleLaws.{Alike}
 use denote.HolePlaces.{Recodes, struct_places, laid}
 use denote.Model.Placed.{view_places}
 use denote.Param.Weighed.{Weighed, most}
-use Rattle.half_store.specs.Store.{StoreState, allowed}
+use Rattle.half_store.specs.Store.{StoreState}
 use Rattle.half_store.specs.Table.{Contents, contents_code, no_contents}
 use Rattle.half_store.specs.formers.store.Store as store
 use Rattle.halfbrown.specs.Costs.{key_hash}
@@ -36,16 +36,16 @@ use Rattle.halfbrown.specs.contracts.map.LimitedHashMap as C
 use Rattle.halfbrown.specs.contracts.map.LimitedHashMap.TheInside as I
 
 abbrev pub the_former : Former {0} → Type 0 → Type 0 → Type 0 → Type 0 → Former {0}
-the_former g K S L T = via (pair (const Bool) (pair (list (entry g K)) (const (ℕ × (ℕ × (S × Contents)))))) (λ X. State K (g.Of X) S)
-    (λ X m. (m.is_vec, (m.pairs, (m.capacity, (m.columns, (m.builder, contents_of m))))))
-    (λ X v. state v.0 v.1.0 v.1.1.0 v.1.1.1.0 v.1.1.1.1.0 v.1.1.1.1.1) (λ X m. refl) (λ X v. refl)
+the_former g K S L T = via (pair (const Bool) (pair (list (entry g K)) (const (ℕ × (S × Contents))))) (λ X. State K (g.Of X) S)
+    (λ X m. (m.is_vec, (m.pairs, (m.capacity, (m.builder, contents_of m)))))
+    (λ X v. state v.0 v.1.0 v.1.1.0 v.1.1.1.0 v.1.1.1.1) (λ X m. refl) (λ X v. refl)
 
 abbrev pub the_weighed : {g : Former {0}} → Weighed g → (K S L T : Type 0) → Weighed (the_former g K S L T)
 the_weighed w K S L T =
     record { weight = λ X μ m. most (w.weight X μ) (values_of m.pairs); puts = λ X μ m. entries_puts w K X μ m.pairs }
 
 pub the_empty : (K S L T : Type 0) → K → S → L → T → State K ⊥ S
-the_empty K S L T k s l t = state true [] 0 0 s no_contents
+the_empty K S L T k s l t = state true [] 0 s no_contents
 
 abbrev pub the_items : (K S L T X : Type 0) → State K X S → List X
 the_items K S L T X m = values_of m.pairs
@@ -65,6 +65,7 @@ module _ {K X : Type 0} (same : K → K → Bool) (hashed : K → ℕ) (limit : 
   Kept-prop p q = λ i. record {
     distinct = IsDistinct-prop same (keys_of s.pairs) p.distinct q.distinct i;
     fits = le_prop p.fits q.fits i;
+    within = λ e. le_prop (p.within e) (q.within e) i;
     hashed = λ e. Coded-set (coded_list coded_ℕ) _ _ (p.hashed e) (q.hashed e) i;
     series = λ e. ℕ_set _ _ (p.series e) (q.series e) i;
     exceeds = λ e. le_prop (p.exceeds e) (q.exceeds e) i;
@@ -75,13 +76,14 @@ module _ {K X : Type 0} (same : K → K → Bool) (hashed : K → ℕ) (limit : 
     KeptMapped = IsKept same hashed limit ((store.the_former this K).map X Y h s)
 
     abbrev Fits : ℕ → Type 0
-    Fits n = n ≤ allowed limit s.is_vec s.capacity
+    Fits n = n ≤ s.capacity
 
     goes : Kept → KeptMapped
     goes p = record {
       distinct = subst (IsDistinct same) (sym (keys_on_values h s.pairs)) p.distinct;
       fits = subst Fits (sym (length-map s.pairs (on_value h))) p.fits;
       hashed = λ e. p.hashed e ∙ ap (map hashed) (sym (keys_on_values h s.pairs));
+      within = p.within;
       series = p.series;
       exceeds = p.exceeds;
     }
@@ -91,6 +93,7 @@ module _ {K X : Type 0} (same : K → K → Bool) (hashed : K → ℕ) (limit : 
       distinct = subst (IsDistinct same) (keys_on_values h s.pairs) p.distinct;
       fits = subst Fits (length-map s.pairs (on_value h)) p.fits;
       hashed = λ e. p.hashed e ∙ ap (map hashed) (keys_on_values h s.pairs);
+      within = p.within;
       series = p.series;
       exceeds = p.exceeds;
     }
@@ -118,8 +121,8 @@ module _ (K S L T : RattleType) (G : eq.Ghosts K.Denot) (H : hash.Ghosts K.Denot
   pub the_codes_placed : Recodes R R' h
       → Recodes (C.the_row K R S L T G H B W Z) (C.the_row K R' S L T G H B W Z) (former.map R.Denot R'.Denot h)
   the_codes_placed e m =
-      let code = coded× coded_ℕ (coded× coded_ℕ (coded× S.coded contents_code)) in
-      let rest = code.code (m.capacity, (m.columns, (m.builder, contents_of m))) in
+      let code = coded× coded_ℕ (coded× S.coded contents_code) in
+      let rest = code.code (m.capacity, (m.builder, contents_of m)) in
       ap (λ x. gcons (coded_bool.code m.is_vec) (gcons x rest)) (entries_recoded K R R' h e m.pairs)
 
 module _ {K X Y : Type 0} (h : X → Y) (same : K → K → Bool) (value_eq : Y → Y → Bool) where

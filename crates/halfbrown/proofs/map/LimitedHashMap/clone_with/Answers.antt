@@ -45,13 +45,12 @@ returns-clause-cloned g c =
     let old = c.self.inside.store in
     let new = c.in_ok-store.store in
     let cloned = c.in_ok-store.ensures in
-    let made = state_in g.L.Limit.LIMIT new c.args.builder in
+    let made = state_in new c.args.builder in
     subst (λ m. IsCloneOf C D (λ b it. it ≡ c.args.builder) m made) c.self.view_is (record {
       form = cloned.form;
       pairs = cloned.pairs;
       same = λ keys values. entries_from_clone C D keys values old.pairs new.pairs cloned.pairs;
       capacity = search rules;
-      columns = search rules;
       builder = refl;
     })
 

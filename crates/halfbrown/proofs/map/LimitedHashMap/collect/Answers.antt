@@ -27,7 +27,6 @@ returns-in_err-extend_counted-clause-refused g c =
       form = told.form;
       pairs = told.pairs;
       capacity = told.capacity;
-      columns = told.columns;
       builder = subst g.S.Default.is_default (sym told.builder) c.default.ensures;
       grantable = told.grantable;
     } in
@@ -47,7 +46,6 @@ returns-clause-collected g c =
       form = told.form;
       pairs = told.pairs;
       capacity = told.capacity;
-      columns = told.columns;
       builder = subst g.S.Default.is_default (sym told.builder) c.default.ensures;
       grantable = told.grantable;
     } in

@@ -5,7 +5,6 @@ use Rattle.halfbrown.specs.Costs.{key_hash, SearchCosts}
 use Rattle.halfbrown.specs.Match.{Matches}
 use Rattle.halfbrown.specs.Layout.{state_in}
 use Rattle.halfbrown.specs.State.{State}
-use Rattle.halfbrown.proofs.lemmas.map.Layout.{table_capacity_is}
 use Rattle.halfbrown.proofs.lemmas.map.Find.{match_costs, matches_of}
 use Rattle.halfbrown.proofs.map.LimitedHashMap.find_match.Goals as goal
 
@@ -14,7 +13,7 @@ returns-clause-found g c =
     let hashing = key_hash g.S.BuildHasher g.S.Hasher.Hasher g.K.Hash.hash_input in
     let returns = FnReturnsAt g.F.Fn c.args.matches.now in
     subst (λ (m : State g.row.K.Denot g.row.V.Denot g.row.S.Denot). Matches returns hashing c.args.hash m c.find.result) c.self.view_is
-    (matches_of returns hashing c.args.hash g.L.Limit.LIMIT c.self.inside.store c.self.inside.builder c.self.invariant.hashed c.find.result
+    (matches_of returns hashing c.args.hash c.self.inside.store c.self.inside.builder c.self.invariant.hashed c.find.result
     c.find.ensures.found)
 
 pub returns-clause-cost : goal.returns-clause-cost
@@ -24,7 +23,7 @@ returns-clause-cost g c =
     let told = c.find.ensures in
     subst (λ (m : State g.row.K.Denot g.row.V.Denot g.row.S.Denot). SearchCosts hashing c.args.hash m (result_ok c.find.result) 0
     c.args.tally.now c.find.new.tally) c.self.view_is
-    (match_costs hashing c.args.hash (state_in g.L.Limit.LIMIT store c.self.inside.builder) c.args.tally.now c.find.new.tally store.is_vec
-    (λ i. store.is_vec) (result_ok c.find.result) store.hashes store.capacity
-    c.self.invariant.hashed (table_capacity_is g.L.Limit.LIMIT store.is_vec store.capacity) told.cost.vector told.cost.found
+    (match_costs hashing c.args.hash (state_in store c.self.inside.builder) c.args.tally.now c.find.new.tally store.is_vec
+    (λ i. store.is_vec) (result_ok c.find.result) store.hashes
+    c.self.invariant.hashed told.cost.vector told.cost.found
     told.cost.missing told.cost.short)

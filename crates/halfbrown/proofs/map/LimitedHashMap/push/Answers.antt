@@ -1,6 +1,6 @@
 use Rattle.std.proofs.Common.{◌<◌, length, sym, ap, subst, arith}
 use Rattle.std.proofs.lemmas.Grind.{common_steps}
-use Rattle.half_store.specs.Store.{IsVacancy, allowed}
+use Rattle.half_store.specs.Store.{IsVacancy}
 use Rattle.halfbrown.specs.Costs.{key_hash}
 use Rattle.halfbrown.specs.Layout.{IsKept}
 use Rattle.halfbrown.specs.Lookup.{IsAbsent}
@@ -19,7 +19,7 @@ invariant_of-self g c =
     let absent : IsAbsent (eq key) store.pairs =
     subst (IsAbsent (eq key)) (sym (ap (λ m. m.pairs) c.self.view_is))
     (absent_of_unheld (eq key) c.args.self.now.pairs c.requires.absent) in
-    let room : length store.pairs < allowed g.L.Limit.LIMIT store.is_vec store.capacity =
+    let room : length store.pairs < store.capacity =
     omega (arith, c.requires.capacity, ap length (ap (λ m. m.pairs) c.self.view_is), ap (λ m. m.capacity) c.self.view_is) in
     let vacant : IsVacancy store.is_vec store.contents (hash key) vacancy =
     subst (λ m. IsVacancy m.is_vec (contents_of m) (key_hash g.S.BuildHasher g.S.Hasher.Hasher g.K.Hash.hash_input m.builder key) vacancy)

@@ -11,6 +11,7 @@ invariant_of-self g c =
     let told = c.into_store.ensures in
     kept_made g.K.PartialEq.eq (key_hash g.S.BuildHasher g.S.Hasher.Hasher g.K.Hash.hash_input c.self.inside.builder) g.L.Limit.LIMIT
     c.into_store.result told.pairs told.hashes
+    (λ vector. omega (arith, told.form.capacity, c.requires.within (sym told.form.form ∙ vector)))
     (λ table. subst IsTableCapacity (sym told.form.capacity) (c.requires.series (sym told.form.form ∙ table)))
     (λ table. subst (λ n. g.L.Limit.LIMIT < n) (sym told.form.capacity) (c.requires.exceeds (sym told.form.form ∙ table)))
 

@@ -9,7 +9,6 @@ use Rattle.halfbrown.specs.Lookup.{LooksUp}
 use Rattle.halfbrown.specs.Removal.{Removes}
 use Rattle.halfbrown.specs.State.{State}
 use Rattle.halfbrown.proofs.lemmas.map.Find.{costs_for_other, found_is_index, looks_up, match_costs, matches_of}
-use Rattle.halfbrown.proofs.lemmas.map.Layout.{table_capacity_is}
 use Rattle.halfbrown.proofs.lemmas.map.Remove.{kept_found, removes_found}
 use Rattle.halfbrown.proofs.lemmas.pairs.Indices.{value_of_entry}
 use Rattle.halfbrown.proofs.map.LimitedHashMap.remove_hashed.Goals as goal
@@ -24,7 +23,7 @@ pub returns : goal.returns
 returns g c =
     let store = c.self.inside.store in
     let builder = c.self.inside.builder in
-    let was : State g.row.K.Denot g.row.V.Denot g.row.S.Denot = state_in g.L.Limit.LIMIT store builder in
+    let was : State g.row.K.Denot g.row.V.Denot g.row.S.Denot = state_in store builder in
     let test = g.Q.Equivalent.equivalent c.args.key in
     let hashing = key_hash g.S.BuildHasher g.S.Hasher.Hasher g.K.Hash.hash_input in
     let own = key_hash g.S.BuildHasher g.S.Hasher.Hasher g.Q.Hash.hash_input builder c.args.key in
@@ -35,12 +34,11 @@ returns g c =
     let found : LooksUp test own was told.search = looks_up test _ (λ k answer returned. returned.says.met ∙ ap test returned.shows)
     g.K.PartialEq.eq (g.met.Q.Equivalent.stands_for_equals c.args.key) hashing c.args.hash was c.self.invariant.distinct own known
     (λ k passes. ap (hash_by g.S.BuildHasher g.S.Hasher.Hasher builder) (sym (g.met.Q.Equivalent.hashes_alike c.args.key k passes)))
-    told.search (matches_of _ hashing c.args.hash g.L.Limit.LIMIT store builder c.self.invariant.hashed told.search told.finds) in
+    told.search (matches_of _ hashing c.args.hash store builder c.self.invariant.hashed told.search told.finds) in
     let spent = match_costs hashing c.args.hash was c.args.tally.now c.take.new.tally store.is_vec (λ i. store.is_vec)
-    (result_ok told.search) store.hashes store.capacity c.self.invariant.hashed
-    (table_capacity_is g.L.Limit.LIMIT store.is_vec store.capacity) told.cost.vector told.cost.found told.cost.missing told.cost.short in
+    (result_ok told.search) store.hashes c.self.invariant.hashed told.cost.vector told.cost.found told.cost.missing told.cost.short in
     let removes = subst (λ (m : State g.row.K.Denot g.row.V.Denot g.row.S.Denot). Removes g.L.Limit.LIMIT g.K.PartialEq.eq test m
-    (lookup_entry test m.pairs) c.take.result (state_in g.L.Limit.LIMIT c.take.new.self builder)) c.self.view_is
+    (lookup_entry test m.pairs) c.take.result (state_in c.take.new.self builder)) c.self.view_is
     (removes_found g.L.Limit.LIMIT g.K.PartialEq.eq g.met.K.Eq.laws (hashing builder) builder store c.take.new.self c.self.invariant test
     own (g.met.Q.Equivalent.stands_for_equals c.args.key) told.search c.take.result told.takes found) in
     record {

@@ -24,7 +24,6 @@ returns-clause-vector g c vector = record {
       pairs = c.push.ensures.after.pairs ∙ ap (λ ps. ps ++ c.take_at-key.result ∷ []) c.take_at-key.ensures.after.pairs;
       form = c.push.ensures.after.form ∙ c.take_at-key.ensures.after.form;
       capacity = c.push.ensures.after.capacity ∙ c.take_at-key.ensures.after.capacity;
-      columns = c.push.ensures.after.columns ∙ c.take_at-key.ensures.after.columns;
       builder = c.push.ensures.after.builder ∙ c.take_at-key.ensures.after.builder;
     },
   );

@@ -8,7 +8,7 @@ pub invariant_of-result : goal.invariant_of-result
 invariant_of-result g c =
     let made = c.in_ok-with_capacity.ensures in
     kept_made g.K.PartialEq.eq (key_hash g.S.BuildHasher g.S.Hasher.Hasher g.K.Hash.hash_input c.args.builder) g.L.Limit.LIMIT
-    c.in_ok-with_capacity.field-0 made.pairs made.hashes made.series (λ table. omega (arith, made.exceeds table, c.LIMIT.ensures))
+    c.in_ok-with_capacity.field-0 made.pairs made.hashes (λ vector. omega (arith, made.within vector, c.LIMIT.ensures)) made.series (λ table. omega (arith, made.exceeds table, c.LIMIT.ensures))
 
 pub returns-clause-state : goal.returns-clause-state
 returns-clause-state g c = grind (arith, common_steps, invariant_of-result, state_of)

@@ -11,4 +11,4 @@ returns-in-Err g c =
     let front = yields_front g.I.IntoIter.Iterator.next_gives it refused.before (refused.key, refused.value) given.0 given.1 in
     let extends = extends_of g.L.Limit.LIMIT g.K.PartialEq.eq (key_hash g.S.BuildHasher g.S.Hasher.Hasher g.K.Hash.hash_input)
     g.met.K.Eq.laws c.args.self.now c.extend.new.self refused.before refused.spent refused.inserted in
-    record { ran = (it, refused.before, told.2, (refused.spent, extends), front) }
+    record { ran = (it, refused.before, told.2, (refused.spent, extends), front); refused = (it, c.in-Err.field-0, told.1, told.2, refused) }
