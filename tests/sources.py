@@ -18,7 +18,7 @@ RULES = (
     ("Nothing is forgotten.", r"\bforget\b|ManuallyDrop|\bleak|\binto_raw", "||"),
     ("A tally is made by the macro `uncounted` alone, and never copied.",
      r"(?<!&mut )\bTally\b|\bTally::|\bCount\b|\bSelf(?:::new\b| \{)"
-     r"|derive\([^)]*(?:Clone|Copy|Default).*\s+pub struct (?:Tally|Count)\b", "count 7, tally 14 |  |"),
+     r"|derive\([^)]*(?:Clone|Copy|Default).*(?=\s+pub struct (?:Tally|Count)\b)", "count 7, tally 14 |  |"),
     ("Nothing has a second name.", r"\bas (?!u\d|usize)", "| iter 1 |"),
     ("What is not counted: the buckets that growth and the switch fill, what a removal reads beside its search, `from_array`.",
      r"\buncounted\b", "store/change 1, table/rehash 1, tally 1 | map/collect 1, map/form 1 |"),
@@ -90,7 +90,7 @@ def search(pattern, places, codes):
     for name in sorted(codes.keys() | often.keys()):
         found = [it[0] for it in re.finditer(pattern, codes.get(name, ""))]
         if len(found) != often.get(name, 0):
-            yield f"{name} has this {len(found)} times, and not {often.get(name, 0)}: {' '.join((found or [pattern])[-1].split())}"
+            yield f"{name} has {len(found)} of these, and not {often.get(name, 0)}: {' '.join((found or [pattern])[-1].split())}"
 
 
 def main():
