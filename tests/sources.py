@@ -63,8 +63,7 @@ RULES = (
      r"|match LimitedHashMap::extend\(self, items\) \{\s*Ok\(\(\)\) => Ok\(\(\)\),\s*Err\(_\) =>|0\.\.u64::MAX",
      "words 1 | map/collect 2, run 1 | lines 1, session 1"),
     ("A raw call that lends the key is a call that returns the entry, and one loan.",
-     r"mut V\)\s*(?:where[^{}]*)?\{\s*self\s*\.(?:or_)?insert_\w+_counted\([\w, ]*\)\s*(?:\.into_key_value\(\)\s*)?\}"
-     r"|=> entry\.into_key_value\(\),\s*\S+ => \{\s*let \(key, value\) = default\(\);\s*entry\.insert_counted\([\w, ]*\)\s+\}",
+     r"mut V\)\s*(?:where[^{}]*)?\{\s*self\s*\.(?:or_)?insert_\w+\([\w, ]*\)\s*(?:\.into_key_value\(\)\s*)?\}",
      "| raw_entry/methods 2, raw_entry/vacant 3 |"),
 )
 
