@@ -1,14 +1,12 @@
 #!/usr/bin/env python3
-"""Searches the sources of the libraries and the program for what no proof sees: work that is done beside the count, values that
-are forgotten, tables and builders that are made to be dropped.
+"""Searches the sources of the libraries and the program for what no proof sees: work beside the count, values that are forgotten,
+memory and clones that nobody keeps, refusals without a reason.
 
-A tally is begun by a plain call alone, whose whole body is its counted form, or where OTHER_TALLIES says why. What counts, reads
-a bucket, compares or makes a table is called where CALLERS says, and a plain call that has a counted form where PLAIN_CALLS does.
-
-The last line is "N passed, M failed".
+A rule is a sentence, a pattern, and how often it stands in the files of half_store | halfbrown | halfmap; elsewhere it does not.
+Comments, clauses and `use` lines are left out, and so is each plain call whose body is its counted form in `uncounted!`. Who adds
+a place reads the sentence, and changes the number if it still holds. The last line is "N passed, M failed".
 """
 
-import functools
 import pathlib
 import re
 import sys
@@ -16,141 +14,95 @@ import sys
 CRATES = pathlib.Path(__file__).resolve().parent.parent / "crates"
 LIBRARIES = ("half_store", "halfbrown", "halfmap")
 
-# What may stand nowhere: a pattern, and what is wrong with it.
-NOWHERE = {
-    r"\bforget\(|ManuallyDrop|\bleak\(": "a value may be forgotten",
-    r"\b(?:Tally|tally|half_store) as\b|\btype \w+(?:<.*>)? = .*\bTally\b": "the tally has another name",
-    r"\bTally::(?!new\(\))": "a tally is made in another way",
-    r"(?:\.|::)(?:hash|build_hasher)\(": "a key is hashed beside the builder's hash_one",
-    r"(?:\.|::)(?:eq|ne)\(": "keys or values are compared by no operator",
-}
-# Where a call stands, and how often: a pattern, and the files, below crates/ and without .rt.
-CALLERS = {
-    r"(?<!counting)(?:\.|::)hash_one\(": {"half_store/src/counting": 1},
-    r"\bcounting::hash_one\(": {"halfbrown/src/map/form": 2},
-    r"\bCount::new\(|\.plus_one\(": {"half_store/src/tally": 6},
-    r"\b(?:is_match|matches)\(": {"half_store/src/counting": 1},
-    r"(?:\.|::)equivalent\(": {"halfbrown/src/map/find": 1, "halfbrown/src/map/remove": 1},
-    r" [!=]= (?!\d|b')": {"half_store/src/table/deletion": 2, "half_store/src/table/probe": 1, "half_store/src/table/retain": 1}
-    | {"half_store/src/words": 1}
-    | {"halfbrown/src/equivalent": 6, "halfbrown/src/map/equality": 2, "halfmap/src/lines": 1, "halfmap/src/request": 1},
-    r"\.contains\(": {"halfmap/src/session": 1},
-    r"\b(?:self|map)\[": {},
-    r"(?<!\w)run\(": {},
-    r"\bcollect(?:::<.*>)?\(": {"halfbrown/src/map/collect": 2},
-    r"\bcompare\(": {"half_store/src/table/probe": 1, "half_store/src/vecmap/search": 1},
-    r"(?<!\w)search\(": {"half_store/src/table/find": 1},
-    r"\bfirst_match\(": {"half_store/src/store/find": 1},
-    r"\bfirst_empty\(": {"half_store/src/table": 2, "half_store/src/table/rehash": 1},
-    r"\bfind_in\(": {"half_store/src/table": 2},
-    r"\bfind_with_bucket\(": {"half_store/src/table/find": 1, "half_store/src/table/deletion": 1},
-    r"\.take\((?:self\.columns\.keys\(\), )?hash": {"half_store/src/store/change": 1, "halfbrown/src/map/remove": 1},
-    r"\bbuckets\.read\(": {"half_store/src/table/probe": 2},
-    r"\.word_at\(": {"half_store/src/buckets": 1, "half_store/src/table/deletion": 3, "half_store/src/words": 2},
-    # Elsewhere nothing can name the words: their field is private.
-    r"\b(?:self|other)\.words\b": {"half_store/src/words": 10},
-    r"\.hashed_buckets\(": {},
-    r"\bTable::with_capacity\(": {"half_store/src/store/memory": 2, "half_store/src/store/switch": 1},
-    r"(?:\.|::)clone\(": {"half_store/src/column": 1, "halfbrown/src/map/clone": 2}
-    | {"halfbrown/src/iter": 3, "halfbrown/src/iter/column": 1},
-    r"\.copy\(": {"half_store/src/store/memory": 1},
-    r"\.copied\(\w*\)\?": {"half_store/src/table/memory": 1, "half_store/src/words": 2},
-}
-# Where a call is made of the name of a plain call that has a counted form: what it is of.
-PLAIN_CALLS = {
-    "half_store/src/store/change": ["table.remove"] * 2,
-    "halfbrown/src/entry/debug": ["self.get"],
-    "halfbrown/src/entry/methods": ["entry.insert"] * 3 + ["entry.get_mut"],
-    "halfbrown/src/entry/occupied": ["self.get_mut", "self.remove_entry"],
-    "halfbrown/src/map/collect": ["LimitedHashMap::from_iter", "LimitedHashMap::extend"],
-    "halfbrown/src/map/debug": ["out.entry"],
-    "halfbrown/src/map/equality": ["self.same_pairs"],
-    "halfbrown/src/raw_entry/debug": ["entry.get"],
-    "halfbrown/src/raw_entry/methods": ["entry.insert"],
-    "halfbrown/src/run": ["entry.or_insert", "entry.get"],
-    "halfmap/src/answer": ["map.insert", "map.get", "map.remove"],
-}
-# Where a tally is begun by no plain call, and why: the function and the line.
-OTHER_TALLIES = {
-    # The bucket of each pair is probed for anew, which growth and shrinking do not count.
-    "rehash": "let bucket = first_empty(&held, hashes[index], &mut Tally::new());",
-    # The switch adds each pair to a new table; its hashes are counted, its buckets are not.
-    "store_hashes": "table.add(hash, &mut Tally::new());",
-    # What a removal reads beside its search is counted apart, and its contract bounds it.
-    "take": "table.take(self.columns.keys(), hash, matches, tally, &mut Tally::new())",
-    # A plain call whose counted form has another name.
-    "from_array": "LimitedHashMap::collect(alloc, N, pairs.into_iter(), &mut Tally::new())",
-}
+RULES = (
+    ("Nothing is forgotten.", r"\bforget\b|ManuallyDrop|\bleak|\binto_raw", "||"),
+    ("A tally is made by the macro `uncounted` alone, and never copied.",
+     r"(?<!&mut )\bTally\b|\bTally::|\bCount\b|\bSelf(?:::new\b| \{)"
+     r"|derive\([^)]*(?:Clone|Copy|Default).*(?=\s+pub struct (?:Tally|Count)\b)", "count 7, tally 14 |  |"),
+    ("Nothing has a second name.", r"\bas (?!u\d|usize)", "| iter 1 |"),
+    ("What is not counted: the buckets that growth and the switch fill, what a removal reads beside its search, `from_array`.",
+     r"\buncounted\b", "store/change 1, table/rehash 1, tally 1 | map/collect 1, map/form 1 |"),
+    ("A counted form is a method, except for `from_iter_counted` and `run_counted`.",
+     r"fn \w+_counted\b(?:<.*?>)?\((?!\s*&?(?:mut )?self\b)", "| map/collect 1, run 1 |"),
+    ("The libraries make no plain call: these are calls of entries and tables, of std's traits and of the program.",
+     r"(?<!fn )\b(?:PLAIN)(?:::<[^()]*>)?\(|::(?:PLAIN)\b(?!\()",
+     "store/change 2 | entry/debug 1, entry/methods 4, entry/occupied 2, map/collect 2, map/debug 1, map/equality 1, "
+     "raw_entry/debug 1, raw_entry/methods 1, run 3 | answer 3"),
+    ("Slices are indexed, and no map.", r"[\w\])]\[",
+     "buckets 1, table/deletion 2, table/probe 1, table/rehash 2, vecmap/replace 1, vecmap/retain 2, vecmap 7, words 4 |  | "
+     "lines 2, request 2"),
+    ("What compares keys is handed on, and only `compare` calls it.", r"\b(?:matches|is_match)\b",
+     "counting 2, store/change 3, store/find 3, table/deletion 2, table/find 4, table/probe 2, table 6, vecmap/search 2 | "
+     "map/find 4, map/remove 2, raw_entry/builder 2, raw_entry/builder_mut 2 |"),
+    ("No hasher is built: a key is hashed by `hash_one`.", r"\.(?:hash|build_hasher)\(|::(?:hash|build_hasher)\b", "||"),
+    ("Keys and values are compared in these places; the other comparisons are of numbers, and of bytes in a line.",
+     r"[!=]=\s*(?![\s\d]|b')"
+     r"|(?:\.|::)(?:eq|ne|cmp|partial_cmp|equivalent|contains|starts_with|ends_with|strip_\w+)\b",
+     "table/deletion 2, table/probe 1, table/retain 1, words 1 | equivalent 6, map/equality 2, map/find 1, map/remove 1 | "
+     "lines 1, request 4, session 2"),
+    ("Counted work is done in these places.",
+     r"\b(?:hash_one|compare|word_at|read|search|first_match|first_empty|find_in|find_with_bucket)\b",
+     "buckets 3, counting 3, store/find 1, table/deletion 4, table/find 4, table/probe 5, table/rehash 1, table 4, "
+     "vecmap/search 2, vecmap 1, words 6 | map/form 2 |"),
+    ("The words of buckets are read by `word_at` alone.", r"\bwords\b",
+     "arrays 1, lib 1, store/memory 2, table/memory 2, words 44 |  |"),
+    ("Memory is taken, and values are cloned, in these places.",
+     r"\b(?:alloc|allocator|push|reserve\w*|extend\w*|append|resize\w*|clone\w*|copy|copied|grow\w*|collect)\b",
+     "column 11, store/change 2, store/drain 1, store/memory 14, store/switch 2, store 2, table/memory 10, vecmap/columns 2, "
+     "vecmap/memory 17, vecmap 4, words 15 | entry/vacant 1, iter/column 2, iter 4, macros 4, map/clone 7, map/collect 16, "
+     "map/form 1, map/growth 2, map/insert 4, map/make 12, map/prepare 2, map 3, raw_entry/vacant 1, run 6 | lines 1, main 1, "
+     "session 10"),
+    ("A refusal is made, handed on or looked at in these places.",
+     r"\bErr\b|\bRefusal::\w|\bAllocError\b(?!>)|\bStopped\b(?!>)|\bNoRoom\b|\b(?:check_size|ok_or\w*)\(",
+     "column 2, refusal 13, store/change 2, store/find 3, store/memory 3, table/deletion 2, table/find 3, table/memory 1, "
+     "table/probe 1, vecmap/memory 3, words 2 | entry/find 3, map/collect 5, map/get 2, map/insert 5, map/prepare 2, "
+     "raw_entry/builder 2, raw_entry/builder_mut 3, raw_entry/make 2, refused 4, run 6 | answer 4, lines 5, main 2, session 11"),
+    ("Where no clause says when a call fails, these words do: memory was refused, two counts differ, or u64 ends.",
+     r"if words\.capacity\(\) == words\.len\(\) \{\s*Ok\(WordVec \{ words \}\)\s*\} else \{\s*Err\(AllocError\)"
+     r"|let Ok\((?:mut )?\w+\) = Vec::\w+\(alloc, [\w.()]+\) else \{\s*return Err\("
+     r"|match LimitedHashMap::extend\(self, items\) \{\s*Ok\(\(\)\) => Ok\(\(\)\),\s*Err\(_\) =>|0\.\.u64::MAX",
+     "words 1 | map/collect 2, run 1 | lines 1, session 1"),
+    ("A raw call that lends the key is a call that returns the entry, and one loan.",
+     r"mut V\)\s*(?:where[^{}]*)?\{\s*self\s*\.(?:or_)?insert_\w+\([\w, ]*\)\s*(?:\.into_key_value\(\)\s*)?\}",
+     "| raw_entry/methods 2, raw_entry/vacant 3 |"),
+)
 
-COMMENT = re.compile(r"^\s*//.*$", re.M)
-CLAUSE = re.compile(r"^ *(?:requires|ensures|ghost)\b.*?(?=^ *(?:requires|ensures|ghost|\{|fn|pub|type|impl|\}|use|const|struct|trait|#|$))", re.M | re.S)
-FUNCTION = re.compile(r"^( *)(?:pub(?:\(\w+\))? )?fn (\w+).*?(?:\{$|^\1\{$)\n(.*?)^\1\}$", re.M | re.S)
+COMMENT = re.compile(r"^\s*(?://|#\[tactic).*$", re.M)
+NEXT = r"^ *(?:requires|ensures|ghost|\{|fn|pub|type|impl|\}|use|const|struct|trait|#|$)"
+CLAUSE = re.compile(rf"^ *(?:requires|ensures|ghost)\b.*?(?={NEXT})", re.M | re.S)
+USE = re.compile(r"^(?:pub )?use (?:(?! as )[^;])*;$", re.M)
+PLAIN_CALL = re.compile(r"\bfn (\w+)\b[^{}]*\{\s*uncounted!\((?:\w+(?:\.|::))?\1_counted\([\w, ]*\)\)\s*\}")
 
 
 def code_of(path):
-    """The text of a file without its comments and clauses; lines stay where they are."""
-    blanked = COMMENT.sub("", path.read_text())
-    return CLAUSE.sub(lambda it: "\n" * it[0].count("\n"), blanked)
+    """The text of a file without what is left out."""
+    code = path.read_text()
+    for left_out in (COMMENT, CLAUSE, USE, PLAIN_CALL):
+        code = left_out.sub("", code)
+    return code
 
 
-def functions(code):
-    """The functions of a file: the name and the body, in one line."""
-    return [(it[2], " ".join(it[3].split())) for it in FUNCTION.finditer(code)]
-
-
-def nowhere(name, code):
-    for pattern, problem in NOWHERE.items():
-        yield from (f"{name}: {problem}: {it[0]}" for it in re.finditer(pattern, code))
-
-
-def callers(name, code):
-    for pattern, files in CALLERS.items():
-        calls = [line.strip() for line in code.splitlines() if " fn " not in line for _ in re.finditer(pattern, line)]
-        if len(calls) != files.get(name, 0):
-            yield f"{name}: this is called {len(calls)} times, and not {files.get(name, 0)}: {(calls or [pattern])[-1]}"
-
-
-def plain_calls(name, code):
-    """The calls of these names, and where a type's call is handed on."""
-    names = "|".join(plain_names())
-    calls = re.findall(rf"\w*(?:\.(?:{names})(?=(?:::<.*>)?\()|(?:\bSelf|Map|Mut|Entry|>)::(?:{names})\b)", code)
-    if calls != PLAIN_CALLS.get(name, []):
-        yield f"{name}: plain calls are {calls}, and not {PLAIN_CALLS.get(name, [])}"
-
-
-@functools.cache
-def plain_names():
-    files = [path for crate in LIBRARIES for path in (CRATES / crate / "src").rglob("*.rt")]
-    return sorted({name for path in files for name in re.findall(r"\bfn (\w+)_counted\b", path.read_text())})
-
-
-def tallies(name, code):
-    seen = 0
-    for function, body in functions(code):
-        begun = body.count("Tally::new()")
-        seen += begun
-        is_plain = re.fullmatch(rf"(?:\w+(?:::|\.))?{function}_counted\((?:\w+, )*&mut Tally::new\(\)\)", body)
-        other = OTHER_TALLIES.get(function)
-        if begun and not is_plain and not (begun == 1 and other and other in body):
-            yield f"{name}: `{function}` begins a tally, and is no plain call of its counted form"
-    if code.count("Tally::new()") != seen:
-        yield f"{name}: a tally is begun in no function that was read"
-
-
-SEARCHES = (nowhere, callers, plain_calls, tallies)
+def search(pattern, places, codes):
+    """Where the pattern does not stand as often as these places say."""
+    parts = zip(LIBRARIES, places.split("|"), strict=True)
+    often = {f"{crate}/src/{it[1]}": int(it[2]) for crate, part in parts for it in re.finditer(r"(\S+) (\d+)", part)}
+    for name in sorted(codes.keys() | often.keys()):
+        found = [it[0] for it in re.finditer(pattern, codes.get(name, ""))]
+        if len(found) != often.get(name, 0):
+            yield f"{name} has {len(found)} of these, and not {often.get(name, 0)}: {' '.join((found or [pattern])[-1].split())}"
 
 
 def main():
-    files = [path for crate in LIBRARIES for path in sorted((CRATES / crate / "src").rglob("*.rt"))]
-    failed = []
-    for path in files:
-        name, code = path.relative_to(CRATES).with_suffix("").as_posix(), code_of(path)
-        for search in SEARCHES:
-            failed += search(name, code)
-    for problem in failed:
-        print(problem)
-    print(f"{len(SEARCHES) * len(files) - len(failed)} passed, {len(failed)} failed")
-    return bool(failed) or not files
+    paths = [path for crate in LIBRARIES for path in (CRATES / crate / "src").rglob("*.rt")]
+    codes = {path.relative_to(CRATES).with_suffix("").as_posix(): code_of(path) for path in paths}
+    counted = {name for path in paths for name in re.findall(r"\bfn (\w+)_counted\b", path.read_text())}
+    failed = 0
+    for sentence, pattern, places in RULES:
+        problems = list(search(pattern.replace("PLAIN", "|".join(sorted(counted))), places, codes))
+        failed += bool(problems)
+        print("\n".join([sentence, *problems]) + "\n" if problems else "", end="")
+    print(f"{len(RULES) - failed} passed, {failed} failed")
+    return bool(failed) or not paths
 
 
 if __name__ == "__main__":

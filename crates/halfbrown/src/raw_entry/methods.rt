@@ -3,6 +3,7 @@ ghost use Rattle.std.specs.Prelude.{◌≡◌, false, None, Some, IfSome, unwrap
 ghost use Rattle.std.specs.Borrow.{Bor, MutBor};
 ghost use Rattle.std.specs.Option.{UnwrapsOrElse};
 ghost use Rattle.halfbrown.specs.Costs.{key_hash};
+ghost use Rattle.halfbrown.specs.Entry.{Occupied, entry_pair};
 ghost use Rattle.halfbrown.specs.Pairs.{holds};
 ghost use Rattle.halfbrown.specs.RawEntry.{raw_map, raw_ref, is_found, found_key, found_value};
 ghost use Rattle.halfbrown.specs.RawEntry.{found_pair, pairs_with, without_found, PutsEntry, ModifiesPair, after_adding};
@@ -182,11 +183,37 @@ impl<'a, K: Eq + Hash, V, S: BuildHasher, L: Limit> RawEntryMut<'a, K, V, S, L> 
             else after_adding (key_hash S.BuildHasher S.Hasher.Hasher K.hash_input)
             (raw_map self.entry) result.0.now tally.old) }
     {
+        self.or_insert_entry_with(default, tally).into_key_value()
+    }
+
+    // The entry whose pair `or_insert_with` lends.
+    #[inline]
+    fn or_insert_entry_with<F: FnOnce() -> (K, V)>(
+        self,
+        default: F,
+        tally: &mut Tally,
+    ) -> OccupiedEntry<'a, K, V, S, L>
+        requires callable { is_found self ≡ false → F.pre default }
+        requires absent { is_found self ≡ false → (pair : K × V) → F.post default pair
+            → holds K.eq (raw_map self).pairs pair.0 ≡ false }
+        ensures puts { IfSome (entry_pair (Occupied result))
+            (λ pair. PutsEntry L.LIMIT K.eq self.entry pair.0 pair.1 result) }
+        ensures pair { IfSome (entry_pair (Occupied result))
+            (UnwrapsOrElse (found_pair self.entry) (F.post default)) }
+        ensures cost { IfSome (entry_pair (Occupied result)) (λ pair. tally.new
+            ≡ (if is_found self.entry then tally.old
+            else after_adding (key_hash S.BuildHasher S.Hasher.Hasher K.hash_input)
+            (raw_map self.entry) pair.0 tally.old)) }
+    {
         match self {
-            RawEntryMut::Occupied(entry) => entry.into_key_value(),
+            RawEntryMut::Occupied(entry) => {
+                // Of the map that is read here `len` states what holds of every map.
+                prove!(entry.index < entry.map.len());
+                return entry;
+            }
             RawEntryMut::Vacant(entry) => {
                 let (key, value) = default();
-                entry.insert_counted(key, value, tally)
+                entry.insert_entry_counted(key, value, tally)
             }
         }
     }

@@ -1,6 +1,6 @@
 -- What a raw entry is once its pair is written, added or given another key.
-use Rattle.std.proofs.Common.{◌≡◌, ℕ, zero, suc, ◌<◌, List, [], ◌∷◌, ◌++◌, length, slice_get, None, Some, unwrap_or, refl, sym, ap, subst}
-use Rattle.std.proofs.Common.{◌∙◌, arith, true, is_some}
+use Rattle.std.proofs.Common.{◌≡◌, ℕ, zero, suc, ◌<◌, List, [], ◌∷◌, ◌++◌, length, slice_get, None, Some, IfSome, unwrap_or, refl, sym, ap, subst}
+use Rattle.std.proofs.Common.{◌∙◌, arith, Bool, true, is_some}
 use Rattle.std.proofs.lemmas.Map.Entries.{length-keys_of, length-values_of}
 use Rattle.std.proofs.lemmas.Option.{same_Some}
 use Rattle.std.specs.Map.{keys_of, values_of}
@@ -10,8 +10,8 @@ use Rattle.halfbrown.specs.declared.entry.OccupiedEntry.{OccupiedEntry}
 use Rattle.halfbrown.specs.declared.raw_entry.RawEntryMut.{RawEntryMut}
 use Rattle.halfbrown.specs.declared.raw_entry.RawVacantEntryMut.{RawVacantEntryMut}
 use Rattle.halfbrown.specs.Entry.{entry_key, entry_value, map_of, with_value, IsWritten}
-use Rattle.halfbrown.specs.RawEntry.{Occupied, Vacant, found_key, found_pair, found_value, pairs_with, PutsThroughRawEntry}
-use Rattle.halfbrown.specs.State.{WithPairs}
+use Rattle.halfbrown.specs.RawEntry.{Occupied, Vacant, found_key, found_pair, found_value, pairs_with, PutsThroughRawEntry, PutsEntry}
+use Rattle.halfbrown.specs.State.{IsState, WithPairs}
 use Rattle.halfbrown.proofs.lemmas.entry.Methods.{key_of-pair, value_of-pair, set_value-last, value-last}
 use Rattle.halfbrown.proofs.lemmas.entry.Replace.{swap_remove_at-last}
 use Rattle.halfbrown.proofs.lemmas.pairs.Values.{set_value-twice}
@@ -61,6 +61,20 @@ module _ {K V : Type 0} where
   pair_or [] i k v = refl
   pair_or (p ∷ ps) zero k v = refl
   pair_or (p ∷ ps) (suc i) k v = pair_or ps i k v
+
+  -- what holds of each pair that has its own value holds of one that is there
+  pair_there : (P : K × V → Type 0) (ps : List (K × V)) (i : ℕ)
+      → ((p : K × V) → unwrap_or (slice_get (values_of ps) i) p.1 ≡ p.1 → P p) → IfSome (slice_get ps i) P
+  pair_there P [] i holds = tt
+  pair_there P (p ∷ ps) zero holds = holds p refl
+  pair_there P (p ∷ ps) (suc i) holds = pair_there P ps i holds
+
+  -- and what holds of its key and its value
+  pub pair_is : (P : K × V → Type 0) (ps : List (K × V)) (i : ℕ) (k : K) (v : V) → slice_get (keys_of ps) i ≡ Some k
+      → slice_get (values_of ps) i ≡ Some v → P (k, v) → IfSome (slice_get ps i) P
+  pair_is P [] i k v key value holds = tt
+  pair_is P (p ∷ ps) zero k v key value holds = subst P (λ i. (same_Some k p.0 (sym key) i, same_Some v p.1 (sym value) i)) holds
+  pair_is P (p ∷ ps) (suc i) k v key value holds = pair_is P ps i k v key value holds
 
   -- the key of a pair that was just appended
   key-last : (ps : List (K × V)) (k : K) (v : V) → slice_get (keys_of (ps ++ (k, v) ∷ [])) (length ps) ≡ Some k
@@ -156,3 +170,14 @@ module _ {K V S L H : Type 0} {e : eq.Ghosts K} {h : hash.Ghosts K} {b : builder
         → (unwrap_or (found_key entry) key, unwrap_or (found_value entry) value) ≡ unwrap_or (found_pair entry) (key, value)
     found_or (Occupied o) key value = pair_or o.map.now.pairs o.index key value
     found_or (Vacant v) key value = refl
+
+    -- a pair that is found and left is put with its own key and value
+    pub held_puts_pair : (limit : ℕ) (same : K → K → Bool) (entry : RawEntryMut K V S L H e h b w l) (o : OccupiedEntry K V S L H e h b w l)
+        → entry ≡ Occupied o → (within : o.index < length o.map.now.pairs) → IsState same limit o.map.now
+        → IfSome (slice_get o.map.now.pairs o.index)
+        (λ pair. PutsEntry limit same entry pair.0 pair.1 (record { map = o.map; index = o.index; within = within }))
+    held_puts_pair limit same entry o is within state = pair_there _ o.map.now.pairs o.index (λ pair held. record {
+      puts = subst (λ value. PutsThroughRawEntry entry pair.0 value (record { map = o.map; index = o.index; within = within }))
+          (ap (λ found. unwrap_or (found_value found) pair.1) is ∙ held) (held_puts entry o is pair.0 pair.1 within);
+      state = state;
+    })
