@@ -104,7 +104,7 @@ def tests_of(path, before):
 
 def examples(sources):
     before = tests_of(sources / "lib.rt", "")[1]
-    files = {"_".join(it.parts[it.parts.index("src") :])[:-3]: tests_of(it, before)[0] for it in sources.rglob("*.rt")}
+    files = {"src_" + "_".join(it.relative_to(sources).parts)[:-3]: tests_of(it, before)[0] for it in sources.rglob("*.rt")}
     with tempfile.TemporaryDirectory() as folder:
         crate = pathlib.Path(folder, "crates/examples")
         shutil.copytree(TOP / "crates", crate.parent, ignore=shutil.ignore_patterns("proofs", "out"))
