@@ -60,10 +60,9 @@ unproved_parts() {
     part "documents" env JSON_AT="$(built json_at)" tests/documents.py
     part "tests of half_tests" try_tests half_tests
     part "tests of json_at" try_tests json_at
-    part "examples" tests/examples.py
     part "must not compile" tests/must_not_compile.py
     part "sources" tests/sources.py
-    part "USING" tests/using.py
+    part "documentation" env HALFMAP="$(built halfmap || echo none)" tests/documentation.py
     echo "$passed $failed" >"$folder/sum"
 }
 
@@ -82,7 +81,6 @@ else
     failed=$((failed + worse))
 fi
 part "halfmap" tests/halfmap.py
-part "pages" tests/pages.py
 
 echo "$passed passed, $failed failed"
 [ "$failed" -eq 0 ]

@@ -52,9 +52,9 @@ pub fn capacity_of_a_run<K: Eq + Hash, V, S: BuildHasher, L: Limit>()
     ensures bytes { BytesLaw V S L.LIMIT K.eq }
 {}
 
-/// Growth and the switch move all held pairs. Without `Shrink` and `Reserve` a run of n commands so moves at most 2n +
-/// (pairs at the start) + 2 × limit pairs. What is moved where the capacity stays, for example by a removal, is not
-/// counted.
+/// Without `Shrink` and `Reserve` the pairs that are held where a command changes the capacity, by growth or the switch,
+/// add up to at most 2n + (pairs at the start) + 2 × limit in a run of n commands. No clause says how many of them the
+/// code then moves. What a removal moves is not counted.
 pub fn moves_of_a_run<K: Eq + Hash, V, S: BuildHasher, L: Limit>()
     ensures { MovesLaw V S L.LIMIT K.eq }
 {}

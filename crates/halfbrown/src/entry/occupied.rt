@@ -199,7 +199,8 @@ impl<'a, K: Eq + Hash, V, S: BuildHasher, L: Limit> OccupiedEntry<'a, K, V, S, L
         self.map.set_key_at(index, key)
     }
 
-    /// Removes the pair, and returns its value. The last pair takes its index. No bucket is probed.
+    /// Removes the pair, and returns its value. The last pair takes its index. Nothing is hashed or compared. In a table
+    /// the bucket of the pair is probed for, and that of the last pair if it is another.
     ///
     /// ```
     /// assert_eq!(rt; entry.remove(), 36);
@@ -217,7 +218,8 @@ impl<'a, K: Eq + Hash, V, S: BuildHasher, L: Limit> OccupiedEntry<'a, K, V, S, L
         self.remove_entry().1
     }
 
-    /// Removes the pair, and returns the stored key and the value. The last pair takes its index. No bucket is probed.
+    /// Removes the pair, and returns the stored key and the value. The last pair takes its index. Nothing is hashed or
+    /// compared. In a table the bucket of the pair is probed for, and that of the last pair if it is another.
     ///
     /// ```
     /// assert_eq!(rt; entry.remove_entry(), (1, 36));

@@ -188,6 +188,8 @@ impl<K: Eq + Hash + Drop, V: Drop, S: BuildHasher + Default + Drop, L: Limit> Fr
         alloc: Global,
         items: I,
     ) -> Result<Self, AllocError>
+        requires { (it : I.IntoIter) → I.into_iter_gives items it
+            → I.IntoIter.can_next it × IsFinite (I.IntoIter.remaining it) }
         ensures ran { IfOk result (λ m. (it : I.IntoIter) × (gave : List (K × V)) × I.into_iter_gives items it
             × DrainsIf I.IntoIter.next_gives ⊤ it gave × ((hint : ℕ) × (cost : Cost) × IsCollection L.LIMIT K.eq
             (key_hash S.BuildHasher S.Hasher.Hasher K.hash_input) S.is_default hint gave m cost)) }
@@ -207,6 +209,8 @@ impl<K: Eq + Hash + Drop, V: Drop, S: BuildHasher, L: Limit> Extend<(K, V)>
         (key_hash S.BuildHasher S.Hasher.Hasher K.hash_input) old items new cost };
 
     fn extend<I: IntoIterator<Item = (K, V)>>(&mut self, items: I) -> Result<(), AllocError>
+        requires { (it : I.IntoIter) → I.into_iter_gives items it
+            → I.IntoIter.can_next it × IsFinite (I.IntoIter.remaining it) }
         ensures ran { ExtendsWithItems I.into_iter_gives I.IntoIter.next_gives (λ old gave new. (cost : Cost)
             × Extends L.LIMIT K.eq (key_hash S.BuildHasher S.Hasher.Hasher K.hash_input) old gave new cost)
             items self.old self.new result }

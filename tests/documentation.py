@@ -1,0 +1,130 @@
+#!/usr/bin/env python3
+"""What the documentation names is there, and what it shows is proved or run. The last line is "N passed, M failed".
+
+- In the pages (README.md, docs/*.md, the README.md of each crate) a link leads to a file, and to a heading where it names one.
+  A path in backticks leads to a file or a folder, from anywhere in the tree: `map/find.rt` is in crates/halfbrown/src. A name in
+  backticks such as `counting::hash_one` is that of an item in a module, of a crate or of std.
+- README's first example stands in half_tests, where it is proved, and halfmap, the program HALFMAP, answers its lines as it says.
+- USING's imports stand in the crates, its snippets in callers, which are proved, or in examples, and its lemmas in their modules.
+- The examples in the documentation of the map run, with nothing proved. Those of a page, `//!`, stand before each that follows
+  in the file, and those of the crate's page before all.
+"""
+
+import os
+import pathlib
+import re
+import shutil
+import subprocess
+import sys
+import tempfile
+
+TOP = pathlib.Path(__file__).resolve().parent.parent
+STD = pathlib.Path(shutil.which("rt")).resolve().parent.parent / "rattle/std/src"
+HALFMAP = os.environ.get("HALFMAP") or TOP / "out/unproved/halfmap"
+CODE = re.compile(r"^```.*?^```|^    .*?$", re.M | re.S)
+SPAN = re.compile(r"`([^`]+)`")
+LINK = re.compile(r"\[[^\]]*\]\(((?!\w+://)[^)\s]+)\)")
+PATH = re.compile(r"[\w.-]+/[\w./-]*|[\w-]+\.(?:antt|c|edits|md|py|rt|sh|svg|txt)")
+IMPORT = re.compile(r"^ *(?:ghost )?use (Rattle[\w.]*)\.\{(.*)\};?\n", re.M)
+CALLERS = ("half_tests/src/*callers.rt", "half_uses/src/*.rt", "json_at/src/*.rt", "half_tests/proofs/*/*/*.antt")
+USES = "use halfbrown::{run::run, *}; use std::hash::{BuildHasher, RandomState}; use std::test::Fail;"
+
+
+def texts(*patterns):
+    return [path.read_text() for pattern in patterns for path in TOP.glob(f"crates/{pattern}")]
+
+
+def code_of(module):
+    """The code of a module of the crates or of std, whose lib.rt has many inside."""
+    files = texts(f"*/src/**/{module}.rt", f"{module}/src/lib.rt", f"{module}/src/main.rt")
+    std = (STD / "lib.rt").read_text()
+    inside = std if module == "std" else std.partition(f"mod {module} {{")[2]
+    return "\n".join([inside, *files, *(path.read_text() for path in STD.glob(f"{module}.rt"))])
+
+
+def named(page, tree):
+    prose = CODE.sub("", page.read_text())
+    for link in LINK.findall(SPAN.sub("", prose)):
+        name, _, heading = link.partition("#")
+        target = page.parent / name if name else page
+        headings = re.findall("^#+ (.*)$", CODE.sub("", target.read_text()), re.M) if target.is_file() else []
+        anchors = ["", *(re.sub(r"[^\w -]", "", it.lower()).replace(" ", "-") for it in headings)]
+        yield link, target.exists() and heading in anchors
+    for word in " ".join(SPAN.findall(prose)).split():
+        if PATH.fullmatch(word) and "out" not in word.split("/"):
+            wanted = re.sub("CRATE|FILE|PATH", "[^/]+", re.escape(word.strip("/")))  # These stand for any.
+            yield word, re.search(rf"/{wanted}(/|$)", tree, re.M)
+        parts = word.split("::") if re.fullmatch(r"[a-z]\w*(?:::\w+)+", word) else []
+        for module, item in zip(parts, parts[1:]):
+            declared = rf"\b(?:fn|mod|struct|enum|trait|type|const) {item}\b|\buse [^;]*\b{item}\b"
+            yield f"{module}::{item}", re.search(declared, code_of(module))
+
+
+def readme(page):
+    proved = re.search(r"^ghost use.*?^}$", *texts("half_tests/src/first_example.rt"), re.M | re.S)[0]
+    yield "the first example", re.search(r"^```rust\n(.*?)\n```$", page, re.M | re.S)[1] == proved
+    lines, answers = re.search(r"^    \$ printf '(.*)' \| make run\n((?:    .*\n)+)", page, re.M).groups()
+    ran = subprocess.run(["env", HALFMAP], input=lines.replace("\\n", "\n"), capture_output=True, text=True)
+    yield "the answers of halfmap", ran.stdout == answers.replace("    ", "")
+
+
+def packed(text):
+    """Code with no spaces, no comments, no tallies, and no comma before an end."""
+    text = "".join(re.sub(r"(^|\s)(//|-- ).*", "", text, flags=re.M).split())
+    text = text.replace("_counted(", "(").replace(",tally", "").replace("(tally)", "()")
+    return re.sub(r",(?=[)\]}])", "", text)
+
+
+def using(page):
+    code = "\n".join(texts("*/src/**/*.rt", "*/specs/*.antt", "*/proofs/**/*.antt"))
+    for module, names in IMPORT.findall(page):
+        yield from ((it, re.search(rf"use {module}\.\{{(.*, )?{re.escape(it)}[,}}]", code)) for it in names.split(", "))
+    documentation = re.findall("^ *//[/!](.*)", "\n".join(texts("half*/src/**/*.rt")), re.M)
+    code = packed("\n".join(texts(*CALLERS) + documentation))
+    for snippet in re.findall("(?:^    .*\n)+", IMPORT.sub("", page), re.M):
+        if not re.search(r"\S {3,}(?!//)\S", snippet):  # A table has a second column.
+            yield from ((it, packed(it) in code) for it in ([snippet] if "{" in snippet else snippet.splitlines()))
+    for module, listed in re.findall(r"^    ([A-Z]\w+)\n((?:      .*\n)+)", page, re.M):
+        defined = re.findall(r"^ *pub ([\w-]+) :", *texts(f"halfbrown/proofs/{module}.antt"), re.M)
+        names = ", ".join(line.strip().split("  ")[0] for line in listed.splitlines())
+        yield from ((name, name in defined) for name in names.split(", "))
+
+
+def tests_of(path, before):
+    """The examples of a file as tests, each on its own lines, and what stands before the last."""
+    text, tests = path.read_text(), USES
+    for it in re.finditer(r"^ *//([/!]) ```\n(.*?)(?:^ *//\1 ```|\Z)", text, re.M | re.S):
+        line = text.count("\n", 0, it.start())
+        code = re.sub("^ *//[/!] ?", "", it[2], flags=re.M)
+        tests += "\n" * (line - tests.count("\n"))
+        tests += f"#[test] fn line_{line + 1}(rt: HostRuntime) -> Result<(), Fail> {{ {before}\n{code}Ok(()) }}"
+        before += code.replace("\n", " ") if it[1] == "!" else ""
+    return tests, before
+
+
+def examples(sources):
+    before = tests_of(sources / "lib.rt", "")[1]
+    files = {"src_" + "_".join(it.relative_to(sources).parts)[:-3]: tests_of(it, before)[0] for it in sources.rglob("*.rt")}
+    with tempfile.TemporaryDirectory() as folder:
+        crate = pathlib.Path(folder, "crates/examples")
+        shutil.copytree(TOP / "crates", crate.parent, ignore=shutil.ignore_patterns("proofs", "out"))
+        (crate.parent.parent / "crates.txt").write_text((TOP / "crates.txt").read_text() + "examples: halfbrown\n")
+        (crate / "src").mkdir(parents=True)
+        files["lib"] = "#![tactic(auto)]\n" + "".join(f"#[cfg(test)]\nmod {name};\n" for name in files)
+        for name, tests in files.items():
+            (crate / f"src/{name}.rt").write_text(tests)
+        ran = subprocess.run(["rt", "try", "--test"], cwd=crate, stdin=subprocess.DEVNULL, capture_output=True, text=True)
+    print(ran.stdout + ran.stderr if ran.returncode else "", end="")
+    names = [f"{name}::{test}" for name, tests in files.items() for test in re.findall(r"fn (line_\d+)", tests)]
+    yield from ((f"the example {name}", f"test {name} ... ok\n" in ran.stdout) for name in names)
+
+
+git = subprocess.run(["git", "ls-files", "-co", "--exclude-standard"], cwd=TOP, capture_output=True, text=True, check=True)
+files = [it for it in git.stdout.splitlines() if (TOP / it).exists()]
+tree = "\n".join(f"/{it}" for it in files)
+claims = [(f"{it}: {what}", stands) for it in files if it.endswith(".md") for what, stands in named(TOP / it, tree)]
+claims += [*readme((TOP / "README.md").read_text()), *using((TOP / "docs/USING.md").read_text())]
+claims += examples(TOP / "crates/halfbrown/src")
+failed = [what for what, stands in claims if not stands]
+print(*failed, f"{len(claims) - len(failed)} passed, {len(failed)} failed", sep="\n")
+sys.exit(bool(failed))
