@@ -198,7 +198,10 @@ impl<K: Eq + Hash + Drop, V: Drop, S: BuildHasher + Default + Drop, L: Limit> Fr
             (key_hash S.BuildHasher S.Hasher.Hasher K.hash_input) S.is_default hint
             (Gives I.IntoIter.next_gives it) why cost) }
     {
-        Ok(LimitedHashMap::from_iter(alloc, items)?)
+        match LimitedHashMap::from_iter(alloc, items) {
+            Ok(map) => Ok(map),
+            Err(_) => Err(AllocError),
+        }
     }
 }
 

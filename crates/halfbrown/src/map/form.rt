@@ -77,7 +77,12 @@ impl<K: Eq + Hash, V, S: BuildHasher, L: Limit> LimitedHashMap<K, V, S, L> {
     {
         let needed = L::LIMIT.saturating_add(1);
         let mut table = self.store.new_table(needed)?;
-        store_hashes(&self.builder, self.store.columns().keys(), &mut table, tally);
+        store_hashes(
+            &self.builder,
+            self.store.columns().keys(),
+            &mut table,
+            tally,
+        );
         self.store.switch_to(table);
         Ok(())
     }
