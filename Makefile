@@ -1,5 +1,6 @@
-# make run < FILE   proves and builds halfmap, where something has changed, and runs it on the lines of FILE
-# make try < FILE   builds halfmap with nothing proved, in about half a minute, and runs it on the lines of FILE
+# make run < FILE   runs halfmap on the lines of FILE: the proved program where that is up to date, and else one that is built
+#                   in about 20 seconds with nothing proved
+# make prove        proves what users run, where something has changed: half_store, halfbrown and halfmap
 # make test         proves what users run, where something has changed, and runs every test
 # make edits        puts one fault after another into the code: the prover, or a test, has to find each (WORD=.. picks some)
 # make scripts      plays the scripts of tests/scripts on the program witness, built unproved, and on a model (WORD=.. picks some)
@@ -8,26 +9,39 @@
 #                   (ROUNDS=3 takes fewer rounds than 9; WORDS="drain u64 1000" picks rows)
 # make fmt          lays out the files of every crate
 
-.PHONY: help run try test edits scripts witness bench fmt
+targets := help run prove test edits scripts witness bench fmt
+.PHONY: $(targets) answers
 
-# A file is read by < alone.
-ifneq ($(filter run try,$(MAKECMDGOALS)),)
-named := $(filter-out run try,$(MAKECMDGOALS)) $(if $(filter command,$(origin FILE)),$(FILE))
-ifneq ($(strip $(named)),)
-$(error Write: make $(firstword $(MAKECMDGOALS)) < $(firstword $(named)))
+ifneq ($(filter-out help,$(MAKECMDGOALS)),)
+ifeq ($(shell command -v rt 2>&1),)
+$(error There is no rt on the path; it is in the folder bin of Rattle's kit)
 endif
+endif
+# A file is read by < alone.
+ifneq ($(filter run,$(MAKECMDGOALS)),)
+named := $(filter-out $(targets),$(MAKECMDGOALS)) $(if $(filter command,$(origin FILE)),$(FILE))
+ifneq ($(strip $(named)),)
+$(error Write: make run < $(firstword $(named)))
+endif
+endif
+ifneq ($(shell echo '$(N)' | tr -d 0-9),)
+$(error N is a number of scripts, and not $(N))
 endif
 
 help:
 	@sed -n '/^$$/q; s/^# //p' Makefile
 
-run:
-	@tests/prove.sh
-	@crates/halfmap/out/halfmap
+# Of a recipe that fails make says "Error 1". So run.sh leaves why it failed, and this says it.
+run: answers
+	$(if $(shell cat out/run.$$PPID 2>&-),$(error $(shell cat out/run.$$PPID; rm out/run.$$PPID)))
 
-try: out/unproved/halfmap
-	@echo "halfmap is unproved here: make run proves it." >&2
-	@out/unproved/halfmap
+answers:
+	@mkdir -p out && echo "halfmap did not run" >out/run.$$PPID
+	@tests/run.sh out/run.$$PPID || :
+
+prove:
+	@tests/prove.sh
+	@echo "half_store, halfbrown and halfmap are proved: make run runs what was proved." >&2
 
 test:
 	@tests/gate.sh
@@ -49,5 +63,5 @@ fmt:
 
 # A program that is built with nothing proved.
 out/unproved/%: $(wildcard crates/*/src/*.rt crates/*/src/*/*.rt crates/*/src/*/*/*.rt) crates.txt tests/build_unproved.sh
-	@echo "$* is built unproved, in about half a minute." >&2
+	@echo "$* is built unproved, in about $(if $(filter witness,$*),a minute,20 seconds)." >&2
 	@tests/build_unproved.sh $* $@

@@ -29,7 +29,7 @@ from concurrent.futures import FIRST_COMPLETED, ThreadPoolExecutor, wait
 import planted
 
 TOP = planted.TOP
-EDITS = TOP / "tests/edits"
+EDITS, PROVE = TOP / "tests/edits", TOP / "tests/prove.sh"
 # What memory a check takes at most, and how many edits are tried in one.
 MEMORY = 2_000_000_000
 BATCH = 12
@@ -217,21 +217,26 @@ def in_batches(edits, crate, names):
 
 def prove(crate):
     """Proves a crate where out/ lacks that, builds what the crates above it read, and returns the names of its functions."""
-    folder, began, said = TOP / "crates" / crate, time.monotonic(), ""
-    for word in ("check",) if (folder / "src/main.rt").is_file() else ("lib", "check"):
-        ran = subprocess.run(["rt", word], cwd=folder, capture_output=True, text=True)
-        said += ran.stdout
-        if ran.returncode:
-            sys.exit(f"{said}{ran.stderr}{crate} is not proved\n0 passed, 1 failed")
+    folder, began = TOP / "crates" / crate, time.monotonic()
+    if subprocess.run([PROVE, crate, "check" if (folder / "src/main.rt").is_file() else "lib"]).returncode:
+        sys.exit("0 passed, 1 failed")
     print(f"{crate}: proved, {time.monotonic() - began:.0f} s", flush=True)
-    # Both commands may name them.
+    # This takes what is proved, and names each function.
+    said = subprocess.run(["rt", "check"], cwd=folder, capture_output=True, text=True).stdout
     return sorted({*re.findall(r"^fn (\S+): proved$", said, re.M)})
 
 
 def main(words):
     texts = {path: re.split(r"^edit: ", path.read_text(), flags=re.M)[1:] for path in sorted(EDITS.rglob("*.edits"))}
     edits = [Edit(path, text) for path in texts for text in texts[path]]
-    edits = [it for it in edits if not words or any(word in str(it) for word in words)]
+    known = edits
+    edits = [it for it in known if not words or any(word in str(it) for word in words)]
+    if not edits:
+        for place in dict.fromkeys(it.place for it in known):
+            print(f"{place}: {', '.join(it.name for it in known if it.place == place)}")
+        sys.exit(f"none of these edits has {' or '.join(words)} in its path or name")
+    minutes = subprocess.run([PROVE, "minutes"], capture_output=True, text=True).stdout.strip()
+    print(f"{len(edits)} edits, after the proofs: where nothing is proved, these take {minutes} minutes and more", flush=True)
     refused = [it for it in edits if not it.found_by]
     names = {crate: prove(crate) for crate in planted.crates_of() if any(it.crate == crate for it in refused)}
     batches = [[it] for it in edits if it.found_by]
@@ -239,7 +244,7 @@ def main(words):
         batches += in_batches([it for it in refused if it.crate == crate], TOP / "crates" / crate, names[crate])
     memory = 1024 * int(re.search(r"MemAvailable:\s+(\d+)", pathlib.Path("/proc/meminfo").read_text())[1])
     lanes = max(1, min(int(os.environ.get("JOBS") or len(os.sched_getaffinity(0))), memory // MEMORY, len(batches)))
-    began, passed, copies = time.monotonic(), 0, queue.SimpleQueue()
+    began, passed, ended, copies = time.monotonic(), 0, 0, queue.SimpleQueue()
     # Below out/, since links do not lead to another disk.
     (TOP / "out").mkdir(exist_ok=True)
     with tempfile.TemporaryDirectory(prefix="edits.", dir=TOP / "out") as folder, ThreadPoolExecutor(lanes) as pool:
@@ -254,11 +259,15 @@ def main(words):
                         tried[pool.submit(try_in, copies, [edit], names)] = [edit]
                         continue
                     passed += it[0]
+                    ended += 1
                     how = "FAILED" if not it[0] else "found" if edit.found_by else "refused"
                     print(f"{edit}: {how}, {seconds:.0f} s: {it[1][:180]}", flush=True)
+                    if ended % 20 == 0:
+                        left = (time.monotonic() - began) / 60 * (len(edits) / ended - 1)
+                        print(f"{ended} of {len(edits)} edits; at this pace the others take {left:.0f} minutes", flush=True)
     print(f"{len(edits)} edits, {lanes} at a time: {(time.monotonic() - began) / 60:.1f} minutes")
     print(f"{passed} passed, {len(edits) - passed} failed")
-    return passed < len(edits) or not edits
+    return passed < len(edits)
 
 
 if __name__ == "__main__":

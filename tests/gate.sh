@@ -67,10 +67,12 @@ unproved_parts() {
 }
 
 mode=${1:-}
+command -v rt >/dev/null || { echo "rt is not on the path: 0 passed, 1 failed"; exit 1; }
 rt version
 if [ "$mode" = proved ]; then
     unproved_parts
 else
+    echo "Beside the proofs witness, word_count and json_at are built unproved, and tested; the results follow the proofs."
     (renice -n 10 $BASHPID >/dev/null; unproved_parts) >"$folder/said" 2>&1 &
     tests/prove.sh && passed=3 || failed=1
     echo "proofs: $passed passed, $failed failed, $SECONDS s"

@@ -1,0 +1,51 @@
+#!/bin/bash
+# Runs halfmap on standard input: the proved program where it is up to date, and else one that is built with nothing proved.
+#
+#   tests/run.sh FILE    FILE, which is there, says why nothing ran; it then has what this run failed with, or is gone
+set -u
+cd "$(dirname "$0")/.." || exit 1
+why=$1
+proved=crates/halfmap/out/halfmap
+unproved=out/unproved/halfmap
+trap 'rm -f "$why"; exit 1' HUP INT TERM
+
+# fits PROGRAM STORED TOOL: whether the program is there, and neither its sources nor the tool have changed since the file STORED
+# was. The time of the change itself says that, since an older file that takes a newer one's place keeps its own time.
+fits() {
+    local made_from=(crates.txt crates/{half_store,halfbrown,halfmap}/{src,specs,proofs} "${@:3}")
+    [ -x "$1" ] && [ -e "$2" ] && [ -z "$(find "${made_from[@]}" -cnewer "$2" -print -quit 2>&1)" ]
+}
+
+fails() {
+    echo "$1" >"$why"
+    exit 1
+}
+
+# rt stores the stamp only where the sources did not change while it proved them.
+if fits $proved $proved.stamp "$(realpath "$(command -v rt)")"; then
+    program=$proved
+else
+    program=$unproved
+    minutes=$(tests/prove.sh minutes)
+    echo "No proved halfmap is up to date, so this one is built without proofs, in about 20 seconds;" \
+        "make prove proves it, in about $minutes minutes." >&2
+    if ! fits $unproved $unproved tests/build_unproved.sh; then
+        tests/build_unproved.sh halfmap $unproved
+        case $? in
+            0) ;;
+            2)
+                echo "So halfmap is proved first." >&2
+                tests/prove.sh || fails "halfmap is not proved"
+                program=$proved
+                ;;
+            *) fails "halfmap is not built" ;;
+        esac
+    fi
+fi
+[ ! -t 0 ] || echo "i K V, g K, r K or f; end with ^D" >&2
+$program
+case $? in
+    0) rm "$why" ;;
+    1) fails "halfmap ended early: its input or its output was closed, or the disk is full" ;;
+    *) fails "halfmap ended with status $?" ;;
+esac
