@@ -1,6 +1,7 @@
 -- Lemmas, by the module of src/ whose functions need them.
 pub mod crowding
 pub mod equality
+pub mod means
 pub mod probes
 pub mod runs
 pub mod searches

@@ -1,5 +1,6 @@
 pub mod ComparisonLaws
 pub mod MapLaws
+pub mod MeanLaws
 pub mod ProbeLaws
 pub mod RunLaws
 -- What callers need of the words below, so that they list this crate alone.

@@ -2,6 +2,7 @@
 ghost use Rattle.halfbrown.specs.Costs.{key_hash};
 ghost use Rattle.half_laws.specs.MapLaws.{HistoryLaw, InsertionHistoryLaw, CommandCostLaw, CommandHashesLaw, CommandBucketsLaw};
 ghost use Rattle.half_laws.specs.MapLaws.{CrowdedSearchLaw, CrowdedInsertionLaw, CrowdedGrowthLaw, CrowdedUncheckedLaw, CrowdedProbeLaw};
+ghost use Rattle.half_laws.specs.MeanLaws.{MissLaw, MissTotalLaw, HalfFullMissLaw, CapacityMissLaw};
 
 use halfbrown::Limit;
 use std::hash::{BuildHasher, Hash};
@@ -28,4 +29,14 @@ pub fn crowding_of_a_search<K: Eq + Hash, V, S: BuildHasher, L: Limit>()
     ensures growth { CrowdedGrowthLaw V L.LIMIT K.eq (key_hash S.BuildHasher S.Hasher.Hasher K.hash_input) }
     ensures unchecked { CrowdedUncheckedLaw V L.LIMIT K.eq (key_hash S.BuildHasher S.Hasher.Hasher K.hash_input) }
     ensures probe { CrowdedProbeLaw V (key_hash S.BuildHasher S.Hasher.Hasher K.hash_input) }
+{}
+
+/// How many buckets a search that finds nothing reads on average, by any form of a key, where all lists of the hashes of held
+/// keys are equally likely, and all hashes that are sought: at most 2.5 in a table that is half full, and 8.5 in any table.
+/// The hashes alone appear in it, and no keys. `mean_of_a_probe` of `half_mean` has the exact mean.
+pub fn mean_of_a_miss<K: Eq + Hash, V, S: BuildHasher>()
+    ensures reads { MissLaw V (key_hash S.BuildHasher S.Hasher.Hasher K.hash_input) }
+    ensures total { MissTotalLaw }
+    ensures half_full { HalfFullMissLaw 5 2 }
+    ensures within_capacity { CapacityMissLaw 17 2 }
 {}

@@ -1,46 +1,21 @@
 -- What holds of `reach` for every list of held hashes.
-use Rattle.std.proofs.Common.{◌≡◌, ℕ, zero, suc, ◌-◌, ◌<◌, ◌≤◌, true, false, nat_lt, inl, inr, refl, sym, ap, ◌∙◌, subst, arith, List}
-use Rattle.std.proofs.Common.{length, get_or, sum_by, Contains, IsPermutation}
+use Rattle.std.proofs.Common.{◌≡◌, ℕ, zero, suc, ◌-◌, ◌<◌, ◌≤◌, true, false, nat_lt, inl, inr, refl, ap, subst, arith, List}
+use Rattle.std.proofs.Common.{length, get_or, sum_by, Contains}
 use Rattle.std.proofs.lemmas.Grind.{common_steps}
 use Rattle.std.proofs.lemmas.Bool.{cases_lt, cases_eq, cases_Bool, lt-ltb, both_ways}
-use Rattle.std.proofs.lemmas.List.Sorted.{sum_by-IsPermutation}
 use Rattle.std.proofs.lemmas.List.Sums.{get_or-le-sum_by}
-use Rattle.half_store.specs.Reach.{home, probe_distance, bucket_after, load, loaded_within, is_loaded, loaded_run, reach, IsLoaded}
+use Rattle.half_store.specs.Reach.{home, probe_distance, bucket_after, load, is_loaded, loaded_run, reach, IsLoaded}
 use Rattle.half_laws.specs.ProbeLaws.{IsCrowded, PassesLoaded, ReachHistoryLaw, NoBucketsLaw, NothingHeldLaw, OneBucketLaw, SharedHomeLaw}
 use Rattle.half_laws.specs.ProbeLaws.{ShortLaw, OnceRoundLaw, CrowdingLaw, StopsLaw}
 use Rattle.half_store.proofs.lemmas.table.Circle.{distance_is, distance_self, after_is, bucket_after-zero, after_next, bucket_after-lt}
 use Rattle.half_store.proofs.lemmas.table.Counts.{tick, tick_yes}
 use Rattle.half_laws.proofs.lemmas.crowding.{load-le, loaded_from, run_leads}
+use Rattle.half_store.proofs.lemmas.table.History.{reach-permutation}
 use Rattle.half_store.proofs.lemmas.table.Reach.{is_loaded-yes, loaded_run-is, reach-none, reach-some}
 use Rattle.half_store.proofs.lemmas.table.Slots.{home-lt}
 
--- hashes in another order load each stretch as much
-load-permutation : (some others : List ℕ) (m last size : ℕ) → IsPermutation some others → load others m last size ≡ load some m last size
-unfolding load
-load-permutation some others m last size p = sum_by-IsPermutation (λ x. tick (nat_lt (probe_distance m (home m x) last) size)) some others p
-
-loaded_within-permutation : (some others : List ℕ) (m last most : ℕ) → IsPermutation some others
-    → loaded_within some m last most ≡ loaded_within others m last most
-unfolding loaded_within
-loaded_within-permutation some others m last zero p = refl
-loaded_within-permutation some others m last (suc most) p =
-    rw (load-permutation some others m last (suc most) p, loaded_within-permutation some others m last most p) refl
-
-loaded_run-permutation : (some others : List ℕ) (m most bucket : ℕ) → IsPermutation some others
-    → loaded_run some m most bucket ≡ loaded_run others m most bucket
-unfolding loaded_run
-loaded_run-permutation some others m zero bucket p = refl
-loaded_run-permutation some others m (suc most) bucket p =
-    rw (loaded_within-permutation some others m bucket (m - 1) p, loaded_run-permutation some others m most (bucket_after m bucket 1) p)
-    refl
-
 pub history_law : ReachHistoryLaw
-history_law some others m hash p =
-    elim (cases_lt 0 m) [
-      | inl h ↦ reach-some some m hash h ∙ ap suc (loaded_run-permutation some others m (m - 1) (home m hash) p)
-          ∙ sym (reach-some others m hash h)
-      | inr z ↦ reach-none some m hash (omega arith) ∙ sym (reach-none others m hash (omega arith))
-    ]
+history_law some others m hash p = reach-permutation some others m hash p
 
 module _ (hashes : List ℕ) (m : ℕ) where
   pub loaded_run-le : (most bucket : ℕ) → loaded_run hashes m most bucket ≤ most

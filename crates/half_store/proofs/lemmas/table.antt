@@ -4,6 +4,7 @@ pub mod Circle
 pub mod Counts
 pub mod Deletion
 pub mod Find
+pub mod History
 pub mod Layout
 pub mod Mask
 pub mod Probe

@@ -1,0 +1,37 @@
+-- What a search that finds nothing reads on average.
+use Rattle.std.proofs.Common.{◌≡◌, ℕ, refl, arith}
+use Rattle.std.proofs.lemmas.Grind.{common_steps}
+use Rattle.half_store.specs.Capacity.{buckets_of, capacity_of, IsBucketCount}
+use Rattle.half_store.proofs.lemmas.capacity.{buckets_for-least, buckets_of-capacity_of}
+use Rattle.half_mean.specs.Mean.{total_reach}
+use Rattle.half_mean.proofs.lemmas.Means.{bucket_share, half_full_law, capacity_law}
+use Rattle.halfbrown.specs.State.{IsTableCapacity}
+use Rattle.halfbrown.proofs.lemmas.pairs.Indices.{absent_of_unheld}
+use Rattle.half_laws.specs.MeanLaws.{MissLaw, MissTotalLaw, HalfFullMissLaw, CapacityMissLaw}
+
+pub miss_law : {K : Type 0} (V : Type 0) {S : Type 0} (hash : S → K → ℕ) → MissLaw V hash
+miss_law V hash m test sought asked before after table unheld costs =
+    let absent = absent_of_unheld test m.pairs unheld in
+    let looked = costs.grew.looked in
+    grind (arith, common_steps, absent.index)
+
+pub miss_total_law : MissTotalLaw
+unfolding total_reach
+miss_total_law hashes capacity held = refl
+
+-- the buckets of a capacity of tables are a bucket count
+table_count : (capacity : ℕ) → IsTableCapacity capacity → IsBucketCount (buckets_of capacity) × (capacity_of (buckets_of capacity) ≡ capacity)
+table_count capacity is = grind (arith, common_steps, buckets_for-least, buckets_of-capacity_of)
+
+pub capacity_miss_law : CapacityMissLaw 17 2
+unfolding total_reach
+capacity_miss_law bits capacity held is some fits within =
+    let count = table_count capacity is in
+    capacity_law bits (buckets_of capacity) held (omega arith) count.0 fits (omega arith)
+
+pub half_full_miss_law : HalfFullMissLaw 5 2
+unfolding total_reach
+half_full_miss_law bits capacity held is some fits half =
+    let count = table_count capacity is in
+    let share = bucket_share bits (buckets_of capacity) 0 (omega arith) count.0 fits (omega arith) in
+    rw share.1 (half_full_law share.0 (buckets_of capacity) held (omega arith) half)

@@ -1,0 +1,42 @@
+-- How many buckets a search that finds nothing reads on average, where all lists of hashes are equally likely.
+--
+-- Keys do not appear in a mean, only the hashes that held keys may have. Nothing is said of how likely a builder makes them.
+use Rattle.std.specs.Prelude.{◌≡◌, ℕ, ◌+◌, ◌^◌, ◌<◌, ◌≤◌, Bool, false, List, map}
+use Rattle.std.specs.Map.{keys_of}
+use Rattle.half_store.specs.Capacity.{buckets_of}
+use Rattle.half_store.specs.Pairs.{index_of}
+use Rattle.half_store.specs.Reach.{reach}
+use Rattle.half_store.specs.Work.{Work}
+use Rattle.half_mean.specs.Mean.{sum_below, sum_lists, total_reach, reach_cases, MeanIsAtMost}
+use Rattle.halfbrown.specs.Costs.{SearchCosts}
+use Rattle.halfbrown.specs.Pairs.{holds_by}
+use Rattle.halfbrown.specs.State.{State, IsTableCapacity}
+
+-- the buckets that a search reads which finds nothing in a table of this capacity, by the hashes of the held keys and the hash that is sought
+abbrev pub miss_looks : (capacity : ℕ) → List ℕ → (sought : ℕ) → ℕ
+miss_looks capacity hashes sought = reach hashes (buckets_of capacity) sought
+
+-- those of all cases: each list of `held` hashes, and each hash that is sought. All hashes are below `hashes`
+abbrev pub total_misses : (hashes capacity held : ℕ) → ℕ
+total_misses hashes capacity held = sum_lists hashes held (λ list. sum_below hashes (λ sought. miss_looks capacity list sought))
+
+-- a search in a table, by any form of a key, reads so many buckets where it finds none
+abbrev pub MissLaw : {K : Type 0} (V : Type 0) {S : Type 0} (hash : S → K → ℕ) → Type 0
+MissLaw {K} V {S} hash = (m : State K V S) (test : K → Bool) (sought asked : ℕ) (before after : Work) → m.is_vec ≡ false → holds_by test m.pairs ≡ false
+    → SearchCosts hash sought m (index_of test (keys_of m.pairs)) asked before after
+    → after.looked ≡ before.looked + miss_looks m.capacity (map (hash m.builder) (keys_of m.pairs)) sought
+
+-- all searches read what all probes do, so what is known of the mean of a probe holds of a search
+abbrev pub MissTotalLaw : Type 0
+MissTotalLaw = (hashes capacity held : ℕ) → total_misses hashes capacity held ≡ total_reach hashes (buckets_of capacity) held
+
+-- for hashes of `bits` bits the mean of a table that is at most half full is at most `over / under`
+abbrev pub HalfFullMissLaw : (over under : ℕ) → Type 0
+HalfFullMissLaw over under = (bits capacity held : ℕ) → IsTableCapacity capacity → 0 < capacity → buckets_of capacity ≤ 2 ^ bits
+    → held + held ≤ buckets_of capacity
+    → MeanIsAtMost (total_misses (2 ^ bits) capacity held) (reach_cases (2 ^ bits) held) over under
+
+-- and that of every table
+abbrev pub CapacityMissLaw : (over under : ℕ) → Type 0
+CapacityMissLaw over under = (bits capacity held : ℕ) → IsTableCapacity capacity → 0 < capacity → buckets_of capacity ≤ 2 ^ bits → held ≤ capacity
+    → MeanIsAtMost (total_misses (2 ^ bits) capacity held) (reach_cases (2 ^ bits) held) over under

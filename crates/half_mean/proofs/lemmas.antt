@@ -1,0 +1,9 @@
+-- Lemmas, each file on those before it.
+pub mod Sums
+pub mod Stops
+pub mod Blocks
+pub mod Recursion
+pub mod Algebra
+pub mod Homes
+pub mod Means
+pub mod Filling

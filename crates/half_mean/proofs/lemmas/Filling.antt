@@ -1,0 +1,70 @@
+-- The mean over the insertions that fill an empty table.
+use Rattle.std.proofs.Common.{◌≡◌, ℕ, zero, suc, ◌+◌, ◌-◌, ◌*◌, ◌^◌, ◌<◌, ◌≤◌, refl, sym, ap, ◌∙◌, arith, add-one}
+use Rattle.std.proofs.Math.Nat.{pow-succ', mul-pos, mul-le-mul_left, mul-le-mul_right, le_of_mul-le-mul_right}
+use Rattle.std.proofs.lemmas.Nat.{mul-pow}
+use Rattle.half_store.specs.Reach.{reach}
+use Rattle.half_mean.specs.Mean.{sum_below, sum_lists, total_reach, total_filling, filling_reach, filling_cases, MeanIsAtMost, FillingLaw, FillingCapacityLaw}
+use Rattle.half_mean.proofs.lemmas.Sums.{below-plus, below-const, lists-plus, lists-swap}
+use Rattle.half_mean.proofs.lemmas.Homes.{filling_homes}
+use Rattle.half_mean.proofs.lemmas.Algebra.{pow-two}
+use Rattle.half_mean.proofs.lemmas.Means.{mean_of_homes, scaled, bucket_share}
+
+-- the last insertion, and those before it
+filling-step : (m n : ℕ) → total_filling m m (suc n) ≡ total_reach m m n + m * total_filling m m n
+unfolding total_filling total_reach
+filling-step m n =
+    ap (sum_below m) (λ i x. lists-plus m n (λ w. reach w m x) (λ w. filling_reach m w) i)
+    ∙ below-plus m (λ x. sum_lists m n (λ w. reach w m x)) (λ x. sum_lists m n (λ w. filling_reach m w))
+    ∙ (λ i. sym (lists-swap m n m (λ w x. reach w m x)) i + below-const m (sum_lists m n (λ w. filling_reach m w)) i)
+
+filling-terms : (e n m : ℕ) → m ≡ suc e + n
+    → e * (suc e * suc e + m * m) + e * suc e * ((m + suc e) * n) + m * m ≡ (m + e) * (suc n * (suc e * suc e))
+filling-terms e n m is = rw is (grind arith)
+
+-- the means before an insertion and of it, over a common divisor, where `e + 1` buckets are empty before it
+filling-sum : (e n m r f c : ℕ) → m ≡ suc e + n → r * (2 * (suc e * suc e)) ≤ (suc e * suc e + m * m) * c
+    → f * (2 * suc e) ≤ (m + suc e) * (n * c)
+    → (r + f) * (2 * e) * (suc e * suc e) ≤ (m + e) * (suc n * c) * (suc e * suc e)
+filling-sum e n m r f c is mean before =
+    let one : e * (r * (2 * (suc e * suc e))) ≤ e * ((suc e * suc e + m * m) * c) = mul-le-mul_left e mean in
+    let others : e * suc e * (f * (2 * suc e)) ≤ e * suc e * ((m + suc e) * (n * c)) = mul-le-mul_left (e * suc e) before in
+    let terms = ap (λ s. c * s) (filling-terms e n m is) in
+    grind arith
+
+times-swap : (a b c : ℕ) → a * (b * c) ≡ b * (a * c)
+times-swap a b c = grind arith
+
+cases-step : (m n : ℕ) → m * (n * m ^ n) ≡ n * m ^ suc n
+cases-step m n = times-swap m n (m ^ n) ∙ ap (λ s. n * s) (sym (pow-succ' m n))
+
+filling-none : (m : ℕ) → total_filling m m 0 ≡ 0
+unfolding total_filling
+filling-none m = refl
+
+-- where hashes are homes
+filling_of_homes : (n m : ℕ) → n < m → MeanIsAtMost (total_filling m m n) (filling_cases m n) (m + (m - n)) (2 * (m - n))
+filling_of_homes zero m few = let none : total_filling m m 0 ≡ 0 = filling-none m in rw none (omega arith)
+filling_of_homes (suc n) m few =
+    let e : ℕ = m - suc n in
+    let free : m - n ≡ suc e = omega arith in
+    let square : (m - n) ^ 2 ≡ suc e * suc e = ap (λ d. d ^ 2) free ∙ pow-two (suc e) in
+    let mean = rw (square, pow-two m, add-one n) at (mean_of_homes m n (omega arith)) in
+    let before = rw (free, cases-step m n) at
+    (scaled m (total_filling m m n) (2 * (m - n)) (m + (m - n)) (n * m ^ n) (filling_of_homes n m (omega arith))) in
+    rw (filling-step m n) (le_of_mul-le-mul_right
+    (filling-sum e n m (total_reach m m n) (m * total_filling m m n) (m ^ suc n) (omega arith) mean before)
+    (mul-pos (omega arith) (omega arith)))
+
+pub filling_law : FillingLaw
+filling_law share m n few =
+    rw (filling_homes share m n, mul-pow share m n, times-swap n (share ^ n) (m ^ n))
+    (scaled (share ^ n) (total_filling m m n) (2 * (m - n)) (m + (m - n)) (n * m ^ n) (filling_of_homes n m few))
+
+filling_load : (m d f c : ℕ) → m ≤ 4 * d → f * (2 * d) ≤ (m + d) * c → f * 2 * d ≤ 5 * c * d
+filling_load m d f c load mean = let most : (m + d) * c ≤ 5 * d * c = mul-le-mul_right c (omega arith) in grind arith
+
+pub filling_capacity_law : FillingCapacityLaw 5 2
+filling_capacity_law bits m n some count fits within =
+    let s = bucket_share bits m n some count fits within in
+    rw s.1 (le_of_mul-le-mul_right
+    (filling_load m (m - n) (total_filling (s.0 * m) m n) (filling_cases (s.0 * m) n) s.3 (filling_law s.0 m n s.2)) (omega arith))

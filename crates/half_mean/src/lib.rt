@@ -1,0 +1,43 @@
+//! How many buckets an unsuccessful probe reads on average, where all lists of held hashes are equally likely. These functions
+//! do nothing: the laws are their contracts.
+#![tactic(auto)]
+
+ghost use Rattle.std.specs.Prelude.{◌≡◌, ◌+◌};
+ghost use Rattle.half_mean.specs.Mean.{total_reach, total_filling, knuth_sum, CasesLaw, ExactMeanLaw, RecursionLaw, HomesLaw, MeanLaw};
+ghost use Rattle.half_mean.specs.Mean.{HalfFullLaw, CapacityLaw, FillingLaw, FillingCapacityLaw};
+
+/// There are `hashes ^ held` lists of `held` hashes below `hashes`. A mean is the total over all cases by their number: for
+/// a probe each list with each hash that is sought, and for a filling each list with each of its insertions.
+pub fn cases_of_the_means()
+    ensures { CasesLaw }
+{}
+
+/// Where all lists of held hashes are equally likely, and all hashes that are sought, a probe that finds nothing in a table
+/// of `m` buckets with `n` pairs reads `(1 + Q) / 2` buckets on average, where `Q` is Knuth's sum `1 + 2 * n / m + 3 * n *
+/// (n - 1) / m^2 + ..`. That is at most `(1 + (m / (m - n))^2) / 2`: 2.5 where half of the buckets are full, and 8.5 where
+/// the table has no capacity left.
+pub fn mean_of_a_probe()
+    ensures exact { ExactMeanLaw (λ k. k + 1) }
+    ensures recursion { RecursionLaw (λ k. k + 1) }
+    ensures homes { HomesLaw }
+    ensures bound { MeanLaw }
+    ensures half_full { HalfFullLaw 5 2 }
+    ensures within_capacity { CapacityLaw 17 2 }
+{}
+
+/// Where all lists of hashes are equally likely, the insertions that put `n` pairs into an empty table of `m` buckets read
+/// at most `(1 + m / (m - n)) / 2` buckets each on average: 2.5 up to the capacity.
+pub fn mean_of_a_filling()
+    ensures bound { FillingLaw }
+    ensures within_capacity { FillingCapacityLaw 5 2 }
+{}
+
+/// The totals of small tables, added up one by one: all probes of the tables of 4 buckets with 2 and 3 pairs, and of 8 with
+/// one, and all insertions that put 2 pairs into 4 buckets. 72 is half of `8^2` and of Knuth's sum, which is 80.
+pub fn totals_of_small_tables()
+    ensures two_of_four { total_reach 4 4 2 ≡ 108 }
+    ensures three_of_four { total_reach 4 4 3 ≡ 640 }
+    ensures one_of_eight { total_reach 8 8 1 ≡ 72 }
+    ensures filled { total_filling 4 4 2 ≡ 36 }
+    ensures knuths_sum { knuth_sum (λ k. k + 1) 8 1 ≡ 80 }
+{}

@@ -1,0 +1,36 @@
+-- The order of the held hashes does not matter to a probe, nor does which hashes of a home they are.
+use Rattle.std.proofs.Common.{◌≡◌, ℕ, zero, suc, ◌-◌, nat_lt, inl, inr, refl, sym, ap, ◌∙◌, arith, List, IsPermutation}
+use Rattle.std.proofs.lemmas.Bool.{cases_lt}
+use Rattle.std.proofs.lemmas.List.Sorted.{sum_by-IsPermutation}
+use Rattle.half_store.specs.Reach.{home, probe_distance, bucket_after, load, loaded_within, loaded_run, reach}
+use Rattle.half_store.proofs.lemmas.table.Counts.{tick}
+use Rattle.half_store.proofs.lemmas.table.Reach.{reach-none, reach-some}
+
+module _ (some others : List ℕ) (m : ℕ) (loads : (last size : ℕ) → load others m last size ≡ load some m last size) where
+  loaded_within-loads : (last most : ℕ) → loaded_within some m last most ≡ loaded_within others m last most
+  unfolding loaded_within
+  loaded_within-loads last zero = refl
+  loaded_within-loads last (suc most) = rw (loads last (suc most), loaded_within-loads last most) refl
+
+  loaded_run-loads : (most bucket : ℕ) → loaded_run some m most bucket ≡ loaded_run others m most bucket
+  unfolding loaded_run
+  loaded_run-loads zero bucket = refl
+  loaded_run-loads (suc most) bucket =
+      rw (loaded_within-loads bucket (m - 1), loaded_run-loads most (bucket_after m bucket 1)) refl
+
+  -- a probe reads equally many buckets where each stretch is home to equally many hashes
+  pub reach-loads : (hash : ℕ) → reach some m hash ≡ reach others m hash
+  reach-loads hash =
+      elim (cases_lt 0 m) [
+        | inl h ↦ reach-some some m hash h ∙ ap suc (loaded_run-loads (m - 1) (home m hash)) ∙ sym (reach-some others m hash h)
+        | inr z ↦ reach-none some m hash (omega arith) ∙ sym (reach-none others m hash (omega arith))
+      ]
+
+-- hashes in another order load each stretch as much
+load-permutation : (some others : List ℕ) (m last size : ℕ) → IsPermutation some others → load others m last size ≡ load some m last size
+unfolding load
+load-permutation some others m last size p = sum_by-IsPermutation (λ x. tick (nat_lt (probe_distance m (home m x) last) size)) some others p
+
+pub reach-permutation : (some others : List ℕ) (m hash : ℕ) → IsPermutation some others → reach some m hash ≡ reach others m hash
+reach-permutation some others m hash p =
+    reach-loads some others m (λ last size. load-permutation some others m last size p) hash
