@@ -1,7 +1,7 @@
 //! The callers, in use: that their calls succeed. What they return is in their contracts.
 
 use crate::callers::{add_label, declare, forget, keep_the_young, stored};
-use crate::copy_callers::{an_age_twice, no_ages, numbered, one_age};
+use crate::copy_callers::{an_age_twice, five_ages, no_ages, numbered, one_age};
 use crate::drain_callers::{take_each, take_first};
 use crate::entry_callers::{count_up, meaning, toggle};
 use crate::error_callers::{add_two, ages_of_main};
@@ -59,6 +59,9 @@ fn ages(rt: HostRuntime) -> Result<(), Fail> {
 #[test]
 fn written_pairs_and_limits(rt: HostRuntime) -> Result<(), Fail> {
     let alloc = rt.alloc();
+    let mut evaluated = 0;
+    let five = five_ages(alloc, &mut evaluated)?;
+    assert_same((five.len(), evaluated), (5, 1), "by one allocator")?;
     let ages = (no_ages(alloc)?.len(), one_age(alloc, 36)?.len());
     assert_same(ages, (0, 1), "as many as are written")?;
     assert_same(
