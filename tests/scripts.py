@@ -18,6 +18,7 @@ import tempfile
 from concurrent.futures import ThreadPoolExecutor
 
 from comparison import agrees, without_unwanted
+from model.lines import LIMITS
 from model.session import answers
 
 TESTS = pathlib.Path(__file__).resolve().parent
@@ -72,7 +73,7 @@ def read_script(path):
         if line == "" or line.startswith("#"):
             continue
         if word not in ("=", "or"):
-            if word in ("map", "owning"):
+            if word in LIMITS:
                 parts.append(Part(name))
             call = Call(line, number)
             parts[-1].calls.append(call)

@@ -14,6 +14,7 @@ COLUMNS = (*STATES, MEMORY, SIZE)
 ASKED, STOOD_FOR, MET = "asked", "by @ID", "met"
 COMPARING = ("same", "eq", "same_as LIMIT RULE", "same_from LIMIT RULE")
 COMPARED = ("true, in one order", "true, in another", "false, of one length", "false, of others")
+MAKING = ("from_iter ITEMS", "from_iter_hint SIZE ITEMS", "from_array ITEMS", "collect ITEMS")
 ROWS = [*CALLS, *(f"run {form}" for form in COMMANDS)]
 
 
@@ -50,6 +51,8 @@ def answered_by(call, met, maps, answer):
     done += [(row, MEMORY), (row, refused(state))] * (MEMORY in work.refusals)
     done += [(call.form, SIZE)] * (SIZE in work.refusals) + [("run reserve SIZE", SIZE)] * ("refused size reserve" in answer)
     done += [(f"run {row_of(form, is_held)}", state) for form, is_held, states in work.commands for state in states]
+    if call.form in MAKING:
+        done.append((f"{call.form}: {answer.split(' ')[0]}", MET))
     if call.form in COMPARING:
         a, b = ([pair.key for pair in it.pairs] for it in (maps.a, maps.b))
         how = COMPARED[a != b if answer == "true" else 2 + (len(a) != len(b))]
@@ -67,4 +70,5 @@ def demanded(met):
     wanted += [(f"{kind} {limit}", column) for kind in LIMITS for limit in LIMITS[kind] for column in (MET, SIZE)]
     wanted += [(f"walk {kind} {step}", MET) for kind in KINDS for step in steps_of(kind)]
     wanted += [(f"{form}: {how}", MET) for form in COMPARING for how in COMPARED]
+    wanted += [(f"{form}: {made}", MET) for form in MAKING for made in ("vec", "map")]
     return wanted + [(f"made {maker}", MET) for maker in PLAIN_MAKERS + MAKERS_FOR]
