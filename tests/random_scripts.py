@@ -16,7 +16,7 @@ LINES = 200
 OFTEN = (5, 5, 2, 3, 20, 32, 32, 64)
 FIRST_LINES = [(kind, limit) for kind in LIMITS for limit in (*LIMITS[kind], *(it for it in OFTEN if it in LIMITS[kind]))]
 RULES_OFTEN = ("plain", *RULES)
-STATES_OFTEN = ("vec", "table", *["tight vec"] * 4, *["full vec"] * 3, *["full table"] * 5, *["went back"] * 4)
+STATES_OFTEN = ("vec", "vec", "table", *["tight vec"] * 4, *["full vec"] * 3, *["full table"] * 5, *["went back"] * 4)
 NUMBERS = (0, 0, 0, 1, 1, 2, 3, 4, 5, 7, 12, 31, 32, 100, GREATEST)
 SIZES = (0, 1, 2, 3, 5, 6, 7, 12, 13, 33, 50)
 # Sizes that are refused.
@@ -130,9 +130,9 @@ class Script:
         said = [str(words[place]()) if place in words else place for place in places]
         return " ".join(word for word in said if word)
 
-    def call(self, forms, id_=None):
+    def call(self, forms, id_=None, before=""):
         forms = [form for form in forms if self.kind == "map" or not form.startswith("run")]
-        self.add(self.written(self.chance.choice(forms), id_))
+        self.add(before + self.written(self.chance.choice(forms), id_))
 
     def draw(self):
         """A call of the deck. In each state all come evenly: each lies apart from those before it, by the golden ratio."""
@@ -165,11 +165,11 @@ class Script:
     def fill(self, count):
         """Adds pairs until there are this number."""
         while len(self.a.pairs) < count:
+            before = "refused " * (self.chance.random() < 0.1)
             if self.chance.random() < 0.6:
-                refused = "refused " * (self.chance.random() < 0.1)
-                self.add(f"{refused}extend {self.items(count - len(self.a.pairs))}".strip())
+                self.add(f"{before}extend {self.items(count - len(self.a.pairs))}".strip())
             else:
-                self.call(ADDING, self.new_id())
+                self.call(ADDING, self.new_id(), before)
 
     def empty(self, count):
         """Removes pairs until there are this number."""
