@@ -1,15 +1,25 @@
-"""Copies of the sources, in which an edit is planted that a script or the search of the sources finds. Nothing is proved."""
+"""Copies of the sources, in which an edit is planted that a script, the random run or the search of the sources finds. Nothing
+is proved."""
 
+import functools
+import itertools
 import os
 import pathlib
+import random
 import re
 import shutil
 import subprocess
 import tempfile
 
+from random_scripts import FIRST_LINES, LONG, make_script
+from scripts import compile_allocator, play
+from witness import difference
+
 TESTS = pathlib.Path(__file__).resolve().parent
 TOP = TESTS.parent
 PROGRAM = "witness"
+# The scripts of the random run that have to find an edit: so many of one limit, since each limit takes seconds to compile.
+RANDOM_RUN, SCRIPTS, LIMIT = "the random run", 60, 5
 
 
 def crates_of(*names):
@@ -34,33 +44,62 @@ def copy_sources(folder, crates, proved=False):
     return folder
 
 
-def play(script, folder, build):
-    """Plays a script on the program of this copy, with the limits of the script alone: each takes seconds to compile."""
-    used = re.findall(r"^(?:map|owning) (\d+)\b", script.read_text(), re.M)
-    limits = folder / "crates" / PROGRAM / "src/script.rt"
+def build(folder, limits):
+    """Builds the program of this copy, with these limits alone, and returns where it is."""
+    script = folder / "crates" / PROGRAM / "src/script.rt"
     arm = re.compile(r'^ +"(\d+)" => \w+::<.*>\(.*\),\n', re.M)
-    limits.write_text(arm.sub(lambda it: it[0] if it[1] in used else "", limits.read_text()))
-    program = folder / PROGRAM
-    built = subprocess.run([build, PROGRAM, program], capture_output=True, text=True)
+    script.write_text(arm.sub(lambda it: it[0] if it[1] in limits else "", script.read_text()))
+    (folder / "tests").mkdir()
+    tool, program = shutil.copy(TESTS / "build_unproved.sh", folder / "tests"), folder / PROGRAM
+    built = subprocess.run([tool, PROGRAM, program], capture_output=True, text=True)
     if not program.exists():
         raise ValueError(f"it does not compile: {(built.stdout + built.stderr).strip()[-200:]}")
+    return program
+
+
+def said_by_script(script, folder):
+    """What a script shows of a faulty program: a line with its name. One that fails for another reason shows none."""
+    program = build(folder, re.findall(r"^(?:map|owning|unit) (\d+)\b", script.read_text(), re.M))
     environment = os.environ | {"WITNESS": str(program)}
-    return subprocess.run([TESTS / "scripts.py", script.name], env=environment, capture_output=True, text=True)
+    ran = subprocess.run([TESTS / "scripts.py", script.name], env=environment, capture_output=True, text=True)
+    return [line for line in ran.stdout.splitlines() if script.name in line] if ran.returncode else []
+
+
+def said_by_search(search, folder, edit):
+    (folder / "tests").mkdir()
+    ran = subprocess.run([shutil.copy(search, folder / "tests")], capture_output=True, text=True)
+    place = edit.place.replace("/", "/src/", 1)
+    return [line for line in ran.stdout.splitlines() if place in line] if ran.returncode else []
+
+
+@functools.cache
+def scripts_at_random():
+    indices = (it for it in itertools.count(len(LONG)) if FIRST_LINES[it % len(FIRST_LINES)][1] == LIMIT)
+    return [make_script(random.Random(f"1 {it}"), it) for it in itertools.islice(indices, SCRIPTS)]
+
+
+def said_at_random(folder):
+    """The first line of a script that the faulty program answers otherwise than the model."""
+    program, library = build(folder, [str(LIMIT)]), compile_allocator(folder)
+    for script in scripts_at_random():
+        found = play(script.lines, library, program=program) + ["nothing"]
+        at = difference(found[:-1], script.wanted)
+        if at is not None:
+            return [f"{[*script.lines, 'the end'][at]}: {found[at]}, not {[*script.wanted, 'nothing'][at]}"]
+    return []
 
 
 def attempt(edit):
     """Returns whether what an edit names finds it, and what it shows."""
     finder, texts = TESTS / edit.found_by, {}
-    is_script = finder.suffix == ".txt"
+    is_search = finder.suffix == ".py"
     with tempfile.TemporaryDirectory(prefix="planted-") as folder:
-        folder = copy_sources(pathlib.Path(folder, "copy"), crates_of(PROGRAM if is_script else "halfmap", edit.crate))
+        folder = copy_sources(pathlib.Path(folder, "copy"), crates_of("halfmap" if is_search else PROGRAM, edit.crate))
         edit.apply(texts, folder / "crates" / edit.crate)
         for file, text in texts.items():
             file.write_text(text)
-        (folder / "tests").mkdir()
-        tool = shutil.copy(TESTS / "build_unproved.sh" if is_script else finder, folder / "tests")
-        ran = play(finder, folder, tool) if is_script else subprocess.run([tool], capture_output=True, text=True)
-    # One that fails for another reason shows no place.
-    place = finder.name if is_script else edit.place.replace("/", "/src/", 1)
-    shown = [line for line in ran.stdout.splitlines() if place in line] if ran.returncode else []
+        if edit.found_by == RANDOM_RUN:
+            shown = said_at_random(folder)
+        else:
+            shown = said_by_search(finder, folder, edit) if is_search else said_by_script(finder, folder)
     return bool(shown), shown[0] if shown else f"{edit.found_by} does not find it"

@@ -1,16 +1,22 @@
 """Scripts of calls that are made at random, in the language of docs/SCRIPTS.md. The model is played meanwhile: it says
 what is held, so that a script can bring the map into each state, and make any call of the table there."""
 
+import bisect
+import collections
+import itertools
+
 from model.basics import GREATEST, MOST_PAIRS, RULES, Key
+from model.coverage import COMPARING, STATES
 from model.lines import CALLS, COMMANDS, LIMITS, MAKERS_FOR, OTHER_LIMITS, PLAIN_MAKERS, WITH_TEXT, places_of
 from model.session import Session
 from model.walk import steps_of
 
 LINES = 200
 # Some limits, rules and states are chosen more often than others.
-FIRST_LINES = [(kind, limit) for kind in LIMITS for limit in (*LIMITS[kind], 5, 5, 2, 3)]
+OFTEN = (5, 5, 2, 3, 20, 32, 32, 64)
+FIRST_LINES = [(kind, limit) for kind in LIMITS for limit in (*LIMITS[kind], *(it for it in OFTEN if it in LIMITS[kind]))]
 RULES_OFTEN = ("plain", *RULES)
-STATES_OFTEN = ("vec", "full vec", "full vec", "table", "full table", "full table", "went back", "went back", "went back")
+STATES_OFTEN = ("vec", "vec", "table", *["tight vec"] * 4, *["full vec"] * 3, *["full table"] * 5, *["went back"] * 4)
 NUMBERS = (0, 0, 0, 1, 1, 2, 3, 4, 5, 7, 12, 31, 32, 100, GREATEST)
 SIZES = (0, 1, 2, 3, 5, 6, 7, 12, 13, 33, 50)
 # Sizes that are refused.
@@ -19,13 +25,16 @@ ADDING = ("insert KEY V", "insert_nocheck KEY V", "entry KEY or_insert V", "raw 
 REMOVING = ("remove FORM", "remove_entry_hashed FORM", "entry KEY remove", "raw KEY remove", "run remove KEY")
 ANEW = ("drop", "into_iter", "walk for_value STEPS", "walk into_iter STEPS")
 BACK = ("shrink_to_fit", "shrink_to_fit", "run shrink len")
-COMPARING = ("same", "eq", "same_as LIMIT RULE", "same_from LIMIT RULE")
 # Those that empty the map are chosen less often, and those that have many cases more often.
 EMPTYING = ("clear", "drain N", "walk drain STEPS", *ANEW)
-OF_MANY_CASES = ("run COMMANDS", "made MAKER ITEMS", "from_iter_hint SIZE ITEMS", "hashmap ITEMS", "from_array ITEMS")
-WEIGHTS = {form: 0.7 if form in EMPTYING else 5 if form in OF_MANY_CASES else 1 for form in CALLS}
+OF_MANY_CASES = ("clone", "made MAKER ITEMS", "shrink_to_fit", "reserve SIZE", "error reserve SIZE", "extend ITEMS", "from_iter_hint SIZE ITEMS")
+WEIGHTS = dict.fromkeys(CALLS, 1) | dict.fromkeys(EMPTYING, 0.7) | dict.fromkeys(OF_MANY_CASES, 3) | {"run COMMANDS": 10, "entry KEY or_default": 2}
+# Each with a held key and with a new one, refused memory and not.
+DECK = [(form, is_held, is_refused) for form in CALLS for is_held in (True, False) for is_refused in (True, False)]
+SUMS = list(itertools.accumulate(WEIGHTS[form] for form, *_ in DECK))
+GOLDEN = (5**0.5 - 1) / 2
 # The calls after which a map of many pairs has many still.
-KEEPING = {form: weight for form, weight in WEIGHTS.items() if form not in (*EMPTYING, "swap", "retain M N *")}
+KEEPING = tuple(form for form in CALLS if form not in (*EMPTYING, "swap", "retain M N *"))
 NO_CALLS = (
     "", " iter", "iter ", "iter 1", "insert 1", "insert  1 2", "insert +1 2", "insert 1 -2", "get", "get x", "GET 1",
     "insert 1 18446744073709551616", "insert 1#2#3 4", "insert # 4", "entry 1", "entry 1 or_insert", "entry 1 take",
@@ -44,9 +53,10 @@ NO_CALLS = (
 class Script:
     """A script that is being made: its lines, and what each is answered. Its keys come again: they are few, in steps."""
 
-    def __init__(self, chance, kind, limit, rule, keys):
-        self.chance, self.is_owning, self.limit, self.rule = chance, kind == "owning", limit, rule
+    def __init__(self, chance, index, kind, limit, rule, keys):
+        self.chance, self.kind, self.limit, self.rule = chance, kind, limit, rule
         self.lines, self.wanted, self.session = [], [], Session()
+        self.drawn = collections.Counter(dict.fromkeys(STATES, 12 * index))
         self.keys, self.stride = keys, chance.choice((1, 1, 4, 8, 16, 37))
         self.first = chance.choice((0, 0, 3, 1000, GREATEST - 2 * self.stride * keys))
         if chance.random() < 0.5:
@@ -100,7 +110,7 @@ class Script:
     def written(self, form, id_=None):
         """A line of this form. A given ID is that of its keys."""
         choice, places = self.chance.choice, places_of(form)
-        id_ = choice((self.any_id, self.held_id, self.held_id))() if id_ is None else id_
+        id_ = choice((self.any_id, self.held_id))() if id_ is None else id_
         words = {
             "KEY": lambda: self.key(id_),
             "FORM": lambda: choice((f"@{id_}", self.key(id_), self.key(id_))),
@@ -114,36 +124,52 @@ class Script:
             "RULE": lambda: choice(tuple(RULES)),
             "MAKER": lambda: choice((*PLAIN_MAKERS, *(f"{maker}:{self.size()}" for maker in MAKERS_FOR))),
             "ITEMS": lambda: self.items(3 if form.startswith("hashmap") else 4),
-            "COMMANDS": lambda: " ".join(self.written(choice(tuple(COMMANDS))) for _ in range(self.chance.randrange(6))),
+            "COMMANDS": lambda: " ".join(self.written(choice(tuple(COMMANDS))) for _ in range(self.chance.randrange(9))),
             "STEPS": lambda: self.steps(places[1]),
         }
         said = [str(words[place]()) if place in words else place for place in places]
         return " ".join(word for word in said if word)
 
-    def call(self, forms, id_=None):
-        forms = [form for form in forms if not (self.is_owning and form.startswith("run"))]
-        self.add(self.written(self.chance.choice(forms), id_))
+    def call(self, forms, id_=None, before=""):
+        forms = [form for form in forms if self.kind == "map" or not form.startswith("run")]
+        self.add(before + self.written(self.chance.choice(forms), id_))
 
-    def any_call(self, weights=WEIGHTS):
-        """Any call, now and then refused memory, and often all pairs after it."""
+    def draw(self):
+        """A call of the deck. In each state all come evenly: each lies apart from those before it, by the golden ratio."""
+        *_, state = self.a.states()
+        self.drawn[state] += 1
+        return DECK[bisect.bisect(SUMS, self.drawn[state] * GOLDEN % 1 * SUMS[-1])]
+
+    def any_call(self, form, is_held, is_refused):
+        """A call, and often all pairs after it."""
         chance = self.chance
-        form = chance.choices(tuple(weights), weights.values())[0]
-        is_refused = form not in WITH_TEXT and chance.random() < (0.3 if self.a.state().startswith("full") else 0.1)
-        self.add("refused " * is_refused + self.written(form))
-        if is_refused or chance.random() < 0.15:
+        self.add("refused " * (is_refused and form not in WITH_TEXT) + self.written(form, self.held_id() if is_held else self.new_id()))
+        if self.wanted[-1].startswith("refused") or chance.random() < 0.15:
             self.add("pairs")
+        if form == "clone":
+            self.change_one()
         if form == "clone" or chance.random() < 0.01:
             self.call(COMPARING)
         if chance.random() < 0.01:
             self.add(chance.choice(NO_CALLS))
 
+    def change_one(self):
+        """Changes a pair, its place or its key, or nothing."""
+        to_the_end = "entry {0.key} lose_insert {0.value}"
+        change = self.chance.choice(("", to_the_end, to_the_end, "entry {0.key} into_mut 1", "remove {0.key}"))
+        if change and self.a.pairs:
+            self.add(change.format(self.chance.choice(self.a.pairs)))
+        if change.startswith("remove"):
+            self.call(ADDING, self.new_id())
+
     def fill(self, count):
         """Adds pairs until there are this number."""
         while len(self.a.pairs) < count:
-            if self.chance.random() < 0.3:
-                self.add(f"extend {self.items(count - len(self.a.pairs))}".strip())
+            before = "refused " * (self.chance.random() < 0.1)
+            if self.chance.random() < 0.6:
+                self.add(f"{before}extend {self.items(count - len(self.a.pairs))}".strip())
             else:
-                self.call(ADDING, self.new_id())
+                self.call(ADDING, self.new_id(), before)
 
     def empty(self, count):
         """Removes pairs until there are this number."""
@@ -156,7 +182,7 @@ class Script:
     def reach(self, state):
         """Brings the map into this state, where its limit allows that."""
         state = "vec" if self.limit >= MOST_PAIRS else state
-        if state in ("vec", "full vec") and (not self.a.is_vec or self.a.has_gone_back):
+        if state.endswith("vec") and (not self.a.is_vec or self.a.has_gone_back):
             self.call(ANEW)
         if state in ("table", "full table", "went back") and self.a.is_vec:
             self.fill(self.limit)
@@ -169,17 +195,21 @@ class Script:
             self.add("shrink_to_fit")
             self.fill(self.a.capacity)
         else:
-            count = self.limit if state == "full vec" else self.chance.randrange(min(self.limit, 8) + 1)
+            count = self.chance.randrange(8) if self.limit < 20 else self.chance.randrange(20, 71)
+            if state.endswith("vec") and self.limit < MOST_PAIRS:
+                count = self.limit if state == "full vec" or self.limit < 2 else 1 + count % (self.limit - 1)
             self.fill(count)
             self.empty(count)
+            if state == "tight vec":
+                self.add("shrink_to_fit")
 
     def flood(self, count, stride):
         """Many pairs, and any call then. The keys collide where the rule has one hash, or the stride is that of buckets."""
         for start in range(0, count, 50):
             self.add("extend " + " ".join(f"{number * stride} {number}" for number in range(start, start + 50)))
-        self.keys, self.stride, self.first = count, stride, 0
+        self.keys, self.stride, self.first = 2 * count, stride, 0
         for _ in range(LINES // 8):
-            self.any_call(KEEPING)
+            self.any_call(self.chance.choice(KEEPING), self.chance.random() < 0.5, self.chance.random() < 0.3)
 
     def pass_through(self, count):
         """Keys pass through a map of few pairs. Under the plain rule all hashes differ, and have only four home buckets."""
@@ -194,25 +224,25 @@ class Script:
         self.add("run " + " ".join(self.written(forms[37 * number % len(forms)]) for number in range(count)))
 
 
-# Long scripts: a limit, a rule, and what is done.
-LONG = [(32, "plain", lambda script: script.flood(4000, 1))]
-LONG += [(limit, rule, lambda script: script.flood(300, 2**14)) for limit in (0, 5) for rule in RULES]
-LONG += [(limit, rule, lambda script: script.pass_through(500)) for limit in (0, 32, GREATEST) for rule in RULES]
-LONG += [(limit, rule, lambda script: script.run_at_length(1000)) for limit in (0, 1, 2, 32) for rule in RULES]
+# Long scripts: a first line, and what is done.
+LONG = [((*first, "plain"), lambda script: script.flood(2000, 1)) for first in (("owning", 32), ("unit", 20))]
+LONG += [(("owning", limit, rule), lambda script: script.flood(300, 2**14)) for limit in (0, 5) for rule in RULES]
+LONG += [(("map", limit, rule), lambda script: script.pass_through(500)) for limit in (0, 32, GREATEST) for rule in RULES]
+LONG += [(("map", limit, rule), lambda script: script.run_at_length(1000)) for limit in (0, 1, 2, 32) for rule in RULES]
 
 
 def make_script(chance, index):
     """The script of this index, of which the first ones are long."""
     if index < len(LONG):
-        limit, rule, fill = LONG[index]
-        script = Script(chance, "map", limit, rule, 40)
+        first, fill = LONG[index]
+        script = Script(chance, index, *first, 40)
         fill(script)
     else:
         kind, limit = FIRST_LINES[index % len(FIRST_LINES)]
-        script = Script(chance, kind, limit, chance.choice(RULES_OFTEN), max(8, 3 * limit if limit < 100 else 40))
+        script = Script(chance, index, kind, limit, chance.choice(RULES_OFTEN), max(8, 3 * limit if limit < 100 else 40))
         while len(script.lines) < LINES:
             script.reach(chance.choice(STATES_OFTEN))
-            for _ in range(chance.choice((1, 1, 1, 2, 10))):
-                script.any_call()
+            for _ in range(chance.choice((1, 1, 1, 2, 5))):
+                script.any_call(*script.draw())
     script.add("pairs")
     return script

@@ -18,9 +18,11 @@ import tempfile
 from concurrent.futures import ThreadPoolExecutor
 
 from comparison import agrees, without_unwanted
+from model.lines import LIMITS
 from model.session import answers
 
 TESTS = pathlib.Path(__file__).resolve().parent
+SCRIPTS = TESTS / "scripts"
 PROGRAM = pathlib.Path(os.environ.get("WITNESS") or TESTS.parent / "crates/witness/out/witness")
 SECONDS = 120
 # The model searches a list, and plays no part of as many characters.
@@ -64,22 +66,23 @@ def written_out(line):
 
 def read_script(path):
     """The parts of a script, and what is wrong in it."""
-    parts, faults, call = [Part(path.name)], [], None
+    name = path.relative_to(SCRIPTS).as_posix()
+    parts, faults, call = [Part(name)], [], None
     for number, line in enumerate(map(written_out, path.read_bytes().decode().split("\n")), 1):
         word, _, rest = line.partition(" ")
         if line == "" or line.startswith("#"):
             continue
         if word not in ("=", "or"):
-            if word in ("map", "owning"):
-                parts.append(Part(path.name))
+            if word in LIMITS:
+                parts.append(Part(name))
             call = Call(line, number)
             parts[-1].calls.append(call)
         elif call is None or (word == "or") != bool(call.wanted) or (word == "or" and not parts[-1].refused()):
-            faults.append(f"scripts/{path.name}:{number}: no call stands above this wanted line: {line}")
+            faults.append(f"scripts/{name}:{number}: no call stands above this wanted line: {line}")
         else:
             call.wanted.append(rest)
     if not any(call.wanted for part in parts for call in part.calls):
-        faults.append(f"scripts/{path.name}:1: no line is wanted")
+        faults.append(f"scripts/{name}:1: no line is wanted")
     return [part for part in parts if part.calls], faults
 
 
@@ -90,7 +93,7 @@ def compile_allocator(folder):
     return library
 
 
-def play(lines, library, refuse=None):
+def play(lines, library, refuse=None, program=PROGRAM):
     """What the program prints, and how it ended badly as one line more. Of a `refused` call all requests for memory are
     refused, or those from the first to the second of two numbers."""
     environment = os.environ | {"LD_PRELOAD": str(library)}
@@ -98,7 +101,7 @@ def play(lines, library, refuse=None):
         environment |= {"REFUSE_FROM": str(refuse[0]), "REFUSE_TO": str(refuse[1])}
     text = "".join(f"{line}\n" for line in lines).encode()
     try:
-        ran = subprocess.run([PROGRAM], input=text, capture_output=True, env=environment, timeout=SECONDS)
+        ran = subprocess.run([program], input=text, capture_output=True, env=environment, timeout=SECONDS)
     except subprocess.TimeoutExpired:
         return [f"no end within {SECONDS} seconds"]
     *printed, last = ran.stdout.decode(errors="replace").split("\n")
@@ -155,7 +158,7 @@ def main(words):
     if not PROGRAM.exists():
         print(f"{PROGRAM} is not there: `rt run` in crates/witness proves and builds it")
         return 0, 1
-    known = sorted((TESTS / "scripts").rglob("*.txt"))
+    known = sorted(SCRIPTS.rglob("*.txt"))
     paths = [path for path in known if not words or any(it in str(path.relative_to(TESTS)) for it in words)]
     if not paths:
         sys.exit(f"no script has {' or '.join(words)} in its name: {' '.join(path.stem for path in known)}")

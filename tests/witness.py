@@ -75,9 +75,9 @@ def try_script(seed, player, index):
 
 def print_met(met):
     """Prints a row of each call, and what is met in any state."""
-    print(" " * 28 + "".join(f"{column:>11}" for column in COLUMNS))
+    print(" " * 34 + "".join(f"{column:>11}" for column in COLUMNS))
     for name in sorted({name for name, column in met if column in COLUMNS}):
-        print(f"{name:<28}" + "".join(f"{met[name, column] or '.':>11}" for column in COLUMNS))
+        print(f"{name:<34}" + "".join(f"{met[name, column] or '.':>11}" for column in COLUMNS))
     others = [f"{name:<32}{met[name, MET]:>6}" for name, column in sorted(met) if column == MET]
     for index in range(0, len(others), 3):
         print("   ".join(others[index : index + 3]))

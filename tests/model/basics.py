@@ -5,6 +5,8 @@ import dataclasses
 GREATEST = 2**64 - 1
 # A call that needs capacity for more pairs is refused.
 MOST_PAIRS = 2**60
+# A state of maps of so many pairs, beside their form.
+MANY = "20 to 70"
 RULES = {"plain": lambda key: key.id, "zero": lambda key: 0, "top": lambda key: GREATEST}
 
 
@@ -25,6 +27,15 @@ class Key:
 
     def __str__(self):
         return f"{self.id}#{self.mark}"
+
+
+class Nothing(int):
+    """A value of no size: it is 0 whatever is added."""
+
+    __add__ = __mod__ = lambda self, _: self
+
+
+NOTHING = Nothing()
 
 
 @dataclasses.dataclass(eq=False)
@@ -58,6 +69,8 @@ class Work:
     called: int = 0
     # How many pairs were cloned.
     cloned: int = 0
+    # The commands of a run, each with whether its key is held, and the states in which it is made.
+    commands: list = dataclasses.field(default_factory=list)
     # For which reasons something was refused.
     refusals: set = dataclasses.field(default_factory=set)
 

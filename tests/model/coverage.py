@@ -1,45 +1,74 @@
-"""What a random run has to meet: each call of the table in each state of the map, on a held key and on a new one, each
-refusal, and each command, step, maker and limit. A new call in the table is demanded without a word here."""
+"""What a random run has to meet: each call of the table, and each command of a run, in each state of the map, one on a key
+with a held key and with a new one; memory that is refused wherever a call asks for some; each other refusal; each step, maker
+and limit; and each way in which two maps differ. A new call in the table is demanded without a word here."""
 
-from model.basics import Key
-from model.lines import CALLS, LIMITS, MAKERS_FOR, PLAIN_MAKERS, places_of
-from model.runs import COMMANDS
+from model.basics import MANY, Key
+from model.lines import CALLS, COMMANDS, LIMITS, MAKERS_FOR, PLAIN_MAKERS, is_on_a_key, places_of
 from model.walk import KINDS, steps_of
 
-STATES = ("vec", "full vec", "table", "full table", "went back")
-HELD, NEW = "held", "new"
+STATES = ("vec", "tight vec", "full vec", "table", "full table", "went back", MANY)
 # The reasons of a refusal.
 MEMORY, SIZE = "memory", "size"
-COLUMNS = (*STATES, HELD, NEW, MEMORY, SIZE)
-# Memory was asked for; and what is met in any state.
-ASKED, MET = "asked", "met"
+COLUMNS = (*STATES, MEMORY, SIZE)
+# Memory was asked for; a key was only stood for; and what is met in any state.
+ASKED, STOOD_FOR, MET = "asked", "by @ID", "met"
+COMPARING = ("same", "eq", "same_as LIMIT RULE", "same_from LIMIT RULE")
+COMPARED = ("true, in one order", "true, in another", "false, of one length", "false, of others")
+MAKING = ("from_iter ITEMS", "from_iter_hint SIZE ITEMS", "from_array ITEMS", "collect ITEMS")
+ROWS = [*CALLS, *(f"run {form}" for form in COMMANDS)]
+
+
+def asked(state):
+    """The column of requests for memory in a state."""
+    return f"{state}, asked"
+
+
+def refused(state):
+    return f"{state}, refused"
+
+
+def row_of(form, is_held):
+    return f"{form}, {'held' if is_held else 'new'}" if is_on_a_key(form) else form
 
 
 def met_by(call, a):
-    """The pairs of a name and a column that a call on `a` meets, before it is made."""
-    met = [(call.form, a.state())] + [(call.form, HELD if a.holds(it) else NEW) for it in call.said if isinstance(it, Key)]
-    if call.form == "run COMMANDS":
-        met += [(f"run {form}", a.state()) for form, _ in call.said[0]]
-    elif call.form.endswith(" STEPS"):
+    """The pairs of a row and a column that a call on `a` meets, before it is made. The first is of its state."""
+    key = call.said[-1] if call.form.endswith(" WHICH") else call.said[0] if is_on_a_key(call.form) else None
+    is_held = a.holds(key) if isinstance(key, Key) else any(key in (it.key.id, "any") for it in a.pairs)
+    met = [(row_of(call.form, is_held), state) for state in a.states()]
+    met += [(call.form, STOOD_FOR)] * (isinstance(key, Key) and key.mark is None)
+    if call.form.endswith(" STEPS"):
         met += [(f"{call.form.removesuffix(' STEPS')} {step}", MET) for step, _ in call.said[0]]
     elif call.form == "made MAKER ITEMS":
         met.append((f"made {call.said[0][0]}", MET))
     return met
 
 
-def refused_by(call, work, answer):
-    """The same of the requests and refusals of the call."""
-    met = [(call.form, reason) for reason in work.refusals] + [(call.form, ASKED)] * (work.requests > 0)
-    return met + [("run reserve SIZE", SIZE)] * ("refused size reserve" in answer)
+def answered_by(call, met, maps, answer):
+    """The same of what the call did, that met these before."""
+    (row, state), work = met[0], maps.a.work
+    done = [(row, ASKED), (row, asked(state))] * (work.requests > 0)
+    done += [(row, MEMORY), (row, refused(state))] * (MEMORY in work.refusals)
+    done += [(call.form, SIZE)] * (SIZE in work.refusals) + [("run reserve SIZE", SIZE)] * ("refused size reserve" in answer)
+    done += [(f"run {row_of(form, is_held)}", state) for form, is_held, states in work.commands for state in states]
+    if call.form in MAKING:
+        done.append((f"{call.form}: {answer.split(' ')[0]}", MET))
+    if call.form in COMPARING:
+        a, b = ([pair.key for pair in it.pairs] for it in (maps.a, maps.b))
+        how = COMPARED[a != b if answer == "true" else 2 + (len(a) != len(b))]
+        done.append((f"{call.form}: {how}", MET))
+    return done
 
 
 def demanded(met):
-    """The pairs that have to be met. Each call that asks for memory has to be refused some."""
-    calls = [*CALLS, *(f"run {form}" for form in COMMANDS)]
-    wanted = [(form, state) for form in calls for state in STATES]
-    wanted += [(form, column) for form in CALLS if {"KEY", "FORM"} & set(places_of(form)) for column in (HELD, NEW)]
-    wanted += [(form, SIZE) for form in calls if {"SIZE", "MAKER"} & set(places_of(form))]
-    wanted += [(form, MEMORY) for form, column in met if column == ASKED]
+    """The pairs that have to be met. A call that asks for memory has to be refused it, in each state in which it often asks."""
+    wanted = [(row, state) for form in ROWS for row in {row_of(form, True), row_of(form, False)} for state in STATES]
+    wanted += [(row, refused(state)) for row, column in met for state in STATES if column == asked(state) and met[row, column] > 12]
+    wanted += [(row, MEMORY) for row, column in met if column == ASKED]
+    wanted += [(form, SIZE) for form in ROWS if {"SIZE", "MAKER"} & set(places_of(form))]
+    wanted += [(form, STOOD_FOR) for form in CALLS if "FORM" in places_of(form)]
     wanted += [(f"{kind} {limit}", column) for kind in LIMITS for limit in LIMITS[kind] for column in (MET, SIZE)]
     wanted += [(f"walk {kind} {step}", MET) for kind in KINDS for step in steps_of(kind)]
+    wanted += [(f"{form}: {how}", MET) for form in COMPARING for how in COMPARED]
+    wanted += [(f"{form}: {made}", MET) for form in MAKING for made in ("vec", "map")]
     return wanted + [(f"made {maker}", MET) for maker in PLAIN_MAKERS + MAKERS_FOR]

@@ -4,13 +4,13 @@ import dataclasses
 import re
 
 from model.all_pairs import BOTH_CALLS, OF_A_CALLS
-from model.basics import GREATEST, RULES, BadLine, Key
+from model.basics import GREATEST, NOTHING, RULES, BadLine, Key
 from model.one_key import ONE_KEY_CALLS
 from model.runs import COMMANDS, run
 from model.walk import WALK_CALLS, steps_of
 
-# After `owning` values count their drops.
-LIMITS = {"map": (0, 1, 2, 3, 4, 5, 8, 32, 64, 2**60, GREATEST), "owning": (0, 1, 2, 3, 5, 32, GREATEST)}
+# After `owning` values count their drops, and after `unit` they have no size.
+LIMITS = {"map": (0, 1, 2, 3, 4, 5, 8, 32, 64, 2**60, GREATEST), "owning": (0, 1, 2, 3, 5, 32, GREATEST), "unit": (20,)}
 OTHER_LIMITS = (0, 5, GREATEST)
 PLAIN_MAKERS = ("new", "default", "with_hasher")
 MAKERS_FOR = ("with_capacity", "with_capacity_and_hasher", "vec_with_capacity")
@@ -18,7 +18,7 @@ MAKERS_FOR = ("with_capacity", "with_capacity_and_hasher", "vec_with_capacity")
 MOST_ITEMS = {"from_array ITEMS": 4, "hashmap ITEMS": 3}
 # Their text takes memory of the program's own.
 WITH_TEXT = ("debug_pretty", "debug_iter_pretty")
-WITHOUT_OWNING = ("run COMMANDS", "entry KEY or_default")
+OF_NUMBERS = ("run COMMANDS", "entry KEY or_default")
 # Each is handed `a`, or the session, which has both maps, and what the line says. A form with `*` hands in a closure.
 CALLS_ON_A = ONE_KEY_CALLS | OF_A_CALLS | {"run COMMANDS": run}
 CALLS = CALLS_ON_A | BOTH_CALLS | WALK_CALLS
@@ -27,6 +27,10 @@ CALLS = CALLS_ON_A | BOTH_CALLS | WALK_CALLS
 def places_of(form):
     """The words of a form. Those in capitals are the places of others. A SIZE is a number that may be refused."""
     return form.removesuffix(" *").split(" ")
+
+
+def is_on_a_key(form):
+    return not {"KEY", "FORM", "WHICH"}.isdisjoint(places_of(form))
 
 
 def name_of(words):
@@ -140,21 +144,28 @@ def read_steps(form, words):
     return steps
 
 
+def no_value(place, said):
+    """What is said in this place, where values have no size."""
+    return NOTHING if place == "V" else [(key, NOTHING) for key, _ in said] if place == "ITEMS" else said
+
+
 # What reads the words from the last place on.
 REST = {"ITEMS": read_items, "COMMANDS": read_commands, "STEPS": read_steps}
 
 
-def read_call(line, is_owning):
-    """The call of a line, which `refused` may stand before."""
+def read_call(line, kind):
+    """The call of a line, which `refused` may stand before, on maps of this kind."""
     words = line.removeprefix("refused ").split(" ")
     form = look_up(FORMS, name_of(words))
-    if is_owning and form in WITHOUT_OWNING:
+    if kind != "map" and form in OF_NUMBERS:
         raise BadLine
     *places, last = places_of(form)
     if last in REST:
         said = read_places(places, words[: len(places)]) + [REST[last](form, words[len(places) :])]
     else:
         said = read_places([*places, last], words)
+    if kind == "unit":
+        said = [no_value(place, it) for place, it in zip(filter(str.isupper, [*places, last]), said)]
     return Call(form, said, line.startswith("refused "))
 
 

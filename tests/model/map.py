@@ -2,7 +2,7 @@
 
 import dataclasses
 
-from model.basics import RULES, Pair, Work
+from model.basics import MANY, RULES, Pair, Work
 
 # How many requests for memory the columns make, of keys and of values, and the arrays of a table beside them.
 COLUMNS, ARRAYS = 2, 2
@@ -35,8 +35,13 @@ class Map:
         """The form, as coverage.py tells forms apart."""
         if self.has_gone_back:
             return "went back"
-        is_full = len(self.pairs) == (self.limit if self.is_vec else self.capacity)
-        return f"{'full ' if is_full else ''}{'vec' if self.is_vec else 'table'}"
+        if self.is_vec:
+            full = "full " if len(self.pairs) == self.limit else "tight " if len(self.pairs) == self.capacity else ""
+            return f"{full}vec"
+        return "full table" if len(self.pairs) == self.capacity else "table"
+
+    def states(self):
+        return [self.state()] + [MANY] * (20 <= len(self.pairs) <= 70)
 
     def anew(self):
         """A map that `with_hasher` makes with the same limit and rule."""

@@ -33,6 +33,7 @@ COMMANDS = {
 
 def reply(a, command, said):
     """A command that is refused comes back as it was written."""
+    a.work.commands.append((command, said and a.holds(said[0]), a.states()))
     try:
         return COMMANDS[command](a, *said) or "done"
     except Refused as why:

@@ -1,7 +1,7 @@
 """A script on the model, line by line: what each line is answered, and what it meets."""
 
 from model.basics import BadLine, Pair, Refused, Work
-from model.coverage import MET, met_by, refused_by
+from model.coverage import MET, answered_by, met_by
 from model.lines import CALLS, CALLS_ON_A, WITH_TEXT, keys_in, read_call, read_first
 from model.map import Map
 
@@ -19,7 +19,7 @@ class Session:
     """A script that is being played, and its two maps. `refused` calls are refused all memory, unless it is granted."""
 
     def __init__(self, is_granted=False):
-        self.is_granted, self.a, self.b, self.is_owning = is_granted, None, None, False
+        self.is_granted, self.kind, self.a, self.b = is_granted, None, None, None
         # Pairs of what was met and where, as in coverage.py.
         self.met = []
 
@@ -32,20 +32,20 @@ class Session:
 
     def answer_first(self, line):
         """Makes the maps."""
-        kind, limit, rule, capacity = read_first(line)
+        self.kind, limit, rule, capacity = read_first(line)
         try:
-            self.a, self.b, self.is_owning = Map(limit, rule, capacity), Map(limit, rule), kind == "owning"
+            self.a, self.b = Map(limit, rule, capacity), Map(limit, rule)
             met, answer = MET, f"made | 0 0 | {self.a} | dropped 0 0"
         except Refused as why:
             met, answer = str(why), f"refused {why}"
-        self.met.append((f"{kind} {limit}", met))
+        self.met.append((f"{self.kind} {limit}", met))
         return answer
 
     def held(self):
         return len(self.a.pairs) + len(self.b.pairs)
 
     def answer_call(self, line):
-        call = read_call(line, self.is_owning)
+        call = read_call(line, self.kind)
         work = self.a.work = self.b.work = Work(call.is_refused and not self.is_granted)
         met, held = met_by(call, self.a), self.held()
         try:
@@ -53,9 +53,9 @@ class Session:
             answer = "done" if answer is None else str(answer)
         except Refused as why:
             answer = refusal_of(call, why)
-        self.met += met + refused_by(call, work, answer)
+        self.met += met + answered_by(call, met, self, answer)
         gone = held + work.cloned - self.held()
-        dropped = f"dropped {keys_in(call.said) + gone} {call.values() + gone if self.is_owning else 0}"
+        dropped = f"dropped {keys_in(call.said) + gone} {call.values() + gone if self.kind == 'owning' else 0}"
         called = f" | called {work.called}" if call.form.endswith(" *") else ""
         requests = "0..1000" if call.form in WITH_TEXT else work.requests
         return f"{answer} | {work} | {self.a} | {dropped}{called} | requests {requests}"

@@ -3,11 +3,21 @@
 use crate::words::count;
 use test_support::builders::Rule;
 
+/// The values of the maps.
+#[derive(Clone, Copy)]
+pub(crate) enum Kind {
+    /// Plain numbers.
+    Map,
+    /// Numbers that count their drops.
+    Owning,
+    /// Of no size.
+    Unit,
+}
+
 /// What a first line asks for.
 #[derive(Clone, Copy)]
 pub(crate) struct First<'a> {
-    /// Whether values count their drops.
-    pub is_owning: bool,
+    pub kind: Kind,
     /// The limit as it is written.
     pub limit: &'a str,
     pub rule: Rule,
@@ -21,13 +31,14 @@ pub(crate) fn parse_first<'a>(words: &[&'a str]) -> Option<First<'a>> {
         [call, limit, rule, capacity] => (call, limit, rule, Some(count(capacity)?)),
         _ => return None,
     };
-    let is_owning = match *call {
-        "map" => false,
-        "owning" => true,
+    let kind = match *call {
+        "map" => Kind::Map,
+        "owning" => Kind::Owning,
+        "unit" => Kind::Unit,
         _ => return None,
     };
     Some(First {
-        is_owning,
+        kind,
         limit,
         rule: rule_of(rule)?,
         capacity,

@@ -15,11 +15,12 @@ use std::alloc::AllocError;
 use std::fmt;
 use std::hash::{Hash, Hasher};
 
-/// A key written `id#mark`. Keys of one id are equal, and the mark tells them apart.
+/// A key written `id#mark`. Keys of one id are equal, and the mark tells them apart. It is 48 bytes long.
 pub(crate) struct Key<'a> {
     id: u64,
     mark: u64,
     counts: &'a Counts,
+    padding: [u64; 3],
 }
 
 impl<'a> Key<'a> {
@@ -29,6 +30,7 @@ impl<'a> Key<'a> {
             id: name.id,
             mark: name.mark,
             counts,
+            padding: [0; 3],
         }
     }
 }
@@ -55,6 +57,7 @@ impl Drop for Key<'_> {
             id: _,
             mark: _,
             counts: _,
+            padding: _,
         } = self;
     }
 }
@@ -67,6 +70,7 @@ impl Clone for Key<'_> {
             id: self.id,
             mark: self.mark,
             counts: self.counts,
+            padding: self.padding,
         })
     }
 }

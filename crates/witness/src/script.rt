@@ -2,12 +2,14 @@
 
 use crate::answer::refused;
 use crate::counts::Counts;
-use crate::first::{First, parse_first};
+use crate::first::{First, Kind, parse_first};
 use crate::keys::Key;
+use crate::kinds::Number;
 use crate::player::Player;
-use crate::values::Owned;
+use crate::values::{Nothing, Owned};
 use halfbrown::{Limit, LimitedHashMap, Refusal, UpTo};
 use std::alloc::Global;
+use std::fmt::Debug;
 use std::io;
 use test_support::builders::Counting;
 
@@ -38,11 +40,11 @@ fn begin<R: Print + AllocGlobal>(rt: &R, first: First<'_>, rest: &[&str]) -> io:
         "5" => begin_any::<R, UpTo<5>>(rt, first, rest),
         "32" => begin_any::<R, UpTo<32>>(rt, first, rest),
         "18446744073709551615" => begin_any::<R, UpTo<18446744073709551615>>(rt, first, rest),
-        _ if first.is_owning => print_bad(rt),
-        "4" => play_plain::<R, UpTo<4>>(rt, first, rest),
-        "8" => play_plain::<R, UpTo<8>>(rt, first, rest),
-        "64" => play_plain::<R, UpTo<64>>(rt, first, rest),
-        "1152921504606846976" => play_plain::<R, UpTo<1152921504606846976>>(rt, first, rest),
+        "4" => begin_plain::<R, UpTo<4>>(rt, first, rest),
+        "8" => begin_plain::<R, UpTo<8>>(rt, first, rest),
+        "64" => begin_plain::<R, UpTo<64>>(rt, first, rest),
+        "1152921504606846976" => begin_plain::<R, UpTo<1152921504606846976>>(rt, first, rest),
+        "20" => begin_unit::<R, UpTo<20>>(rt, first, rest),
         _ => print_bad(rt),
     }
 }
@@ -52,16 +54,42 @@ fn print_bad(rt: &impl Print) -> io::Result<bool> {
     Ok(false)
 }
 
-// Of a limit that maps may have whose values count their drops. These are fewer, since each takes time to compile.
+// Of a limit that maps may have whose values count their drops. Other limits have one kind of values, since each takes time
+// to compile.
 fn begin_any<R: Print + AllocGlobal, L: Limit>(
     rt: &R,
     first: First<'_>,
     rest: &[&str],
 ) -> io::Result<bool> {
-    if first.is_owning {
-        play_owning::<R, L>(rt, first, rest)
-    } else {
-        play_plain::<R, L>(rt, first, rest)
+    match first.kind {
+        Kind::Map => play_plain::<R, L>(rt, first, rest),
+        Kind::Owning => {
+            let counts = Counts::new();
+            play_others::<R, Owned<'_>, L>(rt, &counts, Owned::zero(&counts), first, rest)
+        }
+        Kind::Unit => print_bad(rt),
+    }
+}
+
+fn begin_plain<R: Print + AllocGlobal, L: Limit>(
+    rt: &R,
+    first: First<'_>,
+    rest: &[&str],
+) -> io::Result<bool> {
+    match first.kind {
+        Kind::Map => play_plain::<R, L>(rt, first, rest),
+        _ => print_bad(rt),
+    }
+}
+
+fn begin_unit<R: Print + AllocGlobal, L: Limit>(
+    rt: &R,
+    first: First<'_>,
+    rest: &[&str],
+) -> io::Result<bool> {
+    match first.kind {
+        Kind::Unit => play_others::<R, Nothing, L>(rt, &Counts::new(), Nothing, first, rest),
+        _ => print_bad(rt),
     }
 }
 
@@ -85,13 +113,15 @@ fn play_plain<R: Print + AllocGlobal, L: Limit>(
     Ok(true)
 }
 
-fn play_owning<R: Print + AllocGlobal, L: Limit>(
-    rt: &R,
+// The lines that all values have.
+fn play_others<'a, R: Print + AllocGlobal, V: Number + Clone + PartialEq + Debug + Drop, L: Limit>(
+    rt: &'a R,
+    counts: &'a Counts,
+    zero: V,
     first: First<'_>,
     rest: &[&str],
 ) -> io::Result<bool> {
-    let counts = Counts::new();
-    let Some(mut player) = make::<R, Owned<'_>, L>(rt, &counts, first, Owned::zero(&counts))? else {
+    let Some(mut player) = make::<R, V, L>(rt, counts, first, zero)? else {
         return Ok(false);
     };
     for line in rest {

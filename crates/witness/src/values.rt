@@ -1,4 +1,4 @@
-//! Values that are numbers and count their drops.
+//! Values that are numbers and count their drops, and values of no size.
 ghost use Rattle.std.specs.Prelude.{◌≡◌, ◌==◌};
 ghost use Rattle.std.specs.Cmp.Rules.{comparing};
 ghost use Rattle.std.proofs.Common.{rules};
@@ -9,16 +9,21 @@ use crate::kinds::{Item, Number};
 use std::alloc::AllocError;
 use std::fmt;
 
-/// A number that counts its drop.
+/// A number that counts its drop. It is 48 bytes long.
 pub(crate) struct Owned<'a> {
     number: u64,
     counts: &'a Counts,
+    padding: [u64; 4],
 }
 
 impl<'a> Owned<'a> {
     /// The number 0, which counts here.
     pub(crate) fn zero(counts: &'a Counts) -> Owned<'a> {
-        Owned { number: 0, counts }
+        Owned {
+            number: 0,
+            counts,
+            padding: [0; 4],
+        }
     }
 }
 
@@ -41,6 +46,7 @@ impl Number for Owned<'_> {
         Owned {
             number,
             counts: self.counts,
+            padding: self.padding,
         }
     }
 }
@@ -51,6 +57,7 @@ impl Drop for Owned<'_> {
         let Owned {
             number: _,
             counts: _,
+            padding: _,
         } = self;
     }
 }
@@ -62,6 +69,7 @@ impl Clone for Owned<'_> {
         Ok(Owned {
             number: self.number,
             counts: self.counts,
+            padding: self.padding,
         })
     }
 }
@@ -79,5 +87,33 @@ impl PartialEq for Owned<'_> {
 impl fmt::Debug for Owned<'_> {
     fn fmt<W: fmt::Write>(&self, f: &mut fmt::Formatter<W>) -> fmt::Result {
         write!(f, "{}", self.number)
+    }
+}
+
+/// A value of no size. Its number is 0.
+#[derive(Clone, Copy, PartialEq)]
+pub(crate) struct Nothing;
+
+impl Item for Nothing {
+    fn answer(&self) -> Answer {
+        numbered(0)
+    }
+}
+
+impl Number for Nothing {
+    fn number(&self) -> u64 {
+        0
+    }
+
+    fn set(&mut self, _number: u64) {}
+
+    fn like(&self, _number: u64) -> Self {
+        Nothing
+    }
+}
+
+impl fmt::Debug for Nothing {
+    fn fmt<W: fmt::Write>(&self, f: &mut fmt::Formatter<W>) -> fmt::Result {
+        write!(f, "0")
     }
 }
