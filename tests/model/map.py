@@ -22,8 +22,7 @@ class Map:
     def __init__(self, limit, rule, capacity=0, work=None):
         self.limit, self.rule, self.pairs, self.work = limit, rule, [], work or Work()
         self.is_vec, self.has_gone_back = capacity <= limit, False
-        # The columns may have more than the capacity, where the map was a table.
-        self.capacity = self.columns = 0
+        self.capacity = 0
         self.work.check_size(capacity)
         if capacity > 0:
             self.grow(capacity if self.is_vec else table_capacity(capacity), self.is_vec)
@@ -48,9 +47,9 @@ class Map:
         return Map(self.limit, self.rule, work=self.work)
 
     def grow(self, capacity, is_vec):
-        """The arrays of a table are made anew. The columns grow where they are not enough."""
-        self.work.request((0 if is_vec else ARRAYS) + (COLUMNS if capacity > self.columns else 0))
-        self.is_vec, self.capacity, self.columns = is_vec, capacity, max(capacity, self.columns)
+        """The arrays of a table are made anew, and the columns grow."""
+        self.work.request(COLUMNS if is_vec else COLUMNS + ARRAYS)
+        self.is_vec, self.capacity = is_vec, capacity
 
     def require(self, pairs):
         """Makes the capacity enough for this number of pairs. A vector's doubles, from eight on, up to the limit."""
@@ -71,19 +70,15 @@ class Map:
             self.work.hashes += self.limit
 
     def shrink_to_fit(self):
-        """A table of no more pairs than the limit becomes a vector of the same pairs, also where memory is refused."""
+        """A table of no more pairs than the limit becomes a vector of the same pairs. All memory comes first: where it is
+        refused nothing changes, and for no capacity none is needed."""
         needed = len(self.pairs)
-        if not self.is_vec and needed <= self.limit:
-            self.is_vec = self.has_gone_back = True
-        if not self.is_vec and table_capacity(needed) < self.capacity and self.work.try_to_request(ARRAYS):
-            self.capacity = table_capacity(needed)
-        self.shrink_columns(needed if self.is_vec else self.capacity)
-        self.capacity = min(self.columns, self.limit) if self.is_vec else self.capacity
-
-    def shrink_columns(self, capacity):
-        """Both columns are moved, or neither. For no capacity they ask for no memory."""
-        if self.columns > capacity and (capacity == 0 or self.work.try_to_request(COLUMNS)):
-            self.columns = capacity
+        is_vec = self.is_vec or needed <= self.limit
+        capacity = needed if is_vec else table_capacity(needed)
+        arrays = COLUMNS if is_vec else COLUMNS + ARRAYS
+        if capacity in (0, self.capacity) or self.work.try_to_request(arrays):
+            self.has_gone_back = self.has_gone_back or is_vec and not self.is_vec
+            self.is_vec, self.capacity = is_vec, capacity
 
     def candidates(self, hash_):
         """The pairs whose keys a search may compare: in a table those of the hash alone."""
