@@ -1,5 +1,5 @@
 -- What decides the replies: form and pairs before a command, the command, and the refusal decide its reply, and form and pairs after it.
-use Rattle.std.proofs.Common.{◌≡◌, ◌∙◌, ℕ, Bool, not, nat_le, List, [], ◌∷◌, Option, None, Some, unwrap_or, arith, ap, sym, refl}
+use Rattle.std.proofs.Common.{◌≡◌, ◌∙◌, ℕ, Bool, not, ◌&&◌, List, [], ◌∷◌, Option, None, Some, unwrap_or, arith, ap, sym, refl}
 use Rattle.std.proofs.Common.{if◌then◌else◌}
 use Rattle.std.proofs.lemmas.Grind.{common_steps}
 use Rattle.half_store.specs.declared.refusal.Refusal.{Refusal}
@@ -9,9 +9,9 @@ use Rattle.halfbrown.specs.declared.run.Reply.{Reply}
 use Rattle.halfbrown.specs.declared.run.Reply.TheVariants.{Refused}
 use Rattle.halfbrown.specs.Pairs.{holds, put, take_out}
 use Rattle.halfbrown.specs.State.{State}
-use Rattle.halfbrown.specs.Step.{Step, Steps, IsStep, Leaves, value_or, granted_reply, refusal_in}
+use Rattle.halfbrown.specs.Step.{Step, Steps, IsStep, Leaves, value_or, granted_reply, refusal_in, says_vec, is_shrink}
 use Rattle.halfbrown.proofs.lemmas.run.Steps.{form_of_step}
-use Rattle.half_laws.specs.RunLaws.{IsAlike, RepliesLaw}
+use Rattle.half_laws.specs.RunLaws.{IsAlike, RepliesLaw, outcomes_of}
 
 module _ {K V : Type 0} (limit : ℕ) (eq : K → K → Bool) where
   -- the pairs after a granted command
@@ -45,8 +45,10 @@ module _ {K V S : Type 0} (limit : ℕ) (eq : K → K → Bool) where
   answered old new command reply step = (step.0, pairs_left old new command step.1)
 
   step_alike : (s t : Step K V S) → IsStep limit eq s → IsStep limit eq t → IsAlike s.before t.before → s.command ≡ t.command
-      → refusal_in s.reply ≡ refusal_in t.reply → (s.reply ≡ t.reply) × IsAlike s.after t.after
-  step_alike s t s_step t_step alike command refusal = grind (arith, common_steps, answered, form_of_step, nat_le, not, unwrap_or)
+      → refusal_in s.reply ≡ refusal_in t.reply
+      → (is_shrink s.command && says_vec s.reply) ≡ (is_shrink t.command && says_vec t.reply)
+      → (s.reply ≡ t.reply) × IsAlike s.after t.after
+  step_alike s t s_step t_step alike command refusal form = grind (arith, common_steps, answered, form_of_step, not, unwrap_or)
 
   same_alike : (a b c d : State K V S) → IsAlike a b → c ≡ a → d ≡ b → IsAlike c d
   same_alike a b c d alike left right = record {
@@ -54,11 +56,18 @@ module _ {K V S : Type 0} (limit : ℕ) (eq : K → K → Bool) where
     pairs = ap (λ m. m.pairs) left ∙ alike.pairs ∙ sym (ap (λ m. m.pairs) right);
   }
 
+  same_outcome : (s t : Step K V S) (ss ts : List (Step K V S)) → outcomes_of (s ∷ ss) ≡ outcomes_of (t ∷ ts)
+      → ◌≡◌ {A = Option Refusal × Bool} (refusal_in s.reply, is_shrink s.command && says_vec s.reply)
+      (refusal_in t.reply, is_shrink t.command && says_vec t.reply)
+  same_outcome s t ss ts same = cc same
+
   pub replies_law : RepliesLaw V S limit eq
   replies_law a a_new [] a_lead b b_new [] b_lead alike commands refusals = (refl, same_alike a b a_new b_new alike a_lead b_lead)
   replies_law a a_new [] a_lead b b_new (t ∷ b_steps) b_lead alike commands refusals = absurd (cc commands)
   replies_law a a_new (s ∷ a_steps) a_lead b b_new [] b_lead alike commands refusals = absurd (cc commands)
   replies_law a a_new (s ∷ a_steps) a_lead b b_new (t ∷ b_steps) b_lead alike commands refusals =
-      let once = step_alike s t a_lead.1 b_lead.1 (same_alike a b s.before t.before alike a_lead.0 b_lead.0) (cc commands) (cc refusals) in
+      let once = step_alike s t a_lead.1 b_lead.1 (same_alike a b s.before t.before alike a_lead.0 b_lead.0) (cc commands)
+      (ap (λ outcome. outcome.0) (same_outcome s t a_steps b_steps refusals))
+      (ap (λ outcome. outcome.1) (same_outcome s t a_steps b_steps refusals)) in
       let rest = replies_law s.after a_new a_steps a_lead.3 t.after b_new b_steps b_lead.3 once.1 (cc commands) (cc refusals) in
       ((λ i. once.0 i ∷ rest.0 i), rest.1)
