@@ -222,6 +222,7 @@ fn many_of_one_hash(rt: HostRuntime) -> Result<(), Fail> {
 #[test]
 fn a_removal_brings_a_pair_home(rt: HostRuntime) -> Result<(), Fail> {
     let mut table = table_of(rt.alloc(), 0, &[0, 8, 1])?;
+    assert_found(&table, 0, 0, 0, 1)?;
     assert_found(&table, 8, 1, 1, 2)?;
     assert_found(&table, 1, 2, 2, 2)?;
     remove(&mut table, 1, 8)?;

@@ -7,7 +7,10 @@ ghost use Rattle.std.specs.Cmp.Rules.{comparing, hashing};
 ghost use Rattle.std.proofs.Common.{rules};
 
 use crate::drain_callers::take_first;
-use halfbrown::{DefaultHashBuilder, Entry, HashMap, RawEntryMut, Refusal, SizedHashMap, hashmap};
+use halfbrown::{
+    DefaultHashBuilder, Entry, HashMap, Limit, LimitedHashMap, RawEntryMut, Refusal, SizedHashMap,
+    hashmap,
+};
 use std::alloc::Global;
 use std::cell::Cell;
 use std::hash::{BuildHasher, Hash, Hasher};
@@ -162,19 +165,31 @@ fn a_raw_entry_gets_another_spelling(rt: HostRuntime) -> Result<(), Fail> {
     assert_same((key.0, key.1, value), (1, 3, 20), "the other spelling")
 }
 
+// Inserts key 5 by its hash, and returns it. What is asked is counted after the hash. Any builder will do: a caller whose map
+// holds a reference gets no proof of an insertion into a vacant raw entry.
+fn add_five<S: BuildHasher, L: Limit>(
+    map: &mut LimitedHashMap<u64, u64, S, L>,
+    asked: &Cell<u64>,
+) -> Result<u64, Fail> {
+    let hash = map.hasher().hash_one(&5u64);
+    asked.set(0);
+    match map.raw_entry_mut()?.from_key_hashed_nocheck(hash, &5) {
+        RawEntryMut::Occupied(_) => return Err(Fail::new("no key is held")),
+        RawEntryMut::Vacant(entry) => {
+            entry.insert_hashed_nocheck(hash, 5, 50);
+        }
+    }
+    Ok(hash)
+}
+
 #[test]
 fn a_known_hash_asks_no_builder(rt: HostRuntime) -> Result<(), Fail> {
     let asked = Cell::new(0);
     let builder = Counting::new(Rule::Plain, &asked);
     let mut map = SizedHashMap::<u64, u64, _, 0>::with_capacity_and_hasher(rt.alloc(), 1, builder)?;
     assert_same(map.capacity(), 3, "of four buckets")?;
-    let hash = map.hasher().hash_one(&5u64);
-    assert_same((hash, asked.replace(0)), (5, 1), "made beforehand")?;
-    match map.raw_entry_mut()?.from_key_hashed_nocheck(hash, &5) {
-        RawEntryMut::Occupied(_) => return Err(Fail::new("no key is held")),
-        RawEntryMut::Vacant(entry) => drop(entry.insert_hashed_nocheck(hash, 5, 50)),
-    }
-    assert_same(asked.get(), 0, "by the three calls")?;
+    let hash = add_five(&mut map, &asked)?;
+    assert_same((hash, asked.get()), (5, 0), "by the three calls")?;
     let value = map.get(&5).copied();
     assert_same((value, asked.get()), (Some(50), 1), "by its key")
 }

@@ -18,7 +18,9 @@ fn a_full_vector(rt: HostRuntime) -> Result<(), Fail> {
     let insertions = "i 1 10\ni 2 20\ni 3 30\ni 4 40\ni 5 50\n";
     assert_served(
         rt.alloc(),
-        format!(in rt.alloc(); "{insertions}f\ni 3 33\nf\ng 3\nr 1\nr 1\ng 9\nx\ni 6 60\nf\n")?.as_str(),
+        format!(in rt.alloc();
+            "{insertions}f\ni 3 33\nf\ng 3\nr 1\nr 1\ng 9\nx\ni 6 60\nf\n"
+        )?.as_str(),
         "none\nnone\nnone\nnone\nnone\nvec 5\nwas 30\nmap 5\n33\nwas 10\nnone\nnone\nbad line\nnone\nmap 5\n",
     )
 }
