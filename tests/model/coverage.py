@@ -14,6 +14,8 @@ COLUMNS = (*STATES, MEMORY, SIZE)
 ASKED, STOOD_FOR, MET = "asked", "by @ID", "met"
 COMPARING = ("same", "eq", "same_as LIMIT RULE", "same_from LIMIT RULE")
 COMPARED = ("true, in one order", "true, in another", "false, of one length", "false, of others")
+# These may find no pair, and these make a map.
+AT_AN_INDEX = ("first", "last", "pop", "swap_remove_index N", "get_index N", "get_index_mut N V", "get_index_entry N V")
 MAKING = ("from_iter ITEMS", "from_iter_hint SIZE ITEMS", "from_array ITEMS", "collect ITEMS")
 ROWS = [*CALLS, *(f"run {form}" for form in COMMANDS)]
 
@@ -53,6 +55,8 @@ def answered_by(call, met, maps, answer):
     done += [(f"run {row_of(form, is_held)}", state) for form, is_held, states in work.commands for state in states]
     if call.form in MAKING:
         done.append((f"{call.form}: {answer.split(' ')[0]}", MET))
+    if call.form in AT_AN_INDEX:
+        done.append((f"{call.form}: {'none' if answer == 'none' else 'a pair'}", MET))
     if call.form in COMPARING:
         a, b = ([pair.key for pair in it.pairs] for it in (maps.a, maps.b))
         how = COMPARED[a != b if answer == "true" else 2 + (len(a) != len(b))]
@@ -71,4 +75,5 @@ def demanded(met):
     wanted += [(f"walk {kind} {step}", MET) for kind in KINDS for step in steps_of(kind)]
     wanted += [(f"{form}: {how}", MET) for form in COMPARING for how in COMPARED]
     wanted += [(f"{form}: {made}", MET) for form in MAKING for made in ("vec", "map")]
+    wanted += [(f"{form}: {found}", MET) for form in AT_AN_INDEX for found in ("none", "a pair")]
     return wanted + [(f"made {maker}", MET) for maker in PLAIN_MAKERS + MAKERS_FOR]
