@@ -40,6 +40,7 @@ def met_by(call, a):
     is_held = a.holds(key) if isinstance(key, Key) else any(key in (it.key.id, "any") for it in a.pairs)
     met = [(row_of(call.form, is_held), state) for state in a.states()]
     met += [(call.form, STOOD_FOR)] * (isinstance(key, Key) and key.mark is None)
+    met += [(f"raw calls at limit {a.limit}", MANY)] * (call.form.startswith("raw") and MANY in a.states())
     if call.form.endswith(" STEPS"):
         met += [(f"{call.form.removesuffix(' STEPS')} {step}", MET) for step, _ in call.said[0]]
     elif call.form == "made MAKER ITEMS":
@@ -71,6 +72,7 @@ def demanded(met):
     often = [it for it in met if met[it] > 12]
     wanted += [(row, refused(state)) for row, column in often for state in STATES if column == asked(state)]
     wanted += [(row, MEMORY) for row, column in met if column == ASKED]
+    wanted += [(f"raw calls at limit {limit}", MANY) for limit in (32, 64)]
     wanted += [(form, SIZE) for form in ROWS if {"SIZE", "MAKER"} & set(places_of(form))]
     wanted += [(form, STOOD_FOR) for form in CALLS if "FORM" in places_of(form)]
     wanted += [(f"{kind} {limit}", column) for kind in LIMITS for limit in LIMITS[kind] for column in (MET, SIZE)]
