@@ -131,7 +131,8 @@ class Script:
         said = [str(words[place]()) if place in words else place for place in places]
         return " ".join(word for word in said if word)
 
-    def call(self, forms, id_=None, before=""):
+    def call(self, forms, id_=None, may_be_refused=False):
+        before = "refused " * (may_be_refused and self.chance.random() < 0.1)
         forms = [form for form in forms if self.kind == "map" or not form.startswith("run")]
         self.add(before + self.written(self.chance.choice(forms), id_))
 
@@ -166,11 +167,11 @@ class Script:
     def fill(self, count):
         """Adds pairs until there are this number."""
         while len(self.a.pairs) < count:
-            before = "refused " * (self.chance.random() < 0.1)
             if self.chance.random() < 0.6:
+                before = "refused " * (self.chance.random() < 0.1)
                 self.add(f"{before}extend {self.items(count - len(self.a.pairs))}".strip())
             else:
-                self.call(ADDING, self.new_id(), before)
+                self.call(ADDING, self.new_id(), may_be_refused=True)
 
     def empty(self, count):
         """Removes pairs until there are this number."""
@@ -178,7 +179,7 @@ class Script:
             if count == 0 and self.chance.random() < 0.2:
                 self.add(self.chance.choice(("clear", "retain 1 0", "drain 3")))
             else:
-                self.call(REMOVING, self.held_id())
+                self.call(REMOVING, self.held_id(), may_be_refused=True)
 
     def reach(self, state):
         """Brings the map into this state, where its limit allows that."""
@@ -212,13 +213,6 @@ class Script:
         for _ in range(LINES // 8):
             self.any_call(self.chance.choice(KEEPING), self.chance.random() < 0.5, self.chance.random() < 0.3)
 
-    def pass_through(self, count):
-        """Keys pass through a map of few pairs. Under the plain rule all hashes differ, and have only four home buckets."""
-        ids = [256 * number + number % 4 for number in range(count + 40)]
-        self.add("extend " + " ".join(f"{id_} 0" for id_ in ids[:40]))
-        for old, new in zip(ids, ids[40:]):
-            self.add(f"run remove {old} get {new} insert {new} 1")
-
     def run_at_length(self, count):
         """One run of as many commands, which seldom clear the map."""
         forms = [form for form in COMMANDS for _ in range(1 if form == "clear" else 10)]
@@ -228,7 +222,6 @@ class Script:
 # Long scripts: a first line, and what is done.
 LONG = [((*first, "plain"), lambda script: script.flood(2000, 1)) for first in (("owning", 32), ("unit", 20))]
 LONG += [((*first, rule), lambda script: script.flood(300, 2**14)) for first in (("map", 0), ("owning", 5)) for rule in RULES]
-LONG += [(("map", limit, rule), lambda script: script.pass_through(500)) for limit in (0, 32, GREATEST) for rule in RULES]
 LONG += [(("map", limit, rule), lambda script: script.run_at_length(1000)) for limit in (0, 1, 2, 32) for rule in RULES]
 
 
