@@ -26,11 +26,11 @@ LIBRARIES = tempfile.TemporaryDirectory()
 
 
 class Run:
-    """A run of the program, which is killed where it does not end."""
+    """A run of the program, which is killed where it does not end. What is not as it should be is an AssertionError."""
 
     def __init__(self, streams="", library=None, **variables):
         """`streams` redirects streams as a shell does. A library of C is preloaded, and reads the variables."""
-        environment = {**os.environ, **{name: str(value) for name, value in variables.items()}}
+        environment = os.environ | {name: str(value) for name, value in variables.items()}
         if library:
             environment["LD_PRELOAD"] = f"{LIBRARIES.name}/{library}.so"
         command = f'{streams} exec "$0"' if streams.endswith("&&") else f'exec "$0" {streams}'
@@ -40,55 +40,48 @@ class Run:
         self.timer = threading.Timer(SECONDS, self.program.kill)
         self.timer.start()
 
-    def send(self, text):
+    def send(self, text, is_last=False):
         """Sends all of a text while the answers are read. A program that has ended takes none."""
         try:
             self.program.stdin.write(text)
             self.program.stdin.flush()
+            if is_last:
+                self.program.stdin.close()
         except BrokenPipeError:
             pass
 
-    def ask(self, part, wanted):
-        """Sends a part, and waits for these answers. Returns what else came."""
-        self.send(part)
-        found = b"".join(self.program.stdout.readline() for _ in wanted.splitlines())
-        return None if found == wanted else f"{part!r} was answered by {found!r}, not {wanted!r}"
+    def send_beside(self, text, is_last=False):
+        sender = threading.Thread(target=self.send, args=[text, is_last])
+        sender.start()
+        return sender
 
-    def peak(self):
-        """The most memory that the program has had so far, in bytes, used or not. It is without bound where it has ended."""
+    def read(self, wanted):
+        """These are the next answers."""
+        found = self.program.stdout.read(len(wanted))
+        assert found == wanted, f"{found[:60]!r} came, not {wanted[:60]!r}"
+
+    def ask(self, part, wanted):
+        self.send(part)
+        self.read(wanted)
+
+    def has_little_memory(self):
+        """So has it had until now, used or not. A program that has ended has no such line."""
         found = re.search(r"^VmPeak:\s+(\d+) kB$", pathlib.Path(f"/proc/{self.program.pid}/status").read_text(), re.M)
-        return 1024 * int(found[1]) if found else float("inf")
+        assert found and 1024 * int(found[1]) <= SMALL, f"it has had {found and found[1]} KiB of memory"
 
     def end(self, text=b""):
         """Sends a last text, and ends the input. Returns the answers, what is on standard error, and the status."""
-
-        def close():
-            self.send(text)
-            try:
-                self.program.stdin.close()
-            except BrokenPipeError:
-                pass
-
-        threading.Thread(target=close).start()
+        self.send_beside(text, is_last=True)
         streams = (self.program.stdout, self.program.stderr)
         answers, errors = (b"" if it.closed else it.read() for it in streams)
         status = self.program.wait()
         self.timer.cancel()
         return answers, errors, status
 
-
-def ends(run, text, answers, status=0, errors=b""):
-    """Plays a last text. Returns None where it is answered so and ends so."""
-    found, wanted = run.end(text), (answers, errors, status)
-    return None if found == wanted else f"{text[:40]!r} gave {short(found)}, not {short(wanted)}"
-
-
-def short(found):
-    return f"{len(found[0])} bytes {found[0][:60]!r}, on standard error {found[1][:40]!r}, status {found[2]}"
-
-
-def first_fault(faults):
-    return next((it for it in faults if it is not None), None)
+    def ends(self, text, answers, status=0):
+        """A last text is answered so, and the program ends so, with nothing on standard error."""
+        found = self.end(text)
+        assert found == (answers, b"", status), f"{text[:40]!r} gave {len(found[0])} bytes {found[0][:60]!r}, {found[1:]}"
 
 
 # When answers come.
@@ -96,33 +89,29 @@ def first_fault(faults):
 
 def each_answer_comes_before_more_is_read():
     """Where parts are lines, and where lines end anywhere in them."""
-    lines = [(b"i 1 10\n", b"none\n"), (b"i 1 11\n", b"was 10\n"), (b"g 1\n", b"11\n"), (b"f\n", b"vec 1\n"), (b"\n", b"bad line\n")]
+    lines = [(b"i 1 10\n", b"none\n"), (b"i 1 11\n", b"was 10\n"), (b"g 1\n", b"11\n"), (b"\n", b"bad line\n")]
     parts = [(b"f\ni 2", b"vec 1\n"), (b" 10\r\n\ng", b"none\nbad line\n"), (b" 2\nf", b"10\n"), (b"\nr 1", b"vec 2\n")]
     run = Run()
-    return first_fault(run.ask(*it) for it in lines + parts) or ends(run, b"", b"was 11\n")
+    for part in [*lines, (b"f\n", b"vec 1\n"), *parts]:
+        run.ask(*part)
+    run.ends(b"", b"was 11\n")
 
 
 def a_million_lines_take_seconds_and_little_memory():
-    lines, wanted = [], []
-    for key in range(250_000):
-        lines.append(b"i %d %d\ni %d 7\ng %d\nr %d\n" % (key, key, key, key, key))
-        wanted.append(b"none\nwas %d\n7\nwas 7\n" % key)
+    keys = range(250_000)
     run = Run()
-    sender = threading.Thread(target=run.send, args=[b"".join(lines)])
-    sender.start()
-    found = run.program.stdout.read(sum(map(len, wanted)))
-    peak = run.peak()
+    sender = run.send_beside(b"".join(b"i %d %d\ni %d 7\ng %d\nr %d\n" % (key, key, key, key, key) for key in keys))
+    run.read(b"".join(b"none\nwas %d\n7\nwas 7\n" % key for key in keys))
+    run.has_little_memory()
     sender.join()
-    if found != b"".join(wanted) or peak > SMALL:
-        return f"other answers, or {peak} bytes of memory"
-    return ends(run, b"f\n", b"vec 0\n")
+    run.ends(b"f\n", b"vec 0\n")
 
 
 def a_million_pairs_and_ten_million_lines():
     """Nothing is tested of more pairs, of more lines, nor of a line above a gigabyte."""
     keys, looks = 1_000_001, 9_000_000
     text = b"".join(b"i %d 7\n" % key for key in range(keys)) + b"g 1\n" * looks
-    return ends(Run(), text + b"f", b"none\n" * keys + b"7\n" * looks + b"map %d\n" % keys)
+    Run().ends(text + b"f", b"none\n" * keys + b"7\n" * looks + b"map %d\n" % keys)
 
 
 def a_line_of_a_gigabyte_takes_little_memory():
@@ -131,23 +120,21 @@ def a_line_of_a_gigabyte_takes_little_memory():
     zeros = b"0" * MEBI
     for _ in range(1 << 10):
         run.send(zeros)
-    fault = run.ask(b"\ng 1\ng 2\n", b"none\nbad line\n10\nnone\n")
-    peak = run.peak()
-    return fault or (f"{peak} bytes of memory" if peak > SMALL else None) or ends(run, b"f", b"vec 1\n")
+    run.ask(b"\ng 1\ng 2\n", b"none\nbad line\n10\nnone\n")
+    run.has_little_memory()
+    run.ends(b"f", b"vec 1\n")
 
 
 def a_reader_that_is_slow():
     """The program waits for its reader, and holds back no more than its buffers do."""
     run = Run()
-    sender = threading.Thread(target=run.send, args=[b"i 1 1\n" * MEBI])
-    sender.start()
+    sender = run.send_beside(b"i 1 1\n" * MEBI)
     time.sleep(0.5)
-    peak, is_waiting = run.peak(), sender.is_alive()
-    if not is_waiting or peak > SMALL:
-        return f"it waits: {is_waiting}, with {peak} bytes of memory"
-    found = run.program.stdout.read(5 + 6 * (MEBI - 1))
+    assert sender.is_alive(), "it does not wait"
+    run.has_little_memory()
+    run.read(b"none\n" + b"was 1\n" * (MEBI - 1))
     sender.join()
-    return "other answers" if found != b"none\n" + b"was 1\n" * (MEBI - 1) else ends(run, b"", b"")
+    run.ends(b"", b"")
 
 
 # Inputs and outputs that fail.
@@ -157,42 +144,42 @@ def bytes_that_come_in_any_way():
     """So many at once, and with reads that are interrupted."""
     text = b"i 1 10\ni 01 007\r\n\ng 1\ni 00000000000000000001 00000000000000000002\r\ng 000000000000000000001\nx\nf"
     answers = b"none\nwas 10\nbad line\n7\nwas 7\nbad line\nbad line\nvec 1\n"
-    ways = [{"READ_MOST": most} for most in (1, 2, 7, ALL_AT_ONCE)] + [{"READ_INTERRUPTED": 1, "READ_MOST": 1}]
-    return first_fault(ends(Run(library="streams", **way), text, answers) for way in ways)
+    for way in [{"READ_MOST": most} for most in (1, 2, 7, ALL_AT_ONCE)] + [{"READ_INTERRUPTED": 1, "READ_MOST": 1}]:
+        Run(library="streams", **way).ends(text, answers)
 
 
 def a_read_that_fails():
     """Whole lines before the failure are answered. A line that is cut off is not."""
-    cases = [(b"", b""), (b"i 1 2\ng 1\n", b"none\n2\n"), (b"i 1 2\ng 1", b"none\n"), (b"f\n\r", b"vec 0\n")]
-    runs = [(case, most) for case in cases for most in (1, 3, ALL_AT_ONCE)]
-    return first_fault(ends(Run(library="streams", READ_FAILS=1, READ_MOST=most), *case, status=1) for case, most in runs)
+    for text, answers in [(b"", b""), (b"i 1 2\ng 1\n", b"none\n2\n"), (b"i 1 2\ng 1", b"none\n"), (b"f\n\r", b"vec 0\n")]:
+        for most in (1, 3, ALL_AT_ONCE):
+            Run(library="streams", READ_FAILS=1, READ_MOST=most).ends(text, answers, status=1)
 
 
 def a_write_that_fails():
     """The output takes so many bytes, and these are the first ones of the answers."""
     text, answers = b"f\ni 1 10\ni 1 20\nx\n", b"vec 0\nnone\nwas 10\nbad line\n"
-    runs = [(room, most) for room in range(len(answers) + 1) for most in (1, ALL_AT_ONCE)]
-    return first_fault(
-        ends(Run(library="streams", WRITE_ROOM=room, READ_MOST=most), text, answers[:room], int(room < len(answers)))
-        for room, most in runs
-    )
+    for room in range(len(answers) + 1):
+        for most in (1, ALL_AT_ONCE):
+            run = Run(library="streams", WRITE_ROOM=room, READ_MOST=most)
+            run.ends(text, answers[:room], status=int(room < len(answers)))
 
 
 def streams_that_are_closed_or_full():
-    cases = [(">&-", b"f\n", 1), (">&-", b"", 0), (">/dev/full", b"f\n", 1), (">/dev/full", b"", 0), ("<&-", b"", 1), ("</", b"", 1)]
-    return first_fault(ends(Run(streams), text, b"", status) for streams, text, status in cases)
+    for out in (">&-", ">/dev/full"):
+        Run(out).ends(b"f\n", b"", status=1)
+        Run(out).ends(b"", b"")
+    for given in ("<&-", "</"):
+        Run(given).ends(b"", b"", status=1)
 
 
 def a_reader_that_goes_away():
     """The program ends while its input goes on, and the answers until then are right."""
     run = Run()
-    sender = threading.Thread(target=run.send, args=[b"i 1 1\n" * MEBI])
-    sender.start()
-    wanted = b"none\n" + b"was 1\n" * 10_000
-    found = run.program.stdout.read(len(wanted))
+    sender = run.send_beside(b"i 1 1\n" * MEBI)
+    run.read(b"none\n" + b"was 1\n" * 10_000)
     run.program.stdout.close()
     sender.join()
-    return "other answers" if found != wanted else ends(run, b"", b"", status=1)
+    run.ends(b"", b"", status=1)
 
 
 # Memory that runs out.
@@ -202,20 +189,18 @@ def each_request_for_memory_refused():
     """The two buffers and the line are refused as it starts. Later one insertion finds no room, whichever, and nothing else."""
     keys, full = 3000, [0, 5, *(6 * 2**size for size in range(9))]
     text = b"".join(b"i %d 1\n" % key for key in range(keys)) + b"f\n"
-    for request, pairs in enumerate([None, None, None, *[it for it in full for _ in range(4)]], 1):
-        run = Run(library="allocator", REFUSE_UNMARKED=1, REFUSE_FROM=request, REFUSE_TO=request)
-        answers, errors, status = run.end(text)
+    for request in range(1, 4 + 4 * len(full)):
+        answers, errors, status = Run(library="allocator", REFUSE_UNMARKED=1, REFUSE_FROM=request, REFUSE_TO=request).end(text)
         if errors == b"":
-            return None if request > 3 + len(full) else f"only {request - 1} requests"
+            assert request > 3 + len(full), f"only {request - 1} requests"
+            return
+        at, said = answers.count(b"none\n", 0, max(0, answers.find(b"no room"))), f"request {request} refused"
         if request <= 3:
-            if (answers, status) != (b"", 1):
-                return f"request {request} refused: {len(answers)} bytes of answers, status {status}"
-            continue
-        at = answers.count(b"none\n", 0, max(0, answers.find(b"no room")))
-        wanted = b"none\n" * at + b"no room\n" + b"none\n" * (keys - at - 1) + b"map %d\n" % (keys - 1)
-        if (answers, status) != (wanted, 0) or at not in full:
-            return f"request {request} refused: no room at {at} pairs, status {status}"
-    return "it asks for more than each growth needs"
+            assert (answers, status) == (b"", 1), f"{said}: {len(answers)} bytes of answers, status {status}"
+        else:
+            wanted = b"none\n" * at + b"no room\n" + b"none\n" * (keys - at - 1) + b"map %d\n" % (keys - 1)
+            assert (answers, status) == (wanted, 0) and at in full, f"{said}: no room at {at} pairs, status {status}"
+    raise AssertionError("it asks for more than each growth needs")
 
 
 def a_limit_of_memory():
@@ -227,7 +212,7 @@ def a_limit_of_memory():
     held = answers.find(b"no room") // 5
     wanted = b"none\n" * held + b"no room\n" * (keys - held) + b"map %d\n" % held
     wanted += b"was 1\n" * 1000 + b"was 2\nnone\n9\nno room\nmap %d\n" % held
-    return None if (answers, errors, status) == (wanted, b"", 0) and 1000 < held < keys else f"no room at {held} pairs"
+    assert (answers, errors, status) == (wanted, b"", 0) and 1000 < held < keys, f"no room at {held} pairs"
 
 
 def main():
@@ -240,8 +225,9 @@ def main():
     tests = [it for name, it in globals().items() if getattr(it, "__module__", "") == "__main__" and name.count("_") > 2]
     failed = 0
     for test in tests:
-        fault = test()
-        if fault is not None:
+        try:
+            test()
+        except AssertionError as fault:
             failed += 1
             print(f"{test.__name__}: {fault}")
     print(f"{len(tests) - failed} passed, {failed} failed")

@@ -25,12 +25,13 @@ ADDING = ("insert KEY V", "insert_nocheck KEY V", "entry KEY or_insert V", "raw 
 REMOVING = ("remove FORM", "remove_entry_hashed FORM", "entry KEY remove", "raw KEY remove", "run remove KEY")
 ANEW = ("drop", "into_iter", "walk for_value STEPS", "walk into_iter STEPS")
 BACK = ("shrink_to_fit", "shrink_to_fit", "run shrink len")
-# Those that empty the map are chosen less often, and those that have many cases more often.
+# Those that empty the map come less often, and those that have many cases, or are no calls on some maps, more often.
 EMPTYING = ("clear", "drain N", "walk drain STEPS", *ANEW)
-OF_MANY_CASES = ("clone", "made MAKER ITEMS", "shrink_to_fit", "reserve SIZE", "error reserve SIZE", "extend ITEMS", "from_iter_hint SIZE ITEMS")
-WEIGHTS = dict.fromkeys(CALLS, 1) | dict.fromkeys(EMPTYING, 0.7) | dict.fromkeys(OF_MANY_CASES, 3) | {"run COMMANDS": 10, "entry KEY or_default": 2}
+MORE_OFTEN = ("clone", "made MAKER ITEMS", "from_iter_hint SIZE ITEMS", "extend ITEMS", "shrink_to_fit", "reserve SIZE")
+MORE_OFTEN += ("error reserve SIZE", "entry KEY or_default")
+WEIGHTS = dict.fromkeys(CALLS, 1) | dict.fromkeys(EMPTYING, 0.7) | dict.fromkeys(MORE_OFTEN, 3) | {"run COMMANDS": 10}
 # Each with a held key and with a new one, refused memory and not.
-DECK = [(form, is_held, is_refused) for form in CALLS for is_held in (True, False) for is_refused in (True, False)]
+DECK = list(itertools.product(CALLS, (True, False), (True, False)))
 SUMS = list(itertools.accumulate(WEIGHTS[form] for form, *_ in DECK))
 GOLDEN = (5**0.5 - 1) / 2
 # The calls after which a map of many pairs has many still.
@@ -130,7 +131,8 @@ class Script:
         said = [str(words[place]()) if place in words else place for place in places]
         return " ".join(word for word in said if word)
 
-    def call(self, forms, id_=None, before=""):
+    def call(self, forms, id_=None, may_be_refused=False):
+        before = "refused " * (may_be_refused and self.chance.random() < 0.1)
         forms = [form for form in forms if self.kind == "map" or not form.startswith("run")]
         self.add(before + self.written(self.chance.choice(forms), id_))
 
@@ -142,8 +144,8 @@ class Script:
 
     def any_call(self, form, is_held, is_refused):
         """A call, and often all pairs after it."""
-        chance = self.chance
-        self.add("refused " * (is_refused and form not in WITH_TEXT) + self.written(form, self.held_id() if is_held else self.new_id()))
+        chance, id_ = self.chance, self.held_id() if is_held else self.new_id()
+        self.add("refused " * (is_refused and form not in WITH_TEXT) + self.written(form, id_))
         if self.wanted[-1].startswith("refused") or chance.random() < 0.15:
             self.add("pairs")
         if form == "clone":
@@ -165,11 +167,11 @@ class Script:
     def fill(self, count):
         """Adds pairs until there are this number."""
         while len(self.a.pairs) < count:
-            before = "refused " * (self.chance.random() < 0.1)
             if self.chance.random() < 0.6:
+                before = "refused " * (self.chance.random() < 0.1)
                 self.add(f"{before}extend {self.items(count - len(self.a.pairs))}".strip())
             else:
-                self.call(ADDING, self.new_id(), before)
+                self.call(ADDING, self.new_id(), may_be_refused=True)
 
     def empty(self, count):
         """Removes pairs until there are this number."""
@@ -177,11 +179,11 @@ class Script:
             if count == 0 and self.chance.random() < 0.2:
                 self.add(self.chance.choice(("clear", "retain 1 0", "drain 3")))
             else:
-                self.call(REMOVING, self.held_id())
+                self.call(REMOVING, self.held_id(), may_be_refused=True)
 
     def reach(self, state):
         """Brings the map into this state, where its limit allows that."""
-        state = "vec" if self.limit >= MOST_PAIRS else state
+        state = "vec" if self.limit >= MOST_PAIRS and state != "tight vec" else state
         if state.endswith("vec") and (not self.a.is_vec or self.a.has_gone_back):
             self.call(ANEW)
         if state in ("table", "full table", "went back") and self.a.is_vec:
@@ -211,13 +213,6 @@ class Script:
         for _ in range(LINES // 8):
             self.any_call(self.chance.choice(KEEPING), self.chance.random() < 0.5, self.chance.random() < 0.3)
 
-    def pass_through(self, count):
-        """Keys pass through a map of few pairs. Under the plain rule all hashes differ, and have only four home buckets."""
-        ids = [256 * number + number % 4 for number in range(count + 40)]
-        self.add("extend " + " ".join(f"{id_} 0" for id_ in ids[:40]))
-        for old, new in zip(ids, ids[40:]):
-            self.add(f"run remove {old} get {new} insert {new} 1")
-
     def run_at_length(self, count):
         """One run of as many commands, which seldom clear the map."""
         forms = [form for form in COMMANDS for _ in range(1 if form == "clear" else 10)]
@@ -226,8 +221,7 @@ class Script:
 
 # Long scripts: a first line, and what is done.
 LONG = [((*first, "plain"), lambda script: script.flood(2000, 1)) for first in (("owning", 32), ("unit", 20))]
-LONG += [(("owning", limit, rule), lambda script: script.flood(300, 2**14)) for limit in (0, 5) for rule in RULES]
-LONG += [(("map", limit, rule), lambda script: script.pass_through(500)) for limit in (0, 32, GREATEST) for rule in RULES]
+LONG += [((*first, rule), lambda script: script.flood(300, 2**14)) for first in (("map", 0), ("owning", 5)) for rule in RULES]
 LONG += [(("map", limit, rule), lambda script: script.run_at_length(1000)) for limit in (0, 1, 2, 32) for rule in RULES]
 
 

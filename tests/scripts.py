@@ -126,30 +126,28 @@ def plays_of(part, library):
     return plays
 
 
-def judge_call(name, call, found):
-    """What is wrong with what was found in each play. What several plays have in common is said once."""
-    place, faults, unmet = f"scripts/{name}:{call.number}: {call.text[:100]}", {}, set(call.wanted)
+def judge_call(place, call, found):
+    """What is wrong with what was found in each play, or None."""
+    place, unmet = f"{place}:{call.number}: {call.text[:100]}", set(call.wanted)
     for said, answer in found:
         # What the model says may be a span.
         met = {text for text in call.wanted if agrees(text, without_unwanted(answer, text))}
         if not met:
-            faults.setdefault(answer, f"{place}: wanted {' or '.join(call.wanted)}, found {answer} ({said})")
+            return f"{place}: wanted {' or '.join(call.wanted)}, found {answer} ({said})"
         unmet -= met if said.startswith("the program") else set()
-    if len(call.wanted) > 1 and len(found) > 1:
-        faults |= {text: f"{place}: no play of the program meets {text}" for text in unmet}
-    return list(faults.values())
+    return f"{place}: no play of the program meets {unmet.pop()}" if unmet else None
 
 
 def judge(part, plays):
-    """What is wrong with each call that has wanted lines, and with each play's end, as lists."""
-    told = []
+    """What is wrong with each call that has wanted lines, or None, and with each play's end."""
+    place, told = f"scripts/{part.name}", []
     for index, call in enumerate(part.calls):
         found = [(said, printed[index] if index < len(printed) else "nothing") for said, printed in plays]
-        told += [judge_call(part.name, call, found)] if call.wanted else []
+        told += [judge_call(place, call, found)] if call.wanted else []
     for said, printed in plays:
         if len(printed) != len(part.calls):
             ends = printed[-1] if len(printed) > len(part.calls) else f"{len(printed)} lines"
-            told.append([f"scripts/{part.name}:{part.calls[0].number}: this part ends badly: {ends} ({said})"])
+            told.append(f"{place}:{part.calls[0].number}: this part ends badly: {ends} ({said})")
     return told
 
 
@@ -167,10 +165,10 @@ def main(words):
     with tempfile.TemporaryDirectory() as folder, ThreadPoolExecutor(os.cpu_count()) as pool:
         library = compile_allocator(folder)
         told = sum(pool.map(lambda part: judge(part, plays_of(part, library)), parts), [])
-    told += [[fault] for _, faults in read for fault in faults]
-    for fault in sum(told, []):
+    told += sum((faults for _, faults in read), [])
+    for fault in filter(None, told):
         print(fault[:1000])
-    return told.count([]), len(told) - told.count([])
+    return told.count(None), len(told) - told.count(None)
 
 
 if __name__ == "__main__":

@@ -13,8 +13,11 @@ COLUMNS = (*STATES, MEMORY, SIZE)
 # Memory was asked for; a key was only stood for; and what is met in any state.
 ASKED, STOOD_FOR, MET = "asked", "by @ID", "met"
 COMPARING = ("same", "eq", "same_as LIMIT RULE", "same_from LIMIT RULE")
-COMPARED = ("true, in one order", "true, in another", "false, of one length", "false, of others")
+AT_AN_INDEX = ("first", "last", "pop", "swap_remove_index N", "get_index N", "get_index_mut N V", "get_index_entry N V")
 MAKING = ("from_iter ITEMS", "from_iter_hint SIZE ITEMS", "from_array ITEMS", "collect ITEMS")
+# What calls may answer.
+ANSWERS = dict.fromkeys(COMPARING, ("true, in one order", "true, in another", "false, of one length", "false, of others"))
+ANSWERS |= dict.fromkeys(AT_AN_INDEX, ("none", "a pair")) | dict.fromkeys(MAKING, ("vec", "map"))
 ROWS = [*CALLS, *(f"run {form}" for form in COMMANDS)]
 
 
@@ -37,11 +40,20 @@ def met_by(call, a):
     is_held = a.holds(key) if isinstance(key, Key) else any(key in (it.key.id, "any") for it in a.pairs)
     met = [(row_of(call.form, is_held), state) for state in a.states()]
     met += [(call.form, STOOD_FOR)] * (isinstance(key, Key) and key.mark is None)
+    met += [(f"raw calls at limit {a.limit}", MANY)] * (call.form.startswith("raw") and MANY in a.states())
     if call.form.endswith(" STEPS"):
         met += [(f"{call.form.removesuffix(' STEPS')} {step}", MET) for step, _ in call.said[0]]
     elif call.form == "made MAKER ITEMS":
         met.append((f"made {call.said[0][0]}", MET))
     return met
+
+
+def kind_of(call, maps, answer):
+    """Which of its answers a call gave."""
+    if call.form in COMPARING:
+        a, b = ([pair.key for pair in it.pairs] for it in (maps.a, maps.b))
+        return ANSWERS[call.form][a != b if answer == "true" else 2 + (len(a) != len(b))]
+    return answer.split(" ")[0] if call.form in MAKING else "none" if answer == "none" else "a pair"
 
 
 def answered_by(call, met, maps, answer):
@@ -51,24 +63,19 @@ def answered_by(call, met, maps, answer):
     done += [(row, MEMORY), (row, refused(state))] * (MEMORY in work.refusals)
     done += [(call.form, SIZE)] * (SIZE in work.refusals) + [("run reserve SIZE", SIZE)] * ("refused size reserve" in answer)
     done += [(f"run {row_of(form, is_held)}", state) for form, is_held, states in work.commands for state in states]
-    if call.form in MAKING:
-        done.append((f"{call.form}: {answer.split(' ')[0]}", MET))
-    if call.form in COMPARING:
-        a, b = ([pair.key for pair in it.pairs] for it in (maps.a, maps.b))
-        how = COMPARED[a != b if answer == "true" else 2 + (len(a) != len(b))]
-        done.append((f"{call.form}: {how}", MET))
-    return done
+    return done + [(f"{call.form}: {kind_of(call, maps, answer)}", MET)] * (call.form in ANSWERS)
 
 
 def demanded(met):
     """The pairs that have to be met. A call that asks for memory has to be refused it, in each state in which it often asks."""
     wanted = [(row, state) for form in ROWS for row in {row_of(form, True), row_of(form, False)} for state in STATES]
-    wanted += [(row, refused(state)) for row, column in met for state in STATES if column == asked(state) and met[row, column] > 12]
+    often = [it for it in met if met[it] > 12]
+    wanted += [(row, refused(state)) for row, column in often for state in STATES if column == asked(state)]
     wanted += [(row, MEMORY) for row, column in met if column == ASKED]
+    wanted += [(f"raw calls at limit {limit}", MANY) for limit in (32, 64)]
     wanted += [(form, SIZE) for form in ROWS if {"SIZE", "MAKER"} & set(places_of(form))]
     wanted += [(form, STOOD_FOR) for form in CALLS if "FORM" in places_of(form)]
     wanted += [(f"{kind} {limit}", column) for kind in LIMITS for limit in LIMITS[kind] for column in (MET, SIZE)]
     wanted += [(f"walk {kind} {step}", MET) for kind in KINDS for step in steps_of(kind)]
-    wanted += [(f"{form}: {how}", MET) for form in COMPARING for how in COMPARED]
-    wanted += [(f"{form}: {made}", MET) for form in MAKING for made in ("vec", "map")]
+    wanted += [(f"{form}: {answer}", MET) for form, answers in ANSWERS.items() for answer in answers]
     return wanted + [(f"made {maker}", MET) for maker in PLAIN_MAKERS + MAKERS_FOR]

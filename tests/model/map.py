@@ -103,7 +103,7 @@ class Map:
 
     def find_hashed(self, key):
         """The search for a key whose hash is handed in."""
-        return self.match(RULES[self.rule](key), lambda held: held == key)
+        return self.match(RULES[self.rule](key), lambda held: held.id == key.id)
 
     def count_hash(self):
         """A key is hashed, which only a table needs."""
@@ -115,7 +115,7 @@ class Map:
 
     def holds(self, key):
         """Whether a key is held, as the program asks before a call: it is not counted."""
-        return any(pair.key == key for pair in self.pairs)
+        return any(pair.key.id == key.id for pair in self.pairs)
 
     def entry(self, key):
         """For `insert` and `entry`: the switch, the search, and capacity only where the key is not held."""
