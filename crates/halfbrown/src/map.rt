@@ -45,7 +45,7 @@ pub type HashMap<K, V, S = DefaultHashBuilder> = LimitedHashMap<K, V, S, UpTo<32
 
 /// A map in two forms. Up to the limit its pairs are stored in a vector, which is searched by `==`, and nothing is
 /// hashed. A full vector becomes a hash table at the next insertion or entry that succeeds, even for a key that is
-/// already held. Only `shrink_to_fit` turns it back, whenever no more pairs are held than the limit.
+/// already held. Only `shrink_to_fit` turns it back, where no more pairs are held than the limit.
 ///
 /// In both forms the pairs keep the order of their insertion, until a removal moves the last pair to the index that
 /// became free.
