@@ -5,7 +5,8 @@
 
 tests/edits/CRATE/PATH.edits has those of crates/CRATE/src/PATH.rt, each below a line `edit: NAME` that says its fault. The text
 of a line `old: TEXT` stands once in that file, and that of `new: TEXT` takes its place; `file: PATH` above them names another
-file of the crate. The prover has to refuse the edit: a contract that lets a fault through is too weak. Where no contract can,
+file of the crate. The prover has to refuse the edit: a contract that lets a fault through is too weak. With a line
+`refused by: CLAUSE` it has to be a goal of this clause that is not proved. Where no contract can,
 `found by: FILE` names the script or the search that finds it, or `the random run` (planted.py), and a comment says why.
 
 The crates are proved first, where out/ lacks that. Then several checks run at a time, each in a copy of the sources with links
@@ -49,7 +50,7 @@ class Edit:
         self.place = str(path.relative_to(EDITS).with_suffix(""))
         self.crate, _, module = self.place.partition("/")
         self.name, *lines = text.splitlines()
-        self.changes, self.found_by, file, old = [], None, f"src/{module}.rt", None
+        self.changes, self.found_by, self.clause, file, old = [], None, "", f"src/{module}.rt", None
         for line in lines:
             word, _, rest = line.partition(": ") if ": " in line else line.partition(":")
             if word == "file":
@@ -60,6 +61,8 @@ class Edit:
                 self.changes.append((file, old, rest))
             elif word == "found by":
                 self.found_by = rest
+            elif word == "refused by":
+                self.clause = rest
             elif line and not line.startswith("#"):
                 raise ValueError(f"{self}: no such line: {line}")
 
@@ -136,15 +139,17 @@ class Said:
             if ": error" in line and not path.startswith("proofs/") and (not name or NO_NAME.search(text)):
                 self.unread = self.unread or line
 
-    def goal_of(self, functions):
-        """What names a goal of one of these functions, or of any where they are None, that is not proved; or None."""
+    def goal_of(self, functions, clause):
+        """What names a goal of this clause, or of any where it is empty, that is not proved, of one of these functions, or of any
+        where they are None; or None."""
+        is_of = re.compile(rf"`[^`]*{re.escape(clause)}`").search if clause else bool
         for line, path, number, _, text in self.told:
             # That a function calls one that is not proved is no goal of its own.
             is_goal = not NO_NAME.search(text) and not UNREAD.search(text)
-            if is_goal and (functions is None or any(it.has(path, int(number)) for it in functions)):
+            if is_goal and is_of(line) and (functions is None or any(it.has(path, int(number)) for it in functions)):
                 return line.removeprefix("note: ")
         starts = "fn " if functions is None else tuple(f"fn {it.name}: " for it in functions)
-        return next((it for it in self.lines if "did not prove" in it and it.startswith(starts)), None)
+        return next((it for it in self.lines if "did not prove" in it and it.startswith(starts) and is_of(it)), None)
 
 
 def check(crate, functions):
@@ -165,11 +170,11 @@ def attempt(edits, crate, names):
             file.write_text(text)
         # The callers of what is changed cost time, and seldom say more.
         said = check(crate, sum(functions, []))
-        goals = [None if said.unread else said.goal_of(it) for it in functions]
+        goals = [None if said.unread else said.goal_of(it, edit.clause) for it, edit in zip(functions, edits)]
         if len(edits) > 1 or goals[0]:
             return [(True, it) if it else None for it in goals]
         said = check(crate, []) if functions[0] and not said.unread else said
-        goal = None if said.unread else said.goal_of(None)
+        goal = None if said.unread else said.goal_of(None, edits[0].clause)
         lost = f"only a proof lost a name: {said.told[0][0]}" if said.told else "all is proved"
         return [(bool(goal), goal or said.unread or lost)]
     finally:

@@ -38,7 +38,7 @@ RULES = (
     ("Keys and values are compared in these places; the other comparisons are of numbers, and of bytes in a line.",
      r"[!=]=\s*(?![\s\d]|b')"
      r"|(?:\.|::)(?:eq|ne|cmp|partial_cmp|equivalent|contains|starts_with|ends_with|strip_\w+)\b",
-     "table/deletion 2, table/probe 1, table/retain 1, words 1 | equivalent 6, map/equality 2, map/find 1, map/remove 1 | "
+     "table/deletion 2, table/probe 1, table/retain 1, vecmap/memory 1, words 1 | equivalent 6, map/equality 2, map/find 1, map/remove 1 | "
      "lines 1, request 4, session 2"),
     ("Counted work is done in these places.",
      r"\b(?:hash_one|compare|word_at|read|search|first_match|first_empty|find_in|find_with_bucket)\b",
@@ -48,14 +48,14 @@ RULES = (
      "arrays 1, lib 1, store/memory 2, table/memory 2, words 44 |  |"),
     ("Memory is taken, and values are cloned, in these places.",
      r"\b(?:alloc|allocator|push|reserve\w*|extend\w*|append|resize\w*|clone\w*|copy|copied|grow\w*|collect)\b",
-     "column 11, store/change 2, store/drain 1, store/memory 14, store/switch 2, store 2, table/memory 10, vecmap/columns 2, "
-     "vecmap/memory 17, vecmap 4, words 15 | entry/vacant 1, iter/column 2, iter 4, macros 4, map/clone 7, map/collect 16, "
+     "column 11, store/change 2, store/drain 1, store/memory 14, store/switch 2, store 2, table/memory 9, vecmap/columns 2, "
+     "vecmap/memory 19, vecmap 4, words 15 | entry/vacant 1, iter/column 2, iter 4, macros 4, map/clone 7, map/collect 16, "
      "map/form 1, map/growth 2, map/insert 4, map/make 12, map/prepare 2, map 3, raw_entry/vacant 1, run 6 | lines 1, main 1, "
      "session 10"),
     ("A refusal is made, handed on or looked at in these places.",
      r"\bErr\b|\bRefusal::\w|\bAllocError\b(?!>)|\bStopped\b(?!>)|\bNoRoom\b|\b(?:check_size|ok_or\w*)\(",
      "column 2, refusal 13, store/change 2, store/find 3, store/memory 3, table/deletion 2, table/find 3, table/memory 1, "
-     "table/probe 1, vecmap/memory 3, words 2 | entry/find 3, map/collect 5, map/get 2, map/insert 5, map/prepare 2, "
+     "table/probe 1, vecmap/memory 3, words 2 | entry/find 3, map/collect 8, map/get 2, map/insert 5, map/prepare 2, "
      "raw_entry/builder 2, raw_entry/builder_mut 3, raw_entry/make 2, refused 4, run 6 | answer 4, lines 5, main 2, session 11"),
     ("Where no clause says when a call fails, these words do: memory was refused, two counts differ, or u64 ends.",
      r"if words\.capacity\(\) == words\.len\(\) \{\s*Ok\(WordVec \{ words \}\)\s*\} else \{\s*Err\(AllocError\)"
@@ -93,7 +93,7 @@ def search(pattern, places, codes):
 
 
 def main():
-    paths = [path for crate in LIBRARIES for path in (CRATES / crate / "src").rglob("*.rt")]
+    paths = [path for crate in LIBRARIES for path in (CRATES / crate / "src").rglob("*.rt") if path.stem != "tests"]
     codes = {path.relative_to(CRATES).with_suffix("").as_posix(): code_of(path) for path in paths}
     counted = {name for path in paths for name in re.findall(r"\bfn (\w+)_counted\b", path.read_text())}
     failed = 0
