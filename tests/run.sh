@@ -34,4 +34,4 @@ else
 fi
 [ ! -t 0 ] || echo "i K V, g K, r K or f; end with ^D" >&2
 $program && exec rm "$why"
-fails "halfmap ended with status $?: 1 says that its input or its output was closed, or the disk was full"
+fails "halfmap ended with status $? (1: its input or its output was closed, or the disk was full)"
