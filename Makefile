@@ -12,20 +12,15 @@
 targets := help run prove test edits scripts witness bench fmt
 .PHONY: $(targets) answers
 
-ifneq ($(filter-out help,$(MAKECMDGOALS)),)
-ifeq ($(shell command -v rt 2>&1),)
-$(error There is no rt on the path; it is in the folder bin of Rattle's kit)
-endif
-endif
+no_rt = $(error There is no rt on the path; it is in the folder bin of Rattle's kit)
+$(if $(filter-out help,$(MAKECMDGOALS)),$(if $(shell command -v rt 2>&1),,$(no_rt)))
+$(if $(shell echo '$(N)' | tr -d 0-9),$(error N is a number of scripts, and not $(N)))
 # A file is read by < alone.
 ifneq ($(filter run,$(MAKECMDGOALS)),)
 named := $(filter-out $(targets),$(MAKECMDGOALS)) $(if $(filter command,$(origin FILE)),$(FILE))
 ifneq ($(strip $(named)),)
 $(error Write: make run < $(firstword $(named)))
 endif
-endif
-ifneq ($(shell echo '$(N)' | tr -d 0-9),)
-$(error N is a number of scripts, and not $(N))
 endif
 
 help:

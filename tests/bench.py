@@ -25,7 +25,6 @@ import time
 
 
 TOP = pathlib.Path(__file__).resolve().parent.parent
-PROVE = TOP / "tests/prove.sh"
 MAPS = ["limit_0", "limit_32", "std", "indexmap"]
 # The types of keys, each with the most pairs: texts in maps of a million pairs would take most of the time.
 KEYS = {"u64": 1_000_000, "String": 100_000}
@@ -46,7 +45,7 @@ Place = collections.namedtuple("Place", "operation keys pairs")
 def build(name):
     """Proves and builds a program, and returns its path."""
     print(f"{name}: proving and building, where something has changed", file=sys.stderr)
-    if subprocess.run([PROVE, name, "run"]).returncode:
+    if subprocess.run([TOP / "tests/prove.sh", name, "run"]).returncode:
         sys.exit(1)
     return TOP / "crates" / name / "out" / name
 
@@ -234,9 +233,7 @@ def main():
     known = [*OPERATIONS, *KEYS, *map(str, SIZES), *([] if other else OTHERS)]
     if unknown := [it for it in words if it not in known]:
         sys.exit(f"{unknown[0]}: not one of {' '.join(known)}")
-    minutes = subprocess.run([PROVE, "minutes"], capture_output=True, text=True).stdout.strip()
-    print(f"All rows take about {math.ceil(1.1 * rounds)} minutes, and proofs come first:", end=" ", file=sys.stderr)
-    print(f"where nothing is proved, they take {minutes} minutes and more.", file=sys.stderr)
+    print(f"After the proofs, all rows take about {math.ceil(1.1 * rounds)} minutes", file=sys.stderr)
     if other:
         return print_against(other, rounds, words)
     rows = [it for it in words if it not in OTHERS]

@@ -30,7 +30,7 @@ from concurrent.futures import FIRST_COMPLETED, ThreadPoolExecutor, wait
 import planted
 
 TOP = planted.TOP
-EDITS, PROVE = TOP / "tests/edits", TOP / "tests/prove.sh"
+EDITS = TOP / "tests/edits"
 # What memory a check takes at most, and how many edits are tried in one.
 MEMORY = 2_000_000_000
 BATCH = 12
@@ -223,7 +223,7 @@ def in_batches(edits, crate, names):
 def prove(crate):
     """Proves a crate where out/ lacks that, builds what the crates above it read, and returns the names of its functions."""
     folder, began = TOP / "crates" / crate, time.monotonic()
-    if subprocess.run([PROVE, crate, "check" if (folder / "src/main.rt").is_file() else "lib"]).returncode:
+    if subprocess.run([planted.TESTS / "prove.sh", crate, "check" if (folder / "src/main.rt").is_file() else "lib"]).returncode:
         sys.exit("0 passed, 1 failed")
     print(f"{crate}: proved, {time.monotonic() - began:.0f} s", flush=True)
     # This takes what is proved, and names each function.
@@ -237,11 +237,7 @@ def main(words):
     known = edits
     edits = [it for it in known if not words or any(word in str(it) for word in words)]
     if not edits:
-        for place in dict.fromkeys(it.place for it in known):
-            print(f"{place}: {', '.join(it.name for it in known if it.place == place)}")
-        sys.exit(f"none of these edits has {' or '.join(words)} in its path or name")
-    minutes = subprocess.run([PROVE, "minutes"], capture_output=True, text=True).stdout.strip()
-    print(f"{len(edits)} edits, after the proofs: where nothing is proved, these take {minutes} minutes and more", flush=True)
+        sys.exit("\n".join([*map(str, known), f"none of these edits has {' or '.join(words)} in its path or name"]))
     refused = [it for it in edits if not it.found_by]
     names = {crate: prove(crate) for crate in planted.crates_of() if any(it.crate == crate for it in refused)}
     batches = [[it] for it in edits if it.found_by]
@@ -269,7 +265,7 @@ def main(words):
                     print(f"{edit}: {how}, {seconds:.0f} s: {it[1][:180]}", flush=True)
                     if ended % 20 == 0:
                         left = (time.monotonic() - began) / 60 * (len(edits) / ended - 1)
-                        print(f"{ended} of {len(edits)} edits; at this pace the others take {left:.0f} minutes", flush=True)
+                        print(f"{ended} of {len(edits)} edits: the others take {left:.0f} minutes at this pace", flush=True)
     print(f"{len(edits)} edits, {lanes} at a time: {(time.monotonic() - began) / 60:.1f} minutes")
     print(f"{passed} passed, {len(edits) - passed} failed")
     return passed < len(edits)

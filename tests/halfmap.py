@@ -217,7 +217,7 @@ def a_limit_of_memory():
 
 def main():
     if not PROGRAM.is_file():
-        print("halfmap is not built: make run builds it\n0 passed, 1 failed")
+        print("halfmap is not built: make prove proves and builds it\n0 passed, 1 failed")
         return 1
     for name in ("allocator", "streams"):
         library = ["cc", "-O2", "-Wall", "-Wextra", "-shared", "-fPIC", "-o", f"{LIBRARIES.name}/{name}.so"]

@@ -11,10 +11,7 @@ jobs=$(nproc)
 [ "$jobs" -le 4 ] || jobs=4
 # It took 18 processor minutes, and 7 minutes on four idle processors.
 minutes=$((3 + 16 / jobs))
-if [ "${1-}" = minutes ]; then
-    echo "$minutes"
-    exit
-fi
+[ "${1-}" != minutes ] || exec echo "$minutes"
 log=$(mktemp) || exit 1
 trap 'rm -f "$log"' EXIT
 trap 'exit 1' HUP INT TERM
@@ -32,11 +29,8 @@ prove() {
     [ "$2" != run ] || touch -cd "$began" "$1/out/$1.stamp"
 }
 
-if [ $# -eq 0 ]; then
-    [ -e halfmap/out/halfmap ] || echo "half_store, halfbrown and halfmap are proved, in about $minutes minutes here." >&2
-    set -- half_store lib halfbrown lib halfmap run
+if [ ! -e halfbrown/out/rlib ]; then
+    echo "half_store, halfbrown and halfmap are proved in about $minutes minutes, and crates above them in some more." >&2
 fi
-while [ $# -gt 0 ]; do
-    prove "$1" "$2"
-    shift 2
-done
+[ $# -gt 0 ] || set -- half_store lib halfbrown lib halfmap run
+while [ $# -gt 0 ]; do prove "$1" "$2"; shift 2; done

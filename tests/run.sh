@@ -16,36 +16,22 @@ fits() {
     [ -x "$1" ] && [ -e "$2" ] && [ -z "$(find "${made_from[@]}" -cnewer "$2" -print -quit 2>&1)" ]
 }
 
-fails() {
-    echo "$1" >"$why"
-    exit 1
-}
+fails() { echo "$1" >"$why"; exit 1; }
 
 # rt stores the stamp only where the sources did not change while it proved them.
 if fits $proved $proved.stamp "$(realpath "$(command -v rt)")"; then
     program=$proved
 else
     program=$unproved
-    minutes=$(tests/prove.sh minutes)
     echo "No proved halfmap is up to date, so this one is built without proofs, in about 20 seconds;" \
-        "make prove proves it, in about $minutes minutes." >&2
-    if ! fits $unproved $unproved tests/build_unproved.sh; then
-        tests/build_unproved.sh halfmap $unproved
-        case $? in
-            0) ;;
-            2)
-                echo "So halfmap is proved first." >&2
-                tests/prove.sh || fails "halfmap is not proved"
-                program=$proved
-                ;;
-            *) fails "halfmap is not built" ;;
-        esac
-    fi
+        "make prove proves it, in about $(tests/prove.sh minutes) minutes." >&2
+    fits $unproved $unproved tests/build_unproved.sh || tests/build_unproved.sh halfmap $unproved
+    case $? in
+        0) ;;
+        2) echo "So halfmap is proved first." >&2; program=$proved; tests/prove.sh || fails "halfmap is not proved" ;;
+        *) fails "halfmap does not compile" ;;
+    esac
 fi
 [ ! -t 0 ] || echo "i K V, g K, r K or f; end with ^D" >&2
-$program
-case $? in
-    0) rm "$why" ;;
-    1) fails "halfmap ended early: its input or its output was closed, or the disk is full" ;;
-    *) fails "halfmap ended with status $?" ;;
-esac
+$program && exec rm "$why"
+fails "halfmap ended with status $? (1: its input or its output was closed, or the disk was full)"
