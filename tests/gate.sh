@@ -59,6 +59,7 @@ unproved_parts() {
     done
     part "documents" env JSON_AT="$(built json_at)" tests/documents.py
     part "tests of half_tests" try_tests half_tests
+    part "tests of halfmap" try_tests halfmap
     part "tests of json_at" try_tests json_at
     part "examples" tests/examples.py
     part "must not compile" tests/must_not_compile.py

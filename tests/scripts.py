@@ -156,7 +156,8 @@ def main(words):
     if not PROGRAM.exists():
         print(f"{PROGRAM} is not there: `rt run` in crates/witness proves and builds it")
         return 0, 1
-    paths = sorted(path for path in SCRIPTS.rglob("*.txt") if not words or any(it in path.name for it in words))
+    paths = sorted(SCRIPTS.rglob("*.txt"))
+    paths = [path for path in paths if not words or any(it in str(path.relative_to(TESTS)) for it in words)]
     read = [read_script(path) for path in paths]
     parts = [part for of_path, _ in read for part in of_path]
     with tempfile.TemporaryDirectory() as folder, ThreadPoolExecutor(os.cpu_count()) as pool:

@@ -1,18 +1,21 @@
 -- What a search of a worked map costs, in numbers.
 use Rattle.std.proofs.Common.{◌≡◌, ℕ, ◌+◌, ◌-◌, ◌==◌, Bool, true, false, not, ◌&&◌, eqb, List, [], ◌∷◌, length, map, count_by, nat_lt}
-use Rattle.std.proofs.Common.{is_some, if◌then◌else◌, sym, ap, subst, ◌∙◌, arith}
+use Rattle.std.proofs.Common.{Option, None, Some, is_some, if◌then◌else◌, sym, ap, subst, ◌∙◌, arith}
 use Rattle.std.proofs.Math.ListN.{length-map, get_or-map}
-use Rattle.std.proofs.lemmas.Bool.{and_parts, or_parts, not-true, eqb-false}
-use Rattle.std.proofs.lemmas.Map.Keys.{IsDistinct-cons, apart_from_distinct}
+use Rattle.std.proofs.lemmas.Bool.{and_parts, or_parts, not-true, eqb-false, true≢false}
+use Rattle.std.proofs.lemmas.Map.Keys.{IsDistinct-cons, apart_from_distinct, any_passes_from_place}
+use Rattle.std.proofs.lemmas.Option.{slice_get-map}
+use Rattle.std.specs.Option.{option_map}
 use Rattle.std.specs.Hash.{le_bytes}
-use Rattle.std.specs.List.{IsDistinct, AllByRecursion, list_any}
+use Rattle.std.specs.List.{IsDistinct, AllByRecursion, list_any, slice_get}
 use Rattle.std.specs.Map.{keys_of}
 use Rattle.half_store.specs.Reach.{reach, home, HomesApart}
 use Rattle.half_store.specs.Capacity.{buckets_of, capacity_for}
 use Rattle.half_store.specs.Pairs.{index_of}
 use Rattle.half_store.specs.Work.{Work}
 use Rattle.halfbrown.specs.Costs.{KeySearchCosts, InsertCosts, Cost, GrewBy, GrewWithin, exactly, between, add_ranges, search_cost_of}
-use Rattle.halfbrown.specs.Costs.{insert_cost, NoHomeIsShared}
+use Rattle.halfbrown.specs.Costs.{insert_cost, NoHomeIsShared, search_cost}
+use Rattle.halfbrown.specs.Match.{FindsMatch, FindingCosts}
 use Rattle.halfbrown.specs.Pairs.{holds}
 use Rattle.halfbrown.proofs.lemmas.pairs.Indices.{found_where_held}
 use Rattle.halfbrown.specs.State.{State, state, contents_of}
@@ -150,3 +153,40 @@ module _ (rule : Rule) (held : List (ℕ × ℕ)) (capacity : ℕ) (k : ℕ) whe
         (subst (λ b. GrewBy (table_insert_cost (is_some (index_of (eqb k) (keys_of held))) b) before after) absent
         (subst (λ c. GrewBy c before after) insert_cost_is cost.grew)) in
         work_is _ _ grew.asked (grew_exactly _ _ _ grew.compared) (grew_exactly _ _ _ grew.looked)
+
+-- ---- a search by a match, under a hash that was handed in
+
+module _ (rule : Rule) (held : List (ℕ × ℕ)) (capacity sought : ℕ) (m : State ℕ ℕ Counting) (table : IsTableOf rule held capacity m) where
+  -- how many held keys have the hash, and how many buckets a probe for it reads up to the first empty one
+  abbrev pub candidates : ℕ
+  candidates = count_by (λ q. number_hash rule q == sought) (keys_of held)
+
+  abbrev pub sought_probe : ℕ
+  sought_probe = reach (map (number_hash rule) (keys_of held)) (buckets_of capacity) sought
+
+  abbrev match_cost : Bool → Cost
+  match_cost found = record {
+    asked = 0;
+    compared = if found then between 1 candidates else exactly candidates;
+    looked = if found then between 1 (sought_probe - 1) else exactly sought_probe;
+  }
+
+  match_cost_is : (index : Option ℕ) → search_cost (builder_hash m.builder) sought index 0 m.is_vec m.capacity m.pairs ≡ match_cost (is_some index)
+  match_cost_is index i = search_cost (number_hash (table.builder i)) sought index 0 (table.form i) (table.capacity i) (table.pairs i)
+
+  -- where a held key of the hash that the match accepts would pass a test that none passes: each key of the hash is compared
+  pub unmatched : (returns : ℕ → Bool → Type 0) (test : ℕ → Bool)
+      → ((q : ℕ) → number_hash rule q ≡ sought → returns q true → test q ≡ true) → list_any test (keys_of held) ≡ false
+      → (found : Option (ℕ × ℕ)) (before after : Work) → FindsMatch returns builder_hash sought m found
+      → FindingCosts builder_hash sought m found before after → after ≡ more_work 0 candidates sought_probe before
+  unmatched returns test passes none None before after finds cost =
+      let grew = subst (λ b. GrewBy (match_cost b) before after) cost.is_found
+      (subst (λ c. GrewBy c before after) (match_cost_is cost.index) cost.costs.grew) in
+      work_is _ _ grew.asked (grew_exactly _ _ _ grew.compared) (grew_exactly _ _ _ grew.looked)
+  unmatched returns test passes none (Some pair) before after (index, at, is) cost =
+      let key : slice_get (keys_of m.pairs) index ≡ Some pair.0 =
+      slice_get-map (λ p. p.0) m.pairs index ∙ ap (option_map (λ p. p.0)) at in
+      let hashed = ap (λ r. number_hash r pair.0) (sym table.builder) ∙ is.hashed table.form pair.0 key in
+      let passed = passes pair.0 hashed (is.accepted pair.0 key) in
+      absurd (true≢false (sym (any_passes_from_place test (keys_of m.pairs) index pair.0 key passed)
+      ∙ ap (λ ps. list_any test (keys_of ps)) table.pairs ∙ none))

@@ -3,16 +3,16 @@ use Rattle.std.proofs.Common.{◌≡◌, ℕ, suc, ◌+◌, ◌<◌, ◌==◌, B
 use Rattle.std.proofs.Common.{get_or, take, MatchBool, MatchOption, nat_lt, if◌then◌else◌, Option, None, Some, is_some, refl, sym, ap}
 use Rattle.std.proofs.Common.{subst, ◌∙◌, arith}
 use Rattle.std.proofs.Math.ListN.{length-append, length-map}
-use Rattle.std.proofs.lemmas.Bool.{lt-ltb, ltb-true, ne_eqb, eqb-true, and_parts, true≢false, eqb-false}
+use Rattle.std.proofs.lemmas.Bool.{MatchBool-at_false, lt-ltb, ltb-true, ne_eqb, eqb-true, and_parts, true≢false, eqb-false}
 use Rattle.std.proofs.lemmas.List.{map-append, length-take, get_or-take, get_or_default}
 use Rattle.std.proofs.lemmas.Map.Keys.{apart_from_distinct}
 use Rattle.std.specs.List.{IsDistinct}
 use Rattle.std.specs.Map.{keys_of}
 use Rattle.half_store.specs.Capacity.{capacity_of, more_buckets, buckets_for, capacity_for, grown_capacity}
-use Rattle.halfbrown.specs.Growth.{is_full, is_vec_after, insert_needs, HasCapacityAfter}
+use Rattle.halfbrown.specs.Growth.{is_full, is_vec_after, insert_needs, reserve_needs, HasCapacityAfter, Reserves}
 use Rattle.halfbrown.specs.Lookup.{IsAbsent}
 use Rattle.halfbrown.specs.Pairs.{holds, put, take_out}
-use Rattle.halfbrown.specs.State.{State, WithPairs}
+use Rattle.halfbrown.specs.State.{State, WithPairs, state, contents_of}
 use Rattle.halfbrown.proofs.lemmas.pairs.Indices.{NonePasses, none_at, absent_of_none}
 use Rattle.test_support.specs.declared.builders.Rule.{Rule}
 use Rattle.test_support.specs.declared.builders.Counting.{Counting}
@@ -154,4 +154,21 @@ module _ (rule : Rule) (held : List (ℕ × ℕ)) (capacity : ℕ) (k : ℕ) (ol
             ∙ ap (λ ps. if nat_lt (length ps) old.capacity then old.capacity else capacity_for (length ps + 1)) table.pairs
             ∙ ap (λ n. if nat_lt (length held) n then n else capacity_for (length held + 1)) table.capacity;
         builder = ap (λ b. b.rule) builder ∙ table.builder;
+      }
+
+  -- after capacity for more pairs was reserved, which the table had not
+  pub table_reserved : (additional : ℕ) → nat_lt capacity (length held + additional) ≡ true → Reserves 0 old additional new
+      → IsTableOf rule held (capacity_for (length held + additional)) new
+  table_reserved additional less reserved =
+      let still = reserved.granted.form ∙ table.form in
+      let total = length held + additional in
+      let needs : reserve_needs 0 old (length old.pairs + additional) ≡ (if nat_lt capacity total then Some total else None) =
+      λ i. reserve_needs 0 (state (table.form i) (table.pairs i) (table.capacity i) old.columns old.builder (contents_of old))
+      (length (table.pairs i) + additional) in
+      let needed = needs ∙ ap (λ b. if b then Some total else None) less in
+      record {
+        form = still;
+        pairs = reserved.granted.pairs ∙ table.pairs;
+        capacity = MatchBool-at_false _ _ still (subst (λ size. HasCapacityAfter 0 old size new) needed reserved.granted.capacity);
+        builder = ap (λ b. b.rule) reserved.granted.builder ∙ table.builder;
       }

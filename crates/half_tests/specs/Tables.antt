@@ -26,9 +26,3 @@ pub record IsTableOf (rule : Rule) (held : List (ℕ × ℕ)) (count : ℕ) (m :
   pub pairs : m.pairs ≡ held
   pub capacity : m.capacity ≡ count
   pub builder : m.builder.rule ≡ rule
-
--- a vector of these pairs in order, and of this rule
-pub record IsVector (rule : Rule) (held : List (ℕ × ℕ)) (m : State ℕ ℕ Counting) : Type 0 where
-  pub form : m.is_vec ≡ true
-  pub pairs : m.pairs ≡ held
-  pub builder : m.builder.rule ≡ rule

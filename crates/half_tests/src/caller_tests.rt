@@ -1,14 +1,14 @@
 //! The callers, in use: that their calls succeed. What they return is in their contracts.
 
 use crate::callers::{add_label, declare, forget, keep_the_young, stored};
-use crate::copy_callers::{an_age_twice, no_ages, numbered, one_age};
+use crate::copy_callers::{an_age_twice, five_ages, no_ages, numbered, one_age};
 use crate::drain_callers::{take_each, take_first};
 use crate::entry_callers::{count_up, meaning, toggle};
 use crate::error_callers::{add_two, ages_of_main};
 use crate::index_callers::{forget_last, remove_by_index, set_at};
 use crate::limit_callers::{at_and_above_8, at_and_above_32, raw_look_up, raw_meaning};
 use crate::raw_callers::{cached, respell};
-use crate::worked::{a_sixth_key_again, an_insertion_that_grows};
+use crate::worked::an_insertion_that_grows;
 use halfbrown::{DefaultHashBuilder, HashMap, SizedHashMap, Tally};
 use std::cell::Cell;
 use std::test::Fail;
@@ -59,6 +59,9 @@ fn ages(rt: HostRuntime) -> Result<(), Fail> {
 #[test]
 fn written_pairs_and_limits(rt: HostRuntime) -> Result<(), Fail> {
     let alloc = rt.alloc();
+    let mut evaluated = 0;
+    let five = five_ages(alloc, &mut evaluated)?;
+    assert_same((five.len(), evaluated), (5, 1), "by one allocator")?;
     let ages = (no_ages(alloc)?.len(), one_age(alloc, 36)?.len());
     assert_same(ages, (0, 1), "as many as are written")?;
     assert_same(
@@ -106,15 +109,6 @@ fn pairs_by_index(rt: HostRuntime) -> Result<(), Fail> {
 fn worked_maps(rt: HostRuntime) -> Result<(), Fail> {
     let asked = Cell::new(0);
     let grown = an_insertion_that_grows(rt.alloc(), &asked, &mut Tally::new())?;
-    assert_same(
-        (grown, asked.replace(0)),
-        ((None, 4, 6), 4),
-        "each key once",
-    )?;
-    let again = a_sixth_key_again(rt.alloc(), &asked, &mut Tally::new())?;
-    assert_same(
-        (again, asked.replace(0)),
-        ((None, 6, 6), 13),
-        "two switches",
-    )
+    let expected = ((None, 4, 6), 4);
+    assert_same((grown, asked.get()), expected, "each key once")
 }

@@ -72,6 +72,27 @@ pub fn numbered(alloc: Global, number: &mut u64) -> Result<HashMap<u64, u64>, Re
     hashmap! {in alloc; next(number) => next(number), next(number) => next(number)}
 }
 
+/// Five pairs. The expression for the allocator is evaluated once.
+pub fn five_ages(alloc: Global, evaluated: &mut u64) -> Result<HashMap<u64, u32>, Refusal>
+    requires { evaluated.old < 2 ^ 64 - 1 }
+    ensures pairs { IfOk result (λ m. m.pairs
+        ≡ (1, 31) ∷ (2, 32) ∷ (3, 33) ∷ (4, 34) ∷ (5, 35) ∷ []) }
+    ensures form { IfOk result (λ m. m.is_vec ≡ true) }
+    ensures capacity { IfOk result (λ m. m.capacity ≡ 5) }
+    ensures evaluated { evaluated.new ≡ evaluated.old + 1 }
+{
+    hashmap! {in counted(alloc, evaluated); 1 => 31, 2 => 32, 3 => 33, 4 => 34, 5 => 35}
+}
+
+// The allocator, and one evaluation more.
+fn counted(alloc: Global, evaluated: &mut u64) -> Global
+    requires { evaluated.old < 2 ^ 64 - 1 }
+    ensures { evaluated.new ≡ evaluated.old + 1 }
+{
+    *evaluated += 1;
+    alloc
+}
+
 // The next number.
 fn next(number: &mut u64) -> u64
     requires { number.old < 2 ^ 64 - 1 }

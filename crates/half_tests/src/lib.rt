@@ -32,3 +32,5 @@ mod texts;
 #[cfg(test)]
 mod uses;
 pub mod worked;
+#[cfg(test)]
+mod worked_tests;

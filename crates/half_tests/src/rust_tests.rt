@@ -1,27 +1,30 @@
 //! The tests and the examples of the Rust crate, each with its meaning kept. Their keys and values are texts and characters,
-//! which scripts have not.
+//! which scripts have not. Those that are worked examples too stand in `worked_tests`.
 //!
 //! | test of the Rust crate | is |
 //! |---|---|
-//! | `test_hashmap` | `written_pairs` |
-//! | `scale_up`, `scale_up_via_no_check`, `scale_up_via_entry`, `scale_up_mixed` | `tests/scripts/switch.txt` |
+//! | `test_hashmap` | `worked_tests::written_pairs` |
+//! | `scale_up`, `scale_up_via_no_check`, `scale_up_via_entry`, `scale_up_mixed` | `tests/scripts/worked` |
 //! | `str_key`, `add_remove` | `one_pair` |
 //!
 //! | example of the call | is |
 //! |---|---|
 //! | `new`, `with_capacity`, `with_hasher`, `hasher`, `retain`, .. | the example in the documentation of that call |
 //! | `keys`, `values`, `values_mut`, `iter`, `iter_mut` | `going_over_three` |
-//! | `len`, `is_empty`, `drain`, `clear` | `counting_and_emptying` |
-//! | `insert`, `get`, `contains_key`, `get_mut`, `remove`, `remove_entry` | `one_pair` |
-//! | `entry` | `characters_are_counted` |
-//! | `Entry`: `or_insert`, `or_insert_with`, `or_default`, `key`, `and_modify` | `ponies_by_entries` |
+//! | `len`, `is_empty`, `clear` | `counting_and_clearing` |
+//! | `drain` | `worked_tests::one_of_two_letters_is_drained` |
+//! | `insert` | `worked_tests::a_letter_is_overwritten` |
+//! | `get`, `contains_key`, `get_mut`, `remove`, `remove_entry` | `one_pair` |
+//! | `entry` | `worked_tests::characters_are_counted` |
+//! | `Entry`: `or_insert`, `and_modify` | `worked_tests::an_entry_of_ponies_twice` |
+//! | `Entry`: `or_insert_with`, `or_default`, `key` | `ponies_by_entries` |
 //! | `OccupiedEntry`: all but the next | `held_ponies` |
-//! | `OccupiedEntry::replace_entry_with` | `a_lost_pair_is_gone` |
+//! | `OccupiedEntry::replace_entry_with` | `worked_tests::a_pair_is_replaced_and_lost` |
 //! | `VacantEntry`: `key`, `into_key`, `insert` | `absent_ponies` |
-//! | `RawEntryMut`: `insert`, `or_insert`, `and_modify` | `ponies_by_raw_entries` |
-//! | `hashmap!` | `written_pairs` |
+//! | `RawEntryMut`: `insert`, `or_insert` | `worked_tests::raw_entries_of_ponies` |
+//! | `RawEntryMut::and_modify` | `ponies_by_raw_entries` |
+//! | `hashmap!` | `worked_tests::written_pairs`, `a_map_of_maps` |
 
-use crate::drain_callers::take_first;
 use halfbrown::{Entry, HashMap, hashmap};
 use std::test::Fail;
 use test_support::asserts::{assert_same, assert_same_at, assert_true};
@@ -33,13 +36,10 @@ type Ponies = HashMap<&'static str, u64>;
 const PONIES: &str = "poneyland";
 
 #[test]
-fn written_pairs(rt: HostRuntime) -> Result<(), Fail> {
+fn a_map_of_maps(rt: HostRuntime) -> Result<(), Fail> {
     let alloc = rt.alloc();
-    let names: Letters = hashmap! {in alloc; 1 => "one", 2 => "two",}?;
-    assert_same(names.len(), 2, "two names")?;
-    assert_same(names.get(&1).copied(), Some("one"), "the first")?;
-    assert_same(names.get(&3).copied(), None, "no third")?;
-    let nested: HashMap<u64, Letters> = hashmap! {in alloc; 1 => names}?;
+    let names: Letters = hashmap! {in alloc; 1 => "one"}?;
+    let nested: HashMap<u64, Letters> = hashmap! {in alloc; 1 => names,}?;
     assert_same(nested.len(), 1, "a map of maps")
 }
 
@@ -64,17 +64,13 @@ fn going_over_three(rt: HostRuntime) -> Result<(), Fail> {
 }
 
 #[test]
-fn counting_and_emptying(rt: HostRuntime) -> Result<(), Fail> {
+fn counting_and_clearing(rt: HostRuntime) -> Result<(), Fail> {
     let mut map = Letters::new(rt.alloc());
     assert_true(map.is_empty(), "none")?;
     map.insert(1, "a")?;
     assert_true(!map.is_empty() && map.len() == 1, "one")?;
     map.clear();
-    assert_true(map.is_empty(), "cleared")?;
-    map.insert(1, "a")?;
-    map.insert(2, "b")?;
-    assert_same(take_first(&mut map), Some((1, "a")), "one of two")?;
-    assert_true(map.is_empty(), "drained")
+    assert_true(map.is_empty(), "cleared")
 }
 
 #[test]
@@ -99,29 +95,9 @@ fn one_pair(rt: HostRuntime) -> Result<(), Fail> {
 }
 
 #[test]
-fn characters_are_counted(rt: HostRuntime) -> Result<(), Fail> {
-    let mut times = HashMap::<char, u64>::new(rt.alloc());
-    for character in "a short treatise on fungi".chars() {
-        let count = times.entry(character)?.or_insert(0);
-        *count = count.saturating_add(1);
-    }
-    assert_same(times.len(), 13, "the characters")?;
-    let counts = ['s', 't', 'u', ' ', 'y'].map(|it| times.get(&it).copied());
-    let expected = [Some(2), Some(3), Some(1), Some(4), None];
-    assert_same(counts, expected, "how often")
-}
-
-#[test]
 fn ponies_by_entries(rt: HostRuntime) -> Result<(), Fail> {
     let mut map = Ponies::new(rt.alloc());
     assert_same(*map.entry(PONIES)?.key(), PONIES, "the key")?;
-    for expected in [42, 43] {
-        let entry = map.entry(PONIES)?;
-        let value = *entry
-            .and_modify(|value| *value = value.saturating_add(1))
-            .or_insert(42);
-        assert_same(value, expected, "made, and changed")?;
-    }
     let made = *map.entry("horseyland")?.or_insert_with(|| 37);
     assert_same(made, 37, "made")?;
     assert_same(*map.entry("neverland")?.or_default(), 0, "by default")
@@ -148,24 +124,6 @@ fn held_ponies(rt: HostRuntime) -> Result<(), Fail> {
     assert_true(!map.contains_key(PONIES), "gone again")
 }
 
-// The keys have an owner: a caller whose key type holds a reference gets no proof of `replace_entry_with`.
-#[test]
-fn a_lost_pair_is_gone(rt: HostRuntime) -> Result<(), Fail> {
-    let mut map = HashMap::<String, u64>::new(rt.alloc());
-    let key = || String::from_str(rt.alloc(), PONIES);
-    map.insert(key()?, 42)?;
-    if let Entry::Occupied(entry) = map.entry(key()?)? {
-        let left = entry.replace_entry_with(|_, value| value.checked_add(1));
-        assert_same(left.key().as_str(), PONIES, "the key stays")?;
-    }
-    assert_same(map.get(PONIES).copied(), Some(43), "one more")?;
-    if let Entry::Occupied(entry) = map.entry(key()?)? {
-        let left = entry.replace_entry_with(|_, _| None);
-        assert_same(left.key().as_str(), PONIES, "the entry has the key")?;
-    }
-    assert_true(!map.contains_key(PONIES), "it is gone")
-}
-
 #[test]
 fn absent_ponies(rt: HostRuntime) -> Result<(), Fail> {
     let mut map = Ponies::new(rt.alloc());
@@ -182,9 +140,6 @@ fn absent_ponies(rt: HostRuntime) -> Result<(), Fail> {
 #[test]
 fn ponies_by_raw_entries(rt: HostRuntime) -> Result<(), Fail> {
     let mut map = Ponies::new(rt.alloc());
-    let horses = "horseyland";
-    let entry = map.raw_entry_mut()?.from_key(&horses).insert(horses, 37);
-    assert_same(entry.remove_entry(), (horses, 37), "horses")?;
     for expected in [42, 43] {
         let entry = map.raw_entry_mut()?.from_key(&PONIES);
         let (_, value) = entry
@@ -192,5 +147,5 @@ fn ponies_by_raw_entries(rt: HostRuntime) -> Result<(), Fail> {
             .or_insert(PONIES, 42);
         assert_same(*value, expected, "made, and changed")?;
     }
-    assert_same(map.len(), 1, "the horses are gone")
+    Ok(())
 }

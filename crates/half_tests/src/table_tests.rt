@@ -1,5 +1,5 @@
-//! Tables of few buckets, worked out by hand: which buckets are full, where a search ends, which pairs it asks for, and how many
-//! buckets it reads. The buckets count their reads themselves, so none is read beside the tally.
+//! Tables worked out by hand, in the order of `tests/scripts/worked`: in which bucket each pair is, where a search ends, which
+//! pairs it asks for, and how many buckets it reads. The buckets count their reads themselves, so none is read beside the tally.
 
 use half_store::buckets::{Buckets, HashedBuckets};
 use half_store::table::probe::{first_empty, search};
@@ -39,12 +39,12 @@ const NONE: usize = usize::MAX;
 // The key of each pair is its entry index.
 const KEYS: [usize; 8] = [0, 1, 2, 3, 4, 5, 6, 7];
 
-// What a search does: it finds a pair, by its entry index, or ends at an empty bucket; it asks for this many pairs, and reads
-// this many buckets.
-type Search = (Result<usize, usize>, u64, u64);
+// What a search does: it finds a pair, by its entry index and its bucket, or ends at an empty bucket; it asks for this many
+// pairs, and reads this many buckets.
+type Search = (Result<(usize, usize), usize>, u64, u64);
 
-// A search for this hash that accepts one entry index.
-fn searched(table: &Table, hash: u64, accepted: usize) -> Search {
+// A search for this hash that accepts one of the keys.
+fn searched(table: &Table, keys: &[usize], hash: u64, accepted: usize) -> Search {
     let (asked, reads) = (Cell::new(0u64), Cell::new(0));
     let buckets = CountedBuckets {
         buckets: table.hashed_buckets(),
@@ -53,15 +53,15 @@ fn searched(table: &Table, hash: u64, accepted: usize) -> Search {
     if buckets.count() == 0 {
         return (Err(NONE), 0, 0);
     }
-    if table.len() > KEYS.len() {
+    if table.len() > keys.len() {
         return (Err(NONE), 0, 0);
     }
-    let matches = |index: &usize| {
+    let matches = |key: &usize| {
         asked.set(asked.get().wrapping_add(1));
-        *index == accepted
+        *key == accepted
     };
-    let ended = search(&buckets, &KEYS, hash, &matches, &mut Tally::new());
-    (ended.map(|(index, _)| index), asked.get(), reads.get())
+    let ended = search(&buckets, keys, hash, &matches, &mut Tally::new());
+    (ended, asked.get(), reads.get())
 }
 
 // At which empty bucket an insertion probe for this hash ends, and how many buckets it reads.
@@ -111,7 +111,7 @@ fn table_of(alloc: Global, capacity: usize, hashes: &[u64]) -> Result<Table, Fai
     Ok(table)
 }
 
-// Removes the pair of this index, which has this hash.
+// Removes the pair of this index, which has this hash. The last pair takes its index.
 fn remove(table: &mut Table, index: usize, hash: u64) -> Result<(), Fail> {
     if index >= table.len() {
         return Err(Fail::new("no pair has this entry index"));
@@ -119,169 +119,147 @@ fn remove(table: &mut Table, index: usize, hash: u64) -> Result<(), Fail> {
     assert_same_at(index, table.remove(index), hash, "its hash")
 }
 
+// A search that accepts this entry index.
 fn assert_search(table: &Table, hash: u64, accepted: usize, search: Search) -> Result<(), Fail> {
-    assert_same_at(hash, searched(table, hash, accepted), search, "the search")
+    let found = searched(table, &KEYS, hash, accepted);
+    assert_same_at(hash, found, search, "the search")
 }
 
-// Each pair is found by its hash: the first has entry index 0.
-fn assert_found(table: &Table, hashes: &[u64]) -> Result<(), Fail> {
-    let mut index = 0usize;
-    for hash in hashes {
-        let (found, asked, _) = searched(table, *hash, index);
-        assert_same_at(*hash, (found, asked), (Ok(index), 1), "the search")?;
-        index = index.wrapping_add(1);
-    }
-    Ok(())
-}
-
-// Of this many buckets these are full: a probe from any other one ends at once.
-fn assert_full(table: &Table, count: u64, full: &[u64]) -> Result<(), Fail> {
-    for bucket in 0..count {
-        let is_full = probed(table, bucket).1 > 1;
-        assert_same_at(
-            bucket,
-            is_full,
-            full.contains(&bucket),
-            "whether it is full",
-        )?;
-    }
-    Ok(())
+// The only pair of this hash is in this bucket, and a search for it reads this many.
+fn assert_found(
+    table: &Table,
+    hash: u64,
+    index: usize,
+    bucket: usize,
+    reads: u64,
+) -> Result<(), Fail> {
+    assert_search(table, hash, index, (Ok((index, bucket)), 1, reads))
 }
 
 #[test]
-fn three_of_one_home_bucket(rt: HostRuntime) -> Result<(), Fail> {
+fn three_of_one_home(rt: HostRuntime) -> Result<(), Fail> {
     let mut table = table_of(rt.alloc(), 0, &[3, 7, 11])?;
-    assert_full(&table, 4, &[3, 0, 1])?;
+    assert_found(&table, 3, 0, 3, 1)?;
+    assert_found(&table, 7, 1, 0, 2)?;
+    assert_found(&table, 11, 2, 1, 3)?;
     assert_search(&table, 15, NONE, (Err(2), 0, 4))?;
-    assert_search(&table, 11, 2, (Ok(2), 1, 3))?;
-    assert_search(&table, 2, NONE, (Err(2), 0, 1))?;
-    assert_search(&table, 3, 0, (Ok(0), 1, 1))?;
-    // The last pair takes the free index, and moves to bucket 0.
+    assert_same(probed(&table, 15), (2, 4), "a placing")?;
+    // The other two move back.
     remove(&mut table, 0, 3)?;
-    assert_full(&table, 4, &[3, 0])?;
-    assert_search(&table, 11, 0, (Ok(0), 1, 2))?;
-    assert_same(probed(&table, 3), (1, 3), "bucket 1")?;
-    add(rt.alloc(), &mut table, 3)?;
-    // Of eight buckets 3 is the home of 11 and 3, and 7 that of 7.
-    reserve(rt.alloc(), &mut table, 4)?;
-    assert_full(&table, 8, &[3, 7, 4])?;
-    assert_same(probed(&table, 15), (0, 2), "bucket 0")
-}
-
-#[test]
-fn a_table_that_lost_all_its_pairs(rt: HostRuntime) -> Result<(), Fail> {
-    let mut table = table_of(rt.alloc(), 0, &[3, 7, 11])?;
-    for hash in [3, 11, 7] {
-        remove(&mut table, 0, hash)?;
-    }
+    assert_found(&table, 7, 1, 3, 1)?;
+    assert_found(&table, 11, 0, 0, 2)?;
+    // The pair that is lost is placed anew.
+    assert_same(probed(&table, 3), (1, 3), "through buckets 3 and 0")?;
+    remove(&mut table, 0, 11)?;
+    remove(&mut table, 0, 7)?;
     assert_search(&table, 15, NONE, (Err(3), 0, 1))
-}
-
-#[test]
-fn pairs_of_one_hash_are_asked_for_in_order(rt: HostRuntime) -> Result<(), Fail> {
-    let zeros = table_of(rt.alloc(), 0, &[0, 0, 0])?;
-    assert_search(&zeros, 0, NONE, (Err(3), 3, 4))?;
-    assert_search(&zeros, 5, NONE, (Err(3), 0, 3))?;
-    assert_search(&zeros, 0, 1, (Ok(1), 2, 2))?;
-    let top = u64::MAX;
-    let mut tops = table_of(rt.alloc(), 0, &[top, top, top])?;
-    assert_full(&tops, 4, &[3, 0, 1])?;
-    remove(&mut tops, 0, top)?;
-    // The third pair has entry index 0 now, and comes after the second.
-    assert_search(&tops, top, 0, (Ok(0), 2, 2))
 }
 
 // Each of six pairs, of hashes 0 to 5, is found in the bucket of this number.
 fn assert_at_home(table: &Table) -> Result<(), Fail> {
     for hash in 0..6 {
-        let index = hash as usize;
-        assert_search(table, hash, index, (Ok(index), 1, 1))?;
+        assert_found(table, hash, hash as usize, hash as usize, 1)?;
     }
     Ok(())
 }
 
 #[test]
-fn a_bucket_each_and_none(rt: HostRuntime) -> Result<(), Fail> {
+fn a_bucket_each(rt: HostRuntime) -> Result<(), Fail> {
     let mut table = table_of(rt.alloc(), 0, &[0, 1, 2, 3, 4, 5])?;
     assert_at_home(&table)?;
-    assert_search(&table, 8, NONE, (Err(6), 0, 7))?;
     reserve(rt.alloc(), &mut table, 13)?;
     assert_same(table.capacity(), 24, "of 32 buckets")?;
     table.shrink_to_fit();
     assert_same(table.capacity(), 6, "of eight buckets")?;
-    assert_at_home(&table)?;
-    let none = table_of(rt.alloc(), 0, &[])?;
-    assert_search(&none, 0, NONE, (Err(NONE), 0, 0))
+    assert_at_home(&table)
 }
 
 #[test]
-fn a_removal_shifts_back_around_the_end(rt: HostRuntime) -> Result<(), Fail> {
+fn around_the_end(rt: HostRuntime) -> Result<(), Fail> {
     let mut table = table_of(rt.alloc(), 0, &[u64::MAX, 3, 0])?;
-    assert_full(&table, 4, &[3, 0, 1])?;
-    assert_search(&table, 0, 2, (Ok(2), 1, 2))?;
+    assert_found(&table, u64::MAX, 0, 3, 1)?;
+    assert_found(&table, 3, 1, 0, 2)?;
+    assert_found(&table, 0, 2, 1, 2)?;
     remove(&mut table, 0, u64::MAX)?;
-    assert_full(&table, 4, &[0, 3])?;
-    assert_search(&table, 0, 0, (Ok(0), 1, 1))?;
-    // Of eight buckets 1 is the home of 1 and 9. The pair of 3 has its home, and stays.
-    let mut table = table_of(rt.alloc(), 5, &[1, 9, 3])?;
-    remove(&mut table, 0, 1)?;
-    assert_full(&table, 8, &[1, 3])
+    assert_found(&table, 3, 1, 3, 1)?;
+    assert_found(&table, 0, 0, 0, 1)
+}
+
+#[test]
+fn a_removal_around_the_end(rt: HostRuntime) -> Result<(), Fail> {
+    let mut table = table_of(rt.alloc(), 5, &[6, 14, 7, 15, 0])?;
+    assert_found(&table, 0, 4, 2, 3)?;
+    remove(&mut table, 0, 6)?;
+    assert_found(&table, 0, 0, 1, 2)
+}
+
+#[test]
+fn each_second_bucket(rt: HostRuntime) -> Result<(), Fail> {
+    let table = table_of(rt.alloc(), 12, &[0, 2, 4, 6, 8, 10])?;
+    assert_found(&table, 0, 0, 0, 1)
+}
+
+#[test]
+fn three_of_one_hash(rt: HostRuntime) -> Result<(), Fail> {
+    let zeros = table_of(rt.alloc(), 0, &[0, 0, 0])?;
+    assert_search(&zeros, 0, 2, (Ok((2, 2)), 3, 3))?;
+    let top = u64::MAX;
+    let mut tops = table_of(rt.alloc(), 0, &[top, top, top])?;
+    assert_search(&tops, top, 2, (Ok((2, 1)), 3, 3))?;
+    remove(&mut tops, 0, top)?;
+    // The third pair has entry index 0 now, and comes after the second.
+    assert_search(&tops, top, 0, (Ok((0, 0)), 2, 2))
+}
+
+#[test]
+fn many_of_one_hash(rt: HostRuntime) -> Result<(), Fail> {
+    let table = table_of(rt.alloc(), 0, &[0; 768])?;
+    assert_same(table.capacity(), 768, "of 1,024 buckets")?;
+    let found = searched(&table, &[0; 768], 0, NONE);
+    assert_same(found, (Err(768), 768, 769), "all of them")
 }
 
 #[test]
 fn a_removal_brings_a_pair_home(rt: HostRuntime) -> Result<(), Fail> {
     let mut table = table_of(rt.alloc(), 0, &[0, 8, 1])?;
-    assert_full(&table, 4, &[0, 1, 2])?;
-    assert_search(&table, 1, 2, (Ok(2), 1, 2))?;
+    assert_found(&table, 0, 0, 0, 1)?;
+    assert_found(&table, 8, 1, 1, 2)?;
+    assert_found(&table, 1, 2, 2, 2)?;
     remove(&mut table, 1, 8)?;
-    assert_search(&table, 1, 1, (Ok(1), 1, 1))?;
-    assert_search(&table, 0, 0, (Ok(0), 1, 1))?;
-    // Another hash than those of two pairs of one home bucket.
-    let two = table_of(rt.alloc(), 3, &[8, 16])?;
-    assert_search(&two, 999, 0, (Err(3), 0, 1))
-}
-
-// Pairs of the same hashes fill the same buckets, in whatever order they came and whatever was removed.
-#[test]
-fn searches_after_other_histories(rt: HostRuntime) -> Result<(), Fail> {
-    let mut table = table_of(rt.alloc(), 5, &[6, 14, 7, 15, 0])?;
-    remove(&mut table, 0, 6)?;
-    assert_search(&table, 0, 0, (Ok(0), 1, 2))?;
-    let other = table_of(rt.alloc(), 5, &[0, 15, 14, 7])?;
-    for (hash, end, reads) in [(8, 2, 3), (22, 2, 5), (23, 2, 4), (3, 3, 1)] {
-        assert_search(&table, hash, NONE, (Err(end), 0, reads))?;
-        assert_search(&other, hash, NONE, (Err(end), 0, reads))?;
-    }
-    Ok(())
+    assert_found(&table, 1, 1, 1, 1)?;
+    assert_found(&table, 0, 0, 0, 1)?;
+    // Of eight buckets 1 is the home of 1 and 9. The pair of 3 has its home, and stays.
+    let mut table = table_of(rt.alloc(), 5, &[1, 9, 3])?;
+    remove(&mut table, 0, 1)?;
+    assert_found(&table, 9, 1, 1, 1)?;
+    assert_found(&table, 3, 0, 3, 1)
 }
 
 #[test]
 fn a_removal_of_a_copy_leaves_the_table(rt: HostRuntime) -> Result<(), Fail> {
     let table = table_of(rt.alloc(), 0, &[6, 14, 7, 15, 0])?;
-    assert_full(&table, 8, &[6, 7, 0, 1, 2])?;
     let mut copy = table.copy()?;
     remove(&mut copy, 1, 14)?;
-    assert_full(&copy, 8, &[6, 7, 0, 1])?;
-    assert_found(&copy, &[6, 0, 7, 15])?;
-    assert_full(&table, 8, &[6, 7, 0, 1, 2])?;
-    assert_found(&table, &[6, 14, 7, 15, 0])
+    assert_found(&copy, 15, 3, 0, 2)?;
+    assert_found(&copy, 0, 1, 1, 2)?;
+    assert_found(&table, 15, 3, 1, 3)?;
+    assert_found(&table, 0, 4, 2, 3)
 }
 
 #[test]
 fn eight_buckets_sixteen_and_eight(rt: HostRuntime) -> Result<(), Fail> {
     // All of home 7.
     let mut table = table_of(rt.alloc(), 0, &[7, 15, 23, 31, 39, 47])?;
-    assert_full(&table, 8, &[7, 0, 1, 2, 3, 4])?;
+    assert_found(&table, 47, 5, 4, 6)?;
     // Of homes 7, 15, 7, 15, 7 and 15.
     reserve(rt.alloc(), &mut table, 7)?;
-    assert_full(&table, 16, &[7, 15, 8, 0, 9, 1])?;
+    assert_found(&table, 47, 5, 1, 3)?;
     add(rt.alloc(), &mut table, 55)?;
     assert_same(probed(&table, 71), (11, 5), "after 55 in bucket 10")?;
     // Those of 39 and 55 move back.
     remove(&mut table, 2, 23)?;
-    assert_full(&table, 16, &[7, 15, 8, 0, 9, 1])?;
-    assert_found(&table, &[7, 15, 55, 31, 39, 47])?;
+    assert_found(&table, 39, 4, 8, 2)?;
+    assert_found(&table, 55, 2, 9, 3)?;
     table.shrink_to_fit();
-    assert_full(&table, 8, &[7, 0, 1, 2, 3, 4])?;
-    assert_found(&table, &[7, 15, 55, 31, 39, 47])
+    assert_found(&table, 47, 5, 4, 6)
 }

@@ -6,6 +6,8 @@ mod answer;
 mod lines;
 mod request;
 mod session;
+#[cfg(test)]
+mod tests;
 
 use crate::session::{Stopped, serve};
 use std::process::ExitCode;
