@@ -156,8 +156,10 @@ def main(words):
     if not PROGRAM.exists():
         print(f"{PROGRAM} is not there: `rt run` in crates/witness proves and builds it")
         return 0, 1
-    paths = sorted(SCRIPTS.rglob("*.txt"))
-    paths = [path for path in paths if not words or any(it in str(path.relative_to(TESTS)) for it in words)]
+    known = sorted(SCRIPTS.rglob("*.txt"))
+    paths = [path for path in known if not words or any(it in str(path.relative_to(TESTS)) for it in words)]
+    if not paths:
+        sys.exit(f"no script has {' or '.join(words)} in its name: {' '.join(path.stem for path in known)}")
     read = [read_script(path) for path in paths]
     parts = [part for of_path, _ in read for part in of_path]
     with tempfile.TemporaryDirectory() as folder, ThreadPoolExecutor(os.cpu_count()) as pool:
