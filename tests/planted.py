@@ -59,10 +59,10 @@ def build(folder, limits):
 
 def said_by_script(script, folder):
     """What a script shows of a faulty program: a line with its name. One that fails for another reason shows none."""
-    program = build(folder, re.findall(r"^(?:map|owning|unit) (\d+)\b", script.read_text(), re.M))
+    program = build(folder, re.findall(r"^(?:map|owning|unit) (\d+)\b", (TESTS / script).read_text(), re.M))
     environment = os.environ | {"WITNESS": str(program)}
-    ran = subprocess.run([TESTS / "scripts.py", script.name], env=environment, capture_output=True, text=True)
-    return [line for line in ran.stdout.splitlines() if script.name in line] if ran.returncode else []
+    ran = subprocess.run([TESTS / "scripts.py", script], env=environment, capture_output=True, text=True)
+    return [line for line in ran.stdout.splitlines() if script in line] if ran.returncode else []
 
 
 def said_by_search(search, folder, edit):
@@ -101,5 +101,5 @@ def attempt(edit):
         if edit.found_by == RANDOM_RUN:
             shown = said_at_random(folder)
         else:
-            shown = said_by_search(finder, folder, edit) if is_search else said_by_script(finder, folder)
+            shown = said_by_search(finder, folder, edit) if is_search else said_by_script(edit.found_by, folder)
     return bool(shown), shown[0] if shown else f"{edit.found_by} does not find it"

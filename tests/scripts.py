@@ -17,7 +17,6 @@ import sys
 import tempfile
 from concurrent.futures import ThreadPoolExecutor
 
-from comparison import agrees, without_unwanted
 from model.lines import LIMITS
 from model.session import answers
 
@@ -126,12 +125,28 @@ def plays_of(part, library):
     return plays
 
 
+def agrees(exact, spanned):
+    """Whether a line is as the model has it, where a word LO..HI stands for each number from LO to HI."""
+
+    def is_within(word, span):
+        least, dots, most = span.partition("..")
+        return word == span or (dots and word.isdigit() and int(least) <= int(word) <= int(most))
+
+    words, spans = exact.split(" "), spanned.split(" ")
+    return exact == spanned or (len(words) == len(spans) and all(map(is_within, words, spans)))
+
+
+def shortened(found, wanted):
+    """What was found, without the last fields that the wanted line lacks. None lacks the work and the state."""
+    return " | ".join(found.split(" | ")[: max(3, wanted.count(" | ") + 1)])
+
+
 def judge_call(place, call, found):
     """What is wrong with what was found in each play, or None."""
     place, unmet = f"{place}:{call.number}: {call.text[:100]}", set(call.wanted)
     for said, answer in found:
         # What the model says may be a span.
-        met = {text for text in call.wanted if agrees(text, without_unwanted(answer, text))}
+        met = {text for text in call.wanted if agrees(text, shortened(answer, text))}
         if not met:
             return f"{place}: wanted {' or '.join(call.wanted)}, found {answer} ({said})"
         unmet -= met if said.startswith("the program") else set()

@@ -19,11 +19,10 @@ import tempfile
 import time
 from concurrent.futures import ProcessPoolExecutor
 
-from comparison import agrees
 from model.coverage import COLUMNS, MET, demanded
 from model.session import answers
 from random_scripts import make_script
-from scripts import PROGRAM, compile_allocator, play
+from scripts import PROGRAM, agrees, compile_allocator, play
 
 SCRIPTS = 600
 # For this time a script that differs is made shorter, and this number of them is printed.

@@ -1,11 +1,12 @@
 """What a random run has to meet: each call of the table, and each command of a run, in each state of the map, one on a key
 with a held key and with a new one; memory that is refused wherever a call asks for some; each other refusal; each step, maker
-and limit; and each way in which two maps differ. A new call in the table is demanded without a word here."""
+and limit; and the answers of some calls. A new call in the table is demanded without a word here."""
 
 from model.basics import MANY, Key
 from model.lines import CALLS, COMMANDS, LIMITS, MAKERS_FOR, PLAIN_MAKERS, is_on_a_key, places_of
 from model.walk import KINDS, steps_of
 
+# A tight vector has room for no pair, and fewer pairs than its limit; a full one has as many. One that went back was a table.
 STATES = ("vec", "tight vec", "full vec", "table", "full table", "went back", MANY)
 # The reasons of a refusal.
 MEMORY, SIZE = "memory", "size"
