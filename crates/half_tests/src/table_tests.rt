@@ -78,7 +78,7 @@ fn probed(table: &Table, hash: u64) -> (usize, u64) {
     (bucket, reads.get())
 }
 
-// Makes the capacity enough for so many pairs, as a store does.
+// Makes the capacity enough for this many pairs, as a store does.
 fn reserve(alloc: Global, table: &mut Table, needed: usize) -> Result<(), Fail> {
     if needed <= table.capacity() {
         return Ok(());
