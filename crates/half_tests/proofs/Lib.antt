@@ -1,4 +1,3 @@
 pub mod Prefixes
 pub mod Searches
 pub mod Tables
-pub mod Vectors

@@ -163,7 +163,7 @@ module _ (rule : Rule) (held : List (ℕ × ℕ)) (capacity : ℕ) (k : ℕ) (ol
       let still = reserved.granted.form ∙ table.form in
       let total = length held + additional in
       let needs : reserve_needs 0 old (length old.pairs + additional) ≡ (if nat_lt capacity total then Some total else None) =
-      λ i. reserve_needs 0 (state (table.form i) (table.pairs i) (table.capacity i) old.columns old.builder (contents_of old))
+      λ i. reserve_needs 0 (state (table.form i) (table.pairs i) (table.capacity i) old.builder (contents_of old))
       (length (table.pairs i) + additional) in
       let needed = needs ∙ ap (λ b. if b then Some total else None) less in
       record {
