@@ -123,6 +123,7 @@ OF_A_CALLS = {
     "debug_pretty": lambda a: pretty(a, "{", r"    {key}: {value},\n", "}"),
     "debug_iter_pretty": lambda a: pretty(a, "[", r"    (\n        {key},\n        {value},\n    ),\n", "]"),
     "extend ITEMS": extend,
+    "extend_by ITEMS": extend,
     "from_iter ITEMS": collect,
     "from_iter_hint SIZE ITEMS": lambda a, hint, items: collect(a, items, hint=hint),
     "from_array ITEMS": from_array,

@@ -12,7 +12,7 @@ def refusal_of(call, why):
         return f"refused {why} {Pair(*call.said)}"
     if call.form.startswith("entry"):
         return f"refused {why} {call.said[0]}"
-    return "refused" if call.form in ("extend ITEMS", "collect ITEMS") else f"refused {why}"
+    return "refused" if call.form in ("extend ITEMS", "extend_by ITEMS", "collect ITEMS") else f"refused {why}"
 
 
 class Session:

@@ -10,7 +10,7 @@ use std::alloc::{AllocError, Global};
 use std::cell::Cell;
 use std::hash::{Hash, Hasher};
 use std::test::Fail;
-use test_support::asserts::{assert_same, assert_same_at};
+use test_support::asserts::{assert_same, assert_same_at, assert_true};
 
 const HELD: [u64; 3] = [24, 8, 16];
 
@@ -122,6 +122,34 @@ fn clones_refused<const N: usize>(alloc: Global) -> Result<(), Fail> {
     assert_same(living.count.get(), 6, "those of the copy")?;
     drop(copy);
     assert_same(living.count.get(), 0, "none")
+}
+
+// `clone` by std's trait alone.
+fn clone_by<C: Clone>(it: &C) -> Result<C, AllocError> {
+    it.clone()
+}
+
+// Of two thousand keys and values each is cloned, or one is refused.
+fn clones_by_the_trait<const N: usize>(alloc: Global) -> Result<(), Fail> {
+    let mut map = SizedHashMap::<u64, Item<'_>, DefaultHashBuilder, N>::new(alloc);
+    let living = Living::new();
+    for id in 0..2000 {
+        map.insert(id, living.item(id))?;
+    }
+    living.granted.set(1999);
+    assert_true(clone_by(&map).is_err(), "the last one is refused")?;
+    assert_same(living.count.get(), 2000, "no clone is left")?;
+    living.granted.set(2000);
+    let copy = clone_by(&map)?;
+    assert_same(living.count.get(), 4000, "each is there twice")?;
+    let last = copy.get(&1999).map(|value| value.id);
+    assert_same((copy.len(), last), (2000, Some(1999)), "the same")
+}
+
+#[test]
+fn a_clone_by_the_trait(rt: HostRuntime) -> Result<(), Fail> {
+    clones_by_the_trait::<4000>(rt.alloc())?;
+    clones_by_the_trait::<0>(rt.alloc())
 }
 
 #[test]

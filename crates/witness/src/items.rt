@@ -1,5 +1,5 @@
-//! The calls that take a list of pairs. All but `extend` make a map with the default builder, which is printed.
-ghost use Rattle.std.specs.Prelude.{◌+◌, length};
+//! The calls that take a list of pairs. Those that do not extend a map make one with the default builder, which is printed.
+ghost use Rattle.std.specs.Prelude.{◌+◌, List, length};
 ghost use Rattle.std.specs.Iterator.{at_most};
 ghost use Rattle.std.specs.Vec.Iter.{into_iter_items};
 
@@ -54,6 +54,7 @@ impl<R: Print, K: Eq + Hash + Named + Drop, V: Number + Drop, S: BuildHasher, L:
     ) -> Option<io::Result<()>> {
         let printed = match call {
             "extend" => return Some(self.extend(items)),
+            "extend_by" => return Some(self.extend_by(items)),
             "from_iter" => self.from_iter(items),
             "from_iter_hint" => self.from_iter_hint(items, count(operand)?),
             "from_array" if items.len() <= 4 => self.from_array(items),
@@ -68,6 +69,13 @@ impl<R: Print, K: Eq + Hash + Named + Drop, V: Number + Drop, S: BuildHasher, L:
 
     fn extend(&mut self, items: Vec<(K, V)>) -> io::Result<()> {
         match self.open().extend(items) {
+            Ok(()) => print!(self.rt; "done"),
+            Err(_) => print!(self.rt; "refused"),
+        }
+    }
+
+    fn extend_by(&mut self, items: Vec<(K, V)>) -> io::Result<()> {
+        match extend_by(self.open(), items) {
             Ok(()) => print!(self.rt; "done"),
             Err(_) => print!(self.rt; "refused"),
         }
@@ -206,4 +214,14 @@ fn print_made<K: Eq + Hash + Drop + Named, V: Drop + Number, L: Limit>(
         Ok(map) => print_map(rt, &map),
         Err(why) => print!(rt; "{}", refused(why)),
     }
+}
+
+// `extend` by std's trait alone.
+fn extend_by<K: Drop, V: Drop, E: Extend<(K, V)>>(
+    to: &mut E,
+    items: Vec<(K, V)>,
+) -> Result<(), AllocError>
+    requires { (given : List (K × V)) → E.can_extend to.old given }
+{
+    to.extend(items)
 }

@@ -33,7 +33,7 @@ impl<'a, R: Print, V: Number + Clone + PartialEq + Debug + Drop, L: Limit> Playe
         match *call {
             "walk" => return self.walk(operands),
             "error" => return self.print_error(operands),
-            "extend" | "from_iter" | "from_array" | "hashmap" | "collect" => {
+            "extend" | "extend_by" | "from_iter" | "from_array" | "hashmap" | "collect" => {
                 return self.parse_and_perform(call, "", operands);
             }
             "from_iter_hint" | "made" => {
