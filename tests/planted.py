@@ -1,5 +1,5 @@
-"""Copies of the sources, in which an edit is planted that a script, the random run or the search of the sources finds. Nothing
-is proved."""
+"""Copies of the sources, in which an edit is planted that a script, the random run, the tests of half_tests or the search of the
+sources finds. Nothing is proved."""
 
 import functools
 import itertools
@@ -20,6 +20,7 @@ TOP = TESTS.parent
 PROGRAM = "witness"
 # The scripts of the random run that have to find an edit: so many of one limit, since each limit takes seconds to compile.
 RANDOM_RUN, SCRIPTS, LIMIT = "the random run", 60, 5
+TESTED, OF_TESTS = "half_tests", "the tests of half_tests"
 
 
 def crates_of(*names):
@@ -72,6 +73,13 @@ def said_by_search(search, folder, edit):
     return [line for line in ran.stdout.splitlines() if place in line] if ran.returncode else []
 
 
+def said_by_tests(folder):
+    """The tests that fail."""
+    command = ["rt", "try", "--test", "--steps", "1"]
+    ran = subprocess.run(command, cwd=folder / "crates" / TESTED, stdin=subprocess.DEVNULL, capture_output=True, text=True)
+    return [line for line in ran.stdout.splitlines() if line.endswith(" ... FAILED")]
+
+
 @functools.cache
 def scripts_at_random():
     indices = (it for it in itertools.count(len(LONG)) if FIRST_LINES[it % len(FIRST_LINES)][1] == LIMIT)
@@ -94,12 +102,15 @@ def attempt(edit):
     finder, texts = TESTS / edit.found_by, {}
     is_search = finder.suffix == ".py"
     with tempfile.TemporaryDirectory(prefix="planted-") as folder:
-        folder = copy_sources(pathlib.Path(folder, "copy"), crates_of("halfmap" if is_search else PROGRAM, edit.crate))
+        top = "halfmap" if is_search else TESTED if edit.found_by == OF_TESTS else PROGRAM
+        folder = copy_sources(pathlib.Path(folder, "copy"), crates_of(top, edit.crate))
         edit.apply(texts, folder / "crates" / edit.crate)
         for file, text in texts.items():
             file.write_text(text)
         if edit.found_by == RANDOM_RUN:
             shown = said_at_random(folder)
+        elif edit.found_by == OF_TESTS:
+            shown = said_by_tests(folder)
         else:
             shown = said_by_search(finder, folder, edit) if is_search else said_by_script(edit.found_by, folder)
     return bool(shown), shown[0] if shown else f"{edit.found_by} does not find it"

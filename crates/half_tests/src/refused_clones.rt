@@ -94,6 +94,8 @@ impl Hash for Item<'_> {
 
 type Map<'a, const N: usize> = SizedHashMap<Item<'a>, Item<'a>, DefaultHashBuilder, N>;
 
+type Values<'a, const N: usize> = SizedHashMap<u64, Item<'a>, DefaultHashBuilder, N>;
+
 fn filled<const N: usize>(alloc: Global, living: &Living) -> Result<Map<'_, N>, Refusal> {
     let mut map = Map::<'_, N>::new(alloc);
     for id in HELD {
@@ -129,13 +131,18 @@ fn clone_by<C: Clone>(it: &C) -> Result<C, AllocError> {
     it.clone()
 }
 
-// Of two thousand keys and values each is cloned, or one is refused.
-fn clones_by_the_trait<const N: usize>(alloc: Global) -> Result<(), Fail> {
-    let mut map = SizedHashMap::<u64, Item<'_>, DefaultHashBuilder, N>::new(alloc);
-    let living = Living::new();
+fn two_thousand<const N: usize>(alloc: Global, living: &Living) -> Result<Values<'_, N>, Refusal> {
+    let mut map = Values::<'_, N>::new(alloc);
     for id in 0..2000 {
         map.insert(id, living.item(id))?;
     }
+    Ok(map)
+}
+
+// Of two thousand values each is cloned, or one is refused.
+fn clones_by_the_trait<const N: usize>(alloc: Global) -> Result<(), Fail> {
+    let living = Living::new();
+    let map = two_thousand::<N>(alloc, &living)?;
     living.granted.set(1999);
     assert_true(clone_by(&map).is_err(), "the last one is refused")?;
     assert_same(living.count.get(), 2000, "no clone is left")?;
