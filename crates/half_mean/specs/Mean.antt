@@ -108,3 +108,7 @@ MeanFillingLaw = (share buckets held : ℕ) → held < buckets
 abbrev pub CapacityFillingLaw : (over under : ℕ) → Type 0
 CapacityFillingLaw over under = (bits buckets held : ℕ) → 0 < buckets → IsBucketCount buckets → buckets ≤ 2 ^ bits → held ≤ capacity_of buckets
     → MeanFillingIsAtMost (2 ^ bits) buckets held over under
+
+-- no bound over `under` holds that is smaller than `least / under`
+abbrev pub IsLeastOver : (ℕ → ℕ → Type 0) → (least under : ℕ) → Type 0
+IsLeastOver Law least under = (over : ℕ) → Law over under → least ≤ over

@@ -3,8 +3,9 @@
 #![tactic(auto)]
 
 ghost use Rattle.std.specs.Prelude.{◌≡◌, ◌+◌};
-ghost use Rattle.half_mean.specs.Mean.{total_reach, total_filling, knuth_sum, MeanCasesLaw, ExactMeanLaw, KnuthRecursionLaw, HomesMeanLaw, MeanReachLaw};
-ghost use Rattle.half_mean.specs.Mean.{HalfFullMeanLaw, CapacityMeanLaw, MeanFillingLaw, CapacityFillingLaw};
+ghost use Rattle.half_mean.specs.Mean.{total_reach, total_filling, knuth_sum, MeanCasesLaw, ExactMeanLaw, KnuthRecursionLaw};
+ghost use Rattle.half_mean.specs.Mean.{HomesMeanLaw, MeanReachLaw, HalfFullMeanLaw, CapacityMeanLaw, MeanFillingLaw};
+ghost use Rattle.half_mean.specs.Mean.{CapacityFillingLaw, IsLeastOver};
 
 /// There are `hashes ^ held` lists of `held` hashes below `hashes`. A mean is the total over all cases by their number: for
 /// a probe each list with each hash that is sought, and for a filling each list with each of its insertions.
@@ -30,6 +31,14 @@ pub fn mean_of_a_probe()
 pub fn mean_of_a_filling()
     ensures bound { MeanFillingLaw }
     ensures within_capacity { CapacityFillingLaw 5 2 }
+{}
+
+/// 2.5 and 8.5 are the least of all halves that hold. Tables of 16 and 512 buckets break smaller ones, and the filling of one
+/// of 64.
+pub fn bounds_are_least()
+    ensures half_full { IsLeastOver HalfFullMeanLaw 5 2 }
+    ensures within_capacity { IsLeastOver CapacityMeanLaw 17 2 }
+    ensures filling { IsLeastOver CapacityFillingLaw 5 2 }
 {}
 
 /// The totals of small tables, added up one by one: all probes of the tables of 4 buckets with 2 and 3 pairs, and of 8 with

@@ -10,7 +10,7 @@ use Rattle.half_mean.proofs.lemmas.Algebra.{pow-two}
 use Rattle.half_mean.proofs.lemmas.Means.{mean_of_homes, scaled, bucket_share}
 
 -- the last insertion, and those before it
-filling-step : (m n : ℕ) → total_filling m m (suc n) ≡ total_reach m m n + m * total_filling m m n
+pub filling-step : (m n : ℕ) → total_filling m m (suc n) ≡ total_reach m m n + m * total_filling m m n
 unfolding total_filling total_reach
 filling-step m n =
     ap (sum_below m) (λ i x. lists-plus m n (λ w. reach w m x) (λ w. filling_reach m w) i)
@@ -37,7 +37,7 @@ times-swap a b c = grind arith
 cases-step : (m n : ℕ) → m * (n * m ^ n) ≡ n * m ^ suc n
 cases-step m n = times-swap m n (m ^ n) ∙ ap (λ s. n * s) (sym (pow-succ' m n))
 
-filling-none : (m : ℕ) → total_filling m m 0 ≡ 0
+pub filling-none : (m : ℕ) → total_filling m m 0 ≡ 0
 unfolding total_filling
 filling-none m = refl
 
