@@ -32,6 +32,12 @@ pub record Ends (m : ℕ) (w : List ℕ) (slots : List (Option ℕ)) : Type 0 wh
   pub read : (h : ℕ) → reach w m h ≡ probe_distance m (home m h) (stop m w h) + 1
   pub entries : (h : ℕ) → count_by (λ x. stop m w x == stop m w h) w + 1 ≡ count_to (λ b. stop m w b == stop m w h) m
 
+-- where p lies before s, the first empty bucket from b on, that from p on is s too
+same_first : (m b p s t : ℕ) → b < m → p < m → s < m → t < m → probe_distance m b p < probe_distance m b s → probe_distance m b s ≤ probe_distance m b t
+    → probe_distance m p t ≤ probe_distance m p s → s ≡ t
+same_first m b p s t in_b in_p in_s in_t before far near =
+    omega (arith, distance_is m b p in_b, distance_is m b s in_b, distance_is m b t in_b, distance_is m p s in_p, distance_is m p t in_p)
+
 module _ (w : List ℕ) (slots : List (Option ℕ)) (ordered : ProbeInvariant slots) (counted : SameCounts w slots)
     (few : length w < length slots) where
   abbrev m : ℕ
@@ -70,27 +76,16 @@ module _ (w : List ℕ) (slots : List (Option ℕ)) (ordered : ProbeInvariant sl
   -- a probe for a stored hash passes its bucket, so it ends where one from there does
   stored_stop : (p x : ℕ) → slot_at slots p ≡ Some x → stop m w x ≡ stop m w p
   stored_stop p x is =
-      let b : ℕ = home m x in
-      let s : ℕ = stop m w x in
-      let t : ℕ = stop m w p in
       let in_p = full-lt slots p (full_from _ x is) in
-      let in_b = in_home x in
-      let in_s = (at_stop x).within in
-      let in_t = (at_stop p).within in
-      let before = ordered.before p s x is in_s (at_stop x).vacant in
-      let far = first_vacant x t in_t (at_stop p).vacant in
-      let near = first_from p s in_p in_s (at_stop x).vacant in
-      omega (arith, distance_is m b p in_b, distance_is m b s in_b, distance_is m b t in_b, distance_is m p s in_p, distance_is m p t in_p)
+      let before = ordered.before p (stop m w x) x is (at_stop x).within (at_stop x).vacant in
+      same_first m (home m x) p (stop m w x) (stop m w p) (in_home x) in_p (at_stop x).within (at_stop p).within before
+      (first_vacant x (stop m w p) (at_stop p).within (at_stop p).vacant)
+      (first_from p (stop m w x) in_p (at_stop x).within (at_stop x).vacant)
 
   stop_vacant : (p : ℕ) → p < m → slot_at slots p ≡ None → stop m w p ≡ p
   stop_vacant p in_p none =
-      omega (
-        arith,
-        first_from p p in_p in_p none,
-        (at_stop p).within,
-        distance_is m p p in_p,
-        distance_is m p (stop m w p) in_p,
-      )
+      let near = first_from p p in_p in_p none in
+      omega (arith, (at_stop p).within, distance_is m p p in_p, distance_is m p (stop m w p) in_p)
 
   entries-more : (h : ℕ) → count_by (λ x. stop m w x == stop m w h) w + 1 ≡ count_to (λ b. stop m w b == stop m w h) m
   entries-more h =
@@ -230,12 +225,7 @@ module _ (m : ℕ) (w : List ℕ) (x : ℕ) (few : length w + 1 < m) where
       )
 
   pub stop-stays : (h : ℕ) → stop m w h ≢ e → stop m (x ∷ w) h ≡ stop m w h
-  stop-stays h other =
-      let in_b : home m h < m = home-lt m h (omega arith) in
-      let was = vacant_before (stop m (x ∷ w) h) (new.vacant h) in
-      let near = new.first h (stop m w h) (old.inside h) (vacant_other (stop m w h) other (old.vacant h)) in
-      let far = old.first h (stop m (x ∷ w) h) (new.inside h) was.1 in
-      distance_same m (home m h) in_b _ _ (new.inside h) (old.inside h) (omega arith)
+  stop-stays h other = grind (arith, common_steps, distance_same, home-lt, new, old, vacant_before, vacant_other)
 
 -- the blocks behind two blocks are one only where those are
 pub next-apart : (m : ℕ) (w : List ℕ) (h g : ℕ) → length w < m → stop m w (suc (stop m w h)) ≡ stop m w (suc (stop m w g))
