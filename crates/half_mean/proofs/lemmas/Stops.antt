@@ -32,12 +32,6 @@ pub record Ends (m : ℕ) (w : List ℕ) (slots : List (Option ℕ)) : Type 0 wh
   pub read : (h : ℕ) → reach w m h ≡ probe_distance m (home m h) (stop m w h) + 1
   pub entries : (h : ℕ) → count_by (λ x. stop m w x == stop m w h) w + 1 ≡ count_to (λ b. stop m w b == stop m w h) m
 
--- where p lies before s, the first empty bucket from b on, that from p on is s too
-same_first : (m b p s t : ℕ) → b < m → p < m → s < m → t < m → probe_distance m b p < probe_distance m b s → probe_distance m b s ≤ probe_distance m b t
-    → probe_distance m p t ≤ probe_distance m p s → s ≡ t
-same_first m b p s t in_b in_p in_s in_t before far near =
-    omega (arith, distance_is m b p in_b, distance_is m b s in_b, distance_is m b t in_b, distance_is m p s in_p, distance_is m p t in_p)
-
 module _ (w : List ℕ) (slots : List (Option ℕ)) (ordered : ProbeInvariant slots) (counted : SameCounts w slots)
     (few : length w < length slots) where
   abbrev m : ℕ
@@ -78,14 +72,13 @@ module _ (w : List ℕ) (slots : List (Option ℕ)) (ordered : ProbeInvariant sl
   stored_stop p x is =
       let in_p = full-lt slots p (full_from _ x is) in
       let before = ordered.before p (stop m w x) x is (at_stop x).within (at_stop x).vacant in
-      same_first m (home m x) p (stop m w x) (stop m w p) (in_home x) in_p (at_stop x).within (at_stop p).within before
-      (first_vacant x (stop m w p) (at_stop p).within (at_stop p).vacant)
-      (first_from p (stop m w x) in_p (at_stop x).within (at_stop x).vacant)
+      let far = first_vacant x (stop m w p) (at_stop p).within (at_stop p).vacant in
+      let near = first_from p (stop m w x) in_p (at_stop x).within (at_stop x).vacant in
+      omega (arith, in_home x, (at_stop x).within, (at_stop p).within, distance_is)
 
   stop_vacant : (p : ℕ) → p < m → slot_at slots p ≡ None → stop m w p ≡ p
   stop_vacant p in_p none =
-      let near = first_from p p in_p in_p none in
-      omega (arith, (at_stop p).within, distance_is m p p in_p, distance_is m p (stop m w p) in_p)
+      omega (arith, first_from p p in_p in_p none, (at_stop p).within, distance_is)
 
   entries-more : (h : ℕ) → count_by (λ x. stop m w x == stop m w h) w + 1 ≡ count_to (λ b. stop m w b == stop m w h) m
   entries-more h =
@@ -197,32 +190,17 @@ module _ (m : ℕ) (w : List ℕ) (x : ℕ) (few : length w + 1 < m) where
       let in_e = old.inside x in
       let behind = home_after m e in_e in
       let near = old.first (suc e) z (new.inside x) was.1 in
-      let b : ℕ = home m (suc e) in
-      was.0 (omega (arith, new.inside x, distance_is m b z (omega arith), distance_is m b next (omega arith)))
+      was.0 (omega (arith, new.inside x, distance_is))
 
   -- an insertion joins the block of the hash to the one behind it
   pub stop-joins : (h : ℕ) → stop m w h ≡ e → stop m (x ∷ w) h ≡ next
   stop-joins h is =
-      let b : ℕ = home m h in
-      let c : ℕ = home m (suc e) in
       let s : ℕ = stop m (x ∷ w) h in
-      let in_b : b < m = home-lt m h (omega arith) in
+      let in_home_h = home-lt m h (omega arith) in
       let behind = home_after m e (old.inside x) in
       let was = vacant_before s (new.vacant h) in
       let near = new.first h next (old.inside (suc e)) (vacant_other next next-other (old.vacant (suc e))) in
-      omega (
-        arith,
-        was.0,
-        old.first h s (new.inside h) was.1,
-        old.first (suc e) s (new.inside h) was.1,
-        old.inside (suc e),
-        new.inside h,
-        distance_is m b s in_b,
-        distance_is m b next in_b,
-        distance_is m b (stop m w h) in_b,
-        distance_is m c s (omega arith),
-        distance_is m c next (omega arith),
-      )
+      omega (arith, was.0, old.first h s (new.inside h) was.1, old.first (suc e) s (new.inside h) was.1, old.inside (suc e), new.inside h, distance_is)
 
   pub stop-stays : (h : ℕ) → stop m w h ≢ e → stop m (x ∷ w) h ≡ stop m w h
   stop-stays h other = grind (arith, common_steps, distance_same, home-lt, new, old, vacant_before, vacant_other)
@@ -234,20 +212,8 @@ next-apart m w h g few same =
     let t = ends_with m w few in
     let e : ℕ = stop m w h in
     let p : ℕ = stop m w g in
-    let n : ℕ = stop m w (suc e) in
-    let b : ℕ = home m (suc e) in
-    let c : ℕ = home m (suc p) in
-    let in_n = t.inside (suc e) in
     let behind_e = home_after m e (t.inside h) in
     let behind_p = home_after m p (t.inside g) in
     let near_e = t.first (suc e) p (t.inside g) (t.vacant g) in
     let near_p = t.first (suc p) e (t.inside h) (t.vacant h) in
-    omega (
-      arith,
-      t.inside h,
-      t.inside g,
-      distance_is m b n (omega arith),
-      distance_is m b p (omega arith),
-      distance_is m c (stop m w (suc p)) (omega arith),
-      distance_is m c e (omega arith),
-    )
+    omega (arith, t.inside h, t.inside g, distance_is)
