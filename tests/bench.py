@@ -5,7 +5,8 @@ figures, of which docs/SPEED.md has a part.
     tests/bench.py [ROUNDS] [WORD..]                  9 rounds where none are given
     tests/bench.py --against DIR [ROUNDS] [WORD..]    half_bench of this tree and of another, built there, in turns
 
-Words pick rows of times: operations, `u64`, `String` and sizes; `memory`, `halfmap` and `word_count` those tables.
+Words pick rows of times: operations, `u64`, `String` and sizes; `memory`, `reads`, `halfmap` and `word_count`
+those tables.
 """
 
 import collections
@@ -33,10 +34,12 @@ OPERATIONS = (
     "hit miss raw_hit build raw_build remove churn entry_few entry_many iter values_mut clone retain drain from_iter extend"
     " equal shrink_to_fit"
 ).split()
-OTHERS = ["memory", "halfmap", "word_count"]
+OTHERS = ["memory", "reads", "halfmap", "word_count"]
 # Pairs in all maps whose memory is measured, lines that halfmap reads, and words that word_count counts.
 PAIRS = LINES = 1_000_000
 HELD = 100_000
+# Pairs and buckets of a full table, whose probes are counted.
+FULL, BUCKETS = 3 << 16, 4 << 16
 WORDS, DIFFERING = 2_000_000, 50_000
 
 Place = collections.namedtuple("Place", "operation keys pairs")
@@ -155,6 +158,18 @@ def memory_rows(program):
         yield [keys, f"{size:,}", f"{copies:,}", *(round((peak - empty) / (size * copies)) for peak in peaks)]
 
 
+def reads_rows(program):
+    """The buckets that a miss reads on average, and an insertion since the table was empty: by proof, and as measured."""
+    commands = [[program, "reads", keys, str(FULL)] for keys in KEYS]
+    found = [subprocess.run(it, capture_output=True, text=True, check=True).stdout.splitlines() for it in commands]
+    for lines in zip(*found):
+        held, *_ = numbers = [int(word) for line in lines for word in line.split()]
+        free = BUCKETS / (BUCKETS - held)
+        misses = [(1 + free**2) / 2, *(reads / FULL for reads in numbers[1::3])]
+        insertions = [(1 + free) / 2, *(reads / held for reads in numbers[2::3])]
+        yield [f"{held / BUCKETS:.3f}", *(f"{mean:.2f}" for mean in misses + insertions)]
+
+
 def processor_seconds(command, path):
     """The processor time that a program takes to read the file as its input."""
     with open(path) as given:
@@ -206,6 +221,10 @@ def print_others(rounds, words, path):
     if "memory" in words:
         print("\nMemory, in bytes a pair at the peak:\n")
         print_table(["keys", "pairs a map", "maps", *MAPS], memory_rows(build("half_bench")))
+    if "reads" in words:
+        print(f"\nBuckets that a probe reads on average, in a table of {BUCKETS:,}:\n")
+        heads = [f"{what}, {how}" for what in ("a miss", "an insertion") for how in ("at most", *KEYS)]
+        print_table(["load", *heads], reads_rows(build("half_bench")))
     if "halfmap" in words:
         print(f"\nhalfmap, by the median of {rounds} rounds:\n")
         print_table(["lines", "halfmap to sort -u"], halfmap_rows(build("halfmap"), rounds, path))

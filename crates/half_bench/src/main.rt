@@ -1,4 +1,5 @@
-//! Times the map beside std's `HashMap` and `IndexMap`, and fills maps and counts words for measurements from outside.
+//! Times the map beside std's `HashMap` and `IndexMap`, and fills maps and counts words and reads of
+//! buckets for measurements from outside.
 #![tactic(auto)]
 
 mod hashed;
@@ -6,6 +7,7 @@ mod keys;
 mod maps;
 mod operations;
 mod outside;
+mod reads;
 mod rounds;
 
 use std::{env, io};
@@ -15,7 +17,9 @@ const USAGE: &str = "half_bench times OPERATION u64|String SIZE ROUNDS
 half_bench memory limit_0|limit_32|std|indexmap u64|String SIZE COPIES
     fills this many maps, prints how many there are, and waits for the end of its input
 half_bench words limit_32|std|indexmap
-    counts the words of its input with a map, and prints how many differ";
+    counts the words of its input with a map, and prints how many differ
+half_bench reads u64|String PAIRS
+    fills a table, and prints at five loads the pairs, the buckets that PAIRS misses read, and those of the insertions";
 
 fn main(rt: HostRuntime) -> io::Result<()> {
     let words: Vec<String> = env::args(&rt)?.skip(1).collect(rt.alloc())?;
@@ -27,6 +31,14 @@ fn main(rt: HostRuntime) -> io::Result<()> {
                 ("times", "String") => rounds::print::<String>(&rt, what.as_str(), size, count),
                 ("memory", "u64") => outside::hold::<u64>(&rt, what.as_str(), size, count),
                 ("memory", "String") => outside::hold::<String>(&rt, what.as_str(), size, count),
+                _ => Err(unknown()),
+            }
+        }
+        [command, keys, pairs] if command.as_str() == "reads" => {
+            let pairs = number(pairs)?;
+            match keys.as_str() {
+                "u64" => reads::print::<u64>(&rt, pairs),
+                "String" => reads::print::<String>(&rt, pairs),
                 _ => Err(unknown()),
             }
         }

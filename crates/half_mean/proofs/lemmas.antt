@@ -7,3 +7,4 @@ pub mod Algebra
 pub mod Homes
 pub mod Means
 pub mod Filling
+pub mod Least

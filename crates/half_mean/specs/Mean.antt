@@ -7,98 +7,108 @@ use Rattle.half_store.specs.Capacity.{IsBucketCount, capacity_of}
 use Rattle.half_store.specs.Reach.{reach}
 
 -- the sum over all numbers below `count`
-abbrev pub sum_below : ℕ → (ℕ → ℕ) → ℕ
+abbrev pub sum_below : (count : ℕ) → (ℕ → ℕ) → ℕ
 sum_below zero f = 0
 sum_below (suc count) f = f count + sum_below count f
 
--- the sum over all lists of `long` numbers below `count`
-abbrev pub sum_lists : ℕ → ℕ → (List ℕ → ℕ) → ℕ
+-- the sum over all lists of `size` numbers below `count`
+abbrev pub sum_lists : (count size : ℕ) → (List ℕ → ℕ) → ℕ
 sum_lists count zero f = f []
-sum_lists count (suc long) f = sum_below count (λ one. sum_lists count long (λ others. f (one ∷ others)))
+sum_lists count (suc size) f = sum_below count (λ one. sum_lists count size (λ others. f (one ∷ others)))
 
 -- the buckets that unsuccessful probes read in all cases: each list of `held` hashes in the table, and each hash that is sought. All
 -- hashes are below `hashes`
-unfoldable pub total_reach : ℕ → ℕ → ℕ → ℕ
+unfoldable pub total_reach : (hashes buckets held : ℕ) → ℕ
 total_reach hashes buckets held = sum_lists hashes held (λ list. sum_below hashes (λ hash. reach list buckets hash))
 
 -- the number of these cases
-abbrev pub reach_cases : ℕ → ℕ → ℕ
+abbrev pub reach_cases : (hashes held : ℕ) → ℕ
 reach_cases hashes held = hashes ^ (held + 1)
 
 -- the buckets that the probes read that insert the hashes of a list into an empty table, the last one first
-abbrev pub filling_reach : ℕ → List ℕ → ℕ
+abbrev pub filling_reach : (buckets : ℕ) → List ℕ → ℕ
 filling_reach buckets [] = 0
 filling_reach buckets (hash ∷ before) = reach before buckets hash + filling_reach buckets before
 
 -- the buckets that they read in all cases: each list of `held` hashes below `hashes`, and each insertion of it
-unfoldable pub total_filling : ℕ → ℕ → ℕ → ℕ
+unfoldable pub total_filling : (hashes buckets held : ℕ) → ℕ
 total_filling hashes buckets held = sum_lists hashes held (λ list. filling_reach buckets list)
 
 -- the number of these cases
-abbrev pub filling_cases : ℕ → ℕ → ℕ
+abbrev pub filling_cases : (hashes held : ℕ) → ℕ
 filling_cases hashes held = held * hashes ^ held
 
--- `over / under` is not below the mean
+-- the mean of `cases` numbers that add up to `total` is at most `over / under`
 abbrev pub MeanIsAtMost : (total cases over under : ℕ) → Type 0
 MeanIsAtMost total cases over under = total * under ≤ over * cases
 
+-- an unsuccessful probe reads at most `over / under` buckets on average, where all lists of `held` hashes below `hashes` are equally likely,
+-- and all hashes below `hashes` that are sought
+abbrev pub MeanReachIsAtMost : (hashes buckets held over under : ℕ) → Type 0
+MeanReachIsAtMost hashes buckets held over under = MeanIsAtMost (total_reach hashes buckets held) (reach_cases hashes held) over under
+
+-- so does an insertion, of those that put a list of `held` hashes into an empty table, where all such lists are equally likely
+abbrev pub MeanFillingIsAtMost : (hashes buckets held over under : ℕ) → Type 0
+MeanFillingIsAtMost hashes buckets held over under = MeanIsAtMost (total_filling hashes buckets held) (filling_cases hashes held) over under
+
 -- the numbers of cases, counted one by one
-abbrev pub CasesLaw : Type 0
-CasesLaw = (hashes held : ℕ) →
+abbrev pub MeanCasesLaw : Type 0
+MeanCasesLaw = (hashes held : ℕ) →
     (sum_lists hashes held (λ list. 1) ≡ hashes ^ held)
     × (sum_lists hashes held (λ list. sum_below hashes (λ hash. 1)) ≡ reach_cases hashes held)
     × (sum_lists hashes held (λ list. length list) ≡ filling_cases hashes held)
 
 -- `number * (number - 1) * ..`, with `factors` factors
-abbrev pub falling : ℕ → ℕ → ℕ
+abbrev pub falling : (number factors : ℕ) → ℕ
 falling number zero = 1
 falling zero (suc factors) = 0
 falling (suc number) (suc factors) = suc number * falling number factors
 
 -- with the weights 1, 2, 3, .. this is Knuth's sum, `1 + 2 * n / m + 3 * n * (n - 1) / m ^ 2 + ..`, times `m ^ (n + 1)`
-unfoldable pub knuth_sum : (ℕ → ℕ) → ℕ → ℕ → ℕ
+unfoldable pub knuth_sum : (weight : ℕ → ℕ) → (buckets held : ℕ) → ℕ
 knuth_sum weight buckets held = sum_below (held + 1) (λ k. weight k * falling held k * buckets ^ (held + 1 - k))
 
 -- the exact mean, where the hashes are the homes: half of 1 and of Knuth's sum
-abbrev pub ExactMeanLaw : (ℕ → ℕ) → Type 0
+abbrev pub ExactMeanLaw : (weight : ℕ → ℕ) → Type 0
 ExactMeanLaw weight = (buckets held : ℕ) → held < buckets
     → total_reach buckets buckets held * 2 ≡ reach_cases buckets held + knuth_sum weight buckets held
 
 -- the recursion that Knuth's sum meets below the number of buckets
-abbrev pub RecursionLaw : (ℕ → ℕ) → Type 0
-RecursionLaw weight = (buckets held : ℕ) → held + 1 < buckets
+abbrev pub KnuthRecursionLaw : (weight : ℕ → ℕ) → Type 0
+KnuthRecursionLaw weight = (buckets held : ℕ) → held + 1 < buckets
     → (buckets - (held + 1)) * knuth_sum weight buckets (held + 1)
     ≡ buckets ^ (held + 3) + (held + 1) * (buckets - (held + 2)) * knuth_sum weight buckets held
 
 -- where each bucket is the home of `share` hashes, the mean is that of homes
-abbrev pub HomesLaw : Type 0
-HomesLaw = (share buckets held : ℕ) → 0 < buckets
+abbrev pub HomesMeanLaw : Type 0
+HomesMeanLaw = (share buckets held : ℕ) → 0 < buckets
     → total_reach (share * buckets) buckets held ≡ share ^ (held + 1) * total_reach buckets buckets held
 
--- the mean is at most `(1 + (m / (m - n)) ^ 2) / 2`
-abbrev pub MeanLaw : Type 0
-MeanLaw = (share buckets held : ℕ) → held < buckets
-    → MeanIsAtMost (total_reach (share * buckets) buckets held) (reach_cases (share * buckets) held)
-    ((buckets - held) ^ 2 + buckets ^ 2) (2 * (buckets - held) ^ 2)
+-- the mean of a probe in a table of `m` buckets with `n` hashes is at most `(1 + (m / (m - n)) ^ 2) / 2`
+abbrev pub MeanReachLaw : Type 0
+MeanReachLaw = (share buckets held : ℕ) → held < buckets
+    → MeanReachIsAtMost (share * buckets) buckets held ((buckets - held) ^ 2 + buckets ^ 2) (2 * (buckets - held) ^ 2)
 
--- where at most half of the buckets are full, the mean is at most `over / under`
-abbrev pub HalfFullLaw : (over under : ℕ) → Type 0
-HalfFullLaw over under = (share buckets held : ℕ) → 0 < buckets → held + held ≤ buckets
-    → MeanIsAtMost (total_reach (share * buckets) buckets held) (reach_cases (share * buckets) held) over under
+-- where at most half of the buckets are full, it is at most `over / under`
+abbrev pub HalfFullMeanLaw : (over under : ℕ) → Type 0
+HalfFullMeanLaw over under = (share buckets held : ℕ) → 0 < buckets → held + held ≤ buckets
+    → MeanReachIsAtMost (share * buckets) buckets held over under
 
--- within the capacity it is, for hashes of `bits` bits
-abbrev pub CapacityLaw : (over under : ℕ) → Type 0
-CapacityLaw over under = (bits buckets held : ℕ) → 0 < buckets → IsBucketCount buckets → buckets ≤ 2 ^ bits → held ≤ capacity_of buckets
-    → MeanIsAtMost (total_reach (2 ^ bits) buckets held) (reach_cases (2 ^ bits) held) over under
+-- within the capacity of a table it is, for hashes of `bits` bits
+abbrev pub CapacityMeanLaw : (over under : ℕ) → Type 0
+CapacityMeanLaw over under = (bits buckets held : ℕ) → 0 < buckets → IsBucketCount buckets → buckets ≤ 2 ^ bits → held ≤ capacity_of buckets
+    → MeanReachIsAtMost (2 ^ bits) buckets held over under
 
--- the mean over the insertions that fill an empty table is at most `(1 + m / (m - n)) / 2`
-abbrev pub FillingLaw : Type 0
-FillingLaw = (share buckets held : ℕ) → held < buckets
-    → MeanIsAtMost (total_filling (share * buckets) buckets held) (filling_cases (share * buckets) held)
-    (buckets + (buckets - held)) (2 * (buckets - held))
+-- the mean of the insertions that put `n` hashes into an empty table of `m` buckets is at most `(1 + m / (m - n)) / 2`
+abbrev pub MeanFillingLaw : Type 0
+MeanFillingLaw = (share buckets held : ℕ) → held < buckets
+    → MeanFillingIsAtMost (share * buckets) buckets held (buckets + (buckets - held)) (2 * (buckets - held))
 
--- up to the capacity that mean is at most `over / under`, for hashes of `bits` bits
-abbrev pub FillingCapacityLaw : (over under : ℕ) → Type 0
-FillingCapacityLaw over under = (bits buckets held : ℕ) → 0 < buckets → IsBucketCount buckets → buckets ≤ 2 ^ bits
-    → held ≤ capacity_of buckets
-    → MeanIsAtMost (total_filling (2 ^ bits) buckets held) (filling_cases (2 ^ bits) held) over under
+-- up to the capacity of a table it is at most `over / under`, for hashes of `bits` bits
+abbrev pub CapacityFillingLaw : (over under : ℕ) → Type 0
+CapacityFillingLaw over under = (bits buckets held : ℕ) → 0 < buckets → IsBucketCount buckets → buckets ≤ 2 ^ bits → held ≤ capacity_of buckets
+    → MeanFillingIsAtMost (2 ^ bits) buckets held over under
+
+-- no bound over `under` holds that is smaller than `least / under`
+abbrev pub IsLeastOver : (ℕ → ℕ → Type 0) → (least under : ℕ) → Type 0
+IsLeastOver Law least under = (over : ℕ) → Law over under → least ≤ over

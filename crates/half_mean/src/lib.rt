@@ -3,13 +3,14 @@
 #![tactic(auto)]
 
 ghost use Rattle.std.specs.Prelude.{◌≡◌, ◌+◌};
-ghost use Rattle.half_mean.specs.Mean.{total_reach, total_filling, knuth_sum, CasesLaw, ExactMeanLaw, RecursionLaw, HomesLaw, MeanLaw};
-ghost use Rattle.half_mean.specs.Mean.{HalfFullLaw, CapacityLaw, FillingLaw, FillingCapacityLaw};
+ghost use Rattle.half_mean.specs.Mean.{total_reach, total_filling, knuth_sum, MeanCasesLaw, ExactMeanLaw, KnuthRecursionLaw};
+ghost use Rattle.half_mean.specs.Mean.{HomesMeanLaw, MeanReachLaw, HalfFullMeanLaw, CapacityMeanLaw, MeanFillingLaw};
+ghost use Rattle.half_mean.specs.Mean.{CapacityFillingLaw, IsLeastOver};
 
 /// There are `hashes ^ held` lists of `held` hashes below `hashes`. A mean is the total over all cases by their number: for
 /// a probe each list with each hash that is sought, and for a filling each list with each of its insertions.
 pub fn cases_of_the_means()
-    ensures { CasesLaw }
+    ensures { MeanCasesLaw }
 {}
 
 /// Where all lists of held hashes are equally likely, and all hashes that are sought, a probe that finds nothing in a table
@@ -18,18 +19,26 @@ pub fn cases_of_the_means()
 /// the table has no capacity left.
 pub fn mean_of_a_probe()
     ensures exact { ExactMeanLaw (λ k. k + 1) }
-    ensures recursion { RecursionLaw (λ k. k + 1) }
-    ensures homes { HomesLaw }
-    ensures bound { MeanLaw }
-    ensures half_full { HalfFullLaw 5 2 }
-    ensures within_capacity { CapacityLaw 17 2 }
+    ensures recursion { KnuthRecursionLaw (λ k. k + 1) }
+    ensures homes { HomesMeanLaw }
+    ensures bound { MeanReachLaw }
+    ensures half_full { HalfFullMeanLaw 5 2 }
+    ensures within_capacity { CapacityMeanLaw 17 2 }
 {}
 
 /// Where all lists of hashes are equally likely, the insertions that put `n` pairs into an empty table of `m` buckets read
 /// at most `(1 + m / (m - n)) / 2` buckets each on average: 2.5 up to the capacity.
 pub fn mean_of_a_filling()
-    ensures bound { FillingLaw }
-    ensures within_capacity { FillingCapacityLaw 5 2 }
+    ensures bound { MeanFillingLaw }
+    ensures within_capacity { CapacityFillingLaw 5 2 }
+{}
+
+/// 2.5 and 8.5 are the least of all halves that hold. Tables of 16 and 512 buckets break smaller ones, and the filling of one
+/// of 64.
+pub fn bounds_are_least()
+    ensures half_full { IsLeastOver HalfFullMeanLaw 5 2 }
+    ensures within_capacity { IsLeastOver CapacityMeanLaw 17 2 }
+    ensures filling { IsLeastOver CapacityFillingLaw 5 2 }
 {}
 
 /// The totals of small tables, added up one by one: all probes of the tables of 4 buckets with 2 and 3 pairs, and of 8 with

@@ -73,18 +73,10 @@ module _ (m : ℕ) (w : List ℕ) (few : length w < m) where
       let r : ℕ = stop m w b in
       let first_h = subst (λ n. probe_distance m n s ≤ probe_distance m n r) (mod-eq_of_lt in_h) (t.first h r (t.inside b) (t.vacant b)) in
       let first_b = subst (λ n. probe_distance m n r ≤ probe_distance m n s) (mod-eq_of_lt in_b) (t.first b s (t.inside h) (t.vacant h)) in
-      omega (
-        arith,
-        t.inside h,
-        t.inside b,
-        distance_is m h s in_h,
-        distance_is m h r in_h,
-        distance_is m b s in_b,
-        distance_is m b r in_b,
-      )
+      omega (arith, t.inside h, t.inside b, distance_is)
 
   same-start : (h b e : ℕ) → h < m → b < m → probe_distance m b e ≡ probe_distance m h e → b ≡ h
-  same-start h b e in_h in_b at = omega (arith, distance_is m h e in_h, distance_is m b e in_b)
+  same-start h b e in_h in_b at = omega (arith, distance_is)
 
   -- of two buckets of one block one is on the way from the other, or they are one
   same-ways : (h b : ℕ) → h < m → b < m → same m w b h ≡ on_way h b + on_way b h + tick (b == h)

@@ -3,14 +3,14 @@ use Rattle.std.proofs.Common.{◌≡◌, ℕ, zero, suc, ◌+◌, ◌-◌, ◌*�
 use Rattle.std.proofs.Math.Nat.{pow-succ', mul-pos, mul-le-mul_left, mul-le-mul_right, le_of_mul-le-mul_right}
 use Rattle.std.proofs.lemmas.Nat.{mul-pow}
 use Rattle.half_store.specs.Reach.{reach}
-use Rattle.half_mean.specs.Mean.{sum_below, sum_lists, total_reach, total_filling, filling_reach, filling_cases, MeanIsAtMost, FillingLaw, FillingCapacityLaw}
+use Rattle.half_mean.specs.Mean.{sum_below, sum_lists, total_reach, total_filling, filling_reach, filling_cases, MeanFillingIsAtMost, MeanFillingLaw, CapacityFillingLaw}
 use Rattle.half_mean.proofs.lemmas.Sums.{below-plus, below-const, lists-plus, lists-swap}
 use Rattle.half_mean.proofs.lemmas.Homes.{filling_homes}
 use Rattle.half_mean.proofs.lemmas.Algebra.{pow-two}
 use Rattle.half_mean.proofs.lemmas.Means.{mean_of_homes, scaled, bucket_share}
 
 -- the last insertion, and those before it
-filling-step : (m n : ℕ) → total_filling m m (suc n) ≡ total_reach m m n + m * total_filling m m n
+pub filling-step : (m n : ℕ) → total_filling m m (suc n) ≡ total_reach m m n + m * total_filling m m n
 unfolding total_filling total_reach
 filling-step m n =
     ap (sum_below m) (λ i x. lists-plus m n (λ w. reach w m x) (λ w. filling_reach m w) i)
@@ -37,12 +37,12 @@ times-swap a b c = grind arith
 cases-step : (m n : ℕ) → m * (n * m ^ n) ≡ n * m ^ suc n
 cases-step m n = times-swap m n (m ^ n) ∙ ap (λ s. n * s) (sym (pow-succ' m n))
 
-filling-none : (m : ℕ) → total_filling m m 0 ≡ 0
+pub filling-none : (m : ℕ) → total_filling m m 0 ≡ 0
 unfolding total_filling
 filling-none m = refl
 
 -- where hashes are homes
-filling_of_homes : (n m : ℕ) → n < m → MeanIsAtMost (total_filling m m n) (filling_cases m n) (m + (m - n)) (2 * (m - n))
+filling_of_homes : (n m : ℕ) → n < m → MeanFillingIsAtMost m m n (m + (m - n)) (2 * (m - n))
 filling_of_homes zero m few = let none : total_filling m m 0 ≡ 0 = filling-none m in rw none (omega arith)
 filling_of_homes (suc n) m few =
     let e : ℕ = m - suc n in
@@ -55,7 +55,7 @@ filling_of_homes (suc n) m few =
     (filling-sum e n m (total_reach m m n) (m * total_filling m m n) (m ^ suc n) (omega arith) mean before)
     (mul-pos (omega arith) (omega arith)))
 
-pub filling_law : FillingLaw
+pub filling_law : MeanFillingLaw
 filling_law share m n few =
     rw (filling_homes share m n, mul-pow share m n, times-swap n (share ^ n) (m ^ n))
     (scaled (share ^ n) (total_filling m m n) (2 * (m - n)) (m + (m - n)) (n * m ^ n) (filling_of_homes n m few))
@@ -63,7 +63,7 @@ filling_law share m n few =
 filling_load : (m d f c : ℕ) → m ≤ 4 * d → f * (2 * d) ≤ (m + d) * c → f * 2 * d ≤ 5 * c * d
 filling_load m d f c load mean = let most : (m + d) * c ≤ 5 * d * c = mul-le-mul_right c (omega arith) in grind arith
 
-pub filling_capacity_law : FillingCapacityLaw 5 2
+pub filling_capacity_law : CapacityFillingLaw 5 2
 filling_capacity_law bits m n some count fits within =
     let s = bucket_share bits m n some count fits within in
     rw s.1 (le_of_mul-le-mul_right

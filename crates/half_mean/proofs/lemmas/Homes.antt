@@ -6,7 +6,7 @@ use Rattle.std.proofs.lemmas.Nat.{mod-mul-add}
 use Rattle.half_store.specs.Reach.{home, probe_distance, load, reach}
 use Rattle.half_store.proofs.lemmas.table.Counts.{tick}
 use Rattle.half_store.proofs.lemmas.table.History.{reach-loads}
-use Rattle.half_mean.specs.Mean.{sum_below, sum_lists, total_reach, total_filling, filling_reach, HomesLaw}
+use Rattle.half_mean.specs.Mean.{sum_below, sum_lists, total_reach, total_filling, filling_reach, HomesMeanLaw}
 use Rattle.half_mean.proofs.lemmas.Sums.{below-same, below-times, lists-times}
 
 -- the homes of a list
@@ -63,7 +63,7 @@ filling-homes : (m : ℕ) (w : List ℕ) → filling_reach m (homes m w) ≡ fil
 filling-homes m [] = refl
 filling-homes m (x ∷ w) = λ i. (reach-homes m w (home m x) ∙ reach-home m w x) i + filling-homes m w i
 
-pub homes_law : HomesLaw
+pub homes_law : HomesMeanLaw
 unfolding total_reach
 homes_law share m n some =
     let probes : List ℕ → ℕ = λ w. sum_below m (λ h. reach w m h) in

@@ -4,7 +4,7 @@ use Rattle.std.proofs.Math.Nat.{pow-suc, mul_comm, mul-pos, mul-le-mul, mul-le-m
 use Rattle.std.proofs.lemmas.Bool.{cases_lt}
 use Rattle.std.proofs.lemmas.Nat.{pow-add, mul-pow, pow_pos, pow_below}
 use Rattle.half_store.specs.Capacity.{IsBucketCount, capacity_of}
-use Rattle.half_mean.specs.Mean.{sum_below, total_reach, reach_cases, MeanIsAtMost, MeanLaw, HalfFullLaw, CapacityLaw, ExactMeanLaw, RecursionLaw, CasesLaw}
+use Rattle.half_mean.specs.Mean.{sum_below, total_reach, MeanIsAtMost, MeanReachIsAtMost, MeanReachLaw, HalfFullMeanLaw, CapacityMeanLaw, ExactMeanLaw, KnuthRecursionLaw, MeanCasesLaw}
 use Rattle.half_mean.proofs.lemmas.Sums.{lists-const, lists-same, below-const}
 use Rattle.half_mean.proofs.lemmas.Homes.{homes_law}
 use Rattle.half_mean.proofs.lemmas.Recursion.{blocks, blocks_behind, blocks-step, behind-step, blocks-none, reach-blocks_total}
@@ -30,14 +30,14 @@ exact_mean_law m n few =
     let is = (exact n m few).0 in
     subst (λ e. total_reach m m n * 2 ≡ m ^ e + knuth m n) (sym (add-one n)) (omega arith)
 
-pub recursion_law : RecursionLaw (λ k. k + 1)
+pub recursion_law : KnuthRecursionLaw (λ k. k + 1)
 recursion_law m n few =
     let more : m - (n + 1) ≡ suc (m - (n + 2)) = omega arith in
     let three : suc (suc (suc n)) ≡ n + 3 = omega arith in
     (λ i. more i * knuth m (add-one n i)) ∙ recursion (m - (n + 2)) n m (omega arith)
     ∙ (λ i. m ^ three i + sym (add-one n) i * (m - (n + 2)) * knuth m n)
 
-pub cases_law : CasesLaw
+pub cases_law : MeanCasesLaw
 cases_law hashes held = (
   lists-const hashes held 1 ∙ omega arith,
   lists-const hashes held (sum_below hashes (λ hash. 1)) ∙ ap (λ s. hashes ^ held * s) (below-const hashes 1 ∙ omega arith)
@@ -50,7 +50,7 @@ mean-sum : (t mm k dd sq : ℕ) → t * 2 ≡ mm + k → k * dd ≤ mm * sq → 
 mean-sum t mm k dd sq is small = let all : t * 2 * dd ≡ (mm + k) * dd = ap (λ s. s * dd) is in grind arith
 
 -- the bound where hashes are homes
-pub mean_of_homes : (m n : ℕ) → n < m → MeanIsAtMost (total_reach m m n) (reach_cases m n) ((m - n) ^ 2 + m ^ 2) (2 * (m - n) ^ 2)
+pub mean_of_homes : (m n : ℕ) → n < m → MeanReachIsAtMost m m n ((m - n) ^ 2 + m ^ 2) (2 * (m - n) ^ 2)
 mean_of_homes m n few =
     let empty : ℕ = m - suc n in
     let free : m - n ≡ suc empty = omega arith in
@@ -64,12 +64,12 @@ pub scaled : (s t under over c : ℕ) → MeanIsAtMost t c over under → MeanIs
 scaled s t under over c small = let more : s * (t * under) ≤ s * (over * c) = mul-le-mul_left s small in grind arith
 
 -- a mean over hashes is that over homes
-of_homes : (share m n over under : ℕ) → 0 < m → MeanIsAtMost (total_reach m m n) (reach_cases m n) over under
-    → MeanIsAtMost (total_reach (share * m) m n) (reach_cases (share * m) n) over under
+of_homes : (share m n over under : ℕ) → 0 < m → MeanReachIsAtMost m m n over under
+    → MeanReachIsAtMost (share * m) m n over under
 of_homes share m n over under some small =
     rw (homes_law share m n some, mul-pow share m (n + 1)) (scaled (share ^ (n + 1)) (total_reach m m n) under over (m ^ (n + 1)) small)
 
-pub mean_law : MeanLaw
+pub mean_law : MeanReachLaw
 mean_law share m n few = of_homes share m n ((m - n) ^ 2 + m ^ 2) (2 * (m - n) ^ 2) (omega arith) (mean_of_homes m n few)
 
 square-le : (t d m : ℕ) → m ≤ t * d → m ^ 2 ≤ t * t * d ^ 2
@@ -82,14 +82,14 @@ times-load : (t c dd sq tt : ℕ) → t * (2 * dd) ≤ (dd + sq) * c → sq ≤ 
 times-load t c dd sq tt mean small = let more : sq * c ≤ tt * dd * c = mul-le-mul_right c small in grind arith
 
 -- where at least one bucket in `t` is empty
-at_load : (t m n : ℕ) → n < m → m ≤ t * (m - n) → MeanIsAtMost (total_reach m m n) (reach_cases m n) (1 + t * t) 2
+at_load : (t m n : ℕ) → n < m → m ≤ t * (m - n) → MeanReachIsAtMost m m n (1 + t * t) 2
 at_load t m n few load =
     let some : 0 < (m - n) * (m - n) = mul-pos (omega arith) (omega arith) in
     le_of_mul-le-mul_right
     (times-load (total_reach m m n) (m ^ (n + 1)) ((m - n) ^ 2) (m ^ 2) (t * t) (mean_of_homes m n few) (square-le t (m - n) m load))
     (omega (arith, pow-two (m - n)))
 
-pub half_full_law : HalfFullLaw 5 2
+pub half_full_law : HalfFullMeanLaw 5 2
 half_full_law share m n some half = of_homes share m n 5 2 some (at_load 2 m n (omega arith) (omega arith))
 
 -- a bucket count that hashes of some bits can have as homes divides their number
@@ -106,7 +106,7 @@ bucket_share bits m n some (inr (k, two, is)) fits within =
       omega arith,
     )
 
-pub capacity_law : CapacityLaw 17 2
+pub capacity_law : CapacityMeanLaw 17 2
 capacity_law bits m n some count fits within =
     let s = bucket_share bits m n some count fits within in
     rw s.1 (of_homes s.0 m n 17 2 some (at_load 4 m n s.2 s.3))

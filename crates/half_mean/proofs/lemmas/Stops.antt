@@ -70,27 +70,15 @@ module _ (w : List ℕ) (slots : List (Option ℕ)) (ordered : ProbeInvariant sl
   -- a probe for a stored hash passes its bucket, so it ends where one from there does
   stored_stop : (p x : ℕ) → slot_at slots p ≡ Some x → stop m w x ≡ stop m w p
   stored_stop p x is =
-      let b : ℕ = home m x in
-      let s : ℕ = stop m w x in
-      let t : ℕ = stop m w p in
       let in_p = full-lt slots p (full_from _ x is) in
-      let in_b = in_home x in
-      let in_s = (at_stop x).within in
-      let in_t = (at_stop p).within in
-      let before = ordered.before p s x is in_s (at_stop x).vacant in
-      let far = first_vacant x t in_t (at_stop p).vacant in
-      let near = first_from p s in_p in_s (at_stop x).vacant in
-      omega (arith, distance_is m b p in_b, distance_is m b s in_b, distance_is m b t in_b, distance_is m p s in_p, distance_is m p t in_p)
+      let before = ordered.before p (stop m w x) x is (at_stop x).within (at_stop x).vacant in
+      let far = first_vacant x (stop m w p) (at_stop p).within (at_stop p).vacant in
+      let near = first_from p (stop m w x) in_p (at_stop x).within (at_stop x).vacant in
+      omega (arith, in_home x, (at_stop x).within, (at_stop p).within, distance_is)
 
   stop_vacant : (p : ℕ) → p < m → slot_at slots p ≡ None → stop m w p ≡ p
   stop_vacant p in_p none =
-      omega (
-        arith,
-        first_from p p in_p in_p none,
-        (at_stop p).within,
-        distance_is m p p in_p,
-        distance_is m p (stop m w p) in_p,
-      )
+      omega (arith, first_from p p in_p in_p none, (at_stop p).within, distance_is)
 
   entries-more : (h : ℕ) → count_by (λ x. stop m w x == stop m w h) w + 1 ≡ count_to (λ b. stop m w b == stop m w h) m
   entries-more h =
@@ -202,40 +190,20 @@ module _ (m : ℕ) (w : List ℕ) (x : ℕ) (few : length w + 1 < m) where
       let in_e = old.inside x in
       let behind = home_after m e in_e in
       let near = old.first (suc e) z (new.inside x) was.1 in
-      let b : ℕ = home m (suc e) in
-      was.0 (omega (arith, new.inside x, distance_is m b z (omega arith), distance_is m b next (omega arith)))
+      was.0 (omega (arith, new.inside x, distance_is))
 
   -- an insertion joins the block of the hash to the one behind it
   pub stop-joins : (h : ℕ) → stop m w h ≡ e → stop m (x ∷ w) h ≡ next
   stop-joins h is =
-      let b : ℕ = home m h in
-      let c : ℕ = home m (suc e) in
       let s : ℕ = stop m (x ∷ w) h in
-      let in_b : b < m = home-lt m h (omega arith) in
+      let in_home_h = home-lt m h (omega arith) in
       let behind = home_after m e (old.inside x) in
       let was = vacant_before s (new.vacant h) in
       let near = new.first h next (old.inside (suc e)) (vacant_other next next-other (old.vacant (suc e))) in
-      omega (
-        arith,
-        was.0,
-        old.first h s (new.inside h) was.1,
-        old.first (suc e) s (new.inside h) was.1,
-        old.inside (suc e),
-        new.inside h,
-        distance_is m b s in_b,
-        distance_is m b next in_b,
-        distance_is m b (stop m w h) in_b,
-        distance_is m c s (omega arith),
-        distance_is m c next (omega arith),
-      )
+      omega (arith, was.0, old.first h s (new.inside h) was.1, old.first (suc e) s (new.inside h) was.1, old.inside (suc e), new.inside h, distance_is)
 
   pub stop-stays : (h : ℕ) → stop m w h ≢ e → stop m (x ∷ w) h ≡ stop m w h
-  stop-stays h other =
-      let in_b : home m h < m = home-lt m h (omega arith) in
-      let was = vacant_before (stop m (x ∷ w) h) (new.vacant h) in
-      let near = new.first h (stop m w h) (old.inside h) (vacant_other (stop m w h) other (old.vacant h)) in
-      let far = old.first h (stop m (x ∷ w) h) (new.inside h) was.1 in
-      distance_same m (home m h) in_b _ _ (new.inside h) (old.inside h) (omega arith)
+  stop-stays h other = grind (arith, common_steps, distance_same, home-lt, new, old, vacant_before, vacant_other)
 
 -- the blocks behind two blocks are one only where those are
 pub next-apart : (m : ℕ) (w : List ℕ) (h g : ℕ) → length w < m → stop m w (suc (stop m w h)) ≡ stop m w (suc (stop m w g))
@@ -244,20 +212,8 @@ next-apart m w h g few same =
     let t = ends_with m w few in
     let e : ℕ = stop m w h in
     let p : ℕ = stop m w g in
-    let n : ℕ = stop m w (suc e) in
-    let b : ℕ = home m (suc e) in
-    let c : ℕ = home m (suc p) in
-    let in_n = t.inside (suc e) in
     let behind_e = home_after m e (t.inside h) in
     let behind_p = home_after m p (t.inside g) in
     let near_e = t.first (suc e) p (t.inside g) (t.vacant g) in
     let near_p = t.first (suc p) e (t.inside h) (t.vacant h) in
-    omega (
-      arith,
-      t.inside h,
-      t.inside g,
-      distance_is m b n (omega arith),
-      distance_is m b p (omega arith),
-      distance_is m c (stop m w (suc p)) (omega arith),
-      distance_is m c e (omega arith),
-    )
+    omega (arith, t.inside h, t.inside g, distance_is)
