@@ -156,7 +156,7 @@ def a_read_that_fails():
 
 
 def a_write_that_fails():
-    """The output takes so many bytes, and these are the first ones of the answers."""
+    """The output takes a number of bytes, and these are the first ones of the answers."""
     text, answers = b"f\ni 1 10\ni 1 20\nx\n", b"vec 0\nnone\nwas 10\nbad line\n"
     for room in range(len(answers) + 1):
         for most in (1, ALL_AT_ONCE):

@@ -18,7 +18,7 @@ from witness import difference
 TESTS = pathlib.Path(__file__).resolve().parent
 TOP = TESTS.parent
 PROGRAM = "witness"
-# The scripts of the random run that have to find an edit: so many of one limit, since each limit takes seconds to compile.
+# The scripts of the random run that have to find an edit: their number, and their one limit, as each takes seconds to compile.
 RANDOM_RUN, SCRIPTS, LIMIT = "the random run", 60, 5
 TESTED, OF_TESTS = "half_tests", "the tests of half_tests"
 

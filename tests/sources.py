@@ -38,8 +38,8 @@ RULES = (
     ("Keys and values are compared in these places; the other comparisons are of numbers, and of bytes in a line.",
      r"[!=]=\s*(?![\s\d]|b')"
      r"|(?:\.|::)(?:eq|ne|cmp|partial_cmp|equivalent|contains|starts_with|ends_with|strip_\w+)\b",
-     "table/deletion 2, table/probe 1, table/retain 1, vecmap/memory 1, words 1 | equivalent 6, map/equality 2, map/find 1, map/remove 1 | "
-     "lines 1, request 4, session 2"),
+     "table/deletion 2, table/probe 1, table/retain 1, vecmap/memory 1, words 1 | "
+     "equivalent 6, map/equality 2, map/find 1, map/remove 1 | lines 1, request 4, session 2"),
     ("Counted work is done in these places.",
      r"\b(?:hash_one|compare|word_at|read|search|first_match|first_empty|find_in|find_with_bucket)\b",
      "buckets 3, counting 3, store/find 1, table/deletion 4, table/find 4, table/probe 5, table/rehash 1, table 4, "
@@ -93,7 +93,8 @@ def search(pattern, places, codes):
 
 
 def main():
-    paths = [path for crate in LIBRARIES for path in (CRATES / crate / "src").rglob("*.rt") if path.stem != "tests"]
+    paths = [path for crate in LIBRARIES for path in (CRATES / crate / "src").rglob("*.rt")]
+    paths = [it for it in paths if it.stem != "tests" or "#[cfg(test)]\nmod tests;" not in (it.parent / "main.rt").read_text()]
     codes = {path.relative_to(CRATES).with_suffix("").as_posix(): code_of(path) for path in paths}
     counted = {name for path in paths for name in re.findall(r"\bfn (\w+)_counted\b", path.read_text())}
     failed = 0

@@ -5,7 +5,7 @@ import dataclasses
 GREATEST = 2**64 - 1
 # A call that needs capacity for more pairs is refused.
 MOST_PAIRS = 2**60
-# A state of maps of so many pairs, beside their form.
+# A state of maps of 20 to 70 pairs, beside their form.
 MANY = "20 to 70"
 RULES = {"plain": lambda key: key.id, "zero": lambda key: 0, "top": lambda key: GREATEST}
 

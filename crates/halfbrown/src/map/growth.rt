@@ -36,7 +36,7 @@ impl<K: Eq + Hash, V, S: BuildHasher, L: Limit> LimitedHashMap<K, V, S, L> {
     /// compared.
     ///
     /// Smaller columns and a smaller table need memory. Where that is refused nothing changes: a table stays one. A map
-    /// with no pairs needs none, and has capacity 0 afterwards; nor does a vector whose capacity is its length.
+    /// with no pairs needs none, and has capacity 0 afterwards. A vector whose capacity is its length stays as it is.
     ///
     /// ```
     /// let mut ages = HashMap::<u64, u32>::with_capacity(alloc, 100)?; // a table
