@@ -4,8 +4,9 @@ use Rattle.std.specs.Map.{keys_of}
 use Rattle.half_store.specs.Capacity.{buckets_of}
 use Rattle.half_store.specs.Probe.{AddsFinding, after_missing}
 use Rattle.half_store.specs.Reach.{reach}
-use Rattle.half_store.specs.Work.{Work, compared_more, first_match_cost}
+use Rattle.half_store.specs.Work.{Work, ComparesInOrder}
 use Rattle.half_store.specs.declared.store.vacancy.Vacancy.{Vacancy}
+use Rattle.half_store.specs.declared.vecmap.search.Scan.{Scan}
 use Rattle.half_store.specs.Store.{StoreState, IsVacancy}
 use Rattle.half_store.specs.Table.{Contents}
 
@@ -37,8 +38,8 @@ Finds returns sought s =
     FindsIn returns s.is_vec s.pairs (λ index k. slice_get s.hashes index ≡ Some sought) s.capacity s.contents sought
 
 -- what a search of a store under this hash cost that found this index, or none
-pub record CostsFinding {K V : Type 0} (s : StoreState K V) (sought : ℕ) (index : Option ℕ) (before after : Work) : Type 0 where
-  pub vector : s.is_vec ≡ true → after ≡ compared_more (first_match_cost index (length s.pairs)) before
+pub record CostsFinding {K V : Type 0} (s : StoreState K V) (sought : ℕ) (scan : Scan) (index : Option ℕ) (before after : Work) : Type 0 where
+  pub vector : s.is_vec ≡ true → ComparesInOrder scan index (length s.pairs) before after
   pub found : s.is_vec ≡ false → IfSome index (λ _. AddsFinding s.hashes (buckets_of s.capacity) sought before after)
   pub missing : s.is_vec ≡ false → IfNone index (after ≡ after_missing s.hashes (buckets_of s.capacity) sought before)
   pub short : s.is_vec ≡ false → reach s.hashes (buckets_of s.capacity) sought ≤ length s.hashes + 1

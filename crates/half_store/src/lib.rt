@@ -22,3 +22,4 @@ pub use store::vacancy::Vacancy;
 pub use table::Table;
 pub use tally::Tally;
 pub use vecmap::VecMap;
+pub use vecmap::search::Scan;

@@ -9,7 +9,7 @@ mod columns;
 mod memory;
 mod replace;
 mod retain;
-pub(crate) mod search;
+pub mod search;
 
 use std::alloc::Global;
 use std::marker::Model;

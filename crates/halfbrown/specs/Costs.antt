@@ -89,11 +89,11 @@ module _ {K V : Type 0} (hash : K → ℕ) where
 
   -- a search under this hash that found this index, or none
   module _ (sought : ℕ) (found : Option ℕ) where
-    -- its comparisons: in a vector exactly those in order, up to and with the key that it found, or all; in a table exactly all candidates
-    -- where it found none, and at least one of them where it found one
+    -- its comparisons: in a vector exactly all where it found none, and else at least those in order up to and with the key that it found; in a
+    -- table exactly all candidates where it found none, and at least one of them where it found one
     abbrev pub search_compares : Bool → List (K × V) → Range
     search_compares is_vec pairs =
-        if is_vec then exactly (first_match_cost found (length pairs))
+        if is_vec then between (first_match_cost found (length pairs)) (length pairs)
         else (if is_some found then between 1 (candidates pairs sought) else exactly (candidates pairs sought))
 
     -- the buckets that it reads: none in a vector; in a table exactly an unsuccessful probe where it found none, and at least one and fewer

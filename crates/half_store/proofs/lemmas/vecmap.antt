@@ -2,4 +2,5 @@
 pub mod Columns
 pub mod Replace
 pub mod Retain
+pub mod Search
 pub mod Zip

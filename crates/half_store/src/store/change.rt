@@ -12,6 +12,7 @@ ghost use Rattle.half_store.specs.Store.{store_pushed, IsVacancy, KeepsForm};
 
 use super::Store;
 use super::vacancy::Vacancy;
+use crate::Scan;
 use crate::{Tally, uncounted};
 
 impl<K, V> Store<K, V> {
@@ -54,7 +55,7 @@ impl<K, V> Store<K, V> {
         ensures { Takes self.old self.new (FnReturnsAt F.Fn matches.now) hash result tally.old tally.new }
     {
         let Some(table) = &mut self.table else {
-            return match self.find(hash, matches, tally) {
+            return match self.find(hash, matches, Scan::ByBlock, tally) {
                 Ok(index) => Some(self.columns.swap_remove(index)),
                 Err(_) => None,
             };

@@ -13,7 +13,7 @@ ghost use Rattle.half_store.specs.Store.{IsVacancy};
 use super::Store;
 use super::vacancy::Vacancy;
 use crate::Tally;
-use crate::vecmap::search::first_match;
+use crate::vecmap::search::{Scan, first_match};
 
 impl<K, V> Store<K, V> {
     /// Searches for a key that `matches` accepts: in a vector for the first, in a table among the keys of this hash.
@@ -22,16 +22,17 @@ impl<K, V> Store<K, V> {
         &self,
         hash: u64,
         matches: &F,
+        scan: Scan,
         tally: &mut Tally,
     ) -> Result<usize, Vacancy>
         requires { (key : Bor K) (index : ℕ) → slice_get (keys_of self.now.pairs) index ≡ Some key.now
             → F.pre matches.now key }
         ensures found { Finds (FnReturnsAt F.Fn matches.now) hash self.now result }
-        ensures cost { CostsFinding self.now hash (result_ok result) tally.old tally.new }
+        ensures cost { CostsFinding self.now hash scan (result_ok result) tally.old tally.new }
     {
         // This test comes before the keys are read, so that LLVM can join it to the one before the hash.
         let Some(table) = &self.table else {
-            return match first_match(self.columns.keys(), matches, tally) {
+            return match first_match(self.columns.keys(), matches, scan, tally) {
                 Some(index) => Ok(index),
                 None => Err(Vacancy { hash, bucket: 0 }),
             };

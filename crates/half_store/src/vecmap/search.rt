@@ -1,15 +1,58 @@
 //! A search from first to last.
-ghost use Rattle.std.specs.Prelude.{◌≡◌, ℕ, ◌<◌, true, false, Some, IfSome, IfNone, length, slice_get};
+ghost use Rattle.std.specs.Prelude.{◌≡◌, ℕ, ◌+◌, ◌-◌, ◌<◌, ◌≤◌, true, false, Some, IfSome, IfNone, length, slice_get};
 ghost use Rattle.std.specs.Borrow.{Bor};
 ghost use Rattle.std.specs.Fn.{FnReturnsAt};
 ghost use Rattle.half_store.specs.Search.{ReturnsAt};
-ghost use Rattle.half_store.specs.Work.{compared_more, first_match_cost};
+ghost use Rattle.half_store.specs.Work.{compared_more, first_match_cost, ComparesInOrder};
+ghost use Rattle.half_store.specs.declared.vecmap.search.Scan.TheVariants.{ByBlock};
 
 use crate::{Tally, counting};
+
+/// How a vector is searched.
+#[derive(Clone, Copy)]
+pub enum Scan {
+    /// Key by key, no further than the first that matches.
+    ByKey,
+    /// Small keys a block at a time, and no further than the block of the first that matches. Others key by key.
+    ByBlock,
+}
+
+/// How many small keys are compared before it is asked whether one of them matched.
+const BLOCK: usize = 16;
 
 /// The index of the first key that matches.
 #[inline(always)]
 pub(crate) fn first_match<K, F: Fn(&K) -> bool>(
+    keys: &[K],
+    matches: &F,
+    scan: Scan,
+    tally: &mut Tally,
+) -> Option<usize>
+    requires { (key : Bor K) (index : ℕ) → slice_get keys.now index ≡ Some key.now → F.pre matches.now key }
+    ensures found { IfSome result (λ index. (index < length keys.now)
+        × ReturnsAt (FnReturnsAt F.Fn matches.now) keys.now index true) }
+    ensures none_before { IfSome result (λ index. (earlier : ℕ) → earlier < index
+        → ReturnsAt (FnReturnsAt F.Fn matches.now) keys.now earlier false) }
+    ensures absent { IfNone result ((index : ℕ) → index < length keys.now
+        → ReturnsAt (FnReturnsAt F.Fn matches.now) keys.now index false) }
+    ensures work { ComparesInOrder scan result (length keys.now) tally.old tally.new }
+{
+    if let Scan::ByBlock = scan
+        && are_small(keys)
+    {
+        return first_match_by_block(keys, matches, tally);
+    }
+    first_match_by_key(keys, matches, tally)
+}
+
+// Whether a key takes at most eight bytes, so that a comparison costs less than a branch that is mispredicted.
+#[inline(always)]
+fn are_small<K>(keys: &[K]) -> bool {
+    keys.len() * size_of::<K>() <= keys.len().saturating_mul(8)
+}
+
+#[inline(always)]
+fn first_match_by_key<K, F: Fn(&K) -> bool>(
     keys: &[K],
     matches: &F,
     tally: &mut Tally,
@@ -29,4 +72,60 @@ pub(crate) fn first_match<K, F: Fn(&K) -> bool>(
         }
     }
     None
+}
+
+#[inline(always)]
+fn first_match_by_block<K, F: Fn(&K) -> bool>(
+    keys: &[K],
+    matches: &F,
+    tally: &mut Tally,
+) -> Option<usize>
+    requires { (key : Bor K) (index : ℕ) → slice_get keys.now index ≡ Some key.now → F.pre matches.now key }
+    ensures found { IfSome result (λ index. (index < length keys.now)
+        × ReturnsAt (FnReturnsAt F.Fn matches.now) keys.now index true) }
+    ensures none_before { IfSome result (λ index. (earlier : ℕ) → earlier < index
+        → ReturnsAt (FnReturnsAt F.Fn matches.now) keys.now earlier false) }
+    ensures absent { IfNone result ((index : ℕ) → index < length keys.now
+        → ReturnsAt (FnReturnsAt F.Fn matches.now) keys.now index false) }
+    ensures work { ComparesInOrder ByBlock result (length keys.now) tally.old tally.new }
+{
+    let mut start = 0;
+    while start < keys.len() {
+        let end = start + BLOCK.min(keys.len() - start);
+        let found = first_match_between(keys, start, end, matches, tally);
+        if found < end {
+            return Some(found);
+        }
+        start = end;
+    }
+    None
+}
+
+// The index of the first key that matches from `start` on, or `end`. It compares all keys between, so that no branch depends
+// on where one matches.
+#[inline(always)]
+fn first_match_between<K, F: Fn(&K) -> bool>(
+    keys: &[K],
+    start: usize,
+    end: usize,
+    matches: &F,
+    tally: &mut Tally,
+) -> usize
+    requires order { start ≤ end }
+    requires within { end ≤ length keys.now }
+    requires callable { (key : Bor K) (index : ℕ) → slice_get keys.now index ≡ Some key.now → F.pre matches.now key }
+    ensures from { start ≤ result }
+    ensures within { result ≤ end }
+    ensures found { result < end → ReturnsAt (FnReturnsAt F.Fn matches.now) keys.now result true }
+    ensures none_before { (earlier : ℕ) → start ≤ earlier → earlier < result
+        → ReturnsAt (FnReturnsAt F.Fn matches.now) keys.now earlier false }
+    ensures work { tally.new ≡ compared_more (end - start) tally.old }
+{
+    let mut found = end;
+    for index in (start..end).rev() {
+        if counting::compare(matches, &keys[index], tally) {
+            found = index;
+        }
+    }
+    found
 }

@@ -1,9 +1,11 @@
 //! The search for a key, or by a match on keys: in a vector by `==` alone, in a table by hash.
-ghost use Rattle.std.specs.Prelude.{◌≡◌, ◌<◌, ℕ, Some, false, slice_get};
+ghost use Rattle.std.specs.Prelude.{◌≡◌, ◌+◌, ◌<◌, ℕ, Some, false, true, length, slice_get};
 ghost use Rattle.std.specs.Borrow.{Bor};
 ghost use Rattle.std.specs.Fn.{FnReturnsAt};
 ghost use Rattle.std.specs.Map.{keys_of};
 ghost use Rattle.std.specs.Result.{result_ok};
+ghost use Rattle.half_store.specs.Work.{first_match_cost};
+ghost use Rattle.half_store.specs.declared.vecmap.search.Scan.TheVariants.{ByKey};
 ghost use Rattle.halfbrown.specs.Costs.{key_hash, SearchCosts, CostsSearch, CostsHashedSearch};
 ghost use Rattle.halfbrown.specs.Lookup.{LooksUp};
 ghost use Rattle.halfbrown.specs.Match.{Matches};
@@ -11,7 +13,7 @@ ghost use Rattle.halfbrown.specs.State.{IsState};
 
 use super::LimitedHashMap;
 use crate::{Equivalent, Limit};
-use half_store::{Tally, Vacancy};
+use half_store::{Scan, Tally, Vacancy};
 use std::hash::{BuildHasher, Hash};
 
 impl<K: Eq + Hash, V, S: BuildHasher, L: Limit> LimitedHashMap<K, V, S, L> {
@@ -49,7 +51,7 @@ impl<K: Eq + Hash, V, S: BuildHasher, L: Limit> LimitedHashMap<K, V, S, L> {
         let matches = move |held: &K| -> bool
             ensures { result ≡ Q.equivalent key held.now }
         { key.equivalent(held) };
-        self.find_match(hash, &matches, tally)
+        self.find_match(hash, &matches, Scan::ByBlock, tally)
     }
 
     /// Searches for a key that `matches` accepts: in a vector for the first, in a table among the keys of this hash.
@@ -58,6 +60,7 @@ impl<K: Eq + Hash, V, S: BuildHasher, L: Limit> LimitedHashMap<K, V, S, L> {
         &self,
         hash: u64,
         matches: &F,
+        scan: Scan,
         tally: &mut Tally,
     ) -> Result<usize, Vacancy>
         requires { (key : Bor K) (index : ℕ)
@@ -66,8 +69,10 @@ impl<K: Eq + Hash, V, S: BuildHasher, L: Limit> LimitedHashMap<K, V, S, L> {
             (key_hash S.BuildHasher S.Hasher.Hasher K.hash_input) hash self.now result }
         ensures cost { SearchCosts (key_hash S.BuildHasher S.Hasher.Hasher K.hash_input) hash
             self.now (result_ok result) 0 tally.old tally.new }
+        ensures in_order { scan ≡ ByKey → self.now.is_vec ≡ true → tally.new.compared
+            ≡ tally.old.compared + first_match_cost (result_ok result) (length self.now.pairs) }
         ensures state { IsState K.eq L.LIMIT self.now }
     {
-        self.store.find(hash, matches, tally)
+        self.store.find(hash, matches, scan, tally)
     }
 }

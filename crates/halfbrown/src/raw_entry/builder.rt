@@ -12,7 +12,7 @@ ghost use Rattle.halfbrown.specs.RawSearch.{ReadsPair};
 
 use super::RawEntryBuilder;
 use crate::{Equivalent, Limit};
-use half_store::{Tally, uncounted};
+use half_store::{Scan, Tally, uncounted};
 use std::hash::{BuildHasher, Hash};
 
 impl<'a, K: Eq + Hash, V, S: BuildHasher, L: Limit> RawEntryBuilder<'a, K, V, S, L> {
@@ -120,7 +120,7 @@ impl<'a, K: Eq + Hash, V, S: BuildHasher, L: Limit> RawEntryBuilder<'a, K, V, S,
         ensures cost { FindingCosts (key_hash S.BuildHasher S.Hasher.Hasher K.hash_input) hash
             (map_in self.entry) (option_map deref_pair result) tally.old tally.new }
     {
-        let index = self.map.find_match(hash, &is_match, tally).ok()?;
+        let index = self.map.find_match(hash, &is_match, Scan::ByKey, tally).ok()?;
         Some(self.map.columns().pair_at(index))
     }
 }

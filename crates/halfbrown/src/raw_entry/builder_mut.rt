@@ -11,7 +11,7 @@ ghost use Rattle.halfbrown.specs.RawSearch.{Searches, SearchesByMatch};
 
 use super::{RawEntryBuilderMut, RawEntryMut, RawVacantEntryMut};
 use crate::{Equivalent, Limit, OccupiedEntry};
-use half_store::{Tally, uncounted};
+use half_store::{Scan, Tally, uncounted};
 use std::hash::{BuildHasher, Hash};
 
 impl<'a, K: Eq + Hash, V, S: BuildHasher, L: Limit> RawEntryBuilderMut<'a, K, V, S, L> {
@@ -132,7 +132,7 @@ impl<'a, K: Eq + Hash, V, S: BuildHasher, L: Limit> RawEntryBuilderMut<'a, K, V,
             (ready_map self.entry) (found_pair result) tally.old tally.new }
     {
         let RawEntryBuilderMut::Ready(ready) = self;
-        match ready.map.find_match(hash, &is_match, tally) {
+        match ready.map.find_match(hash, &is_match, Scan::ByKey, tally) {
             Ok(index) => RawEntryMut::Occupied(OccupiedEntry {
                 map: ready.map,
                 index,

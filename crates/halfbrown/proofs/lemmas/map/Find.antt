@@ -7,13 +7,15 @@ use Rattle.std.specs.Map.{keys_of}
 use Rattle.half_store.specs.Reach.{reach}
 use Rattle.half_store.specs.Capacity.{buckets_of}
 use Rattle.half_store.specs.Probe.{AddsFinding, after_missing}
-use Rattle.half_store.specs.Work.{Work, compared_more, first_match_cost}
+use Rattle.half_store.specs.Work.{Work, first_match_cost, ComparesInOrder}
 use Rattle.halfbrown.specs.Costs.{candidates, probe_length, SearchCosts}
 use Rattle.halfbrown.specs.State.{State}
 use Rattle.std.proofs.Props.{props}
 use Rattle.half_store.specs.Store.{IsVacancy, StoreState}
 use Rattle.half_store.specs.Table.{Contents}
 use Rattle.half_store.specs.declared.store.vacancy.Vacancy.{Vacancy}
+use Rattle.half_store.specs.declared.vecmap.search.Scan.{Scan}
+use Rattle.half_store.specs.declared.vecmap.search.Scan.TheVariants.{ByKey}
 use Rattle.std.proofs.lemmas.Option.{same_Some, slice_get-get_or, slice_get-map}
 use Rattle.std.specs.List.{IsDistinct}
 use Rattle.std.specs.Prelude.{Result}
@@ -50,13 +52,13 @@ module _ {K V S : Type 0} (hash : S → K → ℕ) (sought : ℕ) (m : State K V
     missing_costs spent = grind (arith, common_steps)
 
   -- what a search by a match costs, from what the store says of its work
-  pub match_costs : (is_vec : Bool) → m.is_vec ≡ is_vec → (index : Option ℕ) (hashes : List ℕ)
+  pub match_costs : (is_vec : Bool) → m.is_vec ≡ is_vec → (scan : Scan) (index : Option ℕ) (hashes : List ℕ)
       → (is_vec ≡ false → hashes ≡ map (hash m.builder) (keys_of m.pairs))
-      → (is_vec ≡ true → after ≡ compared_more (first_match_cost index (length m.pairs)) before)
+      → (is_vec ≡ true → ComparesInOrder scan index (length m.pairs) before after)
       → (is_vec ≡ false → IfSome index (λ _. AddsFinding hashes (buckets_of m.capacity) sought before after))
       → (is_vec ≡ false → IfNone index (after ≡ after_missing hashes (buckets_of m.capacity) sought before))
       → (is_vec ≡ false → reach hashes (buckets_of m.capacity) sought ≤ length hashes + 1) → SearchCosts hash sought m index 0 before after
-  match_costs is_vec form index hashes is_map vector found missing near = grind (arith, common_steps)
+  match_costs is_vec form scan index hashes is_map vector found missing near = grind (arith, common_steps)
 
 module _ {K V S : Type 0} (hash : S → K → ℕ) (sought own : ℕ) (m : State K V S) (before after : Work) (index : Option ℕ) where
   costs_by_form : (is_vec : Bool) → m.is_vec ≡ is_vec → (is_vec ≡ false → sought ≡ own) → SearchCosts hash sought m index 0 before after
@@ -67,6 +69,11 @@ module _ {K V S : Type 0} (hash : S → K → ℕ) (sought own : ℕ) (m : State
   pub costs_for_other : (m.is_vec ≡ false → sought ≡ own) → SearchCosts hash sought m index 0 before after
       → SearchCosts hash own m index 0 before after
   costs_for_other same costs = costs_by_form m.is_vec refl same costs
+
+-- key by key a search in a vector compares exactly those in order
+pub compared_in_order : (scan : Scan) (found : Option ℕ) (len : ℕ) (before after : Work) → scan ≡ ByKey → ComparesInOrder scan found len before after
+    → after.compared ≡ before.compared + first_match_cost found len
+compared_in_order scan found len before after by_key compares = grind (arith, common_steps)
 
 -- Vacancies for a pair: for which hash they are.
 

@@ -1,7 +1,7 @@
 use Rattle.std.proofs.Common.{below_more, arith, rules}
 use Rattle.std.specs.Fn.{FnReturnsAt}
 use Rattle.half_store.proofs.lemmas.counting.{returned_at}
-use Rattle.half_store.proofs.vecmap.search.first_match.Goals as goal
+use Rattle.half_store.proofs.vecmap.search.first_match_by_key.Goals as goal
 
 pub returns-then-compare-clause-found : goal.returns-then-compare-clause-found
 returns-then-compare-clause-found g c = (

@@ -1,0 +1,24 @@
+-- A search that goes down from the end.
+use Rattle.std.proofs.Common.{◌≡◌, ℕ, ◌+◌, ◌-◌, ◌<◌, ◌≤◌, subst, ⊎_elim, eq-or-lt_of_le, arith}
+use Rattle.std.proofs.lemmas.Bool.{cases_lt}
+use Rattle.std.proofs.lemmas.Grind.{common_steps}
+use Rattle.half_store.specs.Work.{Work, one_compared, compared_more}
+
+-- what holds from an index on, and of the one before it, holds from that one on
+pub from_before : (P : ℕ → Type 0) (index end : ℕ) → 0 < index → ((k : ℕ) → index ≤ k → k < end → P k) → P (index - 1)
+    → (k : ℕ) → index - 1 ≤ k → k < end → P k
+from_before P index end some all here k from within =
+    ⊎_elim (λ is. subst P is here) (λ more. all k (omega (arith, more)) within) (eq-or-lt_of_le from)
+
+pub compared_again : (n m : ℕ) (w between after : Work) → m ≡ n + 1 → between ≡ compared_more n w → after ≡ one_compared between
+    → after ≡ compared_more m w
+compared_again n m w between after more before one = grind (arith, common_steps)
+
+-- what holds below an index, and from it on, holds of all
+pub below_and_from : (P : ℕ → Type 0) (index end : ℕ) → ((k : ℕ) → k < index → P k) → ((k : ℕ) → index ≤ k → k < end → P k)
+    → (k : ℕ) → k < end → P k
+below_and_from P index end below from k within = ⊎_elim (λ less. below k less) (λ not_less. from k not_less within) (cases_lt k index)
+
+pub compared_all : (start more : ℕ) (w between after : Work) → between ≡ compared_more start w
+    → after ≡ compared_more (start + more - start) between → after ≡ compared_more (start + more) w
+compared_all start more w between after before then = grind (arith, common_steps)
