@@ -50,7 +50,7 @@ pub type HashMap<K, V, S = DefaultHashBuilder> = LimitedHashMap<K, V, S, UpTo<32
 /// In both forms the pairs keep the order of their insertion, until a removal moves the last pair to the index that
 /// became free.
 ///
-/// A search in a vector compares keys in order, up to the one that it finds, and hashes nothing. A search in a table
+/// A search in a vector compares keys in order, up to the one that it finds or a few more, and hashes nothing. A search in a table
 /// hashes the key once, probes from its home bucket on, and compares only keys of the same hash. How many buckets it
 /// reads where it finds nothing is decided by the home buckets of the held keys, whatever the history.
 ///

@@ -37,16 +37,10 @@ module _ {K V : Type 0} (eq : K → K → Bool) (value_eq : V → V → Bool) (l
         λ each. (same_pairs-Decides eq value_eq laws pairs other).1 (λ k. sym (same k) ∙ each k),
       )
 
--- a search in a list compares at most all keys
-comparisons_most : {K V : Type 0} (test : K → Bool) (pairs : List (K × V)) (found : Option ℕ) → index_of test (keys_of pairs) ≡ found
-    → first_match_cost found (length pairs) ≤ length pairs
-comparisons_most test pairs None is = omega arith
-comparisons_most test pairs (Some i) is =
-    omega (arith, first_within test (keys_of pairs) i (first_of_index test (keys_of pairs) i is), length-keys_of pairs)
-
-compares_most : (is_vec held : Bool) (in_order candidates most : ℕ) → in_order ≤ most → candidates ≤ most
-    → (cond is_vec (exactly in_order) (cond held (between 1 candidates) (exactly candidates))).most ≤ most
-compares_most is_vec held in_order candidates most vector table = grind (arith, common_steps)
+-- a search compares at most all keys
+compares_most : (is_vec held : Bool) (in_order candidates most : ℕ) → candidates ≤ most
+    → (cond is_vec (between in_order most) (cond held (between 1 candidates) (exactly candidates))).most ≤ most
+compares_most is_vec held in_order candidates most table = grind (arith, common_steps)
 
 looks_most : (is_vec held : Bool) (probe : ℕ) → (cond is_vec (exactly 0) (cond held (between 1 (probe - 1)) (exactly probe))).most ≤ probe
 looks_most is_vec held probe = grind (arith, common_steps)
@@ -60,7 +54,7 @@ module _ {K V S : Type 0} (eq : K → K → Bool) (hash : S → K → ℕ) (m : 
   none_cost before after costs = costs
 
   one_compares : (k : K) (before after : Work) → KeySearchCosts eq hash m k before after → after.compared ≤ before.compared + length m.pairs
-  one_compares k before after costs = grind (arith, common_steps, compares_most, comparisons_most, count_by-le-length, is_some, length-keys_of)
+  one_compares k before after costs = grind (arith, common_steps, compares_most, count_by-le-length, is_some, length-keys_of)
 
   one_looks : (k : K) (before after : Work) → KeySearchCosts eq hash m k before after → after.looked ≤ before.looked + (length m.pairs + 1)
   one_looks k before after costs = grind (arith, common_steps)

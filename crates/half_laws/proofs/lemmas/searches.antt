@@ -166,7 +166,7 @@ module _ {K V S : Type 0} (hash : S → K → ℕ) where
     finds_none = let absent = absent_of_unheld test pairs unheld in absent.index
 
     compares-exact : (is_vec : Bool) → IsExact (search_compares h sought (index_of test (keys_of pairs)) is_vec pairs)
-    compares-exact true = refl
+    compares-exact true = subst (λ found. IsExact (search_compares h sought found true pairs)) (sym finds_none) refl
     compares-exact false = subst (λ found. IsExact (search_compares h sought found false pairs)) (sym finds_none) refl
 
     looks-exact : (is_vec : Bool) (capacity : ℕ) → IsExact (search_looks h sought (index_of test (keys_of pairs)) is_vec capacity pairs)

@@ -1,4 +1,4 @@
-use Rattle.std.proofs.Common.{◌-◌, ◌≡◌, ℕ, ◌<◌, ap, ◌∙◌, subst, arith, false, true}
+use Rattle.std.proofs.Common.{◌-◌, ap, ◌∙◌, arith, false}
 use Rattle.std.specs.Fn.{FnReturnsAt}
 use Rattle.half_store.specs.Search.{ReturnsAt}
 use Rattle.half_store.specs.Work.{compared_more}

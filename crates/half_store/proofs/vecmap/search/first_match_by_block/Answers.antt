@@ -1,5 +1,4 @@
-use Rattle.std.proofs.Common.{◌≡◌, ℕ, ◌+◌, ◌-◌, ◌<◌, ◌≤◌, false, length, ap, ◌∙◌, arith}
-use Rattle.std.proofs.lemmas.Grind.{common_steps}
+use Rattle.std.proofs.Common.{◌+◌, false, arith}
 use Rattle.std.specs.Fn.{FnReturnsAt}
 use Rattle.half_store.specs.Search.{ReturnsAt}
 use Rattle.half_store.proofs.lemmas.vecmap.Search.{below_and_from, compared_all}
