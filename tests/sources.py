@@ -29,10 +29,10 @@ RULES = (
      "store/change 2 | entry/debug 1, entry/methods 4, entry/occupied 2, map/collect 2, map/debug 1, map/equality 1, "
      "raw_entry/debug 1, raw_entry/methods 1, run 3 | answer 3"),
     ("Slices are indexed, and no map.", r"[\w\])]\[",
-     "buckets 1, table/deletion 2, table/probe 1, table/rehash 2, vecmap/replace 1, vecmap/retain 2, vecmap 7, words 4 |  | "
+     "buckets 1, table/deletion 2, table/probe 1, table/rehash 2, vecmap/replace 1, vecmap/retain 2, vecmap/search 1, vecmap 7, words 4 |  | "
      "lines 2, request 2"),
     ("What compares keys is handed on, and only `compare` calls it.", r"\b(?:matches|is_match)\b",
-     "counting 2, store/change 3, store/find 3, table/deletion 2, table/find 4, table/probe 2, table 6, vecmap/search 2 | "
+     "counting 2, store/change 3, store/find 3, table/deletion 2, table/find 4, table/probe 2, table 6, vecmap/search 9 | "
      "map/find 4, map/remove 2, raw_entry/builder 2, raw_entry/builder_mut 2 |"),
     ("No hasher is built: a key is hashed by `hash_one`.", r"\.(?:hash|build_hasher)\(|::(?:hash|build_hasher)\b", "||"),
     ("Keys and values are compared in these places; the other comparisons are of numbers, and of bytes in a line.",
@@ -43,7 +43,7 @@ RULES = (
     ("Counted work is done in these places.",
      r"\b(?:hash_one|compare|word_at|read|search|first_match|first_empty|find_in|find_with_bucket)\b",
      "buckets 3, counting 3, store/find 1, table/deletion 4, table/find 4, table/probe 5, table/rehash 1, table 4, "
-     "vecmap/search 2, vecmap 1, words 6 | map/form 2 |"),
+     "vecmap/search 3, vecmap 1, words 6 | map/form 2 |"),
     ("The words of buckets are read by `word_at` alone.", r"\bwords\b",
      "arrays 1, lib 1, store/memory 2, table/memory 2, words 44 |  |"),
     ("Memory is taken, and values are cloned, in these places.",
