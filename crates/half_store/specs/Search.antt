@@ -4,9 +4,10 @@ use Rattle.std.specs.Map.{keys_of}
 use Rattle.half_store.specs.Capacity.{buckets_of}
 use Rattle.half_store.specs.Probe.{AddsFinding, after_missing}
 use Rattle.half_store.specs.Reach.{reach}
-use Rattle.half_store.specs.Work.{Work, ComparesInOrder}
+use Rattle.half_store.specs.Work.{Work, first_match_cost}
 use Rattle.half_store.specs.declared.store.vacancy.Vacancy.{Vacancy}
 use Rattle.half_store.specs.declared.vecmap.search.Scan.{Scan}
+use Rattle.half_store.specs.declared.vecmap.search.Scan.TheVariants.{ByKey}
 use Rattle.half_store.specs.Store.{StoreState, IsVacancy}
 use Rattle.half_store.specs.Table.{Contents}
 
@@ -36,6 +37,15 @@ module _ {K V : Type 0} (returns : K → Bool → Type 0) (is_vec : Bool) (pairs
 abbrev pub Finds : {K V : Type 0} → (K → Bool → Type 0) → ℕ → StoreState K V → Result ℕ Vacancy → Type 0
 Finds returns sought s =
     FindsIn returns s.is_vec s.pairs (λ index k. slice_get s.hashes index ≡ Some sought) s.capacity s.contents sought
+
+-- a search from first to last among so many keys found this index, or none: it compared at least those up to and with the one that it found, and
+-- at most all; key by key it compared no more than it had to
+pub record ComparesInOrder (scan : Scan) (found : Option ℕ) (len : ℕ) (before after : Work) : Type 0 where
+  pub asked : after.asked ≡ before.asked
+  pub least : before.compared + first_match_cost found len ≤ after.compared
+  pub most : after.compared ≤ before.compared + len
+  pub by_key : scan ≡ ByKey → after.compared ≡ before.compared + first_match_cost found len
+  pub looked : after.looked ≡ before.looked
 
 -- what a search of a store under this hash cost that found this index, or none
 pub record CostsFinding {K V : Type 0} (s : StoreState K V) (sought : ℕ) (scan : Scan) (index : Option ℕ) (before after : Work) : Type 0 where

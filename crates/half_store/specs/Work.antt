@@ -1,7 +1,5 @@
 -- The work that a tally has seen.
-use Rattle.std.specs.Prelude.{◌≡◌, ℕ, ◌+◌, ◌≤◌, Option, None, Some}
-use Rattle.half_store.specs.declared.vecmap.search.Scan.{Scan}
-use Rattle.half_store.specs.declared.vecmap.search.Scan.TheVariants.{ByKey, ByBlock}
+use Rattle.std.specs.Prelude.{ℕ, ◌+◌, Option, None, Some}
 
 -- how often a hash was computed, keys were compared, and buckets were read
 pub record Work : Type 0 where
@@ -33,18 +31,6 @@ compared_more n w = record w { compared = w.compared + n }
 abbrev pub first_match_cost : Option ℕ → ℕ → ℕ
 first_match_cost None len = len
 first_match_cost (Some index) len = index + 1
-
--- how many it makes at most: no more where it goes key by key, and else up to all
-abbrev pub most_compared : Scan → Option ℕ → ℕ → ℕ
-most_compared ByKey found len = first_match_cost found len
-most_compared ByBlock found len = len
-
--- a search from first to last among so many keys found this index, or none
-pub record ComparesInOrder (scan : Scan) (found : Option ℕ) (len : ℕ) (before after : Work) : Type 0 where
-  pub asked : after.asked ≡ before.asked
-  pub least : before.compared + first_match_cost found len ≤ after.compared
-  pub most : after.compared ≤ before.compared + most_compared scan found len
-  pub looked : after.looked ≡ before.looked
 
 -- so many more hashes were computed
 abbrev pub asked_more : ℕ → Work → Work

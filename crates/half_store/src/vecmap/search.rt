@@ -2,8 +2,8 @@
 ghost use Rattle.std.specs.Prelude.{◌≡◌, ℕ, ◌+◌, ◌-◌, ◌<◌, ◌≤◌, true, false, Some, IfSome, IfNone, length, slice_get};
 ghost use Rattle.std.specs.Borrow.{Bor};
 ghost use Rattle.std.specs.Fn.{FnReturnsAt};
-ghost use Rattle.half_store.specs.Search.{ReturnsAt};
-ghost use Rattle.half_store.specs.Work.{compared_more, first_match_cost, ComparesInOrder};
+ghost use Rattle.half_store.specs.Search.{ReturnsAt, ComparesInOrder};
+ghost use Rattle.half_store.specs.Work.{compared_more, first_match_cost};
 ghost use Rattle.half_store.specs.declared.vecmap.search.Scan.TheVariants.{ByBlock};
 
 use crate::{Tally, counting};

@@ -7,7 +7,7 @@ use Rattle.std.specs.Map.{keys_of}
 use Rattle.half_store.specs.Reach.{reach}
 use Rattle.half_store.specs.Capacity.{buckets_of}
 use Rattle.half_store.specs.Probe.{AddsFinding, after_missing}
-use Rattle.half_store.specs.Work.{Work, first_match_cost, ComparesInOrder}
+use Rattle.half_store.specs.Work.{Work}
 use Rattle.halfbrown.specs.Costs.{candidates, probe_length, SearchCosts}
 use Rattle.halfbrown.specs.State.{State}
 use Rattle.std.proofs.Props.{props}
@@ -15,13 +15,12 @@ use Rattle.half_store.specs.Store.{IsVacancy, StoreState}
 use Rattle.half_store.specs.Table.{Contents}
 use Rattle.half_store.specs.declared.store.vacancy.Vacancy.{Vacancy}
 use Rattle.half_store.specs.declared.vecmap.search.Scan.{Scan}
-use Rattle.half_store.specs.declared.vecmap.search.Scan.TheVariants.{ByKey}
 use Rattle.std.proofs.lemmas.Option.{same_Some, slice_get-get_or, slice_get-map}
 use Rattle.std.specs.List.{IsDistinct}
 use Rattle.std.specs.Prelude.{Result}
 use Rattle.std.specs.Result.{result_ok}
 use Rattle.half_store.specs.Pairs.{index_of}
-use Rattle.half_store.specs.Search.{Finds}
+use Rattle.half_store.specs.Search.{Finds, ComparesInOrder}
 use Rattle.halfbrown.specs.Layout.{state_in}
 use Rattle.halfbrown.specs.Lookup.{IsIndexOf, IsAbsent, LooksUp}
 use Rattle.halfbrown.specs.Match.{IsMatch, HasNoMatch, Matches}
@@ -69,11 +68,6 @@ module _ {K V S : Type 0} (hash : S → K → ℕ) (sought own : ℕ) (m : State
   pub costs_for_other : (m.is_vec ≡ false → sought ≡ own) → SearchCosts hash sought m index 0 before after
       → SearchCosts hash own m index 0 before after
   costs_for_other same costs = costs_by_form m.is_vec refl same costs
-
--- key by key a search in a vector compares exactly those in order
-pub compared_in_order : (scan : Scan) (found : Option ℕ) (len : ℕ) (before after : Work) → scan ≡ ByKey → ComparesInOrder scan found len before after
-    → after.compared ≡ before.compared + first_match_cost found len
-compared_in_order scan found len before after by_key compares = grind (arith, common_steps)
 
 -- Vacancies for a pair: for which hash they are.
 

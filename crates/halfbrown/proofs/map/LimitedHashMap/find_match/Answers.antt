@@ -1,12 +1,12 @@
 use Rattle.std.proofs.Common.{subst, ap, ◌∙◌, length}
 use Rattle.std.specs.Fn.{FnReturnsAt}
 use Rattle.std.specs.Result.{result_ok}
-use Rattle.half_store.specs.Work.{ComparesInOrder}
+use Rattle.half_store.specs.Search.{ComparesInOrder}
 use Rattle.halfbrown.specs.Costs.{key_hash, SearchCosts}
 use Rattle.halfbrown.specs.Match.{Matches}
 use Rattle.halfbrown.specs.Layout.{state_in}
 use Rattle.halfbrown.specs.State.{State}
-use Rattle.halfbrown.proofs.lemmas.map.Find.{compared_in_order, match_costs, matches_of}
+use Rattle.halfbrown.proofs.lemmas.map.Find.{match_costs, matches_of}
 use Rattle.halfbrown.proofs.map.LimitedHashMap.find_match.Goals as goal
 
 pub returns-clause-found : goal.returns-clause-found
@@ -31,6 +31,5 @@ returns-clause-cost g c =
 
 pub returns-clause-in_order : goal.returns-clause-in_order
 returns-clause-in_order g c = λ by_key form.
-    compared_in_order c.args.scan (result_ok c.find.result) (length c.args.self.now.pairs) c.args.tally.now c.find.new.tally by_key
     (subst (λ (m : State g.row.K.Denot g.row.V.Denot g.row.S.Denot). ComparesInOrder c.args.scan (result_ok c.find.result) (length m.pairs)
-    c.args.tally.now c.find.new.tally) c.self.view_is (c.find.ensures.cost.vector (ap (λ m. m.is_vec) c.self.view_is ∙ form)))
+    c.args.tally.now c.find.new.tally) c.self.view_is (c.find.ensures.cost.vector (ap (λ m. m.is_vec) c.self.view_is ∙ form))).by_key by_key
