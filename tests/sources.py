@@ -48,7 +48,7 @@ RULES = (
      "arrays 1, lib 1, store/memory 2, table/memory 2, words 44 |  |"),
     ("Memory is taken, and values are cloned, in these places.",
      r"\b(?:alloc|allocator|push|reserve\w*|extend\w*|append|resize\w*|clone\w*|copy|copied|grow\w*|collect)\b",
-     "column 11, store/change 2, store/drain 1, store/memory 14, store/switch 2, store 2, table/memory 9, vecmap/columns 2, "
+     "column 11, store/change 2, store/drain 1, store/memory 16, store/switch 5, store 2, table/memory 9, vecmap/columns 2, "
      "vecmap/memory 19, vecmap 4, words 15 | entry/vacant 1, iter/column 2, iter 4, macros 4, map/clone 7, map/collect 16, "
      "map/form 1, map/growth 2, map/insert 4, map/make 12, map/prepare 2, map 3, raw_entry/vacant 1, run 6 | lines 1, main 1, "
      "session 10"),

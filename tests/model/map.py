@@ -4,8 +4,9 @@ import dataclasses
 
 from model.basics import MANY, RULES, Pair, Work
 
-# How many requests for memory the columns make, of keys and of values, and the arrays of a table beside them.
-COLUMNS, ARRAYS = 2, 2
+# How many requests for memory the columns make, of keys and of values, and beside them the arrays of a table, and the block in
+# which it stands.
+COLUMNS, ARRAYS, BLOCK = 2, 2, 1
 
 
 def table_capacity(pairs):
@@ -21,11 +22,12 @@ class Map:
 
     def __init__(self, limit, rule, capacity=0, work=None):
         self.limit, self.rule, self.pairs, self.work = limit, rule, [], work or Work()
-        self.is_vec, self.has_gone_back = capacity <= limit, False
+        self.is_vec, self.has_gone_back = True, False
         self.capacity = 0
         self.work.check_size(capacity)
         if capacity > 0:
-            self.grow(capacity if self.is_vec else table_capacity(capacity), self.is_vec)
+            is_vec = capacity <= limit
+            self.grow(capacity if is_vec else table_capacity(capacity), is_vec)
 
     def __str__(self):
         return f"{'vec' if self.is_vec else 'map'} {len(self.pairs)} {self.capacity}"
@@ -47,8 +49,8 @@ class Map:
         return Map(self.limit, self.rule, work=self.work)
 
     def grow(self, capacity, is_vec):
-        """The arrays of a table are made anew, and the columns grow."""
-        self.work.request(COLUMNS if is_vec else COLUMNS + ARRAYS)
+        """The arrays of a table are made anew, and the columns grow. A vector that becomes a table gets a block for it."""
+        self.work.request(COLUMNS if is_vec else COLUMNS + ARRAYS + (BLOCK if self.is_vec else 0))
         self.is_vec, self.capacity = is_vec, capacity
 
     def require(self, pairs):

@@ -1,5 +1,6 @@
 -- What is left of a store whose pairs are taken out.
 use Rattle.std.specs.Prelude.{◌≡◌, ℕ, length, Option, Some, None}
+use Rattle.std.specs.Global.{Box}
 use Rattle.std.specs.List.{zip}
 use Rattle.std.specs.VecDeque.{deque_capacity}
 use Rattle.std.specs.declared.collections.VecDeque.{VecDeque}
@@ -9,9 +10,9 @@ use Rattle.half_store.specs.Store.{StoreState, store_of}
 use Rattle.half_store.specs.Table.{TableState}
 
 -- a table that the pairs had has the capacity of the columns
-abbrev pub IsBacked : ℕ → Option TableState → Type 0
+abbrev pub IsBacked : ℕ → Option (Box TableState) → Type 0
 IsBacked columns None = Unit {0}
-IsBacked columns (Some t) = capacity_of t.buckets ≡ columns
+IsBacked columns (Some t) = capacity_of t.value.buckets ≡ columns
 
 module _ {K V Z : Type 0} (keys : VecDeque K Z) (values : VecDeque V Z) where
   -- the pairs that are still to come, with the capacity of the columns
@@ -19,11 +20,11 @@ module _ {K V Z : Type 0} (keys : VecDeque K Z) (values : VecDeque V Z) where
   queued = record { pairs = zip keys.items values.items; capacity = deque_capacity keys }
 
   -- the same in the form that the store had
-  abbrev pub drained_of : Option TableState → StoreState K V
+  abbrev pub drained_of : Option (Box TableState) → StoreState K V
   drained_of table = store_of queued table
 
   -- the two queues are of one length and one capacity
-  pub record IsDrained (table : Option TableState) : Type 0 where
+  pub record IsDrained (table : Option (Box TableState)) : Type 0 where
     pub length : length values.items ≡ length keys.items
     pub capacity : deque_capacity values ≡ deque_capacity keys
     pub backed : IsBacked (deque_capacity keys) table

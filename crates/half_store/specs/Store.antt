@@ -1,5 +1,6 @@
 -- What contracts see of a store.
 use Rattle.std.specs.Prelude.{◌≡◌, ℕ, ◌+◌, Bool, true, false, List, [], ◌∷◌, ◌++◌, length, min, Option, None, Some, if◌then◌else◌}
+use Rattle.std.specs.Global.{Box}
 use Rattle.half_store.specs.declared.store.vacancy.Vacancy.{Vacancy}
 use Rattle.half_store.specs.Capacity.{capacity_of, capacity_for, grown_capacity}
 use Rattle.half_store.specs.Columns.{Columns}
@@ -24,10 +25,10 @@ module _ {K V : Type 0} where
   abbrev pub table_of : Columns K V → TableState → StoreState K V
   table_of columns t = record { is_vec = false; pairs = columns.pairs; capacity = capacity_of t.buckets; hashes = t.hashes; contents = table_contents t }
 
-  -- columns without a table are a vector
-  abbrev pub store_of : Columns K V → Option TableState → StoreState K V
+  -- columns without a table are a vector; a table stands in a block of its own
+  abbrev pub store_of : Columns K V → Option (Box TableState) → StoreState K V
   store_of columns None = vector_of columns
-  store_of columns (Some t) = table_of columns t
+  store_of columns (Some t) = table_of columns t.value
 
   -- a table has a hash for each pair, and the capacity of the columns
   pub record IsTableOver (columns : Columns K V) (t : TableState) : Type 0 where
@@ -35,9 +36,9 @@ module _ {K V : Type 0} where
     pub backed : capacity_of t.buckets ≡ columns.capacity
 
   -- what is always true of the columns and the table
-  abbrev pub IsStore : Columns K V → Option TableState → Type 0
+  abbrev pub IsStore : Columns K V → Option (Box TableState) → Type 0
   IsStore columns None = Unit {0}
-  IsStore columns (Some t) = IsTableOver columns t
+  IsStore columns (Some t) = IsTableOver columns t.value
 
   -- the form and the capacity stay
   pub record KeepsForm (old new : StoreState K V) : Type 0 where

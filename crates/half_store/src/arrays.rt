@@ -1,6 +1,6 @@
 //! The memory of a store.
 
-/// For how many elements each array of a store has memory. A vector has none for hashes and words.
+/// For how many elements each array of a store has memory. A vector has none for hashes and words, and no block of a table.
 #[derive(Clone, Copy)]
 pub struct Arrays {
     /// The column of keys.
@@ -13,4 +13,6 @@ pub struct Arrays {
     pub words: usize,
     /// The bytes of each of them.
     pub word_size: usize,
+    /// The bytes of the block that a table itself stands in, beside its arrays.
+    pub table: usize,
 }

@@ -21,8 +21,8 @@ use std::marker::Model;
 #[derive(Drop)]
 pub struct Store<K, V> {
     columns: VecMap<K, V>,
-    // by hash; a vector has none
-    table: Option<Table>,
+    // by hash; a vector has none, and no room for one
+    table: Option<Box<Table>>,
 }
 
 impl<K, V> Model for Store<K, V> {

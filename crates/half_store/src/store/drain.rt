@@ -16,7 +16,7 @@ pub struct Drained<K, V> {
     keys: VecDeque<K>,
     values: VecDeque<V>,
     // of the pairs that were there
-    table: Option<Table>,
+    table: Option<Box<Table>>,
 }
 
 impl<K, V> Model for Drained<K, V> {

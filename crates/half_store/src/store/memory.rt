@@ -37,7 +37,7 @@ impl<K, V> Store<K, V> {
                 table: None,
             });
         }
-        let table = Table::with_capacity(alloc, capacity)?;
+        let table = Box::new(alloc, Table::with_capacity(alloc, capacity)?)?;
         Ok(Store {
             columns: VecMap::with_capacity(alloc, table.capacity())?,
             table: Some(table),
@@ -55,12 +55,14 @@ impl<K, V> Store<K, V> {
             Some(table) => table.memory(),
             None => (0, 0, size_of::<u32>()),
         };
+        let table = if self.is_vec() { 0 } else { size_of::<Table>() };
         Arrays {
             keys,
             values,
             hashes,
             words,
             word_size,
+            table,
         }
     }
 
@@ -145,7 +147,7 @@ impl<K, V> Store<K, V> {
                 table: None,
             });
         };
-        let copy = table.copy()?;
+        let copy = Box::new(self.columns.allocator(), table.copy()?)?;
         Ok(Store {
             columns: self.columns.clone_with_capacity(table.capacity())?,
             table: Some(copy),

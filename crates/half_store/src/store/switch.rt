@@ -8,13 +8,14 @@ use super::Store;
 use crate::{Refusal, Table};
 
 impl<K, V> Store<K, V> {
-    /// An empty table with capacity for so many pairs, for which the columns get the same capacity. On error nothing changes.
-    pub fn new_table(&mut self, needed: usize) -> Result<Table, Refusal>
+    /// An empty table with capacity for so many pairs, in a block of its own. The columns get the same capacity, after the table
+    /// has all its memory. On error nothing changes.
+    pub fn new_table(&mut self, needed: usize) -> Result<Box<Table>, Refusal>
         requires { self.old.is_vec ≡ true }
         ensures form { self.new.is_vec ≡ true }
         ensures pairs { self.new.pairs ≡ self.old.pairs }
-        ensures hashes { IfOk result (λ t. t.hashes ≡ []) }
-        ensures capacity { IfOk result (λ t. capacity_of t.buckets ≡ capacity_for needed) }
+        ensures hashes { IfOk result (λ t. t.value.hashes ≡ []) }
+        ensures capacity { IfOk result (λ t. capacity_of t.value.buckets ≡ capacity_for needed) }
         ensures enough { OnOk result (needed ≤ capacity_for needed) }
         ensures series { OnOk result (capacity_for needed ≡ capacity_for (capacity_for needed)) }
         ensures columns { OnOk result (self.new.capacity ≡ max self.old.capacity (capacity_for needed)) }
@@ -22,17 +23,19 @@ impl<K, V> Store<K, V> {
         ensures refused { IfErr result (λ why. why ≡ refusal_of needed) }
         ensures err { OnErr result (self.new ≡ self.old) }
     {
-        let table = Table::with_capacity(self.columns.allocator(), needed)?;
+        let alloc = self.columns.allocator();
+        let table = Box::new(alloc, Table::with_capacity(alloc, needed)?)?;
         self.columns.reserve(table.capacity())?;
         Ok(table)
     }
 
     /// Makes a vector one with this table, which has the hash of each pair, in order.
-    pub fn switch_to(&mut self, table: Table)
+    pub fn switch_to(&mut self, table: Box<Table>)
         requires vector { self.old.is_vec ≡ true }
-        requires len { length table.hashes ≡ length self.old.pairs }
-        requires backed { capacity_of table.buckets ≡ self.old.capacity }
-        ensures { self.new ≡ table_of (record { pairs = self.old.pairs; capacity = self.old.capacity }) table }
+        requires len { length table.value.hashes ≡ length self.old.pairs }
+        requires backed { capacity_of table.value.buckets ≡ self.old.capacity }
+        ensures { self.new ≡ table_of (record { pairs = self.old.pairs; capacity = self.old.capacity })
+            table.value }
     {
         self.table = Some(table);
     }

@@ -1,13 +1,14 @@
 -- What stays true of a store whose columns change.
-use Rattle.std.proofs.Common.{◌≡◌, ℕ, zero, suc, List, [], ◌∷◌, length, Option, None, Some, is_none, if◌then◌else◌, refl, sym, arith, ap}
+use Rattle.std.proofs.Common.{◌≡◌, ℕ, zero, suc, List, [], ◌∷◌, length, Option, None, Some, is_none, if◌then◌else◌, refl, sym, arith, ap, subst}
 use Rattle.std.proofs.Common.{◌∙◌}
 use Rattle.std.proofs.lemmas.Grind.{common_steps}
 use Rattle.std.proofs.lemmas.Option.{same_Some}
 use Rattle.std.specs.Borrow.{Bor}
+use Rattle.std.specs.Global.{Box}
 use Rattle.half_store.specs.Columns.{Columns}
 use Rattle.half_store.specs.Pairs.{set_key, set_value, set_values, swap_remove_at}
 use Rattle.half_store.specs.Replaced.{replaced, Replaces}
-use Rattle.half_store.specs.Store.{StoreState, IsStore, KeepsForm, vector_of, table_of, store_of}
+use Rattle.half_store.specs.Store.{StoreState, IsStore, IsTableOver, KeepsForm, vector_of, table_of, store_of}
 use Rattle.half_store.specs.Table.{TableState}
 
 module _ {K V : Type 0} where
@@ -27,33 +28,38 @@ module _ {K V : Type 0} where
   length-set_values (p ∷ ps) (v ∷ vs) = ap suc (length-set_values ps vs)
 
   -- a store with no index is a vector of its columns
-  pub vector_view : (columns : Columns K V) {index : Option TableState} {s : StoreState K V} → index ≡ None → store_of columns index ≡ s
+  pub vector_view : (columns : Columns K V) {index : Option (Box TableState)} {s : StoreState K V} → index ≡ None → store_of columns index ≡ s
       → vector_of columns ≡ s
   vector_view columns is view = ap (store_of columns) (sym is) ∙ view
 
-  -- and with one a table of both
-  pub table_view : (columns : Columns K V) (t : TableState) {index : Option TableState} {s : StoreState K V} → index ≡ Some t
-      → store_of columns index ≡ s → table_of columns t ≡ s
-  table_view columns t is view = ap (store_of columns) (sym is) ∙ view
+  -- and with one a table of both, where `t` is what the block contains
+  pub table_view : (columns : Columns K V) {t : TableState} {block : Box TableState} {index : Option (Box TableState)} {s : StoreState K V}
+      → t ≡ block.value → index ≡ Some block → store_of columns index ≡ s → table_of columns t ≡ s
+  table_view columns inside is view = ap (table_of columns) inside ∙ ap (store_of columns) (sym is) ∙ view
+
+  -- which has a hash for each pair
+  pub table_over : (columns : Columns K V) {t : TableState} {block : Box TableState} {index : Option (Box TableState)}
+      → t ≡ block.value → index ≡ Some block → IsStore columns index → IsTableOver columns t
+  table_over columns inside is kept = subst (IsTableOver columns) (sym inside) (subst (IsStore columns) is kept)
 
   -- a store has the pairs of its columns
-  pub pairs_of-store : (columns : Columns K V) (index : Option TableState) → (store_of columns index).pairs ≡ columns.pairs
+  pub pairs_of-store : (columns : Columns K V) (index : Option (Box TableState)) → (store_of columns index).pairs ≡ columns.pairs
   pairs_of-store columns None = refl
   pairs_of-store columns (Some t) = refl
 
   -- with the same index the form stays, and with the same capacity of the columns all capacities do
-  pub keeps_form : (index : Option TableState) (old new : Columns K V) {s : StoreState K V} → store_of old index ≡ s
+  pub keeps_form : (index : Option (Box TableState)) (old new : Columns K V) {s : StoreState K V} → store_of old index ≡ s
       → new.capacity ≡ old.capacity → KeepsForm s (store_of new index)
   keeps_form index old new view capacity = grind (arith, common_steps)
 
   -- and of a table that has another index with as many buckets
-  pub table_keeps_form : (old new : Columns K V) {t after : TableState} {index : Option TableState} {s : StoreState K V} → index ≡ Some t
-      → store_of old index ≡ s → after.buckets ≡ t.buckets → new.capacity ≡ old.capacity
+  pub table_keeps_form : (old new : Columns K V) {t : Box TableState} {after : TableState} {index : Option (Box TableState)} {s : StoreState K V}
+      → index ≡ Some t → store_of old index ≡ s → after.buckets ≡ t.value.buckets → new.capacity ≡ old.capacity
       → KeepsForm s (table_of new after)
   table_keeps_form old new {t} is view buckets columns = grind (arith, common_steps, table_view)
 
   -- as many pairs, with the same capacity, have the same index
-  pub kept_store : (index : Option TableState) (old new : Columns K V) → length new.pairs ≡ length old.pairs → new.capacity ≡ old.capacity
+  pub kept_store : (index : Option (Box TableState)) (old new : Columns K V) → length new.pairs ≡ length old.pairs → new.capacity ≡ old.capacity
       → IsStore old index → IsStore new index
   kept_store index old new len capacity is = grind (arith, common_steps)
 
@@ -80,7 +86,7 @@ module _ {K V : Type 0} where
 
   -- what becomes of a pair of the columns becomes of that of the store over them
   pub replaces_in_store :
-      {returns : Bor K → V → Option V → Type 0} {at : ℕ} {removed : Option K} (old new : Columns K V) (was index : Option TableState)
+      {returns : Bor K → V → Option V → Type 0} {at : ℕ} {removed : Option K} (old new : Columns K V) (was index : Option (Box TableState))
       {s : StoreState K V}
       → store_of old was ≡ s → Replaces returns old.pairs at new.pairs removed
       → Replaces returns s.pairs at (store_of new index).pairs removed

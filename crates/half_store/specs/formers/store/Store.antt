@@ -1,5 +1,6 @@
 -- `Store` as a type that may contain the type that contains it, by its values.
 use Rattle.std.specs.Prelude.{◌≡◌, ℕ, Bool, List, Option, None, Some}
+use Rattle.std.specs.Global.{Box}
 use Rattle.std.specs.Map.{values_of}
 use Rattle.std_collections.specs.Layout.Former.{entry, on_value, entries_puts, entries_recoded, values_listed}
 use mathlib.Core.Former.{Former, children, const, list, pair, this, via}
@@ -52,10 +53,10 @@ the_items_listed K X s = values_listed K X s.pairs
 
 -- the columns, and the table where there is one
 abbrev fields : Type 0 → Former {0}
-fields K = via (pair (columns.the_former this K) (const (Option TableState))) (λ X. Inside K X) (λ X u. (u.columns, u.table))
+fields K = via (pair (columns.the_former this K) (const (Option (Box TableState)))) (λ X. Inside K X) (λ X u. (u.columns, u.table))
     (λ X v. record { columns = v.0; table = v.1 }) (λ X u. refl) (λ X v. refl)
 
-IsStore-prop : {K X : Type 0} (c : Columns K X) (t : Option TableState) → IsProp (IsStore c t)
+IsStore-prop : {K X : Type 0} (c : Columns K X) (t : Option (Box TableState)) → IsProp (IsStore c t)
 IsStore-prop c None p q = refl
 IsStore-prop c (Some t) p q = λ i. record { len = ℕ_set _ _ p.len q.len i; backed = ℕ_set _ _ p.backed q.backed i }
 
@@ -63,19 +64,19 @@ module _ {K X Y : Type 0} (h : X → Y) (c : Columns K X) where
   abbrev mapped : Columns K Y
   mapped = (columns.the_former this K).map X Y h c
 
-  natural : (t : Option TableState) → store_of mapped t ≡ (the_former this K).map X Y h (store_of c t)
+  natural : (t : Option (Box TableState)) → store_of mapped t ≡ (the_former this K).map X Y h (store_of c t)
   natural None = refl
   natural (Some t) = refl
 
-  goes : (t : Option TableState) → IsStore c t → IsStore mapped t
+  goes : (t : Option (Box TableState)) → IsStore c t → IsStore mapped t
   goes None p = tt
   goes (Some t) p = record { len = p.len ∙ sym (length-map c.pairs (on_value h)); backed = p.backed }
 
-  comes : (t : Option TableState) → IsStore mapped t → IsStore c t
+  comes : (t : Option (Box TableState)) → IsStore mapped t → IsStore c t
   comes None p = tt
   comes (Some t) p = record { len = p.len ∙ length-map c.pairs (on_value h); backed = p.backed }
 
-keeps : {K X : Type 0} (c : Columns K X) (t : Option TableState)
+keeps : {K X : Type 0} (c : Columns K X) (t : Option (Box TableState))
     → held (the_former this K) X (store_of c t) ≡ held (columns.the_former this K) X c
 keeps c None = refl
 keeps c (Some t) = refl

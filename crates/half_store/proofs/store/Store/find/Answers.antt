@@ -5,7 +5,8 @@ use Rattle.std.proofs.lemmas.Option.{slice_get_within}
 use Rattle.std.specs.Fn.{FnReturnsAt}
 use Rattle.std.specs.Map.{keys_of}
 use Rattle.half_store.specs.Search.{Finds}
-use Rattle.half_store.specs.Store.{StoreState, IsStore, store_of, vector_of, table_of}
+use Rattle.half_store.specs.Store.{StoreState, store_of, vector_of, table_of}
+use Rattle.half_store.proofs.lemmas.store.States.{table_view, table_over}
 use Rattle.half_store.proofs.store.Store.find.Goals as goal
 
 pub returns-in-Some-first_match-clause-found : goal.returns-in-Some-first_match-clause-found
@@ -51,9 +52,9 @@ find-requires-clause-callable g c = grind (arith, common_steps, slice_get)
 pub returns-in-Ok-clause-found : goal.returns-in-Ok-clause-found
 returns-in-Ok-clause-found g c =
     let columns = c.self.inside.columns in
-    let table = c.in-Some.table in
-    let is : table_of columns table ≡ c.args.self.now = ap (store_of columns) (sym c.in-Some.is) ∙ c.self.view_is in
-    let kept = subst (IsStore columns) c.in-Some.is c.self.invariant in
+    let table = c.deref.result.now in
+    let is : table_of columns table ≡ c.args.self.now = table_view columns c.deref.ensures c.in-Some.is c.self.view_is in
+    let kept = table_over columns c.deref.ensures c.in-Some.is c.self.invariant in
     let index = c.in-Ok.index in
     subst (λ (s : StoreState g.row.K.Denot g.row.V.Denot). Finds (FnReturnsAt g.F.Fn c.args.matches.now) c.args.hash s (Ok index)) is
     (record {
@@ -66,8 +67,8 @@ returns-in-Ok-clause-found g c =
 pub returns-in-Err-clause-found : goal.returns-in-Err-clause-found
 returns-in-Err-clause-found g c =
     let columns = c.self.inside.columns in
-    let table = c.in-Some.table in
-    let is : table_of columns table ≡ c.args.self.now = ap (store_of columns) (sym c.in-Some.is) ∙ c.self.view_is in
+    let table = c.deref.result.now in
+    let is : table_of columns table ≡ c.args.self.now = table_view columns c.deref.ensures c.in-Some.is c.self.view_is in
     subst (λ (s : StoreState g.row.K.Denot g.row.V.Denot). Finds (FnReturnsAt g.F.Fn c.args.matches.now) c.args.hash s
     (Err (record { hash = c.args.hash; bucket = c.in-Err.bucket }))) is (
       record {

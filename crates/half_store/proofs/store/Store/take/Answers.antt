@@ -3,9 +3,9 @@ use Rattle.std.proofs.lemmas.Option.{slice_get_within}
 use Rattle.std.specs.Fn.{FnReturnsAt}
 use Rattle.half_store.specs.Pairs.{swap_remove_at}
 use Rattle.half_store.specs.Search.{Finds}
-use Rattle.half_store.specs.Store.{StoreState, IsStore, store_of, table_of}
+use Rattle.half_store.specs.Store.{StoreState, table_of}
 use Rattle.half_store.specs.declared.store.vacancy.Vacancy.{Vacancy}
-use Rattle.half_store.proofs.lemmas.store.States.{table_keeps_form, pairs_of-store}
+use Rattle.half_store.proofs.lemmas.store.States.{table_view, table_over, table_keeps_form, pairs_of-store}
 use Rattle.half_store.proofs.lemmas.vecmap.Zip.{swap_remove_at_is}
 use Rattle.half_store.proofs.store.Store.take.Goals as goal
 
@@ -15,15 +15,15 @@ swap_remove-requires g c =
 
 pub swap_remove-requires-in-Ok-take : goal.swap_remove-requires-in-Ok-take
 swap_remove-requires-in-Ok-take g c =
-    let kept = subst (IsStore c.self.inside.columns) c.in-Some.is c.self.invariant in
-    omega (arith, slice_get_within c.in-Some.table.hashes c.in-Ok-take.index c.args.hash c.in-Ok-take.ensures.finds.found, kept.len)
+    let kept = table_over c.self.inside.columns c.deref_mut.ensures.value c.in-Some.is c.self.invariant in
+    omega (arith, slice_get_within c.deref_mut.result.now.hashes c.in-Ok-take.index c.args.hash c.in-Ok-take.ensures.finds.found, kept.len)
 
 pub returns-in-Ok-take : goal.returns-in-Ok-take
 returns-in-Ok-take g c =
     let columns = c.self.inside.columns in
-    let table = c.in-Some.table in
-    let is : table_of columns table ≡ c.args.self.now = ap (store_of columns) (sym c.in-Some.is) ∙ c.self.view_is in
-    let kept = subst (IsStore columns) c.in-Some.is c.self.invariant in
+    let table = c.deref_mut.result.now in
+    let is : table_of columns table ≡ c.args.self.now = table_view columns c.deref_mut.ensures.value c.in-Some.is c.self.view_is in
+    let kept = table_over columns c.deref_mut.ensures.value c.in-Some.is c.self.invariant in
     let index = c.in-Ok-take.index in
     let found = c.in-Ok-take.ensures.finds in
     record {
@@ -42,15 +42,15 @@ returns-in-Ok-take g c =
         hashes = λ form. c.in-Ok-take.ensures.removes.hashes ∙ swap_remove_at_is table.hashes index 0
             ∙ ap (λ s. swap_remove_at s.hashes index) is;
         form = table_keeps_form columns c.swap_remove-in-Ok-take.new.self c.in-Some.is c.self.view_is
-            c.in-Ok-take.ensures.removes.buckets (ap (λ cs. cs.capacity) c.swap_remove-in-Ok-take.ensures.after);
+            (c.in-Ok-take.ensures.removes.buckets ∙ ap (λ t. t.buckets) c.deref_mut.ensures.value) (ap (λ cs. cs.capacity) c.swap_remove-in-Ok-take.ensures.after);
       };
     }
 
 pub returns-in-Err-take : goal.returns-in-Err-take
 returns-in-Err-take g c =
     let columns = c.self.inside.columns in
-    let table = c.in-Some.table in
-    let is : table_of columns table ≡ c.args.self.now = ap (store_of columns) (sym c.in-Some.is) ∙ c.self.view_is in
+    let table = c.deref_mut.result.now in
+    let is : table_of columns table ≡ c.args.self.now = table_view columns c.deref_mut.ensures.value c.in-Some.is c.self.view_is in
     let found = c.in-Err-take.ensures.finds in
     let vacancy : Vacancy = record { hash = c.args.hash; bucket = c.in-Err-take.field-0 } in
     record {
