@@ -12,8 +12,7 @@ ghost use Rattle.half_store.specs.Store.{store_pushed, IsVacancy, KeepsForm};
 
 use super::Store;
 use super::vacancy::Vacancy;
-use crate::Scan;
-use crate::{Tally, uncounted};
+use crate::{Scan, Tally, uncounted};
 
 impl<K, V> Store<K, V> {
     /// Adds a pair at the end, at a vacancy for its hash. The capacity must be enough for it. It reads no bucket.

@@ -45,10 +45,11 @@ pub(crate) fn first_match<K, F: Fn(&K) -> bool>(
     first_match_by_key(keys, matches, tally)
 }
 
-// Whether a key takes at most eight bytes, so that a comparison costs less than a branch that is mispredicted.
+// Whether there are keys of at most eight bytes, so that a comparison costs less than a branch that is mispredicted. A size is
+// known to fit only as a multiple, of keys that are there.
 #[inline(always)]
 fn are_small<K>(keys: &[K]) -> bool {
-    keys.len() * size_of::<K>() <= keys.len().saturating_mul(8)
+    !keys.is_empty() && 1 * size_of::<K>() <= 8
 }
 
 #[inline(always)]
@@ -89,6 +90,15 @@ fn first_match_by_block<K, F: Fn(&K) -> bool>(
         → ReturnsAt (FnReturnsAt F.Fn matches.now) keys.now index false) }
     ensures work { ComparesInOrder ByBlock result (length keys.now) tally.old tally.new }
 {
+    // Most vectors are one block, and a loop over it would take a quarter longer.
+    if keys.len() <= BLOCK {
+        let found = first_match_between(keys, 0, keys.len(), matches, tally);
+        return if found < keys.len() {
+            Some(found)
+        } else {
+            None
+        };
+    }
     let mut start = 0;
     while start < keys.len() {
         let end = start + BLOCK.min(keys.len() - start);
