@@ -41,9 +41,9 @@ RULES = (
      "table/deletion 2, table/probe 1, table/retain 1, vecmap/memory 1, words 1 | "
      "equivalent 6, map/equality 2, map/find 1, map/remove 1 | lines 1, request 4, session 2"),
     ("Counted work is done in these places.",
-     r"\b(?:hash_one|compare|word_at|read|search|first_match|first_empty|find_in|find_with_bucket)\b",
+     r"\b(?:hash_one|hash_key|compare|word_at|read|search|first_match|first_empty|find_in|find_with_bucket)\b",
      "buckets 3, counting 3, store/find 1, table/deletion 4, table/find 4, table/probe 5, table/rehash 1, table 4, "
-     "vecmap/search 3, vecmap 1, words 6 | map/form 2 |"),
+     "vecmap/search 3, vecmap 1, words 6 | key_hasher 3, map/form 2 |"),
     ("The words of buckets are read by `word_at` alone.", r"\bwords\b",
      "arrays 1, lib 1, store/memory 2, table/memory 2, words 44 |  |"),
     ("Memory is taken, and values are cloned, in these places.",

@@ -1,13 +1,12 @@
 //! Keys with their hashes, and a map that takes them.
 ghost use Rattle.std.specs.Prelude.{◌≡◌};
-ghost use Rattle.halfbrown.specs.Costs.{key_hash};
 ghost use Rattle.half_bench.specs.Hashes.{default_hash};
 
 use crate::keys::{Key, Lawful, OfNumber};
 use crate::maps::AtLimit;
-use halfbrown::{DefaultHashBuilder, RawEntryMut, SizedHashMap};
+use halfbrown::{DefaultHashBuilder, KeyHasher, RawEntryMut, SizedHashMap};
 use std::alloc::Global;
-use std::hash::{BuildHasher, BuildHasherDefault, FoldHasher, Hash, Hasher};
+use std::hash::{BuildHasher, BuildHasherDefault, Hash};
 use std::io;
 
 /// A key with its hash by a default builder.
@@ -32,8 +31,7 @@ impl<K: Eq + Hash> Hashed<K> {
     #[inline(always)]
     fn hash_by(&self, _builder: &DefaultHashBuilder) -> u64
         requires { ⟦<DefaultHashBuilder as Default>⟧.is_default _builder.now }
-        ensures { result ≡ key_hash ⟦<DefaultHashBuilder as BuildHasher>⟧ ⟦<FoldHasher as Hasher>⟧ K.hash_input
-            _builder.now self.now.key }
+        ensures { result ≡ ⟦<DefaultHashBuilder as KeyHasher<K>>⟧.hash _builder.now self.now.key }
     {
         self.hash
     }

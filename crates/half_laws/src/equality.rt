@@ -1,9 +1,9 @@
 //! What holds of equality. These functions do nothing: the laws are their contracts.
-ghost use Rattle.halfbrown.specs.Costs.{key_hash};
 ghost use Rattle.halfbrown.specs.EqualityLaws.{ReflexiveLaw, SymmetricLaw, TransitiveLaw};
 ghost use Rattle.half_laws.specs.ComparisonLaws.{ValuesLaw, PairsLaw, OrderLaw, ComparisonLaw};
 
-use std::hash::{BuildHasher, Hash};
+use halfbrown::KeyHasher;
+use std::hash::Hash;
 
 /// Holding the same pairs is an equivalence of maps where equality of their values is one, also across limits, builders
 /// and forms. None of these decides it, nor does the order of the pairs. The value of each key decides it, or, where
@@ -21,6 +21,6 @@ pub fn equality_of_maps<K: Eq + Hash, V: PartialEq>()
 /// for each pair of the left map, and exactly one where the maps are the same. A search in a vector hashes nothing and
 /// reads no bucket, and a search in a table hashes once. In both forms the number of compared keys is at most the
 /// product of the lengths.
-pub fn cost_of_equality<K: Eq + Hash, V: PartialEq, S: BuildHasher>()
-    ensures { ComparisonLaw K.eq V.eq (key_hash S.BuildHasher S.Hasher.Hasher K.hash_input) }
+pub fn cost_of_equality<K: Eq + Hash, V: PartialEq, S: KeyHasher<K>>()
+    ensures { ComparisonLaw K.eq V.eq S.hash }
 {}

@@ -1,53 +1,52 @@
 //! What holds of every run, in the words of `run`'s contract: steps lead from one map to another. These functions do nothing: the
 //! laws are their contracts.
-ghost use Rattle.halfbrown.specs.Costs.{key_hash};
 ghost use Rattle.half_laws.specs.RunLaws.{FormLaw, UnswitchedLaw, SwitchLaw, TableLaw, NothingHashedLaw, RepliesLaw, SplitLaw, JoinLaw};
 ghost use Rattle.half_laws.specs.RunLaws.{HashesLaw, OneSwitchLaw, AmortizedHashesLaw, CapacityLaw, BytesLaw, MovesLaw};
 
-use halfbrown::Limit;
-use std::hash::{BuildHasher, Hash};
+use halfbrown::{KeyHasher, Limit};
+use std::hash::Hash;
 
 /// A run ends in the form that its last change of form left: a table after a pair was put into a full vector, a vector
 /// after a `Shrink` with no more pairs than the limit. Where no command changed the form, it stays. A run that begins
 /// with a vector and puts no pair into a full one hashes nothing.
-pub fn form_of_a_run<K: Eq + Hash, V, S: BuildHasher, L: Limit>()
+pub fn form_of_a_run<K: Eq + Hash, V, S: KeyHasher<K>, L: Limit>()
     ensures form { FormLaw V S L.LIMIT K.eq }
-    ensures unswitched { UnswitchedLaw V S L.LIMIT K.eq (key_hash S.BuildHasher S.Hasher.Hasher K.hash_input) }
+    ensures unswitched { UnswitchedLaw V S L.LIMIT K.eq S.hash }
 {}
 
 /// Without `Shrink` no run goes back: it ends with a vector exactly where it began with one and put no pair into a full
 /// one, and then it has hashed nothing. Once a table, always a table.
-pub fn form_without_shrink<K: Eq + Hash, V, S: BuildHasher, L: Limit>()
+pub fn form_without_shrink<K: Eq + Hash, V, S: KeyHasher<K>, L: Limit>()
     ensures switched { SwitchLaw V S L.LIMIT K.eq }
     ensures stays_a_table { TableLaw V S L.LIMIT K.eq }
-    ensures nothing_hashed { NothingHashedLaw V S L.LIMIT K.eq (key_hash S.BuildHasher S.Hasher.Hasher K.hash_input) }
+    ensures nothing_hashed { NothingHashedLaw V S L.LIMIT K.eq S.hash }
 {}
 
 /// The replies of a run are decided by the form, the pairs in order and the refusals: capacity, builder, hashes and
 /// history decide nothing.
-pub fn replies_of_a_run<K: Eq + Hash, V, S: BuildHasher, L: Limit>()
+pub fn replies_of_a_run<K: Eq + Hash, V, S: KeyHasher<K>, L: Limit>()
     ensures { RepliesLaw V S L.LIMIT K.eq }
 {}
 
 /// A run of two lists of commands, one after the other, is a run of the first and then one of the second, and
 /// conversely. The replies are those of both, and the costs add up.
-pub fn parts_of_a_run<K: Eq + Hash, V, S: BuildHasher, L: Limit>()
-    ensures split { SplitLaw V L.LIMIT K.eq (key_hash S.BuildHasher S.Hasher.Hasher K.hash_input) }
-    ensures join { JoinLaw V L.LIMIT K.eq (key_hash S.BuildHasher S.Hasher.Hasher K.hash_input) }
+pub fn parts_of_a_run<K: Eq + Hash, V, S: KeyHasher<K>, L: Limit>()
+    ensures split { SplitLaw V L.LIMIT K.eq S.hash }
+    ensures join { JoinLaw V L.LIMIT K.eq S.hash }
 {}
 
 /// A run hashes at most two keys for each command, and at each switch as many as the limit. Without `Shrink` it
 /// switches at most once, however many commands come.
-pub fn hashes_of_a_run<K: Eq + Hash, V, S: BuildHasher, L: Limit>()
-    ensures hashes { HashesLaw V S L.LIMIT K.eq (key_hash S.BuildHasher S.Hasher.Hasher K.hash_input) }
+pub fn hashes_of_a_run<K: Eq + Hash, V, S: KeyHasher<K>, L: Limit>()
+    ensures hashes { HashesLaw V S L.LIMIT K.eq S.hash }
     ensures one_switch { OneSwitchLaw V S L.LIMIT K.eq }
-    ensures amortized { AmortizedHashesLaw V S L.LIMIT K.eq (key_hash S.BuildHasher S.Hasher.Hasher K.hash_input) }
+    ensures amortized { AmortizedHashesLaw V S L.LIMIT K.eq S.hash }
 {}
 
 /// After a run without `Reserve` the capacity is at most eight more than twice the most pairs that the map held at
 /// once, or what it was at first, and all arrays take at most the bytes of a table with that capacity. What was inserted
 /// and removed on the way leaves no more.
-pub fn capacity_of_a_run<K: Eq + Hash, V, S: BuildHasher, L: Limit>()
+pub fn capacity_of_a_run<K: Eq + Hash, V, S: KeyHasher<K>, L: Limit>()
     ensures capacity { CapacityLaw V S L.LIMIT K.eq }
     ensures bytes { BytesLaw V S L.LIMIT K.eq }
 {}
@@ -55,6 +54,6 @@ pub fn capacity_of_a_run<K: Eq + Hash, V, S: BuildHasher, L: Limit>()
 /// Without `Shrink` and `Reserve` the pairs that are held where a command changes the capacity, by growth or the switch,
 /// add up to at most 2n + (pairs at the start) + 2 × limit in a run of n commands. No clause says how many of them the
 /// code then moves. What a removal moves is not counted.
-pub fn moves_of_a_run<K: Eq + Hash, V, S: BuildHasher, L: Limit>()
+pub fn moves_of_a_run<K: Eq + Hash, V, S: KeyHasher<K>, L: Limit>()
     ensures { MovesLaw V S L.LIMIT K.eq }
 {}

@@ -1,41 +1,40 @@
 //! What holds of every search of a map. These functions do nothing: the laws are their contracts.
-ghost use Rattle.halfbrown.specs.Costs.{key_hash};
 ghost use Rattle.half_laws.specs.MapLaws.{HistoryLaw, InsertionHistoryLaw, CommandCostLaw, CommandHashesLaw, CommandBucketsLaw};
 ghost use Rattle.half_laws.specs.MapLaws.{CrowdedSearchLaw, CrowdedInsertionLaw, CrowdedGrowthLaw, CrowdedUncheckedLaw, CrowdedProbeLaw};
 ghost use Rattle.half_laws.specs.MeanLaws.{MissLaw, MissTotalLaw, HalfFullMissLaw, CapacityMissLaw};
 
-use halfbrown::Limit;
-use std::hash::{BuildHasher, Hash};
+use halfbrown::{KeyHasher, Limit};
+use std::hash::Hash;
 
 /// In two maps of the same form, capacity and builder that hold the same pairs in any order, a search that finds
 /// nothing costs exactly the same, whatever was inserted and removed before: by a key or any form of one, and also by a
 /// known hash. So does an insertion of a key that is not held. A command's cost has the same bounds in both, unless it
 /// finds its key in a vector: then the order of the pairs decides how many keys are compared, and nothing else.
-pub fn cost_without_history<K: Eq + Hash, V, S: BuildHasher, L: Limit>()
-    ensures search { HistoryLaw V (key_hash S.BuildHasher S.Hasher.Hasher K.hash_input) }
-    ensures insertion { InsertionHistoryLaw V L.LIMIT K.eq (key_hash S.BuildHasher S.Hasher.Hasher K.hash_input) }
-    ensures command { CommandCostLaw V L.LIMIT K.eq (key_hash S.BuildHasher S.Hasher.Hasher K.hash_input) }
-    ensures hashes { CommandHashesLaw V L.LIMIT K.eq (key_hash S.BuildHasher S.Hasher.Hasher K.hash_input) }
-    ensures buckets { CommandBucketsLaw V L.LIMIT K.eq (key_hash S.BuildHasher S.Hasher.Hasher K.hash_input) }
+pub fn cost_without_history<K: Eq + Hash, V, S: KeyHasher<K>, L: Limit>()
+    ensures search { HistoryLaw V S.hash }
+    ensures insertion { InsertionHistoryLaw V L.LIMIT K.eq S.hash }
+    ensures command { CommandCostLaw V L.LIMIT K.eq S.hash }
+    ensures hashes { CommandHashesLaw V L.LIMIT K.eq S.hash }
+    ensures buckets { CommandBucketsLaw V L.LIMIT K.eq S.hash }
 {}
 
 /// The buckets that a search in a table passes, by any form of a key, lie in a stretch of neighbouring buckets, not of
 /// all of them, that is home to at least as many held pairs as it has buckets. So do those that an insertion passes. An
 /// insertion that makes the table grow reads two unsuccessful probes, one before the growth and one after it, and both
 /// pass only such buckets.
-pub fn crowding_of_a_search<K: Eq + Hash, V, S: BuildHasher, L: Limit>()
-    ensures search { CrowdedSearchLaw V L.LIMIT K.eq (key_hash S.BuildHasher S.Hasher.Hasher K.hash_input) }
-    ensures insertion { CrowdedInsertionLaw V L.LIMIT K.eq (key_hash S.BuildHasher S.Hasher.Hasher K.hash_input) }
-    ensures growth { CrowdedGrowthLaw V L.LIMIT K.eq (key_hash S.BuildHasher S.Hasher.Hasher K.hash_input) }
-    ensures unchecked { CrowdedUncheckedLaw V L.LIMIT K.eq (key_hash S.BuildHasher S.Hasher.Hasher K.hash_input) }
-    ensures probe { CrowdedProbeLaw V (key_hash S.BuildHasher S.Hasher.Hasher K.hash_input) }
+pub fn crowding_of_a_search<K: Eq + Hash, V, S: KeyHasher<K>, L: Limit>()
+    ensures search { CrowdedSearchLaw V L.LIMIT K.eq S.hash }
+    ensures insertion { CrowdedInsertionLaw V L.LIMIT K.eq S.hash }
+    ensures growth { CrowdedGrowthLaw V L.LIMIT K.eq S.hash }
+    ensures unchecked { CrowdedUncheckedLaw V L.LIMIT K.eq S.hash }
+    ensures probe { CrowdedProbeLaw V S.hash }
 {}
 
 /// How many buckets a search that finds nothing reads on average, by any form of a key, where all lists of the hashes of held
 /// keys are equally likely, and all hashes that are sought: at most 2.5 in a table that is half full, and 8.5 in any table.
 /// The hashes alone appear in it, and no keys. `mean_of_a_probe` of `half_mean` has the exact mean.
-pub fn mean_of_a_miss<K: Eq + Hash, V, S: BuildHasher>()
-    ensures reads { MissLaw V (key_hash S.BuildHasher S.Hasher.Hasher K.hash_input) }
+pub fn mean_of_a_miss<K: Eq + Hash, V, S: KeyHasher<K>>()
+    ensures reads { MissLaw V S.hash }
     ensures total { MissTotalLaw }
     ensures half_full { HalfFullMissLaw 5 2 }
     ensures within_capacity { CapacityMissLaw 17 2 }

@@ -1,8 +1,8 @@
 //! What callers say of the work that a call does.
 ghost use Rattle.std.specs.Prelude.{◌≡◌, ◌≤◌, ◌+◌, true, length, OnOk};
-ghost use Rattle.halfbrown.specs.Costs.{GrewBy, key_hash, insert_cost};
+ghost use Rattle.halfbrown.specs.Costs.{GrewBy, insert_cost};
 
-use halfbrown::{Limit, LimitedHashMap, Refusal, Tally};
+use halfbrown::{KeyHasher, Limit, LimitedHashMap, Refusal, Tally};
 use std::hash::{BuildHasher, Hash};
 
 /// The age of a person. In a vector nothing is hashed; in a table one key is.
@@ -18,14 +18,14 @@ pub fn age_of<S: BuildHasher, L: Limit>(
 }
 
 /// Stores a pair, at the cost of one insertion that is granted.
-pub fn store<K: Eq + Hash + Drop, V: Drop, S: BuildHasher, L: Limit>(
+pub fn store<K: Eq + Hash + Drop, V: Drop, S: KeyHasher<K>, L: Limit>(
     map: &mut LimitedHashMap<K, V, S, L>,
     key: K,
     value: V,
     tally: &mut Tally,
 ) -> Result<(), Refusal>
-    ensures cost { OnOk result (GrewBy (insert_cost L.LIMIT K.eq
-        (key_hash S.BuildHasher S.Hasher.Hasher K.hash_input) map.old key true) tally.old tally.new) }
+    ensures cost { OnOk result
+        (GrewBy (insert_cost L.LIMIT K.eq S.hash map.old key true) tally.old tally.new) }
 {
     map.insert_counted(key, value, tally)?;
     Ok(())

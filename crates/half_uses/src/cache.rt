@@ -1,10 +1,9 @@
 //! A cache whose keys are hashed once, by whoever asks for them.
 ghost use Rattle.std.specs.Prelude.{◌≡◌, None, Some, false, [], IfOk, OnOk, OnErr};
 ghost use Rattle.std.specs.Option.{option_copied, UnwrapsOrElse};
-ghost use Rattle.halfbrown.specs.Costs.{key_hash};
 ghost use Rattle.halfbrown.specs.Pairs.{value_of, holds};
 
-use halfbrown::{RawEntryMut, Refusal, SizedHashMap, Tally};
+use halfbrown::{KeyHasher, RawEntryMut, Refusal, SizedHashMap, Tally};
 use std::alloc::Global;
 use std::hash::{BuildHasher, Hash};
 use std::marker::Model;
@@ -50,7 +49,7 @@ impl<K: Eq + Hash, V, S: BuildHasher> Cache<K, V, S> {
     /// A key with its hash: all that the cache ever hashes of it.
     pub fn hashed(&self, key: K) -> Hashed<K>
         ensures key { result.key ≡ key }
-        ensures hash { result.hash ≡ key_hash S.BuildHasher S.Hasher.Hasher K.hash_input self.now.builder key }
+        ensures hash { result.hash ≡ ⟦<S as KeyHasher<K>>⟧.hash self.now.builder key }
     {
         let hash = self.values.hasher().hash_one(&key);
         Hashed { key, hash }
@@ -58,7 +57,7 @@ impl<K: Eq + Hash, V, S: BuildHasher> Cache<K, V, S> {
 
     /// The value of a key, where one is cached. Nothing is hashed.
     pub fn get(&self, key: &Hashed<K>, tally: &mut Tally) -> Option<&V>
-        requires { key.now.hash ≡ key_hash S.BuildHasher S.Hasher.Hasher K.hash_input self.now.builder key.now.key }
+        requires { key.now.hash ≡ ⟦<S as KeyHasher<K>>⟧.hash self.now.builder key.now.key }
         ensures value { option_copied result ≡ value_of K.eq self.now.pairs key.now.key }
         ensures hashes { tally.new.asked ≡ tally.old.asked }
     {
@@ -78,7 +77,7 @@ impl<K: Eq + Hash, V, S: BuildHasher> Cache<K, V, S> {
     where
         K: Drop,
         V: Copy,
-        requires hash { key.hash ≡ key_hash S.BuildHasher S.Hasher.Hasher K.hash_input self.old.builder key.key }
+        requires hash { key.hash ≡ ⟦<S as KeyHasher<K>>⟧.hash self.old.builder key.key }
         requires computes { value_of K.eq self.old.pairs key.key ≡ None → F.pre compute }
         ensures value { IfOk result (UnwrapsOrElse (value_of K.eq self.old.pairs key.key) (F.post compute)) }
         ensures cached { IfOk result (λ value. value_of K.eq self.new.pairs key.key ≡ Some value) }
@@ -95,7 +94,7 @@ impl<K: Eq + Hash, V, S: BuildHasher> Cache<K, V, S> {
     pub fn remove(&mut self, key: &Hashed<K>, tally: &mut Tally) -> Option<V>
     where
         K: Drop,
-        requires { key.now.hash ≡ key_hash S.BuildHasher S.Hasher.Hasher K.hash_input self.old.builder key.now.key }
+        requires { key.now.hash ≡ ⟦<S as KeyHasher<K>>⟧.hash self.old.builder key.now.key }
         ensures value { result ≡ value_of K.eq self.old.pairs key.now.key }
         ensures forgotten { holds K.eq self.new.pairs key.now.key ≡ false }
         ensures others { (other : K) → K.eq key.now.key other ≡ false
@@ -118,7 +117,7 @@ fn value_in<K: Eq + Hash + Drop, V: Copy, S: BuildHasher, F: FnOnce() -> V>(
     compute: F,
     tally: &mut Tally,
 ) -> Result<V, Refusal>
-    requires hash { hash ≡ key_hash S.BuildHasher S.Hasher.Hasher K.hash_input values.old.builder key }
+    requires hash { hash ≡ ⟦<S as KeyHasher<K>>⟧.hash values.old.builder key }
     requires computes { value_of K.eq values.old.pairs key ≡ None → F.pre compute }
     ensures value { IfOk result (UnwrapsOrElse (value_of K.eq values.old.pairs key) (F.post compute)) }
     ensures cached { IfOk result (λ value. value_of K.eq values.new.pairs key ≡ Some value) }

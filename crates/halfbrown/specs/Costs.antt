@@ -1,10 +1,6 @@
 -- What the calls cost: how often a key is hashed, how many keys are compared, and how many buckets are read.
 use Rattle.std.specs.Prelude.{◌≡◌, ℕ, ◌+◌, ◌-◌, ◌≤◌, Bool, true, false, not, ◌&&◌, List, [], ◌∷◌, length, map, count_by, Option, is_some, ◌==◌, nat_lt, if◌then◌else◌}
-use Rattle.std.specs.Hash.{HashWrites}
-use Rattle.std.specs.declared.hash.Hasher as hasher
-use Rattle.std.specs.declared.hash.BuildHasher as builder
 use Rattle.std.specs.Map.{keys_of}
-use Rattle.half_store.specs.Hash.{hash_by}
 use Rattle.half_store.specs.Pairs.{index_of}
 use Rattle.half_store.specs.Reach.{reach, HomesApart}
 use Rattle.half_store.specs.Capacity.{buckets_of, capacity_for}
@@ -12,10 +8,6 @@ use Rattle.half_store.specs.Work.{Work, first_match_cost}
 use Rattle.halfbrown.specs.State.{State, state, contents_of}
 use Rattle.halfbrown.specs.Pairs.{holds}
 use Rattle.halfbrown.specs.Growth.{is_full, is_vec_after}
-
--- the hash that the builder gives a key, from what std says of builder, hasher and key
-abbrev pub key_hash : {S H K : Type 0} → builder.Ghosts S H → hasher.Ghosts H → (K → HashWrites) → S → K → ℕ
-key_hash b h input s k = hash_by b h s (input k)
 
 -- at least and at most so many
 pub record Range : Type 0 where
@@ -116,13 +108,12 @@ pub record SearchCosts {K V S : Type 0} (hash : S → K → ℕ) (sought : ℕ) 
       → after.looked ≡ before.looked + 1
   pub short : probe_length (hash m.builder) m.is_vec m.capacity m.pairs sought ≤ length m.pairs + 1
 
--- what one search in the map by a form of a key cost, by the tally before it and after, where the form stands for the keys that it is
--- equivalent to
-module _ {S H K Q V : Type 0} (b : builder.Ghosts S H) (h : hasher.Ghosts H) (held : K → HashWrites) (sought : Q → HashWrites) (equivalent : Q → K → Bool) (key : Q) (m : State K V S) where
+-- what one search in the map by a form of a key cost, by the tally before it and after, where the form has the sought hash and stands for the
+-- keys that pass the test
+module _ {K V S : Type 0} (hash : S → K → ℕ) (sought : ℕ) (test : K → Bool) (m : State K V S) where
   -- where the builder was asked so often
   abbrev pub CostsSearchAsking : ℕ → Work → Work → Type 0
-  CostsSearchAsking asked before after =
-      SearchCosts (key_hash b h held) (key_hash b h sought m.builder key) m (index_of (equivalent key) (keys_of m.pairs)) asked before after
+  CostsSearchAsking asked before after = SearchCosts hash sought m (index_of test (keys_of m.pairs)) asked before after
 
   -- where the search hashed it, as it does in a table
   abbrev pub CostsSearch : Work → Work → Type 0

@@ -3,8 +3,7 @@ use Rattle.std.specs.Prelude.{◌≡◌, ℕ, Bool, List, [], ◌∷◌, ◌++�
 use Rattle.std.specs.Borrow.{Bor}
 use Rattle.std.specs.declared.cmp.PartialEq as eq
 use Rattle.std.specs.declared.hash.Hash as hash
-use Rattle.std.specs.declared.hash.Hasher as hasher
-use Rattle.std.specs.declared.hash.BuildHasher as builder
+use Rattle.halfbrown.specs.declared.key_hasher.KeyHasher as hashers
 use Rattle.half_store.specs.Pairs.{swap_remove_at}
 use Rattle.half_store.specs.Probe.{looked_more}
 use Rattle.half_store.specs.Replaced.{Answers}
@@ -20,13 +19,13 @@ pub record MovesLast {K V S : Type 0} (old : State K V S) (index last : ℕ) (ne
   pub moved : (pair : K × V) × (slice_get old.pairs index ≡ Some pair) × WithPairs old (swap_remove_at old.pairs index ++ pair ∷ []) new
   pub last_is : last ≡ length (swap_remove_at old.pairs index)
 
-module _ {K V S L H : Type 0} {e : eq.Ghosts K} {h : hash.Ghosts K} {b : builder.Ghosts S H} {w : hasher.Ghosts H} {l : limits.Ghosts L} where
+module _ {K V S L : Type 0} {e : eq.Ghosts K} {h : hash.Ghosts K} {b : hashers.Ghosts S K} {l : limits.Ghosts L} where
   -- the pairs once the entry's key has the value that was returned: in a vector its pair goes last, in a table it keeps its index
-  abbrev pub kept_pairs : Entry K V S L H e h b w l → K → V → List (K × V)
+  abbrev pub kept_pairs : Entry K V S L e h b l → K → V → List (K × V)
   kept_pairs entry key value = if (map_of entry).is_vec then pairs_without entry ++ (key, value) ∷ [] else (with_value entry value).pairs
 
   -- the stored key stays, with the value that was returned
-  pub record KeepsPair (entry : Entry K V S L H e h b w l) (key : K) (value : V) (result : Entry K V S L H e h b w l) : Type 0 where
+  pub record KeepsPair (entry : Entry K V S L e h b l) (key : K) (value : V) (result : Entry K V S L e h b l) : Type 0 where
     pub pair : entry_pair result ≡ Some (key, value)
     pub key_is : entry_key result ≡ Some key
     pub value_is : entry_value result ≡ Some value
@@ -35,7 +34,7 @@ module _ {K V S L H : Type 0} {e : eq.Ghosts K} {h : hash.Ghosts K} {b : builder
     pub pairs_left : pairs_without result ≡ pairs_without entry
 
   -- the pair is gone, and the entry is vacant, with the stored key
-  pub record LosesPair (entry : Entry K V S L H e h b w l) (key : K) (result : Entry K V S L H e h b w l) : Type 0 where
+  pub record LosesPair (entry : Entry K V S L e h b l) (key : K) (result : Entry K V S L e h b l) : Type 0 where
     pub key_is : entry_key result ≡ Some key
     pub no_value : entry_value result ≡ None
     pub map : WithPairs (map_of entry) (pairs_without entry) (map_of result)
@@ -43,7 +42,7 @@ module _ {K V S L H : Type 0} {e : eq.Ghosts K} {h : hash.Ghosts K} {b : builder
     pub pairs_left : pairs_without result ≡ pairs_without entry
 
   -- the closure was given the stored key and its value, and its answer decides what becomes of the pair
-  pub record ReplacesEntry (returns : Bor K → V → Option V → Type 0) (entry result : Entry K V S L H e h b w l) : Type 0 where
+  pub record ReplacesEntry (returns : Bor K → V → Option V → Type 0) (entry result : Entry K V S L e h b l) : Type 0 where
     pub key : K
     pub value : V
     pub answer : Option V
@@ -52,12 +51,12 @@ module _ {K V S L H : Type 0} {e : eq.Ghosts K} {h : hash.Ghosts K} {b : builder
     pub after : MatchOption answer (LosesPair entry key result) (λ v. KeepsPair entry key v result)
 
   -- the entry is replaced, in the same map, which is whole
-  pub record Replaced (limit : ℕ) (same : K → K → Bool) (returns : Bor K → V → Option V → Type 0) (entry result : Entry K V S L H e h b w l) : Type 0 where
+  pub record Replaced (limit : ℕ) (same : K → K → Bool) (returns : Bor K → V → Option V → Type 0) (entry result : Entry K V S L e h b l) : Type 0 where
     pub replaces : ReplacesEntry returns entry result
     pub same_map : (map_ref result).ghost_name ≡ (map_ref entry).ghost_name
     pub state : IsState same limit (map_of result)
 
   -- one insertion probe where the pair is gone, and nothing else
-  abbrev pub ReplacementCosts : (S → K → ℕ) → Entry K V S L H e h b w l → Work → Work → Type 0
+  abbrev pub ReplacementCosts : (S → K → ℕ) → Entry K V S L e h b l → Work → Work → Type 0
   ReplacementCosts hash result before after = IfSome (entry_key result) (λ key. after ≡ looked_more before
       (if is_occupied result then 0 else probe_length (hash (map_of result).builder) (map_of result).is_vec (map_of result).capacity (map_of result).pairs (hash (map_of result).builder key)))

@@ -4,9 +4,9 @@ ghost use Rattle.std.specs.Iterator.{at_most, UpTo as IsUpTo};
 ghost use Rattle.std.specs.Iterator.SizeHint.{IsWithinCount};
 ghost use Rattle.halfbrown.specs.State.{IsState, IsTableCapacity, WithPairs};
 
-use crate::{DefaultHashBuilder, Limit, LimitedHashMap, UpTo};
+use crate::{DefaultHashBuilder, KeyHasher, Limit, LimitedHashMap, UpTo};
 use half_store::{Drained, IntoStore};
-use std::hash::{BuildHasher, Hash};
+use std::hash::Hash;
 use std::iter::FusedIterator;
 
 /// The pairs that `drain` takes out of a map, in order. It knows how many are left. Once it is dropped the map holds no
@@ -22,7 +22,7 @@ pub struct Drain<
     'a,
     K: Eq + Hash,
     V,
-    S: BuildHasher = DefaultHashBuilder,
+    S: KeyHasher<K> = DefaultHashBuilder,
     L: Limit = UpTo<32>,
     P: IntoStore<K, V> = Drained<K, V>,
 > {
@@ -35,7 +35,7 @@ pub struct Drain<
     ghost exceeds: { (P.store pairs).is_vec ≡ false → L.LIMIT < (P.store pairs).capacity },
 }
 
-impl<'a, K: Eq + Hash + Drop, V: Drop, S: BuildHasher, L: Limit, P: IntoStore<K, V>> Drop
+impl<'a, K: Eq + Hash + Drop, V: Drop, S: KeyHasher<K>, L: Limit, P: IntoStore<K, V>> Drop
     for Drain<'a, K, V, S, L, P> {
     ghost use Rattle.halfbrown.specs.Drain.{map_after};
 
@@ -48,7 +48,7 @@ impl<'a, K: Eq + Hash + Drop, V: Drop, S: BuildHasher, L: Limit, P: IntoStore<K,
     }
 }
 
-impl<K: Eq + Hash, V, S: BuildHasher, L: Limit> LimitedHashMap<K, V, S, L> {
+impl<K: Eq + Hash, V, S: KeyHasher<K>, L: Limit> LimitedHashMap<K, V, S, L> {
     ghost use Rattle.halfbrown.specs.Drain.{rest, lender, map_after, RunsInOrder, KeepsAlong};
 
     /// Takes all pairs out, and returns them in order. Once what it returns is dropped, even before its end, the map
@@ -76,7 +76,7 @@ impl<K: Eq + Hash, V, S: BuildHasher, L: Limit> LimitedHashMap<K, V, S, L> {
     }
 }
 
-impl<'a, K: Eq + Hash + Drop, V: Drop, S: BuildHasher, L: Limit> Iterator
+impl<'a, K: Eq + Hash + Drop, V: Drop, S: KeyHasher<K>, L: Limit> Iterator
     for Drain<'a, K, V, S, L> {
     ghost use Rattle.halfbrown.specs.Drain.{rest, DrainSteps};
 
@@ -102,12 +102,12 @@ impl<'a, K: Eq + Hash + Drop, V: Drop, S: BuildHasher, L: Limit> Iterator
     }
 }
 
-impl<'a, K: Eq + Hash + Drop, V: Drop, S: BuildHasher, L: Limit> ExactSizeIterator
+impl<'a, K: Eq + Hash + Drop, V: Drop, S: KeyHasher<K>, L: Limit> ExactSizeIterator
     for Drain<'a, K, V, S, L> {
     fn len(&self) -> usize {
         self.pairs.len()
     }
 }
 
-impl<'a, K: Eq + Hash + Drop, V: Drop, S: BuildHasher, L: Limit> FusedIterator
+impl<'a, K: Eq + Hash + Drop, V: Drop, S: KeyHasher<K>, L: Limit> FusedIterator
     for Drain<'a, K, V, S, L> {}

@@ -1,7 +1,6 @@
 //! The entry of one key: the pair that is held for it, or a vacancy for the pair that is not.
 ghost use Rattle.std.specs.Prelude.{◌≡◌, ◌<◌, false, length};
 ghost use Rattle.half_store.specs.Store.{IsVacancy};
-ghost use Rattle.halfbrown.specs.Costs.{key_hash};
 ghost use Rattle.halfbrown.specs.Pairs.{holds};
 ghost use Rattle.halfbrown.specs.State.{contents_of};
 
@@ -12,9 +11,9 @@ mod occupied;
 mod replace;
 mod vacant;
 
-use crate::{DefaultHashBuilder, Limit, LimitedHashMap, UpTo};
+use crate::{DefaultHashBuilder, KeyHasher, Limit, LimitedHashMap, UpTo};
 use half_store::Vacancy;
-use std::hash::{BuildHasher, Hash};
+use std::hash::Hash;
 
 /// The entry of a key, which `entry` returns. The map has been searched, and has capacity for the pair where the key is
 /// not held. So no call on the entry fails, hashes a key or compares two.
@@ -27,7 +26,7 @@ use std::hash::{BuildHasher, Hash};
 /// assert_eq!(rt; age, 5);
 /// ```
 #[derive(Drop)]
-pub enum Entry<'a, K: Eq + Hash, V, S: BuildHasher = DefaultHashBuilder, L: Limit = UpTo<32>> {
+pub enum Entry<'a, K: Eq + Hash, V, S: KeyHasher<K> = DefaultHashBuilder, L: Limit = UpTo<32>> {
     /// The key is held.
     Occupied(OccupiedEntry<'a, K, V, S, L>),
     /// The key is not held.
@@ -46,7 +45,7 @@ pub struct OccupiedEntry<
     'a,
     K: Eq + Hash,
     V,
-    S: BuildHasher = DefaultHashBuilder,
+    S: KeyHasher<K> = DefaultHashBuilder,
     L: Limit = UpTo<32>,
 > {
     pub(crate) map: &'a mut LimitedHashMap<K, V, S, L>,
@@ -65,7 +64,7 @@ pub struct VacantEntry<
     'a,
     K: Eq + Hash,
     V,
-    S: BuildHasher = DefaultHashBuilder,
+    S: KeyHasher<K> = DefaultHashBuilder,
     L: Limit = UpTo<32>,
 > {
     map: &'a mut LimitedHashMap<K, V, S, L>,
@@ -74,11 +73,11 @@ pub struct VacantEntry<
     ghost capacity_left: { length map.now.pairs < map.now.capacity },
     ghost absent: { holds K.eq map.now.pairs key ≡ false },
     ghost vacant: { ∥ IsVacancy map.now.is_vec (contents_of map.now)
-        (key_hash S.BuildHasher S.Hasher.Hasher K.hash_input map.now.builder key) vacancy ∥₁ },
+        (S.hash map.now.builder key) vacancy ∥₁ },
 }
 
 // Written out, so that a caller who drops it unused knows the map.
-impl<'a, K: Eq + Hash + Drop, V, S: BuildHasher, L: Limit> Drop for VacantEntry<'a, K, V, S, L> {
+impl<'a, K: Eq + Hash + Drop, V, S: KeyHasher<K>, L: Limit> Drop for VacantEntry<'a, K, V, S, L> {
     fn drop(self)
         ensures { self.exit.0.now ≡ self.entry.map.now }
     {

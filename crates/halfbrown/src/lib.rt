@@ -26,6 +26,7 @@ mod entry;
 mod equal_clone;
 mod equivalent;
 mod iter;
+mod key_hasher;
 mod limit;
 mod macros;
 mod map;
@@ -39,6 +40,7 @@ pub use equal_clone::EqualClone;
 pub use equivalent::Equivalent;
 pub use half_store::{Refusal, Tally};
 pub use iter::{Column, IntoIter, Iter, IterMut, Keys, Values, ValuesMut};
+pub use key_hasher::KeyHasher;
 pub use limit::{Limit, UpTo};
 pub use map::{DefaultHashBuilder, HashMap, LimitedHashMap, SizedHashMap};
 pub use raw_entry::{

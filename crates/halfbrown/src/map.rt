@@ -22,9 +22,9 @@ mod remove;
 mod replace;
 mod retain;
 
-use crate::{Limit, UpTo};
+use crate::{KeyHasher, Limit, UpTo};
 use half_store::Store;
-use std::hash::{BuildHasher, BuildHasherDefault, FoldHasher, Hash};
+use std::hash::{BuildHasherDefault, FoldHasher, Hash};
 use std::marker::{Model, PhantomData};
 
 /// The builder that `new` uses. Its seed is fixed.
@@ -59,7 +59,7 @@ pub type HashMap<K, V, S = DefaultHashBuilder> = LimitedHashMap<K, V, S, UpTo<32
 pub struct LimitedHashMap<
     K: Eq + Hash,
     V,
-    S: BuildHasher = DefaultHashBuilder,
+    S: KeyHasher<K> = DefaultHashBuilder,
     L: Limit = UpTo<32>,
 > {
     store: Store<K, V>,
@@ -67,9 +67,8 @@ pub struct LimitedHashMap<
     limit: PhantomData<L>,
 }
 
-impl<K: Eq + Hash, V, S: BuildHasher, L: Limit> Model for LimitedHashMap<K, V, S, L> {
+impl<K: Eq + Hash, V, S: KeyHasher<K>, L: Limit> Model for LimitedHashMap<K, V, S, L> {
     ghost use Rattle.halfbrown.specs.State.{State, state_code};
-    ghost use Rattle.halfbrown.specs.Costs.{key_hash};
     ghost use Rattle.halfbrown.specs.Layout.{state_in, IsKept};
 
     ghost Value = { State K V S };
@@ -78,12 +77,11 @@ impl<K: Eq + Hash, V, S: BuildHasher, L: Limit> Model for LimitedHashMap<K, V, S
 
     ghost view = { λ m. state_in m.store m.builder };
 
-    ghost invariant = { λ m. IsKept K.eq
-        (key_hash S.BuildHasher S.Hasher.Hasher K.hash_input m.builder) L.LIMIT m.store };
+    ghost invariant = { λ m. IsKept K.eq (S.hash m.builder) L.LIMIT m.store };
 }
 
 // Written out, since the limit is a type that no value of the map holds.
-impl<K: Eq + Hash + Drop, V: Drop, S: BuildHasher + Drop, L: Limit> Drop
+impl<K: Eq + Hash + Drop, V: Drop, S: KeyHasher<K> + Drop, L: Limit> Drop
     for LimitedHashMap<K, V, S, L> {
     fn drop(self) {
         let LimitedHashMap {
@@ -96,7 +94,7 @@ impl<K: Eq + Hash + Drop, V: Drop, S: BuildHasher + Drop, L: Limit> Drop
     }
 }
 
-impl<K: Eq + Hash, V, S: BuildHasher, L: Limit> LimitedHashMap<K, V, S, L> {
+impl<K: Eq + Hash, V, S: KeyHasher<K>, L: Limit> LimitedHashMap<K, V, S, L> {
     /// How many pairs are held.
     ///
     /// ```

@@ -8,8 +8,8 @@ mod make;
 mod methods;
 mod vacant;
 
-use crate::{DefaultHashBuilder, Limit, LimitedHashMap, OccupiedEntry, UpTo};
-use std::hash::{BuildHasher, Hash};
+use crate::{DefaultHashBuilder, KeyHasher, Limit, LimitedHashMap, OccupiedEntry, UpTo};
+use std::hash::Hash;
 
 /// Look-ups by a known hash or by a match on keys, which `raw_entry` returns.
 ///
@@ -24,7 +24,7 @@ pub struct RawEntryBuilder<
     'a,
     K: Eq + Hash,
     V,
-    S: BuildHasher = DefaultHashBuilder,
+    S: KeyHasher<K> = DefaultHashBuilder,
     L: Limit = UpTo<32>,
 > {
     map: &'a LimitedHashMap<K, V, S, L>,
@@ -44,7 +44,7 @@ pub enum RawEntryBuilderMut<
     'a,
     K: Eq + Hash,
     V,
-    S: BuildHasher = DefaultHashBuilder,
+    S: KeyHasher<K> = DefaultHashBuilder,
     L: Limit = UpTo<32>,
 > {
     #[doc(hidden)]
@@ -53,7 +53,7 @@ pub enum RawEntryBuilderMut<
 
 /// A map with capacity for one pair more.
 #[derive(Drop)]
-pub struct Prepared<'a, K: Eq + Hash, V, S: BuildHasher, L: Limit> {
+pub struct Prepared<'a, K: Eq + Hash, V, S: KeyHasher<K>, L: Limit> {
     map: &'a mut LimitedHashMap<K, V, S, L>,
     ghost capacity_left: { length map.now.pairs < map.now.capacity },
 }
@@ -73,7 +73,7 @@ pub enum RawEntryMut<
     'a,
     K: Eq + Hash,
     V,
-    S: BuildHasher = DefaultHashBuilder,
+    S: KeyHasher<K> = DefaultHashBuilder,
     L: Limit = UpTo<32>,
 > {
     /// A pair was found.
@@ -108,7 +108,7 @@ pub struct RawVacantEntryMut<
     'a,
     K: Eq + Hash,
     V,
-    S: BuildHasher = DefaultHashBuilder,
+    S: KeyHasher<K> = DefaultHashBuilder,
     L: Limit = UpTo<32>,
 > {
     map: &'a mut LimitedHashMap<K, V, S, L>,

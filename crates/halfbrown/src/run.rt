@@ -1,14 +1,14 @@
 //! Whole runs: a list of commands, done one after another, with a reply to each.
 ghost use Rattle.std.specs.Prelude.{◌≡◌, ◌+◌, ◌*◌, ◌≤◌, true, false, [], length, vec_capacity, IsOk, IfOk, IfErr, OnErr};
-ghost use Rattle.halfbrown.specs.Costs.{Cost, GrewBy, key_hash};
+ghost use Rattle.halfbrown.specs.Costs.{Cost, GrewBy};
 ghost use Rattle.halfbrown.specs.Run.{Runs, shrinks};
 ghost use Rattle.halfbrown.specs.RunCost.{command_cost};
 ghost use Rattle.halfbrown.specs.Step.{Steps, is_refused};
 
-use crate::{Limit, LimitedHashMap, Refused};
+use crate::{KeyHasher, Limit, LimitedHashMap, Refused};
 use half_store::{Refusal, Tally, uncounted};
 use std::alloc::Global;
-use std::hash::{BuildHasher, Hash};
+use std::hash::Hash;
 
 /// One call on a map.
 #[derive(Clone, Copy, Debug, PartialEq, Eq, Drop)]
@@ -73,14 +73,13 @@ pub enum Reply<K, V> {
 /// let replies = run(alloc, &mut ages, commands);
 /// assert_eq!(rt; replies, Ok(vec![in alloc; Reply::Was(None), Reply::Found(Some(36)), Reply::Length(1)]?));
 /// ```
-pub fn run<K: Eq + Hash + Drop, V: Copy, S: BuildHasher, L: Limit>(
+pub fn run<K: Eq + Hash + Drop, V: Copy, S: KeyHasher<K>, L: Limit>(
     alloc: Global,
     map: &mut LimitedHashMap<K, V, S, L>,
     commands: Vec<Command<K, V>>,
 ) -> Result<Vec<Reply<K, V>>, Vec<Command<K, V>>>
     ensures run { IfOk result (λ replies. (cost : Cost)
-        × Runs L.LIMIT K.eq (key_hash S.BuildHasher S.Hasher.Hasher K.hash_input) map.old
-        commands.items replies.items map.new cost) }
+        × Runs L.LIMIT K.eq S.hash map.old commands.items replies.items map.new cost) }
     ensures stays_a_table { shrinks commands.items ≡ false → map.old.is_vec ≡ false
         → map.new.is_vec ≡ false }
     ensures empty { commands.items ≡ [] → IsOk result }
@@ -92,16 +91,15 @@ pub fn run<K: Eq + Hash + Drop, V: Copy, S: BuildHasher, L: Limit>(
 }
 
 /// `run`, with the work of all commands counted.
-pub fn run_counted<K: Eq + Hash + Drop, V: Copy, S: BuildHasher, L: Limit>(
+pub fn run_counted<K: Eq + Hash + Drop, V: Copy, S: KeyHasher<K>, L: Limit>(
     alloc: Global,
     map: &mut LimitedHashMap<K, V, S, L>,
     commands: Vec<Command<K, V>>,
     tally: &mut Tally,
 ) -> Result<Vec<Reply<K, V>>, Vec<Command<K, V>>>
     // There are steps that lead from the old map to the new one, with these commands and replies, and the tally grew by what they cost.
-    ensures run { IfOk result (λ replies. (cost : Cost)
-        × Runs L.LIMIT K.eq (key_hash S.BuildHasher S.Hasher.Hasher K.hash_input) map.old
-        commands.items replies.items map.new cost × GrewBy cost tally.old tally.new) }
+    ensures run { IfOk result (λ replies. (cost : Cost) × Runs L.LIMIT K.eq S.hash
+        map.old commands.items replies.items map.new cost × GrewBy cost tally.old tally.new) }
     ensures empty { commands.items ≡ [] → IsOk result }
     ensures memory { IfOk result (λ replies. vec_capacity replies ≡ length commands.items) }
 
@@ -132,14 +130,13 @@ pub fn run_counted<K: Eq + Hash + Drop, V: Copy, S: BuildHasher, L: Limit>(
 }
 
 // One command.
-fn step<K: Eq + Hash + Drop, V: Copy, S: BuildHasher, L: Limit>(
+fn step<K: Eq + Hash + Drop, V: Copy, S: KeyHasher<K>, L: Limit>(
     map: &mut LimitedHashMap<K, V, S, L>,
     command: Command<K, V>,
     tally: &mut Tally,
 ) -> Reply<K, V>
     ensures step { Steps L.LIMIT K.eq map.old command result map.new }
-    ensures cost { GrewBy (command_cost L.LIMIT K.eq
-        (key_hash S.BuildHasher S.Hasher.Hasher K.hash_input) map.old command (is_refused result))
+    ensures cost { GrewBy (command_cost L.LIMIT K.eq S.hash map.old command (is_refused result))
         tally.old tally.new }
 {
     match command {
@@ -164,16 +161,15 @@ fn step<K: Eq + Hash + Drop, V: Copy, S: BuildHasher, L: Limit>(
 }
 
 // Inserts a pair, or replaces the value of its key.
-fn insert<K: Eq + Hash + Drop, V, S: BuildHasher, L: Limit>(
+fn insert<K: Eq + Hash + Drop, V, S: KeyHasher<K>, L: Limit>(
     map: &mut LimitedHashMap<K, V, S, L>,
     key: K,
     value: V,
     tally: &mut Tally,
 ) -> Reply<K, V>
     ensures step { Steps L.LIMIT K.eq map.old (Command.Insert key value) result map.new }
-    ensures cost { GrewBy (command_cost L.LIMIT K.eq
-        (key_hash S.BuildHasher S.Hasher.Hasher K.hash_input) map.old (Command.Insert key value)
-        (is_refused result)) tally.old tally.new }
+    ensures cost { GrewBy (command_cost L.LIMIT K.eq S.hash map.old
+        (Command.Insert key value) (is_refused result)) tally.old tally.new }
 {
     match map.insert_counted(key, value, tally) {
         Ok(old) => Reply::Was(old),
@@ -182,16 +178,15 @@ fn insert<K: Eq + Hash + Drop, V, S: BuildHasher, L: Limit>(
 }
 
 // Inserts a pair whose key is not held.
-fn insert_new<K: Eq + Hash + Drop, V: Copy, S: BuildHasher, L: Limit>(
+fn insert_new<K: Eq + Hash + Drop, V: Copy, S: KeyHasher<K>, L: Limit>(
     map: &mut LimitedHashMap<K, V, S, L>,
     key: K,
     value: V,
     tally: &mut Tally,
 ) -> Reply<K, V>
     ensures step { Steps L.LIMIT K.eq map.old (Command.InsertNew key value) result map.new }
-    ensures cost { GrewBy (command_cost L.LIMIT K.eq
-        (key_hash S.BuildHasher S.Hasher.Hasher K.hash_input) map.old (Command.InsertNew key value)
-        (is_refused result)) tally.old tally.new }
+    ensures cost { GrewBy (command_cost L.LIMIT K.eq S.hash map.old
+        (Command.InsertNew key value) (is_refused result)) tally.old tally.new }
 {
     if map.contains_key_counted(&key, tally) {
         return Reply::Present(key, value);
@@ -203,15 +198,14 @@ fn insert_new<K: Eq + Hash + Drop, V: Copy, S: BuildHasher, L: Limit>(
 }
 
 // Inserts a pair where the key is not held, by one search.
-fn entry_or_insert<K: Eq + Hash + Drop, V: Copy, S: BuildHasher, L: Limit>(
+fn entry_or_insert<K: Eq + Hash + Drop, V: Copy, S: KeyHasher<K>, L: Limit>(
     map: &mut LimitedHashMap<K, V, S, L>,
     key: K,
     value: V,
     tally: &mut Tally,
 ) -> Reply<K, V>
     ensures step { Steps L.LIMIT K.eq map.old (Command.EntryOrInsert key value) result map.new }
-    ensures cost { GrewBy (command_cost L.LIMIT K.eq
-        (key_hash S.BuildHasher S.Hasher.Hasher K.hash_input) map.old
+    ensures cost { GrewBy (command_cost L.LIMIT K.eq S.hash map.old
         (Command.EntryOrInsert key value) (is_refused result)) tally.old tally.new }
 {
     match map.entry_counted(key, tally) {
@@ -221,15 +215,14 @@ fn entry_or_insert<K: Eq + Hash + Drop, V: Copy, S: BuildHasher, L: Limit>(
 }
 
 // Inserts a pair where the key is not held, through a raw entry.
-fn raw_or_insert<K: Eq + Hash + Drop, V: Copy, S: BuildHasher, L: Limit>(
+fn raw_or_insert<K: Eq + Hash + Drop, V: Copy, S: KeyHasher<K>, L: Limit>(
     map: &mut LimitedHashMap<K, V, S, L>,
     key: K,
     value: V,
     tally: &mut Tally,
 ) -> Reply<K, V>
     ensures step { Steps L.LIMIT K.eq map.old (Command.RawOrInsert key value) result map.new }
-    ensures cost { GrewBy (command_cost L.LIMIT K.eq
-        (key_hash S.BuildHasher S.Hasher.Hasher K.hash_input) map.old
+    ensures cost { GrewBy (command_cost L.LIMIT K.eq S.hash map.old
         (Command.RawOrInsert key value) (is_refused result)) tally.old tally.new }
 {
     match map.raw_entry_mut_counted(tally) {
@@ -243,7 +236,7 @@ fn raw_or_insert<K: Eq + Hash + Drop, V: Copy, S: BuildHasher, L: Limit>(
 }
 
 // Makes the capacity enough for more pairs.
-fn reserve<K: Eq + Hash, V, S: BuildHasher, L: Limit>(
+fn reserve<K: Eq + Hash, V, S: KeyHasher<K>, L: Limit>(
     map: &mut LimitedHashMap<K, V, S, L>,
     additional: usize,
 ) -> Reply<K, V>

@@ -1,10 +1,11 @@
 //! What entries are printed as.
 use super::{Entry, OccupiedEntry, VacantEntry};
-use crate::Limit;
+use crate::{KeyHasher, Limit};
 use std::fmt::{Debug, Formatter, Result, Write};
-use std::hash::{BuildHasher, Hash};
+use std::hash::Hash;
 
-impl<'a, K: Eq + Hash + Debug, V: Debug, S: BuildHasher, L: Limit> Debug for Entry<'a, K, V, S, L> {
+impl<'a, K: Eq + Hash + Debug, V: Debug, S: KeyHasher<K>, L: Limit> Debug
+    for Entry<'a, K, V, S, L> {
     fn fmt<W: Write>(&self, f: &mut Formatter<W>) -> Result {
         match self {
             Entry::Occupied(entry) => f.debug_tuple("Entry").field(entry).finish(),
@@ -13,7 +14,7 @@ impl<'a, K: Eq + Hash + Debug, V: Debug, S: BuildHasher, L: Limit> Debug for Ent
     }
 }
 
-impl<'a, K: Eq + Hash + Debug, V: Debug, S: BuildHasher, L: Limit> Debug
+impl<'a, K: Eq + Hash + Debug, V: Debug, S: KeyHasher<K>, L: Limit> Debug
     for OccupiedEntry<'a, K, V, S, L> {
     fn fmt<W: Write>(&self, f: &mut Formatter<W>) -> Result {
         f.debug_struct("OccupiedEntry")
@@ -23,7 +24,7 @@ impl<'a, K: Eq + Hash + Debug, V: Debug, S: BuildHasher, L: Limit> Debug
     }
 }
 
-impl<'a, K: Eq + Hash + Debug, V, S: BuildHasher, L: Limit> Debug for VacantEntry<'a, K, V, S, L> {
+impl<'a, K: Eq + Hash + Debug, V, S: KeyHasher<K>, L: Limit> Debug for VacantEntry<'a, K, V, S, L> {
     fn fmt<W: Write>(&self, f: &mut Formatter<W>) -> Result {
         f.debug_tuple("VacantEntry").field(self.key()).finish()
     }

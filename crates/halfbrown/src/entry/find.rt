@@ -1,18 +1,18 @@
 //! Making the entry of a key, or of the pair at an index.
 ghost use Rattle.std.specs.Prelude.{◌≡◌, ◌<◌, ◌↔◌, IfSome, IsSome, is_ok, length, slice_get};
 ghost use Rattle.std.specs.Borrow.{sem};
-ghost use Rattle.halfbrown.specs.Costs.{key_hash, InsertCosts};
+ghost use Rattle.halfbrown.specs.Costs.{InsertCosts};
 ghost use Rattle.halfbrown.specs.Entry.{MakesEntry, Occupied, entry_pair, map_of, map_ref, with_value};
 ghost use Rattle.halfbrown.specs.EntryLending.{RestsIfNoEntry, RestsIfRefused};
 ghost use Rattle.halfbrown.specs.Pairs.{set_value};
 ghost use Rattle.halfbrown.specs.State.{with_pairs};
 
 use super::{Entry, OccupiedEntry, VacantEntry};
-use crate::{Limit, LimitedHashMap, RefusedKey};
+use crate::{KeyHasher, Limit, LimitedHashMap, RefusedKey};
 use half_store::{Tally, uncounted};
-use std::hash::{BuildHasher, Hash};
+use std::hash::Hash;
 
-impl<K: Eq + Hash, V, S: BuildHasher, L: Limit> LimitedHashMap<K, V, S, L> {
+impl<K: Eq + Hash, V, S: KeyHasher<K>, L: Limit> LimitedHashMap<K, V, S, L> {
     /// Returns the entry of a key, through which its pair is read, written, removed or added without another search.
     /// Where an equal key is held, the given key is dropped. A full vector becomes a table first, in both cases.
     ///
@@ -29,8 +29,7 @@ impl<K: Eq + Hash, V, S: BuildHasher, L: Limit> LimitedHashMap<K, V, S, L> {
     pub fn entry(&mut self, key: K) -> Result<Entry<'_, K, V, S, L>, RefusedKey<K>>
     where
         K: Drop,
-        ensures* unchanged { sem 𝓛
-            (RestsIfRefused K.row V.row S.row L.row S.Hasher.row self.entry result) }
+        ensures* unchanged { sem 𝓛 (RestsIfRefused K.row V.row S.row L.row self.entry result) }
         ensures makes { MakesEntry L.LIMIT K.eq self.entry key result }
     {
         uncounted!(self.entry_counted(key))
@@ -46,11 +45,9 @@ impl<K: Eq + Hash, V, S: BuildHasher, L: Limit> LimitedHashMap<K, V, S, L> {
     ) -> Result<Entry<'_, K, V, S, L>, RefusedKey<K>>
     where
         K: Drop,
-        ensures* unchanged { sem 𝓛
-            (RestsIfRefused K.row V.row S.row L.row S.Hasher.row self.entry result) }
+        ensures* unchanged { sem 𝓛 (RestsIfRefused K.row V.row S.row L.row self.entry result) }
         ensures makes { MakesEntry L.LIMIT K.eq self.entry key result }
-        ensures cost { InsertCosts L.LIMIT K.eq
-            (key_hash S.BuildHasher S.Hasher.Hasher K.hash_input) self.old key (is_ok result)
+        ensures cost { InsertCosts L.LIMIT K.eq S.hash self.old key (is_ok result)
             tally.old tally.new }
     {
         match self.prepare(&key, tally) {
@@ -75,8 +72,7 @@ impl<K: Eq + Hash, V, S: BuildHasher, L: Limit> LimitedHashMap<K, V, S, L> {
     #[inline(always)]
     #[tactic(auto, unfolding(crate::specs::Entry::with_value))]
     pub fn get_index_entry(&mut self, index: usize) -> Option<OccupiedEntry<'_, K, V, S, L>>
-        ensures* unchanged { sem 𝓛
-            (RestsIfNoEntry K.row V.row S.row L.row S.Hasher.row self.entry result) }
+        ensures* unchanged { sem 𝓛 (RestsIfNoEntry K.row V.row S.row L.row self.entry result) }
         ensures same_map { IfSome result
             (λ o. (map_ref (Occupied o)).ghost_name ≡ self.entry.ghost_name) }
         ensures map { IfSome result (λ o. map_of (Occupied o) ≡ self.old) }

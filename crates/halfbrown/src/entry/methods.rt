@@ -7,10 +7,10 @@ ghost use Rattle.halfbrown.specs.Entry.{map_ref, map_of, entry_key, entry_value,
 ghost use Rattle.halfbrown.specs.EntryLending.{EntryLends};
 
 use super::Entry;
-use crate::Limit;
-use std::hash::{BuildHasher, Hash};
+use crate::{KeyHasher, Limit};
+use std::hash::Hash;
 
-impl<'a, K: Eq + Hash, V, S: BuildHasher, L: Limit> Entry<'a, K, V, S, L> {
+impl<'a, K: Eq + Hash, V, S: KeyHasher<K>, L: Limit> Entry<'a, K, V, S, L> {
     /// The stored key where it is held, else the key that the entry was made for.
     ///
     /// ```
@@ -38,8 +38,7 @@ impl<'a, K: Eq + Hash, V, S: BuildHasher, L: Limit> Entry<'a, K, V, S, L> {
     pub fn or_insert(self, default: V) -> &'a mut V
     where
         V: Drop,
-        ensures* writes_back { sem 𝓛
-            (EntryLends K.row V.row S.row L.row S.Hasher.row self.entry result) }
+        ensures* writes_back { sem 𝓛 (EntryLends K.row V.row S.row L.row self.entry result) }
         ensures value { result.now ≡ unwrap_or (entry_value self.entry) default }
     {
         match self {
@@ -56,8 +55,7 @@ impl<'a, K: Eq + Hash, V, S: BuildHasher, L: Limit> Entry<'a, K, V, S, L> {
     #[inline(always)]
     pub fn or_insert_with<F: FnOnce() -> V>(self, default: F) -> &'a mut V
         requires { entry_value self ≡ None → F.pre default }
-        ensures* writes_back { sem 𝓛
-            (EntryLends K.row V.row S.row L.row S.Hasher.row self.entry result) }
+        ensures* writes_back { sem 𝓛 (EntryLends K.row V.row S.row L.row self.entry result) }
         ensures value { UnwrapsOrElse (entry_value self.entry) (F.post default) result.now }
     {
         match self {
@@ -75,8 +73,7 @@ impl<'a, K: Eq + Hash, V, S: BuildHasher, L: Limit> Entry<'a, K, V, S, L> {
     pub fn or_default(self) -> &'a mut V
     where
         V: Default,
-        ensures* writes_back { sem 𝓛
-            (EntryLends K.row V.row S.row L.row S.Hasher.row self.entry result) }
+        ensures* writes_back { sem 𝓛 (EntryLends K.row V.row S.row L.row self.entry result) }
         ensures value { UnwrapsOrElse (entry_value self.entry) V.is_default result.now }
     {
         match self {

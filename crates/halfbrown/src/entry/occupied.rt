@@ -13,10 +13,10 @@ ghost use Rattle.halfbrown.specs.State.{IsState, WithPairs};
 ghost use Rattle.halfbrown.specs.Updates.{HasKeyReplaced};
 
 use super::OccupiedEntry;
-use crate::Limit;
-use std::hash::{BuildHasher, Hash};
+use crate::{KeyHasher, Limit};
+use std::hash::Hash;
 
-impl<'a, K: Eq + Hash, V, S: BuildHasher, L: Limit> OccupiedEntry<'a, K, V, S, L> {
+impl<'a, K: Eq + Hash, V, S: KeyHasher<K>, L: Limit> OccupiedEntry<'a, K, V, S, L> {
     /// The stored key.
     ///
     /// ```
@@ -36,7 +36,7 @@ impl<'a, K: Eq + Hash, V, S: BuildHasher, L: Limit> OccupiedEntry<'a, K, V, S, L
     /// ```
     #[inline(always)]
     pub fn key_mut(&mut self) -> &K
-        ensures* unchanged { sem 𝓛 (OccupiedRests K.row V.row S.row L.row S.Hasher.row self.entry) }
+        ensures* unchanged { sem 𝓛 (OccupiedRests K.row V.row S.row L.row self.entry) }
         ensures key { entry_key (Occupied self.old) ≡ Some result.now }
     {
         self.key()
@@ -90,8 +90,7 @@ impl<'a, K: Eq + Hash, V, S: BuildHasher, L: Limit> OccupiedEntry<'a, K, V, S, L
     /// ```
     #[inline(always)]
     pub fn get_mut(&mut self) -> &mut V
-        ensures* writes_back { sem 𝓛
-            (OccupiedLends K.row V.row S.row L.row S.Hasher.row self.entry result) }
+        ensures* writes_back { sem 𝓛 (OccupiedLends K.row V.row S.row L.row self.entry result) }
         ensures value { entry_value (Occupied self.old) ≡ Some result.now }
         ensures written { (w : V)
             → IsWritten (Occupied self.old) w (Occupied (with_entry_value self.old w)) }
@@ -110,7 +109,7 @@ impl<'a, K: Eq + Hash, V, S: BuildHasher, L: Limit> OccupiedEntry<'a, K, V, S, L
     #[tactic(auto, using(crate::proofs::lemmas::entry::Methods::occupied_writes))]
     pub fn into_mut(self) -> &'a mut V
         ensures* writes_back { sem 𝓛
-            (EntryLends K.row V.row S.row L.row S.Hasher.row (Occupied self.entry) result) }
+            (EntryLends K.row V.row S.row L.row (Occupied self.entry) result) }
         ensures value { entry_value (Occupied self.entry) ≡ Some result.now }
     {
         let map = self.map;
@@ -138,8 +137,7 @@ impl<'a, K: Eq + Hash, V, S: BuildHasher, L: Limit> OccupiedEntry<'a, K, V, S, L
     /// ```
     #[inline(always)]
     pub fn get_key_value_mut(&mut self) -> (&K, &mut V)
-        ensures* writes_back { sem 𝓛
-            (OccupiedLends K.row V.row S.row L.row S.Hasher.row self.entry result.1) }
+        ensures* writes_back { sem 𝓛 (OccupiedLends K.row V.row S.row L.row self.entry result.1) }
         ensures pair { entry_pair (Occupied self.old) ≡ Some (result.0.now, result.1.now) }
         ensures written { (w : V)
             → IsWritten (Occupied self.old) w (Occupied (with_entry_value self.old w)) }

@@ -1,16 +1,15 @@
 //! An entry whose value is handed to a closure.
 ghost use Rattle.std.specs.Prelude.{◌≡◌, Some};
 ghost use Rattle.std.specs.Borrow.{Bor};
-ghost use Rattle.halfbrown.specs.Costs.{key_hash};
 ghost use Rattle.halfbrown.specs.Entry.{Occupied, entry_pair};
 ghost use Rattle.halfbrown.specs.Replacement.{Replaced, ReplacementCosts};
 
 use super::{Entry, OccupiedEntry, VacantEntry};
-use crate::Limit;
+use crate::{KeyHasher, Limit};
 use half_store::{Tally, uncounted};
-use std::hash::{BuildHasher, Hash};
+use std::hash::Hash;
 
-impl<'a, K: Eq + Hash, V, S: BuildHasher, L: Limit> OccupiedEntry<'a, K, V, S, L> {
+impl<'a, K: Eq + Hash, V, S: KeyHasher<K>, L: Limit> OccupiedEntry<'a, K, V, S, L> {
     /// Passes the stored key and its value to `f`, and stores the value that `f` returns. In a vector the pair then
     /// goes last, and the last pair takes its index. In a table it keeps its index.
     ///
@@ -43,8 +42,7 @@ impl<'a, K: Eq + Hash, V, S: BuildHasher, L: Limit> OccupiedEntry<'a, K, V, S, L
         requires { (key : Bor K) (value : V) → entry_pair (Occupied self) ≡ Some (key.now, value)
             → F.pre f key value }
         ensures replaced { Replaced L.LIMIT K.eq (F.post f) (Occupied self.entry) result }
-        ensures cost { ReplacementCosts (key_hash S.BuildHasher S.Hasher.Hasher K.hash_input)
-            result tally.old tally.new }
+        ensures cost { ReplacementCosts S.hash result tally.old tally.new }
     {
         let index = self.index;
         let map = self.map;

@@ -9,10 +9,10 @@ ghost use Rattle.halfbrown.specs.Entry.{Vacant, entry_key, map_of};
 ghost use Rattle.halfbrown.specs.EntryLending.{EntryLends};
 
 use super::VacantEntry;
-use crate::Limit;
-use std::hash::{BuildHasher, Hash};
+use crate::{KeyHasher, Limit};
+use std::hash::Hash;
 
-impl<'a, K: Eq + Hash, V, S: BuildHasher, L: Limit> VacantEntry<'a, K, V, S, L> {
+impl<'a, K: Eq + Hash, V, S: KeyHasher<K>, L: Limit> VacantEntry<'a, K, V, S, L> {
     /// The key that the entry was made for.
     ///
     /// ```
@@ -54,7 +54,7 @@ impl<'a, K: Eq + Hash, V, S: BuildHasher, L: Limit> VacantEntry<'a, K, V, S, L> 
     #[inline(always)]
     pub fn insert(self, value: V) -> &'a mut V
         ensures* writes_back { sem 𝓛
-            (EntryLends K.row V.row S.row L.row S.Hasher.row (Vacant self.entry) result) }
+            (EntryLends K.row V.row S.row L.row (Vacant self.entry) result) }
         ensures value { result.now ≡ value }
     {
         let VacantEntry { map, key, vacancy } = self;

@@ -7,11 +7,11 @@ ghost use Rattle.halfbrown.specs.State.{IsState, WithPairs};
 ghost use Rattle.halfbrown.specs.Updates.{HasKeyReplaced};
 
 use super::LimitedHashMap;
-use crate::Limit;
+use crate::{KeyHasher, Limit};
 use half_store::VecMap;
-use std::hash::{BuildHasher, Hash};
+use std::hash::Hash;
 
-impl<K: Eq + Hash, V, S: BuildHasher, L: Limit> LimitedHashMap<K, V, S, L> {
+impl<K: Eq + Hash, V, S: KeyHasher<K>, L: Limit> LimitedHashMap<K, V, S, L> {
     ghost use Rattle.halfbrown.specs.Lending.{LendsValueAt};
 
     /// The keys and the values, by index.
@@ -27,8 +27,8 @@ impl<K: Eq + Hash, V, S: BuildHasher, L: Limit> LimitedHashMap<K, V, S, L> {
     #[inline(always)]
     pub(crate) fn pair_at_mut(&mut self, index: usize) -> (&K, &mut V)
         requires { index < length self.old.pairs }
-        ensures* writes_back { sem 𝓛 (LendsValueAt K.row V.row S.row L.row S.Hasher.row K.Hash
-            S.BuildHasher S.Hasher.Hasher L.Limit self.entry index result.1) }
+        ensures* writes_back { sem 𝓛 (LendsValueAt K.row V.row S.row L.row K.Hash S.KeyHasher
+            L.Limit self.entry index result.1) }
         ensures pair { slice_get self.old.pairs index ≡ Some (result.0.now, result.1.now) }
     {
         self.store.pair_at_mut(index)

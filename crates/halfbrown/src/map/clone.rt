@@ -1,17 +1,16 @@
 //! Clones of a map.
 ghost use Rattle.std.specs.Prelude.{◌≡◌, IfOk, IfErr};
 ghost use Rattle.halfbrown.specs.Clone.{ClonesEqualKeys, HashesAlike, IsCloneOf};
-ghost use Rattle.halfbrown.specs.Costs.{key_hash};
 ghost use Rattle.halfbrown.specs.State.{IsState};
 
 use super::LimitedHashMap;
-use crate::{EqualClone, Limit};
+use crate::{EqualClone, KeyHasher, Limit};
 use half_store::Refusal;
 use std::alloc::AllocError;
-use std::hash::{BuildHasher, Hash};
+use std::hash::Hash;
 use std::marker::PhantomData;
 
-impl<K: Eq + Hash, V, S: BuildHasher, L: Limit> LimitedHashMap<K, V, S, L> {
+impl<K: Eq + Hash, V, S: KeyHasher<K>, L: Limit> LimitedHashMap<K, V, S, L> {
     /// A map of the same form, with clones of the pairs in the same order and a clone of the builder.
     ///
     /// A clone of a table has the same capacity and the same stored hashes, and nothing is hashed or compared. A clone
@@ -31,8 +30,8 @@ impl<K: Eq + Hash, V, S: BuildHasher, L: Limit> LimitedHashMap<K, V, S, L> {
         V: Clone,
         S: Clone,
         requires keys { ClonesEqualKeys K.eq K.is_clone self.now }
-        requires builder { (copy : S) → S.is_clone self.now.builder copy
-            → HashesAlike (key_hash S.BuildHasher S.Hasher.Hasher K.hash_input) self.now copy }
+        requires builder { (copy : S)
+            → S.is_clone self.now.builder copy → HashesAlike S.hash self.now copy }
         ensures cloned { IfOk result (IsCloneOf K.is_clone V.is_clone S.is_clone self.now) }
         ensures refused { IfErr result (λ why. why ≡ Refusal.Memory) }
         ensures state { IfOk result (IsState K.eq L.LIMIT) }
@@ -48,8 +47,7 @@ impl<K: Eq + Hash, V, S: BuildHasher, L: Limit> LimitedHashMap<K, V, S, L> {
         V: Clone,
         S: Drop,
         requires keys { ClonesEqualKeys K.eq K.is_clone self.now }
-        requires builder { HashesAlike (key_hash S.BuildHasher S.Hasher.Hasher K.hash_input)
-            self.now builder }
+        requires builder { HashesAlike S.hash self.now builder }
         ensures cloned { IfOk result (IsCloneOf K.is_clone V.is_clone
             (λ _ it. it ≡ builder) self.now) }
         ensures refused { IfErr result (λ why. why ≡ Refusal.Memory) }
@@ -65,7 +63,7 @@ impl<K: Eq + Hash, V, S: BuildHasher, L: Limit> LimitedHashMap<K, V, S, L> {
 }
 
 // The inherent call has a condition, which the trait has no place for.
-impl<K: EqualClone + Hash, V: Clone, S: BuildHasher + Copy, L: Limit> Clone
+impl<K: EqualClone + Hash, V: Clone, S: KeyHasher<K> + Copy, L: Limit> Clone
     for LimitedHashMap<K, V, S, L> {
     ghost is_clone = { IsCloneOf K.is_clone V.is_clone (λ builder it. it ≡ builder) };
 

@@ -3,16 +3,16 @@ ghost use Rattle.std.specs.Prelude.{◌≡◌, ◌⊎◌, ℕ, ⊤, true, List, 
 ghost use Rattle.std.specs.Iterator.{IsFinite, Drains, DrainsIf, ExtendsWithItems};
 ghost use Rattle.std.specs.Iterator.SizeHint.{IsWithinCount};
 ghost use Rattle.halfbrown.specs.Collection.{Gives, AreFirst, Extends, IsCollection, IsRefusedCollection, IsRefusedInsertion};
-ghost use Rattle.halfbrown.specs.Costs.{key_hash, Cost, GrewBy};
+ghost use Rattle.halfbrown.specs.Costs.{Cost, GrewBy};
 ghost use Rattle.halfbrown.specs.State.{IsState};
 
 use super::LimitedHashMap;
-use crate::Limit;
+use crate::{KeyHasher, Limit};
 use half_store::{Refusal, Tally, uncounted};
 use std::alloc::{AllocError, Global};
-use std::hash::{BuildHasher, Hash};
+use std::hash::Hash;
 
-impl<K: Eq + Hash + Drop, V: Drop, S: BuildHasher + Default + Drop, L: Limit> LimitedHashMap<
+impl<K: Eq + Hash + Drop, V: Drop, S: KeyHasher<K> + Default + Drop, L: Limit> LimitedHashMap<
     K,
     V,
     S,
@@ -40,12 +40,12 @@ impl<K: Eq + Hash + Drop, V: Drop, S: BuildHasher + Default + Drop, L: Limit> Li
         // The iterator gave all its items, and its size hint was this number.
         ensures collected { IfOk result (λ m. (it : I.IntoIter) × (gave : List (K × V)) × (hint : ℕ)
             × (cost : Cost) × I.into_iter_gives items it × Drains I.IntoIter.next_gives it gave
-            × IsWithinCount hint (I.IntoIter.remaining it) × IsCollection L.LIMIT K.eq
-            (key_hash S.BuildHasher S.Hasher.Hasher K.hash_input) S.is_default hint gave m cost) }
+            × IsWithinCount hint (I.IntoIter.remaining it)
+            × IsCollection L.LIMIT K.eq S.hash S.is_default hint gave m cost) }
         ensures refused { IfErr result (λ why. (it : I.IntoIter) × (hint : ℕ) × (cost : Cost)
             × I.into_iter_gives items it × IsWithinCount hint (I.IntoIter.remaining it)
-            × IsRefusedCollection L.LIMIT K.eq (key_hash S.BuildHasher S.Hasher.Hasher K.hash_input)
-            S.is_default hint (Gives I.IntoIter.next_gives it) why cost) }
+            × IsRefusedCollection L.LIMIT K.eq S.hash S.is_default hint
+            (Gives I.IntoIter.next_gives it) why cost) }
         ensures state { IfOk result (IsState K.eq L.LIMIT) }
     {
         uncounted!(LimitedHashMap::from_iter_counted(alloc, items))
@@ -61,14 +61,13 @@ impl<K: Eq + Hash + Drop, V: Drop, S: BuildHasher + Default + Drop, L: Limit> Li
             → I.IntoIter.can_next it × IsFinite (I.IntoIter.remaining it) }
         ensures collected { IfOk result (λ m. (it : I.IntoIter) × (gave : List (K × V)) × (hint : ℕ)
             × (cost : Cost) × I.into_iter_gives items it × Drains I.IntoIter.next_gives it gave
-            × IsWithinCount hint (I.IntoIter.remaining it) × IsCollection L.LIMIT K.eq
-            (key_hash S.BuildHasher S.Hasher.Hasher K.hash_input) S.is_default hint gave m cost
+            × IsWithinCount hint (I.IntoIter.remaining it)
+            × IsCollection L.LIMIT K.eq S.hash S.is_default hint gave m cost
             × GrewBy cost tally.old tally.new) }
         ensures refused { IfErr result (λ why. (it : I.IntoIter) × (hint : ℕ) × (cost : Cost)
             × I.into_iter_gives items it × IsWithinCount hint (I.IntoIter.remaining it)
-            × IsRefusedCollection L.LIMIT K.eq (key_hash S.BuildHasher S.Hasher.Hasher K.hash_input)
-            S.is_default hint (Gives I.IntoIter.next_gives it) why cost
-            × GrewBy cost tally.old tally.new) }
+            × IsRefusedCollection L.LIMIT K.eq S.hash S.is_default hint
+            (Gives I.IntoIter.next_gives it) why cost × GrewBy cost tally.old tally.new) }
         // A vector has hashed nothing.
         ensures nothing_hashed { IfOk result
             (λ m. m.is_vec ≡ true → tally.new.asked ≡ tally.old.asked) }
@@ -86,11 +85,10 @@ impl<K: Eq + Hash + Drop, V: Drop, S: BuildHasher + Default + Drop, L: Limit> Li
     /// assert_eq!(rt; ages.len(), 2);
     /// ```
     pub fn from_array<const N: usize>(alloc: Global, pairs: [(K, V); N]) -> Result<Self, Refusal>
-        ensures collected { IfOk result (λ m. (cost : Cost) × IsCollection L.LIMIT K.eq
-            (key_hash S.BuildHasher S.Hasher.Hasher K.hash_input) S.is_default N pairs m cost) }
+        ensures collected { IfOk result (λ m. (cost : Cost)
+            × IsCollection L.LIMIT K.eq S.hash S.is_default N pairs m cost) }
         ensures refused { IfErr result (λ why. (why ≡ Refusal.Memory) ⊎ ((cost : Cost)
-            × IsRefusedCollection L.LIMIT K.eq (key_hash S.BuildHasher S.Hasher.Hasher K.hash_input)
-            S.is_default N (AreFirst pairs) why cost)) }
+            × IsRefusedCollection L.LIMIT K.eq S.hash S.is_default N (AreFirst pairs) why cost)) }
         ensures state { IfOk result (IsState K.eq L.LIMIT) }
     {
         // A vector is gone over whatever the size of a pair is.
@@ -111,10 +109,10 @@ impl<K: Eq + Hash + Drop, V: Drop, S: BuildHasher + Default + Drop, L: Limit> Li
         requires ends { IsFinite (I.remaining items) }
         ensures collected { IfOk result
             (λ m. (gave : List (K × V)) × (cost : Cost) × Drains I.next_gives items gave
-            × IsCollection L.LIMIT K.eq (key_hash S.BuildHasher S.Hasher.Hasher K.hash_input)
-            S.is_default capacity gave m cost × GrewBy cost tally.old tally.new) }
-        ensures refused { IfErr result (λ why. (cost : Cost) × IsRefusedCollection L.LIMIT K.eq
-            (key_hash S.BuildHasher S.Hasher.Hasher K.hash_input) S.is_default capacity
+            × IsCollection L.LIMIT K.eq S.hash S.is_default capacity gave m cost
+            × GrewBy cost tally.old tally.new) }
+        ensures refused { IfErr result (λ why. (cost : Cost)
+            × IsRefusedCollection L.LIMIT K.eq S.hash S.is_default capacity
             (Gives I.next_gives items) why cost × GrewBy cost tally.old tally.new) }
         ensures nothing_hashed { IfOk result
             (λ m. m.is_vec ≡ true → tally.new.asked ≡ tally.old.asked) }
@@ -126,7 +124,7 @@ impl<K: Eq + Hash + Drop, V: Drop, S: BuildHasher + Default + Drop, L: Limit> Li
     }
 }
 
-impl<K: Eq + Hash + Drop, V: Drop, S: BuildHasher, L: Limit> LimitedHashMap<K, V, S, L> {
+impl<K: Eq + Hash + Drop, V: Drop, S: KeyHasher<K>, L: Limit> LimitedHashMap<K, V, S, L> {
     /// Inserts each item, in order. New keys come last; a held key stays where it is, with the last value.
     ///
     /// The items must end. Fails as `insert` does, and then the items before the refused one stay, and the remaining
@@ -142,12 +140,11 @@ impl<K: Eq + Hash + Drop, V: Drop, S: BuildHasher, L: Limit> LimitedHashMap<K, V
             → I.IntoIter.can_next it × IsFinite (I.IntoIter.remaining it) }
         ensures extended { OnOk result ((it : I.IntoIter) × (gave : List (K × V))
             × (cost : Cost) × I.into_iter_gives items it × Drains I.IntoIter.next_gives it gave
-            × Extends L.LIMIT K.eq (key_hash S.BuildHasher S.Hasher.Hasher K.hash_input) self.old
-            gave self.new cost) }
+            × Extends L.LIMIT K.eq S.hash self.old gave self.new cost) }
         ensures refused { IfErr result
             (λ why. (it : I.IntoIter) × (cost : Cost) × I.into_iter_gives items it
-            × IsRefusedInsertion L.LIMIT K.eq (key_hash S.BuildHasher S.Hasher.Hasher K.hash_input)
-            (Gives I.IntoIter.next_gives it) self.old why self.new cost) }
+            × IsRefusedInsertion L.LIMIT K.eq S.hash (Gives I.IntoIter.next_gives it)
+            self.old why self.new cost) }
     {
         uncounted!(self.extend_counted(items))
     }
@@ -162,11 +159,11 @@ impl<K: Eq + Hash + Drop, V: Drop, S: BuildHasher, L: Limit> LimitedHashMap<K, V
             → I.IntoIter.can_next it × IsFinite (I.IntoIter.remaining it) }
         ensures extended { OnOk result ((it : I.IntoIter) × (gave : List (K × V))
             × (cost : Cost) × I.into_iter_gives items it × Drains I.IntoIter.next_gives it gave
-            × Extends L.LIMIT K.eq (key_hash S.BuildHasher S.Hasher.Hasher K.hash_input) self.old
-            gave self.new cost × GrewBy cost tally.old tally.new) }
+            × Extends L.LIMIT K.eq S.hash self.old gave self.new cost
+            × GrewBy cost tally.old tally.new) }
         ensures refused { IfErr result (λ why. (it : I.IntoIter)
-            × (cost : Cost) × I.into_iter_gives items it × IsRefusedInsertion L.LIMIT K.eq
-            (key_hash S.BuildHasher S.Hasher.Hasher K.hash_input) (Gives I.IntoIter.next_gives it)
+            × (cost : Cost) × I.into_iter_gives items it
+            × IsRefusedInsertion L.LIMIT K.eq S.hash (Gives I.IntoIter.next_gives it)
             self.old why self.new cost × GrewBy cost tally.old tally.new) }
     {
         for (key, value) in items {
@@ -177,12 +174,12 @@ impl<K: Eq + Hash + Drop, V: Drop, S: BuildHasher, L: Limit> LimitedHashMap<K, V
 }
 
 // Beside the inherent call, for `collect` and the like.
-impl<K: Eq + Hash + Drop, V: Drop, S: BuildHasher + Default + Drop, L: Limit> FromIterator<(K, V)>
+impl<K: Eq + Hash + Drop, V: Drop, S: KeyHasher<K> + Default + Drop, L: Limit> FromIterator<(K, V)>
     for LimitedHashMap<K, V, S, L> {
     type Alloc = Global;
 
-    ghost from_iter_gives = { λ items m. (hint : ℕ) × (cost : Cost) × IsCollection L.LIMIT K.eq
-        (key_hash S.BuildHasher S.Hasher.Hasher K.hash_input) S.is_default hint items m cost };
+    ghost from_iter_gives = { λ items m. (hint : ℕ) × (cost : Cost)
+        × IsCollection L.LIMIT K.eq S.hash S.is_default hint items m cost };
 
     fn from_iter<I: IntoIterator<Item = (K, V)>>(
         alloc: Global,
@@ -190,12 +187,13 @@ impl<K: Eq + Hash + Drop, V: Drop, S: BuildHasher + Default + Drop, L: Limit> Fr
     ) -> Result<Self, AllocError>
         requires { (it : I.IntoIter) → I.into_iter_gives items it
             → I.IntoIter.can_next it × IsFinite (I.IntoIter.remaining it) }
-        ensures ran { IfOk result (λ m. (it : I.IntoIter) × (gave : List (K × V)) × I.into_iter_gives items it
-            × DrainsIf I.IntoIter.next_gives ⊤ it gave × ((hint : ℕ) × (cost : Cost) × IsCollection L.LIMIT K.eq
-            (key_hash S.BuildHasher S.Hasher.Hasher K.hash_input) S.is_default hint gave m cost)) }
-        ensures refused { OnErr result ((it : I.IntoIter) × (why : Refusal) × (hint : ℕ) × (cost : Cost)
-            × I.into_iter_gives items it × IsRefusedCollection L.LIMIT K.eq
-            (key_hash S.BuildHasher S.Hasher.Hasher K.hash_input) S.is_default hint
+        ensures ran { IfOk result (λ m. (it : I.IntoIter) × (gave : List (K × V))
+            × I.into_iter_gives items it × DrainsIf I.IntoIter.next_gives ⊤ it gave
+            × ((hint : ℕ) × (cost : Cost)
+            × IsCollection L.LIMIT K.eq S.hash S.is_default hint gave m cost)) }
+        ensures refused { OnErr result ((it : I.IntoIter) × (why : Refusal) × (hint : ℕ)
+            × (cost : Cost) × I.into_iter_gives items it
+            × IsRefusedCollection L.LIMIT K.eq S.hash S.is_default hint
             (Gives I.IntoIter.next_gives it) why cost) }
     {
         match LimitedHashMap::from_iter(alloc, items) {
@@ -206,20 +204,20 @@ impl<K: Eq + Hash + Drop, V: Drop, S: BuildHasher + Default + Drop, L: Limit> Fr
 }
 
 // Beside the inherent call, for code over any collection. On error the items before the refused one stay.
-impl<K: Eq + Hash + Drop, V: Drop, S: BuildHasher, L: Limit> Extend<(K, V)>
+impl<K: Eq + Hash + Drop, V: Drop, S: KeyHasher<K>, L: Limit> Extend<(K, V)>
     for LimitedHashMap<K, V, S, L> {
-    ghost extend_gives = { λ old items new. (cost : Cost) × Extends L.LIMIT K.eq
-        (key_hash S.BuildHasher S.Hasher.Hasher K.hash_input) old items new cost };
+    ghost extend_gives = { λ old items new. (cost : Cost)
+        × Extends L.LIMIT K.eq S.hash old items new cost };
 
     fn extend<I: IntoIterator<Item = (K, V)>>(&mut self, items: I) -> Result<(), AllocError>
         requires { (it : I.IntoIter) → I.into_iter_gives items it
             → I.IntoIter.can_next it × IsFinite (I.IntoIter.remaining it) }
-        ensures ran { ExtendsWithItems I.into_iter_gives I.IntoIter.next_gives (λ old gave new. (cost : Cost)
-            × Extends L.LIMIT K.eq (key_hash S.BuildHasher S.Hasher.Hasher K.hash_input) old gave new cost)
+        ensures ran { ExtendsWithItems I.into_iter_gives I.IntoIter.next_gives
+            (λ old gave new. (cost : Cost) × Extends L.LIMIT K.eq S.hash old gave new cost)
             items self.old self.new result }
         ensures refused { OnErr result ((it : I.IntoIter) × (why : Refusal) × (cost : Cost)
-            × I.into_iter_gives items it × IsRefusedInsertion L.LIMIT K.eq
-            (key_hash S.BuildHasher S.Hasher.Hasher K.hash_input) (Gives I.IntoIter.next_gives it)
+            × I.into_iter_gives items it
+            × IsRefusedInsertion L.LIMIT K.eq S.hash (Gives I.IntoIter.next_gives it)
             self.old why self.new cost) }
     {
         match LimitedHashMap::extend(self, items) {

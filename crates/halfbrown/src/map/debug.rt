@@ -1,10 +1,10 @@
 //! What a map is printed as.
 use super::LimitedHashMap;
-use crate::Limit;
+use crate::{KeyHasher, Limit};
 use std::fmt::{Debug, Formatter, Result, Write};
-use std::hash::{BuildHasher, Hash};
+use std::hash::Hash;
 
-impl<K: Eq + Hash + Debug, V: Debug, S: BuildHasher, L: Limit> Debug
+impl<K: Eq + Hash + Debug, V: Debug, S: KeyHasher<K>, L: Limit> Debug
     for LimitedHashMap<K, V, S, L> {
     /// Prints the pairs in order, as std prints a map.
     ///

@@ -4,11 +4,11 @@ ghost use Rattle.halfbrown.specs.Layout.{state_in};
 ghost use Rattle.halfbrown.specs.State.{IsState, IsTableCapacity, WithPairs};
 
 use super::LimitedHashMap;
-use crate::Limit;
+use crate::{KeyHasher, Limit};
 use half_store::{Drained, IntoStore};
-use std::hash::{BuildHasher, Hash};
+use std::hash::Hash;
 
-impl<K: Eq + Hash, V, S: BuildHasher, L: Limit> LimitedHashMap<K, V, S, L> {
+impl<K: Eq + Hash, V, S: KeyHasher<K>, L: Limit> LimitedHashMap<K, V, S, L> {
     /// Takes the store out, with all pairs. An empty vector without memory is left, and the builder.
     #[inline(always)]
     pub(crate) fn take_store(&mut self) -> Drained<K, V>

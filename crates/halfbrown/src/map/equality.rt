@@ -1,16 +1,16 @@
 //! Whether two maps hold the same pairs, in any order and whatever their forms.
 ghost use Rattle.std.specs.Prelude.{◌≡◌};
 ghost use Rattle.std.specs.List.{list_all};
-ghost use Rattle.halfbrown.specs.Costs.{key_hash, SearchesCost};
+ghost use Rattle.halfbrown.specs.Costs.{SearchesCost};
 ghost use Rattle.halfbrown.specs.Equality.{same_pairs, holds_pair, keys_while_same, searched_keys};
 ghost use Rattle.halfbrown.specs.EqualityLaws.{same_maps_per, same_maps_equiv};
 
 use super::LimitedHashMap;
-use crate::Limit;
+use crate::{KeyHasher, Limit};
 use half_store::{Tally, uncounted};
-use std::hash::{BuildHasher, Hash};
+use std::hash::Hash;
 
-impl<K: Eq + Hash, V: PartialEq, S: BuildHasher, L: Limit> LimitedHashMap<K, V, S, L> {
+impl<K: Eq + Hash, V: PartialEq, S: KeyHasher<K>, L: Limit> LimitedHashMap<K, V, S, L> {
     /// Returns whether both maps hold equal keys with equal values, in any order. The other map may have another limit,
     /// another builder and another form.
     ///
@@ -23,7 +23,10 @@ impl<K: Eq + Hash, V: PartialEq, S: BuildHasher, L: Limit> LimitedHashMap<K, V, 
     /// assert!(rt; ages.same_pairs(&theirs));
     /// ```
     #[inline]
-    pub fn same_pairs<S2: BuildHasher, M: Limit>(&self, other: &LimitedHashMap<K, V, S2, M>) -> bool
+    pub fn same_pairs<S2: KeyHasher<K>, M: Limit>(
+        &self,
+        other: &LimitedHashMap<K, V, S2, M>,
+    ) -> bool
         ensures { result ≡ same_pairs K.eq V.eq self.now.pairs other.now.pairs }
     {
         uncounted!(self.same_pairs_counted(other))
@@ -31,13 +34,13 @@ impl<K: Eq + Hash, V: PartialEq, S: BuildHasher, L: Limit> LimitedHashMap<K, V, 
 
     /// `same_pairs`, with its work counted: nothing where the lengths differ, else one search in the other map for each
     /// pair of this one, in order, up to the first that is not held there. Comparisons of values are not counted.
-    pub fn same_pairs_counted<S2: BuildHasher, M: Limit>(
+    pub fn same_pairs_counted<S2: KeyHasher<K>, M: Limit>(
         &self,
         other: &LimitedHashMap<K, V, S2, M>,
         tally: &mut Tally,
     ) -> bool
         ensures same { result ≡ same_pairs K.eq V.eq self.now.pairs other.now.pairs }
-        ensures cost { SearchesCost K.eq (key_hash S2.BuildHasher S2.Hasher.Hasher K.hash_input)
+        ensures cost { SearchesCost K.eq S2.hash
             other.now (searched_keys K.eq V.eq self.now.pairs other.now.pairs) tally.old tally.new }
     {
         if self.len() != other.len() {
@@ -48,15 +51,14 @@ impl<K: Eq + Hash, V: PartialEq, S: BuildHasher, L: Limit> LimitedHashMap<K, V, 
 
     /// Whether the other map holds each pair of this one. It searches for their keys there, in order, up to and with the
     /// first whose pair it does not hold.
-    fn is_held_by<S2: BuildHasher, M: Limit>(
+    fn is_held_by<S2: KeyHasher<K>, M: Limit>(
         &self,
         other: &LimitedHashMap<K, V, S2, M>,
         tally: &mut Tally,
     ) -> bool
         ensures held { result ≡ list_all (holds_pair K.eq V.eq other.now.pairs) self.now.pairs }
-        ensures cost { SearchesCost K.eq (key_hash S2.BuildHasher S2.Hasher.Hasher K.hash_input)
-            other.now (keys_while_same K.eq V.eq self.now.pairs other.now.pairs) tally.old
-            tally.new }
+        ensures cost { SearchesCost K.eq S2.hash other.now
+            (keys_while_same K.eq V.eq self.now.pairs other.now.pairs) tally.old tally.new }
     {
         for index in 0..self.len() {
             let (key, value) = self.columns().pair_at(index);
@@ -68,7 +70,7 @@ impl<K: Eq + Hash, V: PartialEq, S: BuildHasher, L: Limit> LimitedHashMap<K, V, 
     }
 }
 
-impl<K: Eq + Hash, V: PartialEq, S: BuildHasher, L: Limit> PartialEq
+impl<K: Eq + Hash, V: PartialEq, S: KeyHasher<K>, L: Limit> PartialEq
     for LimitedHashMap<K, V, S, L> {
     ghost eq = { λ a b. same_pairs K.eq V.eq a.pairs b.pairs };
 
@@ -86,6 +88,6 @@ impl<K: Eq + Hash, V: PartialEq, S: BuildHasher, L: Limit> PartialEq
     }
 }
 
-impl<K: Eq + Hash, V: Eq, S: BuildHasher, L: Limit> Eq for LimitedHashMap<K, V, S, L> {
+impl<K: Eq + Hash, V: Eq, S: KeyHasher<K>, L: Limit> Eq for LimitedHashMap<K, V, S, L> {
     ghost laws = { same_maps_equiv K.eq V.eq K.Eq.laws V.Eq.laws };
 }

@@ -6,25 +6,24 @@ ghost use Rattle.std.specs.Map.{keys_of};
 ghost use Rattle.std.specs.Result.{result_ok};
 ghost use Rattle.half_store.specs.Work.{first_match_cost};
 ghost use Rattle.half_store.specs.declared.vecmap.search.Scan.TheVariants.{ByKey};
-ghost use Rattle.halfbrown.specs.Costs.{key_hash, SearchCosts, CostsSearch, CostsHashedSearch};
+ghost use Rattle.halfbrown.specs.Costs.{SearchCosts, CostsSearch, CostsHashedSearch};
 ghost use Rattle.halfbrown.specs.Lookup.{LooksUp};
 ghost use Rattle.halfbrown.specs.Match.{Matches};
 ghost use Rattle.halfbrown.specs.State.{IsState};
 
 use super::LimitedHashMap;
-use crate::{Equivalent, Limit};
+use crate::{Equivalent, KeyHasher, Limit};
 use half_store::{Scan, Tally, Vacancy};
-use std::hash::{BuildHasher, Hash};
+use std::hash::Hash;
 
-impl<K: Eq + Hash, V, S: BuildHasher, L: Limit> LimitedHashMap<K, V, S, L> {
+impl<K: Eq + Hash, V, S: KeyHasher<K>, L: Limit> LimitedHashMap<K, V, S, L> {
     /// Searches for a key: in a vector by `==` alone, in a table among the keys of its hash.
     #[inline(always)]
     pub(crate) fn find<Q: Equivalent<K>>(&self, key: Q, tally: &mut Tally) -> Result<usize, Vacancy>
         ensures found { LooksUp (Q.equivalent key)
-            (key_hash S.BuildHasher S.Hasher.Hasher Q.hash_input self.now.builder key) self.now
-            result }
-        ensures cost { CostsSearch S.BuildHasher S.Hasher.Hasher K.hash_input Q.hash_input
-            Q.equivalent key self.now tally.old tally.new }
+            (S.hash_writes self.now.builder (Q.hash_input key)) self.now result }
+        ensures cost { CostsSearch S.hash (S.hash_writes self.now.builder (Q.hash_input key))
+            (Q.equivalent key) self.now tally.old tally.new }
         ensures state { IsState K.eq L.LIMIT self.now }
     {
         let hash = self.hash_in_table(&key, tally);
@@ -40,12 +39,11 @@ impl<K: Eq + Hash, V, S: BuildHasher, L: Limit> LimitedHashMap<K, V, S, L> {
         tally: &mut Tally,
     ) -> Result<usize, Vacancy>
         requires { self.now.is_vec ≡ false
-            → hash ≡ key_hash S.BuildHasher S.Hasher.Hasher Q.hash_input self.now.builder key }
+            → hash ≡ S.hash_writes self.now.builder (Q.hash_input key) }
         ensures found { LooksUp (Q.equivalent key)
-            (key_hash S.BuildHasher S.Hasher.Hasher Q.hash_input self.now.builder key) self.now
-            result }
-        ensures cost { CostsHashedSearch S.BuildHasher S.Hasher.Hasher K.hash_input Q.hash_input
-            Q.equivalent key self.now tally.old tally.new }
+            (S.hash_writes self.now.builder (Q.hash_input key)) self.now result }
+        ensures cost { CostsHashedSearch S.hash (S.hash_writes self.now.builder (Q.hash_input key))
+            (Q.equivalent key) self.now tally.old tally.new }
         ensures state { IsState K.eq L.LIMIT self.now }
     {
         let matches = move |held: &K| -> bool
@@ -65,10 +63,8 @@ impl<K: Eq + Hash, V, S: BuildHasher, L: Limit> LimitedHashMap<K, V, S, L> {
     ) -> Result<usize, Vacancy>
         requires { (key : Bor K) (index : ℕ)
             → slice_get (keys_of self.now.pairs) index ≡ Some key.now → F.pre matches.now key }
-        ensures found { Matches (FnReturnsAt F.Fn matches.now)
-            (key_hash S.BuildHasher S.Hasher.Hasher K.hash_input) hash self.now result }
-        ensures cost { SearchCosts (key_hash S.BuildHasher S.Hasher.Hasher K.hash_input) hash
-            self.now (result_ok result) 0 tally.old tally.new }
+        ensures found { Matches (FnReturnsAt F.Fn matches.now) S.hash hash self.now result }
+        ensures cost { SearchCosts S.hash hash self.now (result_ok result) 0 tally.old tally.new }
         ensures in_order { scan ≡ ByKey → self.now.is_vec ≡ true → tally.new.compared
             ≡ tally.old.compared + first_match_cost (result_ok result) (length self.now.pairs) }
         ensures state { IsState K.eq L.LIMIT self.now }

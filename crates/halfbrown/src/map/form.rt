@@ -4,18 +4,18 @@ ghost use Rattle.std.specs.Prelude.{◌≡◌, ◌≤◌, ◌<◌, ◌↔◌, tr
 ghost use Rattle.std.specs.Prelude.{OnOk, OnErr, IfErr, is_ok, if◌then◌else◌};
 ghost use Rattle.half_store.specs.Capacity.{capacity_of};
 ghost use Rattle.half_store.specs.Work.{asked_more};
-ghost use Rattle.halfbrown.specs.Costs.{key_hash, search_asked, switch_asked};
+ghost use Rattle.halfbrown.specs.Costs.{search_asked, switch_asked};
 ghost use Rattle.halfbrown.specs.Growth.{is_full, switch_needs, IsRefusal};
 ghost use Rattle.halfbrown.specs.Preparation.{Prepares};
 ghost use Rattle.halfbrown.specs.Replacement.{MovesLast};
 ghost use Rattle.halfbrown.specs.State.{IsState};
 
 use super::LimitedHashMap;
-use crate::Limit;
-use half_store::{Refusal, Table, Tally, Vacancy, counting, uncounted};
-use std::hash::{BuildHasher, Hash};
+use crate::{KeyHasher, Limit};
+use half_store::{Refusal, Table, Tally, Vacancy, uncounted};
+use std::hash::Hash;
 
-impl<K: Eq + Hash, V, S: BuildHasher, L: Limit> LimitedHashMap<K, V, S, L> {
+impl<K: Eq + Hash, V, S: KeyHasher<K>, L: Limit> LimitedHashMap<K, V, S, L> {
     /// Whether the form is the vector.
     ///
     /// ```
@@ -90,14 +90,14 @@ impl<K: Eq + Hash, V, S: BuildHasher, L: Limit> LimitedHashMap<K, V, S, L> {
     /// The hash of a key in a table. In a vector nothing is hashed, and it is 0.
     #[inline(always)]
     pub(crate) fn hash_in_table<Q: Hash>(&self, key: &Q, tally: &mut Tally) -> u64
-        ensures hash { self.now.is_vec ≡ false → result
-            ≡ key_hash S.BuildHasher S.Hasher.Hasher Q.hash_input self.now.builder key.now }
+        ensures hash { self.now.is_vec ≡ false
+            → result ≡ S.hash_writes self.now.builder (Q.hash_input key.now) }
         ensures work { tally.new ≡ asked_more (search_asked self.now.is_vec) tally.old }
     {
         if self.store.is_vec() {
             return 0;
         }
-        counting::hash_one(&self.builder, key, tally)
+        self.builder.hash_key(key, tally)
     }
 
     /// Where the pair at this index goes once its value was replaced: in a vector to the end, and the pair that was last takes its
@@ -120,7 +120,7 @@ impl<K: Eq + Hash, V, S: BuildHasher, L: Limit> LimitedHashMap<K, V, S, L> {
 }
 
 // Hashes each key, in order, and stores the hash. The buckets read for that are not counted.
-fn store_hashes<K: Hash, S: BuildHasher>(
+fn store_hashes<K: Hash, S: KeyHasher<K>>(
     builder: &S,
     keys: &[K],
     table: &mut Table,
@@ -128,13 +128,12 @@ fn store_hashes<K: Hash, S: BuildHasher>(
 )
     requires empty { table.old.hashes ≡ [] }
     requires capacity { length keys.now ≤ capacity_of table.old.buckets }
-    ensures hashes { table.new.hashes
-        ≡ map (key_hash S.BuildHasher S.Hasher.Hasher K.hash_input builder.now) keys.now }
+    ensures hashes { table.new.hashes ≡ map (S.hash builder.now) keys.now }
     ensures buckets { table.new.buckets ≡ table.old.buckets }
     ensures work { tally.new ≡ asked_more (length keys.now) tally.old }
 {
     for key in keys {
-        let hash = counting::hash_one(builder, key, tally);
+        let hash = builder.hash_key(key, tally);
         uncounted!(table.add(hash));
     }
 }

@@ -10,12 +10,12 @@ ghost use Rattle.halfbrown.specs.State.{IsState};
 ghost use Rattle.halfbrown.specs.Updates.{HasSetBy};
 
 use super::LimitedHashMap;
-use crate::{Equivalent, Limit};
+use crate::{Equivalent, KeyHasher, Limit};
 use half_store::{Tally, uncounted};
-use std::hash::{BuildHasher, Hash};
+use std::hash::Hash;
 use std::ops::Index;
 
-impl<K: Eq + Hash, V, S: BuildHasher, L: Limit> LimitedHashMap<K, V, S, L> {
+impl<K: Eq + Hash, V, S: KeyHasher<K>, L: Limit> LimitedHashMap<K, V, S, L> {
     ghost use Rattle.halfbrown.specs.Lending.{LendsValueBy, LendsValueAt};
 
     /// Returns the value of the held key that equals this one. It costs one search.
@@ -36,8 +36,8 @@ impl<K: Eq + Hash, V, S: BuildHasher, L: Limit> LimitedHashMap<K, V, S, L> {
     #[inline(always)]
     pub fn get_counted<Q: Equivalent<K>>(&self, key: Q, tally: &mut Tally) -> Option<&V>
         ensures value { option_copied result ≡ lookup (Q.equivalent key) self.now.pairs }
-        ensures cost { CostsSearch S.BuildHasher S.Hasher.Hasher K.hash_input Q.hash_input
-            Q.equivalent key self.now tally.old tally.new }
+        ensures cost { CostsSearch S.hash (S.hash_writes self.now.builder (Q.hash_input key))
+            (Q.equivalent key) self.now tally.old tally.new }
         ensures state { IsState K.eq L.LIMIT self.now }
     {
         let index = self.find(key, tally).ok()?;
@@ -65,8 +65,8 @@ impl<K: Eq + Hash, V, S: BuildHasher, L: Limit> LimitedHashMap<K, V, S, L> {
     ) -> Option<(&K, &V)>
         ensures pair { option_map deref_pair result
             ≡ lookup_entry (Q.equivalent key) self.now.pairs }
-        ensures cost { CostsSearch S.BuildHasher S.Hasher.Hasher K.hash_input Q.hash_input
-            Q.equivalent key self.now tally.old tally.new }
+        ensures cost { CostsSearch S.hash (S.hash_writes self.now.builder (Q.hash_input key))
+            (Q.equivalent key) self.now tally.old tally.new }
         ensures state { IsState K.eq L.LIMIT self.now }
     {
         let index = self.find(key, tally).ok()?;
@@ -83,8 +83,8 @@ impl<K: Eq + Hash, V, S: BuildHasher, L: Limit> LimitedHashMap<K, V, S, L> {
     /// ```
     #[inline(always)]
     pub fn get_mut<Q: Equivalent<K>>(&mut self, key: Q) -> Option<&mut V>
-        ensures* writes_back { sem 𝓛 (LendsValueBy K.row V.row S.row L.row S.Hasher.row K.Hash
-            S.BuildHasher S.Hasher.Hasher L.Limit self.entry (Q.equivalent key) result) }
+        ensures* writes_back { sem 𝓛 (LendsValueBy K.row V.row S.row L.row K.Hash S.KeyHasher
+            L.Limit self.entry (Q.equivalent key) result) }
         ensures value { option_copied_mut result ≡ lookup (Q.equivalent key) self.old.pairs }
         ensures written { OnSome result ((written : V) → HasSetBy K.eq (Q.equivalent key)
             self.old.pairs written (set_by (Q.equivalent key) self.old.pairs written)) }
@@ -95,13 +95,13 @@ impl<K: Eq + Hash, V, S: BuildHasher, L: Limit> LimitedHashMap<K, V, S, L> {
     /// `get_mut`, with its work counted: that of one search.
     #[inline(always)]
     pub fn get_mut_counted<Q: Equivalent<K>>(&mut self, key: Q, tally: &mut Tally) -> Option<&mut V>
-        ensures* writes_back { sem 𝓛 (LendsValueBy K.row V.row S.row L.row S.Hasher.row K.Hash
-            S.BuildHasher S.Hasher.Hasher L.Limit self.entry (Q.equivalent key) result) }
+        ensures* writes_back { sem 𝓛 (LendsValueBy K.row V.row S.row L.row K.Hash S.KeyHasher
+            L.Limit self.entry (Q.equivalent key) result) }
         ensures value { option_copied_mut result ≡ lookup (Q.equivalent key) self.old.pairs }
         ensures written { OnSome result ((written : V) → HasSetBy K.eq (Q.equivalent key)
             self.old.pairs written (set_by (Q.equivalent key) self.old.pairs written)) }
-        ensures cost { CostsSearch S.BuildHasher S.Hasher.Hasher K.hash_input Q.hash_input
-            Q.equivalent key self.old tally.old tally.new }
+        ensures cost { CostsSearch S.hash (S.hash_writes self.old.builder (Q.hash_input key))
+            (Q.equivalent key) self.old tally.old tally.new }
         ensures state { IsState K.eq L.LIMIT self.old }
     {
         match self.find(key, tally) {
@@ -127,8 +127,8 @@ impl<K: Eq + Hash, V, S: BuildHasher, L: Limit> LimitedHashMap<K, V, S, L> {
     #[inline(always)]
     pub fn contains_key_counted<Q: Equivalent<K>>(&self, key: Q, tally: &mut Tally) -> bool
         ensures held { result ≡ holds_by (Q.equivalent key) self.now.pairs }
-        ensures cost { CostsSearch S.BuildHasher S.Hasher.Hasher K.hash_input Q.hash_input
-            Q.equivalent key self.now tally.old tally.new }
+        ensures cost { CostsSearch S.hash (S.hash_writes self.now.builder (Q.hash_input key))
+            (Q.equivalent key) self.now tally.old tally.new }
         ensures state { IsState K.eq L.LIMIT self.now }
     {
         self.find(key, tally).is_ok()
@@ -139,8 +139,8 @@ impl<K: Eq + Hash, V, S: BuildHasher, L: Limit> LimitedHashMap<K, V, S, L> {
     pub fn index_counted<Q: Equivalent<K>>(&self, key: Q, tally: &mut Tally) -> &V
         requires { IsTrue (holds_by (Q.equivalent key) self.now.pairs) }
         ensures value { lookup (Q.equivalent key) self.now.pairs ≡ Some result.now }
-        ensures cost { CostsSearch S.BuildHasher S.Hasher.Hasher K.hash_input Q.hash_input
-            Q.equivalent key self.now tally.old tally.new }
+        ensures cost { CostsSearch S.hash (S.hash_writes self.now.builder (Q.hash_input key))
+            (Q.equivalent key) self.now tally.old tally.new }
     {
         match self.find(key, tally) {
             Ok(index) => self.columns().value_at(index),
@@ -152,8 +152,8 @@ impl<K: Eq + Hash, V, S: BuildHasher, L: Limit> LimitedHashMap<K, V, S, L> {
     #[inline(always)]
     pub(crate) fn value_at_mut(&mut self, index: usize) -> &mut V
         requires { index < length self.old.pairs }
-        ensures* writes_back { sem 𝓛 (LendsValueAt K.row V.row S.row L.row S.Hasher.row K.Hash
-            S.BuildHasher S.Hasher.Hasher L.Limit self.entry index result) }
+        ensures* writes_back { sem 𝓛 (LendsValueAt K.row V.row S.row L.row K.Hash S.KeyHasher
+            L.Limit self.entry index result) }
         ensures value { slice_get (values_of self.old.pairs) index ≡ Some result.now }
     {
         let (_, value) = self.store.pair_at_mut(index);
@@ -161,7 +161,7 @@ impl<K: Eq + Hash, V, S: BuildHasher, L: Limit> LimitedHashMap<K, V, S, L> {
     }
 }
 
-impl<K: Eq + Hash, V, S: BuildHasher, L: Limit, Q: Equivalent<K>> Index<Q>
+impl<K: Eq + Hash, V, S: KeyHasher<K>, L: Limit, Q: Equivalent<K>> Index<Q>
     for LimitedHashMap<K, V, S, L> {
     type Output = V;
 

@@ -4,11 +4,11 @@ ghost use Rattle.halfbrown.specs.Growth.{reserve_needs, IsRefusal, Reserves, Shr
 ghost use Rattle.halfbrown.specs.State.{IsState};
 
 use super::LimitedHashMap;
-use crate::Limit;
+use crate::{KeyHasher, Limit};
 use half_store::Refusal;
-use std::hash::{BuildHasher, Hash};
+use std::hash::Hash;
 
-impl<K: Eq + Hash, V, S: BuildHasher, L: Limit> LimitedHashMap<K, V, S, L> {
+impl<K: Eq + Hash, V, S: KeyHasher<K>, L: Limit> LimitedHashMap<K, V, S, L> {
     /// Makes the capacity enough for this many more pairs. A vector gets capacity for no more pairs than the limit,
     /// since the insertion after that switches, and allocates. The capacity never falls. Nothing is hashed.
     ///

@@ -11,11 +11,11 @@ ghost use Rattle.halfbrown.specs.Removal.{RemovesAt};
 ghost use Rattle.halfbrown.specs.State.{IsState};
 
 use super::LimitedHashMap;
-use crate::{Equivalent, Limit};
+use crate::{Equivalent, KeyHasher, Limit};
 use half_store::{Tally, uncounted};
-use std::hash::{BuildHasher, Hash};
+use std::hash::Hash;
 
-impl<K: Eq + Hash, V, S: BuildHasher, L: Limit> LimitedHashMap<K, V, S, L> {
+impl<K: Eq + Hash, V, S: KeyHasher<K>, L: Limit> LimitedHashMap<K, V, S, L> {
     ghost use Rattle.halfbrown.specs.Lending.{LendsValueIfAt};
 
     /// Returns the pair at this index in the order of the pairs, or none where the index is not below `len`. Nothing is
@@ -48,8 +48,8 @@ impl<K: Eq + Hash, V, S: BuildHasher, L: Limit> LimitedHashMap<K, V, S, L> {
     /// ```
     #[inline(always)]
     pub fn get_index_mut(&mut self, index: usize) -> Option<&mut V>
-        ensures* writes_back { sem 𝓛 (LendsValueIfAt K.row V.row S.row L.row S.Hasher.row K.Hash
-            S.BuildHasher S.Hasher.Hasher L.Limit self.entry index result) }
+        ensures* writes_back { sem 𝓛 (LendsValueIfAt K.row V.row S.row L.row K.Hash S.KeyHasher
+            L.Limit self.entry index result) }
         ensures value { option_copied_mut result ≡ slice_get (values_of self.old.pairs) index }
         ensures held { IsSome result ↔ (index < length self.old.pairs) }
         ensures state { IsState K.eq L.LIMIT self.old }
@@ -106,8 +106,8 @@ impl<K: Eq + Hash, V, S: BuildHasher, L: Limit> LimitedHashMap<K, V, S, L> {
     pub fn get_index_of_counted<Q: Equivalent<K>>(&self, key: Q, tally: &mut Tally) -> Option<usize>
         ensures index { result ≡ index_of (Q.equivalent key) (keys_of self.now.pairs) }
         ensures found { FindsIndex (Q.equivalent key) self.now.pairs result }
-        ensures cost { CostsSearch S.BuildHasher S.Hasher.Hasher K.hash_input Q.hash_input
-            Q.equivalent key self.now tally.old tally.new }
+        ensures cost { CostsSearch S.hash (S.hash_writes self.now.builder (Q.hash_input key))
+            (Q.equivalent key) self.now tally.old tally.new }
         ensures state { IsState K.eq L.LIMIT self.now }
     {
         self.find(key, tally).ok()

@@ -3,19 +3,19 @@ ghost use Rattle.std.specs.Prelude.{◌≡◌, ◌<◌, false, Some, [], ◌∷�
 ghost use Rattle.std.specs.Map.{values_of};
 ghost use Rattle.half_store.specs.Pairs.{set_value};
 ghost use Rattle.half_store.specs.Store.{IsVacancy};
-ghost use Rattle.halfbrown.specs.Costs.{key_hash, new_key_cost, GrewBy, InsertCosts};
+ghost use Rattle.halfbrown.specs.Costs.{new_key_cost, GrewBy, InsertCosts};
 ghost use Rattle.halfbrown.specs.Insertion.{Inserts, InsertsNewKey};
 ghost use Rattle.halfbrown.specs.Pairs.{holds};
 ghost use Rattle.halfbrown.specs.Preparation.{pushed};
 ghost use Rattle.halfbrown.specs.State.{IsState, WithPairs, contents_of};
 
 use super::LimitedHashMap;
-use crate::{Limit, Refused};
+use crate::{KeyHasher, Limit, Refused};
 use half_store::{Tally, Vacancy, uncounted};
-use std::hash::{BuildHasher, Hash};
+use std::hash::Hash;
 use std::mem::replace;
 
-impl<K: Eq + Hash, V, S: BuildHasher, L: Limit> LimitedHashMap<K, V, S, L> {
+impl<K: Eq + Hash, V, S: KeyHasher<K>, L: Limit> LimitedHashMap<K, V, S, L> {
     /// Gives the key this value, and returns its old one.
     ///
     /// Where an equal key is held, that key stays at its index, and the given key is dropped. Else the pair is added at
@@ -50,8 +50,7 @@ impl<K: Eq + Hash, V, S: BuildHasher, L: Limit> LimitedHashMap<K, V, S, L> {
     where
         K: Drop,
         ensures inserts { Inserts L.LIMIT K.eq self.old key value result self.new }
-        ensures cost { InsertCosts L.LIMIT K.eq
-            (key_hash S.BuildHasher S.Hasher.Hasher K.hash_input) self.old key (is_ok result)
+        ensures cost { InsertCosts L.LIMIT K.eq S.hash self.old key (is_ok result)
             tally.old tally.new }
     {
         match self.prepare(&key, tally) {
@@ -92,8 +91,7 @@ impl<K: Eq + Hash, V, S: BuildHasher, L: Limit> LimitedHashMap<K, V, S, L> {
     ) -> Result<(), Refused<K, V>>
         requires { holds K.eq self.old.pairs key ≡ false }
         ensures inserts { InsertsNewKey L.LIMIT K.eq self.old key value result self.new }
-        ensures cost { GrewBy (new_key_cost L.LIMIT K.eq
-            (key_hash S.BuildHasher S.Hasher.Hasher K.hash_input) self.old key (is_ok result))
+        ensures cost { GrewBy (new_key_cost L.LIMIT K.eq S.hash self.old key (is_ok result))
             tally.old tally.new }
     {
         match self.prepare_new(&key, tally) {
@@ -123,7 +121,7 @@ impl<K: Eq + Hash, V, S: BuildHasher, L: Limit> LimitedHashMap<K, V, S, L> {
         requires capacity { length self.old.pairs < self.old.capacity }
         requires absent { holds K.eq self.old.pairs key ≡ false }
         requires vacant { IsVacancy self.old.is_vec (contents_of self.old)
-            (key_hash S.BuildHasher S.Hasher.Hasher K.hash_input self.old.builder key) vacancy }
+            (S.hash self.old.builder key) vacancy }
         ensures exact { self.new ≡ pushed self.old key value vacancy }
         ensures after { WithPairs self.old (self.old.pairs ++ (key, value) ∷ []) self.new }
         ensures state { IsState K.eq L.LIMIT self.new }

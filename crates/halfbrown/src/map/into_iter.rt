@@ -5,11 +5,11 @@ ghost use Rattle.std.specs.Map.Iter.{GivesInOrder, ShowsValuesInOrder};
 ghost use Rattle.halfbrown.specs.State.{IsState};
 
 use super::LimitedHashMap;
-use crate::{IntoIter, Iter, Limit};
-use std::hash::{BuildHasher, Hash};
+use crate::{IntoIter, Iter, KeyHasher, Limit};
+use std::hash::Hash;
 use std::iter::IntoIterator;
 
-impl<'a, K: Eq + Hash, V, S: BuildHasher, L: Limit> IntoIterator
+impl<'a, K: Eq + Hash, V, S: KeyHasher<K>, L: Limit> IntoIterator
     for &'a LimitedHashMap<K, V, S, L> {
     ghost use Rattle.halfbrown.specs.Iter.{pairs_left, ShowsPairsInOrder, ShowsPairValuesInOrder};
 
@@ -36,7 +36,7 @@ impl<'a, K: Eq + Hash, V, S: BuildHasher, L: Limit> IntoIterator
     }
 }
 
-impl<'a, K: Eq + Hash, V, S: BuildHasher, L: Limit> IntoIterator
+impl<'a, K: Eq + Hash, V, S: KeyHasher<K>, L: Limit> IntoIterator
     for &'a mut LimitedHashMap<K, V, S, L> {
     ghost use Rattle.halfbrown.specs.Iter.{pairs_left, ShowsPairsInOrder, ShowsPairValuesInOrder};
     ghost use Rattle.halfbrown.specs.Lending.{Rests};
@@ -52,8 +52,8 @@ impl<'a, K: Eq + Hash, V, S: BuildHasher, L: Limit> IntoIterator
     // The values can be read alone, as upstream has it. `iter_mut` lends them to be written.
     #[inline(always)]
     fn into_iter(self) -> Iter<'a, K, V>
-        ensures* rests { sem 𝓛 (Rests K.row V.row S.row L.row S.Hasher.row K.Hash S.BuildHasher
-            S.Hasher.Hasher L.Limit self.entry) }
+        ensures* rests { sem 𝓛
+            (Rests K.row V.row S.row L.row K.Hash S.KeyHasher L.Limit self.entry) }
         ensures into_iter_gives { (pairs_left result ≡ self.old.pairs)
             × (length self.old.pairs < 2 ^ 63) × ShowsPairsInOrder K V × ShowsPairValuesInOrder K V
             × IsState K.eq L.LIMIT self.old }
@@ -62,7 +62,7 @@ impl<'a, K: Eq + Hash, V, S: BuildHasher, L: Limit> IntoIterator
     }
 }
 
-impl<K: Eq + Hash + Drop, V: Drop, S: BuildHasher + Drop, L: Limit> IntoIterator
+impl<K: Eq + Hash + Drop, V: Drop, S: KeyHasher<K> + Drop, L: Limit> IntoIterator
     for LimitedHashMap<K, V, S, L> {
     type Item = (K, V);
 

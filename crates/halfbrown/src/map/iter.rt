@@ -9,10 +9,10 @@ ghost use Rattle.halfbrown.specs.State.{IsState, with_pairs};
 ghost use Rattle.halfbrown.specs.Updates.{HasValues};
 
 use super::LimitedHashMap;
-use crate::{Iter, IterMut, Keys, Limit, Values, ValuesMut};
-use std::hash::{BuildHasher, Hash};
+use crate::{Iter, IterMut, KeyHasher, Keys, Limit, Values, ValuesMut};
+use std::hash::Hash;
 
-impl<K: Eq + Hash, V, S: BuildHasher, L: Limit> LimitedHashMap<K, V, S, L> {
+impl<K: Eq + Hash, V, S: KeyHasher<K>, L: Limit> LimitedHashMap<K, V, S, L> {
     ghost use Rattle.halfbrown.specs.Iter.{pairs_left, ShowsPairsInOrder, ShowsPairValuesInOrder};
     ghost use Rattle.halfbrown.specs.Iter.{column_left, ShowsColumnInOrder};
     ghost use Rattle.halfbrown.specs.Iter.{iter_mut_left, iter_mut_name};
@@ -80,8 +80,8 @@ impl<K: Eq + Hash, V, S: BuildHasher, L: Limit> LimitedHashMap<K, V, S, L> {
     /// ```
     #[inline(always)]
     pub fn iter_mut(&mut self) -> IterMut<'_, K, V>
-        ensures* writes_back { sem 𝓛 (LendsValues K.row V.row S.row L.row S.Hasher.row K.Hash
-            S.BuildHasher S.Hasher.Hasher L.Limit self.entry (iter_mut_name result)) }
+        ensures* writes_back { sem 𝓛 (LendsValues K.row V.row S.row L.row K.Hash S.KeyHasher
+            L.Limit self.entry (iter_mut_name result)) }
         ensures left { iter_mut_left result ≡ self.old.pairs }
         ensures small { length self.old.pairs < 2 ^ 63 }
         ensures values_run { LendsValuesInOrder (iter_mut_left {K = K} {V = V}) }
@@ -104,8 +104,8 @@ impl<K: Eq + Hash, V, S: BuildHasher, L: Limit> LimitedHashMap<K, V, S, L> {
     /// ```
     #[inline(always)]
     pub fn values_mut(&mut self) -> ValuesMut<'_, K, V>
-        ensures* writes_back { sem 𝓛 (LendsValues K.row V.row S.row L.row S.Hasher.row K.Hash
-            S.BuildHasher S.Hasher.Hasher L.Limit self.entry (values_mut_name result)) }
+        ensures* writes_back { sem 𝓛 (LendsValues K.row V.row S.row L.row K.Hash S.KeyHasher
+            L.Limit self.entry (values_mut_name result)) }
         ensures left { values_mut_left result ≡ values_of self.old.pairs }
         ensures small { length self.old.pairs < 2 ^ 63 }
         ensures runs { YieldsMutRefsInOrder (ValuesMutSteps {K = K} {V = V}) values_mut_left }
@@ -127,8 +127,8 @@ impl<K: Eq + Hash, V, S: BuildHasher, L: Limit> LimitedHashMap<K, V, S, L> {
     /// ```
     #[inline(always)]
     pub fn values_slice_mut(&mut self) -> &mut [V]
-        ensures* writes_back { sem 𝓛 (LendsValues K.row V.row S.row L.row S.Hasher.row K.Hash
-            S.BuildHasher S.Hasher.Hasher L.Limit self.entry result.ghost_name) }
+        ensures* writes_back { sem 𝓛 (LendsValues K.row V.row S.row L.row K.Hash S.KeyHasher
+            L.Limit self.entry result.ghost_name) }
         ensures values { result.now ≡ values_of self.old.pairs }
         ensures small { length self.old.pairs < 2 ^ 63 }
         ensures written { (vs : List V)

@@ -4,10 +4,10 @@ ghost use Rattle.halfbrown.specs.Making.{IsNew, Makes};
 ghost use Rattle.halfbrown.specs.State.{IsState};
 
 use super::{DefaultHashBuilder, LimitedHashMap};
-use crate::Limit;
+use crate::{KeyHasher, Limit};
 use half_store::{Refusal, Store};
 use std::alloc::Global;
-use std::hash::{BuildHasher, BuildHasherDefault, Hash};
+use std::hash::{BuildHasherDefault, Hash};
 use std::marker::PhantomData;
 
 impl<K: Eq + Hash, V, L: Limit> LimitedHashMap<K, V, DefaultHashBuilder, L> {
@@ -61,7 +61,7 @@ impl<K: Eq + Hash, V, L: Limit> LimitedHashMap<K, V, DefaultHashBuilder, L> {
     }
 }
 
-impl<K: Eq + Hash, V, S: BuildHasher, L: Limit> LimitedHashMap<K, V, S, L> {
+impl<K: Eq + Hash, V, S: KeyHasher<K>, L: Limit> LimitedHashMap<K, V, S, L> {
     /// An empty vector with this builder. It takes no memory.
     ///
     /// ```

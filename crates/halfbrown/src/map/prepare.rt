@@ -3,18 +3,18 @@ ghost use Rattle.std.specs.Prelude.{◌≡◌, ◌<◌, false, length, OnOk, OnE
 ghost use Rattle.half_store.specs.Probe.{looked_more};
 ghost use Rattle.half_store.specs.Store.{IsVacancy};
 ghost use Rattle.half_store.specs.Work.{asked_more};
-ghost use Rattle.halfbrown.specs.Costs.{key_hash, probe_length, switch_asked, new_key_cost, GrewBy, InsertCosts};
+ghost use Rattle.halfbrown.specs.Costs.{probe_length, switch_asked, new_key_cost, GrewBy, InsertCosts};
 ghost use Rattle.halfbrown.specs.Growth.{is_full, addition_needs, insert_needs, new_key_needs, IsRefusal};
 ghost use Rattle.halfbrown.specs.Pairs.{holds};
 ghost use Rattle.halfbrown.specs.Preparation.{IsReadyFor, HasVacancyFor, Prepares, growth_looks};
 ghost use Rattle.halfbrown.specs.State.{IsState, contents_of};
 
 use super::LimitedHashMap;
-use crate::Limit;
+use crate::{KeyHasher, Limit};
 use half_store::{Refusal, Tally, Vacancy};
-use std::hash::{BuildHasher, Hash};
+use std::hash::Hash;
 
-impl<K: Eq + Hash, V, S: BuildHasher, L: Limit> LimitedHashMap<K, V, S, L> {
+impl<K: Eq + Hash, V, S: KeyHasher<K>, L: Limit> LimitedHashMap<K, V, S, L> {
     /// Switches a full map and searches for a key; where it is not held, makes capacity for its pair.
     #[inline(always)]
     pub(crate) fn prepare(
@@ -24,12 +24,10 @@ impl<K: Eq + Hash, V, S: BuildHasher, L: Limit> LimitedHashMap<K, V, S, L> {
     ) -> Result<Result<usize, Vacancy>, Refusal>
         ensures ok { OnOk result
             (Prepares L.LIMIT self.old (insert_needs L.LIMIT K.eq self.old key.now) self.new) }
-        ensures ready { IfOk result (IsReadyFor K.eq
-            (key_hash S.BuildHasher S.Hasher.Hasher K.hash_input) self.new key.now) }
+        ensures ready { IfOk result (IsReadyFor K.eq S.hash self.new key.now) }
         ensures refused { IfErr result (IsRefusal (insert_needs L.LIMIT K.eq self.old key.now)) }
         ensures err { OnErr result (self.new ≡ self.old) }
-        ensures cost { InsertCosts L.LIMIT K.eq
-            (key_hash S.BuildHasher S.Hasher.Hasher K.hash_input) self.old key.now (is_ok result)
+        ensures cost { InsertCosts L.LIMIT K.eq S.hash self.old key.now (is_ok result)
             tally.old tally.new }
         ensures state { IsState K.eq L.LIMIT self.new }
     {
@@ -47,12 +45,10 @@ impl<K: Eq + Hash, V, S: BuildHasher, L: Limit> LimitedHashMap<K, V, S, L> {
         requires { holds K.eq self.old.pairs key.now ≡ false }
         ensures ok { OnOk result
             (Prepares L.LIMIT self.old (new_key_needs L.LIMIT self.old) self.new) }
-        ensures ready { IfOk result (HasVacancyFor K.eq
-            (key_hash S.BuildHasher S.Hasher.Hasher K.hash_input) self.new key.now) }
+        ensures ready { IfOk result (HasVacancyFor K.eq S.hash self.new key.now) }
         ensures refused { IfErr result (IsRefusal (new_key_needs L.LIMIT self.old)) }
         ensures err { OnErr result (self.new ≡ self.old) }
-        ensures cost { GrewBy (new_key_cost L.LIMIT K.eq
-            (key_hash S.BuildHasher S.Hasher.Hasher K.hash_input) self.old key.now (is_ok result))
+        ensures cost { GrewBy (new_key_cost L.LIMIT K.eq S.hash self.old key.now (is_ok result))
             tally.old tally.new }
         ensures state { IsState K.eq L.LIMIT self.new }
     {
@@ -85,8 +81,7 @@ impl<K: Eq + Hash, V, S: BuildHasher, L: Limit> LimitedHashMap<K, V, S, L> {
         requires capacity { length self.now.pairs < self.now.capacity }
         ensures vacant { IsVacancy self.now.is_vec (contents_of self.now) hash result }
         ensures work { tally.new ≡ looked_more tally.old (probe_length
-            (key_hash S.BuildHasher S.Hasher.Hasher K.hash_input self.now.builder)
-            self.now.is_vec self.now.capacity self.now.pairs hash) }
+            (S.hash self.now.builder) self.now.is_vec self.now.capacity self.now.pairs hash) }
     {
         self.store.vacancy_for(hash, tally)
     }
@@ -120,8 +115,7 @@ impl<K: Eq + Hash, V, S: BuildHasher, L: Limit> LimitedHashMap<K, V, S, L> {
         ensures refused { IfErr result (IsRefusal (addition_needs self.old)) }
         ensures err { OnErr result (self.new ≡ self.old) }
         ensures work { tally.new ≡ looked_more tally.old
-            (growth_looks (key_hash S.BuildHasher S.Hasher.Hasher K.hash_input self.old.builder)
-            self.old vacancy.hash (is_ok result)) }
+            (growth_looks (S.hash self.old.builder) self.old vacancy.hash (is_ok result)) }
         ensures state { IsState K.eq L.LIMIT self.new }
     {
         if self.len() < self.capacity() {

@@ -3,16 +3,16 @@ ghost use Rattle.std.specs.Prelude.{◌≡◌, ◌<◌, false, length, slice_get
 ghost use Rattle.std.specs.Map.{values_of, lookup, lookup_entry};
 ghost use Rattle.std.specs.Option.{option_map};
 ghost use Rattle.half_store.specs.Pairs.{swap_remove_at};
-ghost use Rattle.halfbrown.specs.Costs.{key_hash, CostsSearch, CostsHashedSearch};
+ghost use Rattle.halfbrown.specs.Costs.{CostsSearch, CostsHashedSearch};
 ghost use Rattle.halfbrown.specs.Removal.{Removes};
 ghost use Rattle.halfbrown.specs.State.{IsState, WithPairs};
 
 use super::LimitedHashMap;
-use crate::{Equivalent, Limit};
+use crate::{Equivalent, KeyHasher, Limit};
 use half_store::{Tally, uncounted};
-use std::hash::{BuildHasher, Hash};
+use std::hash::Hash;
 
-impl<K: Eq + Hash, V, S: BuildHasher, L: Limit> LimitedHashMap<K, V, S, L> {
+impl<K: Eq + Hash, V, S: KeyHasher<K>, L: Limit> LimitedHashMap<K, V, S, L> {
     /// Removes the pair of the held key that equals this one, and returns its value. The last pair takes its index. It costs
     /// one search.
     ///
@@ -37,8 +37,8 @@ impl<K: Eq + Hash, V, S: BuildHasher, L: Limit> LimitedHashMap<K, V, S, L> {
         K: Drop,
         ensures removes { Removes L.LIMIT K.eq (Q.equivalent key) self.old
             (lookup (Q.equivalent key) self.old.pairs) result self.new }
-        ensures cost { CostsSearch S.BuildHasher S.Hasher.Hasher K.hash_input Q.hash_input
-            Q.equivalent key self.old tally.old tally.new }
+        ensures cost { CostsSearch S.hash (S.hash_writes self.old.builder (Q.hash_input key))
+            (Q.equivalent key) self.old tally.old tally.new }
     {
         let (_, value) = self.remove_entry_counted(key, tally)?;
         Some(value)
@@ -67,8 +67,8 @@ impl<K: Eq + Hash, V, S: BuildHasher, L: Limit> LimitedHashMap<K, V, S, L> {
     ) -> Option<(K, V)>
         ensures removes { Removes L.LIMIT K.eq (Q.equivalent key) self.old
             (lookup_entry (Q.equivalent key) self.old.pairs) result self.new }
-        ensures cost { CostsSearch S.BuildHasher S.Hasher.Hasher K.hash_input Q.hash_input
-            Q.equivalent key self.old tally.old tally.new }
+        ensures cost { CostsSearch S.hash (S.hash_writes self.old.builder (Q.hash_input key))
+            (Q.equivalent key) self.old tally.old tally.new }
     {
         let hash = self.hash_in_table(&key, tally);
         self.remove_hashed(hash, key, tally)
@@ -87,7 +87,7 @@ impl<K: Eq + Hash, V, S: BuildHasher, L: Limit> LimitedHashMap<K, V, S, L> {
         hash: u64,
         key: Q,
     ) -> Option<(K, V)>
-        requires { hash ≡ key_hash S.BuildHasher S.Hasher.Hasher Q.hash_input self.old.builder key }
+        requires { hash ≡ S.hash_writes self.old.builder (Q.hash_input key) }
         ensures removes { Removes L.LIMIT K.eq (Q.equivalent key) self.old
             (lookup_entry (Q.equivalent key) self.old.pairs) result self.new }
         ensures value { option_map (λ pair. pair.1) result
@@ -104,13 +104,13 @@ impl<K: Eq + Hash, V, S: BuildHasher, L: Limit> LimitedHashMap<K, V, S, L> {
         key: Q,
         tally: &mut Tally,
     ) -> Option<(K, V)>
-        requires { hash ≡ key_hash S.BuildHasher S.Hasher.Hasher Q.hash_input self.old.builder key }
+        requires { hash ≡ S.hash_writes self.old.builder (Q.hash_input key) }
         ensures removes { Removes L.LIMIT K.eq (Q.equivalent key) self.old
             (lookup_entry (Q.equivalent key) self.old.pairs) result self.new }
         ensures value { option_map (λ pair. pair.1) result
             ≡ lookup (Q.equivalent key) self.old.pairs }
-        ensures cost { CostsHashedSearch S.BuildHasher S.Hasher.Hasher K.hash_input Q.hash_input
-            Q.equivalent key self.old tally.old tally.new }
+        ensures cost { CostsHashedSearch S.hash (S.hash_writes self.old.builder (Q.hash_input key))
+            (Q.equivalent key) self.old tally.old tally.new }
     {
         self.remove_hashed(hash, key, tally)
     }
@@ -124,13 +124,13 @@ impl<K: Eq + Hash, V, S: BuildHasher, L: Limit> LimitedHashMap<K, V, S, L> {
         tally: &mut Tally,
     ) -> Option<(K, V)>
         requires { self.old.is_vec ≡ false
-            → hash ≡ key_hash S.BuildHasher S.Hasher.Hasher Q.hash_input self.old.builder key }
+            → hash ≡ S.hash_writes self.old.builder (Q.hash_input key) }
         ensures removes { Removes L.LIMIT K.eq (Q.equivalent key) self.old
             (lookup_entry (Q.equivalent key) self.old.pairs) result self.new }
         ensures value { option_map (λ pair. pair.1) result
             ≡ lookup (Q.equivalent key) self.old.pairs }
-        ensures cost { CostsHashedSearch S.BuildHasher S.Hasher.Hasher K.hash_input Q.hash_input
-            Q.equivalent key self.old tally.old tally.new }
+        ensures cost { CostsHashedSearch S.hash (S.hash_writes self.old.builder (Q.hash_input key))
+            (Q.equivalent key) self.old tally.old tally.new }
     {
         let matches = move |held: &K| -> bool
             ensures { result ≡ Q.equivalent key held.now }

@@ -3,15 +3,14 @@ ghost use Rattle.std.specs.Prelude.{◌≡◌, ◌<◌, false, Some, IfSome, OnS
 ghost use Rattle.std.specs.Borrow.{Bor};
 ghost use Rattle.std.specs.Option.{option_map};
 ghost use Rattle.half_store.specs.Replaced.{Replaces};
-ghost use Rattle.halfbrown.specs.Costs.{key_hash};
 ghost use Rattle.halfbrown.specs.Pairs.{holds};
 ghost use Rattle.halfbrown.specs.State.{IsState, WithPairs};
 
 use super::LimitedHashMap;
-use crate::Limit;
-use std::hash::{BuildHasher, Hash};
+use crate::{KeyHasher, Limit};
+use std::hash::Hash;
 
-impl<K: Eq + Hash, V, S: BuildHasher, L: Limit> LimitedHashMap<K, V, S, L> {
+impl<K: Eq + Hash, V, S: KeyHasher<K>, L: Limit> LimitedHashMap<K, V, S, L> {
     /// Hands the value of the pair at this index to `f`, with its key. Where `f` returns none the pair is removed, and
     /// its key returned with its hash, at which a vector does not look.
     #[inline]
@@ -26,8 +25,8 @@ impl<K: Eq + Hash, V, S: BuildHasher, L: Limit> LimitedHashMap<K, V, S, L> {
         ensures replaces { Replaces (F.post f) self.old.pairs index self.new.pairs
             (option_map (λ removed. removed.0) result) }
         ensures after { WithPairs self.old self.new.pairs self.new }
-        ensures hash { IfSome result (λ removed. self.new.is_vec ≡ false → removed.1
-            ≡ key_hash S.BuildHasher S.Hasher.Hasher K.hash_input self.new.builder removed.0) }
+        ensures hash { IfSome result
+            (λ removed. self.new.is_vec ≡ false → removed.1 ≡ S.hash self.new.builder removed.0) }
         ensures absent { IfSome result (λ removed. holds K.eq self.new.pairs removed.0 ≡ false) }
         ensures capacity_left { OnSome result (length self.new.pairs < self.new.capacity) }
         ensures state { IsState K.eq L.LIMIT self.new }

@@ -4,10 +4,10 @@ ghost use Rattle.std.specs.Map.Calls.{CalledAtPair, TakesPair, CallableOnEachPai
 ghost use Rattle.halfbrown.specs.State.{IsState};
 
 use super::LimitedHashMap;
-use crate::Limit;
-use std::hash::{BuildHasher, Hash};
+use crate::{KeyHasher, Limit};
+use std::hash::Hash;
 
-impl<K: Eq + Hash, V, S: BuildHasher, L: Limit> LimitedHashMap<K, V, S, L> {
+impl<K: Eq + Hash, V, S: KeyHasher<K>, L: Limit> LimitedHashMap<K, V, S, L> {
     /// Keeps the pairs that `f` accepts. `f` is called once at each pair, from first to last, and may change the value.
     /// The pairs that it accepts stay in their order, with the values that it left.
     ///

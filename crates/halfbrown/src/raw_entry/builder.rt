@@ -5,17 +5,17 @@ ghost use Rattle.std.specs.Fn.{FnReturnsAt};
 ghost use Rattle.std.specs.Map.{keys_of};
 ghost use Rattle.std.specs.Map.Iter.{deref_pair};
 ghost use Rattle.std.specs.Option.{option_map};
-ghost use Rattle.halfbrown.specs.Costs.{key_hash, CostsSearch, CostsHashedSearch};
+ghost use Rattle.halfbrown.specs.Costs.{CostsSearch, CostsHashedSearch};
 ghost use Rattle.halfbrown.specs.Match.{FindsMatch, FindingCosts};
 ghost use Rattle.halfbrown.specs.RawEntryBuilder.{map_in};
 ghost use Rattle.halfbrown.specs.RawSearch.{ReadsPair};
 
 use super::RawEntryBuilder;
-use crate::{Equivalent, Limit};
+use crate::{Equivalent, KeyHasher, Limit};
 use half_store::{Scan, Tally, uncounted};
-use std::hash::{BuildHasher, Hash};
+use std::hash::Hash;
 
-impl<'a, K: Eq + Hash, V, S: BuildHasher, L: Limit> RawEntryBuilder<'a, K, V, S, L> {
+impl<'a, K: Eq + Hash, V, S: KeyHasher<K>, L: Limit> RawEntryBuilder<'a, K, V, S, L> {
     /// Returns the stored key that equals this one, and its value. It costs one search.
     ///
     /// ```
@@ -36,8 +36,8 @@ impl<'a, K: Eq + Hash, V, S: BuildHasher, L: Limit> RawEntryBuilder<'a, K, V, S,
         tally: &mut Tally,
     ) -> Option<(&'a K, &'a V)>
         ensures reads { ReadsPair (Q.equivalent key) (map_in self.entry) result }
-        ensures cost { CostsSearch S.BuildHasher S.Hasher.Hasher K.hash_input Q.hash_input
-            Q.equivalent key (map_in self.entry) tally.old tally.new }
+        ensures cost { CostsSearch S.hash (S.hash_writes (map_in self.entry).builder
+            (Q.hash_input key)) (Q.equivalent key) (map_in self.entry) tally.old tally.new }
     {
         match self.map.find(key, tally) {
             Ok(index) => Some(self.map.columns().pair_at(index)),
@@ -57,8 +57,7 @@ impl<'a, K: Eq + Hash, V, S: BuildHasher, L: Limit> RawEntryBuilder<'a, K, V, S,
         hash: u64,
         key: Q,
     ) -> Option<(&'a K, &'a V)>
-        requires { hash
-            ≡ key_hash S.BuildHasher S.Hasher.Hasher Q.hash_input (map_in self).builder key }
+        requires { hash ≡ S.hash_writes (map_in self).builder (Q.hash_input key) }
         ensures { ReadsPair (Q.equivalent key) (map_in self.entry) result }
     {
         uncounted!(self.from_key_hashed_nocheck_counted(hash, key))
@@ -72,11 +71,10 @@ impl<'a, K: Eq + Hash, V, S: BuildHasher, L: Limit> RawEntryBuilder<'a, K, V, S,
         key: Q,
         tally: &mut Tally,
     ) -> Option<(&'a K, &'a V)>
-        requires { hash
-            ≡ key_hash S.BuildHasher S.Hasher.Hasher Q.hash_input (map_in self).builder key }
+        requires { hash ≡ S.hash_writes (map_in self).builder (Q.hash_input key) }
         ensures reads { ReadsPair (Q.equivalent key) (map_in self.entry) result }
-        ensures cost { CostsHashedSearch S.BuildHasher S.Hasher.Hasher K.hash_input Q.hash_input
-            Q.equivalent key (map_in self.entry) tally.old tally.new }
+        ensures cost { CostsHashedSearch S.hash (S.hash_writes (map_in self.entry).builder
+            (Q.hash_input key)) (Q.equivalent key) (map_in self.entry) tally.old tally.new }
     {
         match self.map.find_hashed(hash, key, tally) {
             Ok(index) => Some(self.map.columns().pair_at(index)),
@@ -97,8 +95,7 @@ impl<'a, K: Eq + Hash, V, S: BuildHasher, L: Limit> RawEntryBuilder<'a, K, V, S,
     pub fn from_hash<F: Fn(&K) -> bool>(self, hash: u64, is_match: F) -> Option<(&'a K, &'a V)>
         requires { (key : Bor K) (index : ℕ)
             → slice_get (keys_of (map_in self).pairs) index ≡ Some key.now → F.pre is_match key }
-        ensures { FindsMatch (FnReturnsAt F.Fn is_match)
-            (key_hash S.BuildHasher S.Hasher.Hasher K.hash_input) hash (map_in self.entry)
+        ensures { FindsMatch (FnReturnsAt F.Fn is_match) S.hash hash (map_in self.entry)
             (option_map deref_pair result) }
     {
         uncounted!(self.from_hash_counted(hash, is_match))
@@ -114,11 +111,10 @@ impl<'a, K: Eq + Hash, V, S: BuildHasher, L: Limit> RawEntryBuilder<'a, K, V, S,
     ) -> Option<(&'a K, &'a V)>
         requires { (key : Bor K) (index : ℕ)
             → slice_get (keys_of (map_in self).pairs) index ≡ Some key.now → F.pre is_match key }
-        ensures found { FindsMatch (FnReturnsAt F.Fn is_match)
-            (key_hash S.BuildHasher S.Hasher.Hasher K.hash_input) hash (map_in self.entry)
+        ensures found { FindsMatch (FnReturnsAt F.Fn is_match) S.hash hash (map_in self.entry)
             (option_map deref_pair result) }
-        ensures cost { FindingCosts (key_hash S.BuildHasher S.Hasher.Hasher K.hash_input) hash
-            (map_in self.entry) (option_map deref_pair result) tally.old tally.new }
+        ensures cost { FindingCosts S.hash hash (map_in self.entry) (option_map deref_pair result)
+            tally.old tally.new }
     {
         let index = self.map.find_match(hash, &is_match, Scan::ByKey, tally).ok()?;
         Some(self.map.columns().pair_at(index))

@@ -3,18 +3,18 @@ ghost use Rattle.std.specs.Prelude.{◌≡◌, ℕ, Some, slice_get};
 ghost use Rattle.std.specs.Borrow.{Bor};
 ghost use Rattle.std.specs.Fn.{FnReturnsAt};
 ghost use Rattle.std.specs.Map.{keys_of};
-ghost use Rattle.halfbrown.specs.Costs.{key_hash, CostsSearch, CostsHashedSearch};
+ghost use Rattle.halfbrown.specs.Costs.{CostsSearch, CostsHashedSearch};
 ghost use Rattle.halfbrown.specs.Match.{FindingCosts};
 ghost use Rattle.halfbrown.specs.RawEntry.{found_pair};
 ghost use Rattle.halfbrown.specs.RawEntryBuilder.{ready_map};
 ghost use Rattle.halfbrown.specs.RawSearch.{Searches, SearchesByMatch};
 
 use super::{RawEntryBuilderMut, RawEntryMut, RawVacantEntryMut};
-use crate::{Equivalent, Limit, OccupiedEntry};
+use crate::{Equivalent, KeyHasher, Limit, OccupiedEntry};
 use half_store::{Scan, Tally, uncounted};
-use std::hash::{BuildHasher, Hash};
+use std::hash::Hash;
 
-impl<'a, K: Eq + Hash, V, S: BuildHasher, L: Limit> RawEntryBuilderMut<'a, K, V, S, L> {
+impl<'a, K: Eq + Hash, V, S: KeyHasher<K>, L: Limit> RawEntryBuilderMut<'a, K, V, S, L> {
     /// The entry of the held key that equals this one, or a vacant entry. It costs one search.
     ///
     /// ```
@@ -39,8 +39,8 @@ impl<'a, K: Eq + Hash, V, S: BuildHasher, L: Limit> RawEntryBuilderMut<'a, K, V,
         tally: &mut Tally,
     ) -> RawEntryMut<'a, K, V, S, L>
         ensures searches { Searches L.LIMIT K.eq (Q.equivalent key) self.entry result }
-        ensures cost { CostsSearch S.BuildHasher S.Hasher.Hasher K.hash_input Q.hash_input
-            Q.equivalent key (ready_map self.entry) tally.old tally.new }
+        ensures cost { CostsSearch S.hash (S.hash_writes (ready_map self.entry).builder
+            (Q.hash_input key)) (Q.equivalent key) (ready_map self.entry) tally.old tally.new }
     {
         let RawEntryBuilderMut::Ready(ready) = self;
         match ready.map.find(key, tally) {
@@ -65,8 +65,7 @@ impl<'a, K: Eq + Hash, V, S: BuildHasher, L: Limit> RawEntryBuilderMut<'a, K, V,
         hash: u64,
         key: Q,
     ) -> RawEntryMut<'a, K, V, S, L>
-        requires { hash
-            ≡ key_hash S.BuildHasher S.Hasher.Hasher Q.hash_input (ready_map self).builder key }
+        requires { hash ≡ S.hash_writes (ready_map self).builder (Q.hash_input key) }
         ensures { Searches L.LIMIT K.eq (Q.equivalent key) self.entry result }
     {
         uncounted!(self.from_key_hashed_nocheck_counted(hash, key))
@@ -80,11 +79,10 @@ impl<'a, K: Eq + Hash, V, S: BuildHasher, L: Limit> RawEntryBuilderMut<'a, K, V,
         key: Q,
         tally: &mut Tally,
     ) -> RawEntryMut<'a, K, V, S, L>
-        requires { hash
-            ≡ key_hash S.BuildHasher S.Hasher.Hasher Q.hash_input (ready_map self).builder key }
+        requires { hash ≡ S.hash_writes (ready_map self).builder (Q.hash_input key) }
         ensures searches { Searches L.LIMIT K.eq (Q.equivalent key) self.entry result }
-        ensures cost { CostsHashedSearch S.BuildHasher S.Hasher.Hasher K.hash_input Q.hash_input
-            Q.equivalent key (ready_map self.entry) tally.old tally.new }
+        ensures cost { CostsHashedSearch S.hash (S.hash_writes (ready_map self.entry).builder
+            (Q.hash_input key)) (Q.equivalent key) (ready_map self.entry) tally.old tally.new }
     {
         let RawEntryBuilderMut::Ready(ready) = self;
         match ready.map.find_hashed(hash, key, tally) {
@@ -111,7 +109,7 @@ impl<'a, K: Eq + Hash, V, S: BuildHasher, L: Limit> RawEntryBuilderMut<'a, K, V,
         requires { (key : Bor K) (index : ℕ)
             → slice_get (keys_of (ready_map self).pairs) index ≡ Some key.now → F.pre is_match key }
         ensures { SearchesByMatch L.LIMIT K.eq (FnReturnsAt F.Fn is_match)
-            (key_hash S.BuildHasher S.Hasher.Hasher K.hash_input) hash self.entry result }
+            S.hash hash self.entry result }
     {
         uncounted!(self.from_hash_counted(hash, is_match))
     }
@@ -127,9 +125,9 @@ impl<'a, K: Eq + Hash, V, S: BuildHasher, L: Limit> RawEntryBuilderMut<'a, K, V,
         requires { (key : Bor K) (index : ℕ)
             → slice_get (keys_of (ready_map self).pairs) index ≡ Some key.now → F.pre is_match key }
         ensures searches { SearchesByMatch L.LIMIT K.eq (FnReturnsAt F.Fn is_match)
-            (key_hash S.BuildHasher S.Hasher.Hasher K.hash_input) hash self.entry result }
-        ensures cost { FindingCosts (key_hash S.BuildHasher S.Hasher.Hasher K.hash_input) hash
-            (ready_map self.entry) (found_pair result) tally.old tally.new }
+            S.hash hash self.entry result }
+        ensures cost { FindingCosts S.hash hash (ready_map self.entry) (found_pair result)
+            tally.old tally.new }
     {
         let RawEntryBuilderMut::Ready(ready) = self;
         match ready.map.find_match(hash, &is_match, Scan::ByKey, tally) {

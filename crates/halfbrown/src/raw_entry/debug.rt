@@ -1,16 +1,16 @@
 //! What raw entries and their builders are printed as.
 use super::{RawEntryBuilder, RawEntryBuilderMut, RawEntryMut, RawVacantEntryMut};
-use crate::Limit;
+use crate::{KeyHasher, Limit};
 use std::fmt::{Debug, Formatter, Result, Write};
-use std::hash::{BuildHasher, Hash};
+use std::hash::Hash;
 
-impl<'a, K: Eq + Hash, V, S: BuildHasher, L: Limit> Debug for RawEntryBuilder<'a, K, V, S, L> {
+impl<'a, K: Eq + Hash, V, S: KeyHasher<K>, L: Limit> Debug for RawEntryBuilder<'a, K, V, S, L> {
     fn fmt<W: Write>(&self, f: &mut Formatter<W>) -> Result {
         f.write_str("RawEntryBuilder")
     }
 }
 
-impl<'a, K: Eq + Hash, V, S: BuildHasher, L: Limit> Debug for RawEntryBuilderMut<'a, K, V, S, L> {
+impl<'a, K: Eq + Hash, V, S: KeyHasher<K>, L: Limit> Debug for RawEntryBuilderMut<'a, K, V, S, L> {
     fn fmt<W: Write>(&self, f: &mut Formatter<W>) -> Result {
         f.write_str("RawEntryBuilder")
     }
@@ -23,7 +23,7 @@ struct RawOccupiedEntryMut<'b, K, V> {
     value: &'b V,
 }
 
-impl<'a, K: Eq + Hash + Debug, V: Debug, S: BuildHasher, L: Limit> Debug
+impl<'a, K: Eq + Hash + Debug, V: Debug, S: KeyHasher<K>, L: Limit> Debug
     for RawEntryMut<'a, K, V, S, L> {
     fn fmt<W: Write>(&self, f: &mut Formatter<W>) -> Result {
         match self {
@@ -39,7 +39,7 @@ impl<'a, K: Eq + Hash + Debug, V: Debug, S: BuildHasher, L: Limit> Debug
     }
 }
 
-impl<'a, K: Eq + Hash, V, S: BuildHasher, L: Limit> Debug for RawVacantEntryMut<'a, K, V, S, L> {
+impl<'a, K: Eq + Hash, V, S: KeyHasher<K>, L: Limit> Debug for RawVacantEntryMut<'a, K, V, S, L> {
     fn fmt<W: Write>(&self, f: &mut Formatter<W>) -> Result {
         f.write_str("RawVacantEntryMut")
     }

@@ -8,11 +8,11 @@ ghost use Rattle.halfbrown.specs.RawEntryLending.{RestsIfUnready};
 ghost use Rattle.halfbrown.specs.RawSearch.{MakesReady};
 
 use super::{Prepared, RawEntryBuilder, RawEntryBuilderMut};
-use crate::{Limit, LimitedHashMap};
+use crate::{KeyHasher, Limit, LimitedHashMap};
 use half_store::{Refusal, Tally, uncounted};
-use std::hash::{BuildHasher, Hash};
+use std::hash::Hash;
 
-impl<K: Eq + Hash, V, S: BuildHasher, L: Limit> LimitedHashMap<K, V, S, L> {
+impl<K: Eq + Hash, V, S: KeyHasher<K>, L: Limit> LimitedHashMap<K, V, S, L> {
     /// Look-ups by a known hash, or by a match on keys. It costs nothing.
     ///
     /// ```
@@ -37,8 +37,7 @@ impl<K: Eq + Hash, V, S: BuildHasher, L: Limit> LimitedHashMap<K, V, S, L> {
     /// ```
     #[inline]
     pub fn raw_entry_mut(&mut self) -> Result<RawEntryBuilderMut<'_, K, V, S, L>, Refusal>
-        ensures* unchanged { sem 𝓛
-            (RestsIfUnready K.row V.row S.row L.row S.Hasher.row self.entry result) }
+        ensures* unchanged { sem 𝓛 (RestsIfUnready K.row V.row S.row L.row self.entry result) }
         ensures makes { MakesReady L.LIMIT K.eq self.entry result }
     {
         uncounted!(self.raw_entry_mut_counted())
@@ -50,8 +49,7 @@ impl<K: Eq + Hash, V, S: BuildHasher, L: Limit> LimitedHashMap<K, V, S, L> {
         &mut self,
         tally: &mut Tally,
     ) -> Result<RawEntryBuilderMut<'_, K, V, S, L>, Refusal>
-        ensures* unchanged { sem 𝓛
-            (RestsIfUnready K.row V.row S.row L.row S.Hasher.row self.entry result) }
+        ensures* unchanged { sem 𝓛 (RestsIfUnready K.row V.row S.row L.row self.entry result) }
         ensures makes { MakesReady L.LIMIT K.eq self.entry result }
         ensures cost { tally.new ≡ (if is_ok result
             then asked_more (switch_asked L.LIMIT self.old) tally.old else tally.old) }

@@ -2,7 +2,6 @@
 ghost use Rattle.std.specs.Prelude.{◌≡◌, false, None, Some, IfSome, unwrap_or, if◌then◌else◌};
 ghost use Rattle.std.specs.Borrow.{Bor, MutBor};
 ghost use Rattle.std.specs.Option.{UnwrapsOrElse};
-ghost use Rattle.halfbrown.specs.Costs.{key_hash};
 ghost use Rattle.halfbrown.specs.Entry.{Occupied, entry_pair};
 ghost use Rattle.halfbrown.specs.Pairs.{holds};
 ghost use Rattle.halfbrown.specs.RawEntry.{raw_map, raw_ref, is_found, found_key, found_value};
@@ -10,11 +9,11 @@ ghost use Rattle.halfbrown.specs.RawEntry.{found_pair, pairs_with, without_found
 ghost use Rattle.halfbrown.specs.State.{WithPairs};
 
 use super::RawEntryMut;
-use crate::{Limit, OccupiedEntry};
+use crate::{KeyHasher, Limit, OccupiedEntry};
 use half_store::{Tally, uncounted};
-use std::hash::{BuildHasher, Hash};
+use std::hash::Hash;
 
-impl<'a, K: Eq + Hash, V, S: BuildHasher, L: Limit> RawEntryMut<'a, K, V, S, L> {
+impl<'a, K: Eq + Hash, V, S: KeyHasher<K>, L: Limit> RawEntryMut<'a, K, V, S, L> {
     /// Gives the pair that was found this value, and drops the given key. Where none was found, adds the pair, whose
     /// key must not be held. Returns the pair's entry.
     ///
@@ -46,9 +45,8 @@ impl<'a, K: Eq + Hash, V, S: BuildHasher, L: Limit> RawEntryMut<'a, K, V, S, L> 
         V: Drop,
         requires { is_found self ≡ false → holds K.eq (raw_map self).pairs key ≡ false }
         ensures puts { PutsEntry L.LIMIT K.eq self.entry key value result }
-        ensures cost { tally.new ≡ (if is_found self.entry then tally.old
-            else after_adding (key_hash S.BuildHasher S.Hasher.Hasher K.hash_input)
-            (raw_map self.entry) key tally.old) }
+        ensures cost { tally.new ≡ (if is_found self.entry
+            then tally.old else after_adding S.hash (raw_map self.entry) key tally.old) }
     {
         match self {
             RawEntryMut::Occupied(mut entry) => {
@@ -92,9 +90,8 @@ impl<'a, K: Eq + Hash, V, S: BuildHasher, L: Limit> RawEntryMut<'a, K, V, S, L> 
         requires { is_found self ≡ false → holds K.eq (raw_map self).pairs default_key ≡ false }
         ensures puts { PutsEntry L.LIMIT K.eq self.entry default_key
             (unwrap_or (found_value self.entry) default_value) result }
-        ensures cost { tally.new ≡ (if is_found self.entry then tally.old
-            else after_adding (key_hash S.BuildHasher S.Hasher.Hasher K.hash_input)
-            (raw_map self.entry) default_key tally.old) }
+        ensures cost { tally.new ≡ (if is_found self.entry
+            then tally.old else after_adding S.hash (raw_map self.entry) default_key tally.old) }
     {
         match self {
             RawEntryMut::Occupied(entry) => {
@@ -142,9 +139,8 @@ impl<'a, K: Eq + Hash, V, S: BuildHasher, L: Limit> RawEntryMut<'a, K, V, S, L> 
         requires { is_found self ≡ false → holds K.eq (raw_map self).pairs default_key ≡ false }
         ensures pair { (result.0.now, result.1.now)
             ≡ unwrap_or (found_pair self.entry) (default_key, default_value) }
-        ensures cost { tally.new ≡ (if is_found self.entry then tally.old
-            else after_adding (key_hash S.BuildHasher S.Hasher.Hasher K.hash_input)
-            (raw_map self.entry) default_key tally.old) }
+        ensures cost { tally.new ≡ (if is_found self.entry
+            then tally.old else after_adding S.hash (raw_map self.entry) default_key tally.old) }
     {
         self.or_insert_entry_counted(default_key, default_value, tally)
             .into_key_value()
@@ -179,9 +175,8 @@ impl<'a, K: Eq + Hash, V, S: BuildHasher, L: Limit> RawEntryMut<'a, K, V, S, L> 
             → holds K.eq (raw_map self).pairs pair.0 ≡ false }
         ensures pair { UnwrapsOrElse (found_pair self.entry) (F.post default)
             (result.0.now, result.1.now) }
-        ensures cost { tally.new ≡ (if is_found self.entry then tally.old
-            else after_adding (key_hash S.BuildHasher S.Hasher.Hasher K.hash_input)
-            (raw_map self.entry) result.0.now tally.old) }
+        ensures cost { tally.new ≡ (if is_found self.entry
+            then tally.old else after_adding S.hash (raw_map self.entry) result.0.now tally.old) }
     {
         self.or_insert_entry_with(default, tally).into_key_value()
     }
@@ -200,10 +195,8 @@ impl<'a, K: Eq + Hash, V, S: BuildHasher, L: Limit> RawEntryMut<'a, K, V, S, L> 
             (λ pair. PutsEntry L.LIMIT K.eq self.entry pair.0 pair.1 result) }
         ensures pair { IfSome (entry_pair (Occupied result))
             (UnwrapsOrElse (found_pair self.entry) (F.post default)) }
-        ensures cost { IfSome (entry_pair (Occupied result)) (λ pair. tally.new
-            ≡ (if is_found self.entry then tally.old
-            else after_adding (key_hash S.BuildHasher S.Hasher.Hasher K.hash_input)
-            (raw_map self.entry) pair.0 tally.old)) }
+        ensures cost { IfSome (entry_pair (Occupied result)) (λ pair. tally.new ≡ (if is_found self.entry
+            then tally.old else after_adding S.hash (raw_map self.entry) pair.0 tally.old)) }
     {
         match self {
             RawEntryMut::Occupied(entry) => {

@@ -5,16 +5,15 @@
 //! let RawEntryMut::Vacant(entry) = ages.raw_entry_mut()?.from_key(&3) else { unreachable!() };
 //! ```
 ghost use Rattle.std.specs.Prelude.{◌≡◌, false};
-ghost use Rattle.halfbrown.specs.Costs.{key_hash};
 ghost use Rattle.halfbrown.specs.Pairs.{holds};
 ghost use Rattle.halfbrown.specs.RawEntry.{Vacant, raw_map, AddsEntry, LendsPair, after_adding, after_probe};
 
 use super::RawVacantEntryMut;
-use crate::{Limit, OccupiedEntry};
+use crate::{KeyHasher, Limit, OccupiedEntry};
 use half_store::{Tally, uncounted};
-use std::hash::{BuildHasher, Hash};
+use std::hash::Hash;
 
-impl<'a, K: Eq + Hash, V, S: BuildHasher, L: Limit> RawVacantEntryMut<'a, K, V, S, L> {
+impl<'a, K: Eq + Hash, V, S: KeyHasher<K>, L: Limit> RawVacantEntryMut<'a, K, V, S, L> {
     /// Adds a pair at the end. Its key must not be held. Returns the stored key, and the value, to be written for as
     /// long as the map is borrowed. In a table the key is hashed once, and one insertion probe is made.
     ///
@@ -35,9 +34,7 @@ impl<'a, K: Eq + Hash, V, S: BuildHasher, L: Limit> RawVacantEntryMut<'a, K, V, 
     pub fn insert_counted(self, key: K, value: V, tally: &mut Tally) -> (&'a K, &'a mut V)
         requires { holds K.eq (raw_map (Vacant self)).pairs key ≡ false }
         ensures lends { LendsPair key value result }
-        ensures cost { tally.new
-            ≡ after_adding (key_hash S.BuildHasher S.Hasher.Hasher K.hash_input)
-            (raw_map (Vacant self.entry)) key tally.old }
+        ensures cost { tally.new ≡ after_adding S.hash (raw_map (Vacant self.entry)) key tally.old }
     {
         self.insert_entry_counted(key, value, tally)
             .into_key_value()
@@ -67,9 +64,7 @@ impl<'a, K: Eq + Hash, V, S: BuildHasher, L: Limit> RawVacantEntryMut<'a, K, V, 
     ) -> OccupiedEntry<'a, K, V, S, L>
         requires { holds K.eq (raw_map (Vacant self)).pairs key ≡ false }
         ensures adds { AddsEntry L.LIMIT K.eq (Vacant self.entry) key value result }
-        ensures cost { tally.new
-            ≡ after_adding (key_hash S.BuildHasher S.Hasher.Hasher K.hash_input)
-            (raw_map (Vacant self.entry)) key tally.old }
+        ensures cost { tally.new ≡ after_adding S.hash (raw_map (Vacant self.entry)) key tally.old }
     {
         let hash = self.map.hash_in_table(&key, tally);
         self.add(hash, key, value, tally)
@@ -83,8 +78,7 @@ impl<'a, K: Eq + Hash, V, S: BuildHasher, L: Limit> RawVacantEntryMut<'a, K, V, 
     /// ```
     #[inline]
     pub fn insert_hashed_nocheck(self, hash: u64, key: K, value: V) -> (&'a K, &'a mut V)
-        requires hash { hash ≡ key_hash S.BuildHasher S.Hasher.Hasher K.hash_input
-            (raw_map (Vacant self)).builder key }
+        requires hash { hash ≡ S.hash (raw_map (Vacant self)).builder key }
         requires absent { holds K.eq (raw_map (Vacant self)).pairs key ≡ false }
         ensures { LendsPair key value result }
     {
@@ -100,12 +94,10 @@ impl<'a, K: Eq + Hash, V, S: BuildHasher, L: Limit> RawVacantEntryMut<'a, K, V, 
         value: V,
         tally: &mut Tally,
     ) -> (&'a K, &'a mut V)
-        requires hash { hash ≡ key_hash S.BuildHasher S.Hasher.Hasher K.hash_input
-            (raw_map (Vacant self)).builder key }
+        requires hash { hash ≡ S.hash (raw_map (Vacant self)).builder key }
         requires absent { holds K.eq (raw_map (Vacant self)).pairs key ≡ false }
         ensures lends { LendsPair key value result }
-        ensures cost { tally.new ≡ after_probe (key_hash S.BuildHasher S.Hasher.Hasher K.hash_input)
-            (raw_map (Vacant self.entry)) hash tally.old }
+        ensures cost { tally.new ≡ after_probe S.hash (raw_map (Vacant self.entry)) hash tally.old }
     {
         self.insert_entry_hashed_nocheck_counted(hash, key, value, tally)
             .into_key_value()
@@ -124,8 +116,7 @@ impl<'a, K: Eq + Hash, V, S: BuildHasher, L: Limit> RawVacantEntryMut<'a, K, V, 
         key: K,
         value: V,
     ) -> OccupiedEntry<'a, K, V, S, L>
-        requires hash { hash ≡ key_hash S.BuildHasher S.Hasher.Hasher K.hash_input
-            (raw_map (Vacant self)).builder key }
+        requires hash { hash ≡ S.hash (raw_map (Vacant self)).builder key }
         requires absent { holds K.eq (raw_map (Vacant self)).pairs key ≡ false }
         ensures { AddsEntry L.LIMIT K.eq (Vacant self.entry) key value result }
     {
@@ -141,12 +132,10 @@ impl<'a, K: Eq + Hash, V, S: BuildHasher, L: Limit> RawVacantEntryMut<'a, K, V, 
         value: V,
         tally: &mut Tally,
     ) -> OccupiedEntry<'a, K, V, S, L>
-        requires hash { hash ≡ key_hash S.BuildHasher S.Hasher.Hasher K.hash_input
-            (raw_map (Vacant self)).builder key }
+        requires hash { hash ≡ S.hash (raw_map (Vacant self)).builder key }
         requires absent { holds K.eq (raw_map (Vacant self)).pairs key ≡ false }
         ensures adds { AddsEntry L.LIMIT K.eq (Vacant self.entry) key value result }
-        ensures cost { tally.new ≡ after_probe (key_hash S.BuildHasher S.Hasher.Hasher K.hash_input)
-            (raw_map (Vacant self.entry)) hash tally.old }
+        ensures cost { tally.new ≡ after_probe S.hash (raw_map (Vacant self.entry)) hash tally.old }
     {
         self.add(hash, key, value, tally)
     }
@@ -165,8 +154,7 @@ impl<'a, K: Eq + Hash, V, S: BuildHasher, L: Limit> RawVacantEntryMut<'a, K, V, 
         value: V,
         hasher: F,
     ) -> (&'a K, &'a mut V)
-        requires hash { hash ≡ key_hash S.BuildHasher S.Hasher.Hasher K.hash_input
-            (raw_map (Vacant self)).builder key }
+        requires hash { hash ≡ S.hash (raw_map (Vacant self)).builder key }
         requires absent { holds K.eq (raw_map (Vacant self)).pairs key ≡ false }
         ensures { LendsPair key value result }
     {
@@ -183,12 +171,10 @@ impl<'a, K: Eq + Hash, V, S: BuildHasher, L: Limit> RawVacantEntryMut<'a, K, V, 
         _hasher: F,
         tally: &mut Tally,
     ) -> (&'a K, &'a mut V)
-        requires hash { hash ≡ key_hash S.BuildHasher S.Hasher.Hasher K.hash_input
-            (raw_map (Vacant self)).builder key }
+        requires hash { hash ≡ S.hash (raw_map (Vacant self)).builder key }
         requires absent { holds K.eq (raw_map (Vacant self)).pairs key ≡ false }
         ensures lends { LendsPair key value result }
-        ensures cost { tally.new ≡ after_probe (key_hash S.BuildHasher S.Hasher.Hasher K.hash_input)
-            (raw_map (Vacant self.entry)) hash tally.old }
+        ensures cost { tally.new ≡ after_probe S.hash (raw_map (Vacant self.entry)) hash tally.old }
     {
         self.insert_hashed_nocheck_counted(hash, key, value, tally)
     }
@@ -196,12 +182,11 @@ impl<'a, K: Eq + Hash, V, S: BuildHasher, L: Limit> RawVacantEntryMut<'a, K, V, 
     // Adds a pair whose key is not held, under its hash, at which a vector does not look.
     #[inline(always)]
     fn add(self, hash: u64, key: K, value: V, tally: &mut Tally) -> OccupiedEntry<'a, K, V, S, L>
-        requires hash { (raw_map (Vacant self)).is_vec ≡ false → hash ≡ key_hash S.BuildHasher
-            S.Hasher.Hasher K.hash_input (raw_map (Vacant self)).builder key }
+        requires hash { (raw_map (Vacant self)).is_vec ≡ false
+            → hash ≡ S.hash (raw_map (Vacant self)).builder key }
         requires absent { holds K.eq (raw_map (Vacant self)).pairs key ≡ false }
         ensures adds { AddsEntry L.LIMIT K.eq (Vacant self.entry) key value result }
-        ensures cost { tally.new ≡ after_probe (key_hash S.BuildHasher S.Hasher.Hasher K.hash_input)
-            (raw_map (Vacant self.entry)) hash tally.old }
+        ensures cost { tally.new ≡ after_probe S.hash (raw_map (Vacant self.entry)) hash tally.old }
     {
         let map = self.map;
         let vacancy = map.vacancy_for(hash, tally);

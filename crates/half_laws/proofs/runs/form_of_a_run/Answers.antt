@@ -1,4 +1,3 @@
-use Rattle.halfbrown.specs.Costs.{key_hash}
 use Rattle.half_laws.proofs.lemmas.runs.Laws.{form_law, unswitched_law}
 use Rattle.half_laws.proofs.runs.form_of_a_run.Goals as goal
 
@@ -6,5 +5,4 @@ pub returns-clause-form : goal.returns-clause-form
 returns-clause-form g c = form_law g.L.Limit.LIMIT g.K.PartialEq.eq
 
 pub returns-clause-unswitched : goal.returns-clause-unswitched
-returns-clause-unswitched g c =
-    unswitched_law g.L.Limit.LIMIT g.K.PartialEq.eq (key_hash g.S.BuildHasher g.S.Hasher.Hasher g.K.Hash.hash_input)
+returns-clause-unswitched g c = unswitched_law g.L.Limit.LIMIT g.K.PartialEq.eq g.S.KeyHasher.hash

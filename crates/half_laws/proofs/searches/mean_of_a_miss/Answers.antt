@@ -1,9 +1,8 @@
-use Rattle.halfbrown.specs.Costs.{key_hash}
 use Rattle.half_laws.proofs.lemmas.means.{miss_law, miss_total_law, half_full_miss_law, capacity_miss_law}
 use Rattle.half_laws.proofs.searches.mean_of_a_miss.Goals as goal
 
 pub returns-clause-reads : goal.returns-clause-reads
-returns-clause-reads g c = miss_law _ (key_hash g.S.BuildHasher g.S.Hasher.Hasher g.K.Hash.hash_input)
+returns-clause-reads g c = miss_law _ g.S.KeyHasher.hash
 
 pub returns-clause-total : goal.returns-clause-total
 returns-clause-total g c = miss_total_law

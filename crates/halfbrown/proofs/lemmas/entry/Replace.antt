@@ -19,8 +19,7 @@ use Rattle.half_store.proofs.lemmas.store.States.{length-set_value, kept_value, 
 use Rattle.halfbrown.proofs.lemmas.pairs.Values.{set_value-twice, value-set_value, swap_remove_at-set_value}
 use Rattle.std.specs.declared.cmp.PartialEq as eq
 use Rattle.std.specs.declared.hash.Hash as hash
-use Rattle.std.specs.declared.hash.Hasher as hasher
-use Rattle.std.specs.declared.hash.BuildHasher as builder
+use Rattle.halfbrown.specs.declared.key_hasher.KeyHasher as hashers
 use Rattle.halfbrown.specs.declared.limit.Limit as limits
 
 front_of : {X : Type 0} (xs : List X) (x y : X) (n : ℕ) → n ≡ length xs → take n (set (xs ++ x ∷ []) (length xs) y) ≡ xs
@@ -42,10 +41,10 @@ module _ {K V : Type 0} where
   pair-last [] p = refl
   pair-last (q ∷ ps) p = pair-last ps p
 
-module _ {K V S L H : Type 0} {e : eq.Ghosts K} {h : hash.Ghosts K} {b : builder.Ghosts S H} {w : hasher.Ghosts H} {l : limits.Ghosts L}
-    {returns : Bor K → V → Option V → Type 0} (o : OccupiedEntry K V S L H e h b w l) where
+module _ {K V S L : Type 0} {e : eq.Ghosts K} {h : hash.Ghosts K} {b : hashers.Ghosts S K} {l : limits.Ghosts L}
+    {returns : Bor K → V → Option V → Type 0} (o : OccupiedEntry K V S L e h b l) where
   -- the pair is gone
-  pub loses_pair : (v : VacantEntry K V S L H e h b w l) → Replaces returns o.map.now.pairs o.index v.map.now.pairs (Some v.key)
+  pub loses_pair : (v : VacantEntry K V S L e h b l) → Replaces returns o.map.now.pairs o.index v.map.now.pairs (Some v.key)
       → WithPairs o.map.now v.map.now.pairs v.map.now
       → ReplacesEntry returns (Occupied o) (Vacant v)
   unfolding with_value

@@ -1,8 +1,9 @@
--- What was spent at one time and at another is spent in all.
-use Rattle.std.proofs.Common.{◌≡◌, arith, zero-add, add-zero, add_assoc}
+-- What was spent at one time and at another is spent in all, and what a search for a key spent.
+use Rattle.std.proofs.Common.{◌≡◌, ℕ, Bool, sym, subst, arith, zero-add, add-zero, add_assoc}
 use Rattle.std.proofs.lemmas.Grind.{common_steps}
 use Rattle.half_store.specs.Work.{Work}
-use Rattle.halfbrown.specs.Costs.{Cost, GrewBy, no_cost, add_costs}
+use Rattle.halfbrown.specs.Costs.{Cost, GrewBy, no_cost, add_costs, CostsSearch, KeySearchCosts}
+use Rattle.halfbrown.specs.State.{State}
 
 pub none_more : (more : Cost) → more ≡ add_costs no_cost more
 none_more more = simp zero-add
@@ -19,3 +20,8 @@ spent_none w = grind (arith, common_steps)
 pub spent_both : (a b : Cost) (before middle after : Work) → GrewBy a before middle → GrewBy b middle after
     → GrewBy (add_costs a b) before after
 spent_both a b before middle after first second = grind (arith, common_steps)
+
+-- a search under what a key writes is one under the key's hash
+pub key_costs : {K V S : Type 0} (eq : K → K → Bool) (hash : S → K → ℕ) (m : State K V S) (k : K) (sought : ℕ) (before after : Work)
+    → hash m.builder k ≡ sought → CostsSearch hash sought (eq k) m before after → KeySearchCosts eq hash m k before after
+key_costs eq hash m k sought before after same costs = subst (λ h. CostsSearch hash h (eq k) m before after) (sym same) costs

@@ -2,7 +2,6 @@ use Rattle.std.proofs.Common.{[], sym, subst, arith}
 use Rattle.std.proofs.lemmas.Grind.{common_steps}
 use Rattle.std.proofs.lemmas.List.{nil_from_length}
 use Rattle.std.specs.Vec.Iter.{into_iter_items}
-use Rattle.halfbrown.specs.Costs.{key_hash}
 use Rattle.halfbrown.specs.Step.{Step}
 use Rattle.halfbrown.proofs.lemmas.run.Runs.{RunSoFar, no_step, step_more, run_ended, run_pays_two, table_stays}
 use Rattle.halfbrown.proofs.lemmas.run.Steps.{switch_left_most}
@@ -13,7 +12,7 @@ loop-command-init g c =
     let map = c.args.map.now in
     let tally = c.args.tally.now in
     let commands = c.args.commands.items in
-    let hash = key_hash g.S.BuildHasher g.S.Hasher.Hasher g.K.Hash.hash_input in
+    let hash = g.S.KeyHasher.hash in
     let So = RunSoFar g.L.Limit.LIMIT g.K.PartialEq.eq hash map commands tally in
     record {
       so_far = subst (λ rs. So map (into_iter_items c.into_iter-left.result) rs tally) (sym c.in-Ok.ensures.items)
@@ -31,7 +30,7 @@ loop-command-preserved g c =
     let old = c.args.map.now in
     let commands = c.args.commands.items in
     let before = c.args.tally.now in
-    let hash = key_hash g.S.BuildHasher g.S.Hasher.Hasher g.K.Hash.hash_input in
+    let hash = g.S.KeyHasher.hash in
     let So = RunSoFar g.L.Limit.LIMIT g.K.PartialEq.eq hash old commands before in
     let left = into_iter_items c.next.new.self in
     let replies = c.loop-command.replies.items in
@@ -60,18 +59,18 @@ pub returns-clause-stays_a_table : goal.returns-clause-stays_a_table
 returns-clause-stays_a_table g c none =
     let run = returns-clause-run g c in
     table_stays _ _ _ _ _
-    (run_pays_two g.L.Limit.LIMIT g.K.PartialEq.eq (key_hash g.S.BuildHasher g.S.Hasher.Hasher g.K.Hash.hash_input) _ _ _ _ _ run.1 none)
+    (run_pays_two g.L.Limit.LIMIT g.K.PartialEq.eq g.S.KeyHasher.hash _ _ _ _ _ run.1 none)
 
 pub returns-clause-nothing_hashed : goal.returns-clause-nothing_hashed
 returns-clause-nothing_hashed g c none form =
     let run = returns-clause-run g c in
     let pays =
-    run_pays_two g.L.Limit.LIMIT g.K.PartialEq.eq (key_hash g.S.BuildHasher g.S.Hasher.Hasher g.K.Hash.hash_input) _ _ _ _ _ run.1 none in
+    run_pays_two g.L.Limit.LIMIT g.K.PartialEq.eq g.S.KeyHasher.hash _ _ _ _ _ run.1 none in
     omega (arith, run.2.asked, (pays.vector form).1)
 
 pub returns-clause-hashes : goal.returns-clause-hashes
 returns-clause-hashes g c none =
     let run = returns-clause-run g c in
     let pays =
-    run_pays_two g.L.Limit.LIMIT g.K.PartialEq.eq (key_hash g.S.BuildHasher g.S.Hasher.Hasher g.K.Hash.hash_input) _ _ _ _ _ run.1 none in
+    run_pays_two g.L.Limit.LIMIT g.K.PartialEq.eq g.S.KeyHasher.hash _ _ _ _ _ run.1 none in
     omega (arith, run.2.asked, pays.all, switch_left_most g.L.Limit.LIMIT c.args.map.now.is_vec)

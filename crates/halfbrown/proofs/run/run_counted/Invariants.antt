@@ -1,13 +1,12 @@
 -- The run so far, and capacity for a reply to each command that is left, and for no more.
 use Rattle.std.proofs.Common.{◌≡◌, ◌+◌, ◌≤◌, length, vec_len, vec_capacity}
 use Rattle.std.specs.Vec.Iter.{into_iter_items, into_iter_len}
-use Rattle.halfbrown.specs.Costs.{key_hash}
 use Rattle.halfbrown.proofs.lemmas.run.Runs.{RunSoFar}
 use Rattle.halfbrown.proofs.run.run_counted.Given as goal
 
 abbrev pub invariant-loop-command : goal.invariant-loop-command
 invariant-loop-command g l = record {
-  so_far : RunSoFar g.L.Limit.LIMIT g.K.PartialEq.eq (key_hash g.S.BuildHasher g.S.Hasher.Hasher g.K.Hash.hash_input)
+  so_far : RunSoFar g.L.Limit.LIMIT g.K.PartialEq.eq g.S.KeyHasher.hash
       l.fn.map l.fn.commands.items l.fn.tally l.map (into_iter_items l.left) l.replies.items l.tally;
   capacity : vec_len l.replies + into_iter_len l.left ≤ vec_capacity l.replies;
   exact : vec_capacity l.replies ≡ length l.fn.commands.items;

@@ -2,7 +2,6 @@ use Rattle.std.proofs.Common.{slice_get, arith}
 use Rattle.std.proofs.lemmas.Grind.{common_steps}
 use Rattle.std.proofs.Math.Logic.{∥∥₁_elim}
 use Rattle.std.proofs.lemmas.Option.{same_Some}
-use Rattle.halfbrown.specs.Costs.{key_hash}
 use Rattle.halfbrown.specs.State.{contents_of}
 use Rattle.halfbrown.proofs.lemmas.entry.Methods.{set_value-last, value-last, vacant_writes}
 use Rattle.halfbrown.proofs.lemmas.map.Find.{vacancy-prop}
@@ -13,7 +12,7 @@ push-requires-clause-vacant g c =
     let v = c.args.self in
     let m = v.map.now in
     ∥∥₁_elim v.vacant (vacancy-prop m.is_vec (contents_of m)
-    (key_hash g.S.BuildHasher g.S.Hasher.Hasher g.K.Hash.hash_input m.builder v.key) v.vacancy) (λ known. known)
+    (g.S.KeyHasher.hash m.builder v.key) v.vacancy) (λ known. known)
 
 pub returns : goal.returns
 returns g c = grind (arith, common_steps, same_Some, set_value-last, slice_get, vacant_writes, value-last)

@@ -3,9 +3,7 @@ use Rattle.std.proofs.lemmas.Map.Entries.{entries_from_clone}
 use Rattle.std.proofs.lemmas.Slice.Zip.{AllZip-long}
 use Rattle.std.specs.List.{AllZip}
 use Rattle.std.specs.Map.{keys_of}
-use Rattle.half_store.specs.Hash.{hash_by}
 use Rattle.halfbrown.specs.Clone.{ClonesEqualKeys, HashesAlike, IsCloneOf}
-use Rattle.halfbrown.specs.Costs.{key_hash}
 use Rattle.halfbrown.specs.Layout.{state_in}
 use Rattle.halfbrown.proofs.lemmas.map.Clone.{keys_zip, zip_held, map-zip, kept_cloned}
 use Rattle.halfbrown.proofs.lemmas.map.Layout.{state_of}
@@ -16,9 +14,10 @@ invariant_of-result g c =
     let eq = g.K.PartialEq.eq in
     let C = g.K.Clone.is_clone in
     let D = g.V.Clone.is_clone in
-    let hash_all = key_hash g.S.BuildHasher g.S.Hasher.Hasher g.K.Hash.hash_input in
+    let hash_all = g.S.KeyHasher.hash in
     let before = c.self.inside.builder in
     let after = c.args.builder in
+    let law = g.met.S.KeyHasher.hash_is after in
     let hash = hash_all before in
     let also_hash = hash_all after in
     let old = c.self.inside.store in
@@ -32,9 +31,9 @@ invariant_of-result g c =
     let hashed : old.is_vec ≡ false → map also_hash (keys_of new.pairs) ≡ map hash (keys_of old.pairs) =
     λ table. map-zip hash also_hash (keys_of old.pairs) (keys_of new.pairs)
     (zip_held C (λ k l. also_hash l ≡ hash k) (keys_of old.pairs) (keys_of new.pairs)
-    (λ k l inside is_clone. ap (hash_by g.S.BuildHasher g.S.Hasher.Hasher after)
-    (sym (g.met.K.Hash.respects_eq k l (equal k l inside is_clone)))
-    ∙ hashes_alike k table inside) held) in
+    (λ k l inside is_clone. law l
+    ∙ ap (g.S.KeyHasher.hash_writes after) (sym (g.met.K.Hash.respects_eq k l (equal k l inside is_clone)))
+    ∙ sym (law k) ∙ hashes_alike k table inside) held) in
     kept_cloned eq g.met.K.Eq.laws hash also_hash g.L.Limit.LIMIT old new c.self.invariant cloned.form
     (AllZip-long (λ p q. C p.0 q.0 × D p.1 q.1) old.pairs new.pairs cloned.pairs) alike hashed cloned.capacity cloned.hashes
 
@@ -56,5 +55,5 @@ returns-clause-cloned g c =
 
 pub returns-clause-state : goal.returns-clause-state
 returns-clause-state g c =
-    state_of g.K.PartialEq.eq (key_hash g.S.BuildHasher g.S.Hasher.Hasher g.K.Hash.hash_input c.args.builder) g.L.Limit.LIMIT
+    state_of g.K.PartialEq.eq (g.S.KeyHasher.hash c.args.builder) g.L.Limit.LIMIT
     c.in_ok-store.store c.args.builder (invariant_of-result g c)

@@ -2,7 +2,7 @@ use Rattle.std.proofs.Common.{nat_le, refl, inl, inr, sym, subst, arith}
 use Rattle.std.proofs.lemmas.Grind.{common_steps}
 use Rattle.std.specs.Iterator.{Drains}
 use Rattle.halfbrown.specs.Collection.{Gives, IsRefusedInsertion}
-use Rattle.halfbrown.specs.Costs.{key_hash, no_cost}
+use Rattle.halfbrown.specs.Costs.{no_cost}
 use Rattle.halfbrown.specs.Making.{IsMade}
 use Rattle.halfbrown.proofs.lemmas.map.Collect.{at_error, collection_of, inserts_asked, inserts_state}
 use Rattle.halfbrown.proofs.lemmas.map.Costs.{spent_none}
@@ -17,7 +17,7 @@ pub returns-in_err-extend_counted-clause-refused : goal.returns-in_err-extend_co
 returns-in_err-extend_counted-clause-refused g c =
     let L = g.L.Limit.LIMIT in
     let E = g.K.PartialEq.eq in
-    let H = key_hash g.S.BuildHasher g.S.Hasher.Hasher g.K.Hash.hash_input in
+    let H = g.S.KeyHasher.hash in
     let why = c.in_err-extend_counted.field-0.0 in
     let made = c.in_ok-map.map in
     let after = c.extend_counted.new.self in
@@ -39,7 +39,7 @@ pub returns-clause-collected : goal.returns-clause-collected
 returns-clause-collected g c =
     let L = g.L.Limit.LIMIT in
     let E = g.K.PartialEq.eq in
-    let H = key_hash g.S.BuildHasher g.S.Hasher.Hasher g.K.Hash.hash_input in
+    let H = g.S.KeyHasher.hash in
     let made = c.in_ok-map.map in
     let told = c.in_ok-map.ensures.makes.ok in
     let is_made : IsMade g.S.Default.is_default (nat_le c.args.capacity L) c.args.capacity made = record {

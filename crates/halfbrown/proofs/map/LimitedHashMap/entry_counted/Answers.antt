@@ -1,5 +1,4 @@
 use Rattle.std.proofs.Common.{refl, subst}
-use Rattle.halfbrown.specs.Costs.{key_hash}
 use Rattle.halfbrown.specs.Preparation.{IsReadyFor}
 use Rattle.halfbrown.proofs.lemmas.entry.Methods.{found_entry, found_writes, found_removes, missing_entry, missing_writes, missing_removes}
 use Rattle.halfbrown.proofs.map.LimitedHashMap.entry_counted.Goals as goal
@@ -11,7 +10,7 @@ returns-in-Ok-Ok g c =
     let limit = g.L.Limit.LIMIT in
     let key = c.args.key in
     let prepared = c.in-Ok-Ok.ensures.ok in
-    let at = subst (IsReadyFor same (key_hash g.S.BuildHasher g.S.Hasher.Hasher g.K.Hash.hash_input) c.prepare.new.self key)
+    let at = subst (IsReadyFor same g.S.KeyHasher.hash c.prepare.new.self key)
     c.in-Ok-Ok.field-0-is c.in-Ok-Ok.ensures.ready in (
       (refl, λ n. refl, tt),
       record {
@@ -35,7 +34,7 @@ returns-in-Ok-Err g c =
     let laws = g.met.K.Eq.laws in
     let limit = g.L.Limit.LIMIT in
     let prepared = c.in-Ok-Err.ensures.ok in
-    let ready = subst (IsReadyFor same (key_hash g.S.BuildHasher g.S.Hasher.Hasher g.K.Hash.hash_input) c.prepare.new.self c.args.key)
+    let ready = subst (IsReadyFor same g.S.KeyHasher.hash c.prepare.new.self c.args.key)
     c.in-Ok-Err.field-0-is c.in-Ok-Err.ensures.ready in (
       (refl, λ n. refl, tt),
       record {
@@ -55,6 +54,6 @@ returns-in-Ok-Err g c =
 
 pub invariant_of-result-in-Ok-Err : goal.invariant_of-result-in-Ok-Err
 invariant_of-result-in-Ok-Err g c =
-    let hash = key_hash g.S.BuildHasher g.S.Hasher.Hasher g.K.Hash.hash_input in
+    let hash = g.S.KeyHasher.hash in
     let ready = subst (IsReadyFor g.K.PartialEq.eq hash c.prepare.new.self c.args.key) c.in-Ok-Err.field-0-is c.in-Ok-Err.ensures.ready in
     record { capacity_left = ready.capacity; absent = ready.absent.held; vacant = ∣ ready.vacant ∣₁ }

@@ -1,7 +1,6 @@
 use Rattle.halfbrown.specs.Collection.{Gives}
 use Rattle.std.proofs.Common.{arith}
 use Rattle.std.proofs.lemmas.Grind.{common_steps}
-use Rattle.halfbrown.specs.Costs.{key_hash}
 use Rattle.halfbrown.proofs.lemmas.map.Collect.{extends_of, item_more, item_refused, at_error, yields_more}
 use Rattle.halfbrown.proofs.map.LimitedHashMap.extend_counted.Goals as goal
 
@@ -27,7 +26,7 @@ returns-in_err-insert_counted-clause-refused g c =
     let k = c.in-Some.key in
     let v = c.in-Some.value in
     let one_more = yields_more I it items c.loop-key.key-iterator (k, v) c.next.new.self c.loop-key.yielded_by c.in-Some.ensures.steps in
-    let refused = item_refused g.L.Limit.LIMIT g.K.PartialEq.eq (key_hash g.S.BuildHasher g.S.Hasher.Hasher g.K.Hash.hash_input)
+    let refused = item_refused g.L.Limit.LIMIT g.K.PartialEq.eq g.S.KeyHasher.hash
     c.args.self.now c.loop-key.self c.insert_counted.new.self items (Gives I it) k v back.why
     c.args.tally.now c.loop-key.tally c.insert_counted.new.tally
     c.loop-key.invariant.so_far (c.next.new.self, one_more) c.in_err-insert_counted.ensures.inserts.returned.unchanged

@@ -2,7 +2,7 @@ use Rattle.std.proofs.Common.{subst, ap, ◌∙◌, length}
 use Rattle.std.specs.Fn.{FnReturnsAt}
 use Rattle.std.specs.Result.{result_ok}
 use Rattle.half_store.specs.Search.{ComparesInOrder}
-use Rattle.halfbrown.specs.Costs.{key_hash, SearchCosts}
+use Rattle.halfbrown.specs.Costs.{SearchCosts}
 use Rattle.halfbrown.specs.Match.{Matches}
 use Rattle.halfbrown.specs.Layout.{state_in}
 use Rattle.halfbrown.specs.State.{State}
@@ -11,7 +11,7 @@ use Rattle.halfbrown.proofs.map.LimitedHashMap.find_match.Goals as goal
 
 pub returns-clause-found : goal.returns-clause-found
 returns-clause-found g c =
-    let hashing = key_hash g.S.BuildHasher g.S.Hasher.Hasher g.K.Hash.hash_input in
+    let hashing = g.S.KeyHasher.hash in
     let returns = FnReturnsAt g.F.Fn c.args.matches.now in
     subst (λ (m : State g.row.K.Denot g.row.V.Denot g.row.S.Denot). Matches returns hashing c.args.hash m c.find.result) c.self.view_is
     (matches_of returns hashing c.args.hash c.self.inside.store c.self.inside.builder c.self.invariant.hashed c.find.result
@@ -19,7 +19,7 @@ returns-clause-found g c =
 
 pub returns-clause-cost : goal.returns-clause-cost
 returns-clause-cost g c =
-    let hashing = key_hash g.S.BuildHasher g.S.Hasher.Hasher g.K.Hash.hash_input in
+    let hashing = g.S.KeyHasher.hash in
     let store = c.self.inside.store in
     let told = c.find.ensures in
     subst (λ (m : State g.row.K.Denot g.row.V.Denot g.row.S.Denot). SearchCosts hashing c.args.hash m (result_ok c.find.result) 0

@@ -3,13 +3,12 @@ use Rattle.std.proofs.IntoIterSteps.{All-taken}
 use Rattle.std.proofs.lemmas.Result.{IfOk-weaker, IfErr-weaker}
 use Rattle.std.specs.Vec.Iter.{into_iter_items, into_iter_steps}
 use Rattle.halfbrown.specs.Collection.{AreFirst, Gives, IsCollection}
-use Rattle.halfbrown.specs.Costs.{key_hash}
 use Rattle.halfbrown.proofs.lemmas.map.Collect.{gave_first, refusal_given}
 use Rattle.halfbrown.proofs.map.LimitedHashMap.from_array.Goals as goal
 
 pub returns-clause-collected : goal.returns-clause-collected
 returns-clause-collected g c =
-    let H = key_hash g.S.BuildHasher g.S.Hasher.Hasher g.K.Hash.hash_input in
+    let H = g.S.KeyHasher.hash in
     IfOk-weaker c.uncounted.result _ _
     (λ m h. (
       h.1,
@@ -21,7 +20,7 @@ returns-clause-collected g c =
 
 pub returns-clause-refused : goal.returns-clause-refused
 returns-clause-refused g c =
-    let H = key_hash g.S.BuildHasher g.S.Hasher.Hasher g.K.Hash.hash_input in
+    let H = g.S.KeyHasher.hash in
     let it = c.into_iter.result in
     let is_all = c.into_iter.ensures.rest ∙ c.in-Ok.ensures.items in
     IfErr-weaker c.uncounted.result _ _

@@ -1,5 +1,4 @@
 use Rattle.std.proofs.Common.{None, Some, sym, subst, ◌∙◌}
-use Rattle.halfbrown.specs.Costs.{key_hash}
 use Rattle.halfbrown.specs.Preparation.{IsReadyFor}
 use Rattle.halfbrown.proofs.lemmas.map.Insert.{inserted}
 use Rattle.halfbrown.proofs.map.LimitedHashMap.insert_counted.Goals as goal
@@ -9,7 +8,7 @@ returns-in-Ok-Ok-clause-inserts g c =
     let eq = g.K.PartialEq.eq in
     let key = c.args.key in
     let found = c.in-Ok-Ok.ensures in
-    let ready = subst (IsReadyFor eq (key_hash g.S.BuildHasher g.S.Hasher.Hasher g.K.Hash.hash_input) c.prepare.new.self key)
+    let ready = subst (IsReadyFor eq g.S.KeyHasher.hash c.prepare.new.self key)
     c.in-Ok-Ok.field-0-is found.ready in
     inserted g.L.Limit.LIMIT eq g.met.K.Eq.laws c.args.self.now c.prepare.new.self c.set_at.new.self key c.args.value _
     c.set_at.ensures.after (ready.put_is key c.args.value)
@@ -20,7 +19,7 @@ returns-in-Ok-Err-clause-inserts g c =
     let eq = g.K.PartialEq.eq in
     let key = c.args.key in
     let missing = c.in-Ok-Err.ensures in
-    let ready = subst (IsReadyFor eq (key_hash g.S.BuildHasher g.S.Hasher.Hasher g.K.Hash.hash_input) c.prepare.new.self key)
+    let ready = subst (IsReadyFor eq g.S.KeyHasher.hash c.prepare.new.self key)
     c.in-Ok-Err.field-0-is missing.ready in
     inserted g.L.Limit.LIMIT eq g.met.K.Eq.laws c.args.self.now c.prepare.new.self c.push.new.self key c.args.value _ c.push.ensures.after
     (ready.absent.put_is key c.args.value)

@@ -1,7 +1,7 @@
 use Rattle.std.proofs.Common.{not, slice_get, sym, ap, ◌∙◌, arith}
 use Rattle.std.proofs.lemmas.Grind.{common_steps}
-use Rattle.halfbrown.specs.Costs.{key_hash}
 use Rattle.halfbrown.specs.Equality.{holds_pair}
+use Rattle.halfbrown.proofs.lemmas.map.Costs.{key_costs}
 use Rattle.halfbrown.proofs.lemmas.map.Equality.{held_unless, all_on, all_ends, costs_done, costs_on, costs_last}
 use Rattle.halfbrown.proofs.map.LimitedHashMap.is_held_by.Goals as goal
 
@@ -10,19 +10,25 @@ returns-then-ne-clause-held g c = grind (arith, common_steps, all_ends, held_unl
 
 pub returns-then-ne-clause-cost : goal.returns-then-ne-clause-cost
 returns-then-ne-clause-cost g c =
-    let hash = key_hash g.S2.BuildHasher g.S2.Hasher.Hasher g.K.Hash.hash_input in
+    let hash = g.S2.KeyHasher.hash in
+    let key = c.pair_at.result.0.now in
+    let searched = key_costs g.K.PartialEq.eq hash c.args.other.now key _ _ _ (g.met.S2.KeyHasher.hash_is c.args.other.now.builder key)
+    c.get_counted.ensures.cost in
     let unheld = held_unless g.K.PartialEq.eq g.V.PartialEq.eq c.args.other.now.pairs c.pair_at.result.0.now c.pair_at.result.1
     c.get_counted.result c.ne.result c.get_counted.ensures.value c.ne.ensures ∙ ap not c.if-ne.true in
     c.loop-index.invariant.cost c.get_counted.new.tally
     (costs_last g.K.PartialEq.eq hash c.args.other.now g.V.PartialEq.eq c.args.self.now.pairs c.loop-index.index
     (c.pair_at.result.0.now, c.pair_at.result.1.now)
     (ap (λ ps. slice_get ps c.loop-index.index) (sym c.columns.ensures.pairs) ∙ c.pair_at.ensures)
-    c.loop-index.tally c.get_counted.new.tally c.get_counted.ensures.cost unheld)
+    c.loop-index.tally c.get_counted.new.tally searched unheld)
 
 pub loop-index-preserved : goal.loop-index-preserved
 loop-index-preserved g c =
     let test = holds_pair g.K.PartialEq.eq g.V.PartialEq.eq c.args.other.now.pairs in
-    let hash = key_hash g.S2.BuildHasher g.S2.Hasher.Hasher g.K.Hash.hash_input in
+    let hash = g.S2.KeyHasher.hash in
+    let key = c.pair_at.result.0.now in
+    let searched = key_costs g.K.PartialEq.eq hash c.args.other.now key _ _ _ (g.met.S2.KeyHasher.hash_is c.args.other.now.builder key)
+    c.get_counted.ensures.cost in
     let held = held_unless g.K.PartialEq.eq g.V.PartialEq.eq c.args.other.now.pairs c.pair_at.result.0.now c.pair_at.result.1
     c.get_counted.result c.ne.result c.get_counted.ensures.value c.ne.ensures ∙ ap not c.if-ne.false in
     record {
@@ -33,7 +39,7 @@ loop-index-preserved g c =
           (costs_on g.K.PartialEq.eq hash c.args.other.now g.V.PartialEq.eq c.args.self.now.pairs c.loop-index.index
           (c.pair_at.result.0.now, c.pair_at.result.1.now)
           (ap (λ ps. slice_get ps c.loop-index.index) (sym c.columns.ensures.pairs) ∙ c.pair_at.ensures)
-          c.loop-index.tally c.get_counted.new.tally c.get_counted.ensures.cost held after more);
+          c.loop-index.tally c.get_counted.new.tally searched held after more);
     }
 
 pub returns-clause-cost : goal.returns-clause-cost

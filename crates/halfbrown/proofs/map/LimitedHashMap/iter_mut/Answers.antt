@@ -1,17 +1,16 @@
 use Rattle.std.proofs.Common.{zip, sym, ◌∙◌}
-use Rattle.halfbrown.specs.Costs.{key_hash}
 use Rattle.halfbrown.proofs.lemmas.map.Iter.{lends_values_in_order, kept_written, lent_values, zip_columns}
 use Rattle.halfbrown.proofs.map.LimitedHashMap.iter_mut.Goals as goal
 
 pub invariant_of-self-lent : goal.invariant_of-self-lent
 invariant_of-self-lent g c =
-    kept_written g.K.PartialEq.eq (key_hash g.S.BuildHasher g.S.Hasher.Hasher g.K.Hash.hash_input c.self.inside.builder) g.L.Limit.LIMIT
+    kept_written g.K.PartialEq.eq (g.S.KeyHasher.hash c.self.inside.builder) g.L.Limit.LIMIT
     c.self.inside.store c.self.invariant
 
 pub returns : goal.returns
 returns g c =
     let inside = c.self.inside in
-    let lent = lent_values g.K.PartialEq.eq (key_hash g.S.BuildHasher g.S.Hasher.Hasher g.K.Hash.hash_input inside.builder) g.L.Limit.LIMIT
+    let lent = lent_values g.K.PartialEq.eq (g.S.KeyHasher.hash inside.builder) g.L.Limit.LIMIT
     inside.store inside.builder c.args.self.now c.self.view_is c.self.invariant
     c.columns_mut-values.ensures.small in (
       (sym c.new.ensures.name, lent.back),

@@ -2,9 +2,9 @@ use Rattle.std.proofs.Common.{◌≡◌, false, sym, ap, ◌∙◌, arith}
 use Rattle.std.proofs.lemmas.Bool.Decides.{nat_tests}
 use Rattle.std.proofs.lemmas.Result.{err_from_is_err_and}
 use Rattle.std.specs.Result.{is_ok}
-use Rattle.halfbrown.specs.Costs.{key_hash}
 use Rattle.halfbrown.specs.Growth.{is_full}
 use Rattle.halfbrown.specs.Pairs.{holds}
+use Rattle.halfbrown.proofs.lemmas.map.Costs.{key_costs}
 use Rattle.halfbrown.proofs.lemmas.map.Growth.{switched_capacity}
 use Rattle.halfbrown.proofs.lemmas.map.Prepare.{held_costs, missing_costs, unmade_costs}
 use Rattle.halfbrown.proofs.map.LimitedHashMap.prepare.Goals as goal
@@ -13,9 +13,11 @@ pub returns-in-Ok-clause-cost : goal.returns-in-Ok-clause-cost
 returns-in-Ok-clause-cost g c =
     let eq = g.K.PartialEq.eq in
     let switched = c.in_ok-switch_if_full.ensures.ok in
-    held_costs g.L.Limit.LIMIT eq (key_hash g.S.BuildHasher g.S.Hasher.Hasher g.K.Hash.hash_input) c.args.self.now c.args.key.now
+    let searched = key_costs eq g.S.KeyHasher.hash c.switch_if_full.new.self c.args.key.now _ _ _
+    (g.met.S.KeyHasher.hash_is c.switch_if_full.new.self.builder c.args.key.now) c.in-Ok.ensures.cost in
+    held_costs g.L.Limit.LIMIT eq g.S.KeyHasher.hash c.args.self.now c.args.key.now
     c.switch_if_full.new.self c.args.tally.now c.switch_if_full.new.tally c.find.new.tally
-    switched.form (switched_capacity _ _ _ switched) switched.pairs switched.builder c.in_ok-switch_if_full.ensures.work c.in-Ok.ensures.cost
+    switched.form (switched_capacity _ _ _ switched) switched.pairs switched.builder c.in_ok-switch_if_full.ensures.work searched
     (ap (λ ps. holds eq ps c.args.key.now) (sym switched.pairs) ∙ c.in-Ok.ensures.found.held)
 
 pub returns-in_ok-make_capacity_at-in-Err-clause-cost : goal.returns-in_ok-make_capacity_at-in-Err-clause-cost
@@ -24,10 +26,12 @@ returns-in_ok-make_capacity_at-in-Err-clause-cost g c =
     let key = c.args.key.now in
     let switched = c.in_ok-switch_if_full.ensures.ok in
     let missing = c.in-Err.ensures in
-    missing_costs g.L.Limit.LIMIT eq (key_hash g.S.BuildHasher g.S.Hasher.Hasher g.K.Hash.hash_input) c.args.self.now key
+    let law = g.met.S.KeyHasher.hash_is c.switch_if_full.new.self.builder key in
+    let searched = key_costs eq g.S.KeyHasher.hash c.switch_if_full.new.self key _ _ _ law missing.cost in
+    missing_costs g.L.Limit.LIMIT eq g.S.KeyHasher.hash c.args.self.now key
     c.switch_if_full.new.self c.args.tally.now c.switch_if_full.new.tally c.find.new.tally
-    switched.form (switched_capacity _ _ _ switched) switched.pairs switched.builder c.in_ok-switch_if_full.ensures.work missing.cost
-    c.in-Err.vacancy.hash (λ table. (missing.found.1 (omega (arith, missing.state.table_exceeds table)) table).0)
+    switched.form (switched_capacity _ _ _ switched) switched.pairs switched.builder c.in_ok-switch_if_full.ensures.work searched
+    c.in-Err.vacancy.hash (λ table. (missing.found.1 (omega (arith, missing.state.table_exceeds table)) table).0 ∙ sym law)
     c.make_capacity_at.new.tally c.in_ok-make_capacity_at-in-Err.ensures.work
     (ap (λ ps. holds eq ps key) (sym switched.pairs) ∙ missing.found.0.held)
 
@@ -39,7 +43,9 @@ returns-in_err-make_capacity_at-in-Err-clause-cost g c =
     let refused = ap is_ok (err_from_is_err_and out.result out.ensures.1).1 in
     let room : is_full g.L.Limit.LIMIT c.args.self.now ≡ false = grind (arith, nat_tests, c.in_ok-switch_if_full.ensures.capacity_left, told.refused.0) in
     let still : c.make_capacity_at.new.tally ≡ c.find.new.tally = grind (arith, told.work) in
+    let searched = key_costs g.K.PartialEq.eq g.S.KeyHasher.hash c.switch_if_full.new.self c.args.key.now _ _ _
+    (g.met.S.KeyHasher.hash_is c.switch_if_full.new.self.builder c.args.key.now) c.in-Err.ensures.cost in
     rw (refused, still) (unmade_costs g.L.Limit.LIMIT g.K.PartialEq.eq
-    (key_hash g.S.BuildHasher g.S.Hasher.Hasher g.K.Hash.hash_input) c.args.self.now c.args.key.now
+    g.S.KeyHasher.hash c.args.self.now c.args.key.now
     c.switch_if_full.new.self c.args.tally.now c.switch_if_full.new.tally c.find.new.tally
-    switched.form (switched_capacity _ _ _ switched) switched.pairs switched.builder c.in_ok-switch_if_full.ensures.work c.in-Err.ensures.cost room)
+    switched.form (switched_capacity _ _ _ switched) switched.pairs switched.builder c.in_ok-switch_if_full.ensures.work searched room)

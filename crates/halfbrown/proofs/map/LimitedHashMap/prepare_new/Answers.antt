@@ -1,5 +1,4 @@
 use Rattle.std.proofs.Common.{sym, ap, ◌∙◌}
-use Rattle.halfbrown.specs.Costs.{key_hash}
 use Rattle.halfbrown.specs.Pairs.{holds}
 use Rattle.halfbrown.specs.State.{contents_of}
 use Rattle.halfbrown.proofs.lemmas.map.Growth.{form_stays}
@@ -11,7 +10,7 @@ pub returns-clause-ready : goal.returns-clause-ready
 returns-clause-ready g c =
     let eq = g.K.PartialEq.eq in
     let key = c.args.key.now in
-    let hash = key_hash g.S.BuildHasher g.S.Hasher.Hasher g.K.Hash.hash_input in
+    let hash = g.S.KeyHasher.hash in
     let prepared = c.in_ok-make_capacity.ensures in
     let opened = c.switch_if_full.new.self in
     let now = c.make_capacity.new.self in
@@ -23,6 +22,6 @@ returns-clause-ready g c =
           (λ form.
           c.hash_in_table-hash.ensures.hash
           (form_stays opened.is_vec _ c.in_ok-switch_if_full.ensures.not_full ∙ sym prepared.ok.form ∙ form)
-          ∙ ap (λ s. hash s key) (sym prepared.ok.builder))
+          ∙ sym (g.met.S.KeyHasher.hash_is opened.builder key) ∙ ap (λ s. hash s key) (sym prepared.ok.builder))
           c.vacancy_for.result c.vacancy_for.ensures.vacant;
     }

@@ -1,7 +1,6 @@
 use Rattle.std.proofs.Common.{◌<◌, length, sym, ap, subst, arith}
 use Rattle.std.proofs.lemmas.Grind.{common_steps}
 use Rattle.half_store.specs.Store.{IsVacancy}
-use Rattle.halfbrown.specs.Costs.{key_hash}
 use Rattle.halfbrown.specs.Layout.{IsKept}
 use Rattle.halfbrown.specs.Lookup.{IsAbsent}
 use Rattle.halfbrown.specs.State.{contents_of}
@@ -12,7 +11,7 @@ use Rattle.halfbrown.proofs.map.LimitedHashMap.push.Goals as goal
 pub invariant_of-self : goal.invariant_of-self
 invariant_of-self g c =
     let eq = g.K.PartialEq.eq in
-    let hash = key_hash g.S.BuildHasher g.S.Hasher.Hasher g.K.Hash.hash_input c.self.inside.builder in
+    let hash = g.S.KeyHasher.hash c.self.inside.builder in
     let store = c.self.inside.store in
     let key = c.args.key in
     let vacancy = c.args.vacancy in
@@ -22,7 +21,7 @@ invariant_of-self g c =
     let room : length store.pairs < store.capacity =
     omega (arith, c.requires.capacity, ap length (ap (λ m. m.pairs) c.self.view_is), ap (λ m. m.capacity) c.self.view_is) in
     let vacant : IsVacancy store.is_vec store.contents (hash key) vacancy =
-    subst (λ m. IsVacancy m.is_vec (contents_of m) (key_hash g.S.BuildHasher g.S.Hasher.Hasher g.K.Hash.hash_input m.builder key) vacancy)
+    subst (λ m. IsVacancy m.is_vec (contents_of m) (g.S.KeyHasher.hash m.builder key) vacancy)
     (sym c.self.view_is) c.requires.vacant in
     subst (IsKept eq hash g.L.Limit.LIMIT) (sym c.push.ensures)
     (kept_pushed eq hash g.L.Limit.LIMIT g.met.K.Eq.laws store key c.args.value vacancy c.self.invariant absent room

@@ -1,7 +1,6 @@
 use Rattle.std.proofs.Common.{◌<◌, sym, subst, ◌∙◌}
 use Rattle.std.proofs.Common.{arith}
 use Rattle.std.proofs.lemmas.Grind.{common_steps}
-use Rattle.halfbrown.specs.Costs.{key_hash}
 use Rattle.halfbrown.specs.State.{IsTableCapacity}
 use Rattle.halfbrown.proofs.lemmas.map.Layout.{kept_made, state_of}
 use Rattle.halfbrown.proofs.map.LimitedHashMap.put_back.Goals as goal
@@ -9,7 +8,7 @@ use Rattle.halfbrown.proofs.map.LimitedHashMap.put_back.Goals as goal
 pub invariant_of-self : goal.invariant_of-self
 invariant_of-self g c =
     let told = c.into_store.ensures in
-    kept_made g.K.PartialEq.eq (key_hash g.S.BuildHasher g.S.Hasher.Hasher g.K.Hash.hash_input c.self.inside.builder) g.L.Limit.LIMIT
+    kept_made g.K.PartialEq.eq (g.S.KeyHasher.hash c.self.inside.builder) g.L.Limit.LIMIT
     c.into_store.result told.pairs told.hashes
     (λ vector. omega (arith, told.form.capacity, c.requires.within (sym told.form.form ∙ vector)))
     (λ table. subst IsTableCapacity (sym told.form.capacity) (c.requires.series (sym told.form.form ∙ table)))

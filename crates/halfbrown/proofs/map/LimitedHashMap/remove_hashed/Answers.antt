@@ -2,9 +2,8 @@ use Rattle.std.proofs.Common.{◌≡◌, false, sym, ap, subst, ◌∙◌}
 use Rattle.std.specs.Map.{lookup_entry}
 use Rattle.std.specs.Option.{option_map}
 use Rattle.std.specs.Result.{result_ok}
-use Rattle.half_store.specs.Hash.{hash_by}
 use Rattle.half_store.specs.declared.vecmap.search.Scan.TheVariants.{ByBlock}
-use Rattle.halfbrown.specs.Costs.{key_hash, CostsHashedSearch, SearchCosts}
+use Rattle.halfbrown.specs.Costs.{CostsHashedSearch, SearchCosts}
 use Rattle.halfbrown.specs.Layout.{state_in}
 use Rattle.halfbrown.specs.Lookup.{LooksUp}
 use Rattle.halfbrown.specs.Removal.{Removes}
@@ -17,7 +16,7 @@ use Rattle.halfbrown.proofs.map.LimitedHashMap.remove_hashed.Goals as goal
 pub invariant_of-self : goal.invariant_of-self
 invariant_of-self g c =
     kept_found g.L.Limit.LIMIT g.K.PartialEq.eq g.met.K.Eq.laws
-    (key_hash g.S.BuildHasher g.S.Hasher.Hasher g.K.Hash.hash_input c.self.inside.builder) c.self.inside.builder c.self.inside.store
+    (g.S.KeyHasher.hash c.self.inside.builder) c.self.inside.builder c.self.inside.store
     c.take.new.self c.self.invariant c.take.ensures.search c.take.result c.take.ensures.takes
 
 pub returns : goal.returns
@@ -26,15 +25,16 @@ returns g c =
     let builder = c.self.inside.builder in
     let was : State g.row.K.Denot g.row.V.Denot g.row.S.Denot = state_in store builder in
     let test = g.Q.Equivalent.equivalent c.args.key in
-    let hashing = key_hash g.S.BuildHasher g.S.Hasher.Hasher g.K.Hash.hash_input in
-    let own = key_hash g.S.BuildHasher g.S.Hasher.Hasher g.Q.Hash.hash_input builder c.args.key in
+    let hashing = g.S.KeyHasher.hash in
+    let own = g.S.KeyHasher.hash_writes builder (g.Q.Hash.hash_input c.args.key) in
     let told = c.take.ensures in
     let known : was.is_vec ≡ false → c.args.hash ≡ own =
     λ table. c.requires (ap (λ m. m.is_vec) (sym c.self.view_is) ∙ table)
-    ∙ ap (λ s. key_hash g.S.BuildHasher g.S.Hasher.Hasher g.Q.Hash.hash_input s c.args.key) (ap (λ m. m.builder) (sym c.self.view_is)) in
+    ∙ ap (λ s. g.S.KeyHasher.hash_writes s (g.Q.Hash.hash_input c.args.key)) (ap (λ m. m.builder) (sym c.self.view_is)) in
     let found : LooksUp test own was told.search = looks_up test _ (λ k answer returned. returned.says.met ∙ ap test returned.shows)
     g.K.PartialEq.eq (g.met.Q.Equivalent.stands_for_equals c.args.key) hashing c.args.hash was c.self.invariant.distinct own known
-    (λ k passes. ap (hash_by g.S.BuildHasher g.S.Hasher.Hasher builder) (sym (g.met.Q.Equivalent.hashes_alike c.args.key k passes)))
+    (λ k passes. g.met.S.KeyHasher.hash_is builder k
+    ∙ ap (g.S.KeyHasher.hash_writes builder) (sym (g.met.Q.Equivalent.hashes_alike c.args.key k passes)))
     told.search (matches_of _ hashing c.args.hash store builder c.self.invariant.hashed told.search told.finds) in
     let spent = match_costs hashing c.args.hash was c.args.tally.now c.take.new.tally store.is_vec (λ i. store.is_vec)
     ByBlock (result_ok told.search) store.hashes c.self.invariant.hashed told.cost.vector told.cost.found told.cost.missing told.cost.short in
@@ -45,8 +45,8 @@ returns g c =
     record {
       removes = removes;
       value = ap (option_map (λ pair. pair.1)) removes.gives ∙ value_of_entry test c.args.self.now.pairs;
-      cost = subst (λ (m : State g.row.K.Denot g.row.V.Denot g.row.S.Denot). CostsHashedSearch g.S.BuildHasher g.S.Hasher.Hasher
-          g.K.Hash.hash_input g.Q.Hash.hash_input g.Q.Equivalent.equivalent c.args.key m c.args.tally.now c.take.new.tally) c.self.view_is
+      cost = subst (λ (m : State g.row.K.Denot g.row.V.Denot g.row.S.Denot). CostsHashedSearch hashing
+          (g.S.KeyHasher.hash_writes m.builder (g.Q.Hash.hash_input c.args.key)) test m c.args.tally.now c.take.new.tally) c.self.view_is
           (subst (λ index. SearchCosts hashing own was index 0 c.args.tally.now c.take.new.tally)
           (found_is_index test own was told.search found)
           (costs_for_other hashing c.args.hash own was c.args.tally.now c.take.new.tally (result_ok told.search) known spent));

@@ -1,5 +1,4 @@
 use Rattle.std.proofs.Common.{◌<◌, length, ap, arith}
-use Rattle.halfbrown.specs.Costs.{key_hash}
 use Rattle.halfbrown.proofs.lemmas.map.Layout.{state_of}
 use Rattle.halfbrown.proofs.lemmas.map.Replace.{kept_replaced, own_hash, absent_replaced}
 use Rattle.halfbrown.proofs.map.LimitedHashMap.replace_at.Goals as goal
@@ -9,25 +8,25 @@ invariant_of-self g c =
     let store = c.self.inside.store in
     let told = c.replace_with.ensures in
     let within : c.args.index < length store.pairs = omega (arith, c.requires.within, ap length (ap (λ m. m.pairs) c.self.view_is)) in
-    kept_replaced g.K.PartialEq.eq g.met.K.Eq.laws (key_hash g.S.BuildHasher g.S.Hasher.Hasher g.K.Hash.hash_input c.self.inside.builder)
+    kept_replaced g.K.PartialEq.eq g.met.K.Eq.laws (g.S.KeyHasher.hash c.self.inside.builder)
     g.L.Limit.LIMIT store c.replace_with.new.self c.args.index c.self.invariant told.form within c.replace_with.result told.replaces
     told.hashes told.kept
 
 pub returns-clause-hash : goal.returns-clause-hash
 returns-clause-hash g c =
     let told = c.replace_with.ensures in
-    own_hash g.K.PartialEq.eq g.met.K.Eq.laws (key_hash g.S.BuildHasher g.S.Hasher.Hasher g.K.Hash.hash_input c.self.inside.builder)
+    own_hash g.K.PartialEq.eq g.met.K.Eq.laws (g.S.KeyHasher.hash c.self.inside.builder)
     g.L.Limit.LIMIT c.self.inside.store c.replace_with.new.self c.args.index c.self.invariant told.form c.replace_with.result
     told.replaces told.hash
 
 pub returns-clause-absent : goal.returns-clause-absent
 returns-clause-absent g c =
     let told = c.replace_with.ensures in
-    absent_replaced g.K.PartialEq.eq g.met.K.Eq.laws (key_hash g.S.BuildHasher g.S.Hasher.Hasher g.K.Hash.hash_input c.self.inside.builder)
+    absent_replaced g.K.PartialEq.eq g.met.K.Eq.laws (g.S.KeyHasher.hash c.self.inside.builder)
     g.L.Limit.LIMIT c.self.inside.store c.replace_with.new.self c.args.index c.self.invariant told.form c.replace_with.result
     told.replaces
 
 pub returns-clause-state : goal.returns-clause-state
 returns-clause-state g c =
-    state_of g.K.PartialEq.eq (key_hash g.S.BuildHasher g.S.Hasher.Hasher g.K.Hash.hash_input c.self.inside.builder) g.L.Limit.LIMIT
+    state_of g.K.PartialEq.eq (g.S.KeyHasher.hash c.self.inside.builder) g.L.Limit.LIMIT
     c.replace_with.new.self c.self.inside.builder (invariant_of-self g c)

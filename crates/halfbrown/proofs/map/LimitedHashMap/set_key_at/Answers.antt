@@ -1,7 +1,5 @@
 use Rattle.std.proofs.Common.{◌≡◌, true, slice_get, sym, ap, subst, ◌∙◌}
 use Rattle.std.specs.Map.{keys_of}
-use Rattle.half_store.specs.Hash.{hash_by}
-use Rattle.halfbrown.specs.Costs.{key_hash}
 use Rattle.halfbrown.specs.Layout.{IsKept}
 use Rattle.halfbrown.specs.Updates.{HasKeyReplaced}
 use Rattle.halfbrown.proofs.lemmas.map.Layout.{kept_key, state_of}
@@ -11,7 +9,7 @@ use Rattle.halfbrown.proofs.map.LimitedHashMap.set_key_at.Goals as goal
 pub invariant_of-self : goal.invariant_of-self
 invariant_of-self g c =
     let eq = g.K.PartialEq.eq in
-    let hash = key_hash g.S.BuildHasher g.S.Hasher.Hasher g.K.Hash.hash_input c.self.inside.builder in
+    let hash = g.S.KeyHasher.hash c.self.inside.builder in
     let store = c.self.inside.store in
     let old = c.set_key.result in
     let key = c.args.key in
@@ -19,13 +17,15 @@ invariant_of-self g c =
     let same : eq old key ≡ true =
     equal_at eq g.met.K.Eq.laws old key (ap (λ m. slice_get (keys_of m.pairs) c.args.index) (sym c.self.view_is) ∙ at)
     c.requires.equal in
-    let alike = ap (hash_by g.S.BuildHasher g.S.Hasher.Hasher c.self.inside.builder) (g.met.K.Hash.respects_eq old key same) in
+    let builder = c.self.inside.builder in
+    let law = g.met.S.KeyHasher.hash_is builder in
+    let alike = law old ∙ ap (g.S.KeyHasher.hash_writes builder) (g.met.K.Hash.respects_eq old key same) ∙ sym (law key) in
     subst (IsKept eq hash g.L.Limit.LIMIT) (sym c.set_key.ensures.after)
     (kept_key eq hash g.L.Limit.LIMIT g.met.K.Eq.laws store c.args.index old key c.self.invariant at same alike)
 
 pub returns-clause-state : goal.returns-clause-state
 returns-clause-state g c =
-    state_of g.K.PartialEq.eq (key_hash g.S.BuildHasher g.S.Hasher.Hasher g.K.Hash.hash_input c.self.inside.builder) g.L.Limit.LIMIT
+    state_of g.K.PartialEq.eq (g.S.KeyHasher.hash c.self.inside.builder) g.L.Limit.LIMIT
     c.set_key.new.self c.self.inside.builder (invariant_of-self g c)
 
 pub returns-clause-replaced : goal.returns-clause-replaced

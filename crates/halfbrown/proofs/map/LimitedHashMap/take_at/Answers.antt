@@ -1,6 +1,5 @@
 use Rattle.std.proofs.Common.{◌<◌, length, ap, arith}
 use Rattle.std.proofs.lemmas.Grind.{common_steps}
-use Rattle.halfbrown.specs.Costs.{key_hash}
 use Rattle.halfbrown.proofs.lemmas.map.Layout.{kept_taken, state_of}
 use Rattle.halfbrown.proofs.lemmas.entry.Methods.{value_of-pair}
 use Rattle.halfbrown.proofs.map.LimitedHashMap.take_at.Goals as goal
@@ -10,7 +9,7 @@ invariant_of-self g c =
     let store = c.self.inside.store in
     let told = c.swap_remove.ensures in
     let within : c.args.index < length store.pairs = omega (arith, c.requires, ap length (ap (λ m. m.pairs) c.self.view_is)) in
-    kept_taken g.K.PartialEq.eq (key_hash g.S.BuildHasher g.S.Hasher.Hasher g.K.Hash.hash_input c.self.inside.builder) g.L.Limit.LIMIT
+    kept_taken g.K.PartialEq.eq (g.S.KeyHasher.hash c.self.inside.builder) g.L.Limit.LIMIT
     g.met.K.Eq.laws store c.swap_remove.new.self c.args.index c.self.invariant told.form within told.pairs told.hashes
 
 pub returns-clause-value : goal.returns-clause-value

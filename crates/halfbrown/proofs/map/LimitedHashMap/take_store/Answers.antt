@@ -1,8 +1,7 @@
-use Rattle.halfbrown.specs.Costs.{key_hash}
 use Rattle.halfbrown.proofs.lemmas.map.Layout.{kept_empty}
 use Rattle.halfbrown.proofs.map.LimitedHashMap.take_store.Goals as goal
 
 pub invariant_of-self : goal.invariant_of-self
 invariant_of-self g c =
-    kept_empty g.K.PartialEq.eq (key_hash g.S.BuildHasher g.S.Hasher.Hasher g.K.Hash.hash_input c.self.inside.builder) g.L.Limit.LIMIT
+    kept_empty g.K.PartialEq.eq (g.S.KeyHasher.hash c.self.inside.builder) g.L.Limit.LIMIT
     c.drain.new.self c.drain.ensures.after

@@ -1,4 +1,3 @@
-use Rattle.halfbrown.specs.Costs.{key_hash}
 use Rattle.std.proofs.Common.{arith}
 use Rattle.std.proofs.lemmas.Grind.{common_steps}
 use Rattle.halfbrown.proofs.lemmas.map.Layout.{kept_empty, state_of}
@@ -6,7 +5,7 @@ use Rattle.halfbrown.proofs.map.LimitedHashMap.with_hasher.Goals as goal
 
 pub invariant_of-result : goal.invariant_of-result
 invariant_of-result g c =
-    kept_empty g.K.PartialEq.eq (key_hash g.S.BuildHasher g.S.Hasher.Hasher g.K.Hash.hash_input c.args.builder) g.L.Limit.LIMIT c.new.result
+    kept_empty g.K.PartialEq.eq (g.S.KeyHasher.hash c.args.builder) g.L.Limit.LIMIT c.new.result
     c.new.ensures
 
 pub returns-clause-state : goal.returns-clause-state

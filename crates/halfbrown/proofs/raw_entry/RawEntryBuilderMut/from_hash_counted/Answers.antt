@@ -1,7 +1,6 @@
 use Rattle.std.proofs.Common.{sym, ap, arith}
 use Rattle.std.proofs.lemmas.Grind.{common_steps}
 use Rattle.std.specs.Fn.{FnReturnsAt}
-use Rattle.halfbrown.specs.Costs.{key_hash}
 use Rattle.halfbrown.specs.RawEntryBuilder.{ready_ref, ready_map}
 use Rattle.halfbrown.proofs.lemmas.raw_entry.Builder.{found_by_match, found_match}
 use Rattle.halfbrown.proofs.lemmas.raw_entry.Methods.{is_some_within}
@@ -11,7 +10,7 @@ pub returns-in-Ok-clause-searches : goal.returns-in-Ok-clause-searches
 returns-in-Ok-clause-searches g c = record {
   same_map = ap (λ ready. (ready_ref ready).ghost_name) (sym c.self-1.given.1);
   map = ap ready_map (sym c.self-1.given.1);
-  found = found_match (FnReturnsAt g.F.Fn c.args.is_match) (key_hash g.S.BuildHasher g.S.Hasher.Hasher g.K.Hash.hash_input)
+  found = found_match (FnReturnsAt g.F.Fn c.args.is_match) g.S.KeyHasher.hash
       c.args.hash (ready_map c.args.self) _ c.in-Ok.index (ap ready_map c.self-1.given.1) c.in-Ok.ensures.found;
   entry = found_by_match g.K.PartialEq.eq g.met.K.Eq.laws (ready_map c.args.self) _ (ap ready_map c.self-1.given.1)
       c.in-Ok.ensures.state.distinct;

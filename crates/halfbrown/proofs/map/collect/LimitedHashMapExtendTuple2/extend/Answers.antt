@@ -1,4 +1,3 @@
-use Rattle.halfbrown.specs.Costs.{key_hash}
 use Rattle.halfbrown.proofs.lemmas.map.Collect.{extends_of, yields_front}
 use Rattle.halfbrown.proofs.map.collect.LimitedHashMapExtendTuple2.extend.Goals as goal
 
@@ -9,6 +8,6 @@ returns-in-Err g c =
     let refused = told.3 in
     let given = refused.were_given in
     let front = yields_front g.I.IntoIter.Iterator.next_gives it refused.before (refused.key, refused.value) given.0 given.1 in
-    let extends = extends_of g.L.Limit.LIMIT g.K.PartialEq.eq (key_hash g.S.BuildHasher g.S.Hasher.Hasher g.K.Hash.hash_input)
+    let extends = extends_of g.L.Limit.LIMIT g.K.PartialEq.eq g.S.KeyHasher.hash
     g.met.K.Eq.laws c.args.self.now c.extend.new.self refused.before refused.spent refused.inserted in
     record { ran = (it, refused.before, told.2, (refused.spent, extends), front); refused = (it, c.in-Err.field-0, told.1, told.2, refused) }

@@ -1,5 +1,4 @@
 use Rattle.std.proofs.Common.{length, zip, ap, subst, ◌∙◌, arith}
-use Rattle.halfbrown.specs.Costs.{key_hash}
 use Rattle.halfbrown.specs.State.{IsState}
 use Rattle.halfbrown.proofs.lemmas.map.Iter.{gives_in_order, shows_values_in_order, zip_columns}
 use Rattle.halfbrown.proofs.lemmas.map.Layout.{state_of}
@@ -9,7 +8,7 @@ pub returns : goal.returns
 returns g c =
     let eq = g.K.PartialEq.eq in
     let inside = c.self.inside in
-    let hash = key_hash g.S.BuildHasher g.S.Hasher.Hasher g.K.Hash.hash_input inside.builder in
+    let hash = g.S.KeyHasher.hash inside.builder in
     record {
       into_iter_gives = (
         c.new.ensures ∙ (λ j. zip (c.into_columns-keys.ensures.keys j) (c.into_columns-keys.ensures.values j))
