@@ -3,7 +3,7 @@ use Rattle.std.specs.Prelude.{◌≡◌, ◌≢◌, ℕ, ◌+◌, ◌*◌, ◌�
 use Rattle.std.specs.List.{IsDistinct, list_all}
 use Rattle.std.specs.Map.{keys_of}
 use Rattle.half_store.specs.Work.{Work}
-use Rattle.halfbrown.specs.Costs.{search_asked, SearchesCost}
+use Rattle.halfbrown.specs.Costs.{search_asked, AreSearchCosts}
 use Rattle.halfbrown.specs.Equality.{same_pairs, same_value, holds_pair, searched_keys}
 use Rattle.halfbrown.specs.State.{State}
 
@@ -38,4 +38,4 @@ module _ {K V S : Type 0} (eq : K → K → Bool) (value_eq : V → V → Bool) 
   -- a comparison that made these searches cost so much
   abbrev pub ComparisonLaw : (S → K → ℕ) → Type 0
   ComparisonLaw hash = (left : List (K × V)) (m : State K V S) (before after : Work)
-      → SearchesCost eq hash m (searched_keys eq value_eq left m.pairs) before after → ComparisonCosts left m before after
+      → AreSearchCosts eq hash m (searched_keys eq value_eq left m.pairs) before after → ComparisonCosts left m before after

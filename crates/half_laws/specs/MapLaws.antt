@@ -2,12 +2,12 @@
 use Rattle.std.specs.Prelude.{◌≡◌, ℕ, ◌+◌, ◌<◌, ◌≤◌, Bool, true, false, not, ◌&&◌, List, length, map, Option, IsPermutation}
 use Rattle.std.specs.Map.{keys_of}
 use Rattle.half_store.specs.Capacity.{buckets_of}
-use Rattle.half_store.specs.Pairs.{index_of}
+use Rattle.half_store.specs.PairLists.{index_of}
 use Rattle.half_laws.specs.ProbeLaws.{IsCrowded}
 use Rattle.half_store.specs.Work.{Work}
 use Rattle.halfbrown.specs.declared.run.Command.{Command}
 use Rattle.halfbrown.specs.declared.run.Command.TheVariants.{Insert, InsertNew, EntryOrInsert, RawOrInsert, Get, Remove}
-use Rattle.halfbrown.specs.Costs.{probe_length, addition_grows, capacity_switched, capacity_grown, new_key_cost, GrewBy, SearchCosts, InsertCosts}
+use Rattle.halfbrown.specs.Costs.{probe_length, addition_grows, capacity_after_switch, capacity_after_growth, new_key_cost, GrewBy, IsSearchCost, IsInsertCost}
 use Rattle.halfbrown.specs.Growth.{is_vec_after}
 use Rattle.halfbrown.specs.Pairs.{holds, holds_by}
 use Rattle.halfbrown.specs.RunCost.{command_cost}
@@ -70,8 +70,8 @@ module _ {K : Type 0} (V : Type 0) {S : Type 0} (hash : S → K → ℕ) where
   -- buckets, exactly, whatever was inserted and removed before: by a key or any form of one, hashed by it or under a hash that is known
   abbrev pub HistoryLaw : Type 0
   HistoryLaw = (a b : State K V S) (test : K → Bool) (sought asked : ℕ) (a_before a_after b_before b_after : Work) → HoldSamePairs a b → holds_by test a.pairs ≡ false
-      → SearchCosts hash sought a (index_of test (keys_of a.pairs)) asked a_before a_after
-      → SearchCosts hash sought b (index_of test (keys_of b.pairs)) asked b_before b_after
+      → IsSearchCost hash sought a (index_of test (keys_of a.pairs)) asked a_before a_after
+      → IsSearchCost hash sought b (index_of test (keys_of b.pairs)) asked b_before b_after
       → (work : Work) × GrewExactlyBy work a_before a_after × GrewExactlyBy work b_before b_after
 
 module _ {K : Type 0} (V : Type 0) {S : Type 0} (limit : ℕ) (eq : K → K → Bool) (hash : S → K → ℕ) where
@@ -79,7 +79,7 @@ module _ {K : Type 0} (V : Type 0) {S : Type 0} (limit : ℕ) (eq : K → K → 
   -- or both are refused
   abbrev pub InsertionHistoryLaw : Type 0
   InsertionHistoryLaw = (a b : State K V S) (k : K) (granted : Bool) (a_before a_after b_before b_after : Work) → HoldSamePairs a b → holds eq a.pairs k ≡ false
-      → InsertCosts limit eq hash a k granted a_before a_after → InsertCosts limit eq hash b k granted b_before b_after
+      → IsInsertCost limit eq hash a k granted a_before a_after → IsInsertCost limit eq hash b k granted b_before b_after
       → (work : Work) × GrewExactlyBy work a_before a_after × GrewExactlyBy work b_before b_after
 
   -- in two maps that hold the same pairs in any order, a command's cost has the same bounds, unless it finds its key in a vector
@@ -101,25 +101,25 @@ module _ {K : Type 0} (V : Type 0) {S : Type 0} (limit : ℕ) (eq : K → K → 
   -- a search in a table, by any form of a key or by a match, passes only buckets that are crowded, whether it finds one or not
   abbrev pub CrowdedSearchLaw : Type 0
   CrowdedSearchLaw = (m : State K V S) (sought : ℕ) (found : Option ℕ) (asked : ℕ) (before after : Work) (passed : ℕ)
-      → IsState eq limit m → m.is_vec ≡ false → SearchCosts hash sought m found asked before after → before.looked + passed < after.looked
+      → IsState eq limit m → m.is_vec ≡ false → IsSearchCost hash sought m found asked before after → before.looked + passed < after.looked
       → IsCrowdedAround (hash m.builder) m.capacity m.pairs sought passed
 
   -- an insertion that makes no capacity grow for its key passes only buckets that are crowded
   abbrev pub CrowdedInsertionLaw : Type 0
   CrowdedInsertionLaw = (m : State K V S) (k : K) (granted : Bool) (before after : Work) (passed : ℕ)
       → IsState eq limit m → insertion_grows limit eq m k granted ≡ false
-      → InsertCosts limit eq hash m k granted before after → before.looked + passed < after.looked
-      → IsCrowdedFor (hash m.builder) (capacity_switched limit m) m.pairs k passed
+      → IsInsertCost limit eq hash m k granted before after → before.looked + passed < after.looked
+      → IsCrowdedFor (hash m.builder) (capacity_after_switch limit m) m.pairs k passed
 
   -- an insertion that makes the capacity of a table grow for its key reads two unsuccessful probes, one before the growth and one after it
   abbrev pub CrowdedGrowthLaw : Type 0
   CrowdedGrowthLaw = (m : State K V S) (k : K) (granted : Bool) (before after : Work)
       → IsState eq limit m → is_vec_after limit m ≡ false → insertion_grows limit eq m k granted ≡ true
-      → InsertCosts limit eq hash m k granted before after
-      → ReadsTwoProbes (hash m.builder) (capacity_switched limit m) (capacity_grown limit m) m.pairs k before after
+      → IsInsertCost limit eq hash m k granted before after
+      → ReadsTwoProbes (hash m.builder) (capacity_after_switch limit m) (capacity_after_growth limit m) m.pairs k before after
 
   -- an insertion of a new key without a search passes only buckets that are crowded, in the capacity that it leaves
   abbrev pub CrowdedUncheckedLaw : Type 0
   CrowdedUncheckedLaw = (m : State K V S) (k : K) (granted : Bool) (before after : Work) (passed : ℕ)
       → IsState eq limit m → GrewBy (new_key_cost limit eq hash m k granted) before after → before.looked + passed < after.looked
-      → IsCrowdedFor (hash m.builder) (capacity_grown limit m) m.pairs k passed
+      → IsCrowdedFor (hash m.builder) (capacity_after_growth limit m) m.pairs k passed

@@ -4,11 +4,11 @@
 use Rattle.std.specs.Prelude.{◌≡◌, ℕ, ◌+◌, ◌^◌, ◌<◌, ◌≤◌, Bool, false, List, map}
 use Rattle.std.specs.Map.{keys_of}
 use Rattle.half_store.specs.Capacity.{buckets_of}
-use Rattle.half_store.specs.Pairs.{index_of}
+use Rattle.half_store.specs.PairLists.{index_of}
 use Rattle.half_store.specs.Reach.{reach}
 use Rattle.half_store.specs.Work.{Work}
 use Rattle.half_mean.specs.Mean.{sum_below, sum_lists, total_reach, reach_cases, MeanIsAtMost}
-use Rattle.halfbrown.specs.Costs.{SearchCosts}
+use Rattle.halfbrown.specs.Costs.{IsSearchCost}
 use Rattle.halfbrown.specs.Pairs.{holds_by}
 use Rattle.halfbrown.specs.State.{State, IsTableCapacity}
 
@@ -23,7 +23,7 @@ total_misses hashes capacity held = sum_lists hashes held (λ list. sum_below ha
 -- that is what a search in a table reads, by any form of a key, where it finds none
 abbrev pub MissLaw : {K : Type 0} (V : Type 0) {S : Type 0} (hash : S → K → ℕ) → Type 0
 MissLaw {K} V {S} hash = (m : State K V S) (test : K → Bool) (sought asked : ℕ) (before after : Work) → m.is_vec ≡ false → holds_by test m.pairs ≡ false
-    → SearchCosts hash sought m (index_of test (keys_of m.pairs)) asked before after
+    → IsSearchCost hash sought m (index_of test (keys_of m.pairs)) asked before after
     → after.looked ≡ before.looked + miss_looks m.capacity (map (hash m.builder) (keys_of m.pairs)) sought
 
 -- all searches read what all probes do, so what is known of the mean of a probe holds of a search

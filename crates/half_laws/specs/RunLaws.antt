@@ -4,7 +4,7 @@ use Rattle.std.specs.Prelude.{◌≡◌, ℕ, ◌+◌, ◌*◌, ◌≤◌, max, 
 use Rattle.std.specs.List.{list_any}
 use Rattle.std.specs.Option.{option_or}
 use Rattle.half_store.specs.declared.refusal.Refusal.{Refusal}
-use Rattle.half_store.specs.Memory as store
+use Rattle.half_store.specs.Arrays as store
 use Rattle.halfbrown.specs.declared.run.Command.{Command}
 use Rattle.halfbrown.specs.declared.run.Command.TheVariants.{Reserve}
 use Rattle.halfbrown.specs.declared.run.Reply.{Reply}

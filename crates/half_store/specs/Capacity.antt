@@ -3,8 +3,8 @@ use Rattle.std.specs.Prelude.{◌≡◌, ℕ, zero, suc, ◌+◌, ◌-◌, ◌*�
 
 -- the capacity that a vector grows to where it has less than is needed: twice what it was, at least eight and what is needed, and at most
 -- the limit
-abbrev pub grown_capacity : ℕ → ℕ → ℕ → ℕ
-grown_capacity limit capacity needed = min (max (max (2 * capacity) 8) needed) limit
+abbrev pub generous_capacity : ℕ → ℕ → ℕ → ℕ
+generous_capacity limit capacity needed = min (max (max (2 * capacity) 8) needed) limit
 
 -- the fewest buckets of a table that has any
 abbrev pub least_buckets : ℕ

@@ -5,7 +5,7 @@ use Rattle.std.specs.List.{zip}
 use Rattle.std.specs.VecDeque.{deque_capacity}
 use Rattle.std.specs.declared.collections.VecDeque.{VecDeque}
 use Rattle.half_store.specs.Capacity.{capacity_of}
-use Rattle.half_store.specs.Columns.{Columns}
+use Rattle.half_store.specs.Columns.{ColumnsState}
 use Rattle.half_store.specs.Store.{StoreState, store_of}
 use Rattle.half_store.specs.Table.{TableState}
 
@@ -16,7 +16,7 @@ IsBacked columns (Some t) = capacity_of t.value.buckets ≡ columns
 
 module _ {K V Z : Type 0} (keys : VecDeque K Z) (values : VecDeque V Z) where
   -- the pairs that are still to come, with the capacity of the columns
-  abbrev pub queued : Columns K V
+  abbrev pub queued : ColumnsState K V
   queued = record { pairs = zip keys.items values.items; capacity = deque_capacity keys }
 
   -- the same in the form that the store had

@@ -23,7 +23,7 @@ after_missing hashes buckets hash w =
     record w { compared = w.compared + count_of hashes hash; looked = w.looked + reach hashes buckets hash }
 
 -- what a probe that found a pair added
-pub record AddsFinding (hashes : List ℕ) (buckets hash : ℕ) (old new : Work) : Type 0 where
+pub record IsTableHitCost (hashes : List ℕ) (buckets hash : ℕ) (old new : Work) : Type 0 where
   pub asked : new.asked ≡ old.asked
   pub compared_some : old.compared + 1 ≤ new.compared
   pub compared_most : new.compared ≤ old.compared + count_of hashes hash

@@ -2,7 +2,7 @@
 use Rattle.std.specs.Prelude.{◌≡◌, ℕ, ◌+◌, ◌<◌, ◌≤◌, Bool, true, false, List, length, slice_get, Option, Some, IfSome, IfNone, Result, Ok, Err}
 use Rattle.std.specs.Map.{keys_of}
 use Rattle.half_store.specs.Capacity.{buckets_of}
-use Rattle.half_store.specs.Probe.{AddsFinding, after_missing}
+use Rattle.half_store.specs.Probe.{IsTableHitCost, after_missing}
 use Rattle.half_store.specs.Reach.{reach}
 use Rattle.half_store.specs.Work.{Work, first_match_cost}
 use Rattle.half_store.specs.declared.store.vacancy.Vacancy.{Vacancy}
@@ -29,14 +29,14 @@ module _ {K V : Type 0} (returns : K → Bool → Type 0) (is_vec : Bool) (pairs
     pub refused : (index : ℕ) (k : K) → slice_get (keys_of pairs) index ≡ Some k → (is_vec ≡ false → has_hash index k) → returns k false
 
   -- the search found this index, or none, and where there is capacity a pair of the hash may be added here
-  abbrev pub FindsIn : ℕ → Contents → ℕ → Result ℕ Vacancy → Type 0
-  FindsIn capacity contents sought (Ok index) = Accepts index
-  FindsIn capacity contents sought (Err vacancy) = AcceptsNone × (0 < capacity → IsVacancy is_vec contents sought vacancy)
+  abbrev pub SearchOutcome : ℕ → Contents → ℕ → Result ℕ Vacancy → Type 0
+  SearchOutcome capacity contents sought (Ok index) = Accepts index
+  SearchOutcome capacity contents sought (Err vacancy) = AcceptsNone × (0 < capacity → IsVacancy is_vec contents sought vacancy)
 
 -- a search of a store by the match under this hash
-abbrev pub Finds : {K V : Type 0} → (K → Bool → Type 0) → ℕ → StoreState K V → Result ℕ Vacancy → Type 0
-Finds returns sought s =
-    FindsIn returns s.is_vec s.pairs (λ index k. slice_get s.hashes index ≡ Some sought) s.capacity s.contents sought
+abbrev pub StoreSearch : {K V : Type 0} → (K → Bool → Type 0) → ℕ → StoreState K V → Result ℕ Vacancy → Type 0
+StoreSearch returns sought s =
+    SearchOutcome returns s.is_vec s.pairs (λ index k. slice_get s.hashes index ≡ Some sought) s.capacity s.contents sought
 
 -- a search from first to last among so many keys found this index, or none: it compared at least those up to and with the one that it found, and
 -- at most all; key by key it compared no more than it had to
@@ -48,8 +48,8 @@ pub record ComparesInOrder (scan : Scan) (found : Option ℕ) (len : ℕ) (befor
   pub looked : after.looked ≡ before.looked
 
 -- what a search of a store under this hash cost that found this index, or none
-pub record CostsFinding {K V : Type 0} (s : StoreState K V) (sought : ℕ) (scan : Scan) (index : Option ℕ) (before after : Work) : Type 0 where
+pub record IsStoreSearchCost {K V : Type 0} (s : StoreState K V) (sought : ℕ) (scan : Scan) (index : Option ℕ) (before after : Work) : Type 0 where
   pub vector : s.is_vec ≡ true → ComparesInOrder scan index (length s.pairs) before after
-  pub found : s.is_vec ≡ false → IfSome index (λ _. AddsFinding s.hashes (buckets_of s.capacity) sought before after)
+  pub found : s.is_vec ≡ false → IfSome index (λ _. IsTableHitCost s.hashes (buckets_of s.capacity) sought before after)
   pub missing : s.is_vec ≡ false → IfNone index (after ≡ after_missing s.hashes (buckets_of s.capacity) sought before)
   pub short : s.is_vec ≡ false → reach s.hashes (buckets_of s.capacity) sought ≤ length s.hashes + 1

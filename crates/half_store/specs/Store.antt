@@ -2,8 +2,8 @@
 use Rattle.std.specs.Prelude.{◌≡◌, ℕ, ◌+◌, Bool, true, false, List, [], ◌∷◌, ◌++◌, length, min, Option, None, Some, if◌then◌else◌}
 use Rattle.std.specs.Global.{Box}
 use Rattle.half_store.specs.declared.store.vacancy.Vacancy.{Vacancy}
-use Rattle.half_store.specs.Capacity.{capacity_of, capacity_for, grown_capacity}
-use Rattle.half_store.specs.Columns.{Columns}
+use Rattle.half_store.specs.Capacity.{capacity_of, capacity_for, generous_capacity}
+use Rattle.half_store.specs.Columns.{ColumnsState}
 use Rattle.half_store.specs.Table.{TableState, Contents, table_contents, no_contents, contents_code, with_hash_in, IsVacancyIn}
 use base.Stored.{Coded, coded×, coded_list, coded_ℕ, coded_bool, coded_via}
 
@@ -18,25 +18,25 @@ pub record StoreState (K V : Type 0) : Type 0 where
 
 module _ {K V : Type 0} where
   -- a vector of these columns
-  abbrev pub vector_of : Columns K V → StoreState K V
+  abbrev pub vector_of : ColumnsState K V → StoreState K V
   vector_of columns = record { is_vec = true; pairs = columns.pairs; capacity = columns.capacity; hashes = []; contents = no_contents }
 
   -- a table over these columns
-  abbrev pub table_of : Columns K V → TableState → StoreState K V
+  abbrev pub table_of : ColumnsState K V → TableState → StoreState K V
   table_of columns t = record { is_vec = false; pairs = columns.pairs; capacity = capacity_of t.buckets; hashes = t.hashes; contents = table_contents t }
 
   -- columns without a table are a vector; a table stands in a block of its own
-  abbrev pub store_of : Columns K V → Option (Box TableState) → StoreState K V
+  abbrev pub store_of : ColumnsState K V → Option (Box TableState) → StoreState K V
   store_of columns None = vector_of columns
   store_of columns (Some t) = table_of columns t.value
 
   -- a table has a hash for each pair, and the capacity of the columns
-  pub record IsTableOver (columns : Columns K V) (t : TableState) : Type 0 where
+  pub record IsTableOver (columns : ColumnsState K V) (t : TableState) : Type 0 where
     pub len : length t.hashes ≡ length columns.pairs
     pub backed : capacity_of t.buckets ≡ columns.capacity
 
   -- what is always true of the columns and the table
-  abbrev pub IsStore : Columns K V → Option (Box TableState) → Type 0
+  abbrev pub IsStore : ColumnsState K V → Option (Box TableState) → Type 0
   IsStore columns None = Unit {0}
   IsStore columns (Some t) = IsTableOver columns t.value
 
@@ -61,7 +61,7 @@ module _ {K V : Type 0} (limit : ℕ) where
   -- the capacity that it makes where there is less: in a table the least of its series that is enough
   abbrev pub reserved_capacity : StoreState K V → ℕ → ℕ
   reserved_capacity s additional =
-      if s.is_vec then grown_capacity limit s.capacity (reserved s additional) else capacity_for (reserved s additional)
+      if s.is_vec then generous_capacity limit s.capacity (reserved s additional) else capacity_for (reserved s additional)
 
 -- a pair of this hash may be added here: in a table at the empty bucket where an insertion probe for it ends; a vector looks at neither
 abbrev pub IsVacancy : Bool → Contents → ℕ → Vacancy → Type 0

@@ -1,7 +1,7 @@
 -- What a store ends as, once values of it that were lent to be written come back.
 use Rattle.std.specs.Prelude.{ℕ, List}
 use Rattle.std.specs.Borrow.{Fml, RattleType, MutBor, Array, Lends}
-use Rattle.half_store.specs.Pairs.{set_value, set_values}
+use Rattle.half_store.specs.PairLists.{set_value, set_values}
 use Rattle.half_store.specs.Store.{StoreState, store_with_pairs}
 use Rattle.half_store.specs.contracts.store.Store.{the_row}
 

@@ -4,7 +4,7 @@
 pub mod arrays;
 pub mod buckets;
 pub mod capacity;
-mod column;
+mod blocks;
 mod count;
 pub mod counting;
 pub mod refusal;
@@ -21,5 +21,5 @@ pub use store::drain::{Drained, IntoStore};
 pub use store::vacancy::Vacancy;
 pub use table::Table;
 pub use tally::Tally;
-pub use vecmap::VecMap;
+pub use vecmap::Columns;
 pub use vecmap::search::Scan;

@@ -6,21 +6,21 @@ ghost use Rattle.half_store.specs.Store.{vector_of, KeepsForm};
 
 mod at;
 mod change;
-mod columns;
+mod slices;
 pub mod drain;
 mod find;
 mod memory;
 mod switch;
 pub mod vacancy;
 
-use crate::{Table, VecMap};
+use crate::{Table, Columns};
 use std::alloc::Global;
 use std::marker::Model;
 
 /// Pairs in order, in one of two forms. Which hash a pair has is told by those who add it, and what a search compares.
 #[derive(Drop)]
 pub struct Store<K, V> {
-    columns: VecMap<K, V>,
+    columns: Columns<K, V>,
     // by hash; a vector has none, and no room for one
     table: Option<Box<Table>>,
 }
@@ -43,7 +43,7 @@ impl<K, V> Store<K, V> {
         ensures { result ≡ vector_of no_pairs }
     {
         Store {
-            columns: VecMap::new(alloc),
+            columns: Columns::new(alloc),
             table: None,
         }
     }

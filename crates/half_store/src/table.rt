@@ -11,7 +11,7 @@ ghost use Rattle.half_store.specs.Capacity.{capacity_of, IsBucketCount, capacity
 ghost use Rattle.half_store.specs.Probe.{looked_more, LooksWithin, removal_reads};
 ghost use Rattle.half_store.specs.Search.{ReturnsAt};
 ghost use Rattle.half_store.specs.Table.{table_contents, with_hash_in, IsVacancyIn};
-ghost use Rattle.half_store.specs.TableSearch.{FindsInTable, RemovesFromTable};
+ghost use Rattle.half_store.specs.TableSearch.{TableSearch, RemovesFromTable};
 
 mod deletion;
 mod find;
@@ -100,7 +100,7 @@ impl Table {
         requires keys { length self.now.hashes ≤ length keys.now }
         requires callable { (key : Bor K) (index : ℕ) → slice_get self.now.hashes index ≡ Some hash
             → slice_get keys.now index ≡ Some key.now → F.pre matches.now key }
-        ensures { FindsInTable (ReturnsAt (FnReturnsAt F.Fn matches.now) keys.now) self.now hash result
+        ensures { TableSearch (ReturnsAt (FnReturnsAt F.Fn matches.now) keys.now) self.now hash result
             tally.old tally.new }
     {
         let hashes = self.hashes.as_slice();
@@ -209,7 +209,7 @@ impl Table {
         requires keys { length self.old.hashes ≤ length keys.now }
         requires callable { (key : Bor K) (index : ℕ) → slice_get self.old.hashes index ≡ Some hash
             → slice_get keys.now index ≡ Some key.now → F.pre matches.now key }
-        ensures finds { FindsInTable (ReturnsAt (FnReturnsAt F.Fn matches.now) keys.now) self.old hash result
+        ensures finds { TableSearch (ReturnsAt (FnReturnsAt F.Fn matches.now) keys.now) self.old hash result
             tally.old tally.new }
         ensures removes { IfOk result (λ index. RemovesFromTable self.old index self.new hash) }
         ensures cost { IfOk result (λ index. LooksWithin (removal_reads self.old.hashes self.old.buckets index)

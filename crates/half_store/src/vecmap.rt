@@ -3,9 +3,9 @@ ghost use Rattle.std.specs.Prelude.{◌≡◌, ◌^◌, ◌<◌, ◌≤◌, [], 
 ghost use Rattle.std.specs.Borrow.{sem};
 ghost use Rattle.std.specs.Map.{keys_of, values_of};
 ghost use Rattle.half_store.specs.Columns.{no_pairs, columns_with};
-ghost use Rattle.half_store.specs.Pairs.{set_key, swap_remove_at};
+ghost use Rattle.half_store.specs.PairLists.{set_key, swap_remove_at};
 
-mod columns;
+mod slices;
 mod memory;
 mod replace;
 mod retain;
@@ -17,15 +17,15 @@ use std::mem::replace;
 
 /// Pairs in order, in two vectors of one length and one capacity. A pair's entry index is its index there.
 #[derive(Drop)]
-pub struct VecMap<K, V> {
+pub struct Columns<K, V> {
     keys: Vec<K>,
     values: Vec<V>,
 }
 
-impl<K, V> Model for VecMap<K, V> {
-    ghost use Rattle.half_store.specs.Columns.{Columns, columns_code, columns_of, AreEven};
+impl<K, V> Model for Columns<K, V> {
+    ghost use Rattle.half_store.specs.Columns.{ColumnsState, columns_code, columns_of, AreEven};
 
-    ghost Value = { Columns K V };
+    ghost Value = { ColumnsState K V };
 
     ghost coded = { columns_code K.code V.code };
 
@@ -34,14 +34,14 @@ impl<K, V> Model for VecMap<K, V> {
     ghost invariant = { λ m. AreEven m.keys m.values };
 }
 
-impl<K, V> VecMap<K, V> {
-    ghost use Rattle.half_store.specs.Lending.{ColumnsLendValue};
+impl<K, V> Columns<K, V> {
+    ghost use Rattle.half_store.specs.ColumnsLending.{ColumnsLendValue};
 
     /// No pairs, and no memory taken.
-    pub fn new(alloc: Global) -> VecMap<K, V>
+    pub fn new(alloc: Global) -> Columns<K, V>
         ensures { result ≡ no_pairs }
     {
-        VecMap {
+        Columns {
             keys: Vec::new(alloc),
             values: Vec::new(alloc),
         }

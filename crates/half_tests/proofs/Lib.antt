@@ -1,3 +1,3 @@
 pub mod Prefixes
-pub mod Searches
+pub mod EntersByKey
 pub mod Tables

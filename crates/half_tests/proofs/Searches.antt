@@ -11,11 +11,11 @@ use Rattle.std.specs.List.{IsDistinct, AllByRecursion, list_any, slice_get}
 use Rattle.std.specs.Map.{keys_of}
 use Rattle.half_store.specs.Reach.{reach, home, HomesApart}
 use Rattle.half_store.specs.Capacity.{buckets_of, capacity_for}
-use Rattle.half_store.specs.Pairs.{index_of}
+use Rattle.half_store.specs.PairLists.{index_of}
 use Rattle.half_store.specs.Work.{Work}
-use Rattle.halfbrown.specs.Costs.{KeySearchCosts, InsertCosts, Cost, GrewBy, GrewWithin, exactly, between, add_ranges, search_cost_of}
+use Rattle.halfbrown.specs.Costs.{IsKeySearchCost, IsInsertCost, Cost, GrewBy, GrewWithin, exactly, between, add_ranges, key_search_cost}
 use Rattle.halfbrown.specs.Costs.{insert_cost, NoHomeIsShared, search_cost}
-use Rattle.halfbrown.specs.Match.{FindsMatch, FindingCosts}
+use Rattle.halfbrown.specs.Match.{ReadsMatch, IsMatchCost}
 use Rattle.halfbrown.specs.Pairs.{holds}
 use Rattle.halfbrown.proofs.lemmas.pairs.Indices.{found_where_held}
 use Rattle.halfbrown.specs.State.{State, state, contents_of}
@@ -105,8 +105,8 @@ module _ (rule : Rule) (held : List (ℕ × ℕ)) (capacity : ℕ) (k : ℕ) whe
 
   module _ (m : State ℕ ℕ Counting) (table : IsTableOf rule held capacity m) where
     -- the parts of the state that costs depend on, from those that it has to those of the table
-    cost_is : search_cost_of eqb builder_hash m k ≡ table_cost (is_some (index_of (eqb k) (keys_of held)))
-    cost_is i = search_cost_of eqb (λ b. number_hash (table.builder i))
+    cost_is : key_search_cost eqb builder_hash m k ≡ table_cost (is_some (index_of (eqb k) (keys_of held)))
+    cost_is i = key_search_cost eqb (λ b. number_hash (table.builder i))
         (state (table.form i) (table.pairs i) (table.capacity i) m.builder (contents_of m)) k
 
     found_is : holds eqb held k ≡ true → is_some (index_of (eqb k) (keys_of m.pairs)) ≡ true
@@ -120,7 +120,7 @@ module _ (rule : Rule) (held : List (ℕ × ℕ)) (capacity : ℕ) (k : ℕ) whe
         subst (λ hs. HomesApart hs (buckets_of m.capacity)) (sym hashes)
         (subst (λ n. HomesApart hashes_of (buckets_of n)) (sym table.capacity) (homes_apart hashes_of (buckets_of capacity) e))
 
-    module _ (before after : Work) (cost : KeySearchCosts eqb builder_hash m k before after) where
+    module _ (before after : Work) (cost : IsKeySearchCost eqb builder_hash m k before after) where
       grew_by : (found : Bool) → holds eqb held k ≡ found → GrewBy (table_cost found) before after
       grew_by found is = subst (λ b. GrewBy (table_cost b) before after) (found_where_held (eqb k) held ∙ is)
           (subst (λ c. GrewBy c before after) cost_is cost.grew)
@@ -145,7 +145,7 @@ module _ (rule : Rule) (held : List (ℕ × ℕ)) (capacity : ℕ) (k : ℕ) whe
         (state (table.form i) (table.pairs i) (table.capacity i) m.builder (contents_of m)) k true
 
     -- a new key that is granted: each key of its hash is compared, its probe is read to the end, and another one after growth
-    pub inserting : (before after : Work) → InsertCosts 0 eqb builder_hash m k true before after → holds eqb held k ≡ false
+    pub inserting : (before after : Work) → IsInsertCost 0 eqb builder_hash m k true before after → holds eqb held k ≡ false
         → after ≡ more_work 1 matches (probe + insertion_probe) before
     inserting before after cost absent =
         let grew : GrewBy (table_insert_cost false false) before after =
@@ -177,8 +177,8 @@ module _ (rule : Rule) (held : List (ℕ × ℕ)) (capacity sought : ℕ) (m : S
   -- where a held key of the hash that the match accepts would pass a test that none passes: each key of the hash is compared
   pub unmatched : (returns : ℕ → Bool → Type 0) (test : ℕ → Bool)
       → ((q : ℕ) → number_hash rule q ≡ sought → returns q true → test q ≡ true) → list_any test (keys_of held) ≡ false
-      → (found : Option (ℕ × ℕ)) (before after : Work) → FindsMatch returns builder_hash sought m found
-      → FindingCosts builder_hash sought m found before after → after ≡ more_work 0 candidates sought_probe before
+      → (found : Option (ℕ × ℕ)) (before after : Work) → ReadsMatch returns builder_hash sought m found
+      → IsMatchCost builder_hash sought m found before after → after ≡ more_work 0 candidates sought_probe before
   unmatched returns test passes none None before after finds cost =
       let grew = subst (λ b. GrewBy (match_cost b) before after) cost.is_found
       (subst (λ c. GrewBy c before after) (match_cost_is cost.index) cost.costs.grew) in

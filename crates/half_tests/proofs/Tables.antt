@@ -8,7 +8,7 @@ use Rattle.std.proofs.lemmas.List.{map-append, length-take, get_or-take, get_or_
 use Rattle.std.proofs.lemmas.Map.Keys.{apart_from_distinct}
 use Rattle.std.specs.List.{IsDistinct}
 use Rattle.std.specs.Map.{keys_of}
-use Rattle.half_store.specs.Capacity.{capacity_of, more_buckets, buckets_for, capacity_for, grown_capacity}
+use Rattle.half_store.specs.Capacity.{capacity_of, more_buckets, buckets_for, capacity_for, generous_capacity}
 use Rattle.halfbrown.specs.Growth.{is_full, is_vec_after, insert_needs, reserve_needs, HasCapacityAfter, Reserves}
 use Rattle.halfbrown.specs.Lookup.{IsAbsent}
 use Rattle.halfbrown.specs.Pairs.{holds, put, take_out}
@@ -39,7 +39,7 @@ after_in_table : (old new : State ℕ ℕ Counting) (needs : Option ℕ) → new
     → MatchOption needs (new.capacity ≡ old.capacity) (λ size. new.capacity ≡ capacity_for size)
 after_in_table old new needs form after =
     subst (λ is_vec. MatchOption needs (new.capacity ≡ old.capacity)
-    (λ size. MatchBool is_vec (new.capacity ≡ grown_capacity 0 old.capacity size) (new.capacity ≡ capacity_for size))) form after
+    (λ size. MatchBool is_vec (new.capacity ≡ generous_capacity 0 old.capacity size) (new.capacity ≡ capacity_for size))) form after
 
 -- ---- one key more
 

@@ -3,7 +3,7 @@
 ghost use Rattle.std.specs.Prelude.{◌≡◌, IfOk, OnOk};
 ghost use Rattle.std.specs.Map.{keys_of};
 ghost use Rattle.std.specs.Option.{option_or};
-ghost use Rattle.halfbrown.specs.Gathering.{add_keys, first_of_each};
+ghost use Rattle.halfbrown.specs.CallerLoops.{add_keys, first_of_each};
 ghost use Rattle.halfbrown.specs.Pairs.{value_of};
 
 use half_uses::hash_set::HashSet;

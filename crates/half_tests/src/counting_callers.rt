@@ -4,7 +4,7 @@ ghost use Rattle.std.specs.List.{list_any};
 ghost use Rattle.std.specs.Map.{keys_of};
 ghost use Rattle.std.specs.Str.{bytes_eq};
 ghost use Rattle.std.specs.String.{string_bytes};
-ghost use Rattle.halfbrown.specs.Gathering.{add_key, CountsEach, GroupsEach, keyed_by};
+ghost use Rattle.halfbrown.specs.CallerLoops.{add_key, CountsEach, GroupsEach, keyed_by};
 
 use halfbrown::{HashMap, Refusal};
 use std::alloc::Global;

@@ -6,7 +6,7 @@ ghost use Rattle.halfbrown.specs.Pairs.{value_of, holds, put};
 
 use halfbrown::{
     DefaultHashBuilder, Entry, HashMap, Limit, LimitedHashMap, OccupiedEntry, Refusal,
-    SizedHashMap, UpTo, VacantEntry,
+    SizedHashMap, AtMost, VacantEntry,
 };
 use std::hash::{BuildHasher, Hash};
 
@@ -63,14 +63,14 @@ pub fn meaning(
     ensures declared { IfOk result (λ meaning. scope.new.pairs ≡ put nat_eq scope.old.pairs name meaning) }
     ensures form { OnOk result (scope.new.is_vec ≡ is_vec_after 8 scope.old) }
 {
-    let entry: Entry<'_, u64, u64, DefaultHashBuilder, UpTo<8>> = scope.entry(name)?;
+    let entry: Entry<'_, u64, u64, DefaultHashBuilder, AtMost<8>> = scope.entry(name)?;
     match entry {
         Entry::Occupied(entry) => {
-            let held: OccupiedEntry<'_, u64, u64, DefaultHashBuilder, UpTo<8>> = entry;
+            let held: OccupiedEntry<'_, u64, u64, DefaultHashBuilder, AtMost<8>> = entry;
             Ok(*held.into_mut())
         }
         Entry::Vacant(entry) => {
-            let vacant: VacantEntry<'_, u64, u64, DefaultHashBuilder, UpTo<8>> = entry;
+            let vacant: VacantEntry<'_, u64, u64, DefaultHashBuilder, AtMost<8>> = entry;
             Ok(*vacant.insert(fallback))
         }
     }

@@ -5,7 +5,7 @@ ghost use Rattle.halfbrown.specs.Pairs.{value_of, put};
 
 use halfbrown::{
     DefaultHashBuilder, HashMap, RawEntryBuilder, RawEntryBuilderMut, RawEntryMut,
-    RawOccupiedEntryMut, RawVacantEntryMut, Refusal, SizedHashMap, UpTo,
+    RawOccupiedEntryMut, RawVacantEntryMut, Refusal, SizedHashMap, AtMost,
 };
 use std::alloc::Global;
 
@@ -36,16 +36,16 @@ pub fn raw_meaning(scope: &mut Scope, name: u64, fallback: u64) -> Result<u64, R
     ensures declared { IfOk result (λ meaning. scope.new.pairs ≡ put nat_eq scope.old.pairs name meaning) }
     ensures form { OnOk result (scope.new.is_vec ≡ is_vec_after 8 scope.old) }
 {
-    let entries: RawEntryBuilderMut<'_, u64, u64, DefaultHashBuilder, UpTo<8>> =
+    let entries: RawEntryBuilderMut<'_, u64, u64, DefaultHashBuilder, AtMost<8>> =
         scope.raw_entry_mut()?;
-    let entry: RawEntryMut<'_, u64, u64, DefaultHashBuilder, UpTo<8>> = entries.from_key(&name);
+    let entry: RawEntryMut<'_, u64, u64, DefaultHashBuilder, AtMost<8>> = entries.from_key(&name);
     match entry {
         RawEntryMut::Occupied(entry) => {
-            let held: RawOccupiedEntryMut<'_, u64, u64, DefaultHashBuilder, UpTo<8>> = entry;
+            let held: RawOccupiedEntryMut<'_, u64, u64, DefaultHashBuilder, AtMost<8>> = entry;
             Ok(*held.into_mut())
         }
         RawEntryMut::Vacant(entry) => {
-            let vacant: RawVacantEntryMut<'_, u64, u64, DefaultHashBuilder, UpTo<8>> = entry;
+            let vacant: RawVacantEntryMut<'_, u64, u64, DefaultHashBuilder, AtMost<8>> = entry;
             Ok(*vacant.insert_entry(name, fallback).into_mut())
         }
     }
@@ -55,7 +55,7 @@ pub fn raw_meaning(scope: &mut Scope, name: u64, fallback: u64) -> Result<u64, R
 pub fn raw_look_up(scope: &Scope, name: u64) -> u64
     ensures { result ≡ unwrap_or (value_of nat_eq scope.now.pairs name) 0 }
 {
-    let names: RawEntryBuilder<'_, u64, u64, DefaultHashBuilder, UpTo<8>> = scope.raw_entry();
+    let names: RawEntryBuilder<'_, u64, u64, DefaultHashBuilder, AtMost<8>> = scope.raw_entry();
     match names.from_key(&name) {
         Some((_, meaning)) => *meaning,
         None => 0,

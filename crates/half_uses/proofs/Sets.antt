@@ -8,7 +8,7 @@ use Rattle.std.specs.List.{list_any}
 use Rattle.std.specs.Map.{keys_of}
 use Rattle.std.specs.Option.{option_eq}
 use Rattle.std.specs.Set.{is_member, IsUnion}
-use Rattle.halfbrown.specs.Gathering.{add_key, add_keys}
+use Rattle.halfbrown.specs.CallerLoops.{add_key, add_keys}
 use Rattle.halfbrown.specs.Equality.{same_value}
 use Rattle.halfbrown.specs.EqualityLaws.{same_pairs-Decides}
 use Rattle.halfbrown.specs.Pairs.{value_of}

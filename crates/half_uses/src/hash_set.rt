@@ -7,7 +7,7 @@ ghost use Rattle.std.specs.List.{IsDistinct};
 ghost use Rattle.std.specs.Map.Iter.{GivesInOrder, TakesFirst};
 ghost use Rattle.std.specs.Option.{option_map_or};
 ghost use Rattle.std.specs.Set.{is_member, IsUnion};
-ghost use Rattle.halfbrown.specs.Gathering.{add_key, add_keys, first_of_each};
+ghost use Rattle.halfbrown.specs.CallerLoops.{add_key, add_keys, first_of_each};
 ghost use Rattle.halfbrown.specs.Iter.{column_left, ShowsColumnInOrder};
 ghost use Rattle.halfbrown.specs.Pairs.{index_of, swap_remove_at};
 ghost use Rattle.half_uses.specs.Sets.{same_values, same_values_equiv};

@@ -14,14 +14,14 @@ use Rattle.std.proofs.lemmas.List.Sums.{count_by-le-length, fold_push}
 use Rattle.std.proofs.lemmas.Map.Entries.{none_past_head, option_filter}
 use Rattle.std.proofs.lemmas.Map.{lookup-none}
 use Rattle.std.proofs.lemmas.Map.Keys.{IsDistinct-tail}
-use Rattle.half_store.specs.Pairs.{index_of, swap_remove_at}
-use Rattle.halfbrown.specs.Collection.{last_value_of}
+use Rattle.half_store.specs.PairLists.{index_of, swap_remove_at}
+use Rattle.halfbrown.specs.FromIter.{last_value_of}
 use Rattle.halfbrown.specs.Pairs.{IsForm, value_of, holds, holds_by, put, set_by, take_out_by}
 use Rattle.halfbrown.specs.Updates.{HasPut}
 use Rattle.halfbrown.proofs.CallerLemmas.{value_of_equal, lookup_permuted}
 use Rattle.halfbrown.proofs.lemmas.pairs.Indices.{value_of_entry}
 use Rattle.halfbrown.proofs.lemmas.pairs.SwapRemove.{map-swap_remove_at}
-use Rattle.halfbrown.specs.Gathering.{add_key, CountsEach, GroupsEach}
+use Rattle.halfbrown.specs.CallerLoops.{add_key, CountsEach, GroupsEach}
 
 -- ---- whether a key is held, and where
 

@@ -14,7 +14,7 @@ use Rattle.std.proofs.lemmas.Map.Entries.{place_from_lookup, none_past_head, len
 use Rattle.std.proofs.lemmas.Map.Keys.{IsDistinct-IsPermutation}
 use Rattle.std.proofs.lemmas.Map.Views.{lookup-from_Contains}
 use Rattle.std.proofs.lemmas.Option.{slice_get_within, get_or_from_slice_get}
-use Rattle.half_store.specs.Pairs.{index_of, swap_remove_at}
+use Rattle.half_store.specs.PairLists.{index_of, swap_remove_at}
 use Rattle.halfbrown.specs.Pairs.{IsForm, value_of, holds, put, take_out, set_by, take_out_by}
 use Rattle.halfbrown.specs.Updates.{HasPut, HasRemoved, HasRemovedBy}
 use Rattle.halfbrown.proofs.lemmas.pairs.Indices.{IsFirst, first_of_index, first_passes, first_within, index_found, absent_of_index}

@@ -12,7 +12,7 @@ use Rattle.std.specs.Option.{option_map, option_map_or}
 use Rattle.std.proofs.lemmas.List.{map-append, take_more}
 use Rattle.std.proofs.Math.ListN.{length-map}
 use denote.Ref.{Bor}
-use Rattle.half_store.specs.Pairs.{index_of, swap_remove_at}
+use Rattle.half_store.specs.PairLists.{index_of, swap_remove_at}
 use Rattle.halfbrown.specs.Pairs.{value_of, holds, put, set_by, take_out_by}
 use Rattle.halfbrown.specs.Insertion.{Puts}
 use Rattle.halfbrown.specs.Removal.{Removes}
@@ -20,7 +20,7 @@ use Rattle.halfbrown.specs.State.{State}
 use Rattle.halfbrown.specs.Updates.{HasPut, HasRemoved}
 use Rattle.halfbrown.proofs.CallerLemmas.{has_put, has_removed}
 use Rattle.halfbrown.proofs.lemmas.pairs.SwapRemove.{map-swap_remove_at}
-use Rattle.halfbrown.specs.Gathering.{CountsEach, keyed_by}
+use Rattle.halfbrown.specs.CallerLoops.{CountsEach, keyed_by}
 use Rattle.halfbrown.proofs.CallerFacts.{count_fits, counted_more}
 
 module _ {K B V : Type 0} (read : K → B) (test : B → Bool) where

@@ -1,7 +1,7 @@
 -- What the calls cost: how often a key is hashed, how many keys are compared, and how many buckets are read.
 use Rattle.std.specs.Prelude.{◌≡◌, ℕ, ◌+◌, ◌-◌, ◌≤◌, Bool, true, false, not, ◌&&◌, List, [], ◌∷◌, length, map, count_by, Option, is_some, ◌==◌, nat_lt, if◌then◌else◌}
 use Rattle.std.specs.Map.{keys_of}
-use Rattle.half_store.specs.Pairs.{index_of}
+use Rattle.half_store.specs.PairLists.{index_of}
 use Rattle.half_store.specs.Reach.{reach, HomesApart}
 use Rattle.half_store.specs.Capacity.{buckets_of, capacity_for}
 use Rattle.half_store.specs.Work.{Work, first_match_cost}
@@ -102,7 +102,7 @@ module _ {K V : Type 0} (hash : K → ℕ) where
 
 -- what one search in the map cost that found this index, or none, under this hash, by the tally before it and after, where the builder was
 -- asked so often
-pub record SearchCosts {K V S : Type 0} (hash : S → K → ℕ) (sought : ℕ) (m : State K V S) (found : Option ℕ) (asked : ℕ) (before after : Work) : Type 0 where
+pub record IsSearchCost {K V S : Type 0} (hash : S → K → ℕ) (sought : ℕ) (m : State K V S) (found : Option ℕ) (asked : ℕ) (before after : Work) : Type 0 where
   pub grew : GrewBy (search_cost (hash m.builder) sought found asked m.is_vec m.capacity m.pairs) before after
   pub looked_once : m.is_vec ≡ false → is_some found ≡ true → NoHomeIsShared (hash m.builder) m.capacity m.pairs
       → after.looked ≡ before.looked + 1
@@ -112,16 +112,16 @@ pub record SearchCosts {K V S : Type 0} (hash : S → K → ℕ) (sought : ℕ) 
 -- keys that pass the test
 module _ {K V S : Type 0} (hash : S → K → ℕ) (sought : ℕ) (test : K → Bool) (m : State K V S) where
   -- where the builder was asked so often
-  abbrev pub CostsSearchAsking : ℕ → Work → Work → Type 0
-  CostsSearchAsking asked before after = SearchCosts hash sought m (index_of test (keys_of m.pairs)) asked before after
+  abbrev pub IsLookupCostAsking : ℕ → Work → Work → Type 0
+  IsLookupCostAsking asked before after = IsSearchCost hash sought m (index_of test (keys_of m.pairs)) asked before after
 
   -- where the search hashed it, as it does in a table
-  abbrev pub CostsSearch : Work → Work → Type 0
-  CostsSearch before after = CostsSearchAsking (search_asked m.is_vec) before after
+  abbrev pub IsLookupCost : Work → Work → Type 0
+  IsLookupCost before after = IsLookupCostAsking (search_asked m.is_vec) before after
 
   -- where its hash was handed in: the builder is not asked
-  abbrev pub CostsHashedSearch : Work → Work → Type 0
-  CostsHashedSearch before after = CostsSearchAsking 0 before after
+  abbrev pub IsHashedLookupCost : Work → Work → Type 0
+  IsHashedLookupCost before after = IsLookupCostAsking 0 before after
 
 -- the buckets that an insertion probe of a new key k reads, where the capacity is enough for it
 abbrev pub insertion_looks : {K V S : Type 0} → (S → K → ℕ) → State K V S → K → ℕ
@@ -129,17 +129,17 @@ insertion_looks hash m k = probe_length (hash m.builder) m.is_vec m.capacity m.p
 
 module _ {K V S : Type 0} (eq : K → K → Bool) (hash : S → K → ℕ) where
   -- what a search for k in the map costs
-  abbrev pub search_cost_of : State K V S → K → Cost
-  search_cost_of m k = search_cost (hash m.builder) (hash m.builder k) (index_of (eq k) (keys_of m.pairs)) (search_asked m.is_vec) m.is_vec m.capacity m.pairs
+  abbrev pub key_search_cost : State K V S → K → Cost
+  key_search_cost m k = search_cost (hash m.builder) (hash m.builder k) (index_of (eq k) (keys_of m.pairs)) (search_asked m.is_vec) m.is_vec m.capacity m.pairs
 
   -- what one search for k in the map cost, by the tally before it and after
-  abbrev pub KeySearchCosts : State K V S → K → Work → Work → Type 0
-  KeySearchCosts m k before after = SearchCosts hash (hash m.builder k) m (index_of (eq k) (keys_of m.pairs)) (search_asked m.is_vec) before after
+  abbrev pub IsKeySearchCost : State K V S → K → Work → Work → Type 0
+  IsKeySearchCost m k before after = IsSearchCost hash (hash m.builder k) m (index_of (eq k) (keys_of m.pairs)) (search_asked m.is_vec) before after
 
   -- what searches in the map for these keys, one after another, cost, by the tally before the first and after the last
-  unfoldable pub SearchesCost : State K V S → List K → Work → Work → Type 0
-  SearchesCost m [] before after = after ≡ before
-  SearchesCost m (k ∷ ks) before after = (between : Work) × KeySearchCosts m k before between × SearchesCost m ks between after
+  unfoldable pub AreSearchCosts : State K V S → List K → Work → Work → Type 0
+  AreSearchCosts m [] before after = after ≡ before
+  AreSearchCosts m (k ∷ ks) before after = (between : Work) × IsKeySearchCost m k before between × AreSearchCosts m ks between after
 
 module _ {K V S : Type 0} (limit : ℕ) where
   -- how often a granted switching call hashes for its switch: once for each pair of a full vector
@@ -155,24 +155,24 @@ module _ {K V S : Type 0} (limit : ℕ) where
   insert_asked m granted = if is_switch_refused m granted then 0 else switch_asked m + search_asked (is_vec_after limit m)
 
   -- the capacity once a granted switch is made
-  abbrev pub capacity_switched : State K V S → ℕ
-  capacity_switched m = if is_full limit m then capacity_for (limit + 1) else m.capacity
+  abbrev pub capacity_after_switch : State K V S → ℕ
+  capacity_after_switch m = if is_full limit m then capacity_for (limit + 1) else m.capacity
 
   -- whether one pair more needs growth once the switch is made
   abbrev pub addition_grows : State K V S → Bool
-  addition_grows m = not (nat_lt (length m.pairs) (capacity_switched m))
+  addition_grows m = not (nat_lt (length m.pairs) (capacity_after_switch m))
 
   -- the capacity once it is enough for one pair more
-  abbrev pub capacity_grown : State K V S → ℕ
-  capacity_grown m = if addition_grows m then capacity_for (length m.pairs + 1) else capacity_switched m
+  abbrev pub capacity_after_growth : State K V S → ℕ
+  capacity_after_growth m = if addition_grows m then capacity_for (length m.pairs + 1) else capacity_after_switch m
 
   -- the map once a granted switch is made, as far as a cost depends on it: its memory and its buckets are not said
   abbrev pub switched : State K V S → State K V S
-  switched m = state (is_vec_after limit m) m.pairs (capacity_switched m) m.builder (contents_of m)
+  switched m = state (is_vec_after limit m) m.pairs (capacity_after_switch m) m.builder (contents_of m)
 
   -- the same once the capacity is enough for one pair more
   abbrev pub grown : State K V S → State K V S
-  grown m = state (is_vec_after limit m) m.pairs (capacity_grown m) m.builder (contents_of m)
+  grown m = state (is_vec_after limit m) m.pairs (capacity_after_growth m) m.builder (contents_of m)
 
   module _ (eq : K → K → Bool) (hash : S → K → ℕ) where
     -- what an insertion of k costs: the switch hashes each key, one search follows in the form that it left, and, where a new key made
@@ -181,7 +181,7 @@ module _ {K V S : Type 0} (limit : ℕ) where
     insert_cost m k granted =
         unless_refused (is_switch_refused m granted) (asks_more (switch_asked m)
         (reads_more (if granted && not (holds eq m.pairs k) && addition_grows m then insertion_looks hash (grown m) k else 0)
-        (search_cost_of eq hash (switched m) k)))
+        (key_search_cost eq hash (switched m) k)))
 
     -- what an insertion of a new key k without a search costs: the switch and the key's own hash, and one insertion probe where it is
     -- granted
@@ -196,10 +196,10 @@ module _ {K V S : Type 0} (limit : ℕ) where
     raw_insert_cost m k granted =
         let held = holds eq m.pairs k in
         unless_refused (not granted) (asks_more (switch_asked m) (asks_more (if held then 0 else search_asked (is_vec_after limit m))
-        (reads_more (if held then 0 else insertion_looks hash (grown m) k) (search_cost_of eq hash (grown m) k))))
+        (reads_more (if held then 0 else insertion_looks hash (grown m) k) (key_search_cost eq hash (grown m) k))))
 
     -- what an insertion of k cost, by the tally before it and after
-    pub record InsertCosts (m : State K V S) (k : K) (granted : Bool) (before after : Work) : Type 0 where
+    pub record IsInsertCost (m : State K V S) (k : K) (granted : Bool) (before after : Work) : Type 0 where
       pub grew : GrewBy (insert_cost m k granted) before after
       pub looked_once : is_vec_after limit m ≡ false → granted ≡ true → holds eq m.pairs k ≡ true
-          → NoHomeIsShared (hash m.builder) (capacity_switched m) m.pairs → after.looked ≡ before.looked + 1
+          → NoHomeIsShared (hash m.builder) (capacity_after_switch m) m.pairs → after.looked ≡ before.looked + 1

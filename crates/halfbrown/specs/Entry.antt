@@ -7,7 +7,7 @@ use Rattle.std.specs.Option.{option_map}
 use Rattle.std.specs.declared.cmp.PartialEq as eq
 use Rattle.std.specs.declared.hash.Hash as hash
 use Rattle.halfbrown.specs.declared.key_hasher.KeyHasher as hashers
-use Rattle.half_store.specs.Pairs.{set_key, set_value, swap_remove_at}
+use Rattle.half_store.specs.PairLists.{set_key, set_value, swap_remove_at}
 use Rattle.halfbrown.specs.declared.entry.Entry.{Entry}
 use Rattle.halfbrown.specs.declared.entry.OccupiedEntry.{OccupiedEntry}
 use Rattle.halfbrown.specs.declared.limit.Limit as limits

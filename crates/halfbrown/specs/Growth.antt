@@ -2,7 +2,7 @@
 use Rattle.std.specs.Prelude.{◌≡◌, ℕ, ◌+◌, ◌^◌, ◌<◌, ◌≤◌, ◌⊎◌, Bool, not, ◌&&◌, ◌==◌, nat_lt, length, Option, None, Some, IfNone, IfSome, MatchBool, MatchOption, if◌then◌else◌}
 use Rattle.half_store.specs.declared.refusal.Refusal.{Refusal}
 use Rattle.half_store.specs.Refusal.{refusal_of}
-use Rattle.half_store.specs.Capacity.{capacity_for, grown_capacity, least_capacity, vec_shrunk, shrunk_capacity}
+use Rattle.half_store.specs.Capacity.{capacity_for, generous_capacity, least_capacity, vec_shrunk, shrunk_capacity}
 use Rattle.half_store.specs.Store.{allowed}
 use Rattle.halfbrown.specs.State.{State}
 use Rattle.halfbrown.specs.Pairs.{holds}
@@ -16,7 +16,7 @@ addition_needs m = if nat_lt (length m.pairs) m.capacity then None else Some (le
 abbrev pub HasCapacityAfter : {K V S : Type 0} → ℕ → State K V S → Option ℕ → State K V S → Type 0
 HasCapacityAfter limit old needs new =
     MatchOption needs (new.capacity ≡ old.capacity)
-    (λ n. MatchBool new.is_vec (new.capacity ≡ grown_capacity limit old.capacity n) (new.capacity ≡ capacity_for n))
+    (λ n. MatchBool new.is_vec (new.capacity ≡ generous_capacity limit old.capacity n) (new.capacity ≡ capacity_for n))
 
 -- the capacity that a reservation for so many pairs in all needs, where there is less
 abbrev pub reserve_needs : {K V S : Type 0} → ℕ → State K V S → ℕ → Option ℕ

@@ -4,7 +4,7 @@ use Rattle.std.specs.Borrow.{Fml, GName, RattleType, MutBor, Array, Lends, Lends
 use Rattle.std.specs.HashMap.Lent.{HashMembers}
 use mathlib.Core.Option.{none}
 use Rattle.halfbrown.specs.declared.key_hasher.KeyHasher as hashers
-use Rattle.half_store.specs.Pairs.{set_value, set_values}
+use Rattle.half_store.specs.PairLists.{set_value, set_values}
 use Rattle.halfbrown.specs.declared.limit.Limit as limits
 use Rattle.halfbrown.specs.Pairs.{set_by}
 use Rattle.halfbrown.specs.State.{State, with_pairs}

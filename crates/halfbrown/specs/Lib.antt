@@ -1,12 +1,12 @@
 pub mod Clone
-pub mod Collection
+pub mod FromIter
 pub mod Costs
 pub mod Drain
 pub mod Entry
 pub mod EntryLending
 pub mod Equality
 pub mod EqualityLaws
-pub mod Gathering
+pub mod CallerLoops
 pub mod Growth
 pub mod Insertion
 pub mod Iter
@@ -36,7 +36,7 @@ pub use Rattle.half_store.specs.Capacity
 pub use Rattle.half_store.specs.Hash
 pub use Rattle.half_store.specs.Probe
 pub use Rattle.half_store.specs.Reach
-pub use Rattle.half_store.specs.Replaced
+pub use Rattle.half_store.specs.PutsBack
 pub use Rattle.half_store.specs.Search
 pub use Rattle.half_store.specs.Store
 pub use Rattle.half_store.specs.Table

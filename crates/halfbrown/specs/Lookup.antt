@@ -1,7 +1,7 @@
 -- What a search for a key in a map returns.
 use Rattle.std.specs.Prelude.{◌≡◌, ℕ, ◌<◌, Bool, true, false, List, [], ◌∷◌, ◌++◌, length, slice_get, Option, None, Some, Result, Ok, Err}
 use Rattle.std.specs.Map.{keys_of, values_of, lookup, lookup_entry}
-use Rattle.half_store.specs.Pairs.{index_of, set_value, swap_remove_at}
+use Rattle.half_store.specs.PairLists.{index_of, set_value, swap_remove_at}
 use Rattle.half_store.specs.Store.{IsVacancy}
 use Rattle.half_store.specs.declared.store.vacancy.Vacancy.{Vacancy}
 use Rattle.halfbrown.specs.Pairs.{holds_by, set_by, put_by, take_out_by}
@@ -34,6 +34,6 @@ module _ {K V : Type 0} (test : K → Bool) (pairs : List (K × V)) where
   FindsIndex None = IsAbsent
 
 -- a search found the key that passes the test, or none is held, and where there is capacity a pair of the hash may be added here
-abbrev pub LooksUp : {K V S : Type 0} → (K → Bool) → ℕ → State K V S → Result ℕ Vacancy → Type 0
-LooksUp test hash m (Ok index) = IsIndexOf test m.pairs index
-LooksUp test hash m (Err vacancy) = IsAbsent test m.pairs × (0 < m.capacity → IsVacancy m.is_vec (contents_of m) hash vacancy)
+abbrev pub KeySearch : {K V S : Type 0} → (K → Bool) → ℕ → State K V S → Result ℕ Vacancy → Type 0
+KeySearch test hash m (Ok index) = IsIndexOf test m.pairs index
+KeySearch test hash m (Err vacancy) = IsAbsent test m.pairs × (0 < m.capacity → IsVacancy m.is_vec (contents_of m) hash vacancy)

@@ -1,6 +1,6 @@
 -- The memory of a map.
 use Rattle.std.specs.Prelude.{ℕ}
-use Rattle.half_store.specs.Memory as store
+use Rattle.half_store.specs.Arrays as store
 use Rattle.halfbrown.specs.State.{State}
 
 -- the bytes of a map's arrays, where a key has so many, and a value so many

@@ -7,7 +7,7 @@ use Rattle.std.specs.Fn.{Once}
 use Rattle.std.specs.declared.cmp.PartialEq as eq
 use Rattle.std.specs.declared.hash.Hash as hash
 use Rattle.halfbrown.specs.declared.key_hasher.KeyHasher as hashers
-use Rattle.half_store.specs.Pairs.{set_value}
+use Rattle.half_store.specs.PairLists.{set_value}
 use Rattle.half_store.specs.Probe.{looked_more}
 use Rattle.half_store.specs.Work.{Work, asked_more}
 use Rattle.halfbrown.specs.declared.entry.OccupiedEntry.{OccupiedEntry}
@@ -60,19 +60,19 @@ module _ {K V S L : Type 0} {e : eq.Ghosts K} {h : hash.Ghosts K} {b : hashers.G
   without_found (Vacant v) = v.map.now.pairs
 
   -- the pairs once the pair that was found has this value, or, where none was, this pair is appended
-  abbrev pub pairs_with : RawEntryMut K V S L e h b l → K → V → List (K × V)
-  pairs_with (Occupied o) key value = set_value o.map.now.pairs o.index value
-  pairs_with (Vacant v) key value = v.map.now.pairs ++ (key, value) ∷ []
+  abbrev pub pairs_once_put : RawEntryMut K V S L e h b l → K → V → List (K × V)
+  pairs_once_put (Occupied o) key value = set_value o.map.now.pairs o.index value
+  pairs_once_put (Vacant v) key value = v.map.now.pairs ++ (key, value) ∷ []
 
   -- the entry is that of the key which passes the test, in this map: what it has, and what the map is once it is written or taken out
-  pub record FindsEntry (same : K → K → Bool) (test : K → Bool) (m : State K V S) (entry : RawEntryMut K V S L e h b l) : Type 0 where
+  pub record IsRawEntryOf (same : K → K → Bool) (test : K → Bool) (m : State K V S) (entry : RawEntryMut K V S L e h b l) : Type 0 where
     pub map : raw_map entry ≡ m
     pub occupied : is_found entry ≡ holds_by test m.pairs
     pub pair : found_pair entry ≡ lookup_entry test m.pairs
     pub value : found_value entry ≡ lookup test m.pairs
     pub equal : IfSome (found_key entry) (λ k. test k ≡ true)
-    pub puts : (k : K) (v : V) → pairs_with entry k v ≡ put_by test m.pairs k v
-    pub put : (k : K) (v : V) → test k ≡ true → HasPut same m.pairs k v (pairs_with entry k v)
+    pub puts : (k : K) (v : V) → pairs_once_put entry k v ≡ put_by test m.pairs k v
+    pub put : (k : K) (v : V) → test k ≡ true → HasPut same m.pairs k v (pairs_once_put entry k v)
     pub writes : is_found entry ≡ true → (v : V) → WithPairs m (set_by test m.pairs v) (with_found entry v)
     pub written : is_found entry ≡ true → (v : V) → HasSetBy same test m.pairs v (with_found entry v).pairs
     pub takes : without_found entry ≡ take_out_by test m.pairs
@@ -81,10 +81,10 @@ module _ {K V S L : Type 0} {e : eq.Ghosts K} {h : hash.Ghosts K} {b : hashers.G
   -- the pair that was found has this value, or, where none was, the pair of this key is added; the result is its entry
   pub record PutsThroughRawEntry (entry : RawEntryMut K V S L e h b l) (key : K) (value : V) (result : OccupiedEntry K V S L e h b l) : Type 0 where
     pub same_map : (entries.map_ref (entries.Occupied result)).ghost_name ≡ (raw_ref entry).ghost_name
-    pub map : WithPairs (raw_map entry) (pairs_with entry key value) (entries.map_of (entries.Occupied result))
+    pub map : WithPairs (raw_map entry) (pairs_once_put entry key value) (entries.map_of (entries.Occupied result))
     pub key_is : entries.entry_key (entries.Occupied result) ≡ Some (unwrap_or (found_key entry) key)
     pub value_is : entries.entry_value (entries.Occupied result) ≡ Some value
-    pub writes : (v : V) → WithPairs (raw_map entry) (pairs_with entry key v) (entries.with_value (entries.Occupied result) v)
+    pub writes : (v : V) → WithPairs (raw_map entry) (pairs_once_put entry key v) (entries.with_value (entries.Occupied result) v)
     pub pairs_left : entries.pairs_without (entries.Occupied result) ≡ without_found entry
 
   -- the pair of this key, which was not held, is added with this value, and has what is written to it

@@ -12,9 +12,9 @@ use Rattle.halfbrown.specs.declared.limit.Limit as limits
 use Rattle.halfbrown.specs.declared.raw_entry.RawEntryBuilderMut.{RawEntryBuilderMut}
 use Rattle.halfbrown.specs.declared.raw_entry.RawEntryMut.{RawEntryMut}
 use Rattle.halfbrown.specs.Growth.{new_key_needs, IsRefusal}
-use Rattle.halfbrown.specs.Match.{FindsMatch}
+use Rattle.halfbrown.specs.Match.{ReadsMatch}
 use Rattle.halfbrown.specs.Preparation.{Prepares}
-use Rattle.halfbrown.specs.RawEntry.{raw_ref, raw_map, found_pair, FindsEntry}
+use Rattle.halfbrown.specs.RawEntry.{raw_ref, raw_map, found_pair, IsRawEntryOf}
 use Rattle.halfbrown.specs.RawEntryBuilder.{ready_ref, ready_map}
 use Rattle.halfbrown.specs.State.{State, IsState}
 
@@ -33,15 +33,15 @@ module _ {K V S L : Type 0} {e : eq.Ghosts K} {h : hash.Ghosts K} {b : hashers.G
     pub state : IfOk result (λ ready. IsState same limit (ready_map ready))
 
   -- the entry is that of the key which passes the test, in the map that was ready
-  pub record Searches (test : K → Bool) (ready : RawEntryBuilderMut K V S L e h b l) (entry : RawEntryMut K V S L e h b l) : Type 0 where
+  pub record EntersByKey (test : K → Bool) (ready : RawEntryBuilderMut K V S L e h b l) (entry : RawEntryMut K V S L e h b l) : Type 0 where
     pub same_map : (raw_ref entry).ghost_name ≡ (ready_ref ready).ghost_name
-    pub finds : FindsEntry same test (ready_map ready) entry
+    pub finds : IsRawEntryOf same test (ready_map ready) entry
     pub state : IsState same limit (raw_map entry)
 
   -- the entry is that of a pair which the match accepts, under this hash, in the map that was ready
-  pub record SearchesByMatch (returns : K → Bool → Type 0) (hash_of : S → K → ℕ) (sought : ℕ) (ready : RawEntryBuilderMut K V S L e h b l) (result : RawEntryMut K V S L e h b l) : Type 0 where
+  pub record EntersByMatch (returns : K → Bool → Type 0) (hash_of : S → K → ℕ) (sought : ℕ) (ready : RawEntryBuilderMut K V S L e h b l) (result : RawEntryMut K V S L e h b l) : Type 0 where
     pub same_map : (raw_ref result).ghost_name ≡ (ready_ref ready).ghost_name
     pub map : raw_map result ≡ ready_map ready
-    pub found : FindsMatch returns hash_of sought (ready_map ready) (found_pair result)
-    pub entry : IfSome (found_pair result) (λ pair. FindsEntry same (same pair.0) (ready_map ready) result)
+    pub found : ReadsMatch returns hash_of sought (ready_map ready) (found_pair result)
+    pub entry : IfSome (found_pair result) (λ pair. IsRawEntryOf same (same pair.0) (ready_map ready) result)
     pub state : IsState same limit (raw_map result)

@@ -1,6 +1,6 @@
 -- What a removal does.
 use Rattle.std.specs.Prelude.{◌≡◌, ℕ, Bool, Option, IfSome, IfNone, OnSome, slice_get}
-use Rattle.half_store.specs.Pairs.{swap_remove_at}
+use Rattle.half_store.specs.PairLists.{swap_remove_at}
 use Rattle.halfbrown.specs.Pairs.{take_out_by}
 use Rattle.halfbrown.specs.State.{State, IsState, WithPairs}
 use Rattle.halfbrown.specs.Updates.{HasRemoved, HasRemovedBy}

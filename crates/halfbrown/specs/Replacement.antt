@@ -4,9 +4,9 @@ use Rattle.std.specs.Borrow.{Bor}
 use Rattle.std.specs.declared.cmp.PartialEq as eq
 use Rattle.std.specs.declared.hash.Hash as hash
 use Rattle.halfbrown.specs.declared.key_hasher.KeyHasher as hashers
-use Rattle.half_store.specs.Pairs.{swap_remove_at}
+use Rattle.half_store.specs.PairLists.{swap_remove_at}
 use Rattle.half_store.specs.Probe.{looked_more}
-use Rattle.half_store.specs.Replaced.{Answers}
+use Rattle.half_store.specs.PutsBack.{Answers}
 use Rattle.half_store.specs.Work.{Work}
 use Rattle.halfbrown.specs.declared.entry.Entry.{Entry}
 use Rattle.halfbrown.specs.declared.limit.Limit as limits
@@ -51,12 +51,12 @@ module _ {K V S L : Type 0} {e : eq.Ghosts K} {h : hash.Ghosts K} {b : hashers.G
     pub after : MatchOption answer (LosesPair entry key result) (λ v. KeepsPair entry key v result)
 
   -- the entry is replaced, in the same map, which is whole
-  pub record Replaced (limit : ℕ) (same : K → K → Bool) (returns : Bor K → V → Option V → Type 0) (entry result : Entry K V S L e h b l) : Type 0 where
+  pub record PutsBack (limit : ℕ) (same : K → K → Bool) (returns : Bor K → V → Option V → Type 0) (entry result : Entry K V S L e h b l) : Type 0 where
     pub replaces : ReplacesEntry returns entry result
     pub same_map : (map_ref result).ghost_name ≡ (map_ref entry).ghost_name
     pub state : IsState same limit (map_of result)
 
   -- one insertion probe where the pair is gone, and nothing else
-  abbrev pub ReplacementCosts : (S → K → ℕ) → Entry K V S L e h b l → Work → Work → Type 0
-  ReplacementCosts hash result before after = IfSome (entry_key result) (λ key. after ≡ looked_more before
+  abbrev pub IsReplacementCost : (S → K → ℕ) → Entry K V S L e h b l → Work → Work → Type 0
+  IsReplacementCost hash result before after = IfSome (entry_key result) (λ key. after ≡ looked_more before
       (if is_occupied result then 0 else probe_length (hash (map_of result).builder) (map_of result).is_vec (map_of result).capacity (map_of result).pairs (hash (map_of result).builder key)))

@@ -4,7 +4,7 @@ use Rattle.std.specs.List.{list_any}
 use Rattle.halfbrown.specs.declared.run.Command.{Command}
 use Rattle.halfbrown.specs.declared.run.Reply.{Reply}
 use Rattle.halfbrown.specs.State.{State, IsState}
-use Rattle.halfbrown.specs.Step.{Step, IsStep, is_refused, is_shrink}
+use Rattle.halfbrown.specs.Step.{Step, IsValidStep, is_refused, is_shrink}
 use Rattle.halfbrown.specs.Costs.{Cost, no_cost, add_costs}
 use Rattle.halfbrown.specs.RunCost.{command_cost}
 
@@ -26,7 +26,7 @@ module _ {K V S : Type 0} (limit : ℕ) (eq : K → K → Bool) where
   -- every map
   abbrev pub Lead : State K V S → List (Step K V S) → State K V S → Type 0
   Lead old [] new = new ≡ old
-  Lead old (s ∷ steps) new = (s.before ≡ old) × IsStep limit eq s × IsState eq limit s.after × Lead s.after steps new
+  Lead old (s ∷ steps) new = (s.before ≡ old) × IsValidStep limit eq s × IsState eq limit s.after × Lead s.after steps new
 
   module _ (hash : S → K → ℕ) where
     -- what a step costs

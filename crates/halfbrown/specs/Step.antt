@@ -51,9 +51,9 @@ module _ {K V S : Type 0} (limit : ℕ) (eq : K → K → Bool) where
   Leaves old command new = new ≡ old
 
   -- from old, the command may have this reply and leave new: a refused command comes back, with the reason, and has changed nothing
-  abbrev pub Steps : State K V S → Command K V → Reply K V → State K V S → Type 0
-  Steps old command (Refused back why) new = (back ≡ command) × IsRefusal (command_needs old command) why × (new ≡ old)
-  Steps old command reply new = (reply ≡ granted_reply eq new.is_vec old.pairs command) × Leaves old command new
+  abbrev pub Executes : State K V S → Command K V → Reply K V → State K V S → Type 0
+  Executes old command (Refused back why) new = (back ≡ command) × IsRefusal (command_needs old command) why × (new ≡ old)
+  Executes old command reply new = (reply ≡ granted_reply eq new.is_vec old.pairs command) × Leaves old command new
 
 -- the reason, where the reply is a refusal
 abbrev pub refusal_in : {K V : Type 0} → Reply K V → Option Refusal
@@ -65,11 +65,11 @@ abbrev pub is_refused : {K V : Type 0} → Reply K V → Bool
 is_refused reply = is_some (refusal_in reply)
 
 -- whether the reply says that a pair was put
-abbrev pub is_put : {K V : Type 0} → Reply K V → Bool
-is_put (Was before) = true
-is_put Added = true
-is_put (Value value) = true
-is_put reply = false
+abbrev pub says_put : {K V : Type 0} → Reply K V → Bool
+says_put (Was before) = true
+says_put Added = true
+says_put (Value value) = true
+says_put reply = false
 
 -- whether the reply is that the form is the vector
 abbrev pub says_vec : {K V : Type 0} → Reply K V → Bool
@@ -90,12 +90,12 @@ pub record Step (K V S : Type 0) : Type 0 where
 
 module _ {K V S : Type 0} (limit : ℕ) where
   -- the step is one that its command may take
-  abbrev pub IsStep : (K → K → Bool) → Step K V S → Type 0
-  IsStep eq s = Steps limit eq s.before s.command s.reply s.after
+  abbrev pub IsValidStep : (K → K → Bool) → Step K V S → Type 0
+  IsValidStep eq s = Executes limit eq s.before s.command s.reply s.after
 
   -- whether the step put a pair into a full vector, and so made it a table
   abbrev pub switches : Step K V S → Bool
-  switches s = is_put s.reply && is_full limit s.before
+  switches s = says_put s.reply && is_full limit s.before
 
   -- whether the step made a table a vector: it is a `Shrink`, and says so
   abbrev pub goes_back : Step K V S → Bool

@@ -4,7 +4,7 @@ ghost use Rattle.std.specs.Iterator.{at_most, UpTo as IsUpTo};
 ghost use Rattle.std.specs.Iterator.SizeHint.{IsWithinCount};
 ghost use Rattle.halfbrown.specs.State.{IsState, IsTableCapacity, WithPairs};
 
-use crate::{DefaultHashBuilder, KeyHasher, Limit, LimitedHashMap, UpTo};
+use crate::{DefaultHashBuilder, KeyHasher, Limit, LimitedHashMap, AtMost};
 use half_store::{Drained, IntoStore};
 use std::hash::Hash;
 use std::iter::FusedIterator;
@@ -23,7 +23,7 @@ pub struct Drain<
     K: Eq + Hash,
     V,
     S: KeyHasher<K> = DefaultHashBuilder,
-    L: Limit = UpTo<32>,
+    L: Limit = AtMost<32>,
     P: IntoStore<K, V> = Drained<K, V>,
 > {
     // an empty vector, until its store is put back

@@ -11,7 +11,7 @@ mod occupied;
 mod replace;
 mod vacant;
 
-use crate::{DefaultHashBuilder, KeyHasher, Limit, LimitedHashMap, UpTo};
+use crate::{DefaultHashBuilder, KeyHasher, Limit, LimitedHashMap, AtMost};
 use half_store::Vacancy;
 use std::hash::Hash;
 
@@ -26,7 +26,7 @@ use std::hash::Hash;
 /// assert_eq!(rt; age, 5);
 /// ```
 #[derive(Drop)]
-pub enum Entry<'a, K: Eq + Hash, V, S: KeyHasher<K> = DefaultHashBuilder, L: Limit = UpTo<32>> {
+pub enum Entry<'a, K: Eq + Hash, V, S: KeyHasher<K> = DefaultHashBuilder, L: Limit = AtMost<32>> {
     /// The key is held.
     Occupied(OccupiedEntry<'a, K, V, S, L>),
     /// The key is not held.
@@ -46,7 +46,7 @@ pub struct OccupiedEntry<
     K: Eq + Hash,
     V,
     S: KeyHasher<K> = DefaultHashBuilder,
-    L: Limit = UpTo<32>,
+    L: Limit = AtMost<32>,
 > {
     pub(crate) map: &'a mut LimitedHashMap<K, V, S, L>,
     pub(crate) index: usize,
@@ -65,7 +65,7 @@ pub struct VacantEntry<
     K: Eq + Hash,
     V,
     S: KeyHasher<K> = DefaultHashBuilder,
-    L: Limit = UpTo<32>,
+    L: Limit = AtMost<32>,
 > {
     map: &'a mut LimitedHashMap<K, V, S, L>,
     key: K,

@@ -21,13 +21,13 @@ pub trait Limit {
 /// A limit of `N` pairs.
 ///
 /// ```
-/// let few = LimitedHashMap::<u64, u32, DefaultHashBuilder, UpTo<8>>::with_capacity(alloc, 9)?;
+/// let few = LimitedHashMap::<u64, u32, DefaultHashBuilder, AtMost<8>>::with_capacity(alloc, 9)?;
 /// assert!(rt; few.is_map());
 /// ```
 #[derive(Clone, Copy, Debug, PartialEq, Eq)]
-pub struct UpTo<const N: usize>;
+pub struct AtMost<const N: usize>;
 
-impl<const N: usize> Limit for UpTo<N> {
+impl<const N: usize> Limit for AtMost<N> {
     ghost LIMIT = { N };
 
     const LIMIT: usize = N;

@@ -9,7 +9,7 @@ mod debug;
 mod drained;
 mod equality;
 mod find;
-mod form;
+mod switch;
 mod get;
 mod growth;
 mod index;
@@ -22,7 +22,7 @@ mod remove;
 mod replace;
 mod retain;
 
-use crate::{KeyHasher, Limit, UpTo};
+use crate::{KeyHasher, Limit, AtMost};
 use half_store::Store;
 use std::hash::{BuildHasherDefault, FoldHasher, Hash};
 use std::marker::{Model, PhantomData};
@@ -38,10 +38,10 @@ pub type DefaultHashBuilder = BuildHasherDefault<FoldHasher>;
 /// scope.insert(1, 36)?;
 /// assert!(rt; scope.is_vec());
 /// ```
-pub type SizedHashMap<K, V, S, const N: usize> = LimitedHashMap<K, V, S, UpTo<N>>;
+pub type SizedHashMap<K, V, S, const N: usize> = LimitedHashMap<K, V, S, AtMost<N>>;
 
 /// A map that stores up to 32 pairs in a vector. Another builder is the third argument of the type, and `with_hasher` takes it.
-pub type HashMap<K, V, S = DefaultHashBuilder> = LimitedHashMap<K, V, S, UpTo<32>>;
+pub type HashMap<K, V, S = DefaultHashBuilder> = LimitedHashMap<K, V, S, AtMost<32>>;
 
 /// A map in two forms. Up to the limit its pairs are stored in a vector, which is searched by `==`, and nothing is
 /// hashed. A full vector becomes a hash table at the next insertion or entry that succeeds, even for a key that is
@@ -54,13 +54,13 @@ pub type HashMap<K, V, S = DefaultHashBuilder> = LimitedHashMap<K, V, S, UpTo<32
 /// hashes the key once, probes from its home bucket on, and compares only keys of the same hash. How many buckets it
 /// reads where it finds nothing is decided by the home buckets of the held keys, whatever the history.
 ///
-/// Its limit `L` is a type, `UpTo<8>` for 8 pairs. `SizedHashMap` takes the number instead. A function of maps of every limit has
+/// Its limit `L` is a type, `AtMost<8>` for 8 pairs. `SizedHashMap` takes the number instead. A function of maps of every limit has
 /// `L: Limit` as a parameter. Most users need neither, and write `HashMap`.
 pub struct LimitedHashMap<
     K: Eq + Hash,
     V,
     S: KeyHasher<K> = DefaultHashBuilder,
-    L: Limit = UpTo<32>,
+    L: Limit = AtMost<32>,
 > {
     store: Store<K, V>,
     builder: S,

@@ -8,7 +8,7 @@ mod make;
 mod methods;
 mod vacant;
 
-use crate::{DefaultHashBuilder, KeyHasher, Limit, LimitedHashMap, OccupiedEntry, UpTo};
+use crate::{DefaultHashBuilder, KeyHasher, Limit, LimitedHashMap, OccupiedEntry, AtMost};
 use std::hash::Hash;
 
 /// Look-ups by a known hash or by a match on keys, which `raw_entry` returns.
@@ -25,7 +25,7 @@ pub struct RawEntryBuilder<
     K: Eq + Hash,
     V,
     S: KeyHasher<K> = DefaultHashBuilder,
-    L: Limit = UpTo<32>,
+    L: Limit = AtMost<32>,
 > {
     map: &'a LimitedHashMap<K, V, S, L>,
 }
@@ -45,7 +45,7 @@ pub enum RawEntryBuilderMut<
     K: Eq + Hash,
     V,
     S: KeyHasher<K> = DefaultHashBuilder,
-    L: Limit = UpTo<32>,
+    L: Limit = AtMost<32>,
 > {
     #[doc(hidden)]
     Ready(Prepared<'a, K, V, S, L>),
@@ -74,7 +74,7 @@ pub enum RawEntryMut<
     K: Eq + Hash,
     V,
     S: KeyHasher<K> = DefaultHashBuilder,
-    L: Limit = UpTo<32>,
+    L: Limit = AtMost<32>,
 > {
     /// A pair was found.
     Occupied(OccupiedEntry<'a, K, V, S, L>),
@@ -89,7 +89,7 @@ pub enum RawEntryMut<
 ///     entry.remove()
 /// }
 /// ```
-pub type RawOccupiedEntryMut<'a, K, V, S = DefaultHashBuilder, L = UpTo<32>> = OccupiedEntry<
+pub type RawOccupiedEntryMut<'a, K, V, S = DefaultHashBuilder, L = AtMost<32>> = OccupiedEntry<
     'a,
     K,
     V,
@@ -109,7 +109,7 @@ pub struct RawVacantEntryMut<
     K: Eq + Hash,
     V,
     S: KeyHasher<K> = DefaultHashBuilder,
-    L: Limit = UpTo<32>,
+    L: Limit = AtMost<32>,
 > {
     map: &'a mut LimitedHashMap<K, V, S, L>,
     ghost capacity_left: { length map.now.pairs < map.now.capacity },

@@ -3,7 +3,7 @@ ghost use Rattle.std.specs.Prelude.{◌≡◌, ◌+◌, ◌*◌, ◌≤◌, true
 ghost use Rattle.halfbrown.specs.Costs.{Cost, GrewBy};
 ghost use Rattle.halfbrown.specs.Run.{Runs, shrinks};
 ghost use Rattle.halfbrown.specs.RunCost.{command_cost};
-ghost use Rattle.halfbrown.specs.Step.{Steps, is_refused};
+ghost use Rattle.halfbrown.specs.Step.{Executes, is_refused};
 
 use crate::{KeyHasher, Limit, LimitedHashMap, Refused};
 use half_store::{Refusal, Tally, uncounted};
@@ -135,7 +135,7 @@ fn step<K: Eq + Hash + Drop, V: Copy, S: KeyHasher<K>, L: Limit>(
     command: Command<K, V>,
     tally: &mut Tally,
 ) -> Reply<K, V>
-    ensures step { Steps L.LIMIT K.eq map.old command result map.new }
+    ensures step { Executes L.LIMIT K.eq map.old command result map.new }
     ensures cost { GrewBy (command_cost L.LIMIT K.eq S.hash map.old command (is_refused result))
         tally.old tally.new }
 {
@@ -167,7 +167,7 @@ fn insert<K: Eq + Hash + Drop, V, S: KeyHasher<K>, L: Limit>(
     value: V,
     tally: &mut Tally,
 ) -> Reply<K, V>
-    ensures step { Steps L.LIMIT K.eq map.old (Command.Insert key value) result map.new }
+    ensures step { Executes L.LIMIT K.eq map.old (Command.Insert key value) result map.new }
     ensures cost { GrewBy (command_cost L.LIMIT K.eq S.hash map.old
         (Command.Insert key value) (is_refused result)) tally.old tally.new }
 {
@@ -184,7 +184,7 @@ fn insert_new<K: Eq + Hash + Drop, V: Copy, S: KeyHasher<K>, L: Limit>(
     value: V,
     tally: &mut Tally,
 ) -> Reply<K, V>
-    ensures step { Steps L.LIMIT K.eq map.old (Command.InsertNew key value) result map.new }
+    ensures step { Executes L.LIMIT K.eq map.old (Command.InsertNew key value) result map.new }
     ensures cost { GrewBy (command_cost L.LIMIT K.eq S.hash map.old
         (Command.InsertNew key value) (is_refused result)) tally.old tally.new }
 {
@@ -204,7 +204,7 @@ fn entry_or_insert<K: Eq + Hash + Drop, V: Copy, S: KeyHasher<K>, L: Limit>(
     value: V,
     tally: &mut Tally,
 ) -> Reply<K, V>
-    ensures step { Steps L.LIMIT K.eq map.old (Command.EntryOrInsert key value) result map.new }
+    ensures step { Executes L.LIMIT K.eq map.old (Command.EntryOrInsert key value) result map.new }
     ensures cost { GrewBy (command_cost L.LIMIT K.eq S.hash map.old
         (Command.EntryOrInsert key value) (is_refused result)) tally.old tally.new }
 {
@@ -221,7 +221,7 @@ fn raw_or_insert<K: Eq + Hash + Drop, V: Copy, S: KeyHasher<K>, L: Limit>(
     value: V,
     tally: &mut Tally,
 ) -> Reply<K, V>
-    ensures step { Steps L.LIMIT K.eq map.old (Command.RawOrInsert key value) result map.new }
+    ensures step { Executes L.LIMIT K.eq map.old (Command.RawOrInsert key value) result map.new }
     ensures cost { GrewBy (command_cost L.LIMIT K.eq S.hash map.old
         (Command.RawOrInsert key value) (is_refused result)) tally.old tally.new }
 {
@@ -240,7 +240,7 @@ fn reserve<K: Eq + Hash, V, S: KeyHasher<K>, L: Limit>(
     map: &mut LimitedHashMap<K, V, S, L>,
     additional: usize,
 ) -> Reply<K, V>
-    ensures { Steps L.LIMIT K.eq map.old (Command.Reserve additional) result map.new }
+    ensures { Executes L.LIMIT K.eq map.old (Command.Reserve additional) result map.new }
 {
     match map.reserve(additional) {
         Ok(()) => Reply::Done,

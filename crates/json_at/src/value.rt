@@ -2,7 +2,7 @@
 ghost use Rattle.std.specs.Prelude.{◌≡◌, true, IfOk, IfErr, OnOk, OnErr};
 ghost use Rattle.std.specs.Option.{option_copied, option_copied_mut};
 ghost use Rattle.std.specs.String.{string_eq};
-ghost use Rattle.halfbrown.specs.Collection.{put_all};
+ghost use Rattle.halfbrown.specs.FromIter.{put_all};
 ghost use Rattle.halfbrown.specs.Pairs.{put, value_of};
 
 mod error;

@@ -1,6 +1,6 @@
 //! What a call is answered, in one line.
 
-use crate::kinds::{Named, Number};
+use crate::key_traits::{Named, Number};
 use crate::words::Name;
 use halfbrown::{Refusal, RefusedKey};
 use std::{fmt, io};

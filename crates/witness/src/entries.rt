@@ -1,7 +1,7 @@
 //! The calls of the entry of a key.
 
 use crate::answer::{Answer, of_index, or_refused_key, said};
-use crate::kinds::{Named, Number, add_to, added_to};
+use crate::key_traits::{Named, Number, add_to, added_to};
 use crate::player::Player;
 use crate::words::number;
 use halfbrown::{Entry, Limit, RefusedKey};

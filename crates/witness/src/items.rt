@@ -4,7 +4,7 @@ ghost use Rattle.std.specs.Iterator.{at_most};
 ghost use Rattle.std.specs.Vec.Iter.{into_iter_items};
 
 use crate::answer::refused;
-use crate::kinds::{Named, Number};
+use crate::key_traits::{Named, Number};
 use crate::player::{Player, print_map, print_state};
 use crate::words::count;
 use halfbrown::{DefaultHashBuilder, HashMap, Limit, LimitedHashMap, Refusal, hashmap};

@@ -8,7 +8,7 @@ ghost use Rattle.std.specs.Cmp.{nat_eq_equiv};
 
 use crate::answer::{Answer, named};
 use crate::counts::Counts;
-use crate::kinds::{Item, Named};
+use crate::key_traits::{Item, Named};
 use crate::words::Name;
 use halfbrown::Equivalent;
 use std::alloc::AllocError;

@@ -2,7 +2,7 @@
 
 use crate::answer::Answer;
 use crate::keys::{Id, Key};
-use crate::kinds::Number;
+use crate::key_traits::Number;
 use crate::player::Player;
 use crate::words::{Form, count, key_name, number, parse_form, parse_which};
 use halfbrown::Limit;

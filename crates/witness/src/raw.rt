@@ -2,7 +2,7 @@
 ghost use Rattle.std.specs.Prelude.{◌≡◌};
 
 use crate::answer::{Answer, of_index, or_refused, said};
-use crate::kinds::{Named, Number, add_to};
+use crate::key_traits::{Named, Number, add_to};
 use crate::player::Player;
 use crate::searches::of_found;
 use crate::words::number;

@@ -2,7 +2,7 @@
 
 use crate::answer::{Answer, or_refused_key, print_gap, refused, said};
 use crate::keys::Key;
-use crate::kinds::Named;
+use crate::key_traits::Named;
 use crate::player::Player;
 use crate::words::{count, number};
 use halfbrown::run::run;

@@ -2,12 +2,12 @@
 
 use crate::answer::refused;
 use crate::counts::Counts;
-use crate::first::{First, Kind, parse_first};
+use crate::first_line::{First, Kind, parse_first};
 use crate::keys::Key;
-use crate::kinds::Number;
+use crate::key_traits::Number;
 use crate::player::Player;
 use crate::values::{Nothing, Owned};
-use halfbrown::{Limit, LimitedHashMap, Refusal, UpTo};
+use halfbrown::{Limit, LimitedHashMap, Refusal, AtMost};
 use std::alloc::Global;
 use std::fmt::Debug;
 use std::io;
@@ -33,18 +33,18 @@ pub(crate) fn play(rt: &(impl Print + AllocGlobal), text: &str) -> io::Result<()
 // Plays the lines after a first one. False where it made no maps.
 fn begin<R: Print + AllocGlobal>(rt: &R, first: First<'_>, rest: &[&str]) -> io::Result<bool> {
     match first.limit {
-        "0" => begin_any::<R, UpTo<0>>(rt, first, rest),
-        "1" => begin_any::<R, UpTo<1>>(rt, first, rest),
-        "2" => begin_any::<R, UpTo<2>>(rt, first, rest),
-        "3" => begin_any::<R, UpTo<3>>(rt, first, rest),
-        "5" => begin_any::<R, UpTo<5>>(rt, first, rest),
-        "32" => begin_any::<R, UpTo<32>>(rt, first, rest),
-        "18446744073709551615" => begin_any::<R, UpTo<18446744073709551615>>(rt, first, rest),
-        "4" => begin_plain::<R, UpTo<4>>(rt, first, rest),
-        "8" => begin_plain::<R, UpTo<8>>(rt, first, rest),
-        "64" => begin_plain::<R, UpTo<64>>(rt, first, rest),
-        "1152921504606846976" => begin_plain::<R, UpTo<1152921504606846976>>(rt, first, rest),
-        "20" => begin_unit::<R, UpTo<20>>(rt, first, rest),
+        "0" => begin_any::<R, AtMost<0>>(rt, first, rest),
+        "1" => begin_any::<R, AtMost<1>>(rt, first, rest),
+        "2" => begin_any::<R, AtMost<2>>(rt, first, rest),
+        "3" => begin_any::<R, AtMost<3>>(rt, first, rest),
+        "5" => begin_any::<R, AtMost<5>>(rt, first, rest),
+        "32" => begin_any::<R, AtMost<32>>(rt, first, rest),
+        "18446744073709551615" => begin_any::<R, AtMost<18446744073709551615>>(rt, first, rest),
+        "4" => begin_plain::<R, AtMost<4>>(rt, first, rest),
+        "8" => begin_plain::<R, AtMost<8>>(rt, first, rest),
+        "64" => begin_plain::<R, AtMost<64>>(rt, first, rest),
+        "1152921504606846976" => begin_plain::<R, AtMost<1152921504606846976>>(rt, first, rest),
+        "20" => begin_unit::<R, AtMost<20>>(rt, first, rest),
         _ => print_bad(rt),
     }
 }

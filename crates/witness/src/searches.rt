@@ -4,7 +4,7 @@ ghost use Rattle.halfbrown.specs.Pairs.{holds_by};
 
 use crate::answer::{Answer, of_bool, of_index, of_pair, of_removed, of_value, or_refused, said};
 use crate::counts::Counts;
-use crate::kinds::{Named, Number};
+use crate::key_traits::{Named, Number};
 use crate::player::Player;
 use crate::words::Which;
 use halfbrown::{Equivalent, Limit, LimitedHashMap, RawEntryMut, Refusal};

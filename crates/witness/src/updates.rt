@@ -4,7 +4,7 @@ ghost use Rattle.halfbrown.specs.Pairs.{holds};
 
 use crate::answer::{Answer, of_pair, of_removed, refused, said};
 use crate::counts::Counts;
-use crate::kinds::{Named, Number};
+use crate::key_traits::{Named, Number};
 use crate::player::Player;
 use halfbrown::{Limit, LimitedHashMap, Refused};
 use std::hash::{BuildHasher, Hash};

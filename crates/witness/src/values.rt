@@ -5,7 +5,7 @@ ghost use Rattle.std.proofs.Common.{rules};
 
 use crate::answer::{Answer, numbered};
 use crate::counts::Counts;
-use crate::kinds::{Item, Number};
+use crate::key_traits::{Item, Number};
 use std::alloc::AllocError;
 use std::fmt;
 

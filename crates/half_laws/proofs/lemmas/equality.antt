@@ -17,9 +17,9 @@ use Rattle.halfbrown.proofs.lemmas.map.Equality.{same_pairs-by_pairs, all_search
 use Rattle.halfbrown.specs.Pairs.{value_of}
 use Rattle.halfbrown.proofs.CallerLemmas.{lookup_permuted}
 use Rattle.std.proofs.Math.Nat.{mul-le-mul_left}
-use Rattle.half_store.specs.Pairs.{index_of}
+use Rattle.half_store.specs.PairLists.{index_of}
 use Rattle.half_store.specs.Work.{Work, first_match_cost}
-use Rattle.halfbrown.specs.Costs.{Range, between, candidates, exactly, probe_length, search_asked, KeySearchCosts, SearchesCost}
+use Rattle.halfbrown.specs.Costs.{Range, between, candidates, exactly, probe_length, search_asked, IsKeySearchCost, AreSearchCosts}
 use Rattle.halfbrown.specs.State.{State}
 use Rattle.halfbrown.proofs.lemmas.pairs.Indices.{first_of_index, first_within}
 
@@ -49,41 +49,41 @@ looks_none : (is_vec : Bool) (searched : Range) → is_vec ≡ true → (cond is
 looks_none is_vec searched vector = ap (λ b. (cond b (exactly 0) searched).most) vector
 
 module _ {K V S : Type 0} (eq : K → K → Bool) (hash : S → K → ℕ) (m : State K V S) where
-  none_cost : (before after : Work) → SearchesCost eq hash m [] before after → after ≡ before
-  unfolding SearchesCost
+  none_cost : (before after : Work) → AreSearchCosts eq hash m [] before after → after ≡ before
+  unfolding AreSearchCosts
   none_cost before after costs = costs
 
-  one_compares : (k : K) (before after : Work) → KeySearchCosts eq hash m k before after → after.compared ≤ before.compared + length m.pairs
+  one_compares : (k : K) (before after : Work) → IsKeySearchCost eq hash m k before after → after.compared ≤ before.compared + length m.pairs
   one_compares k before after costs = grind (arith, common_steps, compares_most, count_by-le-length, is_some, length-keys_of)
 
-  one_looks : (k : K) (before after : Work) → KeySearchCosts eq hash m k before after → after.looked ≤ before.looked + (length m.pairs + 1)
+  one_looks : (k : K) (before after : Work) → IsKeySearchCost eq hash m k before after → after.looked ≤ before.looked + (length m.pairs + 1)
   one_looks k before after costs = grind (arith, common_steps)
 
-  asked_together : (ks : List K) (before after : Work) → SearchesCost eq hash m ks before after
+  asked_together : (ks : List K) (before after : Work) → AreSearchCosts eq hash m ks before after
       → after.asked ≡ before.asked + search_asked m.is_vec * length ks
-  unfolding SearchesCost
+  unfolding AreSearchCosts
   asked_together [] before after costs = omega (arith, ap (λ w. w.asked) costs)
   asked_together (k ∷ ks) before after costs =
       omega (arith, costs.1.grew.asked, asked_together ks costs.0 after costs.2)
 
-  compared_together : (ks : List K) (before after : Work) → SearchesCost eq hash m ks before after
+  compared_together : (ks : List K) (before after : Work) → AreSearchCosts eq hash m ks before after
       → after.compared ≤ before.compared + length ks * length m.pairs
-  unfolding SearchesCost
+  unfolding AreSearchCosts
   compared_together [] before after costs = omega (arith, ap (λ w. w.compared) costs)
   compared_together (k ∷ ks) before after costs =
       omega (arith, one_compares k before costs.0 costs.1, compared_together ks costs.0 after costs.2)
 
-  looked_together : (ks : List K) (before after : Work) → SearchesCost eq hash m ks before after
+  looked_together : (ks : List K) (before after : Work) → AreSearchCosts eq hash m ks before after
       → after.looked ≤ before.looked + length ks * (length m.pairs + 1)
-  unfolding SearchesCost
+  unfolding AreSearchCosts
   looked_together [] before after costs = omega (arith, ap (λ w. w.looked) costs)
   looked_together (k ∷ ks) before after costs =
       omega (arith, one_looks k before costs.0 costs.1, looked_together ks costs.0 after costs.2)
 
   -- in a vector no bucket is read
-  looked_in_vector : m.is_vec ≡ true → (ks : List K) (before after : Work) → SearchesCost eq hash m ks before after
+  looked_in_vector : m.is_vec ≡ true → (ks : List K) (before after : Work) → AreSearchCosts eq hash m ks before after
       → after.looked ≡ before.looked
-  unfolding SearchesCost
+  unfolding AreSearchCosts
   looked_in_vector vector [] before after costs = ap (λ w. w.looked) costs
   looked_in_vector vector (k ∷ ks) before after costs =
       let probe = probe_length (hash m.builder) m.is_vec m.capacity m.pairs (hash m.builder k) in
@@ -142,7 +142,7 @@ module _ {K V S : Type 0} (eq : K → K → Bool) (value_eq : V → V → Bool) 
       let looked = looked_together eq hash m searched before after costs in
       record {
         lengths_differ = λ differ. none_cost eq hash m before after
-            (subst (λ ks. SearchesCost eq hash m ks before after) (sym (none_searched eq value_eq left m.pairs differ)) costs);
+            (subst (λ ks. AreSearchCosts eq hash m ks before after) (sym (none_searched eq value_eq left m.pairs differ)) costs);
         asked = asked;
         asked_in_a_vector = λ vector. omega (arith, asked, asked_never m.is_vec (length searched) vector);
         asked_at_most = omega (arith, asked, asked_most m.is_vec (length searched) (length left) most);

@@ -9,7 +9,7 @@ use Rattle.std.proofs.lemmas.Map.Made.{is_some-lookup}
 use Rattle.std.specs.Map.{keys_of}
 use Rattle.half_store.specs.Reach.{reach}
 use Rattle.half_store.specs.Capacity.{buckets_of, buckets_for}
-use Rattle.half_store.specs.Pairs.{index_of}
+use Rattle.half_store.specs.PairLists.{index_of}
 use Rattle.half_store.specs.Table.{Contents}
 use Rattle.half_store.specs.Work.{Work, first_match_cost}
 use Rattle.half_store.proofs.lemmas.table.Reach.{reach-none}
@@ -18,9 +18,9 @@ use Rattle.half_laws.proofs.lemmas.probes.{history_law as reach_history, crowdin
 use Rattle.halfbrown.specs.declared.run.Command.{Command}
 use Rattle.halfbrown.specs.declared.run.Command.TheVariants.{Insert, InsertNew, EntryOrInsert, RawOrInsert}
 use Rattle.halfbrown.specs.Costs.{Range, Cost, GrewBy, GrewWithin, exactly, between, add_ranges, no_cost, search_asked, candidates}
-use Rattle.halfbrown.specs.Costs.{probe_length, search_compares, search_looks, search_cost, search_cost_of, switched, grown, insertion_looks}
-use Rattle.halfbrown.specs.Costs.{insert_cost, raw_insert_cost, new_key_cost, is_switch_refused, capacity_switched, capacity_grown}
-use Rattle.halfbrown.specs.Costs.{addition_grows, SearchCosts, InsertCosts}
+use Rattle.halfbrown.specs.Costs.{probe_length, search_compares, search_looks, search_cost, key_search_cost, switched, grown, insertion_looks}
+use Rattle.halfbrown.specs.Costs.{insert_cost, raw_insert_cost, new_key_cost, is_switch_refused, capacity_after_switch, capacity_after_growth}
+use Rattle.halfbrown.specs.Costs.{addition_grows, IsSearchCost, IsInsertCost}
 use Rattle.half_laws.specs.MapLaws.{HoldSamePairs, GrewExactlyBy, HistoryLaw, InsertionHistoryLaw, CrowdedSearchLaw, CrowdedInsertionLaw}
 use Rattle.half_laws.specs.MapLaws.{CrowdedProbeLaw, CrowdedGrowthLaw, CrowdedUncheckedLaw, CommandCostLaw, CommandHashesLaw}
 use Rattle.half_laws.specs.MapLaws.{CommandBucketsLaw, finds_in_vector}
@@ -110,11 +110,11 @@ module _ {K V S : Type 0} (hash : S → K → ℕ) where
 
     module _ (m : State K V S) (s : IsState eq limit m) (stays : is_vec_after limit m ≡ false) where
       -- once the form has changed, the capacity is that of a table that the pairs fit
-      switched_fits : IsTableCapacity (capacity_switched limit m) × (length m.pairs ≤ capacity_switched limit m)
+      switched_fits : IsTableCapacity (capacity_after_switch limit m) × (length m.pairs ≤ capacity_after_switch limit m)
       switched_fits = grind (arith, common_steps, buckets_for-least, capacity_for-capacity_of, full_len, table_of)
 
       -- and so is the one that is enough for one pair more
-      grown_fits : IsTableCapacity (capacity_grown limit m) × (length m.pairs ≤ capacity_grown limit m)
+      grown_fits : IsTableCapacity (capacity_after_growth limit m) × (length m.pairs ≤ capacity_after_growth limit m)
       grown_fits = grind (arith, common_steps, buckets_for-least, capacity_for-capacity_of, of_both, switched_fits)
 
     pub crowded_growth_law : CrowdedGrowthLaw V limit eq hash
@@ -123,8 +123,8 @@ module _ {K V S : Type 0} (hash : S → K → ℕ) where
         let more = grown_fits m s stays in
         let h : K → ℕ = hash m.builder in
         let found : Option ℕ = index_of (eq k) (keys_of m.pairs) in
-        let first : ℕ = probe_length h false (capacity_switched limit m) m.pairs (h k) in
-        let second : ℕ = probe_length h false (capacity_grown limit m) m.pairs (h k) in
+        let first : ℕ = probe_length h false (capacity_after_switch limit m) m.pairs (h k) in
+        let second : ℕ = probe_length h false (capacity_after_growth limit m) m.pairs (h k) in
         record {
           first = first;
           second = second;
@@ -136,12 +136,12 @@ module _ {K V S : Type 0} (hash : S → K → ℕ) where
               (exactly (if granted && not (holds eq m.pairs k) && addition_grows limit m then second else 0))) before.looked after.looked)
               (found_where_held (eq k) m.pairs)
               (subst (λ b. GrewWithin (if is_switch_refused limit m granted then exactly 0 else add_ranges
-              (search_looks h (h k) found b (capacity_switched limit m) m.pairs)
+              (search_looks h (h k) found b (capacity_after_switch limit m) m.pairs)
               (exactly (if granted && not (holds eq m.pairs k)
-              && addition_grows limit m then probe_length h b (capacity_grown limit m) m.pairs (h k) else 0)))
+              && addition_grows limit m then probe_length h b (capacity_after_growth limit m) m.pairs (h k) else 0)))
               before.looked after.looked) stays costs.grew.looked));
-          first_crowded = λ passed l. crowded_probe_law m.builder (capacity_switched limit m) m.pairs (hash m.builder k) passed is.0 is.1 l;
-          second_crowded = λ passed l. crowded_probe_law m.builder (capacity_grown limit m) m.pairs (hash m.builder k) passed more.0 more.1
+          first_crowded = λ passed l. crowded_probe_law m.builder (capacity_after_switch limit m) m.pairs (hash m.builder k) passed is.0 is.1 l;
+          second_crowded = λ passed l. crowded_probe_law m.builder (capacity_after_growth limit m) m.pairs (hash m.builder k) passed more.0 more.1
               l;
         }
 
@@ -178,7 +178,7 @@ module _ {K V S : Type 0} (hash : S → K → ℕ) where
   cost_asking test sought asked m = search_cost (hash m.builder) sought (index_of test (keys_of m.pairs)) asked m.is_vec m.capacity m.pairs
 
   search_exactly : (m : State K V S) (test : K → Bool) (sought asked : ℕ) (before after : Work) → holds_by test m.pairs ≡ false
-      → SearchCosts hash sought m (index_of test (keys_of m.pairs)) asked before after
+      → IsSearchCost hash sought m (index_of test (keys_of m.pairs)) asked before after
       → GrewExactlyBy (least_work (cost_asking test sought asked m)) before after
   search_exactly m test sought asked before after unheld costs =
       grew_exactly (cost_asking test sought asked m) before after
@@ -233,18 +233,18 @@ module _ {K V S : Type 0} (hash : S → K → ℕ) where
 
   module _ (eq : K → K → Bool) where
     insertion_exactly : (limit : ℕ) (m : State K V S) (k : K) (granted : Bool) (before after : Work) → holds eq m.pairs k ≡ false
-        → InsertCosts limit eq hash m k granted before after
+        → IsInsertCost limit eq hash m k granted before after
         → GrewExactlyBy (least_work (insert_cost limit eq hash m k granted)) before after
     insertion_exactly limit m k granted before after unheld costs =
         let stays : Bool = is_vec_after limit m in
         let probe : ℕ = if granted && not (holds eq m.pairs k)
         && addition_grows limit m then insertion_looks hash (grown limit m) k else 0 in
         grew_exactly (insert_cost limit eq hash m k granted) before after
-        (exact_unless_refused (is_switch_refused limit m granted) (search_cost_of eq hash (switched limit m) k).compared
+        (exact_unless_refused (is_switch_refused limit m granted) (key_search_cost eq hash (switched limit m) k).compared
         (compares-exact (eq k) (hash m.builder) (hash m.builder k) m.pairs unheld stays))
         (exact_unless_refused (is_switch_refused limit m granted)
-        (add_ranges (search_cost_of eq hash (switched limit m) k).looked (exactly probe))
-        (ap (λ n. n + probe) (looks-exact (eq k) (hash m.builder) (hash m.builder k) m.pairs unheld stays (capacity_switched limit m))))
+        (add_ranges (key_search_cost eq hash (switched limit m) k).looked (exactly probe))
+        (ap (λ n. n + probe) (looks-exact (eq k) (hash m.builder) (hash m.builder k) m.pairs unheld stays (capacity_after_switch limit m))))
         costs.grew
 
   module _ (limit : ℕ) (eq : K → K → Bool) where
@@ -275,15 +275,15 @@ module _ {K V S : Type 0} (hash : S → K → ℕ) where
 
       module _ (k : K) where
         search-compared : (is_vec && holds eq xs k) ≡ false
-            → (search_cost_of eq hash first k).compared ≡ (search_cost_of eq hash second k).compared
+            → (key_search_cost eq hash first k).compared ≡ (key_search_cost eq hash second k).compared
         search-compared none = compares-same builder xs ys p (eq k) (hash builder k) is_vec none
 
-        search-looked : (search_cost_of eq hash first k).looked ≡ (search_cost_of eq hash second k).looked
+        search-looked : (key_search_cost eq hash first k).looked ≡ (key_search_cost eq hash second k).looked
         search-looked = simp (found k, looked k)
 
         -- the search of a switching call
         searched-alike : (stays (length xs) && holds eq xs k) ≡ false
-            → (search_cost_of eq hash (switched limit first) k).compared ≡ (search_cost_of eq hash (switched limit second) k).compared
+            → (key_search_cost eq hash (switched limit first) k).compared ≡ (key_search_cost eq hash (switched limit second) k).compared
         searched-alike none = compares-same builder xs ys p (eq k) (hash builder k) (stays (length xs)) none
             ∙ (λ i. search_compares (hash builder) (hash builder k) (index_of (eq k) (keys_of ys)) (stays (long i)) ys)
 

@@ -2,7 +2,7 @@
 ghost use Rattle.std.specs.Prelude.{◌≡◌, ◌<◌, Some, length, slice_get};
 ghost use Rattle.std.specs.Borrow.{sem};
 ghost use Rattle.std.specs.Map.{keys_of};
-ghost use Rattle.half_store.specs.Pairs.{set_key};
+ghost use Rattle.half_store.specs.PairLists.{set_key};
 ghost use Rattle.half_store.specs.Store.{store_with_pairs};
 
 use super::Store;

@@ -5,9 +5,9 @@ ghost use Rattle.std.specs.Fn.{FnReturnsAt};
 ghost use Rattle.std.specs.Map.{keys_of};
 ghost use Rattle.std.specs.Map.Calls.{CalledAtPair, TakesPair, CallableOnEachPair, RetainsPairs};
 ghost use Rattle.std.specs.Option.{option_map};
-ghost use Rattle.half_store.specs.Pairs.{swap_remove_at};
-ghost use Rattle.half_store.specs.Removal.{SwapRemoves, Takes};
-ghost use Rattle.half_store.specs.Replaced.{Replaces};
+ghost use Rattle.half_store.specs.PairLists.{swap_remove_at};
+ghost use Rattle.half_store.specs.StoreRemoval.{SwapRemoves, Takes};
+ghost use Rattle.half_store.specs.PutsBack.{ReplacesValue};
 ghost use Rattle.half_store.specs.Store.{store_pushed, IsVacancy, KeepsForm};
 
 use super::Store;
@@ -76,7 +76,7 @@ impl<K, V> Store<K, V> {
         requires within { index < length self.old.pairs }
         requires callable { (key : Bor K) (value : V) → slice_get self.old.pairs index ≡ Some (key.now, value)
             → F.pre f key value }
-        ensures replaces { Replaces (F.post f) self.old.pairs index self.new.pairs
+        ensures replaces { ReplacesValue (F.post f) self.old.pairs index self.new.pairs
             (option_map (λ removed. removed.0) result) }
         ensures hash { IfSome result (λ removed. self.old.is_vec ≡ false
             → slice_get self.old.hashes index ≡ Some removed.1) }

@@ -4,7 +4,7 @@ ghost use Rattle.half_store.specs.Columns.{no_pairs};
 ghost use Rattle.half_store.specs.Store.{vector_of, KeepsForm};
 
 use super::Store;
-use crate::{Table, VecMap};
+use crate::{Table, Columns};
 use std::collections::VecDeque;
 use std::marker::Model;
 use std::mem::replace;
@@ -58,7 +58,7 @@ impl<K, V> Store<K, V> {
         ensures after { self.new ≡ vector_of no_pairs }
         ensures small { length result.pairs < 2 ^ 63 }
     {
-        let none = VecMap::new(self.columns.allocator());
+        let none = Columns::new(self.columns.allocator());
         let (keys, values) = replace(&mut self.columns, none).into_columns();
         Drained {
             keys: VecDeque::from_vec(keys),
@@ -110,7 +110,7 @@ impl<K, V> IntoStore<K, V> for Drained<K, V> {
         keys.clear();
         values.clear();
         Store {
-            columns: VecMap::from_columns(keys.into_vec(), values.into_vec()),
+            columns: Columns::from_columns(keys.into_vec(), values.into_vec()),
             table,
         }
     }

@@ -7,7 +7,7 @@ ghost use Rattle.std.specs.Result.{result_ok};
 ghost use Rattle.half_store.specs.Capacity.{buckets_of};
 ghost use Rattle.half_store.specs.Probe.{looked_more};
 ghost use Rattle.half_store.specs.Reach.{reach};
-ghost use Rattle.half_store.specs.Search.{Finds, CostsFinding};
+ghost use Rattle.half_store.specs.Search.{StoreSearch, IsStoreSearchCost};
 ghost use Rattle.half_store.specs.Store.{IsVacancy};
 
 use super::Store;
@@ -27,8 +27,8 @@ impl<K, V> Store<K, V> {
     ) -> Result<usize, Vacancy>
         requires { (key : Bor K) (index : ℕ) → slice_get (keys_of self.now.pairs) index ≡ Some key.now
             → F.pre matches.now key }
-        ensures found { Finds (FnReturnsAt F.Fn matches.now) hash self.now result }
-        ensures cost { CostsFinding self.now hash scan (result_ok result) tally.old tally.new }
+        ensures found { StoreSearch (FnReturnsAt F.Fn matches.now) hash self.now result }
+        ensures cost { IsStoreSearchCost self.now hash scan (result_ok result) tally.old tally.new }
     {
         // This test comes before the keys are read, so that LLVM can join it to the one before the hash.
         let Some(table) = &self.table else {

@@ -3,13 +3,13 @@ ghost use Rattle.std.specs.Prelude.{◌≡◌, ℕ, ◌^◌, ◌<◌, ◌≤◌,
 ghost use Rattle.std.specs.Prelude.{length, nat_le, IsOk, IfOk, OnOk, OnErr, IfErr, if◌then◌else◌};
 ghost use Rattle.std.specs.List.{AllZip};
 ghost use Rattle.half_store.specs.Capacity.{capacity_for, least_capacity, vec_shrunk, shrunk_capacity};
-ghost use Rattle.half_store.specs.Memory.{arrays_of, bytes_of, bytes};
+ghost use Rattle.half_store.specs.Arrays.{arrays_of, bytes_of, bytes};
 ghost use Rattle.half_store.specs.Refusal.{refusal_of};
 ghost use Rattle.half_store.specs.Store.{reserved, reserved_capacity};
 
 use super::Store;
 use crate::refusal::check_size;
-use crate::{Arrays, Refusal, Table, VecMap};
+use crate::{Arrays, Refusal, Table, Columns};
 use std::alloc::{AllocError, Global};
 
 impl<K, V> Store<K, V> {
@@ -33,13 +33,13 @@ impl<K, V> Store<K, V> {
         check_size(capacity)?;
         if capacity <= limit {
             return Ok(Store {
-                columns: VecMap::with_capacity(alloc, capacity)?,
+                columns: Columns::with_capacity(alloc, capacity)?,
                 table: None,
             });
         }
         let table = Box::new(alloc, Table::with_capacity(alloc, capacity)?)?;
         Ok(Store {
-            columns: VecMap::with_capacity(alloc, table.capacity())?,
+            columns: Columns::with_capacity(alloc, table.capacity())?,
             table: Some(table),
         })
     }
@@ -68,7 +68,7 @@ impl<K, V> Store<K, V> {
 
     /// Makes the capacity enough for so many pairs more, in a vector for no more in all than the limit.
     ///
-    /// Where it is not enough yet, a table gets the least of its series that is, and a vector grows as `VecMap::grow` says.
+    /// Where it is not enough yet, a table gets the least of its series that is, and a vector grows as `Columns::grow` says.
     #[inline(never)]
     pub fn reserve(&mut self, additional: usize, limit: usize) -> Result<(), Refusal>
         ensures pairs { self.new.pairs ≡ self.old.pairs }

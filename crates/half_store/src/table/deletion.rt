@@ -8,11 +8,11 @@ ghost use Rattle.half_store.specs.Buckets.{slots_by};
 ghost use Rattle.half_store.specs.Capacity.{IsBucketCount};
 ghost use Rattle.half_store.specs.Probe.{looked_more, LooksWithin, probe_reads, removal_reads};
 ghost use Rattle.half_store.specs.Reach.{home, probe_distance, IsNearer};
-ghost use Rattle.half_store.specs.Removal.{Renames};
+ghost use Rattle.half_store.specs.StoreRemoval.{Renames};
 ghost use Rattle.half_store.specs.Search.{ReturnsAt};
 ghost use Rattle.half_store.specs.Table.{table_state};
 ghost use Rattle.half_store.specs.TableLayout.{IsIndexed, IsIndexedButFor, IsVacantBeside};
-ghost use Rattle.half_store.specs.TableSearch.{FindsInTable};
+ghost use Rattle.half_store.specs.TableSearch.{TableSearch};
 
 use super::find::find_with_bucket;
 use super::probe::{home, next};
@@ -112,7 +112,7 @@ pub(super) fn take_in<B: Words, K, F: Fn(&K) -> bool>(
     requires keys { length hashes.old.items ≤ length keys.now }
     requires callable { (key : Bor K) (index : ℕ) → slice_get hashes.old.items index ≡ Some hash
         → slice_get keys.now index ≡ Some key.now → F.pre matches.now key }
-    ensures finds { FindsInTable (ReturnsAt (FnReturnsAt F.Fn matches.now) keys.now)
+    ensures finds { TableSearch (ReturnsAt (FnReturnsAt F.Fn matches.now) keys.now)
         (table_state hashes.old.items (slots_by hashes.old.items (B.words buckets.old)))
         hash result tally.old tally.new }
     ensures hashes { IfOk result (λ index. hashes.new.items ≡ swap_remove hashes.old.items index 0) }

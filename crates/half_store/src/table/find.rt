@@ -6,7 +6,7 @@ ghost use Rattle.half_store.specs.Buckets.{slots_by};
 ghost use Rattle.half_store.specs.Search.{ReturnsAt};
 ghost use Rattle.half_store.specs.Table.{table_state};
 ghost use Rattle.half_store.specs.TableLayout.{IsIndexed};
-ghost use Rattle.half_store.specs.TableSearch.{FindsInTable, without_bucket};
+ghost use Rattle.half_store.specs.TableSearch.{TableSearch, without_bucket};
 
 use super::probe::search;
 use crate::Tally;
@@ -25,7 +25,7 @@ pub(super) fn find_in<P: Buckets, K, F: Fn(&K) -> bool>(
     requires keys { length (P.hashes buckets.now) ≤ length keys.now }
     requires callable { (key : Bor K) (index : ℕ) → slice_get (P.hashes buckets.now) index ≡ Some hash
         → slice_get keys.now index ≡ Some key.now → F.pre matches.now key }
-    ensures { FindsInTable (ReturnsAt (FnReturnsAt F.Fn matches.now) keys.now)
+    ensures { TableSearch (ReturnsAt (FnReturnsAt F.Fn matches.now) keys.now)
         (table_state (P.hashes buckets.now) (slots_by (P.hashes buckets.now) (P.words buckets.now)))
         hash result tally.old tally.new }
 {
@@ -48,7 +48,7 @@ pub(super) fn find_with_bucket<P: Buckets, K, F: Fn(&K) -> bool>(
     requires keys { length (P.hashes buckets.now) ≤ length keys.now }
     requires callable { (key : Bor K) (index : ℕ) → slice_get (P.hashes buckets.now) index ≡ Some hash
         → slice_get keys.now index ≡ Some key.now → F.pre matches.now key }
-    ensures finds { FindsInTable (ReturnsAt (FnReturnsAt F.Fn matches.now) keys.now)
+    ensures finds { TableSearch (ReturnsAt (FnReturnsAt F.Fn matches.now) keys.now)
         (table_state (P.hashes buckets.now) (slots_by (P.hashes buckets.now) (P.words buckets.now)))
         hash (without_bucket result) tally.old tally.new }
     ensures at { IfOk result (λ found. slice_index (P.words buckets.now) found.1 ≡ found.0 + 1) }

@@ -7,7 +7,7 @@ use super::Table;
 use super::rehash::rehash;
 use crate::Refusal;
 use crate::capacity::{buckets_for, capacity_of};
-use crate::column::{clone_all, move_to};
+use crate::blocks::{clone_all, move_to};
 use crate::refusal::check_size;
 use crate::words::{WordArray, Words};
 use std::alloc::{AllocError, Global};

@@ -5,14 +5,14 @@ ghost use Rattle.std.specs.Map.Calls.{CalledAtPair, TakesPair, CallableOnEachPai
 
 use super::Table;
 use super::rehash::rehash;
-use crate::VecMap;
+use crate::Columns;
 
 impl Table {
-    /// Calls `f` at each of these pairs, whose index this is, and keeps those that it accepts, as `VecMap::retain` does. The
+    /// Calls `f` at each of these pairs, whose index this is, and keeps those that it accepts, as `Columns::retain` does. The
     /// buckets stay, and no memory is taken.
     pub fn retain<K: Drop, V: Drop, F: FnMut(&K, &mut V) -> bool>(
         &mut self,
-        pairs: &mut VecMap<K, V>,
+        pairs: &mut Columns<K, V>,
         f: F,
     )
         requires len { length self.old.hashes ≡ length pairs.old.pairs }

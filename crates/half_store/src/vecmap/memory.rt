@@ -1,12 +1,12 @@
 //! The capacity of the two columns: making it, and giving it back. All memory is had before anything changes.
 ghost use Rattle.std.specs.Prelude.{◌≡◌, ◌^◌, ◌<◌, ◌≤◌, max, [], length, IsOk, IfOk, OnOk, OnErr, IfErr};
 ghost use Rattle.std.specs.List.{AllZip};
-ghost use Rattle.half_store.specs.Capacity.{capacity_of, capacity_for, grown_capacity};
+ghost use Rattle.half_store.specs.Capacity.{capacity_of, capacity_for, generous_capacity};
 ghost use Rattle.half_store.specs.Refusal.{refusal_of};
 
-use super::VecMap;
+use super::Columns;
 use crate::capacity::{buckets_for, capacity_of};
-use crate::column::{clone_all, grow_beside, move_to};
+use crate::blocks::{clone_all, grow_beside, move_to};
 use crate::refusal::check_size;
 use crate::{Refusal, Table};
 use std::alloc::{AllocError, Global};
@@ -14,16 +14,16 @@ use std::alloc::{AllocError, Global};
 /// The least capacity that a growth makes, unless the limit is less.
 const FIRST_CAPACITY: usize = 8;
 
-impl<K, V> VecMap<K, V> {
+impl<K, V> Columns<K, V> {
     /// No pairs, with exactly this capacity.
-    pub fn with_capacity(alloc: Global, capacity: usize) -> Result<VecMap<K, V>, AllocError>
+    pub fn with_capacity(alloc: Global, capacity: usize) -> Result<Columns<K, V>, AllocError>
         ensures pairs { IfOk result (λ m. m.pairs ≡ []) }
         ensures capacity { IfOk result (λ m. m.capacity ≡ capacity) }
         ensures needed { capacity ≡ 0 → IsOk result }
     {
         let keys = Vec::with_capacity(alloc, capacity)?;
         match Vec::with_capacity(alloc, capacity) {
-            Ok(values) => Ok(VecMap { keys, values }),
+            Ok(values) => Ok(Columns { keys, values }),
             Err(refused) => {
                 keys.destroy_empty();
                 Err(refused)
@@ -32,7 +32,7 @@ impl<K, V> VecMap<K, V> {
     }
 
     /// Clones of the pairs, in order, with exactly this capacity. Both columns get their memory before anything is cloned.
-    pub fn clone_with_capacity(&self, capacity: usize) -> Result<VecMap<K, V>, AllocError>
+    pub fn clone_with_capacity(&self, capacity: usize) -> Result<Columns<K, V>, AllocError>
     where
         K: Clone,
         V: Clone,
@@ -46,7 +46,7 @@ impl<K, V> VecMap<K, V> {
         let values = Vec::with_capacity(alloc, capacity)?;
         let keys = clone_all(self.keys.as_slice(), keys)?;
         let values = clone_all(self.values.as_slice(), values)?;
-        Ok(VecMap { keys, values })
+        Ok(Columns { keys, values })
     }
 
     /// How many pairs fit before more memory is needed.
@@ -73,7 +73,7 @@ impl<K, V> VecMap<K, V> {
         ensures needed { OnErr result ((0 < length self.old.pairs) × (length self.old.pairs < self.old.capacity)) }
     {
         if self.len() < self.capacity() {
-            let fresh = VecMap::with_capacity(self.allocator(), self.len())?;
+            let fresh = Columns::with_capacity(self.allocator(), self.len())?;
             self.move_to(fresh);
         }
         Ok(())
@@ -99,7 +99,7 @@ impl<K, V> VecMap<K, V> {
             return Ok(());
         }
         let fresh = Table::empty(self.allocator(), buckets)?;
-        let columns = VecMap::with_capacity(self.allocator(), capacity)?;
+        let columns = Columns::with_capacity(self.allocator(), capacity)?;
         table.move_to(fresh);
         self.move_to(columns);
         Ok(())
@@ -144,13 +144,13 @@ impl<K, V> VecMap<K, V> {
     }
 
     // Moves the pairs into columns that have room for them. Each column's old memory is freed as soon as it is empty.
-    fn move_to(&mut self, fresh: VecMap<K, V>)
+    fn move_to(&mut self, fresh: Columns<K, V>)
         requires empty { fresh.pairs ≡ [] }
         requires fits { length self.old.pairs ≤ fresh.capacity }
         ensures pairs { self.new.pairs ≡ self.old.pairs }
         ensures capacity { self.new.capacity ≡ fresh.capacity }
     {
-        let VecMap { keys, values } = fresh;
+        let Columns { keys, values } = fresh;
         move_to(&mut self.keys, keys);
         move_to(&mut self.values, values);
     }
@@ -164,7 +164,7 @@ impl<K, V> VecMap<K, V> {
         ensures pairs { self.new.pairs ≡ self.old.pairs }
         ensures ok { OnOk result (needed ≤ self.new.capacity) }
         ensures grown { OnOk result (self.old.capacity < needed
-            → self.new.capacity ≡ grown_capacity limit self.old.capacity needed) }
+            → self.new.capacity ≡ generous_capacity limit self.old.capacity needed) }
         ensures keeps_capacity { self.old.capacity ≤ self.new.capacity }
         ensures within_limit { self.new.capacity ≤ max self.old.capacity limit }
         ensures unneeded { needed ≤ self.old.capacity → self.new ≡ self.old }

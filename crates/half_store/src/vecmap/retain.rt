@@ -4,9 +4,9 @@ ghost use Rattle.std.specs.List.{zip};
 ghost use Rattle.std.specs.Map.{keys_of};
 ghost use Rattle.std.specs.Map.Calls.{CalledAtPair, TakesPair, CallableOnEachPair, RetainsPairs};
 
-use super::VecMap;
+use super::Columns;
 
-impl<K, V> VecMap<K, V> {
+impl<K, V> Columns<K, V> {
     /// Calls `f` at each pair, in order, and keeps those that it accepts, in their order, with the values that it left. Where
     /// there is a column of hashes beside the pairs, those of the pairs that are kept come first in it, in their order. The
     /// capacity stays, and no memory is taken.

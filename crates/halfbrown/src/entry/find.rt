@@ -1,7 +1,7 @@
 //! Making the entry of a key, or of the pair at an index.
 ghost use Rattle.std.specs.Prelude.{◌≡◌, ◌<◌, ◌↔◌, IfSome, IsSome, is_ok, length, slice_get};
 ghost use Rattle.std.specs.Borrow.{sem};
-ghost use Rattle.halfbrown.specs.Costs.{InsertCosts};
+ghost use Rattle.halfbrown.specs.Costs.{IsInsertCost};
 ghost use Rattle.halfbrown.specs.Entry.{MakesEntry, Occupied, entry_pair, map_of, map_ref, with_value};
 ghost use Rattle.halfbrown.specs.EntryLending.{RestsIfNoEntry, RestsIfRefused};
 ghost use Rattle.halfbrown.specs.Pairs.{set_value};
@@ -47,7 +47,7 @@ impl<K: Eq + Hash, V, S: KeyHasher<K>, L: Limit> LimitedHashMap<K, V, S, L> {
         K: Drop,
         ensures* unchanged { sem 𝓛 (RestsIfRefused K.row V.row S.row L.row self.entry result) }
         ensures makes { MakesEntry L.LIMIT K.eq self.entry key result }
-        ensures cost { InsertCosts L.LIMIT K.eq S.hash self.old key (is_ok result)
+        ensures cost { IsInsertCost L.LIMIT K.eq S.hash self.old key (is_ok result)
             tally.old tally.new }
     {
         match self.prepare(&key, tally) {

@@ -2,13 +2,13 @@
 ghost use Rattle.std.specs.Prelude.{◌≡◌, ◌<◌, true, Some, IfSome, length, slice_get};
 ghost use Rattle.std.specs.Borrow.{sem};
 ghost use Rattle.std.specs.Map.{keys_of};
-ghost use Rattle.half_store.specs.Pairs.{set_key};
+ghost use Rattle.half_store.specs.PairLists.{set_key};
 ghost use Rattle.halfbrown.specs.State.{IsState, WithPairs};
 ghost use Rattle.halfbrown.specs.Updates.{HasKeyReplaced};
 
 use super::LimitedHashMap;
 use crate::{KeyHasher, Limit};
-use half_store::VecMap;
+use half_store::Columns;
 use std::hash::Hash;
 
 impl<K: Eq + Hash, V, S: KeyHasher<K>, L: Limit> LimitedHashMap<K, V, S, L> {
@@ -16,7 +16,7 @@ impl<K: Eq + Hash, V, S: KeyHasher<K>, L: Limit> LimitedHashMap<K, V, S, L> {
 
     /// The keys and the values, by index.
     #[inline(always)]
-    pub(crate) fn columns(&self) -> &VecMap<K, V>
+    pub(crate) fn columns(&self) -> &Columns<K, V>
         ensures pairs { result.now.pairs ≡ self.now.pairs }
         ensures state { IsState K.eq L.LIMIT self.now }
     {

@@ -2,7 +2,7 @@
 ghost use Rattle.std.specs.Prelude.{◌≡◌, ◌⊎◌, ℕ, ⊤, true, List, IfOk, IfErr, OnOk, OnErr};
 ghost use Rattle.std.specs.Iterator.{IsFinite, Drains, DrainsIf, ExtendsWithItems};
 ghost use Rattle.std.specs.Iterator.SizeHint.{IsWithinCount};
-ghost use Rattle.halfbrown.specs.Collection.{Gives, AreFirst, Extends, IsCollection, IsRefusedCollection, IsRefusedInsertion};
+ghost use Rattle.halfbrown.specs.FromIter.{Gives, AreFirst, Extends, IsCollection, IsRefusedCollection, IsRefusedInsertion};
 ghost use Rattle.halfbrown.specs.Costs.{Cost, GrewBy};
 ghost use Rattle.halfbrown.specs.State.{IsState};
 

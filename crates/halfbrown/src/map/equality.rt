@@ -1,7 +1,7 @@
 //! Whether two maps hold the same pairs, in any order and whatever their forms.
 ghost use Rattle.std.specs.Prelude.{◌≡◌};
 ghost use Rattle.std.specs.List.{list_all};
-ghost use Rattle.halfbrown.specs.Costs.{SearchesCost};
+ghost use Rattle.halfbrown.specs.Costs.{AreSearchCosts};
 ghost use Rattle.halfbrown.specs.Equality.{same_pairs, holds_pair, keys_while_same, searched_keys};
 ghost use Rattle.halfbrown.specs.EqualityLaws.{same_maps_per, same_maps_equiv};
 
@@ -40,7 +40,7 @@ impl<K: Eq + Hash, V: PartialEq, S: KeyHasher<K>, L: Limit> LimitedHashMap<K, V,
         tally: &mut Tally,
     ) -> bool
         ensures same { result ≡ same_pairs K.eq V.eq self.now.pairs other.now.pairs }
-        ensures cost { SearchesCost K.eq S2.hash
+        ensures cost { AreSearchCosts K.eq S2.hash
             other.now (searched_keys K.eq V.eq self.now.pairs other.now.pairs) tally.old tally.new }
     {
         if self.len() != other.len() {
@@ -57,7 +57,7 @@ impl<K: Eq + Hash, V: PartialEq, S: KeyHasher<K>, L: Limit> LimitedHashMap<K, V,
         tally: &mut Tally,
     ) -> bool
         ensures held { result ≡ list_all (holds_pair K.eq V.eq other.now.pairs) self.now.pairs }
-        ensures cost { SearchesCost K.eq S2.hash other.now
+        ensures cost { AreSearchCosts K.eq S2.hash other.now
             (keys_while_same K.eq V.eq self.now.pairs other.now.pairs) tally.old tally.new }
     {
         for index in 0..self.len() {

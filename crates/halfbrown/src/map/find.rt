@@ -6,9 +6,9 @@ ghost use Rattle.std.specs.Map.{keys_of};
 ghost use Rattle.std.specs.Result.{result_ok};
 ghost use Rattle.half_store.specs.Work.{first_match_cost};
 ghost use Rattle.half_store.specs.declared.vecmap.search.Scan.TheVariants.{ByKey};
-ghost use Rattle.halfbrown.specs.Costs.{SearchCosts, CostsSearch, CostsHashedSearch};
-ghost use Rattle.halfbrown.specs.Lookup.{LooksUp};
-ghost use Rattle.halfbrown.specs.Match.{Matches};
+ghost use Rattle.halfbrown.specs.Costs.{IsSearchCost, IsLookupCost, IsHashedLookupCost};
+ghost use Rattle.halfbrown.specs.Lookup.{KeySearch};
+ghost use Rattle.halfbrown.specs.Match.{MatchSearch};
 ghost use Rattle.halfbrown.specs.State.{IsState};
 
 use super::LimitedHashMap;
@@ -20,9 +20,9 @@ impl<K: Eq + Hash, V, S: KeyHasher<K>, L: Limit> LimitedHashMap<K, V, S, L> {
     /// Searches for a key: in a vector by `==` alone, in a table among the keys of its hash.
     #[inline(always)]
     pub(crate) fn find<Q: Equivalent<K>>(&self, key: Q, tally: &mut Tally) -> Result<usize, Vacancy>
-        ensures found { LooksUp (Q.equivalent key)
+        ensures found { KeySearch (Q.equivalent key)
             (S.hash_writes self.now.builder (Q.hash_input key)) self.now result }
-        ensures cost { CostsSearch S.hash (S.hash_writes self.now.builder (Q.hash_input key))
+        ensures cost { IsLookupCost S.hash (S.hash_writes self.now.builder (Q.hash_input key))
             (Q.equivalent key) self.now tally.old tally.new }
         ensures state { IsState K.eq L.LIMIT self.now }
     {
@@ -40,9 +40,9 @@ impl<K: Eq + Hash, V, S: KeyHasher<K>, L: Limit> LimitedHashMap<K, V, S, L> {
     ) -> Result<usize, Vacancy>
         requires { self.now.is_vec ≡ false
             → hash ≡ S.hash_writes self.now.builder (Q.hash_input key) }
-        ensures found { LooksUp (Q.equivalent key)
+        ensures found { KeySearch (Q.equivalent key)
             (S.hash_writes self.now.builder (Q.hash_input key)) self.now result }
-        ensures cost { CostsHashedSearch S.hash (S.hash_writes self.now.builder (Q.hash_input key))
+        ensures cost { IsHashedLookupCost S.hash (S.hash_writes self.now.builder (Q.hash_input key))
             (Q.equivalent key) self.now tally.old tally.new }
         ensures state { IsState K.eq L.LIMIT self.now }
     {
@@ -63,8 +63,8 @@ impl<K: Eq + Hash, V, S: KeyHasher<K>, L: Limit> LimitedHashMap<K, V, S, L> {
     ) -> Result<usize, Vacancy>
         requires { (key : Bor K) (index : ℕ)
             → slice_get (keys_of self.now.pairs) index ≡ Some key.now → F.pre matches.now key }
-        ensures found { Matches (FnReturnsAt F.Fn matches.now) S.hash hash self.now result }
-        ensures cost { SearchCosts S.hash hash self.now (result_ok result) 0 tally.old tally.new }
+        ensures found { MatchSearch (FnReturnsAt F.Fn matches.now) S.hash hash self.now result }
+        ensures cost { IsSearchCost S.hash hash self.now (result_ok result) 0 tally.old tally.new }
         ensures in_order { scan ≡ ByKey → self.now.is_vec ≡ true → tally.new.compared
             ≡ tally.old.compared + first_match_cost (result_ok result) (length self.now.pairs) }
         ensures state { IsState K.eq L.LIMIT self.now }

@@ -4,7 +4,7 @@ ghost use Rattle.std.specs.Borrow.{sem};
 ghost use Rattle.std.specs.Map.{values_of, lookup, lookup_entry};
 ghost use Rattle.std.specs.Map.Iter.{deref_pair};
 ghost use Rattle.std.specs.Option.{option_copied, option_copied_mut, option_map};
-ghost use Rattle.halfbrown.specs.Costs.{CostsSearch};
+ghost use Rattle.halfbrown.specs.Costs.{IsLookupCost};
 ghost use Rattle.halfbrown.specs.Pairs.{holds_by, set_by};
 ghost use Rattle.halfbrown.specs.State.{IsState};
 ghost use Rattle.halfbrown.specs.Updates.{HasSetBy};
@@ -36,7 +36,7 @@ impl<K: Eq + Hash, V, S: KeyHasher<K>, L: Limit> LimitedHashMap<K, V, S, L> {
     #[inline(always)]
     pub fn get_counted<Q: Equivalent<K>>(&self, key: Q, tally: &mut Tally) -> Option<&V>
         ensures value { option_copied result ≡ lookup (Q.equivalent key) self.now.pairs }
-        ensures cost { CostsSearch S.hash (S.hash_writes self.now.builder (Q.hash_input key))
+        ensures cost { IsLookupCost S.hash (S.hash_writes self.now.builder (Q.hash_input key))
             (Q.equivalent key) self.now tally.old tally.new }
         ensures state { IsState K.eq L.LIMIT self.now }
     {
@@ -65,7 +65,7 @@ impl<K: Eq + Hash, V, S: KeyHasher<K>, L: Limit> LimitedHashMap<K, V, S, L> {
     ) -> Option<(&K, &V)>
         ensures pair { option_map deref_pair result
             ≡ lookup_entry (Q.equivalent key) self.now.pairs }
-        ensures cost { CostsSearch S.hash (S.hash_writes self.now.builder (Q.hash_input key))
+        ensures cost { IsLookupCost S.hash (S.hash_writes self.now.builder (Q.hash_input key))
             (Q.equivalent key) self.now tally.old tally.new }
         ensures state { IsState K.eq L.LIMIT self.now }
     {
@@ -100,7 +100,7 @@ impl<K: Eq + Hash, V, S: KeyHasher<K>, L: Limit> LimitedHashMap<K, V, S, L> {
         ensures value { option_copied_mut result ≡ lookup (Q.equivalent key) self.old.pairs }
         ensures written { OnSome result ((written : V) → HasSetBy K.eq (Q.equivalent key)
             self.old.pairs written (set_by (Q.equivalent key) self.old.pairs written)) }
-        ensures cost { CostsSearch S.hash (S.hash_writes self.old.builder (Q.hash_input key))
+        ensures cost { IsLookupCost S.hash (S.hash_writes self.old.builder (Q.hash_input key))
             (Q.equivalent key) self.old tally.old tally.new }
         ensures state { IsState K.eq L.LIMIT self.old }
     {
@@ -127,7 +127,7 @@ impl<K: Eq + Hash, V, S: KeyHasher<K>, L: Limit> LimitedHashMap<K, V, S, L> {
     #[inline(always)]
     pub fn contains_key_counted<Q: Equivalent<K>>(&self, key: Q, tally: &mut Tally) -> bool
         ensures held { result ≡ holds_by (Q.equivalent key) self.now.pairs }
-        ensures cost { CostsSearch S.hash (S.hash_writes self.now.builder (Q.hash_input key))
+        ensures cost { IsLookupCost S.hash (S.hash_writes self.now.builder (Q.hash_input key))
             (Q.equivalent key) self.now tally.old tally.new }
         ensures state { IsState K.eq L.LIMIT self.now }
     {
@@ -139,7 +139,7 @@ impl<K: Eq + Hash, V, S: KeyHasher<K>, L: Limit> LimitedHashMap<K, V, S, L> {
     pub fn index_counted<Q: Equivalent<K>>(&self, key: Q, tally: &mut Tally) -> &V
         requires { IsTrue (holds_by (Q.equivalent key) self.now.pairs) }
         ensures value { lookup (Q.equivalent key) self.now.pairs ≡ Some result.now }
-        ensures cost { CostsSearch S.hash (S.hash_writes self.now.builder (Q.hash_input key))
+        ensures cost { IsLookupCost S.hash (S.hash_writes self.now.builder (Q.hash_input key))
             (Q.equivalent key) self.now tally.old tally.new }
     {
         match self.find(key, tally) {

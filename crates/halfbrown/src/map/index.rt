@@ -4,8 +4,8 @@ ghost use Rattle.std.specs.Borrow.{sem};
 ghost use Rattle.std.specs.Map.{keys_of, values_of};
 ghost use Rattle.std.specs.Map.Iter.{deref_pair};
 ghost use Rattle.std.specs.Option.{option_copied_mut, option_map};
-ghost use Rattle.half_store.specs.Pairs.{index_of};
-ghost use Rattle.halfbrown.specs.Costs.{CostsSearch};
+ghost use Rattle.half_store.specs.PairLists.{index_of};
+ghost use Rattle.halfbrown.specs.Costs.{IsLookupCost};
 ghost use Rattle.halfbrown.specs.Lookup.{FindsIndex};
 ghost use Rattle.halfbrown.specs.Removal.{RemovesAt};
 ghost use Rattle.halfbrown.specs.State.{IsState};
@@ -106,7 +106,7 @@ impl<K: Eq + Hash, V, S: KeyHasher<K>, L: Limit> LimitedHashMap<K, V, S, L> {
     pub fn get_index_of_counted<Q: Equivalent<K>>(&self, key: Q, tally: &mut Tally) -> Option<usize>
         ensures index { result ≡ index_of (Q.equivalent key) (keys_of self.now.pairs) }
         ensures found { FindsIndex (Q.equivalent key) self.now.pairs result }
-        ensures cost { CostsSearch S.hash (S.hash_writes self.now.builder (Q.hash_input key))
+        ensures cost { IsLookupCost S.hash (S.hash_writes self.now.builder (Q.hash_input key))
             (Q.equivalent key) self.now tally.old tally.new }
         ensures state { IsState K.eq L.LIMIT self.now }
     {

@@ -1,9 +1,9 @@
 //! Insertion, and what it writes: a value replaced, or a pair added whose key is not held.
 ghost use Rattle.std.specs.Prelude.{◌≡◌, ◌<◌, false, Some, [], ◌∷◌, ◌++◌, length, slice_get, is_ok};
 ghost use Rattle.std.specs.Map.{values_of};
-ghost use Rattle.half_store.specs.Pairs.{set_value};
+ghost use Rattle.half_store.specs.PairLists.{set_value};
 ghost use Rattle.half_store.specs.Store.{IsVacancy};
-ghost use Rattle.halfbrown.specs.Costs.{new_key_cost, GrewBy, InsertCosts};
+ghost use Rattle.halfbrown.specs.Costs.{new_key_cost, GrewBy, IsInsertCost};
 ghost use Rattle.halfbrown.specs.Insertion.{Inserts, InsertsNewKey};
 ghost use Rattle.halfbrown.specs.Pairs.{holds};
 ghost use Rattle.halfbrown.specs.Preparation.{pushed};
@@ -50,7 +50,7 @@ impl<K: Eq + Hash, V, S: KeyHasher<K>, L: Limit> LimitedHashMap<K, V, S, L> {
     where
         K: Drop,
         ensures inserts { Inserts L.LIMIT K.eq self.old key value result self.new }
-        ensures cost { InsertCosts L.LIMIT K.eq S.hash self.old key (is_ok result)
+        ensures cost { IsInsertCost L.LIMIT K.eq S.hash self.old key (is_ok result)
             tally.old tally.new }
     {
         match self.prepare(&key, tally) {

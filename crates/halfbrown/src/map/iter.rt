@@ -4,7 +4,7 @@ ghost use Rattle.std.specs.Borrow.{sem};
 ghost use Rattle.std.specs.Iterator.Runs.{YieldsMutRefsInOrder};
 ghost use Rattle.std.specs.Map.{keys_of, values_of};
 ghost use Rattle.std.specs.Map.Iter.{LendsValuesInOrder};
-ghost use Rattle.half_store.specs.Pairs.{set_values};
+ghost use Rattle.half_store.specs.PairLists.{set_values};
 ghost use Rattle.halfbrown.specs.State.{IsState, with_pairs};
 ghost use Rattle.halfbrown.specs.Updates.{HasValues};
 

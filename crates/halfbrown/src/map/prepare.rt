@@ -3,7 +3,7 @@ ghost use Rattle.std.specs.Prelude.{◌≡◌, ◌<◌, false, length, OnOk, OnE
 ghost use Rattle.half_store.specs.Probe.{looked_more};
 ghost use Rattle.half_store.specs.Store.{IsVacancy};
 ghost use Rattle.half_store.specs.Work.{asked_more};
-ghost use Rattle.halfbrown.specs.Costs.{probe_length, switch_asked, new_key_cost, GrewBy, InsertCosts};
+ghost use Rattle.halfbrown.specs.Costs.{probe_length, switch_asked, new_key_cost, GrewBy, IsInsertCost};
 ghost use Rattle.halfbrown.specs.Growth.{is_full, addition_needs, insert_needs, new_key_needs, IsRefusal};
 ghost use Rattle.halfbrown.specs.Pairs.{holds};
 ghost use Rattle.halfbrown.specs.Preparation.{IsReadyFor, HasVacancyFor, Prepares, growth_looks};
@@ -27,14 +27,14 @@ impl<K: Eq + Hash, V, S: KeyHasher<K>, L: Limit> LimitedHashMap<K, V, S, L> {
         ensures ready { IfOk result (IsReadyFor K.eq S.hash self.new key.now) }
         ensures refused { IfErr result (IsRefusal (insert_needs L.LIMIT K.eq self.old key.now)) }
         ensures err { OnErr result (self.new ≡ self.old) }
-        ensures cost { InsertCosts L.LIMIT K.eq S.hash self.old key.now (is_ok result)
+        ensures cost { IsInsertCost L.LIMIT K.eq S.hash self.old key.now (is_ok result)
             tally.old tally.new }
         ensures state { IsState K.eq L.LIMIT self.new }
     {
         self.switch_if_full(tally)?;
         match self.find(key, tally) {
             Ok(index) => Ok(Ok(index)),
-            Err(vacancy) => Ok(Err(self.make_capacity_at(vacancy, tally)?)),
+            Err(vacancy) => Ok(Err(self.make_capacity_keeping(vacancy, tally)?)),
         }
     }
 
@@ -60,7 +60,7 @@ impl<K: Eq + Hash, V, S: KeyHasher<K>, L: Limit> LimitedHashMap<K, V, S, L> {
 
     /// Switches a full map and makes capacity for one pair more, whatever its key. Nothing is searched.
     #[inline(always)]
-    pub(crate) fn prepare_any(&mut self, tally: &mut Tally) -> Result<(), Refusal>
+    pub(crate) fn make_room(&mut self, tally: &mut Tally) -> Result<(), Refusal>
         ensures ok { OnOk result
             (Prepares L.LIMIT self.old (new_key_needs L.LIMIT self.old) self.new) }
         ensures capacity { OnOk result (length self.new.pairs < self.new.capacity) }
@@ -104,7 +104,7 @@ impl<K: Eq + Hash, V, S: KeyHasher<K>, L: Limit> LimitedHashMap<K, V, S, L> {
 
     // The same, and returns the vacancy, whose bucket is probed for anew where the table grew.
     #[inline(always)]
-    fn make_capacity_at(&mut self, vacancy: Vacancy, tally: &mut Tally) -> Result<Vacancy, Refusal>
+    fn make_capacity_keeping(&mut self, vacancy: Vacancy, tally: &mut Tally) -> Result<Vacancy, Refusal>
         requires not_full { is_full L.LIMIT self.old ≡ false }
         requires vacant { 0 < self.old.capacity
             → IsVacancy self.old.is_vec (contents_of self.old) vacancy.hash vacancy }

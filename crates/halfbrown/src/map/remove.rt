@@ -2,8 +2,8 @@
 ghost use Rattle.std.specs.Prelude.{◌≡◌, ◌<◌, false, length, slice_get, Some};
 ghost use Rattle.std.specs.Map.{values_of, lookup, lookup_entry};
 ghost use Rattle.std.specs.Option.{option_map};
-ghost use Rattle.half_store.specs.Pairs.{swap_remove_at};
-ghost use Rattle.halfbrown.specs.Costs.{CostsSearch, CostsHashedSearch};
+ghost use Rattle.half_store.specs.PairLists.{swap_remove_at};
+ghost use Rattle.halfbrown.specs.Costs.{IsLookupCost, IsHashedLookupCost};
 ghost use Rattle.halfbrown.specs.Removal.{Removes};
 ghost use Rattle.halfbrown.specs.State.{IsState, WithPairs};
 
@@ -37,7 +37,7 @@ impl<K: Eq + Hash, V, S: KeyHasher<K>, L: Limit> LimitedHashMap<K, V, S, L> {
         K: Drop,
         ensures removes { Removes L.LIMIT K.eq (Q.equivalent key) self.old
             (lookup (Q.equivalent key) self.old.pairs) result self.new }
-        ensures cost { CostsSearch S.hash (S.hash_writes self.old.builder (Q.hash_input key))
+        ensures cost { IsLookupCost S.hash (S.hash_writes self.old.builder (Q.hash_input key))
             (Q.equivalent key) self.old tally.old tally.new }
     {
         let (_, value) = self.remove_entry_counted(key, tally)?;
@@ -67,7 +67,7 @@ impl<K: Eq + Hash, V, S: KeyHasher<K>, L: Limit> LimitedHashMap<K, V, S, L> {
     ) -> Option<(K, V)>
         ensures removes { Removes L.LIMIT K.eq (Q.equivalent key) self.old
             (lookup_entry (Q.equivalent key) self.old.pairs) result self.new }
-        ensures cost { CostsSearch S.hash (S.hash_writes self.old.builder (Q.hash_input key))
+        ensures cost { IsLookupCost S.hash (S.hash_writes self.old.builder (Q.hash_input key))
             (Q.equivalent key) self.old tally.old tally.new }
     {
         let hash = self.hash_in_table(&key, tally);
@@ -109,7 +109,7 @@ impl<K: Eq + Hash, V, S: KeyHasher<K>, L: Limit> LimitedHashMap<K, V, S, L> {
             (lookup_entry (Q.equivalent key) self.old.pairs) result self.new }
         ensures value { option_map (λ pair. pair.1) result
             ≡ lookup (Q.equivalent key) self.old.pairs }
-        ensures cost { CostsHashedSearch S.hash (S.hash_writes self.old.builder (Q.hash_input key))
+        ensures cost { IsHashedLookupCost S.hash (S.hash_writes self.old.builder (Q.hash_input key))
             (Q.equivalent key) self.old tally.old tally.new }
     {
         self.remove_hashed(hash, key, tally)
@@ -129,7 +129,7 @@ impl<K: Eq + Hash, V, S: KeyHasher<K>, L: Limit> LimitedHashMap<K, V, S, L> {
             (lookup_entry (Q.equivalent key) self.old.pairs) result self.new }
         ensures value { option_map (λ pair. pair.1) result
             ≡ lookup (Q.equivalent key) self.old.pairs }
-        ensures cost { CostsHashedSearch S.hash (S.hash_writes self.old.builder (Q.hash_input key))
+        ensures cost { IsHashedLookupCost S.hash (S.hash_writes self.old.builder (Q.hash_input key))
             (Q.equivalent key) self.old tally.old tally.new }
     {
         let matches = move |held: &K| -> bool

@@ -2,7 +2,7 @@
 ghost use Rattle.std.specs.Prelude.{◌≡◌, ◌<◌, false, Some, IfSome, OnSome, length, slice_get};
 ghost use Rattle.std.specs.Borrow.{Bor};
 ghost use Rattle.std.specs.Option.{option_map};
-ghost use Rattle.half_store.specs.Replaced.{Replaces};
+ghost use Rattle.half_store.specs.PutsBack.{ReplacesValue};
 ghost use Rattle.halfbrown.specs.Pairs.{holds};
 ghost use Rattle.halfbrown.specs.State.{IsState, WithPairs};
 
@@ -22,7 +22,7 @@ impl<K: Eq + Hash, V, S: KeyHasher<K>, L: Limit> LimitedHashMap<K, V, S, L> {
         requires within { index < length self.old.pairs }
         requires callable { (key : Bor K) (value : V)
             → slice_get self.old.pairs index ≡ Some (key.now, value) → F.pre f key value }
-        ensures replaces { Replaces (F.post f) self.old.pairs index self.new.pairs
+        ensures replaces { ReplacesValue (F.post f) self.old.pairs index self.new.pairs
             (option_map (λ removed. removed.0) result) }
         ensures after { WithPairs self.old self.new.pairs self.new }
         ensures hash { IfSome result

@@ -5,8 +5,8 @@ ghost use Rattle.std.specs.Fn.{FnReturnsAt};
 ghost use Rattle.std.specs.Map.{keys_of};
 ghost use Rattle.std.specs.Map.Iter.{deref_pair};
 ghost use Rattle.std.specs.Option.{option_map};
-ghost use Rattle.halfbrown.specs.Costs.{CostsSearch, CostsHashedSearch};
-ghost use Rattle.halfbrown.specs.Match.{FindsMatch, FindingCosts};
+ghost use Rattle.halfbrown.specs.Costs.{IsLookupCost, IsHashedLookupCost};
+ghost use Rattle.halfbrown.specs.Match.{ReadsMatch, IsMatchCost};
 ghost use Rattle.halfbrown.specs.RawEntryBuilder.{map_in};
 ghost use Rattle.halfbrown.specs.RawSearch.{ReadsPair};
 
@@ -36,7 +36,7 @@ impl<'a, K: Eq + Hash, V, S: KeyHasher<K>, L: Limit> RawEntryBuilder<'a, K, V, S
         tally: &mut Tally,
     ) -> Option<(&'a K, &'a V)>
         ensures reads { ReadsPair (Q.equivalent key) (map_in self.entry) result }
-        ensures cost { CostsSearch S.hash (S.hash_writes (map_in self.entry).builder
+        ensures cost { IsLookupCost S.hash (S.hash_writes (map_in self.entry).builder
             (Q.hash_input key)) (Q.equivalent key) (map_in self.entry) tally.old tally.new }
     {
         match self.map.find(key, tally) {
@@ -73,7 +73,7 @@ impl<'a, K: Eq + Hash, V, S: KeyHasher<K>, L: Limit> RawEntryBuilder<'a, K, V, S
     ) -> Option<(&'a K, &'a V)>
         requires { hash ≡ S.hash_writes (map_in self).builder (Q.hash_input key) }
         ensures reads { ReadsPair (Q.equivalent key) (map_in self.entry) result }
-        ensures cost { CostsHashedSearch S.hash (S.hash_writes (map_in self.entry).builder
+        ensures cost { IsHashedLookupCost S.hash (S.hash_writes (map_in self.entry).builder
             (Q.hash_input key)) (Q.equivalent key) (map_in self.entry) tally.old tally.new }
     {
         match self.map.find_hashed(hash, key, tally) {
@@ -95,7 +95,7 @@ impl<'a, K: Eq + Hash, V, S: KeyHasher<K>, L: Limit> RawEntryBuilder<'a, K, V, S
     pub fn from_hash<F: Fn(&K) -> bool>(self, hash: u64, is_match: F) -> Option<(&'a K, &'a V)>
         requires { (key : Bor K) (index : ℕ)
             → slice_get (keys_of (map_in self).pairs) index ≡ Some key.now → F.pre is_match key }
-        ensures { FindsMatch (FnReturnsAt F.Fn is_match) S.hash hash (map_in self.entry)
+        ensures { ReadsMatch (FnReturnsAt F.Fn is_match) S.hash hash (map_in self.entry)
             (option_map deref_pair result) }
     {
         uncounted!(self.from_hash_counted(hash, is_match))
@@ -111,9 +111,9 @@ impl<'a, K: Eq + Hash, V, S: KeyHasher<K>, L: Limit> RawEntryBuilder<'a, K, V, S
     ) -> Option<(&'a K, &'a V)>
         requires { (key : Bor K) (index : ℕ)
             → slice_get (keys_of (map_in self).pairs) index ≡ Some key.now → F.pre is_match key }
-        ensures found { FindsMatch (FnReturnsAt F.Fn is_match) S.hash hash (map_in self.entry)
+        ensures found { ReadsMatch (FnReturnsAt F.Fn is_match) S.hash hash (map_in self.entry)
             (option_map deref_pair result) }
-        ensures cost { FindingCosts S.hash hash (map_in self.entry) (option_map deref_pair result)
+        ensures cost { IsMatchCost S.hash hash (map_in self.entry) (option_map deref_pair result)
             tally.old tally.new }
     {
         let index = self.map.find_match(hash, &is_match, Scan::ByKey, tally).ok()?;

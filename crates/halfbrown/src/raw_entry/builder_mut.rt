@@ -3,11 +3,11 @@ ghost use Rattle.std.specs.Prelude.{◌≡◌, ℕ, Some, slice_get};
 ghost use Rattle.std.specs.Borrow.{Bor};
 ghost use Rattle.std.specs.Fn.{FnReturnsAt};
 ghost use Rattle.std.specs.Map.{keys_of};
-ghost use Rattle.halfbrown.specs.Costs.{CostsSearch, CostsHashedSearch};
-ghost use Rattle.halfbrown.specs.Match.{FindingCosts};
+ghost use Rattle.halfbrown.specs.Costs.{IsLookupCost, IsHashedLookupCost};
+ghost use Rattle.halfbrown.specs.Match.{IsMatchCost};
 ghost use Rattle.halfbrown.specs.RawEntry.{found_pair};
 ghost use Rattle.halfbrown.specs.RawEntryBuilder.{ready_map};
-ghost use Rattle.halfbrown.specs.RawSearch.{Searches, SearchesByMatch};
+ghost use Rattle.halfbrown.specs.RawSearch.{EntersByKey, EntersByMatch};
 
 use super::{RawEntryBuilderMut, RawEntryMut, RawVacantEntryMut};
 use crate::{Equivalent, KeyHasher, Limit, OccupiedEntry};
@@ -26,7 +26,7 @@ impl<'a, K: Eq + Hash, V, S: KeyHasher<K>, L: Limit> RawEntryBuilderMut<'a, K, V
     /// ```
     #[inline]
     pub fn from_key<Q: Equivalent<K>>(self, key: Q) -> RawEntryMut<'a, K, V, S, L>
-        ensures { Searches L.LIMIT K.eq (Q.equivalent key) self.entry result }
+        ensures { EntersByKey L.LIMIT K.eq (Q.equivalent key) self.entry result }
     {
         uncounted!(self.from_key_counted(key))
     }
@@ -38,8 +38,8 @@ impl<'a, K: Eq + Hash, V, S: KeyHasher<K>, L: Limit> RawEntryBuilderMut<'a, K, V
         key: Q,
         tally: &mut Tally,
     ) -> RawEntryMut<'a, K, V, S, L>
-        ensures searches { Searches L.LIMIT K.eq (Q.equivalent key) self.entry result }
-        ensures cost { CostsSearch S.hash (S.hash_writes (ready_map self.entry).builder
+        ensures searches { EntersByKey L.LIMIT K.eq (Q.equivalent key) self.entry result }
+        ensures cost { IsLookupCost S.hash (S.hash_writes (ready_map self.entry).builder
             (Q.hash_input key)) (Q.equivalent key) (ready_map self.entry) tally.old tally.new }
     {
         let RawEntryBuilderMut::Ready(ready) = self;
@@ -66,7 +66,7 @@ impl<'a, K: Eq + Hash, V, S: KeyHasher<K>, L: Limit> RawEntryBuilderMut<'a, K, V
         key: Q,
     ) -> RawEntryMut<'a, K, V, S, L>
         requires { hash ≡ S.hash_writes (ready_map self).builder (Q.hash_input key) }
-        ensures { Searches L.LIMIT K.eq (Q.equivalent key) self.entry result }
+        ensures { EntersByKey L.LIMIT K.eq (Q.equivalent key) self.entry result }
     {
         uncounted!(self.from_key_hashed_nocheck_counted(hash, key))
     }
@@ -80,8 +80,8 @@ impl<'a, K: Eq + Hash, V, S: KeyHasher<K>, L: Limit> RawEntryBuilderMut<'a, K, V
         tally: &mut Tally,
     ) -> RawEntryMut<'a, K, V, S, L>
         requires { hash ≡ S.hash_writes (ready_map self).builder (Q.hash_input key) }
-        ensures searches { Searches L.LIMIT K.eq (Q.equivalent key) self.entry result }
-        ensures cost { CostsHashedSearch S.hash (S.hash_writes (ready_map self.entry).builder
+        ensures searches { EntersByKey L.LIMIT K.eq (Q.equivalent key) self.entry result }
+        ensures cost { IsHashedLookupCost S.hash (S.hash_writes (ready_map self.entry).builder
             (Q.hash_input key)) (Q.equivalent key) (ready_map self.entry) tally.old tally.new }
     {
         let RawEntryBuilderMut::Ready(ready) = self;
@@ -108,7 +108,7 @@ impl<'a, K: Eq + Hash, V, S: KeyHasher<K>, L: Limit> RawEntryBuilderMut<'a, K, V
     pub fn from_hash<F: Fn(&K) -> bool>(self, hash: u64, is_match: F) -> RawEntryMut<'a, K, V, S, L>
         requires { (key : Bor K) (index : ℕ)
             → slice_get (keys_of (ready_map self).pairs) index ≡ Some key.now → F.pre is_match key }
-        ensures { SearchesByMatch L.LIMIT K.eq (FnReturnsAt F.Fn is_match)
+        ensures { EntersByMatch L.LIMIT K.eq (FnReturnsAt F.Fn is_match)
             S.hash hash self.entry result }
     {
         uncounted!(self.from_hash_counted(hash, is_match))
@@ -124,9 +124,9 @@ impl<'a, K: Eq + Hash, V, S: KeyHasher<K>, L: Limit> RawEntryBuilderMut<'a, K, V
     ) -> RawEntryMut<'a, K, V, S, L>
         requires { (key : Bor K) (index : ℕ)
             → slice_get (keys_of (ready_map self).pairs) index ≡ Some key.now → F.pre is_match key }
-        ensures searches { SearchesByMatch L.LIMIT K.eq (FnReturnsAt F.Fn is_match)
+        ensures searches { EntersByMatch L.LIMIT K.eq (FnReturnsAt F.Fn is_match)
             S.hash hash self.entry result }
-        ensures cost { FindingCosts S.hash hash (ready_map self.entry) (found_pair result)
+        ensures cost { IsMatchCost S.hash hash (ready_map self.entry) (found_pair result)
             tally.old tally.new }
     {
         let RawEntryBuilderMut::Ready(ready) = self;

@@ -54,7 +54,7 @@ impl<K: Eq + Hash, V, S: KeyHasher<K>, L: Limit> LimitedHashMap<K, V, S, L> {
         ensures cost { tally.new ≡ (if is_ok result
             then asked_more (switch_asked L.LIMIT self.old) tally.old else tally.old) }
     {
-        match self.prepare_any(tally) {
+        match self.make_room(tally) {
             Ok(()) => Ok(RawEntryBuilderMut::Ready(Prepared { map: self })),
             Err(why) => Err(why),
         }

@@ -5,7 +5,7 @@ ghost use Rattle.std.specs.Option.{UnwrapsOrElse};
 ghost use Rattle.halfbrown.specs.Entry.{Occupied, entry_pair};
 ghost use Rattle.halfbrown.specs.Pairs.{holds};
 ghost use Rattle.halfbrown.specs.RawEntry.{raw_map, raw_ref, is_found, found_key, found_value};
-ghost use Rattle.halfbrown.specs.RawEntry.{found_pair, pairs_with, without_found, PutsEntry, ModifiesPair, after_adding};
+ghost use Rattle.halfbrown.specs.RawEntry.{found_pair, pairs_once_put, without_found, PutsEntry, ModifiesPair, after_adding};
 ghost use Rattle.halfbrown.specs.State.{WithPairs};
 
 use super::RawEntryMut;
@@ -226,11 +226,11 @@ impl<'a, K: Eq + Hash, V, S: KeyHasher<K>, L: Limit> RawEntryMut<'a, K, V, S, L>
         ensures found { is_found result ≡ is_found self.entry }
         ensures key { found_key result ≡ found_key self.entry }
         ensures writes { (key : K) (value : V)
-            → pairs_with result key value ≡ pairs_with self.entry key value }
+            → pairs_once_put result key value ≡ pairs_once_put self.entry key value }
         ensures pairs_left { without_found result ≡ without_found self.entry }
         ensures vacant { found_value self.entry ≡ None → raw_map result ≡ raw_map self.entry }
         ensures occupied { (key : K) → IfSome (found_value result) (λ value.
-            WithPairs (raw_map self.entry) (pairs_with self.entry key value) (raw_map result)) }
+            WithPairs (raw_map self.entry) (pairs_once_put self.entry key value) (raw_map result)) }
     {
         match self {
             RawEntryMut::Occupied(mut entry) => {

@@ -12,7 +12,7 @@ use Rattle.halfbrown.specs.Growth.{addition_needs, new_key_needs, insert_needs, 
 use Rattle.halfbrown.specs.Insertion.{Puts}
 use Rattle.halfbrown.specs.Pairs.{holds}
 use Rattle.halfbrown.specs.State.{State}
-use Rattle.halfbrown.specs.Step.{Step, Steps, IsStep, Leaves, is_shrink}
+use Rattle.halfbrown.specs.Step.{Step, Executes, IsValidStep, Leaves, is_shrink}
 use Rattle.halfbrown.proofs.CallerLemmas.{len_taken}
 use Rattle.half_laws.specs.RunLaws.{is_reserve}
 
@@ -84,10 +84,10 @@ module _ {K V S : Type 0} (limit : ℕ) (eq : K → K → Bool) where
       → Changes old command new
   leaves_changed old new command none leaves = grind (arith, common_steps, cond_least, held_changes, keeps_all, len_taken, puts_any, puts_new)
 
-  changes_by : (old new : State K V S) (command : Command K V) (reply : Reply K V) → Steps limit eq old command reply new
+  changes_by : (old new : State K V S) (command : Command K V) (reply : Reply K V) → Executes limit eq old command reply new
       → is_reserve command ≡ false → Changes old command new
   changes_by old new command (Refused back why) step none = inr (inl (keeps_all old new step.2))
   changes_by old new command reply step none = leaves_changed old new command none step.1
 
-  pub step_changes : (s : Step K V S) → IsStep limit eq s → is_reserve s.command ≡ false → Changes s.before s.command s.after
+  pub step_changes : (s : Step K V S) → IsValidStep limit eq s → is_reserve s.command ≡ false → Changes s.before s.command s.after
   step_changes s step none = changes_by s.before s.after s.command s.reply step none

@@ -7,10 +7,10 @@ use Rattle.std.specs.Option.{option_or}
 use Rattle.std.proofs.lemmas.List.Sums.{sum_by-cons}
 use Rattle.halfbrown.specs.Run.{Lead, shrinks, commands_of, cost_of}
 use Rattle.halfbrown.specs.State.{State}
-use Rattle.halfbrown.specs.Step.{Step, is_put, is_shrink, switches, goes_back, form_changed}
+use Rattle.halfbrown.specs.Step.{Step, says_put, is_shrink, switches, goes_back, form_changed}
 use Rattle.halfbrown.proofs.lemmas.map.Growth.{form_stays}
 use Rattle.halfbrown.proofs.lemmas.run.Runs.{neither, steps_pay_two, table_stays}
-use Rattle.halfbrown.proofs.lemmas.run.Steps.{form_of_step, form_unshrunk, asked_of_step, most_asked, switch_left_most}
+use Rattle.halfbrown.proofs.lemmas.run.Executes.{form_of_step, form_unshrunk, asked_of_step, most_asked, switch_left_most}
 use Rattle.half_laws.specs.RunLaws.{FormLaw, SwitchLaw, TableLaw, OneSwitchLaw, UnswitchedLaw, NothingHashedLaw, HashesLaw}
 use Rattle.half_laws.specs.RunLaws.{AmortizedHashesLaw}
 
@@ -74,7 +74,7 @@ module _ {K V S : Type 0} (limit : ℕ) (eq : K → K → Bool) where
       omega (
         arith,
         sum_by-cons (λ s. once_if (switches limit s)) s steps,
-        once_less s.before.is_vec (length s.before.pairs == limit) (is_put s.reply),
+        once_less s.before.is_vec (length s.before.pairs == limit) (says_put s.reply),
         ap once_if (form_unshrunk limit eq s lead.1 parts.0),
         ap (λ m. once_if m.is_vec) lead.0,
         switches_most s.after new steps lead.3 parts.1,

@@ -3,14 +3,14 @@ use Rattle.std.proofs.Common.{◌≡◌, ℕ, zero, suc, ◌+◌, ◌*◌, ◌�
 use Rattle.std.proofs.Common.{None, Some, sym, ap, refl, subst, arith, if◌then◌else◌}
 use Rattle.std.proofs.lemmas.Grind.{common_steps}
 use Rattle.std.specs.Prelude.{MatchBool}
-use Rattle.half_store.specs.Capacity.{IsBucketCount, capacity_of, buckets_for_more, buckets_for, capacity_for, grown_capacity}
+use Rattle.half_store.specs.Capacity.{IsBucketCount, capacity_of, buckets_for_more, buckets_for, capacity_for, generous_capacity}
 use Rattle.half_store.specs.Capacity.{least_capacity, vec_shrunk}
-use Rattle.half_store.specs.Memory.{bytes}
+use Rattle.half_store.specs.Arrays.{bytes}
 use Rattle.half_store.proofs.lemmas.capacity.{buckets_for-least}
 use Rattle.halfbrown.specs.Growth.{is_full, HasCapacityAfter, IsShrunk}
 use Rattle.halfbrown.specs.Run.{Lead, commands_of}
 use Rattle.halfbrown.specs.State.{State, IsState}
-use Rattle.halfbrown.specs.Step.{Step, IsStep}
+use Rattle.halfbrown.specs.Step.{Step, IsValidStep}
 use Rattle.halfbrown.proofs.lemmas.map.Growth.{full_len}
 use Rattle.halfbrown.proofs.lemmas.run.Runs.{neither}
 use Rattle.half_laws.specs.RunLaws.{CapacityLaw, BytesLaw, is_reserve, reserves, most_held}
@@ -57,7 +57,7 @@ module _ {K V S : Type 0} (limit : ℕ) (eq : K → K → Bool) where
       → IsModest old new.capacity
   after_most old new None due after = omega (arith, after)
   after_most old new (Some n) due after = by new.is_vec after where
-    by : (is_vec : Bool) → MatchBool is_vec (new.capacity ≡ grown_capacity limit old.capacity n) (new.capacity ≡ capacity_for n)
+    by : (is_vec : Bool) → MatchBool is_vec (new.capacity ≡ generous_capacity limit old.capacity n) (new.capacity ≡ capacity_for n)
         → IsModest old new.capacity
     by true e = omega (arith, e, due.0, due.1)
     by false e = omega (arith, e, due.0, capacity_for-most n)
@@ -70,7 +70,7 @@ module _ {K V S : Type 0} (limit : ℕ) (eq : K → K → Bool) where
   shrunk_most old new shrunk =
       subst (IsModest old) (sym shrunk.capacity) (least_most old (vec_shrunk limit old.is_vec (length old.pairs)))
 
-  step_most : (s : Step K V S) → IsState eq limit s.before → IsStep limit eq s → is_reserve s.command ≡ false
+  step_most : (s : Step K V S) → IsState eq limit s.before → IsValidStep limit eq s → is_reserve s.command ≡ false
       → IsModest s.before s.after.capacity
   step_most s state step none = by (step_changes limit eq s step none) where
     by : Changes limit eq s.before s.command s.after → IsModest s.before s.after.capacity

@@ -4,13 +4,13 @@ use Rattle.std.proofs.Common.{List, [], ◌∷◌, length, sum_by, Option, Some,
 use Rattle.std.proofs.lemmas.Grind.{common_steps}
 use Rattle.std.proofs.lemmas.Bool.{cases_lt, eq-eqb, le-ltb, MatchBool-at_false}
 use Rattle.std.proofs.lemmas.List.Sums.{sum_by-cons}
-use Rattle.half_store.specs.Capacity.{IsBucketCount, capacity_of, more_buckets, buckets_for, capacity_for, grown_capacity}
+use Rattle.half_store.specs.Capacity.{IsBucketCount, capacity_of, more_buckets, buckets_for, capacity_for, generous_capacity}
 use Rattle.half_store.proofs.lemmas.capacity.{more_buckets-some, buckets_for-least, buckets_for-grown, quarter}
 use Rattle.halfbrown.specs.Growth.{is_full, HasCapacityAfter}
 use Rattle.halfbrown.specs.Pairs.{put}
 use Rattle.halfbrown.specs.Run.{Lead, shrinks, commands_of}
 use Rattle.halfbrown.specs.State.{State, IsState, IsTableCapacity}
-use Rattle.halfbrown.specs.Step.{Step, IsStep, is_shrink}
+use Rattle.halfbrown.specs.Step.{Step, IsValidStep, is_shrink}
 use Rattle.halfbrown.proofs.CallerLemmas.{len_put}
 use Rattle.halfbrown.proofs.lemmas.map.Growth.{full_len, form_stays, and_false}
 use Rattle.halfbrown.proofs.lemmas.run.Runs.{neither}
@@ -78,7 +78,7 @@ module _ {K V S : Type 0} (limit : ℕ) (eq : K → K → Bool) where
     switch_pays full form capacity = grind (arith, common_steps, buckets_for-least, budget_high, first_of_both, full_len, moves)
 
     vector_pays : is_full limit old ≡ false → old.is_vec ≡ true → new.is_vec ≡ old.is_vec → old.capacity ≤ length old.pairs
-        → new.capacity ≡ grown_capacity limit old.capacity (length old.pairs + 1) → Pays old new
+        → new.capacity ≡ generous_capacity limit old.capacity (length old.pairs + 1) → Pays old new
     vector_pays full vec form filled capacity = grind (arith, common_steps)
 
     table_pays : old.is_vec ≡ false → new.is_vec ≡ old.is_vec → old.capacity ≤ length old.pairs
@@ -103,7 +103,7 @@ module _ {K V S : Type 0} (limit : ℕ) (eq : K → K → Bool) where
   put_few : (old new : State K V S) → PutsDue limit eq old new → length new.pairs ≤ length old.pairs + 1
   put_few old new put = grind (arith, common_steps, cond_most, len_put)
 
-  step_pays : (s : Step K V S) → IsState eq limit s.before → IsStep limit eq s → is_shrink s.command ≡ false → is_reserve s.command ≡ false
+  step_pays : (s : Step K V S) → IsState eq limit s.before → IsValidStep limit eq s → is_shrink s.command ≡ false → is_reserve s.command ≡ false
       → Pays s.before s.after
   step_pays s state step no_shrink no_reserve = by (step_changes limit eq s step no_reserve) where
     by : Changes limit eq s.before s.command s.after → Pays s.before s.after

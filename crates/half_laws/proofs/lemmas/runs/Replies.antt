@@ -9,8 +9,8 @@ use Rattle.halfbrown.specs.declared.run.Reply.{Reply}
 use Rattle.halfbrown.specs.declared.run.Reply.TheVariants.{Refused}
 use Rattle.halfbrown.specs.Pairs.{holds, put, take_out}
 use Rattle.halfbrown.specs.State.{State}
-use Rattle.halfbrown.specs.Step.{Step, Steps, IsStep, Leaves, value_or, granted_reply, refusal_in, says_vec, is_shrink}
-use Rattle.halfbrown.proofs.lemmas.run.Steps.{form_of_step}
+use Rattle.halfbrown.specs.Step.{Step, Executes, IsValidStep, Leaves, value_or, granted_reply, refusal_in, says_vec, is_shrink}
+use Rattle.halfbrown.proofs.lemmas.run.Executes.{form_of_step}
 use Rattle.half_laws.specs.RunLaws.{IsAlike, RepliesLaw, outcomes_of}
 
 module _ {K V : Type 0} (limit : ℕ) (eq : K → K → Bool) where
@@ -38,13 +38,13 @@ module _ {K V S : Type 0} (limit : ℕ) (eq : K → K → Bool) where
       → new.pairs ≡ pairs_after limit eq old.pairs command
   pairs_left old new command leaves = grind (arith, common_steps)
 
-  answered : (old new : State K V S) (command : Command K V) (reply : Reply K V) → Steps limit eq old command reply new
+  answered : (old new : State K V S) (command : Command K V) (reply : Reply K V) → Executes limit eq old command reply new
       → (reply ≡ reply_by limit eq (refusal_in reply) new.is_vec old.pairs command)
       × (new.pairs ≡ pairs_by limit eq (refusal_in reply) old.pairs command)
   answered old new command (Refused back why) step = ((λ i. Refused (step.0 i) why), ap (λ m. m.pairs) step.2)
   answered old new command reply step = (step.0, pairs_left old new command step.1)
 
-  step_alike : (s t : Step K V S) → IsStep limit eq s → IsStep limit eq t → IsAlike s.before t.before → s.command ≡ t.command
+  step_alike : (s t : Step K V S) → IsValidStep limit eq s → IsValidStep limit eq t → IsAlike s.before t.before → s.command ≡ t.command
       → refusal_in s.reply ≡ refusal_in t.reply
       → (is_shrink s.command && says_vec s.reply) ≡ (is_shrink t.command && says_vec t.reply)
       → (s.reply ≡ t.reply) × IsAlike s.after t.after

@@ -5,9 +5,9 @@ use Rattle.std.proofs.lemmas.Grind.{common_steps}
 use Rattle.std.proofs.lemmas.Option.{same_Some}
 use Rattle.std.specs.Borrow.{Bor}
 use Rattle.std.specs.Global.{Box}
-use Rattle.half_store.specs.Columns.{Columns}
-use Rattle.half_store.specs.Pairs.{set_key, set_value, set_values, swap_remove_at}
-use Rattle.half_store.specs.Replaced.{replaced, Replaces}
+use Rattle.half_store.specs.Columns.{ColumnsState}
+use Rattle.half_store.specs.PairLists.{set_key, set_value, set_values, swap_remove_at}
+use Rattle.half_store.specs.PutsBack.{with_answer, ReplacesValue}
 use Rattle.half_store.specs.Store.{StoreState, IsStore, IsTableOver, KeepsForm, vector_of, table_of, store_of}
 use Rattle.half_store.specs.Table.{TableState}
 
@@ -28,66 +28,66 @@ module _ {K V : Type 0} where
   length-set_values (p ∷ ps) (v ∷ vs) = ap suc (length-set_values ps vs)
 
   -- a store with no index is a vector of its columns
-  pub vector_view : (columns : Columns K V) {index : Option (Box TableState)} {s : StoreState K V} → index ≡ None → store_of columns index ≡ s
+  pub vector_view : (columns : ColumnsState K V) {index : Option (Box TableState)} {s : StoreState K V} → index ≡ None → store_of columns index ≡ s
       → vector_of columns ≡ s
   vector_view columns is view = ap (store_of columns) (sym is) ∙ view
 
   -- and with one a table of both, where `t` is what the block contains
-  pub table_view : (columns : Columns K V) {t : TableState} {block : Box TableState} {index : Option (Box TableState)} {s : StoreState K V}
+  pub table_view : (columns : ColumnsState K V) {t : TableState} {block : Box TableState} {index : Option (Box TableState)} {s : StoreState K V}
       → t ≡ block.value → index ≡ Some block → store_of columns index ≡ s → table_of columns t ≡ s
   table_view columns inside is view = ap (table_of columns) inside ∙ ap (store_of columns) (sym is) ∙ view
 
   -- which has a hash for each pair
-  pub table_over : (columns : Columns K V) {t : TableState} {block : Box TableState} {index : Option (Box TableState)}
+  pub table_over : (columns : ColumnsState K V) {t : TableState} {block : Box TableState} {index : Option (Box TableState)}
       → t ≡ block.value → index ≡ Some block → IsStore columns index → IsTableOver columns t
   table_over columns inside is kept = subst (IsTableOver columns) (sym inside) (subst (IsStore columns) is kept)
 
   -- a store has the pairs of its columns
-  pub pairs_of-store : (columns : Columns K V) (index : Option (Box TableState)) → (store_of columns index).pairs ≡ columns.pairs
+  pub pairs_of-store : (columns : ColumnsState K V) (index : Option (Box TableState)) → (store_of columns index).pairs ≡ columns.pairs
   pairs_of-store columns None = refl
   pairs_of-store columns (Some t) = refl
 
   -- with the same index the form stays, and with the same capacity of the columns all capacities do
-  pub keeps_form : (index : Option (Box TableState)) (old new : Columns K V) {s : StoreState K V} → store_of old index ≡ s
+  pub keeps_form : (index : Option (Box TableState)) (old new : ColumnsState K V) {s : StoreState K V} → store_of old index ≡ s
       → new.capacity ≡ old.capacity → KeepsForm s (store_of new index)
   keeps_form index old new view capacity = grind (arith, common_steps)
 
   -- and of a table that has another index with as many buckets
-  pub table_keeps_form : (old new : Columns K V) {t : Box TableState} {after : TableState} {index : Option (Box TableState)} {s : StoreState K V}
+  pub table_keeps_form : (old new : ColumnsState K V) {t : Box TableState} {after : TableState} {index : Option (Box TableState)} {s : StoreState K V}
       → index ≡ Some t → store_of old index ≡ s → after.buckets ≡ t.value.buckets → new.capacity ≡ old.capacity
       → KeepsForm s (table_of new after)
   table_keeps_form old new {t} is view buckets columns = grind (arith, common_steps, table_view)
 
   -- as many pairs, with the same capacity, have the same index
-  pub kept_store : (index : Option (Box TableState)) (old new : Columns K V) → length new.pairs ≡ length old.pairs → new.capacity ≡ old.capacity
+  pub kept_store : (index : Option (Box TableState)) (old new : ColumnsState K V) → length new.pairs ≡ length old.pairs → new.capacity ≡ old.capacity
       → IsStore old index → IsStore new index
   kept_store index old new len capacity is = grind (arith, common_steps)
 
   module _ (old : List (K × V)) (index : ℕ) (new : List (K × V)) (key : K) where
-    kept_by : (answer : Option V) → new ≡ replaced old index answer → None ≡ (if is_none answer then Some key else None) → (v : V)
+    kept_by : (answer : Option V) → new ≡ with_answer old index answer → None ≡ (if is_none answer then Some key else None) → (v : V)
         × (answer ≡ Some v) × (new ≡ set_value old index v)
     kept_by None is removed = absurd cc
     kept_by (Some v) is removed = (v, refl, is)
 
-    lost_by : (k : K) (answer : Option V) → new ≡ replaced old index answer → Some k ≡ (if is_none answer then Some key else None)
+    lost_by : (k : K) (answer : Option V) → new ≡ with_answer old index answer → Some k ≡ (if is_none answer then Some key else None)
         → (answer ≡ None) × (new ≡ swap_remove_at old index) × (key ≡ k)
     lost_by k None is removed = (refl, is, sym (same_Some k key removed))
     lost_by k (Some v) is removed = absurd cc
 
   module _ {returns : Bor K → V → Option V → Type 0} {old : List (K × V)} {index : ℕ} {new : List (K × V)} where
     -- where nothing was removed a value was returned
-    pub kept_value : (r : Replaces returns old index new None) → (v : V) × (r.answer ≡ Some v) × (new ≡ set_value old index v)
+    pub kept_value : (r : ReplacesValue returns old index new None) → (v : V) × (r.answer ≡ Some v) × (new ≡ set_value old index v)
     kept_value r = kept_by old index new r.key r.answer r.pairs r.removed_is
 
     -- where a key was removed none was
-    pub lost_pair : {k : K} (r : Replaces returns old index new (Some k)) → (r.answer ≡ None) × (new ≡ swap_remove_at old index)
+    pub lost_pair : {k : K} (r : ReplacesValue returns old index new (Some k)) → (r.answer ≡ None) × (new ≡ swap_remove_at old index)
         × (r.key ≡ k)
     lost_pair {k} r = lost_by old index new r.key k r.answer r.pairs r.removed_is
 
   -- what becomes of a pair of the columns becomes of that of the store over them
   pub replaces_in_store :
-      {returns : Bor K → V → Option V → Type 0} {at : ℕ} {removed : Option K} (old new : Columns K V) (was index : Option (Box TableState))
+      {returns : Bor K → V → Option V → Type 0} {at : ℕ} {removed : Option K} (old new : ColumnsState K V) (was index : Option (Box TableState))
       {s : StoreState K V}
-      → store_of old was ≡ s → Replaces returns old.pairs at new.pairs removed
-      → Replaces returns s.pairs at (store_of new index).pairs removed
+      → store_of old was ≡ s → ReplacesValue returns old.pairs at new.pairs removed
+      → ReplacesValue returns s.pairs at (store_of new index).pairs removed
   replaces_in_store {returns} {at} {removed} old new was index view r = grind (arith, common_steps, pairs_of-store)

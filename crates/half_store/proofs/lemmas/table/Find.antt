@@ -12,7 +12,7 @@ use Rattle.half_store.specs.Probe.{after_missing, looked_more, LooksWithin, remo
 use Rattle.half_store.specs.Slots.{slot_at, stored, IsVacancyFor, EndsAtPair, distance_from_home}
 use Rattle.half_store.specs.Table.{TableState, table_state}
 use Rattle.half_store.specs.TableLayout.{IsIndexed}
-use Rattle.half_store.specs.TableSearch.{FindsInTable, RemovesFromTable, without_bucket}
+use Rattle.half_store.specs.TableSearch.{TableSearch, RemovesFromTable, without_bucket}
 use Rattle.half_store.specs.Work.{Work}
 use Rattle.half_store.proofs.lemmas.table.Buckets.{length-slots_by, slot_of_word, some_bucket}
 use Rattle.half_store.proofs.lemmas.table.Circle.{distance_self}
@@ -55,7 +55,7 @@ module _ {hashes words : List ℕ} (x : IsIndexed hashes words) (hash : ℕ) whe
 
   -- a search where there are no buckets
   pub finds_none : (returns : ℕ → Bool → Type 0) (w : Work) → length words ≡ 0
-      → FindsInTable returns (table_state hashes slots) hash (Err 0) w w
+      → TableSearch returns (table_state hashes slots) hash (Err 0) w w
   finds_none returns w none = grind (arith, common_steps, buckets_seen, count_by-le-length, length-slots_by, reach-none, same_work, short, slice_get_within)
 
   -- what a search says of the slots, where there are some, is what callers see
@@ -66,7 +66,7 @@ module _ {hashes words : List ℕ} (x : IsIndexed hashes words) (hash : ℕ) whe
       → new.asked ≡ old.asked → IfErr result (λ p. new.looked ≡ old.looked + (distance_from_home slots hash p + 1))
       → OnOk result (old.compared + 1 ≤ new.compared) → new.compared ≤ old.compared + held
       → OnErr result (new.compared ≡ old.compared + held)
-      → FindsInTable returns (table_state hashes slots) hash (without_bucket result) old new
+      → TableSearch returns (table_state hashes slots) hash (without_bucket result) old new
   finds returns (Ok (index, p)) old new ends accepted vacancy refused asked looked some most all =
       let in_p : p < length slots = full-lt slots p (full_from _ hash ends.found.found) in
       let vacant = index-vacant x (omega (arith, length-slots_by hashes words)) in

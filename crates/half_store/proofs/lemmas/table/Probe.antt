@@ -154,7 +154,7 @@ module _ (slots : List (Option ℕ)) (ordered : ProbeInvariant slots) where
         omega (arith, reach_at_vacancy hash p w.1)
 
 -- a search has passed full buckets, each counted; each pair of the hash among them was compared once, and refused
-pub record Searches (slots : List (Option ℕ)) (hash : ℕ) (Refused : ℕ → Type 0) (bucket : ℕ) (old new : Work) : Type 0 where
+pub record EntersByKey (slots : List (Option ℕ)) (hash : ℕ) (Refused : ℕ → Type 0) (bucket : ℕ) (old new : Work) : Type 0 where
   pub probe : Probes slots hash bucket
   pub asked : new.asked ≡ old.asked
   pub looked : new.looked ≡ old.looked + distance_from_home slots hash bucket
@@ -164,11 +164,11 @@ pub record Searches (slots : List (Option ℕ)) (hash : ℕ) (Refused : ℕ → 
 
 pub Searches-start : (slots : List (Option ℕ)) (hash : ℕ) (Refused : ℕ → Type 0) (bucket : ℕ) (w : Work) → bucket < length slots
     → bucket ≡ home (length slots) hash
-    → Searches slots hash Refused bucket w w
+    → EntersByKey slots hash Refused bucket w w
 Searches-start slots hash Refused bucket w in_bucket e = grind (arith, common_steps, home_distance, passed-zero)
 
 module _ {slots : List (Option ℕ)} {hash : ℕ} {Refused : ℕ → Type 0} {bucket : ℕ} {old now : Work}
-    (s : Searches slots hash Refused bucket old now) where
+    (s : EntersByKey slots hash Refused bucket old now) where
   abbrev far : ℕ
   far = distance_from_home slots hash bucket
 
@@ -178,7 +178,7 @@ module _ {slots : List (Option ℕ)} {hash : ℕ} {Refused : ℕ → Type 0} {bu
   module _ (vacant : SomeVacant slots) (next : ℕ) (new : Work) (e : next ≡ bucket_after (length slots) bucket 1) where
     goes_on : slot_at slots bucket ≢ None → new.asked ≡ now.asked → new.looked ≡ now.looked + 1
         → new.compared ≡ old.compared + passed slots (home (length slots) hash) hash (far + 1)
-        → (slot_at slots bucket ≡ Some hash → Refused bucket) → Searches slots hash Refused next old new
+        → (slot_at slots bucket ≡ Some hash → Refused bucket) → EntersByKey slots hash Refused next old new
     goes_on full asked looked compared here =
         let one = Probes-distance s.probe vacant next full e in
         record {
@@ -191,12 +191,12 @@ module _ {slots : List (Option ℕ)} {hash : ℕ} {Refused : ℕ → Type 0} {bu
 
     -- the bucket holds another hash
     pub Searches-skip : (held : ℕ) → slot_at slots bucket ≡ Some held → held ≢ hash → new ≡ one_looked now
-        → Searches slots hash Refused next old new
+        → EntersByKey slots hash Refused next old new
     Searches-skip held is other work = grind (arith, common_steps, full_from, goes_on, ne_eqb, passed-skip, same_Some, start_in)
 
     -- the bucket holds a pair of the hash, which was refused
     pub Searches-refused : slot_at slots bucket ≡ Some hash → Refused bucket → new ≡ one_compared (one_looked now)
-        → Searches slots hash Refused next old new
+        → EntersByKey slots hash Refused next old new
     Searches-refused is no_match work = grind (arith, common_steps, full_from, goes_on, passed-one, start_in)
 
   -- the bucket holds a pair of the hash: at most as many comparisons as there are such pairs

@@ -5,7 +5,7 @@ use Rattle.std.proofs.lemmas.Grind.{common_steps}
 use Rattle.std.proofs.lemmas.List.{append-nil, append_assoc, drop_all, drop-set-lt, set-get_or}
 use Rattle.std.specs.List.{swap, zip}
 use Rattle.std.specs.Map.Calls.{CallableOnEachPair, RetainsPairs}
-use Rattle.half_store.specs.Pairs.{set_value}
+use Rattle.half_store.specs.PairLists.{set_value}
 use Rattle.half_store.proofs.lemmas.vecmap.Zip.{get_or-zip, zip-set}
 use Rattle.half_store.proofs.lemmas.store.States.{length-set_value}
 

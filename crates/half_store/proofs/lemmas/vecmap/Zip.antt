@@ -4,7 +4,7 @@ use Rattle.std.proofs.lemmas.Grind.{common_steps}
 use Rattle.std.proofs.Math.ListN.{set}
 use Rattle.std.proofs.lemmas.List.{take_all}
 use Rattle.std.specs.List.{AllZip, zip, slice_get, swap_remove, refill}
-use Rattle.half_store.specs.Pairs.{set_key, set_value, set_values, swap_remove_at}
+use Rattle.half_store.specs.PairLists.{set_key, set_value, set_values, swap_remove_at}
 
 pub get_or_within : {X : Type 0} (xs : List X) (i : ℕ) (d e : X) → i < length xs → get_or xs i d ≡ get_or xs i e
 get_or_within [] i d e within = absurd (omega arith)

@@ -15,14 +15,14 @@ use denote.HoleLaws.{Alike}
 use denote.HolePlaces.{Recodes, struct_places, laid}
 use denote.Model.Placed.{held, view_places}
 use denote.Param.Weighed.{Weighed, most}
-use Rattle.half_store.specs.Columns.{Columns, no_pairs}
+use Rattle.half_store.specs.Columns.{ColumnsState, no_pairs}
 use Rattle.half_store.specs.Store.{StoreState, IsStore, store_of, vector_of}
 use Rattle.half_store.specs.Table.{TableState, Contents, contents_code}
 use Rattle.half_store.specs.declared.store.Store.TheInside.{Inside}
 use Rattle.half_store.specs.declared.store.Store.TheView.{view, invariant}
 use Rattle.half_store.specs.contracts.store.Store as C
 use Rattle.half_store.specs.contracts.store.Store.TheInside as I
-use Rattle.half_store.specs.formers.vecmap.VecMap as columns
+use Rattle.half_store.specs.formers.vecmap.Columns as columns
 
 -- what a store has beside its form and its pairs
 abbrev Rest : Type 0
@@ -56,12 +56,12 @@ abbrev fields : Type 0 → Former {0}
 fields K = via (pair (columns.the_former this K) (const (Option (Box TableState)))) (λ X. Inside K X) (λ X u. (u.columns, u.table))
     (λ X v. record { columns = v.0; table = v.1 }) (λ X u. refl) (λ X v. refl)
 
-IsStore-prop : {K X : Type 0} (c : Columns K X) (t : Option (Box TableState)) → IsProp (IsStore c t)
+IsStore-prop : {K X : Type 0} (c : ColumnsState K X) (t : Option (Box TableState)) → IsProp (IsStore c t)
 IsStore-prop c None p q = refl
 IsStore-prop c (Some t) p q = λ i. record { len = ℕ_set _ _ p.len q.len i; backed = ℕ_set _ _ p.backed q.backed i }
 
-module _ {K X Y : Type 0} (h : X → Y) (c : Columns K X) where
-  abbrev mapped : Columns K Y
+module _ {K X Y : Type 0} (h : X → Y) (c : ColumnsState K X) where
+  abbrev mapped : ColumnsState K Y
   mapped = (columns.the_former this K).map X Y h c
 
   natural : (t : Option (Box TableState)) → store_of mapped t ≡ (the_former this K).map X Y h (store_of c t)
@@ -76,7 +76,7 @@ module _ {K X Y : Type 0} (h : X → Y) (c : Columns K X) where
   comes None p = tt
   comes (Some t) p = record { len = p.len ∙ length-map c.pairs (on_value h); backed = p.backed }
 
-keeps : {K X : Type 0} (c : Columns K X) (t : Option (Box TableState))
+keeps : {K X : Type 0} (c : ColumnsState K X) (t : Option (Box TableState))
     → held (the_former this K) X (store_of c t) ≡ held (columns.the_former this K) X c
 keeps c None = refl
 keeps c (Some t) = refl

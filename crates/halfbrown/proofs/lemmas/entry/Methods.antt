@@ -7,7 +7,7 @@ use Rattle.std.specs.Cmp.{IsEquivalence}
 use Rattle.std.specs.List.{IsDistinct}
 use Rattle.std.specs.Map.{keys_of, values_of}
 use Rattle.std.specs.Option.{option_map}
-use Rattle.half_store.specs.Pairs.{set_value, swap_remove_at}
+use Rattle.half_store.specs.PairLists.{set_value, swap_remove_at}
 use Rattle.half_store.specs.Store.{filled}
 use Rattle.half_store.specs.Table.{Contents}
 use Rattle.halfbrown.specs.declared.entry.OccupiedEntry.{OccupiedEntry}

@@ -7,8 +7,8 @@ use Rattle.std.proofs.lemmas.Option.{same_Some}
 use Rattle.std.specs.Borrow.{Bor, MutBor}
 use Rattle.std.specs.Map.{values_of}
 use Rattle.std.specs.Option.{option_map}
-use Rattle.half_store.specs.Pairs.{set_value, swap_remove_at}
-use Rattle.half_store.specs.Replaced.{Replaces}
+use Rattle.half_store.specs.PairLists.{set_value, swap_remove_at}
+use Rattle.half_store.specs.PutsBack.{ReplacesValue}
 use Rattle.halfbrown.specs.declared.entry.OccupiedEntry.{OccupiedEntry}
 use Rattle.halfbrown.specs.declared.entry.VacantEntry.{VacantEntry}
 use Rattle.halfbrown.specs.Entry.{Occupied, Vacant, with_value}
@@ -44,7 +44,7 @@ module _ {K V : Type 0} where
 module _ {K V S L : Type 0} {e : eq.Ghosts K} {h : hash.Ghosts K} {b : hashers.Ghosts S K} {l : limits.Ghosts L}
     {returns : Bor K → V → Option V → Type 0} (o : OccupiedEntry K V S L e h b l) where
   -- the pair is gone
-  pub loses_pair : (v : VacantEntry K V S L e h b l) → Replaces returns o.map.now.pairs o.index v.map.now.pairs (Some v.key)
+  pub loses_pair : (v : VacantEntry K V S L e h b l) → ReplacesValue returns o.map.now.pairs o.index v.map.now.pairs (Some v.key)
       → WithPairs o.map.now v.map.now.pairs v.map.now
       → ReplacesEntry returns (Occupied o) (Vacant v)
   unfolding with_value
@@ -72,7 +72,7 @@ module _ {K V S L : Type 0} {e : eq.Ghosts K} {h : hash.Ghosts K} {b : hashers.G
             (λ value. KeepsPair (Occupied o) r.key value (Vacant v))) (sym lost.0) loss;
       }
 
-  module _ (n : State K V S) (r : Replaces returns o.map.now.pairs o.index n.pairs None) where
+  module _ (n : State K V S) (r : ReplacesValue returns o.map.now.pairs o.index n.pairs None) where
     pub still_within : o.index < length n.pairs
     still_within = let kept = kept_value r in omega (arith, o.within, ap length kept.2, length-set_value o.map.now.pairs o.index kept.0)
 

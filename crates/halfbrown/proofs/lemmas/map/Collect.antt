@@ -6,12 +6,12 @@ use Rattle.std.proofs.lemmas.List.{reverse-append}
 use Rattle.std.specs.Cmp.{IsEquivalence}
 use Rattle.std.specs.Map.{keys_of}
 use Rattle.std.specs.Option.{option_or}
-use Rattle.halfbrown.specs.Collection.{put_all, collected, last_value_of, InsertsAll, Extends, IsCollection, IsRefusedInsertion}
-use Rattle.halfbrown.specs.Collection.{IsRefusedCollection}
+use Rattle.halfbrown.specs.FromIter.{put_all, collected, last_value_of, InsertsAll, Extends, IsCollection, IsRefusedInsertion}
+use Rattle.halfbrown.specs.FromIter.{IsRefusedCollection}
 use Rattle.halfbrown.specs.Pairs.{value_of, put}
 use Rattle.halfbrown.proofs.CallerFacts.{holds_by-any}
 use Rattle.halfbrown.proofs.CallerLemmas.{keys_put, lookup_put}
-use Rattle.halfbrown.specs.Gathering.{add_keys}
+use Rattle.halfbrown.specs.CallerLoops.{add_keys}
 use Rattle.std.specs.Iterator.{Yields}
 use Rattle.std.specs.Vec.Iter.{into_iter_items, into_iter_steps}
 use Rattle.std.specs.declared.vec.IntoIter.{IntoIter}

@@ -2,7 +2,7 @@
 use Rattle.std.proofs.Common.{◌≡◌, ℕ, Bool, sym, subst, arith, zero-add, add-zero, add_assoc}
 use Rattle.std.proofs.lemmas.Grind.{common_steps}
 use Rattle.half_store.specs.Work.{Work}
-use Rattle.halfbrown.specs.Costs.{Cost, GrewBy, no_cost, add_costs, CostsSearch, KeySearchCosts}
+use Rattle.halfbrown.specs.Costs.{Cost, GrewBy, no_cost, add_costs, IsLookupCost, IsKeySearchCost}
 use Rattle.halfbrown.specs.State.{State}
 
 pub none_more : (more : Cost) → more ≡ add_costs no_cost more
@@ -23,5 +23,5 @@ spent_both a b before middle after first second = grind (arith, common_steps)
 
 -- a search under what a key writes is one under the key's hash
 pub key_costs : {K V S : Type 0} (eq : K → K → Bool) (hash : S → K → ℕ) (m : State K V S) (k : K) (sought : ℕ) (before after : Work)
-    → hash m.builder k ≡ sought → CostsSearch hash sought (eq k) m before after → KeySearchCosts eq hash m k before after
-key_costs eq hash m k sought before after same costs = subst (λ h. CostsSearch hash h (eq k) m before after) (sym same) costs
+    → hash m.builder k ≡ sought → IsLookupCost hash sought (eq k) m before after → IsKeySearchCost eq hash m k before after
+key_costs eq hash m k sought before after same costs = subst (λ h. IsLookupCost hash h (eq k) m before after) (sym same) costs

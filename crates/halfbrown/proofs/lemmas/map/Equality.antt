@@ -22,7 +22,7 @@ use Rattle.halfbrown.specs.Pairs.{value_of}
 use Rattle.std.proofs.Math.ListN.{drop_of_length-le}
 use Rattle.std.proofs.Math.Seq.{drop-cons}
 use Rattle.half_store.specs.Work.{Work}
-use Rattle.halfbrown.specs.Costs.{KeySearchCosts, SearchesCost}
+use Rattle.halfbrown.specs.Costs.{IsKeySearchCost, AreSearchCosts}
 use Rattle.halfbrown.specs.State.{State}
 
 module _ {V : Type 0} (value_eq : V → V → Bool) where
@@ -141,42 +141,42 @@ module _ {K V : Type 0} (eq : K → K → Bool) (value_eq : V → V → Bool) (p
   held_unless found differs is compared = grind (arith, common_steps)
 
 module _ {K V S : Type 0} (eq : K → K → Bool) (hash : S → K → ℕ) (m : State K V S) where
-  pub costs_none : (work : Work) → SearchesCost eq hash m [] work work
-  unfolding SearchesCost
+  pub costs_none : (work : Work) → AreSearchCosts eq hash m [] work work
+  unfolding AreSearchCosts
   costs_none work = refl
 
   -- the searches for the rest of the left pairs, from an index on
   module _ (value_eq : V → V → Bool) (left : List (K × V)) (i : ℕ) where
     -- none is left
-    pub costs_done : length left ≤ i → (work : Work) → SearchesCost eq hash m (keys_while_same eq value_eq (drop i left) m.pairs) work work
+    pub costs_done : length left ≤ i → (work : Work) → AreSearchCosts eq hash m (keys_while_same eq value_eq (drop i left) m.pairs) work work
     costs_done past work =
-        subst (λ ps. SearchesCost eq hash m (keys_while_same eq value_eq ps m.pairs) work work) (sym (drop_of_length-le left past))
+        subst (λ ps. AreSearchCosts eq hash m (keys_while_same eq value_eq ps m.pairs) work work) (sym (drop_of_length-le left past))
         (costs_none work)
 
-    module _ (p : K × V) (at : slice_get left i ≡ Some p) (before between : Work) (first : KeySearchCosts eq hash m p.0 before between)
+    module _ (p : K × V) (at : slice_get left i ≡ Some p) (before between : Work) (first : IsKeySearchCost eq hash m p.0 before between)
       where
         costs_by : (held : Bool) → holds_pair eq value_eq m.pairs p ≡ held → (after : Work)
-            → SearchesCost eq hash m (cond held (keys_while_same eq value_eq (drop (i + 1) left) m.pairs) []) between after
-            → SearchesCost eq hash m (keys_while_same eq value_eq (drop i left) m.pairs) before after
-        unfolding SearchesCost
+            → AreSearchCosts eq hash m (cond held (keys_while_same eq value_eq (drop (i + 1) left) m.pairs) []) between after
+            → AreSearchCosts eq hash m (keys_while_same eq value_eq (drop i left) m.pairs) before after
+        unfolding AreSearchCosts
         costs_by held is after more =
-            subst (λ ps. SearchesCost eq hash m (keys_while_same eq value_eq ps m.pairs) before after) (sym (rest_from left i p at)) (
+            subst (λ ps. AreSearchCosts eq hash m (keys_while_same eq value_eq ps m.pairs) before after) (sym (rest_from left i p at)) (
               between,
               first,
               subst
-                  (λ b. SearchesCost eq hash m (cond b (keys_while_same eq value_eq (drop (i + 1) left) m.pairs) []) between after) (sym is)
+                  (λ b. AreSearchCosts eq hash m (cond b (keys_while_same eq value_eq (drop (i + 1) left) m.pairs) []) between after) (sym is)
                   more,
             )
 
         -- where the first pair is held, the others follow
         pub costs_on : holds_pair eq value_eq m.pairs p ≡ true → (after : Work)
-            → SearchesCost eq hash m (keys_while_same eq value_eq (drop (i + 1) left) m.pairs) between after
-            → SearchesCost eq hash m (keys_while_same eq value_eq (drop i left) m.pairs) before after
+            → AreSearchCosts eq hash m (keys_while_same eq value_eq (drop (i + 1) left) m.pairs) between after
+            → AreSearchCosts eq hash m (keys_while_same eq value_eq (drop i left) m.pairs) before after
         costs_on held = costs_by true held
 
         -- where it is not, its search is the last
         pub costs_last : holds_pair eq value_eq m.pairs p ≡ false
-            → SearchesCost eq hash m (keys_while_same eq value_eq (drop i left) m.pairs) before between
+            → AreSearchCosts eq hash m (keys_while_same eq value_eq (drop i left) m.pairs) before between
         costs_last unheld = costs_by false unheld between (costs_none between)
 
 module _ {K V : Type 0} (eq : K → K → Bool) (value_eq : V → V → Bool) where

@@ -6,9 +6,9 @@ use Rattle.std.proofs.lemmas.Map.Entries.{length-keys_of}
 use Rattle.std.specs.Map.{keys_of}
 use Rattle.half_store.specs.Reach.{reach}
 use Rattle.half_store.specs.Capacity.{buckets_of}
-use Rattle.half_store.specs.Probe.{AddsFinding, after_missing}
+use Rattle.half_store.specs.Probe.{IsTableHitCost, after_missing}
 use Rattle.half_store.specs.Work.{Work}
-use Rattle.halfbrown.specs.Costs.{candidates, probe_length, SearchCosts}
+use Rattle.halfbrown.specs.Costs.{candidates, probe_length, IsSearchCost}
 use Rattle.halfbrown.specs.State.{State}
 use Rattle.std.proofs.Props.{props}
 use Rattle.half_store.specs.Store.{IsVacancy, StoreState}
@@ -19,11 +19,11 @@ use Rattle.std.proofs.lemmas.Option.{same_Some, slice_get-get_or, slice_get-map}
 use Rattle.std.specs.List.{IsDistinct}
 use Rattle.std.specs.Prelude.{Result}
 use Rattle.std.specs.Result.{result_ok}
-use Rattle.half_store.specs.Pairs.{index_of}
-use Rattle.half_store.specs.Search.{Finds, ComparesInOrder}
+use Rattle.half_store.specs.PairLists.{index_of}
+use Rattle.half_store.specs.Search.{StoreSearch, ComparesInOrder}
 use Rattle.halfbrown.specs.Layout.{state_in}
-use Rattle.halfbrown.specs.Lookup.{IsIndexOf, IsAbsent, LooksUp}
-use Rattle.halfbrown.specs.Match.{IsMatch, HasNoMatch, Matches}
+use Rattle.halfbrown.specs.Lookup.{IsIndexOf, IsAbsent, KeySearch}
+use Rattle.halfbrown.specs.Match.{IsMatch, HasNoMatch, MatchSearch}
 use Rattle.halfbrown.proofs.lemmas.pairs.Indices.{first_matched, index_of_first, none_at, absent_of_none}
 
 module _ {K : Type 0} (hash : K → ℕ) (h : ℕ) where
@@ -47,26 +47,26 @@ module _ {K V S : Type 0} (hash : S → K → ℕ) (sought : ℕ) (m : State K V
     probed : reach hashes buckets sought ≡ probe_length (hash m.builder) false m.capacity m.pairs sought
     probed = λ i. reach (is_map i) (is_count i) sought
 
-    missing_costs : after ≡ after_missing hashes buckets sought before → SearchCosts hash sought m None 0 before after
+    missing_costs : after ≡ after_missing hashes buckets sought before → IsSearchCost hash sought m None 0 before after
     missing_costs spent = grind (arith, common_steps)
 
   -- what a search by a match costs, from what the store says of its work
   pub match_costs : (is_vec : Bool) → m.is_vec ≡ is_vec → (scan : Scan) (index : Option ℕ) (hashes : List ℕ)
       → (is_vec ≡ false → hashes ≡ map (hash m.builder) (keys_of m.pairs))
       → (is_vec ≡ true → ComparesInOrder scan index (length m.pairs) before after)
-      → (is_vec ≡ false → IfSome index (λ _. AddsFinding hashes (buckets_of m.capacity) sought before after))
+      → (is_vec ≡ false → IfSome index (λ _. IsTableHitCost hashes (buckets_of m.capacity) sought before after))
       → (is_vec ≡ false → IfNone index (after ≡ after_missing hashes (buckets_of m.capacity) sought before))
-      → (is_vec ≡ false → reach hashes (buckets_of m.capacity) sought ≤ length hashes + 1) → SearchCosts hash sought m index 0 before after
+      → (is_vec ≡ false → reach hashes (buckets_of m.capacity) sought ≤ length hashes + 1) → IsSearchCost hash sought m index 0 before after
   match_costs is_vec form scan index hashes is_map vector found missing near = grind (arith, common_steps)
 
 module _ {K V S : Type 0} (hash : S → K → ℕ) (sought own : ℕ) (m : State K V S) (before after : Work) (index : Option ℕ) where
-  costs_by_form : (is_vec : Bool) → m.is_vec ≡ is_vec → (is_vec ≡ false → sought ≡ own) → SearchCosts hash sought m index 0 before after
-      → SearchCosts hash own m index 0 before after
+  costs_by_form : (is_vec : Bool) → m.is_vec ≡ is_vec → (is_vec ≡ false → sought ≡ own) → IsSearchCost hash sought m index 0 before after
+      → IsSearchCost hash own m index 0 before after
   costs_by_form is_vec form same costs = grind (arith, common_steps)
 
   -- the costs under one hash are those under another that is the same in a table
-  pub costs_for_other : (m.is_vec ≡ false → sought ≡ own) → SearchCosts hash sought m index 0 before after
-      → SearchCosts hash own m index 0 before after
+  pub costs_for_other : (m.is_vec ≡ false → sought ≡ own) → IsSearchCost hash sought m index 0 before after
+      → IsSearchCost hash own m index 0 before after
   costs_for_other same costs = costs_by_form m.is_vec refl same costs
 
 -- Vacancies for a pair: for which hash they are.
@@ -84,7 +84,7 @@ vacancy-prop is_vec contents hash vacancy = Prim.hlevel props
 
 -- the index that a search by a test found is that of the first key that passes
 module _ {K V S : Type 0} (test : K → Bool) (sought : ℕ) (m : State K V S) where
-  pub found_is_index : (result : Result ℕ Vacancy) → LooksUp test sought m result → result_ok result ≡ index_of test (keys_of m.pairs)
+  pub found_is_index : (result : Result ℕ Vacancy) → KeySearch test sought m result → result_ok result ≡ index_of test (keys_of m.pairs)
   found_is_index result at = grind (arith, common_steps)
 
 module _ {K V S : Type 0} (test : K → Bool) (returns : K → Bool → Type 0) (decides : (k : K) (b : Bool) → returns k b → b ≡ test k)
@@ -112,12 +112,12 @@ module _ {K V S : Type 0} (test : K → Bool) (returns : K → Bool → Type 0) 
         (none_at test (keys_of m.pairs) (λ j d within. refused_by none j d within (test (get_or (keys_of m.pairs) j d)) refl))
 
     -- a search by the match is one for the key, under its own hash
-    pub looks_up : (result : Result ℕ Vacancy) → Matches returns hash sought m result → LooksUp test own m result
+    pub looks_up : (result : Result ℕ Vacancy) → MatchSearch returns hash sought m result → KeySearch test own m result
     looks_up result found = grind (arith, common_steps, absent_of_no_match, index_of_match, vacancy_for)
 
 module _ {K V S : Type 0} (returns : K → Bool → Type 0) (hash : S → K → ℕ) (sought : ℕ) (s : StoreState K V) (builder : S)
     (hashed : s.is_vec ≡ false → s.hashes ≡ map (hash builder) (keys_of s.pairs)) where
   -- a search of the store by the match is one of the map
-  pub matches_of : (result : Result ℕ Vacancy) → Finds returns sought s result
-      → Matches returns hash sought (state_in s builder) result
+  pub matches_of : (result : Result ℕ Vacancy) → StoreSearch returns sought s result
+      → MatchSearch returns hash sought (state_in s builder) result
   matches_of result found = grind (arith, common_steps, same_Some, slice_get, slice_get-map)

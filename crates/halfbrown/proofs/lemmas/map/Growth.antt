@@ -4,7 +4,7 @@ use Rattle.std.proofs.lemmas.Grind.{common_steps}
 use Rattle.std.proofs.lemmas.Bool.Decides.{nat_tests}
 use Rattle.std.specs.Prelude.{Some, None, if◌then◌else◌}
 use Rattle.half_store.specs.Capacity.{capacity_for}
-use Rattle.halfbrown.specs.Costs.{capacity_switched}
+use Rattle.halfbrown.specs.Costs.{capacity_after_switch}
 use Rattle.halfbrown.specs.Growth.{is_full, switch_needs, Grants}
 use Rattle.halfbrown.specs.Preparation.{Prepares}
 use Rattle.halfbrown.specs.State.{State}
@@ -24,5 +24,5 @@ module _ {K V S : Type 0} (limit : ℕ) (old new : State K V S) where
   capacity_by full granted = grind (arith, common_steps)
 
   -- the capacity once a granted switch is made
-  pub switched_capacity : Prepares limit old (switch_needs limit old) new → new.capacity ≡ capacity_switched limit old
+  pub switched_capacity : Prepares limit old (switch_needs limit old) new → new.capacity ≡ capacity_after_switch limit old
   switched_capacity = capacity_by (is_full limit old)

@@ -13,11 +13,11 @@ use Rattle.halfbrown.proofs.CallerLemmas.{has_put}
 module _ {K V S : Type 0} (limit : ℕ) (eq : K → K → Bool) (laws : IsEquivalence eq) (old middle new : State K V S) (k : K) (v : V)
     (ps : List (K × V)) (written : WithPairs middle ps new) (put_is : put eq middle.pairs k v ≡ ps) where
   module _ (needs : Option ℕ) (prepared : Prepares limit old needs middle) where
-    is_put : put eq old.pairs k v ≡ new.pairs
-    is_put = ap (λ qs. put eq qs k v) (sym prepared.pairs) ∙ put_is ∙ sym written.pairs
+    says_put : put eq old.pairs k v ≡ new.pairs
+    says_put = ap (λ qs. put eq qs k v) (sym prepared.pairs) ∙ put_is ∙ sym written.pairs
 
     has_put_now : HasPut eq old.pairs k v new.pairs
-    has_put_now = subst (HasPut eq old.pairs k v) is_put (has_put eq laws old.pairs k v)
+    has_put_now = subst (HasPut eq old.pairs k v) says_put (has_put eq laws old.pairs k v)
 
     puts_now : Puts limit eq old k v needs new
     puts_now = grind (arith, common_steps)

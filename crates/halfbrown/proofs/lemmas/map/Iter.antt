@@ -2,7 +2,7 @@
 use Rattle.std.proofs.Common.{◌≡◌, ℕ, ◌<◌, ◌^◌, Bool, List, [], ◌∷◌, length, zip, refl, ap, subst, arith}
 use Rattle.std.specs.Map.{keys_of, values_of}
 use Rattle.half_store.proofs.lemmas.store.States.{length-set_values}
-use Rattle.half_store.specs.Pairs.{set_values}
+use Rattle.half_store.specs.PairLists.{set_values}
 use Rattle.half_store.specs.Store.{StoreState, store_with_pairs}
 use Rattle.halfbrown.specs.Layout.{IsKept, state_in}
 use Rattle.halfbrown.specs.State.{State, IsState, with_pairs}

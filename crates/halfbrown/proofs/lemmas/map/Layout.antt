@@ -11,7 +11,7 @@ use Rattle.std.proofs.lemmas.Map.Entries.{length-keys_of}
 use Rattle.std.proofs.lemmas.Map.Keys.{IsDistinct-push}
 use Rattle.half_store.proofs.lemmas.store.States.{length-set_key, length-set_value}
 use Rattle.half_store.specs.Columns.{no_pairs}
-use Rattle.half_store.specs.Pairs.{set_key, set_value, swap_remove_at}
+use Rattle.half_store.specs.PairLists.{set_key, set_value, swap_remove_at}
 use Rattle.half_store.specs.Store.{StoreState, KeepsForm, store_pushed, store_with_pairs, vector_of}
 use Rattle.half_store.specs.declared.store.vacancy.Vacancy.{Vacancy}
 use Rattle.halfbrown.specs.Layout.{IsKept, state_in}

@@ -8,12 +8,12 @@ use Rattle.std.proofs.lemmas.List.{append-nil}
 use Rattle.std.proofs.lemmas.Option.{slice_get_past, slice_get_within}
 use Rattle.std.specs.Option.{option_map}
 use Rattle.std.specs.Prelude.{Result, Ok, Err}
-use Rattle.half_store.specs.Pairs.{swap_remove_at}
-use Rattle.half_store.specs.Removal.{TakesFound}
+use Rattle.half_store.specs.PairLists.{swap_remove_at}
+use Rattle.half_store.specs.StoreRemoval.{TakesFound}
 use Rattle.half_store.specs.Store.{StoreState}
 use Rattle.half_store.specs.declared.store.vacancy.Vacancy.{Vacancy}
 use Rattle.halfbrown.specs.Layout.{IsKept, state_in}
-use Rattle.halfbrown.specs.Lookup.{LooksUp}
+use Rattle.halfbrown.specs.Lookup.{KeySearch}
 use Rattle.halfbrown.specs.Pairs.{take_out_by}
 use Rattle.halfbrown.specs.Removal.{Removes, RemovesAt}
 use Rattle.halfbrown.specs.State.{State, IsState, WithPairs}
@@ -57,7 +57,7 @@ module _ {K V S : Type 0} (limit : ℕ) (eq : K → K → Bool) (laws : IsEquiva
 
   -- is the map without the pair of the key that was searched for
   pub removes_found : (test : K → Bool) (own : ℕ) → ((k other : K) → test k ≡ true → test other ≡ eq k other)
-      → (search : Result ℕ Vacancy) (result : Option (K × V)) → TakesFound old new search result → LooksUp test own was search
+      → (search : Result ℕ Vacancy) (result : Option (K × V)) → TakesFound old new search result → KeySearch test own was search
       → Removes limit eq test was (lookup_entry test old.pairs) result (state_in new builder)
   removes_found test own one_class (Ok index) (Some pair) taken found =
       removed_as limit eq test was (state_in new builder) laws one_class was_state

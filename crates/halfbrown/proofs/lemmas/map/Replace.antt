@@ -10,8 +10,8 @@ use Rattle.std.specs.List.{IsDistinct}
 use Rattle.std.specs.Map.{keys_of}
 use Rattle.std.specs.Option.{option_map}
 use Rattle.half_store.proofs.lemmas.store.States.{length-set_value, kept_value, lost_pair}
-use Rattle.half_store.specs.Pairs.{swap_remove_at}
-use Rattle.half_store.specs.Replaced.{Replaces}
+use Rattle.half_store.specs.PairLists.{swap_remove_at}
+use Rattle.half_store.specs.PutsBack.{ReplacesValue}
 use Rattle.half_store.specs.Store.{StoreState, KeepsForm}
 use Rattle.halfbrown.specs.Layout.{IsKept}
 use Rattle.halfbrown.specs.Lookup.{IsIndexOf}
@@ -51,14 +51,14 @@ module _ {K V : Type 0} (eq : K → K → Bool) (laws : IsEquivalence eq) (hash 
     (keeps : KeepsForm old new) where
   -- the fields once the closure has answered
   pub kept_replaced : index < length old.pairs → (result : Option (K × ℕ))
-      → Replaces returns old.pairs index new.pairs (option_map (λ removed. removed.0) result)
+      → ReplacesValue returns old.pairs index new.pairs (option_map (λ removed. removed.0) result)
       → IfSome result (λ _. old.is_vec ≡ false → new.hashes ≡ swap_remove_at old.hashes index) → IfNone result (new.hashes ≡ old.hashes)
       → IsKept eq hash limit new
   kept_replaced within None r lost stays = grind (arith, common_steps, kept_as, kept_value, keys_of-set_value, length-set_value, map)
   kept_replaced within (Some removed) r lost stays = kept_taken eq hash limit laws old new index kept keeps within (lost_pair r).1 lost
 
   -- the hash that comes back with a key is its own
-  pub own_hash : (result : Option (K × ℕ)) → Replaces returns old.pairs index new.pairs (option_map (λ removed. removed.0) result)
+  pub own_hash : (result : Option (K × ℕ)) → ReplacesValue returns old.pairs index new.pairs (option_map (λ removed. removed.0) result)
       → IfSome result (λ removed. old.is_vec ≡ false → slice_get old.hashes index ≡ Some removed.1)
       → IfSome result (λ removed. new.is_vec ≡ false → removed.1 ≡ hash removed.0)
   own_hash None r at = tt
@@ -68,6 +68,6 @@ module _ {K V : Type 0} (eq : K → K → Bool) (laws : IsEquivalence eq) (hash 
       ∙ ap hash (lost_pair r).2
 
   -- no equal key is held any more
-  pub absent_replaced : (result : Option (K × ℕ)) → Replaces returns old.pairs index new.pairs (option_map (λ removed. removed.0) result)
+  pub absent_replaced : (result : Option (K × ℕ)) → ReplacesValue returns old.pairs index new.pairs (option_map (λ removed. removed.0) result)
       → IfSome result (λ removed. holds eq new.pairs removed.0 ≡ false)
   absent_replaced result r = grind (arith, common_steps, lost_pair, unheld_after)

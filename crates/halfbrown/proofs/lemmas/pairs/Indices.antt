@@ -7,7 +7,7 @@ use Rattle.std.specs.List.{IsDistinct, list_any}
 use Rattle.std.specs.Map.{keys_of, values_of, lookup, lookup_entry}
 use Rattle.std.proofs.lemmas.Map.Entries.{length-keys_of}
 use Rattle.std.proofs.lemmas.Map.Keys.{apart_from_distinct}
-use Rattle.half_store.specs.Pairs.{index_of, set_value}
+use Rattle.half_store.specs.PairLists.{index_of, set_value}
 use Rattle.halfbrown.specs.Pairs.{holds_by, set_by}
 use Rattle.halfbrown.specs.Lookup.{IsIndexOf, IsAbsent}
 

@@ -8,7 +8,7 @@ use Rattle.std.specs.List.{AllByRecursion, IsDistinct}
 use Rattle.std.specs.Map.{keys_of, values_of}
 use Rattle.std.specs.Option.{option_map}
 use Rattle.half_store.proofs.lemmas.store.States.{length-set_key}
-use Rattle.half_store.specs.Pairs.{set_key, swap_remove_at}
+use Rattle.half_store.specs.PairLists.{set_key, swap_remove_at}
 use Rattle.halfbrown.specs.Pairs.{value_of, pair_of}
 use Rattle.halfbrown.specs.Updates.{HasKeyReplaced}
 use Rattle.halfbrown.proofs.lemmas.pairs.Values.{swap_remove_at-set}

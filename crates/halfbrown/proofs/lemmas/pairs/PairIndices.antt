@@ -8,7 +8,7 @@ use Rattle.std.specs.Cmp.{IsEquivalence}
 use Rattle.std.specs.List.{IsDistinct}
 use Rattle.std.specs.Map.{keys_of}
 use Rattle.std.specs.Option.{option_map}
-use Rattle.half_store.specs.Pairs.{swap_remove_at}
+use Rattle.half_store.specs.PairLists.{swap_remove_at}
 use Rattle.halfbrown.specs.Lookup.{IsIndexOf}
 use Rattle.halfbrown.proofs.lemmas.entry.Methods.{key_of-pair}
 use Rattle.halfbrown.proofs.lemmas.pairs.Indices.{first_matched, index_of_first}

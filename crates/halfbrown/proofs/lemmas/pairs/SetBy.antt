@@ -3,7 +3,7 @@ use Rattle.std.specs.Map.{keys_of}
 use Rattle.std.proofs.Common.{arith, ◌≡◌, ℕ, zero, suc, Bool, true, List, [], ◌∷◌, cond, get_or, slice_get, IfSome, sym, ap, subst, ◌∙◌}
 use Rattle.std.proofs.lemmas.Grind.{common_steps}
 use Rattle.std.specs.Cmp.{IsEquivalence}
-use Rattle.half_store.specs.Pairs.{set_value}
+use Rattle.half_store.specs.PairLists.{set_value}
 use Rattle.halfbrown.specs.Lookup.{IsIndexOf}
 use Rattle.halfbrown.specs.Pairs.{holds_by, put_by}
 use Rattle.halfbrown.specs.Updates.{HasPut, HasSetBy}

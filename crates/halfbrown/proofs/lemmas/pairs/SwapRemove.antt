@@ -8,7 +8,7 @@ use Rattle.std.proofs.lemmas.Map.Keys.{IsDistinct-IsPermutation, IsDistinct-tail
 use Rattle.std.specs.Cmp.{IsEquivalence}
 use Rattle.std.specs.List.{IsDistinct, swap_remove}
 use Rattle.std.specs.List.Sorted.{IsPermutation}
-use Rattle.half_store.specs.Pairs.{swap_remove_at}
+use Rattle.half_store.specs.PairLists.{swap_remove_at}
 
 module _ {A B : Type 0} (f : A → B) where
   map-take : (n : ℕ) (xs : List A) → map f (take n xs) ≡ take n (map f xs)

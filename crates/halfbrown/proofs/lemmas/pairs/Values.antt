@@ -3,7 +3,7 @@ use Rattle.std.proofs.Common.{◌≡◌, ℕ, zero, suc, ◌<◌, List, [], ◌�
 use Rattle.std.proofs.lemmas.Grind.{common_steps}
 use Rattle.std.proofs.lemmas.List.{length-set, take-set-le, get_or-set_other, get_or_default}
 use Rattle.std.specs.Map.{values_of}
-use Rattle.half_store.specs.Pairs.{set_value, swap_remove_at}
+use Rattle.half_store.specs.PairLists.{set_value, swap_remove_at}
 
 module _ {X : Type 0} where
   set-twice : (xs : List X) (i : ℕ) (a b : X) → set (set xs i a) i b ≡ set xs i b

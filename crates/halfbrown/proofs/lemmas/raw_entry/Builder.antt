@@ -5,13 +5,13 @@ use Rattle.std.proofs.lemmas.Grind.{common_steps}
 use Rattle.std.specs.Cmp.{IsEquivalence}
 use Rattle.std.specs.List.{IsDistinct}
 use Rattle.std.specs.Map.{keys_of}
-use Rattle.half_store.specs.Pairs.{set_value}
+use Rattle.half_store.specs.PairLists.{set_value}
 use Rattle.halfbrown.specs.declared.entry.OccupiedEntry.{OccupiedEntry}
 use Rattle.halfbrown.specs.declared.raw_entry.RawVacantEntryMut.{RawVacantEntryMut}
 use Rattle.halfbrown.specs.Lookup.{IsIndexOf, IsAbsent}
-use Rattle.halfbrown.specs.Match.{IsMatch, FindsMatch}
+use Rattle.halfbrown.specs.Match.{IsMatch, ReadsMatch}
 use Rattle.halfbrown.specs.Pairs.{holds}
-use Rattle.halfbrown.specs.RawEntry.{Occupied, Vacant, AddsThroughRawEntry, FindsEntry, PutsThroughRawEntry}
+use Rattle.halfbrown.specs.RawEntry.{Occupied, Vacant, AddsThroughRawEntry, IsRawEntryOf, PutsThroughRawEntry}
 use Rattle.halfbrown.specs.State.{State}
 use Rattle.halfbrown.specs.Updates.{HasPut, HasRemovedBy}
 use Rattle.halfbrown.proofs.CallerLemmas.{has_put, has_removed_by}
@@ -31,9 +31,9 @@ module _ {K : Type 0} (same : K → K → Bool) (laws : IsEquivalence same) (tes
       (m : State K V S) where
     -- where a search of the map found the key
     pub found_entry : (o : OccupiedEntry K V S L e h b l) → m ≡ o.map.now → IsDistinct same (keys_of o.map.now.pairs)
-        → IsIndexOf test o.map.now.pairs o.index → FindsEntry same test m (Occupied o)
+        → IsIndexOf test o.map.now.pairs o.index → IsRawEntryOf same test m (Occupied o)
     unfolding entries.with_value
-    found_entry o is distinct at = subst (λ n. FindsEntry same test n (Occupied o)) (sym is) (record {
+    found_entry o is distinct at = subst (λ n. IsRawEntryOf same test n (Occupied o)) (sym is) (record {
       map = refl;
       occupied = sym at.held;
       pair = sym at.pair;
@@ -50,8 +50,8 @@ module _ {K : Type 0} (same : K → K → Bool) (laws : IsEquivalence same) (tes
 
     -- where it found none
     pub missing_entry : (v : RawVacantEntryMut K V S L e h b l) → m ≡ v.map.now → IsDistinct same (keys_of v.map.now.pairs)
-        → IsAbsent test v.map.now.pairs → FindsEntry same test m (Vacant v)
-    missing_entry v is distinct absent = subst (λ n. FindsEntry same test n (Vacant v)) (sym is) (record {
+        → IsAbsent test v.map.now.pairs → IsRawEntryOf same test m (Vacant v)
+    missing_entry v is distinct absent = subst (λ n. IsRawEntryOf same test n (Vacant v)) (sym is) (record {
       map = refl;
       occupied = sym absent.held;
       pair = sym absent.pair;
@@ -83,7 +83,7 @@ module _ {K V S L : Type 0} {e : eq.Ghosts K} {h : hash.Ghosts K} {b : hashers.G
 
   found_at : (m : State K V S) (o : OccupiedEntry K V S L e h b l) → m ≡ o.map.now → IsDistinct same (keys_of o.map.now.pairs)
       → (found : Option (K × V)) → slice_get o.map.now.pairs o.index ≡ found
-      → IfSome found (λ pair. FindsEntry same (same pair.0) m (Occupied o))
+      → IfSome found (λ pair. IsRawEntryOf same (same pair.0) m (Occupied o))
   found_at m o is distinct None at = tt
   found_at m o is distinct (Some pair) at =
       found_entry same laws (same pair.0) (λ k other alike. laws.congr pair.0 k other alike) m o is distinct
@@ -92,16 +92,16 @@ module _ {K V S L : Type 0} {e : eq.Ghosts K} {h : hash.Ghosts K} {b : hashers.G
   -- the entry of a pair that a match found is that of the pair's key
   pub found_by_match : (m : State K V S) (o : OccupiedEntry K V S L e h b l) → m ≡ o.map.now
       → IsDistinct same (keys_of o.map.now.pairs)
-      → IfSome (slice_get o.map.now.pairs o.index) (λ pair. FindsEntry same (same pair.0) m (Occupied o))
+      → IfSome (slice_get o.map.now.pairs o.index) (λ pair. IsRawEntryOf same (same pair.0) m (Occupied o))
   found_by_match m o is distinct = found_at m o is distinct (slice_get o.map.now.pairs o.index) refl
 
 module _ {K V S : Type 0} (returns : K → Bool → Type 0) (hash_of : S → K → ℕ) (sought : ℕ) where
   match_at : (m : State K V S) (index : ℕ) (found : Option (K × V)) → slice_get m.pairs index ≡ found
-      → IsMatch returns hash_of sought m index → FindsMatch returns hash_of sought m found
+      → IsMatch returns hash_of sought m index → ReadsMatch returns hash_of sought m found
   match_at m index None at is = absurd (some_is_not_none m.pairs index is.within at)
   match_at m index (Some pair) at is = (index, at, is)
 
   -- the pair at the index that a match found, in the map that was ready
   pub found_match : (ready m : State K V S) (index : ℕ) → ready ≡ m → IsMatch returns hash_of sought m index
-      → FindsMatch returns hash_of sought ready (slice_get m.pairs index)
+      → ReadsMatch returns hash_of sought ready (slice_get m.pairs index)
   found_match ready m index is at = grind (arith, common_steps, match_at, slice_get)

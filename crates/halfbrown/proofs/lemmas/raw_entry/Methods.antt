@@ -5,12 +5,12 @@ use Rattle.std.proofs.lemmas.Map.Entries.{length-keys_of, length-values_of}
 use Rattle.std.proofs.lemmas.Option.{same_Some}
 use Rattle.std.specs.Map.{keys_of, values_of}
 use Rattle.std.specs.Option.{option_map}
-use Rattle.half_store.specs.Pairs.{set_value, swap_remove_at}
+use Rattle.half_store.specs.PairLists.{set_value, swap_remove_at}
 use Rattle.halfbrown.specs.declared.entry.OccupiedEntry.{OccupiedEntry}
 use Rattle.halfbrown.specs.declared.raw_entry.RawEntryMut.{RawEntryMut}
 use Rattle.halfbrown.specs.declared.raw_entry.RawVacantEntryMut.{RawVacantEntryMut}
 use Rattle.halfbrown.specs.Entry.{entry_key, entry_value, map_of, with_value, IsWritten}
-use Rattle.halfbrown.specs.RawEntry.{Occupied, Vacant, found_key, found_pair, found_value, pairs_with, PutsThroughRawEntry, PutsEntry}
+use Rattle.halfbrown.specs.RawEntry.{Occupied, Vacant, found_key, found_pair, found_value, pairs_once_put, PutsThroughRawEntry, PutsEntry}
 use Rattle.halfbrown.specs.State.{IsState, WithPairs}
 use Rattle.halfbrown.proofs.lemmas.entry.Methods.{key_of-pair, value_of-pair, set_value-last, value-last}
 use Rattle.halfbrown.proofs.lemmas.entry.Replace.{swap_remove_at-last}
@@ -88,13 +88,13 @@ module _ {K V S L : Type 0} {e : eq.Ghosts K} {h : hash.Ghosts K} {b : hashers.G
 
   -- of the map with this value only the pairs are new
   pub held_with_pairs : (key : K) (value : V)
-      → WithPairs (map_of (entries.Occupied o)) (pairs_with (Occupied o) key value) (with_value (entries.Occupied o) value)
+      → WithPairs (map_of (entries.Occupied o)) (pairs_once_put (Occupied o) key value) (with_value (entries.Occupied o) value)
   unfolding with_value
   held_with_pairs key value = record { pairs = refl; form = refl; capacity = refl; builder = refl }
 
   -- a value that is written again
   pub held_twice : (key : K) (value again : V)
-      → set_value (with_value (entries.Occupied o) value).pairs o.index again ≡ pairs_with (Occupied o) key again
+      → set_value (with_value (entries.Occupied o) value).pairs o.index again ≡ pairs_once_put (Occupied o) key again
   unfolding with_value
   held_twice key value again = set_value-twice o.map.now.pairs o.index value again
 

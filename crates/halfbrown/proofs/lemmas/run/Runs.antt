@@ -6,11 +6,11 @@ use Rattle.half_store.specs.Work.{Work}
 use Rattle.halfbrown.specs.declared.run.Command.{Command}
 use Rattle.halfbrown.specs.declared.run.Reply.{Reply}
 use Rattle.halfbrown.specs.State.{State, IsState}
-use Rattle.halfbrown.specs.Step.{Step, IsStep, is_shrink}
+use Rattle.halfbrown.specs.Step.{Step, IsValidStep, is_shrink}
 use Rattle.halfbrown.specs.Costs.{Cost, GrewBy, add_costs}
 use Rattle.halfbrown.specs.Run.{Lead, Runs, shrinks, commands_of, replies_of, step_cost, cost_of}
 use Rattle.halfbrown.proofs.lemmas.map.Costs.{none_more, more_none, costs_assoc, spent_none, spent_both}
-use Rattle.halfbrown.proofs.lemmas.run.Steps.{PaysTwo, switch_left, step_pays_two}
+use Rattle.halfbrown.proofs.lemmas.run.Executes.{PaysTwo, switch_left, step_pays_two}
 
 pub neither : (a b : Bool) → (a || b) ≡ false → (a ≡ false) × (b ≡ false)
 neither a b none = grind (arith, common_steps)
@@ -41,7 +41,7 @@ module _ {K V S : Type 0} (limit : ℕ) (eq : K → K → Bool) where
       no_step = record { steps = []; lead = refl; commands_are = refl; replies_are = refl; spent = spent_none before }
 
       pub step_more : (s : Step K V S) (left : List (Command K V)) (replies : List (Reply K V)) (middle after : Work)
-          → RunSoFar s.before (s.command ∷ left) replies middle → IsStep limit eq s → IsState eq limit s.after
+          → RunSoFar s.before (s.command ∷ left) replies middle → IsValidStep limit eq s → IsState eq limit s.after
           → GrewBy (step_cost limit eq hash s) middle after → RunSoFar s.after left (replies ++ s.reply ∷ []) after
       step_more s left replies middle after so_far step state spent =
           let steps = so_far.steps in

@@ -2,7 +2,7 @@
 use Rattle.std.proofs.Common.{◌≡◌, ℕ, ◌+◌, ◌*◌, ◌≤◌, Bool, true, false, not, ◌&&◌, unwrap_or, arith, if◌then◌else◌}
 use Rattle.std.proofs.lemmas.Grind.{common_steps}
 use Rattle.halfbrown.specs.Run.{step_cost}
-use Rattle.halfbrown.specs.Step.{is_shrink, Step, IsStep, switches, form_changed}
+use Rattle.halfbrown.specs.Step.{is_shrink, Step, IsValidStep, switches, form_changed}
 
 -- the most keys that a command hashes: two, but none in a vector, and all at the switch
 abbrev pub most_asked : ℕ → Bool → Bool → ℕ
@@ -21,19 +21,19 @@ pub record PaysTwo (limit count asked : ℕ) (was is : Bool) : Type 0 where
   pub all : asked + switch_left limit is ≤ 2 * count + switch_left limit was
 
 module _ {K V S : Type 0} (limit : ℕ) (eq : K → K → Bool) where
-  pub form_of_step : (s : Step K V S) → IsStep limit eq s → s.after.is_vec ≡ unwrap_or (form_changed limit s) s.before.is_vec
+  pub form_of_step : (s : Step K V S) → IsValidStep limit eq s → s.after.is_vec ≡ unwrap_or (form_changed limit s) s.before.is_vec
   form_of_step s step = grind (arith, common_steps)
 
   -- without `Shrink` a step leaves a vector where it found one and did not switch
-  pub form_unshrunk : (s : Step K V S) → IsStep limit eq s → is_shrink s.command ≡ false
+  pub form_unshrunk : (s : Step K V S) → IsValidStep limit eq s → is_shrink s.command ≡ false
       → s.after.is_vec ≡ (s.before.is_vec && not (switches limit s))
   form_unshrunk s step none = grind (arith, common_steps)
 
   module _ (hash : S → K → ℕ) where
-    pub asked_of_step : (s : Step K V S) → IsStep limit eq s
+    pub asked_of_step : (s : Step K V S) → IsValidStep limit eq s
         → (step_cost limit eq hash s).asked ≤ most_asked limit (switches limit s) s.before.is_vec
     asked_of_step s step = grind (arith, common_steps)
 
-    pub step_pays_two : (s : Step K V S) → IsStep limit eq s → is_shrink s.command ≡ false
+    pub step_pays_two : (s : Step K V S) → IsValidStep limit eq s → is_shrink s.command ≡ false
         → PaysTwo limit 1 (step_cost limit eq hash s).asked s.before.is_vec s.after.is_vec
     step_pays_two s step none = grind (arith, common_steps, asked_of_step, form_unshrunk)

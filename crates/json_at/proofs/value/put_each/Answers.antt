@@ -2,7 +2,7 @@ use Rattle.std.proofs.Common.{refl, sym, ap, ◌∙◌}
 use Rattle.std.proofs.lemmas.List.{map-id}
 use Rattle.std.proofs.lemmas.Map.Iter.{iter_end}
 use Rattle.std.specs.String.{string_eq}
-use Rattle.halfbrown.specs.Collection.{put_all}
+use Rattle.halfbrown.specs.FromIter.{put_all}
 use Rattle.json_at.proofs.value.put_each.Goals as goal
 
 pub returns : goal.returns

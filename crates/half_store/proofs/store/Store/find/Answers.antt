@@ -4,7 +4,7 @@ use Rattle.std.proofs.lemmas.Map.Entries.{length-keys_of}
 use Rattle.std.proofs.lemmas.Option.{slice_get_within}
 use Rattle.std.specs.Fn.{FnReturnsAt}
 use Rattle.std.specs.Map.{keys_of}
-use Rattle.half_store.specs.Search.{Finds}
+use Rattle.half_store.specs.Search.{StoreSearch}
 use Rattle.half_store.specs.Store.{StoreState, store_of, vector_of, table_of}
 use Rattle.half_store.proofs.lemmas.store.States.{table_view, table_over}
 use Rattle.half_store.proofs.store.Store.find.Goals as goal
@@ -14,7 +14,7 @@ returns-in-Some-first_match-clause-found g c =
     let index = c.in-Some-first_match.index in
     let is : vector_of c.self.inside.columns ≡ c.args.self.now = ap (store_of c.self.inside.columns) (sym c.in_default.is)
     ∙ c.self.view_is in
-    subst (λ (s : StoreState g.row.K.Denot g.row.V.Denot). Finds (FnReturnsAt g.F.Fn c.args.matches.now) c.args.hash s (Ok index)) is
+    subst (λ (s : StoreState g.row.K.Denot g.row.V.Denot). StoreSearch (FnReturnsAt g.F.Fn c.args.matches.now) c.args.hash s (Ok index)) is
     (record {
       within = omega (
         arith,
@@ -33,7 +33,7 @@ returns-in-None-clause-found g c =
     let pairs = c.self.inside.columns.pairs in
     let is : vector_of c.self.inside.columns ≡ c.args.self.now = ap (store_of c.self.inside.columns) (sym c.in_default.is)
     ∙ c.self.view_is in
-    subst (λ (s : StoreState g.row.K.Denot g.row.V.Denot). Finds (FnReturnsAt g.F.Fn c.args.matches.now) c.args.hash s
+    subst (λ (s : StoreState g.row.K.Denot g.row.V.Denot). StoreSearch (FnReturnsAt g.F.Fn c.args.matches.now) c.args.hash s
     (Err (record { hash = c.args.hash; bucket = 0 }))) is (
       record {
         refused = λ index k at hashed. c.in-None.ensures.absent index
@@ -56,7 +56,7 @@ returns-in-Ok-clause-found g c =
     let is : table_of columns table ≡ c.args.self.now = table_view columns c.deref.ensures c.in-Some.is c.self.view_is in
     let kept = table_over columns c.deref.ensures c.in-Some.is c.self.invariant in
     let index = c.in-Ok.index in
-    subst (λ (s : StoreState g.row.K.Denot g.row.V.Denot). Finds (FnReturnsAt g.F.Fn c.args.matches.now) c.args.hash s (Ok index)) is
+    subst (λ (s : StoreState g.row.K.Denot g.row.V.Denot). StoreSearch (FnReturnsAt g.F.Fn c.args.matches.now) c.args.hash s (Ok index)) is
     (record {
       within = omega (arith, slice_get_within table.hashes index c.args.hash c.in-Ok.ensures.found, kept.len);
       accepted = λ k at. c.in-Ok.ensures.accepted k (ap (λ ks. slice_get ks index) c.keys-2.ensures.keys ∙ at);
@@ -69,7 +69,7 @@ returns-in-Err-clause-found g c =
     let columns = c.self.inside.columns in
     let table = c.deref.result.now in
     let is : table_of columns table ≡ c.args.self.now = table_view columns c.deref.ensures c.in-Some.is c.self.view_is in
-    subst (λ (s : StoreState g.row.K.Denot g.row.V.Denot). Finds (FnReturnsAt g.F.Fn c.args.matches.now) c.args.hash s
+    subst (λ (s : StoreState g.row.K.Denot g.row.V.Denot). StoreSearch (FnReturnsAt g.F.Fn c.args.matches.now) c.args.hash s
     (Err (record { hash = c.args.hash; bucket = c.in-Err.bucket }))) is (
       record {
         refused = λ index k at own. c.in-Err.ensures.refused index (own refl) k

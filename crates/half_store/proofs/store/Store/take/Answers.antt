@@ -1,8 +1,8 @@
 use Rattle.std.proofs.Common.{◌≡◌, Ok, Err, length, slice_get, refl, sym, ap, subst, ◌∙◌, arith, true≢false, rules}
 use Rattle.std.proofs.lemmas.Option.{slice_get_within}
 use Rattle.std.specs.Fn.{FnReturnsAt}
-use Rattle.half_store.specs.Pairs.{swap_remove_at}
-use Rattle.half_store.specs.Search.{Finds}
+use Rattle.half_store.specs.PairLists.{swap_remove_at}
+use Rattle.half_store.specs.Search.{StoreSearch}
 use Rattle.half_store.specs.Store.{StoreState, table_of}
 use Rattle.half_store.specs.declared.store.vacancy.Vacancy.{Vacancy}
 use Rattle.half_store.proofs.lemmas.store.States.{table_view, table_over, table_keeps_form, pairs_of-store}
@@ -28,7 +28,7 @@ returns-in-Ok-take g c =
     let found = c.in-Ok-take.ensures.finds in
     record {
       search = Ok index;
-      finds = subst (λ (s : StoreState g.row.K.Denot g.row.V.Denot). Finds (FnReturnsAt g.F.Fn c.args.matches.now) c.args.hash s (Ok index)) is
+      finds = subst (λ (s : StoreState g.row.K.Denot g.row.V.Denot). StoreSearch (FnReturnsAt g.F.Fn c.args.matches.now) c.args.hash s (Ok index)) is
           (record {
             within = omega (arith, slice_get_within table.hashes index c.args.hash found.found, kept.len);
             accepted = λ k at. found.accepted k (ap (λ ks. slice_get ks index) c.keys.ensures.keys ∙ at);
@@ -55,7 +55,7 @@ returns-in-Err-take g c =
     let vacancy : Vacancy = record { hash = c.args.hash; bucket = c.in-Err-take.field-0 } in
     record {
       search = Err vacancy;
-      finds = subst (λ (s : StoreState g.row.K.Denot g.row.V.Denot). Finds (FnReturnsAt g.F.Fn c.args.matches.now) c.args.hash s
+      finds = subst (λ (s : StoreState g.row.K.Denot g.row.V.Denot). StoreSearch (FnReturnsAt g.F.Fn c.args.matches.now) c.args.hash s
           (Err vacancy)) is (
             record {
               refused = λ index k at own. found.refused index (own refl) k (ap (λ ks. slice_get ks index) c.keys.ensures.keys ∙ at);

@@ -1,7 +1,7 @@
 use Rattle.std.proofs.Common.{refl, ap, subst}
 use Rattle.std.specs.Fn.{FnReturnsAt}
 use Rattle.half_store.specs.Search.{ReturnsAt}
-use Rattle.half_store.specs.TableSearch.{FindsInTable}
+use Rattle.half_store.specs.TableSearch.{TableSearch}
 use Rattle.half_store.specs.Words.{words_of}
 use Rattle.half_store.proofs.lemmas.table.Find.{taken_removes, taken_cost, taken_none}
 use Rattle.half_store.proofs.lemmas.table.Layout.{view_lent}
@@ -14,7 +14,7 @@ returns-in-FourBytes g c =
     let words = c.in-FourBytes.buckets in
     let taken = c.take_in in
     let told = taken.ensures in
-    let finds = subst (λ t. FindsInTable (ReturnsAt (FnReturnsAt g.F.Fn c.args.matches.now) c.args.keys.now) t c.args.hash taken.result
+    let finds = subst (λ t. TableSearch (ReturnsAt (FnReturnsAt g.F.Fn c.args.matches.now) c.args.keys.now) t c.args.hash taken.result
     c.args.tally.now taken.new.tally) view told.finds in
     record {
       finds = finds;
@@ -30,7 +30,7 @@ returns-in-EightBytes g c =
     let words = c.in-EightBytes.buckets in
     let taken = c.take_in-in-EightBytes in
     let told = taken.ensures in
-    let finds = subst (λ t. FindsInTable (ReturnsAt (FnReturnsAt g.F.Fn c.args.matches.now) c.args.keys.now) t c.args.hash taken.result
+    let finds = subst (λ t. TableSearch (ReturnsAt (FnReturnsAt g.F.Fn c.args.matches.now) c.args.keys.now) t c.args.hash taken.result
     c.args.tally.now taken.new.tally) view told.finds in
     record {
       finds = finds;

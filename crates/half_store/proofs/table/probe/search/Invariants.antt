@@ -3,13 +3,13 @@ use Rattle.std.specs.Fn.{FnReturnsAt}
 use Rattle.half_store.specs.Buckets.{slots_by}
 use Rattle.half_store.specs.Search.{ReturnsAt}
 use Rattle.half_store.specs.Slots.{distance_from_home}
-use Rattle.half_store.proofs.lemmas.table.Probe.{Searches}
+use Rattle.half_store.proofs.lemmas.table.Probe.{EntersByKey}
 use Rattle.half_store.proofs.table.probe.search.Given as goal
 
 -- full buckets were passed, and each pair of the hash among them refused
 abbrev pub invariant-loop-index : goal.invariant-loop-index
 invariant-loop-index g l =
-    Searches (slots_by (g.P.Buckets.hashes l.buckets) (g.P.Buckets.words l.buckets)) l.hash
+    EntersByKey (slots_by (g.P.Buckets.hashes l.buckets) (g.P.Buckets.words l.buckets)) l.hash
     (λ bucket. ReturnsAt (FnReturnsAt g.F.Fn l.matches) l.keys (slice_index (g.P.Buckets.words l.buckets) bucket - 1) false)
     l.bucket l.initial.tally l.tally
 

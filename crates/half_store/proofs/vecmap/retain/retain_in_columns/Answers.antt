@@ -5,7 +5,7 @@ use Rattle.std.specs.Map.Calls.{CalledAtPair, TakesPair}
 use Rattle.std.proofs.lemmas.List.{take-map, length-map, length-set}
 use Rattle.half_store.proofs.lemmas.vecmap.Retain.{Sifting, Sifting-asks, Sifting-rejected, Sifting-accepted, Sifting-ends, map-swap}
 use Rattle.half_store.proofs.lemmas.vecmap.Retain.{zip-swap, swap-self}
-use Rattle.half_store.specs.Pairs.{set_value}
+use Rattle.half_store.specs.PairLists.{set_value}
 use Rattle.half_store.proofs.lemmas.vecmap.Zip.{length-zip, zip-take, get_or-zip, zip-set_value}
 use Rattle.half_store.proofs.vecmap.retain.retain_in_columns.Goals.{then-f, then-index-hashes, else-index-hashes, else-f}
 use Rattle.half_store.proofs.vecmap.retain.retain_in_columns.Goals as goal

@@ -1,7 +1,7 @@
 use Rattle.std.proofs.Common.{nat_le, refl, inl, inr, sym, subst, arith}
 use Rattle.std.proofs.lemmas.Grind.{common_steps}
 use Rattle.std.specs.Iterator.{Drains}
-use Rattle.halfbrown.specs.Collection.{Gives, IsRefusedInsertion}
+use Rattle.halfbrown.specs.FromIter.{Gives, IsRefusedInsertion}
 use Rattle.halfbrown.specs.Costs.{no_cost}
 use Rattle.halfbrown.specs.Making.{IsMade}
 use Rattle.halfbrown.proofs.lemmas.map.Collect.{at_error, collection_of, inserts_asked, inserts_state}

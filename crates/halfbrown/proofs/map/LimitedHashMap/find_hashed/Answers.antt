@@ -1,6 +1,6 @@
 use Rattle.std.proofs.Common.{sym, ap, subst, ◌∙◌}
-use Rattle.halfbrown.specs.Costs.{SearchCosts}
-use Rattle.halfbrown.specs.Lookup.{LooksUp}
+use Rattle.halfbrown.specs.Costs.{IsSearchCost}
+use Rattle.halfbrown.specs.Lookup.{KeySearch}
 use Rattle.std.specs.Result.{result_ok}
 use Rattle.halfbrown.proofs.lemmas.map.Find.{costs_for_other, looks_up, found_is_index}
 use Rattle.halfbrown.proofs.map.LimitedHashMap.find_hashed.Goals as goal
@@ -23,8 +23,8 @@ returns-clause-cost g c =
     let test = g.Q.Equivalent.equivalent c.args.key in
     let hashing = g.S.KeyHasher.hash in
     let own = g.S.KeyHasher.hash_writes m.builder (g.Q.Hash.hash_input c.args.key) in
-    let found : LooksUp test own m c.find_match.result = returns-clause-found g c in
-    subst (λ index. SearchCosts hashing own m index 0 c.args.tally.now c.find_match.new.tally)
+    let found : KeySearch test own m c.find_match.result = returns-clause-found g c in
+    subst (λ index. IsSearchCost hashing own m index 0 c.args.tally.now c.find_match.new.tally)
     (found_is_index test own m c.find_match.result found)
     (costs_for_other hashing c.args.hash own m c.args.tally.now c.find_match.new.tally (result_ok c.find_match.result) c.requires
     c.find_match.ensures.cost)

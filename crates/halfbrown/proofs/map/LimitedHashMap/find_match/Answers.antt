@@ -2,8 +2,8 @@ use Rattle.std.proofs.Common.{subst, ap, ◌∙◌, length}
 use Rattle.std.specs.Fn.{FnReturnsAt}
 use Rattle.std.specs.Result.{result_ok}
 use Rattle.half_store.specs.Search.{ComparesInOrder}
-use Rattle.halfbrown.specs.Costs.{SearchCosts}
-use Rattle.halfbrown.specs.Match.{Matches}
+use Rattle.halfbrown.specs.Costs.{IsSearchCost}
+use Rattle.halfbrown.specs.Match.{MatchSearch}
 use Rattle.halfbrown.specs.Layout.{state_in}
 use Rattle.halfbrown.specs.State.{State}
 use Rattle.halfbrown.proofs.lemmas.map.Find.{match_costs, matches_of}
@@ -13,7 +13,7 @@ pub returns-clause-found : goal.returns-clause-found
 returns-clause-found g c =
     let hashing = g.S.KeyHasher.hash in
     let returns = FnReturnsAt g.F.Fn c.args.matches.now in
-    subst (λ (m : State g.row.K.Denot g.row.V.Denot g.row.S.Denot). Matches returns hashing c.args.hash m c.find.result) c.self.view_is
+    subst (λ (m : State g.row.K.Denot g.row.V.Denot g.row.S.Denot). MatchSearch returns hashing c.args.hash m c.find.result) c.self.view_is
     (matches_of returns hashing c.args.hash c.self.inside.store c.self.inside.builder c.self.invariant.hashed c.find.result
     c.find.ensures.found)
 
@@ -22,7 +22,7 @@ returns-clause-cost g c =
     let hashing = g.S.KeyHasher.hash in
     let store = c.self.inside.store in
     let told = c.find.ensures in
-    subst (λ (m : State g.row.K.Denot g.row.V.Denot g.row.S.Denot). SearchCosts hashing c.args.hash m (result_ok c.find.result) 0
+    subst (λ (m : State g.row.K.Denot g.row.V.Denot g.row.S.Denot). IsSearchCost hashing c.args.hash m (result_ok c.find.result) 0
     c.args.tally.now c.find.new.tally) c.self.view_is
     (match_costs hashing c.args.hash (state_in store c.self.inside.builder) c.args.tally.now c.find.new.tally store.is_vec
     (λ i. store.is_vec) c.args.scan (result_ok c.find.result) store.hashes

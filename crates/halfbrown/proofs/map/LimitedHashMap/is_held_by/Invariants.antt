@@ -2,7 +2,7 @@
 use Rattle.std.proofs.Common.{◌≡◌, drop}
 use Rattle.std.specs.List.{list_all}
 use Rattle.half_store.specs.Work.{Work}
-use Rattle.halfbrown.specs.Costs.{SearchesCost}
+use Rattle.halfbrown.specs.Costs.{AreSearchCosts}
 use Rattle.halfbrown.specs.Equality.{holds_pair, keys_while_same}
 use Rattle.halfbrown.proofs.map.LimitedHashMap.is_held_by.Given as goal
 
@@ -11,8 +11,8 @@ invariant-loop-index g l = record {
   held : list_all (holds_pair g.K.PartialEq.eq g.V.PartialEq.eq l.other.pairs) l.self.pairs
       ≡ list_all (holds_pair g.K.PartialEq.eq g.V.PartialEq.eq l.other.pairs) (drop l.index l.self.pairs);
   cost : (after : Work)
-      → SearchesCost g.K.PartialEq.eq g.S2.KeyHasher.hash l.other
+      → AreSearchCosts g.K.PartialEq.eq g.S2.KeyHasher.hash l.other
       (keys_while_same g.K.PartialEq.eq g.V.PartialEq.eq (drop l.index l.self.pairs) l.other.pairs) l.tally after
-      → SearchesCost g.K.PartialEq.eq g.S2.KeyHasher.hash l.other
+      → AreSearchCosts g.K.PartialEq.eq g.S2.KeyHasher.hash l.other
       (keys_while_same g.K.PartialEq.eq g.V.PartialEq.eq l.self.pairs l.other.pairs) l.initial.tally after;
 }

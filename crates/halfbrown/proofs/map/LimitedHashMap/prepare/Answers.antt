@@ -20,8 +20,8 @@ returns-in-Ok-clause-cost g c =
     switched.form (switched_capacity _ _ _ switched) switched.pairs switched.builder c.in_ok-switch_if_full.ensures.work searched
     (ap (λ ps. holds eq ps c.args.key.now) (sym switched.pairs) ∙ c.in-Ok.ensures.found.held)
 
-pub returns-in_ok-make_capacity_at-in-Err-clause-cost : goal.returns-in_ok-make_capacity_at-in-Err-clause-cost
-returns-in_ok-make_capacity_at-in-Err-clause-cost g c =
+pub returns-in_ok-make_capacity_keeping-in-Err-clause-cost : goal.returns-in_ok-make_capacity_keeping-in-Err-clause-cost
+returns-in_ok-make_capacity_keeping-in-Err-clause-cost g c =
     let eq = g.K.PartialEq.eq in
     let key = c.args.key.now in
     let switched = c.in_ok-switch_if_full.ensures.ok in
@@ -32,17 +32,17 @@ returns-in_ok-make_capacity_at-in-Err-clause-cost g c =
     c.switch_if_full.new.self c.args.tally.now c.switch_if_full.new.tally c.find.new.tally
     switched.form (switched_capacity _ _ _ switched) switched.pairs switched.builder c.in_ok-switch_if_full.ensures.work searched
     c.in-Err.vacancy.hash (λ table. (missing.found.1 (omega (arith, missing.state.table_exceeds table)) table).0 ∙ sym law)
-    c.make_capacity_at.new.tally c.in_ok-make_capacity_at-in-Err.ensures.work
+    c.make_capacity_keeping.new.tally c.in_ok-make_capacity_keeping-in-Err.ensures.work
     (ap (λ ps. holds eq ps key) (sym switched.pairs) ∙ missing.found.0.held)
 
-pub returns-in_err-make_capacity_at-in-Err-clause-cost : goal.returns-in_err-make_capacity_at-in-Err-clause-cost
-returns-in_err-make_capacity_at-in-Err-clause-cost g c =
+pub returns-in_err-make_capacity_keeping-in-Err-clause-cost : goal.returns-in_err-make_capacity_keeping-in-Err-clause-cost
+returns-in_err-make_capacity_keeping-in-Err-clause-cost g c =
     let switched = c.in_ok-switch_if_full.ensures.ok in
-    let out = c.from_residual-in_err-make_capacity_at-in-Err in
-    let told = c.in_err-make_capacity_at-in-Err.ensures in
+    let out = c.from_residual-in_err-make_capacity_keeping-in-Err in
+    let told = c.in_err-make_capacity_keeping-in-Err.ensures in
     let refused = ap is_ok (err_from_is_err_and out.result out.ensures.1).1 in
     let room : is_full g.L.Limit.LIMIT c.args.self.now ≡ false = grind (arith, nat_tests, c.in_ok-switch_if_full.ensures.capacity_left, told.refused.0) in
-    let still : c.make_capacity_at.new.tally ≡ c.find.new.tally = grind (arith, told.work) in
+    let still : c.make_capacity_keeping.new.tally ≡ c.find.new.tally = grind (arith, told.work) in
     let searched = key_costs g.K.PartialEq.eq g.S.KeyHasher.hash c.switch_if_full.new.self c.args.key.now _ _ _
     (g.met.S.KeyHasher.hash_is c.switch_if_full.new.self.builder c.args.key.now) c.in-Err.ensures.cost in
     rw (refused, still) (unmade_costs g.L.Limit.LIMIT g.K.PartialEq.eq

@@ -3,9 +3,9 @@ use Rattle.std.specs.Map.{lookup_entry}
 use Rattle.std.specs.Option.{option_map}
 use Rattle.std.specs.Result.{result_ok}
 use Rattle.half_store.specs.declared.vecmap.search.Scan.TheVariants.{ByBlock}
-use Rattle.halfbrown.specs.Costs.{CostsHashedSearch, SearchCosts}
+use Rattle.halfbrown.specs.Costs.{IsHashedLookupCost, IsSearchCost}
 use Rattle.halfbrown.specs.Layout.{state_in}
-use Rattle.halfbrown.specs.Lookup.{LooksUp}
+use Rattle.halfbrown.specs.Lookup.{KeySearch}
 use Rattle.halfbrown.specs.Removal.{Removes}
 use Rattle.halfbrown.specs.State.{State}
 use Rattle.halfbrown.proofs.lemmas.map.Find.{costs_for_other, found_is_index, looks_up, match_costs, matches_of}
@@ -31,7 +31,7 @@ returns g c =
     let known : was.is_vec ≡ false → c.args.hash ≡ own =
     λ table. c.requires (ap (λ m. m.is_vec) (sym c.self.view_is) ∙ table)
     ∙ ap (λ s. g.S.KeyHasher.hash_writes s (g.Q.Hash.hash_input c.args.key)) (ap (λ m. m.builder) (sym c.self.view_is)) in
-    let found : LooksUp test own was told.search = looks_up test _ (λ k answer returned. returned.says.met ∙ ap test returned.shows)
+    let found : KeySearch test own was told.search = looks_up test _ (λ k answer returned. returned.says.met ∙ ap test returned.shows)
     g.K.PartialEq.eq (g.met.Q.Equivalent.stands_for_equals c.args.key) hashing c.args.hash was c.self.invariant.distinct own known
     (λ k passes. g.met.S.KeyHasher.hash_is builder k
     ∙ ap (g.S.KeyHasher.hash_writes builder) (sym (g.met.Q.Equivalent.hashes_alike c.args.key k passes)))
@@ -45,9 +45,9 @@ returns g c =
     record {
       removes = removes;
       value = ap (option_map (λ pair. pair.1)) removes.gives ∙ value_of_entry test c.args.self.now.pairs;
-      cost = subst (λ (m : State g.row.K.Denot g.row.V.Denot g.row.S.Denot). CostsHashedSearch hashing
+      cost = subst (λ (m : State g.row.K.Denot g.row.V.Denot g.row.S.Denot). IsHashedLookupCost hashing
           (g.S.KeyHasher.hash_writes m.builder (g.Q.Hash.hash_input c.args.key)) test m c.args.tally.now c.take.new.tally) c.self.view_is
-          (subst (λ index. SearchCosts hashing own was index 0 c.args.tally.now c.take.new.tally)
+          (subst (λ index. IsSearchCost hashing own was index 0 c.args.tally.now c.take.new.tally)
           (found_is_index test own was told.search found)
           (costs_for_other hashing c.args.hash own was c.args.tally.now c.take.new.tally (result_ok told.search) known spent));
     }

@@ -1,4 +1,4 @@
-use Rattle.half_store.specs.Pairs.{set_value}
+use Rattle.half_store.specs.PairLists.{set_value}
 use Rattle.half_store.specs.Store.{store_with_pairs}
 use Rattle.halfbrown.proofs.lemmas.map.Layout.{kept_value, state_of}
 use Rattle.halfbrown.proofs.map.LimitedHashMap.set_at.Goals as goal

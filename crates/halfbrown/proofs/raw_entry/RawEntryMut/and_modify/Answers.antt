@@ -1,6 +1,6 @@
 use Rattle.std.proofs.Common.{Option, IfSome, refl, sym, ap, subst, ◌∙◌}
 use Rattle.halfbrown.specs.Entry.{Occupied, with_value}
-use Rattle.halfbrown.specs.RawEntry.{found_pair, found_value, raw_map, pairs_with, MayWritePair, ModifiesPair}
+use Rattle.halfbrown.specs.RawEntry.{found_pair, found_value, raw_map, pairs_once_put, MayWritePair, ModifiesPair}
 use Rattle.halfbrown.specs.State.{WithPairs}
 use Rattle.halfbrown.proofs.lemmas.raw_entry.Methods.{held_value, held_with_pairs, held_twice}
 use Rattle.halfbrown.proofs.raw_entry.RawEntryMut.and_modify.Goals as goal
@@ -26,7 +26,7 @@ returns-in-Occupied-clause-modified g c =
 
 pub returns-in-Occupied-clause-writes : goal.returns-in-Occupied-clause-writes
 returns-in-Occupied-clause-writes g c key value = held_twice c.in-Occupied.entry key c.f.new.arg3 value
-    ∙ ap (λ entry. pairs_with entry key value) (sym c.in-Occupied.is)
+    ∙ ap (λ entry. pairs_once_put entry key value) (sym c.in-Occupied.is)
 
 pub returns-in-Occupied-clause-vacant : goal.returns-in-Occupied-clause-vacant
 returns-in-Occupied-clause-vacant g c none = absurd (held_value c.in-Occupied.entry (ap found_value (sym c.in-Occupied.is) ∙ none))
@@ -37,8 +37,8 @@ returns-in-Occupied-clause-occupied g c key =
     let left = c.f.new.arg3 in
     let new = (c.get_key_value_mut-value.ensures.written left).value_is in
     subst (λ (found : Option g.row.V.Denot). IfSome found
-    (λ value. WithPairs (raw_map c.args.self) (pairs_with c.args.self key value) (with_value (Occupied o) left))) (sym new)
-    (subst (λ entry. WithPairs (raw_map entry) (pairs_with entry key left) (with_value (Occupied o) left)) (sym c.in-Occupied.is)
+    (λ value. WithPairs (raw_map c.args.self) (pairs_once_put c.args.self key value) (with_value (Occupied o) left))) (sym new)
+    (subst (λ entry. WithPairs (raw_map entry) (pairs_once_put entry key left) (with_value (Occupied o) left)) (sym c.in-Occupied.is)
     (held_with_pairs o key left))
 
 pub returns-in-Vacant-clause-modified : goal.returns-in-Vacant-clause-modified

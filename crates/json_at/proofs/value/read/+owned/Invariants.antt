@@ -1,6 +1,6 @@
 use Rattle.std.proofs.Common.{◌≡◌, map, take}
 use Rattle.std.specs.Str.{bytes_eq}
-use Rattle.halfbrown.specs.Collection.{collected}
+use Rattle.halfbrown.specs.FromIter.{collected}
 use Rattle.json.specs.Value.{members_view}
 use Rattle.json_at.proofs.Reading.{merged_view, seen}
 use Rattle.json_at.proofs.value.read.+owned.Given as goal

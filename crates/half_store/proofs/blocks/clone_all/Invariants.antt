@@ -1,0 +1,12 @@
+-- What was cloned are the first elements, in order; the capacity stays.
+use Rattle.std.proofs.Common.{◌≡◌, ◌≤◌, length, take, vec_len, vec_capacity}
+use Rattle.std.specs.List.{AllZip}
+use Rattle.half_store.proofs.blocks.clone_all.Given as goal
+
+abbrev pub invariant-loop-item : goal.invariant-loop-item
+invariant-loop-item g l = record {
+  items : AllZip g.T.Clone.is_clone (take l.item-index l.from) l.to.items;
+  len : vec_len l.to ≡ l.item-index;
+  inside : l.item-index ≤ length l.from;
+  capacity : vec_capacity l.to ≡ vec_capacity l.initial.to;
+}

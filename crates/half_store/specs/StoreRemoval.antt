@@ -1,0 +1,41 @@
+-- What a removal does to a store, and to the buckets before it shifts pairs back.
+use Rattle.std.specs.Prelude.{◌≡◌, ℕ, ◌+◌, ◌-◌, ◌<◌, Bool, false, List, length, slice_get, slice_index, slice_set, Option, Some, None, Result, Ok, Err}
+use Rattle.std.specs.Result.{result_ok}
+use Rattle.half_store.specs.declared.store.vacancy.Vacancy.{Vacancy}
+use Rattle.half_store.specs.declared.vecmap.search.Scan.TheVariants.{ByBlock}
+use Rattle.half_store.specs.PairLists.{swap_remove_at}
+use Rattle.half_store.specs.Probe.{LooksWithin, probe_reads}
+use Rattle.half_store.specs.Reach.{reach}
+use Rattle.half_store.specs.Search.{StoreSearch, IsStoreSearchCost}
+use Rattle.half_store.specs.Store.{StoreState, KeepsForm}
+use Rattle.half_store.specs.Work.{Work}
+
+-- the bucket of the last pair, which a probe for its hash finds, leads to this entry index
+pub record Renames (hashes old : List ℕ) (index : ℕ) (new : List ℕ) (before after : Work) : Type 0 where
+  pub bucket : ℕ
+  pub at : slice_index old bucket ≡ length hashes
+  pub near : probe_reads (length old) (slice_index hashes (length hashes - 1)) bucket < reach hashes (length old) (slice_index hashes (length hashes - 1))
+  pub words : new ≡ slice_set old bucket (index + 1)
+  pub reads : LooksWithin (probe_reads (length old) (slice_index hashes (length hashes - 1)) bucket) before after
+
+module _ {K V : Type 0} (old new : StoreState K V) where
+  -- the pair at this index is gone, and the last pair has its index
+  pub record SwapRemoves (index : ℕ) (pair : K × V) : Type 0 where
+    pub removed : slice_get old.pairs index ≡ Some pair
+    pub pairs : new.pairs ≡ swap_remove_at old.pairs index
+    pub hashes : old.is_vec ≡ false → new.hashes ≡ swap_remove_at old.hashes index
+    pub form : KeepsForm old new
+
+  -- the pair that a search found is gone and returned, or it found none and nothing changed
+  abbrev pub TakesFound : Result ℕ Vacancy → Option (K × V) → Type 0
+  TakesFound (Ok index) (Some pair) = SwapRemoves index pair
+  TakesFound (Ok index) None = ⊥
+  TakesFound (Err vacancy) (Some pair) = ⊥
+  TakesFound (Err vacancy) None = new ≡ old
+
+  -- a search by the match under this hash, and the removal of what it found
+  pub record Takes (returns : K → Bool → Type 0) (sought : ℕ) (result : Option (K × V)) (before after : Work) : Type 0 where
+    pub search : Result ℕ Vacancy
+    pub finds : StoreSearch returns sought old search
+    pub cost : IsStoreSearchCost old sought ByBlock (result_ok search) before after
+    pub takes : TakesFound search result

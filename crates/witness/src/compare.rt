@@ -1,0 +1,64 @@
+//! The first map compared with one of another limit and rule, of clones of the pairs of the second one.
+
+use crate::first_line::rule_of;
+use crate::player::Player;
+use halfbrown::{Limit, LimitedHashMap, AtMost};
+use std::alloc::{AllocError, Global};
+use std::hash::{BuildHasher, Hash};
+use std::io;
+use test_support::builders::{Counting, Rule};
+
+impl<'a, R: Print, K: Eq + Hash + Clone + Drop, V: Clone + PartialEq + Drop, L: Limit> Player<
+    'a,
+    R,
+    K,
+    V,
+    Counting<'a>,
+    L,
+> {
+    /// Makes the other map, compares it with the first one, and prints the answer. Only the comparison is counted.
+    pub(crate) fn print_same(
+        &mut self,
+        limit: &str,
+        rule: &str,
+        is_from: bool,
+    ) -> Option<io::Result<()>> {
+        let rule = rule_of(rule)?;
+        Some(match limit {
+            "0" => self.print_same_at::<AtMost<0>>(is_from, rule),
+            "5" => self.print_same_at::<AtMost<5>>(is_from, rule),
+            "18446744073709551615" => {
+                self.print_same_at::<AtMost<18446744073709551615>>(is_from, rule)
+            }
+            _ => return None,
+        })
+    }
+
+    fn print_same_at<M: Limit>(&mut self, is_from: bool, rule: Rule) -> io::Result<()> {
+        let builder = self.counts.builder(rule);
+        let other: LimitedHashMap<K, V, Counting<'a>, M> = copy(self.alloc, &self.b, builder)?;
+        self.counts.take_work();
+        self.mark();
+        let is_same = if is_from {
+            other.same_pairs(&self.a)
+        } else {
+            self.a.same_pairs(&other)
+        };
+        print!(self.rt; "{is_same}")
+    }
+}
+
+// A map of another limit with this builder, of clones of the pairs in their order.
+fn copy<K: Eq + Hash + Clone + Drop, V: Clone + Drop, S: BuildHasher + Drop, L: Limit, M: Limit>(
+    alloc: Global,
+    map: &LimitedHashMap<K, V, S, L>,
+    builder: S,
+) -> Result<LimitedHashMap<K, V, S, M>, AllocError> {
+    let mut copy = LimitedHashMap::with_hasher(alloc, builder);
+    for (key, value) in map {
+        if copy.insert(key.clone()?, value.clone()?).is_err() {
+            return Err(AllocError);
+        }
+    }
+    Ok(copy)
+}

@@ -1,0 +1,202 @@
+//! The iterators of a map, and how what they give is printed.
+ghost use Rattle.std.specs.Iterator.{IsFinite};
+
+use crate::answer::{Answer, print_gap, said};
+use crate::key_traits::{Item, Named, Number, add_to};
+use halfbrown::{Column, Drain, IntoIter, Iter, IterMut, Limit, ValuesMut};
+use std::fmt::{Debug, Display};
+use std::hash::{BuildHasher, Hash};
+use std::io;
+
+/// An iterator of a walk. The calls that not every kind has do nothing where they are left out.
+pub(crate) trait Walked: ExactSizeIterator {
+    /// `next`.
+    fn step(&mut self) -> Option<Answer>;
+
+    /// Goes over what is left in a `for` loop, of so many items at most, and prints their list.
+    fn print_rest<R: Print>(&mut self, rt: &R, most: usize) -> io::Result<()>;
+
+    /// `next`, and 1 is added to the value.
+    fn add(&mut self) -> Option<Answer> {
+        None
+    }
+
+    /// `is_empty`.
+    fn is_at_end(&self) -> bool {
+        false
+    }
+
+    /// Prints the list of what a clone still gives.
+    fn print_clone<R: Print>(&self, _rt: &R) -> io::Result<()> {
+        Ok(())
+    }
+
+    /// Prints it by `{:?}`.
+    fn print_debug<R: Print>(&self, _rt: &R) -> io::Result<()> {
+        Ok(())
+    }
+}
+
+pub(crate) fn of_pair<K: Named, V: Number>(pair: (&K, &V)) -> Answer {
+    let (key, value) = pair;
+    said("").pair(key, value)
+}
+
+fn of_written_pair<K: Named, V: Number>(pair: (&K, &mut V)) -> Answer {
+    let (key, value) = pair;
+    said("").pair(key, value)
+}
+
+pub(crate) fn of_owned_pair<K: Named + Drop, V: Number + Drop>(pair: (K, V)) -> Answer {
+    let (key, value) = pair;
+    said("").pair(&key, &value)
+}
+
+pub(crate) fn of_item<T: Item>(item: &T) -> Answer {
+    item.answer()
+}
+
+fn of_written_value<V: Number>(value: &mut V) -> Answer {
+    said("").value(value)
+}
+
+/// Prints the list of the items, or of the first of them where there are more than the most.
+pub(crate) fn print_items<I: Iterator, A: Display + Drop, F: Fn(I::Item) -> A>(
+    rt: &impl Print,
+    items: &mut I,
+    most: usize,
+    shown: F,
+) -> io::Result<()>
+    requires can { I.can_next items.old }
+    requires ends { IsFinite (I.remaining items.old) }
+    requires callable { F.IsAlwaysCallable shown }
+{
+    print!(rt; "[")?;
+    if most > 0 {
+        print_first(rt, items, most, shown)?;
+    }
+    print!(rt; "]")
+}
+
+fn print_first<I: Iterator, A: Display + Drop, F: Fn(I::Item) -> A>(
+    rt: &impl Print,
+    items: &mut I,
+    most: usize,
+    shown: F,
+) -> io::Result<()>
+    requires can { I.can_next items.old }
+    requires ends { IsFinite (I.remaining items.old) }
+    requires callable { F.IsAlwaysCallable shown }
+{
+    let mut is_first = true;
+    let mut left = most;
+    for item in &mut *items {
+        let answer = shown(item);
+        print_gap(rt, &mut is_first, " ")?;
+        print!(rt; "{answer}")?;
+        left = left.saturating_sub(1);
+        if left == 0 {
+            break;
+        }
+    }
+    Ok(())
+}
+
+impl<K: Named + Debug, V: Number + Debug> Walked for Iter<'_, K, V> {
+    fn step(&mut self) -> Option<Answer> {
+        Some(of_pair(self.next()?))
+    }
+
+    fn print_rest<R: Print>(&mut self, rt: &R, most: usize) -> io::Result<()> {
+        print_items(rt, self, most, of_pair)
+    }
+
+    fn print_clone<R: Print>(&self, rt: &R) -> io::Result<()> {
+        print_items(rt, &mut self.clone()?, usize::MAX, of_pair)
+    }
+
+    fn print_debug<R: Print>(&self, rt: &R) -> io::Result<()> {
+        print!(rt; "{self:?}")
+    }
+}
+
+impl<T: Item, O> Walked for Column<'_, T, O> {
+    fn step(&mut self) -> Option<Answer> {
+        Some(of_item(self.next()?))
+    }
+
+    fn print_rest<R: Print>(&mut self, rt: &R, most: usize) -> io::Result<()> {
+        print_items(rt, self, most, of_item)
+    }
+
+    fn print_clone<R: Print>(&self, rt: &R) -> io::Result<()> {
+        print_items(rt, &mut self.clone()?, usize::MAX, of_item)
+    }
+
+    // Written out, since the borrow checker does not cover the trait's own here.
+    fn add(&mut self) -> Option<Answer> {
+        None
+    }
+}
+
+impl<K: Named, V: Number> Walked for IterMut<'_, K, V> {
+    fn step(&mut self) -> Option<Answer> {
+        Some(of_written_pair(self.next()?))
+    }
+
+    fn print_rest<R: Print>(&mut self, rt: &R, most: usize) -> io::Result<()> {
+        print_items(rt, self, most, of_written_pair)
+    }
+
+    fn add(&mut self) -> Option<Answer> {
+        let (key, value) = self.next()?;
+        add_to(value, 1);
+        Some(of_pair((key, value)))
+    }
+}
+
+impl<K, V: Number> Walked for ValuesMut<'_, K, V> {
+    fn step(&mut self) -> Option<Answer> {
+        Some(of_written_value(self.next()?))
+    }
+
+    fn print_rest<R: Print>(&mut self, rt: &R, most: usize) -> io::Result<()> {
+        print_items(rt, self, most, of_written_value)
+    }
+
+    fn add(&mut self) -> Option<Answer> {
+        let value = self.next()?;
+        add_to(value, 1);
+        Some(of_item(value))
+    }
+}
+
+impl<K: Named + Drop, V: Number + Drop> Walked for IntoIter<K, V> {
+    fn step(&mut self) -> Option<Answer> {
+        Some(of_owned_pair(self.next()?))
+    }
+
+    fn print_rest<R: Print>(&mut self, rt: &R, most: usize) -> io::Result<()> {
+        print_items(rt, self, most, of_owned_pair)
+    }
+
+    fn is_at_end(&self) -> bool {
+        self.is_empty()
+    }
+}
+
+impl<K: Eq + Hash + Named + Drop, V: Number + Drop, S: BuildHasher, L: Limit> Walked
+    for Drain<'_, K, V, S, L> {
+    fn step(&mut self) -> Option<Answer> {
+        Some(of_owned_pair(self.next()?))
+    }
+
+    fn print_rest<R: Print>(&mut self, rt: &R, most: usize) -> io::Result<()> {
+        print_items(rt, self, most, of_owned_pair)
+    }
+
+    // Written here too, since the proof of the one in the trait does not reach a type that holds a map.
+    fn add(&mut self) -> Option<Answer> {
+        None
+    }
+}
