@@ -1,6 +1,6 @@
 -- The memory of a store: its arrays and the block of its table, and their bytes.
 use Rattle.std.specs.Prelude.{ℕ, ◌+◌, ◌*◌, Bool, if◌then◌else◌}
-use Rattle.half_store.specs.declared.arrays.Arrays.{Arrays}
+use Rattle.half_store.specs.declared.store.memory.Arrays.{Arrays}
 use Rattle.half_store.specs.Capacity.{buckets_of}
 use Rattle.half_store.specs.Words.{word_size}
 

@@ -6,14 +6,13 @@ ghost use Rattle.half_store.specs.Store.{vector_of, KeepsForm};
 
 mod at;
 mod change;
-mod slices;
 pub mod drain;
-mod find;
-mod memory;
+pub mod find;
+pub mod memory;
+mod slices;
 mod switch;
-pub mod vacancy;
 
-use crate::{Table, Columns};
+use crate::{Columns, Table};
 use std::alloc::Global;
 use std::marker::Model;
 

@@ -1,8 +1,8 @@
 //! The account of the work that look-ups and insertions do.
-ghost use Rattle.std.specs.Prelude.{◌≡◌};
+ghost use Rattle.std.specs.Prelude.{◌≡◌, ℕ, ◌+◌};
+ghost use Rattle.std.specs.Borrow.{ftrue};
 ghost use Rattle.half_store.specs.Work.{Work, no_work, one_asked, one_compared, one_looked};
 
-use crate::count::Count;
 use std::marker::Model;
 
 /// How often a key was hashed, two keys were compared, and a bucket was read.
@@ -76,5 +76,34 @@ impl Tally {
     {
         let next = self.looked.plus_one();
         self.looked = next;
+    }
+}
+
+/// A whole number without a bound in contracts, and no bytes when the program runs.
+#[derive(Drop)]
+pub struct Count {
+    pub ghost number: { ℕ },
+}
+
+// It owns nothing; only the clauses of the two functions below tie the number to anything.
+impl Model for Count {
+    ghost also_owns = { λ _. ftrue };
+}
+
+impl Count {
+    /// Starts at 0.
+    #[inline(always)]
+    pub(crate) fn new() -> Count
+        ensures { result.number ≡ 0 }
+    {
+        Count {}
+    }
+
+    /// One more than this count.
+    #[inline(always)]
+    pub(crate) fn plus_one(&self) -> Count
+        ensures { result.number ≡ self.now.number + 1 }
+    {
+        Count {}
     }
 }

@@ -5,11 +5,11 @@ ghost use Rattle.std.specs.Map.{keys_of, values_of};
 ghost use Rattle.half_store.specs.Columns.{no_pairs, columns_with};
 ghost use Rattle.half_store.specs.PairLists.{set_key, swap_remove_at};
 
-mod slices;
 mod memory;
 mod replace;
 mod retain;
 pub mod search;
+mod slices;
 
 use std::alloc::Global;
 use std::marker::Model;

@@ -5,8 +5,8 @@ ghost use Rattle.halfbrown.specs.Growth.{is_vec_after};
 ghost use Rattle.halfbrown.specs.Pairs.{value_of, holds, put};
 
 use halfbrown::{
-    DefaultHashBuilder, Entry, HashMap, Limit, LimitedHashMap, OccupiedEntry, Refusal,
-    SizedHashMap, AtMost, VacantEntry,
+    AtMost, DefaultHashBuilder, Entry, HashMap, Limit, LimitedHashMap, OccupiedEntry, Refusal,
+    SizedHashMap, VacantEntry,
 };
 use std::hash::{BuildHasher, Hash};
 

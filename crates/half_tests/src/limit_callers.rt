@@ -4,8 +4,8 @@ ghost use Rattle.halfbrown.specs.Growth.{is_vec_after};
 ghost use Rattle.halfbrown.specs.Pairs.{value_of, put};
 
 use halfbrown::{
-    DefaultHashBuilder, HashMap, RawEntryBuilder, RawEntryBuilderMut, RawEntryMut,
-    RawOccupiedEntryMut, RawVacantEntryMut, Refusal, SizedHashMap, AtMost,
+    AtMost, DefaultHashBuilder, HashMap, RawEntryBuilder, RawEntryBuilderMut, RawEntryMut,
+    RawOccupiedEntryMut, RawVacantEntryMut, Refusal, SizedHashMap,
 };
 use std::alloc::Global;
 

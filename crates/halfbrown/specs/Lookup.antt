@@ -3,7 +3,7 @@ use Rattle.std.specs.Prelude.{◌≡◌, ℕ, ◌<◌, Bool, true, false, List, 
 use Rattle.std.specs.Map.{keys_of, values_of, lookup, lookup_entry}
 use Rattle.half_store.specs.PairLists.{index_of, set_value, swap_remove_at}
 use Rattle.half_store.specs.Store.{IsVacancy}
-use Rattle.half_store.specs.declared.store.vacancy.Vacancy.{Vacancy}
+use Rattle.half_store.specs.declared.store.find.Vacancy.{Vacancy}
 use Rattle.halfbrown.specs.Pairs.{holds_by, set_by, put_by, take_out_by}
 use Rattle.halfbrown.specs.State.{State, contents_of}
 

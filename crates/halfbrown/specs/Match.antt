@@ -3,7 +3,7 @@ use Rattle.std.specs.Prelude.{◌≡◌, ℕ, ◌+◌, Bool, true, length, slice
 use Rattle.std.specs.Option.{option_and_then}
 use Rattle.half_store.specs.Search.{Accepts, AcceptsNone, SearchOutcome}
 use Rattle.half_store.specs.Work.{Work, first_match_cost}
-use Rattle.half_store.specs.declared.store.vacancy.Vacancy.{Vacancy}
+use Rattle.half_store.specs.declared.store.find.Vacancy.{Vacancy}
 use Rattle.halfbrown.specs.Costs.{IsSearchCost}
 use Rattle.halfbrown.specs.State.{State, contents_of}
 

@@ -2,7 +2,7 @@
 use Rattle.std.specs.Prelude.{ℕ, ◌+◌, ◌<◌, nat_lt, Bool, [], ◌∷◌, ◌++◌, length, Option, Result, Ok, Err, if◌then◌else◌}
 use Rattle.half_store.specs.Capacity.{capacity_for}
 use Rattle.half_store.specs.Store.{IsVacancy, filled}
-use Rattle.half_store.specs.declared.store.vacancy.Vacancy.{Vacancy}
+use Rattle.half_store.specs.declared.store.find.Vacancy.{Vacancy}
 use Rattle.halfbrown.specs.Costs.{probe_length}
 use Rattle.halfbrown.specs.Growth.{is_vec_after, Grants}
 use Rattle.halfbrown.specs.Lookup.{IsIndexOf, IsAbsent}

@@ -1,10 +1,10 @@
 //! What `drain` returns: the pairs of a map, taken out of it in order.
 ghost use Rattle.std.specs.Prelude.{◌≡◌, ◌^◌, ◌<◌, ◌≤◌, true, false, [], length, Some, IfSome};
-ghost use Rattle.std.specs.Iterator.{at_most, UpTo as IsUpTo};
+ghost use Rattle.std.specs.Iterator.{at_most, UpTo};
 ghost use Rattle.std.specs.Iterator.SizeHint.{IsWithinCount};
 ghost use Rattle.halfbrown.specs.State.{IsState, IsTableCapacity, WithPairs};
 
-use crate::{DefaultHashBuilder, KeyHasher, Limit, LimitedHashMap, AtMost};
+use crate::{AtMost, DefaultHashBuilder, KeyHasher, Limit, LimitedHashMap};
 use half_store::{Drained, IntoStore};
 use std::hash::Hash;
 use std::iter::FusedIterator;
@@ -94,7 +94,7 @@ impl<'a, K: Eq + Hash + Drop, V: Drop, S: KeyHasher<K>, L: Limit> Iterator
 
     fn size_hint(&self) -> (usize, Option<usize>)
         ensures lower { IsWithinCount result.0 (at_most (length (rest self.now))) }
-        ensures upper { IfSome result.1 (IsUpTo (at_most (length (rest self.now)))) }
+        ensures upper { IfSome result.1 (UpTo (at_most (length (rest self.now)))) }
         ensures exact { result ≡ (length (rest self.now), Some (length (rest self.now))) }
     {
         let len = self.pairs.len();

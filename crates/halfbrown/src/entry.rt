@@ -11,7 +11,7 @@ mod occupied;
 mod replace;
 mod vacant;
 
-use crate::{DefaultHashBuilder, KeyHasher, Limit, LimitedHashMap, AtMost};
+use crate::{AtMost, DefaultHashBuilder, KeyHasher, Limit, LimitedHashMap};
 use half_store::Vacancy;
 use std::hash::Hash;
 

@@ -41,7 +41,7 @@ pub use equivalent::Equivalent;
 pub use half_store::{Refusal, Tally};
 pub use iter::{Column, IntoIter, Iter, IterMut, Keys, Values, ValuesMut};
 pub use key_hasher::KeyHasher;
-pub use limit::{Limit, AtMost};
+pub use limit::{AtMost, Limit};
 pub use map::{DefaultHashBuilder, HashMap, LimitedHashMap, SizedHashMap};
 pub use raw_entry::{
     RawEntryBuilder, RawEntryBuilderMut, RawEntryMut, RawOccupiedEntryMut, RawVacantEntryMut,

@@ -1,5 +1,5 @@
 //! The map, and what it says of itself.
-ghost use Rattle.std.specs.Prelude.{◌≡◌, ◌^◌, ◌<◌, ◌↔◌, [], length, IsTrue};
+ghost use Rattle.std.specs.Prelude.{◌≡◌, ◌^◌, ◌<◌, ◌↔◌, false, [], length, IsTrue};
 ghost use Rattle.halfbrown.specs.State.{IsState, WithPairs};
 
 mod at;
@@ -9,7 +9,6 @@ mod debug;
 mod drained;
 mod equality;
 mod find;
-mod switch;
 mod get;
 mod growth;
 mod index;
@@ -21,8 +20,9 @@ mod prepare;
 mod remove;
 mod replace;
 mod retain;
+mod switch;
 
-use crate::{KeyHasher, Limit, AtMost};
+use crate::{AtMost, KeyHasher, Limit};
 use half_store::Store;
 use std::hash::{BuildHasherDefault, FoldHasher, Hash};
 use std::marker::{Model, PhantomData};
@@ -119,6 +119,31 @@ impl<K: Eq + Hash, V, S: KeyHasher<K>, L: Limit> LimitedHashMap<K, V, S, L> {
         ensures { IsTrue result ↔ (length self.now.pairs ≡ 0) }
     {
         self.len() == 0
+    }
+
+    /// Whether the form is the vector.
+    ///
+    /// ```
+    /// assert!(rt; ages.is_vec()); // two pairs, and the limit is 32
+    /// ```
+    #[inline(always)]
+    pub fn is_vec(&self) -> bool
+        ensures form { result ≡ self.now.is_vec }
+        ensures state { IsState K.eq L.LIMIT self.now }
+    {
+        self.store.is_vec()
+    }
+
+    /// Whether the form is the table.
+    ///
+    /// ```
+    /// assert!(rt; !ages.is_map());
+    /// ```
+    #[inline(always)]
+    pub fn is_map(&self) -> bool
+        ensures { IsTrue result ↔ (self.now.is_vec ≡ false) }
+    {
+        !self.store.is_vec()
     }
 
     /// The builder that the map was made with, in both forms.

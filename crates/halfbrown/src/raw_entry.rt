@@ -8,7 +8,7 @@ mod make;
 mod methods;
 mod vacant;
 
-use crate::{DefaultHashBuilder, KeyHasher, Limit, LimitedHashMap, OccupiedEntry, AtMost};
+use crate::{AtMost, DefaultHashBuilder, KeyHasher, Limit, LimitedHashMap, OccupiedEntry};
 use std::hash::Hash;
 
 /// Look-ups by a known hash or by a match on keys, which `raw_entry` returns.

@@ -2,7 +2,7 @@
 
 use crate::first_line::rule_of;
 use crate::player::Player;
-use halfbrown::{Limit, LimitedHashMap, AtMost};
+use halfbrown::{AtMost, Limit, LimitedHashMap};
 use std::alloc::{AllocError, Global};
 use std::hash::{BuildHasher, Hash};
 use std::io;

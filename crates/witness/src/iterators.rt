@@ -1,9 +1,9 @@
 //! An iterator of the first map, and the calls that a line makes on it.
 
 use crate::answer::{or_none, print_gap};
+use crate::iterator_items::Walked;
 use crate::key_traits::{Named, Number};
 use crate::player::Player;
-use crate::iterator_items::Walked;
 use crate::words::count;
 use halfbrown::Limit;
 use std::fmt::Debug;

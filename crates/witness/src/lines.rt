@@ -1,8 +1,8 @@
 //! A line after the first one: finds its call by the words, and makes it.
 
 use crate::answer::Answer;
-use crate::keys::{Id, Key};
 use crate::key_traits::Number;
+use crate::keys::{Id, Key};
 use crate::player::Player;
 use crate::words::{Form, count, key_name, number, parse_form, parse_which};
 use halfbrown::Limit;

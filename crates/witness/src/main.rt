@@ -3,25 +3,25 @@
 #![tactic(auto)]
 
 mod answer;
+mod compare;
 mod counts;
 mod entries;
 mod first_line;
 mod items;
-mod keys;
+mod iterator_items;
+mod iterators;
 mod key_traits;
+mod keys;
 mod lines;
+mod map_calls;
 mod player;
 mod printed;
 mod raw;
 mod runs;
-mod compare;
 mod script;
 mod searches;
 mod updates;
 mod values;
-mod iterators;
-mod iterator_items;
-mod map_calls;
 mod words;
 
 use std::io;

@@ -2,8 +2,8 @@
 
 use crate::answer::{Answer, of_bool, or_refused, refused, said};
 use crate::first_line::rule_name;
-use crate::keys::Key;
 use crate::key_traits::{Named, Number, add_to};
+use crate::keys::Key;
 use crate::player::{Player, print_map};
 use halfbrown::{Limit, LimitedHashMap, Refusal};
 use std::hash::{BuildHasher, Hash};

@@ -1,8 +1,8 @@
 //! The two maps of a script, and the line that is played on them.
 
 use crate::counts::Counts;
-use crate::key_traits::{Named, Number};
 use crate::iterator_items::{of_pair, print_items};
+use crate::key_traits::{Named, Number};
 use halfbrown::{Limit, LimitedHashMap};
 use std::alloc::{AllocError, Global};
 use std::hash::{BuildHasher, Hash};

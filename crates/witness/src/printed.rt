@@ -1,9 +1,9 @@
 //! Lists of what a map holds, and what the library prints of it.
 
 use crate::answer::{print_gap, refused};
+use crate::iterator_items::{of_item, of_owned_pair, of_pair, print_items};
 use crate::key_traits::{Named, Number};
 use crate::player::Player;
-use crate::iterator_items::{of_item, of_owned_pair, of_pair, print_items};
 use halfbrown::{Limit, RefusedKey};
 use std::fmt::Debug;
 use std::hash::{BuildHasher, Hash};

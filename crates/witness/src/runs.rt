@@ -1,8 +1,8 @@
 //! The calls on maps whose values are plain numbers alone: a run of commands, and `or_default`.
 
 use crate::answer::{Answer, or_refused_key, print_gap, refused, said};
-use crate::keys::Key;
 use crate::key_traits::Named;
+use crate::keys::Key;
 use crate::player::Player;
 use crate::words::{count, number};
 use halfbrown::run::run;

@@ -3,11 +3,11 @@
 use crate::answer::refused;
 use crate::counts::Counts;
 use crate::first_line::{First, Kind, parse_first};
-use crate::keys::Key;
 use crate::key_traits::Number;
+use crate::keys::Key;
 use crate::player::Player;
 use crate::values::{Nothing, Owned};
-use halfbrown::{Limit, LimitedHashMap, Refusal, AtMost};
+use halfbrown::{AtMost, Limit, LimitedHashMap, Refusal};
 use std::alloc::Global;
 use std::fmt::Debug;
 use std::io;

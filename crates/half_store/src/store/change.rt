@@ -11,7 +11,7 @@ ghost use Rattle.half_store.specs.PutsBack.{ReplacesValue};
 ghost use Rattle.half_store.specs.Store.{store_pushed, IsVacancy, KeepsForm};
 
 use super::Store;
-use super::vacancy::Vacancy;
+use super::find::Vacancy;
 use crate::{Scan, Tally, uncounted};
 
 impl<K, V> Store<K, V> {

@@ -4,7 +4,7 @@ ghost use Rattle.half_store.specs.Columns.{no_pairs};
 ghost use Rattle.half_store.specs.Store.{vector_of, KeepsForm};
 
 use super::Store;
-use crate::{Table, Columns};
+use crate::{Columns, Table};
 use std::collections::VecDeque;
 use std::marker::Model;
 use std::mem::replace;

@@ -11,9 +11,18 @@ ghost use Rattle.half_store.specs.Search.{StoreSearch, IsStoreSearchCost};
 ghost use Rattle.half_store.specs.Store.{IsVacancy};
 
 use super::Store;
-use super::vacancy::Vacancy;
 use crate::Tally;
 use crate::vecmap::search::{Scan, first_match};
+
+/// Where a pair may be added: at the end of the columns, and in a table under this hash in this bucket, which is empty. A
+/// vector looks at neither.
+#[derive(Clone, Copy)]
+pub struct Vacancy {
+    /// The hash of the pair's key.
+    pub hash: u64,
+    /// The bucket.
+    pub bucket: usize,
+}
 
 impl<K, V> Store<K, V> {
     /// Searches for a key that `matches` accepts: in a vector for the first, in a table among the keys of this hash.

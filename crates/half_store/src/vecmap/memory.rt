@@ -5,8 +5,8 @@ ghost use Rattle.half_store.specs.Capacity.{capacity_of, capacity_for, generous_
 ghost use Rattle.half_store.specs.Refusal.{refusal_of};
 
 use super::Columns;
-use crate::capacity::{buckets_for, capacity_of};
 use crate::blocks::{clone_all, grow_beside, move_to};
+use crate::capacity::{buckets_for, capacity_of};
 use crate::refusal::check_size;
 use crate::{Refusal, Table};
 use std::alloc::{AllocError, Global};

@@ -104,7 +104,11 @@ impl<K: Eq + Hash, V, S: KeyHasher<K>, L: Limit> LimitedHashMap<K, V, S, L> {
 
     // The same, and returns the vacancy, whose bucket is probed for anew where the table grew.
     #[inline(always)]
-    fn make_capacity_keeping(&mut self, vacancy: Vacancy, tally: &mut Tally) -> Result<Vacancy, Refusal>
+    fn make_capacity_keeping(
+        &mut self,
+        vacancy: Vacancy,
+        tally: &mut Tally,
+    ) -> Result<Vacancy, Refusal>
         requires not_full { is_full L.LIMIT self.old ≡ false }
         requires vacant { 0 < self.old.capacity
             → IsVacancy self.old.is_vec (contents_of self.old) vacancy.hash vacancy }

@@ -1,6 +1,6 @@
-//! The form of a map, a vector or a table, and what depends on it: the switch of a full vector, the hash of a key, and
-//! where a pair goes whose value was replaced. Nothing else asks for the form.
-ghost use Rattle.std.specs.Prelude.{◌≡◌, ◌≤◌, ◌<◌, ◌↔◌, true, false, [], length, map, IsTrue};
+//! What depends on the form of a map: the switch of a full vector, the hash of a key, and where a pair goes whose value was
+//! replaced. Nothing else asks for the form.
+ghost use Rattle.std.specs.Prelude.{◌≡◌, ◌≤◌, ◌<◌, true, false, [], length, map};
 ghost use Rattle.std.specs.Prelude.{OnOk, OnErr, IfErr, is_ok, if◌then◌else◌};
 ghost use Rattle.half_store.specs.Capacity.{capacity_of};
 ghost use Rattle.half_store.specs.Work.{asked_more};
@@ -16,31 +16,6 @@ use half_store::{Refusal, Table, Tally, Vacancy, uncounted};
 use std::hash::Hash;
 
 impl<K: Eq + Hash, V, S: KeyHasher<K>, L: Limit> LimitedHashMap<K, V, S, L> {
-    /// Whether the form is the vector.
-    ///
-    /// ```
-    /// assert!(rt; ages.is_vec()); // two pairs, and the limit is 32
-    /// ```
-    #[inline(always)]
-    pub fn is_vec(&self) -> bool
-        ensures form { result ≡ self.now.is_vec }
-        ensures state { IsState K.eq L.LIMIT self.now }
-    {
-        self.store.is_vec()
-    }
-
-    /// Whether the form is the table.
-    ///
-    /// ```
-    /// assert!(rt; !ages.is_map());
-    /// ```
-    #[inline(always)]
-    pub fn is_map(&self) -> bool
-        ensures { IsTrue result ↔ (self.now.is_vec ≡ false) }
-    {
-        !self.store.is_vec()
-    }
-
     /// Makes a full vector a table. It gets capacity for all pairs and one more first, and only then hashes the keys.
     #[inline(always)]
     pub(crate) fn switch_if_full(&mut self, tally: &mut Tally) -> Result<(), Refusal>

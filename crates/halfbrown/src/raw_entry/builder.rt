@@ -116,7 +116,10 @@ impl<'a, K: Eq + Hash, V, S: KeyHasher<K>, L: Limit> RawEntryBuilder<'a, K, V, S
         ensures cost { IsMatchCost S.hash hash (map_in self.entry) (option_map deref_pair result)
             tally.old tally.new }
     {
-        let index = self.map.find_match(hash, &is_match, Scan::ByKey, tally).ok()?;
+        let index = self
+            .map
+            .find_match(hash, &is_match, Scan::ByKey, tally)
+            .ok()?;
         Some(self.map.columns().pair_at(index))
     }
 }

@@ -13,7 +13,7 @@ use Rattle.half_store.proofs.lemmas.store.States.{length-set_key, length-set_val
 use Rattle.half_store.specs.Columns.{no_pairs}
 use Rattle.half_store.specs.PairLists.{set_key, set_value, swap_remove_at}
 use Rattle.half_store.specs.Store.{StoreState, KeepsForm, store_pushed, store_with_pairs, vector_of}
-use Rattle.half_store.specs.declared.store.vacancy.Vacancy.{Vacancy}
+use Rattle.half_store.specs.declared.store.find.Vacancy.{Vacancy}
 use Rattle.halfbrown.specs.Layout.{IsKept, state_in}
 use Rattle.halfbrown.specs.Lookup.{IsAbsent}
 use Rattle.halfbrown.specs.State.{IsState, IsTableCapacity}

@@ -11,7 +11,7 @@ use Rattle.std.specs.Prelude.{Result, Ok, Err}
 use Rattle.half_store.specs.PairLists.{swap_remove_at}
 use Rattle.half_store.specs.StoreRemoval.{TakesFound}
 use Rattle.half_store.specs.Store.{StoreState}
-use Rattle.half_store.specs.declared.store.vacancy.Vacancy.{Vacancy}
+use Rattle.half_store.specs.declared.store.find.Vacancy.{Vacancy}
 use Rattle.halfbrown.specs.Layout.{IsKept, state_in}
 use Rattle.halfbrown.specs.Lookup.{KeySearch}
 use Rattle.halfbrown.specs.Pairs.{take_out_by}

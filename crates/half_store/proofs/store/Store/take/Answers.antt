@@ -4,7 +4,7 @@ use Rattle.std.specs.Fn.{FnReturnsAt}
 use Rattle.half_store.specs.PairLists.{swap_remove_at}
 use Rattle.half_store.specs.Search.{StoreSearch}
 use Rattle.half_store.specs.Store.{StoreState, table_of}
-use Rattle.half_store.specs.declared.store.vacancy.Vacancy.{Vacancy}
+use Rattle.half_store.specs.declared.store.find.Vacancy.{Vacancy}
 use Rattle.half_store.proofs.lemmas.store.States.{table_view, table_over, table_keeps_form, pairs_of-store}
 use Rattle.half_store.proofs.lemmas.vecmap.Zip.{swap_remove_at_is}
 use Rattle.half_store.proofs.store.Store.take.Goals as goal

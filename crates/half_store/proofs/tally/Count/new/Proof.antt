@@ -14,8 +14,8 @@ use denote.Triple.Entry.{alive}
 use denote.Triple.Walked.{Stays, says, ends_at}
 use Rattle.half_store.specs.contracts.count.Count as count
 use Rattle.half_store.specs.contracts.count.Count.new as f
-use Rattle.half_store.proofs.count.Count.new.Statement.{statement}
-use Rattle.half_store.proofs.count.Count.new.Code as code
+use Rattle.half_store.proofs.tally.Count.new.Statement.{statement}
+use Rattle.half_store.proofs.tally.Count.new.Code as code
 
 abbrev stayed : Stays f.ended.signature.params f.ended.kept
 stayed = tt

@@ -17,8 +17,8 @@ use denote.Triple.Entry.{alive}
 use denote.Triple.Walked.{Stays, stay_none_ref, Goes-none_ref, says, ends_at}
 use Rattle.half_store.specs.contracts.count.Count as count
 use Rattle.half_store.specs.contracts.count.Count.plus_one as f
-use Rattle.half_store.proofs.count.Count.plus_one.Statement.{statement}
-use Rattle.half_store.proofs.count.Count.plus_one.Code as code
+use Rattle.half_store.proofs.tally.Count.plus_one.Statement.{statement}
+use Rattle.half_store.proofs.tally.Count.plus_one.Code as code
 
 abbrev stayed : Stays f.ended.signature.params f.ended.kept
 stayed = (stay_none_ref (0 ∷ []) tt (plain (λ _. count.the_row)) yes, tt)
