@@ -1,12 +1,12 @@
+pub mod CallerLoops
 pub mod Clone
-pub mod FromIter
 pub mod Costs
 pub mod Drain
 pub mod Entry
 pub mod EntryLending
 pub mod Equality
 pub mod EqualityLaws
-pub mod CallerLoops
+pub mod FromIter
 pub mod Growth
 pub mod Insertion
 pub mod Iter
@@ -17,6 +17,7 @@ pub mod Making
 pub mod Match
 pub mod Memory
 pub mod Pairs
+pub mod Preparation
 pub mod RawEntry
 pub mod RawEntryBuilder
 pub mod RawEntryLending
@@ -24,7 +25,6 @@ pub mod RawSearch
 pub mod Refusal
 pub mod Removal
 pub mod Replacement
-pub mod Preparation
 pub mod Run
 pub mod RunCost
 pub mod State
@@ -36,7 +36,7 @@ pub use Rattle.half_store.specs.Capacity
 pub use Rattle.half_store.specs.Hash
 pub use Rattle.half_store.specs.Probe
 pub use Rattle.half_store.specs.Reach
-pub use Rattle.half_store.specs.PutsBack
+pub use Rattle.half_store.specs.ValueReplacement
 pub use Rattle.half_store.specs.Search
 pub use Rattle.half_store.specs.Store
 pub use Rattle.half_store.specs.Table
