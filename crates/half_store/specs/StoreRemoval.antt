@@ -2,7 +2,7 @@
 use Rattle.std.specs.Prelude.{◌≡◌, ℕ, ◌+◌, ◌-◌, ◌<◌, Bool, false, List, length, slice_get, slice_index, slice_set, Option, Some, None, Result, Ok, Err}
 use Rattle.std.specs.Result.{result_ok}
 use Rattle.half_store.specs.declared.store.find.Vacancy.{Vacancy}
-use Rattle.half_store.specs.declared.vecmap.search.Scan.TheVariants.{ByBlock}
+use Rattle.half_store.specs.declared.vecmap.search.Scan.TheVariants.{ByKey}
 use Rattle.half_store.specs.PairLists.{swap_remove_at}
 use Rattle.half_store.specs.Probe.{LooksWithin, probe_reads}
 use Rattle.half_store.specs.Reach.{reach}
@@ -37,5 +37,5 @@ module _ {K V : Type 0} (old new : StoreState K V) where
   pub record Takes (returns : K → Bool → Type 0) (sought : ℕ) (result : Option (K × V)) (before after : Work) : Type 0 where
     pub search : Result ℕ Vacancy
     pub finds : StoreSearch returns sought old search
-    pub cost : IsStoreSearchCost old sought ByBlock (result_ok search) before after
+    pub cost : IsStoreSearchCost old sought ByKey (result_ok search) before after
     pub takes : TakesFound search result

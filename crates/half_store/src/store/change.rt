@@ -54,7 +54,7 @@ impl<K, V> Store<K, V> {
         ensures { Takes self.old self.new (FnReturnsAt F.Fn matches.now) hash result tally.old tally.new }
     {
         let Some(table) = &mut self.table else {
-            return match self.find(hash, matches, Scan::ByBlock, tally) {
+            return match self.find(hash, matches, Scan::ByKey, tally) {
                 Ok(index) => Some(self.columns.swap_remove(index)),
                 Err(_) => None,
             };

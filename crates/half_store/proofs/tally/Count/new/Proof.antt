@@ -12,8 +12,8 @@ use denote.Shadow.{pure_i}
 use denote.Signature.{types_at}
 use denote.Triple.Entry.{alive}
 use denote.Triple.Walked.{Stays, says, ends_at}
-use Rattle.half_store.specs.contracts.count.Count as count
-use Rattle.half_store.specs.contracts.count.Count.new as f
+use Rattle.half_store.specs.contracts.tally.Count as count
+use Rattle.half_store.specs.contracts.tally.Count.new as f
 use Rattle.half_store.proofs.tally.Count.new.Statement.{statement}
 use Rattle.half_store.proofs.tally.Count.new.Code as code
 

@@ -15,8 +15,8 @@ use denote.Shadow.{pure_i}
 use denote.Signature.{plain, types_at}
 use denote.Triple.Entry.{alive}
 use denote.Triple.Walked.{Stays, stay_none_ref, Goes-none_ref, says, ends_at}
-use Rattle.half_store.specs.contracts.count.Count as count
-use Rattle.half_store.specs.contracts.count.Count.plus_one as f
+use Rattle.half_store.specs.contracts.tally.Count as count
+use Rattle.half_store.specs.contracts.tally.Count.plus_one as f
 use Rattle.half_store.proofs.tally.Count.plus_one.Statement.{statement}
 use Rattle.half_store.proofs.tally.Count.plus_one.Code as code
 
