@@ -3,9 +3,10 @@ use Rattle.std.proofs.Common.{◌≡◌, ℕ, zero, suc, ◌+◌, ◌*◌, ◌�
 use Rattle.std.proofs.Common.{None, Some, sym, ap, refl, subst, arith, if◌then◌else◌}
 use Rattle.std.proofs.lemmas.Grind.{common_steps}
 use Rattle.std.specs.Prelude.{MatchBool}
-use Rattle.half_store.specs.Capacity.{IsBucketCount, capacity_of, buckets_for_more, buckets_for, capacity_for, generous_capacity}
+use Rattle.half_store.specs.Capacity.{IsBucketCount, capacity_of, buckets_of, buckets_for_more, buckets_for, capacity_for, generous_capacity}
 use Rattle.half_store.specs.Capacity.{least_capacity, vec_shrunk}
 use Rattle.half_store.specs.Arrays.{bytes}
+use Rattle.half_store.specs.Words.{word_size}
 use Rattle.half_store.proofs.lemmas.capacity.{buckets_for-least}
 use Rattle.halfbrown.specs.Growth.{is_full, HasCapacityAfter, IsShrunk}
 use Rattle.halfbrown.specs.Run.{Lead, commands_of}
@@ -34,10 +35,17 @@ most_least : {X : Type 0} (f : X → ℕ) (xs : List X) (n : ℕ) → n ≤ fold
 most_least f [] n = omega arith
 most_least f (x ∷ xs) n = omega (arith, most_least f xs (max n (f x)))
 
--- with no more capacity the arrays take no more bytes
+-- with no more capacity the columns, the words and all arrays take no more bytes
+columns-le : (key value capacity most : ℕ) → capacity ≤ most → key * capacity + value * capacity ≤ key * most + value * most
+columns-le key value capacity most few = grind (arith, common_steps)
+
+words-le : (capacity most : ℕ) → capacity ≤ most → word_size capacity * buckets_of capacity ≤ word_size most * buckets_of most
+words-le capacity most few = grind (arith, common_steps)
+
 bytes-le : (key value : ℕ) (is_vec : Bool) (capacity most : ℕ) → capacity ≤ most
     → bytes key value is_vec capacity ≤ bytes key value false most
-bytes-le key value is_vec capacity most few = grind (arith, common_steps)
+bytes-le key value true capacity most few = omega (arith, columns-le key value capacity most few)
+bytes-le key value false capacity most few = omega (arith, columns-le key value capacity most few, words-le capacity most few)
 
 module _ {K V S : Type 0} (limit : ℕ) (eq : K → K → Bool) where
   switch_due : (m : State K V S) → IsState eq limit m → (needs : Option ℕ) → IsDue m needs
