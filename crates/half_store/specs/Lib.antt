@@ -10,8 +10,9 @@ pub mod Probe
 pub mod Reach
 pub mod Refusal
 pub mod StoreRemoval
-pub mod PutsBack
+pub mod ValueReplacement
 pub mod Search
+pub mod Shift
 pub mod Slots
 pub mod Store
 pub mod StoreLending

@@ -10,6 +10,7 @@ mod slices;
 pub mod drain;
 mod find;
 mod memory;
+mod shift;
 mod switch;
 pub mod vacancy;
 

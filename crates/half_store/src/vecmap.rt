@@ -10,6 +10,7 @@ mod memory;
 mod replace;
 mod retain;
 pub mod search;
+mod shift;
 
 use std::alloc::Global;
 use std::marker::Model;

@@ -1,3 +1,3 @@
 pub mod Prefixes
-pub mod EntersByKey
+pub mod Searches
 pub mod Tables

@@ -23,6 +23,7 @@ pub mod RawEntryLending
 pub mod RawSearch
 pub mod Refusal
 pub mod Removal
+pub mod RemovalInOrder
 pub mod Replacement
 pub mod Preparation
 pub mod Run
@@ -36,7 +37,7 @@ pub use Rattle.half_store.specs.Capacity
 pub use Rattle.half_store.specs.Hash
 pub use Rattle.half_store.specs.Probe
 pub use Rattle.half_store.specs.Reach
-pub use Rattle.half_store.specs.PutsBack
+pub use Rattle.half_store.specs.ValueReplacement
 pub use Rattle.half_store.specs.Search
 pub use Rattle.half_store.specs.Store
 pub use Rattle.half_store.specs.Table

@@ -6,7 +6,7 @@ use Rattle.std.specs.declared.hash.Hash as hash
 use Rattle.halfbrown.specs.declared.key_hasher.KeyHasher as hashers
 use Rattle.half_store.specs.PairLists.{swap_remove_at}
 use Rattle.half_store.specs.Probe.{looked_more}
-use Rattle.half_store.specs.PutsBack.{Answers}
+use Rattle.half_store.specs.ValueReplacement.{Answers}
 use Rattle.half_store.specs.Work.{Work}
 use Rattle.halfbrown.specs.declared.entry.Entry.{Entry}
 use Rattle.halfbrown.specs.declared.limit.Limit as limits

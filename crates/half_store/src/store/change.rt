@@ -7,7 +7,7 @@ ghost use Rattle.std.specs.Map.Calls.{CalledAtPair, TakesPair, CallableOnEachPai
 ghost use Rattle.std.specs.Option.{option_map};
 ghost use Rattle.half_store.specs.PairLists.{swap_remove_at};
 ghost use Rattle.half_store.specs.StoreRemoval.{SwapRemoves, Takes};
-ghost use Rattle.half_store.specs.PutsBack.{ReplacesValue};
+ghost use Rattle.half_store.specs.ValueReplacement.{ReplacesValue};
 ghost use Rattle.half_store.specs.Store.{store_pushed, IsVacancy, KeepsForm};
 
 use super::Store;

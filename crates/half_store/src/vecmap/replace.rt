@@ -1,7 +1,7 @@
 //! A value that is handed to a closure, which returns another or none.
 ghost use Rattle.std.specs.Prelude.{◌≡◌, ◌<◌, Some, length, slice_get};
 ghost use Rattle.std.specs.Borrow.{Bor};
-ghost use Rattle.half_store.specs.PutsBack.{ReplacesValue};
+ghost use Rattle.half_store.specs.ValueReplacement.{ReplacesValue};
 
 use super::Columns;
 

@@ -1,4 +1,4 @@
 -- Lemmas of runs of commands.
 pub mod RawInsert
 pub mod Runs
-pub mod Executes
+pub mod Steps

@@ -2,7 +2,7 @@
 ghost use Rattle.std.specs.Prelude.{◌≡◌, ◌<◌, false, Some, IfSome, OnSome, length, slice_get};
 ghost use Rattle.std.specs.Borrow.{Bor};
 ghost use Rattle.std.specs.Option.{option_map};
-ghost use Rattle.half_store.specs.PutsBack.{ReplacesValue};
+ghost use Rattle.half_store.specs.ValueReplacement.{ReplacesValue};
 ghost use Rattle.halfbrown.specs.Pairs.{holds};
 ghost use Rattle.halfbrown.specs.State.{IsState, WithPairs};
 

@@ -10,7 +10,7 @@ use Rattle.halfbrown.specs.State.{State}
 use Rattle.halfbrown.specs.Step.{Step, says_put, is_shrink, switches, goes_back, form_changed}
 use Rattle.halfbrown.proofs.lemmas.map.Growth.{form_stays}
 use Rattle.halfbrown.proofs.lemmas.run.Runs.{neither, steps_pay_two, table_stays}
-use Rattle.halfbrown.proofs.lemmas.run.Executes.{form_of_step, form_unshrunk, asked_of_step, most_asked, switch_left_most}
+use Rattle.halfbrown.proofs.lemmas.run.Steps.{form_of_step, form_unshrunk, asked_of_step, most_asked, switch_left_most}
 use Rattle.half_laws.specs.RunLaws.{FormLaw, SwitchLaw, TableLaw, OneSwitchLaw, UnswitchedLaw, NothingHashedLaw, HashesLaw}
 use Rattle.half_laws.specs.RunLaws.{AmortizedHashesLaw}
 

@@ -10,7 +10,7 @@ use Rattle.halfbrown.specs.declared.run.Reply.TheVariants.{Refused}
 use Rattle.halfbrown.specs.Pairs.{holds, put, take_out}
 use Rattle.halfbrown.specs.State.{State}
 use Rattle.halfbrown.specs.Step.{Step, Executes, IsValidStep, Leaves, value_or, granted_reply, refusal_in, says_vec, is_shrink}
-use Rattle.halfbrown.proofs.lemmas.run.Executes.{form_of_step}
+use Rattle.halfbrown.proofs.lemmas.run.Steps.{form_of_step}
 use Rattle.half_laws.specs.RunLaws.{IsAlike, RepliesLaw, outcomes_of}
 
 module _ {K V : Type 0} (limit : ℕ) (eq : K → K → Bool) where

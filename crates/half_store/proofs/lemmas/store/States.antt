@@ -7,7 +7,7 @@ use Rattle.std.specs.Borrow.{Bor}
 use Rattle.std.specs.Global.{Box}
 use Rattle.half_store.specs.Columns.{ColumnsState}
 use Rattle.half_store.specs.PairLists.{set_key, set_value, set_values, swap_remove_at}
-use Rattle.half_store.specs.PutsBack.{with_answer, ReplacesValue}
+use Rattle.half_store.specs.ValueReplacement.{with_answer, ReplacesValue}
 use Rattle.half_store.specs.Store.{StoreState, IsStore, IsTableOver, KeepsForm, vector_of, table_of, store_of}
 use Rattle.half_store.specs.Table.{TableState}
 

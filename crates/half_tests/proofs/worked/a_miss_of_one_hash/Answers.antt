@@ -1,7 +1,7 @@
 use Rattle.std.proofs.Common.{refl}
 use Rattle.std.specs.Hash.{le_bytes}
 use Rattle.half_store.specs.Reach.{probe_distance, bucket_after, load, loaded_within, loaded_run, reach}
-use Rattle.half_tests.proofs.EntersByKey.{missing}
+use Rattle.half_tests.proofs.Searches.{missing}
 use Rattle.half_tests.proofs.worked.a_miss_of_one_hash.Goals as goal
 
 pub returns : goal.returns

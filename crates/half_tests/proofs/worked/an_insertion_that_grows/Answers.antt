@@ -3,7 +3,7 @@ use Rattle.std.specs.Hash.{le_bytes}
 use Rattle.half_store.specs.Reach.{probe_distance, bucket_after, load, loaded_within, loaded_run, reach}
 use Rattle.half_store.specs.Capacity.{buckets_for}
 use Rattle.halfbrown.specs.Pairs.{value_of}
-use Rattle.half_tests.proofs.EntersByKey.{inserting}
+use Rattle.half_tests.proofs.Searches.{inserting}
 use Rattle.half_tests.proofs.Tables.{table_with}
 use Rattle.half_tests.proofs.worked.an_insertion_that_grows.Goals as goal
 

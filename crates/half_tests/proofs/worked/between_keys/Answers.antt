@@ -4,7 +4,7 @@ use Rattle.half_store.specs.Reach.{probe_distance, bucket_after, load, loaded_wi
 use Rattle.half_store.specs.Capacity.{buckets_for}
 use Rattle.test_support.specs.declared.builders.Rule.{Rule}
 use Rattle.half_tests.specs.Tables.{IsTableOf, twins}
-use Rattle.half_tests.proofs.EntersByKey.{missing}
+use Rattle.half_tests.proofs.Searches.{missing}
 use Rattle.half_tests.proofs.Tables.{table_reserved}
 use Rattle.half_tests.proofs.worked.between_keys.Goals as goal
 

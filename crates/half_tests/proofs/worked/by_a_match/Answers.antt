@@ -3,7 +3,7 @@ use Rattle.std.specs.Hash.{le_bytes}
 use Rattle.half_store.specs.Reach.{probe_distance, bucket_after, load, loaded_within, loaded_run, reach}
 use Rattle.test_support.specs.declared.builders.Rule.{Rule}
 use Rattle.half_tests.specs.Tables.{IsTableOf, twins}
-use Rattle.half_tests.proofs.EntersByKey.{unmatched, number_hash}
+use Rattle.half_tests.proofs.Searches.{unmatched, number_hash}
 use Rattle.half_tests.proofs.worked.by_a_match.Goals as goal
 
 pub returns-clause-of_0 : goal.returns-clause-of_0

@@ -4,7 +4,7 @@ use Rattle.half_store.specs.Reach.{probe_distance, bucket_after, load, loaded_wi
 use Rattle.half_store.specs.Capacity.{buckets_for}
 use Rattle.test_support.specs.declared.builders.Rule.{Rule}
 use Rattle.half_tests.specs.Tables.{IsTableOf, twins}
-use Rattle.half_tests.proofs.EntersByKey.{unmatched, number_hash}
+use Rattle.half_tests.proofs.Searches.{unmatched, number_hash}
 use Rattle.half_tests.proofs.worked.by_another_hash.Goals as goal
 
 pub returns : goal.returns

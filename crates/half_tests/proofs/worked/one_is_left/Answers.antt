@@ -4,7 +4,7 @@ use Rattle.std.specs.List.{filter}
 use Rattle.std.proofs.lemmas.Map.Made.{filter_same_pairs}
 use Rattle.test_support.specs.declared.builders.Rule.{Rule}
 use Rattle.half_tests.specs.Tables.{IsTableOf, twins}
-use Rattle.half_tests.proofs.EntersByKey.{found_at_home}
+use Rattle.half_tests.proofs.Searches.{found_at_home}
 use Rattle.half_tests.proofs.worked.one_is_left.Goals as goal
 
 pub returns : goal.returns

@@ -2,7 +2,7 @@ use Rattle.std.proofs.Common.{take, get_or, ap, sym, subst, ◌∙◌}
 use Rattle.std.proofs.lemmas.List.{take_more}
 use Rattle.half_store.specs.Capacity.{buckets_for}
 use Rattle.half_tests.proofs.Tables.{IsFilled, filled_more, fresh_at}
-use Rattle.half_tests.proofs.EntersByKey.{distinct_of}
+use Rattle.half_tests.proofs.Searches.{distinct_of}
 use Rattle.half_tests.proofs.worked.table_of.Goals as goal
 
 pub loop-key-init : goal.loop-key-init

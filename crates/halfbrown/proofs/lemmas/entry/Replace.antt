@@ -8,7 +8,7 @@ use Rattle.std.specs.Borrow.{Bor, MutBor}
 use Rattle.std.specs.Map.{values_of}
 use Rattle.std.specs.Option.{option_map}
 use Rattle.half_store.specs.PairLists.{set_value, swap_remove_at}
-use Rattle.half_store.specs.PutsBack.{ReplacesValue}
+use Rattle.half_store.specs.ValueReplacement.{ReplacesValue}
 use Rattle.halfbrown.specs.declared.entry.OccupiedEntry.{OccupiedEntry}
 use Rattle.halfbrown.specs.declared.entry.VacantEntry.{VacantEntry}
 use Rattle.halfbrown.specs.Entry.{Occupied, Vacant, with_value}

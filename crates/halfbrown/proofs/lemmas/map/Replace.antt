@@ -11,7 +11,7 @@ use Rattle.std.specs.Map.{keys_of}
 use Rattle.std.specs.Option.{option_map}
 use Rattle.half_store.proofs.lemmas.store.States.{length-set_value, kept_value, lost_pair}
 use Rattle.half_store.specs.PairLists.{swap_remove_at}
-use Rattle.half_store.specs.PutsBack.{ReplacesValue}
+use Rattle.half_store.specs.ValueReplacement.{ReplacesValue}
 use Rattle.half_store.specs.Store.{StoreState, KeepsForm}
 use Rattle.halfbrown.specs.Layout.{IsKept}
 use Rattle.halfbrown.specs.Lookup.{IsIndexOf}
