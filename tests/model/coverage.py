@@ -14,7 +14,8 @@ COLUMNS = (*STATES, MEMORY, SIZE)
 # Memory was asked for; a key was only stood for; and what is met in any state.
 ASKED, STOOD_FOR, MET = "asked", "by @ID", "met"
 COMPARING = ("same", "eq", "same_as LIMIT RULE", "same_from LIMIT RULE")
-AT_AN_INDEX = ("first", "last", "pop", "swap_remove_index N", "get_index N", "get_index_mut N V", "get_index_entry N V")
+AT_AN_INDEX = ("first", "last", "pop", "swap_remove_index N", "shift_remove_index N", "get_index N", "get_index_mut N V")
+AT_AN_INDEX += ("get_index_entry N V",)
 MAKING = ("from_iter ITEMS", "from_iter_hint SIZE ITEMS", "from_array ITEMS", "collect ITEMS")
 # What calls may answer.
 ANSWERS = dict.fromkeys(COMPARING, ("true, in one order", "true, in another", "false, of one length", "false, of others"))

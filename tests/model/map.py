@@ -159,6 +159,10 @@ class Map:
             self.pairs[index] = last
         return pair
 
+    def shift_out(self, pair):
+        """Each pair behind the one that is removed gets the index before its own."""
+        return self.pairs.pop(self.pairs.index(pair))
+
     def put_back(self, pair):
         """A pair that is replaced is taken out of a vector and goes last. In a table it keeps its index."""
         if self.is_vec:

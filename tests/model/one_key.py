@@ -87,6 +87,8 @@ BASIC_CALLS = {
     "remove FORM": by(Map.find, lambda a, pair: a.take_out(pair).value, "none"),
     "remove_entry FORM": by(Map.find, Map.take_out, "none"),
     "remove_entry_hashed FORM": by(Map.find_hashed, Map.take_out, "none"),
+    "shift_remove FORM": by(Map.find, lambda a, pair: a.shift_out(pair).value, "none"),
+    "shift_remove_entry FORM": by(Map.find, Map.shift_out, "none"),
     "get_index_of FORM": by(Map.find, index_of, "none"),
     "get_index N": at_index(lambda a, pair: pair),
     **dict.fromkeys(("get_index_mut N V", "get_index_entry N V"), at_index(lambda a, pair, value: pair.write(value))),
@@ -94,6 +96,7 @@ BASIC_CALLS = {
     "last": lambda a: a.pairs[-1] if a.pairs else "none",
     "pop": lambda a: a.pairs.pop() if a.pairs else "none",
     "swap_remove_index N": at_index(Map.take_out),
+    "shift_remove_index N": at_index(Map.shift_out),
     "error insert KEY V": error_of(
         insert, "Refused {{ key: {0}, value: {1}, why: {why} }} / TEXT / {why}", "the pair was not inserted: "
     ),

@@ -10,6 +10,7 @@ pub mod Probe
 pub mod Reach
 pub mod Refusal
 pub mod Search
+pub mod Shift
 pub mod Slots
 pub mod Store
 pub mod StoreLending

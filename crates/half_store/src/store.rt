@@ -9,6 +9,7 @@ mod change;
 pub mod drain;
 pub mod find;
 pub mod memory;
+mod shift;
 mod slices;
 mod switch;
 

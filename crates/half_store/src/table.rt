@@ -19,6 +19,7 @@ mod memory;
 pub mod probe;
 mod rehash;
 mod retain;
+mod shift;
 
 use crate::buckets::HashedBuckets;
 use crate::capacity::capacity_of;

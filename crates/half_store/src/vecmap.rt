@@ -9,6 +9,7 @@ mod memory;
 mod replace;
 mod retain;
 pub mod search;
+mod shift;
 mod slices;
 
 use std::alloc::Global;

@@ -24,6 +24,7 @@ pub mod RawEntryLending
 pub mod RawSearch
 pub mod Refusal
 pub mod Removal
+pub mod RemovalInOrder
 pub mod Replacement
 pub mod Run
 pub mod RunCost

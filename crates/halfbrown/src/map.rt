@@ -20,6 +20,7 @@ mod prepare;
 mod remove;
 mod replace;
 mod retain;
+mod shift_remove;
 mod switch;
 
 use crate::{AtMost, KeyHasher, Limit};
@@ -48,7 +49,7 @@ pub type HashMap<K, V, S = DefaultHashBuilder> = LimitedHashMap<K, V, S, AtMost<
 /// already held. Only `shrink_to_fit` turns it back, where no more pairs are held than the limit.
 ///
 /// In both forms the pairs keep the order of their insertion, until a removal moves the last pair to the index that
-/// became free.
+/// became free. `shift_remove` keeps the order, and takes longer.
 ///
 /// A search in a vector compares keys in order, up to the one that it finds or a few more, and hashes nothing. A search in a table
 /// hashes the key once, probes from its home bucket on, and compares only keys of the same hash. How many buckets it

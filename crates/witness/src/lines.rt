@@ -156,6 +156,7 @@ impl<'a, R: Print, V: Number + Clone + PartialEq + Debug + Drop, L: Limit> Playe
         Some(match call {
             "get_index" => self.get_index(count(operand)?),
             "swap_remove_index" => self.swap_remove_index(count(operand)?),
+            "shift_remove_index" => self.shift_remove_index(count(operand)?),
             "reserve" => self.reserve(count(operand)?),
             "iter_mut" => self.iter_mut(number(operand)?),
             "values_mut" => self.values_mut(number(operand)?),

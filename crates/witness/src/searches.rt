@@ -35,6 +35,8 @@ impl<R: Print, K: Eq + Hash + Named + Drop, V: Number + Drop, S: BuildHasher, L:
             "remove" => self.remove(form),
             "remove_entry" => self.remove_entry(form),
             "remove_entry_hashed" => self.remove_entry_hashed(form),
+            "shift_remove" => self.shift_remove(form),
+            "shift_remove_entry" => of_removed(self.open().shift_remove_entry(form)),
             "raw_entry" => of_pair(self.open().raw_entry().from_key(form)),
             "raw_entry_hashed" => self.raw_entry_hashed(form),
             "raw_find" => or_refused(self.raw_find(form)),
@@ -75,6 +77,11 @@ impl<R: Print, K: Eq + Hash + Named + Drop, V: Number + Drop, S: BuildHasher, L:
         let hash = map.hasher().hash_one(form);
         counts.take_work();
         of_removed(map.remove_entry_hashed_nocheck(hash, form))
+    }
+
+    fn shift_remove<Q: Equivalent<K>>(&mut self, form: Q) -> Answer {
+        let removed = self.open().shift_remove(form);
+        of_value(removed.as_ref())
     }
 
     fn raw_entry_hashed<Q: Equivalent<K>>(&mut self, form: Q) -> Answer {

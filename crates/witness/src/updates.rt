@@ -79,6 +79,11 @@ impl<R: Print, K: Eq + Hash + Named + Drop, V: Number + Drop, S: BuildHasher, L:
     pub(crate) fn swap_remove_index(&mut self, index: usize) -> Answer {
         of_removed(self.open().swap_remove_index(index))
     }
+
+    /// `shift_remove_index`.
+    pub(crate) fn shift_remove_index(&mut self, index: usize) -> Answer {
+        of_removed(self.open().shift_remove_index(index))
+    }
 }
 
 fn handed_back<K: Named, V: Number>(back: &Refused<K, V>) -> Answer {

@@ -9,4 +9,5 @@ pub mod Layout
 pub mod Mask
 pub mod Probe
 pub mod Reach
+pub mod Shift
 pub mod Slots

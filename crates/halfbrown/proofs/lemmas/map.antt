@@ -10,5 +10,6 @@ pub mod Iter
 pub mod Layout
 pub mod Prepare
 pub mod Remove
+pub mod RemoveInOrder
 pub mod Replace
 pub mod Retain

@@ -195,8 +195,9 @@ impl<'a, K: Eq + Hash, V, S: KeyHasher<K>, L: Limit> RawEntryMut<'a, K, V, S, L>
             (λ pair. PutsEntry L.LIMIT K.eq self.entry pair.0 pair.1 result) }
         ensures pair { IfSome (entry_pair (Occupied result))
             (UnwrapsOrElse (found_pair self.entry) (F.post default)) }
-        ensures cost { IfSome (entry_pair (Occupied result)) (λ pair. tally.new ≡ (if is_found self.entry
-            then tally.old else after_adding S.hash (raw_map self.entry) pair.0 tally.old)) }
+        ensures cost { IfSome (entry_pair (Occupied result))
+            (λ pair. tally.new ≡ (if is_found self.entry then tally.old
+            else after_adding S.hash (raw_map self.entry) pair.0 tally.old)) }
     {
         match self {
             RawEntryMut::Occupied(entry) => {

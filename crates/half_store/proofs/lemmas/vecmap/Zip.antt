@@ -3,7 +3,7 @@ use Rattle.std.proofs.Common.{◌≡◌, ℕ, zero, suc, ◌<◌, List, [], ◌�
 use Rattle.std.proofs.lemmas.Grind.{common_steps}
 use Rattle.std.proofs.Math.ListN.{set}
 use Rattle.std.proofs.lemmas.List.{take_all}
-use Rattle.std.specs.List.{AllZip, zip, slice_get, swap_remove, refill}
+use Rattle.std.specs.List.{AllZip, zip, slice_get, remove, swap_remove, refill}
 use Rattle.half_store.specs.PairLists.{set_key, set_value, set_values, swap_remove_at}
 
 pub get_or_within : {X : Type 0} (xs : List X) (i : ℕ) (d e : X) → i < length xs → get_or xs i d ≡ get_or xs i e
@@ -88,6 +88,15 @@ module _ {K V : Type 0} where
   pub zip-swap_remove_at : (ks : List K) (vs : List V) (i : ℕ) (k : K) (v : V) → length vs ≡ length ks
       → zip (swap_remove ks i k) (swap_remove vs i v) ≡ swap_remove_at (zip ks vs) i
   zip-swap_remove_at ks vs i k v even = zip-swap_remove ks vs i k v even ∙ swap_remove_at_is (zip ks vs) i (k, v)
+
+  -- and so is a removal that keeps the order
+  pub zip-remove : (ks : List K) (vs : List V) (i : ℕ) → length vs ≡ length ks → zip (remove ks i) (remove vs i) ≡ remove (zip ks vs) i
+  zip-remove [] [] zero even = refl
+  zip-remove [] [] (suc i) even = refl
+  zip-remove [] (w ∷ vs) i even = absurd (omega arith)
+  zip-remove (k ∷ ks) [] i even = absurd (omega arith)
+  zip-remove (k ∷ ks) (v ∷ vs) zero even = refl
+  zip-remove (k ∷ ks) (v ∷ vs) (suc i) even = ap (λ l. (k, v) ∷ l) (zip-remove ks vs i (omega arith))
 
 -- the element at a bucket, read with itself as the default
 pub slice_get_at : {X : Type 0} (xs : List X) (i : ℕ) (x : X) → i < length xs → x ≡ get_or xs i x → slice_get xs i ≡ Some x

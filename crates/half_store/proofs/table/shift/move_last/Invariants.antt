@@ -1,0 +1,17 @@
+use Rattle.std.proofs.Common.{◌≡◌, ℕ, ◌<◌, ◌≤◌, length, slice_index}
+use Rattle.half_store.specs.Probe.{looked_more}
+use Rattle.half_store.specs.Shift.{moved_word}
+use Rattle.half_store.proofs.table.shift.move_last.Given as goal
+
+-- the buckets before this one have their new words, and the others their old ones
+abbrev pub invariant-loop-bucket : goal.invariant-loop-bucket
+invariant-loop-bucket g l =
+    let old = g.B.Words.words l.initial.buckets in
+    let words = g.B.Words.words l.buckets in
+    record {
+      len : length words ≡ length old;
+      written : (k : ℕ) → k < l.bucket → slice_index words k ≡ moved_word l.pairs l.index (slice_index old k);
+      ahead : (k : ℕ) → l.bucket ≤ k → slice_index words k ≡ slice_index old k;
+      most : g.B.Words.most l.buckets ≡ g.B.Words.most l.initial.buckets;
+      counted : l.tally ≡ looked_more l.initial.tally l.bucket;
+    }

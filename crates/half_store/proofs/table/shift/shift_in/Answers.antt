@@ -1,0 +1,40 @@
+use Rattle.std.proofs.Common.{◌≡◌, ℕ, suc, [], ◌∷◌, ◌++◌, List, length, sym, ap, subst, ◌∙◌, arith}
+use Rattle.std.proofs.lemmas.Grind.{common_steps}
+use Rattle.std.proofs.lemmas.List.{get_or_default}
+use Rattle.half_store.specs.Probe.{LooksWithin, removal_reads}
+use Rattle.half_store.specs.Shift.{MovesLast}
+use Rattle.half_store.specs.TableLayout.{IsIndexed}
+use Rattle.half_store.proofs.lemmas.table.Shift.{IsIndexed-moved, reads-moved, removed-moved}
+use Rattle.half_store.proofs.table.shift.shift_in.Goals as goal
+
+pub remove_in-requires-clause-indexed : goal.remove_in-requires-clause-indexed
+remove_in-requires-clause-indexed g c =
+    let hs : List ℕ = c.args.hashes.now.items in
+    let index = c.args.index in
+    let len : c.len.result ≡ length hs = grind (arith, common_steps) in
+    let hash = c.remove-hash.ensures.value ∙ get_or_default hs index c.remove-hash.result 0 c.requires.within in
+    let same = c.push_reserved.ensures.items ∙ (λ i. c.remove-hash.ensures.items i ++ hash i ∷ []) in
+    subst (λ xs. IsIndexed xs (g.B.Words.words c.move_last.new.buckets)) (sym same)
+    (IsIndexed-moved hs index c.requires.within c.requires.indexed
+    (subst (λ n. MovesLast n index (g.B.Words.words c.args.buckets.now) (g.B.Words.words c.move_last.new.buckets)) len c.move_last.ensures.moves))
+
+pub returns-clause-hashes : goal.returns-clause-hashes
+returns-clause-hashes g c = grind (arith, common_steps, removed-moved)
+
+pub returns-clause-cost : goal.returns-clause-cost
+returns-clause-cost g c =
+    let hs : List ℕ = c.args.hashes.now.items in
+    let index = c.args.index in
+    let m : ℕ = length (g.B.Words.words c.args.buckets.now) in
+    let last : suc c.len-last.result ≡ length hs = grind (arith, common_steps) in
+    let hash = c.remove-hash.ensures.value ∙ get_or_default hs index c.remove-hash.result 0 c.requires.within in
+    let same = c.push_reserved.ensures.items ∙ (λ i. c.remove-hash.ensures.items i ++ hash i ∷ []) in
+    let told = subst (λ xs. LooksWithin (removal_reads xs m c.len-last.result) c.move_last.new.tally c.remove_in.new.tally) same
+    (subst (λ n. LooksWithin (removal_reads c.push_reserved.new.self.items n c.len-last.result) c.move_last.new.tally c.remove_in.new.tally)
+    c.move_last.ensures.moves.len c.remove_in.ensures.cost) in
+    let pass = c.move_last.ensures.cost in
+    record {
+      asked = told.asked ∙ ap (λ w. w.asked) pass;
+      compared = told.compared ∙ ap (λ w. w.compared) pass;
+      looked = omega (arith, told.looked, ap (λ w. w.looked) pass, reads-moved hs index c.requires.within c.len-last.result last m);
+    }

@@ -1,0 +1,87 @@
+//! Removal that keeps the order: a pass over the buckets makes the pair the last one, and then it is removed as any other.
+ghost use Rattle.std.specs.Prelude.{◌≡◌, ℕ, ◌+◌, ◌*◌, ◌<◌, ◌≤◌, length, remove, slice_index, vec_capacity};
+ghost use Rattle.half_store.specs.Buckets.{EachOnce};
+ghost use Rattle.half_store.specs.Probe.{looked_more, LooksWithin};
+ghost use Rattle.half_store.specs.Reach.{reach};
+ghost use Rattle.half_store.specs.Shift.{moved_word, MovesLast};
+ghost use Rattle.half_store.specs.TableLayout.{IsIndexed};
+
+use super::Table;
+use super::deletion::remove_in;
+use crate::words::{WordArray, Words};
+use crate::{Tally, uncounted};
+
+impl Table {
+    /// Removes the pair at this entry index. Each pair behind it gets the index before its own.
+    pub fn shift_remove(&mut self, index: usize)
+        requires { index < length self.old.hashes }
+        ensures hashes { self.new.hashes ≡ remove self.old.hashes index }
+        ensures buckets { self.new.buckets ≡ self.old.buckets }
+    {
+        uncounted!(self.shift_remove_counted(index))
+    }
+
+    /// `shift_remove`. It reads each bucket once, and then at most as many as two unsuccessful probes for the hash of the pair.
+    pub fn shift_remove_counted(&mut self, index: usize, tally: &mut Tally)
+        requires { index < length self.old.hashes }
+        ensures hashes { self.new.hashes ≡ remove self.old.hashes index }
+        ensures buckets { self.new.buckets ≡ self.old.buckets }
+        ensures cost { LooksWithin (self.old.buckets + 2 * reach self.old.hashes self.old.buckets
+            (slice_index self.old.hashes index)) tally.old tally.new }
+    {
+        match &mut self.buckets {
+            WordArray::FourBytes(buckets) => shift_in(buckets, &mut self.hashes, index, tally),
+            WordArray::EightBytes(buckets) => shift_in(buckets, &mut self.hashes, index, tally),
+        }
+    }
+}
+
+/// Removes the pair at this entry index, as `Table::shift_remove` does.
+fn shift_in<B: Words>(buckets: &mut B, hashes: &mut Vec<u64>, index: usize, tally: &mut Tally)
+    requires indexed { IsIndexed hashes.old.items (B.words buckets.old) }
+    requires within { index < length hashes.old.items }
+    requires fits { length hashes.old.items ≤ B.most buckets.old }
+    ensures hashes { hashes.new.items ≡ remove hashes.old.items index }
+    ensures capacity { vec_capacity hashes.new ≡ vec_capacity hashes.old }
+    ensures indexed { IsIndexed hashes.new.items (B.words buckets.new) }
+    ensures len { length (B.words buckets.new) ≡ length (B.words buckets.old) }
+    ensures most { B.most buckets.new ≡ B.most buckets.old }
+    ensures cost { LooksWithin (length (B.words buckets.old) + 2 * reach hashes.old.items
+        (length (B.words buckets.old)) (slice_index hashes.old.items index)) tally.old tally.new }
+{
+    move_last(buckets, index, hashes.len(), tally);
+    let hash = hashes.remove(index);
+    let last = hashes.len();
+    hashes.push_reserved(hash);
+    remove_in(buckets, hashes, last, tally);
+}
+
+/// Makes the pair at this entry index the last one, as far as the buckets go: each pair behind it gets the index before its own.
+fn move_last<B: Words>(buckets: &mut B, index: usize, pairs: usize, tally: &mut Tally)
+    requires within { index < pairs }
+    requires each { EachOnce pairs (B.words buckets.old) }
+    requires fits { pairs ≤ B.most buckets.old }
+    ensures moves { MovesLast pairs index (B.words buckets.old) (B.words buckets.new) }
+    ensures most { B.most buckets.new ≡ B.most buckets.old }
+    ensures cost { tally.new ≡ looked_more tally.old (length (B.words buckets.old)) }
+{
+    for bucket in 0..buckets.count() {
+        let word = buckets.word_at(bucket, tally);
+        buckets.set_word(bucket, moved_word(pairs, index, word));
+    }
+}
+
+/// The word of a bucket after `move_last`.
+#[inline(always)]
+fn moved_word(pairs: usize, index: usize, word: usize) -> usize
+    requires { index < pairs }
+    ensures { result ≡ moved_word pairs index word }
+{
+    if word == index + 1 {
+        pairs
+    } else if index < word {
+        word - 1
+    } else {
+        word
+    }
+}

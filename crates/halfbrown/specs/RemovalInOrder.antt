@@ -1,0 +1,23 @@
+-- What a removal does that keeps the order of the pairs.
+use Rattle.std.specs.Prelude.{◌≡◌, ℕ, Bool, Option, IfSome, IfNone, OnSome, slice_get}
+use Rattle.std.specs.List.{remove}
+use Rattle.std.specs.Map.{remove_entry}
+use Rattle.halfbrown.specs.State.{State, IsState, WithPairs}
+use Rattle.halfbrown.specs.Updates.{HasRemoved, HasRemovedBy}
+
+-- a removal of the pair whose key passes the test returns this of it, and each pair behind it gets the index before its own; or there is
+-- none, and nothing changes
+pub record RemovesInOrder {K V S R : Type 0} (limit : ℕ) (eq : K → K → Bool) (test : K → Bool) (old : State K V S) (held result : Option R) (new : State K V S) : Type 0 where
+  pub gives : result ≡ held
+  pub after : WithPairs old (remove_entry test old.pairs) new
+  pub removed : HasRemovedBy eq test old.pairs new.pairs
+  pub unchanged : IfNone result (new ≡ old)
+  pub state : IsState eq limit new
+
+-- the same of the pair at this index: no key equal to its own is held then
+pub record RemovesInOrderAt {K V S : Type 0} (limit : ℕ) (eq : K → K → Bool) (old : State K V S) (index : ℕ) (result : Option (K × V)) (new : State K V S) : Type 0 where
+  pub gives : result ≡ slice_get old.pairs index
+  pub after : OnSome result (WithPairs old (remove old.pairs index) new)
+  pub removed : IfSome result (λ pair. HasRemoved eq old.pairs pair.0 new.pairs)
+  pub unchanged : IfNone result (new ≡ old)
+  pub state : IsState eq limit new

@@ -1,0 +1,93 @@
+//! Removal that keeps the order of the pairs.
+ghost use Rattle.std.specs.Map.{lookup, lookup_entry};
+ghost use Rattle.halfbrown.specs.Costs.{IsLookupCost};
+ghost use Rattle.halfbrown.specs.RemovalInOrder.{RemovesInOrder, RemovesInOrderAt};
+
+use super::LimitedHashMap;
+use crate::{Equivalent, Limit};
+use half_store::{Tally, uncounted};
+use std::hash::{BuildHasher, Hash};
+
+impl<K: Eq + Hash, V, S: BuildHasher, L: Limit> LimitedHashMap<K, V, S, L> {
+    /// Removes the pair of the held key that equals this one, and returns its value. Each pair behind it gets the index
+    /// before its own. Where no such key is held, nothing changes. The form and the capacity stay, and no memory is needed.
+    ///
+    /// It costs one search, and then time that grows with the number of pairs: the pairs behind it move, and a table goes
+    /// over all of its buckets. `remove` takes the time of a search.
+    ///
+    /// ```
+    /// assert_eq!(rt; ages.shift_remove(&1), Some(36));
+    /// assert_eq!(rt; ages.shift_remove(&1), None);
+    /// ```
+    #[inline]
+    pub fn shift_remove<Q: Equivalent<K>>(&mut self, key: Q) -> Option<V>
+    where
+        K: Drop,
+        ensures { RemovesInOrder L.LIMIT K.eq (Q.equivalent key) self.old
+            (lookup (Q.equivalent key) self.old.pairs) result self.new }
+    {
+        uncounted!(self.shift_remove_counted(key))
+    }
+
+    /// `shift_remove`, with the work of its search counted.
+    #[inline]
+    pub fn shift_remove_counted<Q: Equivalent<K>>(&mut self, key: Q, tally: &mut Tally) -> Option<V>
+    where
+        K: Drop,
+        ensures removes { RemovesInOrder L.LIMIT K.eq (Q.equivalent key) self.old
+            (lookup (Q.equivalent key) self.old.pairs) result self.new }
+        ensures cost { IsLookupCost S.BuildHasher S.Hasher.Hasher K.hash_input Q.hash_input
+            Q.equivalent key self.old tally.old tally.new }
+    {
+        let (_, value) = self.shift_remove_entry_counted(key, tally)?;
+        Some(value)
+    }
+
+    /// Removes the pair of the held key that equals this one, as `shift_remove` does, and returns the stored key and its
+    /// value.
+    ///
+    /// ```
+    /// assert_eq!(rt; ages.shift_remove_entry(&1), Some((1, 36)));
+    /// ```
+    #[inline]
+    pub fn shift_remove_entry<Q: Equivalent<K>>(&mut self, key: Q) -> Option<(K, V)>
+        ensures { RemovesInOrder L.LIMIT K.eq (Q.equivalent key) self.old
+            (lookup_entry (Q.equivalent key) self.old.pairs) result self.new }
+    {
+        uncounted!(self.shift_remove_entry_counted(key))
+    }
+
+    /// `shift_remove_entry`, with the work of its search counted.
+    #[inline]
+    pub fn shift_remove_entry_counted<Q: Equivalent<K>>(
+        &mut self,
+        key: Q,
+        tally: &mut Tally,
+    ) -> Option<(K, V)>
+        ensures removes { RemovesInOrder L.LIMIT K.eq (Q.equivalent key) self.old
+            (lookup_entry (Q.equivalent key) self.old.pairs) result self.new }
+        ensures cost { IsLookupCost S.BuildHasher S.Hasher.Hasher K.hash_input Q.hash_input
+            Q.equivalent key self.old tally.old tally.new }
+    {
+        let index = self.get_index_of_counted(key, tally)?;
+        self.shift_remove_index(index)
+    }
+
+    /// Removes the pair at this index, and returns it. Each pair behind it gets the index before its own. Where the index is
+    /// not below `len`, nothing changes. Nothing is hashed or compared, and all else is as for `shift_remove`.
+    ///
+    /// ```
+    /// assert_eq!(rt; ages.shift_remove_index(0), Some((1, 36)));
+    /// assert_eq!(rt; ages.get_index_of(&2), Some(0));
+    /// ```
+    #[inline]
+    pub fn shift_remove_index(&mut self, index: usize) -> Option<(K, V)>
+        ensures { RemovesInOrderAt L.LIMIT K.eq self.old index result self.new }
+    {
+        if index < self.len() {
+            Some(self.store.shift_remove(index))
+        } else {
+            None
+        }
+    }
+}
