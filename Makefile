@@ -5,7 +5,7 @@
 # make edits        puts one fault after another into the code: the prover, or a test, has to find each (WORD=.. picks some)
 # make scripts      plays the scripts of tests/scripts on the program witness, built unproved, and on a model (WORD=.. picks some)
 # make witness      plays N scripts at random (N=.., SEED=..) on both, and compares each line
-# make bench        proves and builds what it times, where something has changed, and prints times and memory
+# make bench        proves and builds what it times, where something has changed, prints times and memory, and draws docs/speed.svg
 #                   (ROUNDS=3 takes fewer rounds than 9; WORDS="drain u64 1000" picks rows)
 # make fmt          lays out the files of every crate
 

@@ -1,6 +1,6 @@
 #!/usr/bin/env python3
 """What `make bench` runs: proves and builds half_bench, halfmap and word_count, where something has changed, prints all
-figures, of which docs/SPEED.md has a part.
+figures, of which docs/SPEED.md has a part, and draws docs/speed.svg where it measured all of them.
 
     tests/bench.py [ROUNDS] [WORD..]                  9 rounds where none are given
     tests/bench.py --against DIR [ROUNDS] [WORD..]    half_bench of this tree and of another, built there, in turns
@@ -24,6 +24,7 @@ import sys
 import tempfile
 import time
 
+import picture
 
 TOP = pathlib.Path(__file__).resolve().parent.parent
 MAPS = ["limit_0", "limit_32", "std", "indexmap"]
@@ -43,6 +44,8 @@ FULL, BUCKETS = 3 << 16, 4 << 16
 WORDS, DIFFERING = 2_000_000, 50_000
 
 Place = collections.namedtuple("Place", "operation keys pairs")
+# What the picture shows of this map at limit 32, and of std's: times by place, and bytes by keys and pairs.
+DRAWN = {}
 
 
 def build(name):
@@ -102,6 +105,7 @@ def print_times(rounds, words):
         pairs = [zip(found[ours], found[name]) for ours in MAPS[:2] for name in MAPS[2:]]
         ratios = [statistics.median(ours / max(theirs, 0.01) for ours, theirs in it) for it in pairs]
         numbers = [f"{statistics.median(found[name]):,.1f}" for name in MAPS]
+        DRAWN[place] = [round(statistics.median(found[name]), 1) for name in MAPS[1:3]]
         widest = max(map(spread, found.values()))
         return [place.keys, f"{place.pairs:,}", *numbers, f"{widest:.0%}", *(f"{it:.2f}" for it in ratios)]
 
@@ -155,7 +159,9 @@ def memory_rows(program):
         print(f"memory {keys} {size}", file=sys.stderr)
         copies = PAIRS // size
         peaks = [peak_bytes(program, name, keys, size, copies) for name in MAPS]
-        yield [keys, f"{size:,}", f"{copies:,}", *(round((peak - empty) / (size * copies)) for peak in peaks)]
+        pair = [round((peak - empty) / (size * copies)) for peak in peaks]
+        DRAWN[keys, size] = pair[1:3]
+        yield [keys, f"{size:,}", f"{copies:,}", *pair]
 
 
 def reads_rows(program):
@@ -234,6 +240,11 @@ def print_others(rounds, words, path):
         print_table(["program", "megabytes"], words_rows(*programs, rounds, path))
 
 
+def draw():
+    times = {it: {size: DRAWN[it, "u64", size] for size in picture.PAIRS} for it in picture.OPERATIONS}
+    picture.write(times, {keys: {size: DRAWN[keys, size] for size in SIZES} for keys in KEYS})
+
+
 def print_machine(seconds):
     model = re.search(r"^model name\s*: (.*)$", pathlib.Path("/proc/cpuinfo").read_text(), re.M)
     version = subprocess.run(["rt", "version"], capture_output=True, text=True).stdout.strip()
@@ -260,6 +271,8 @@ def main():
         print_times(rounds, rows)
     with tempfile.TemporaryDirectory() as folder:
         print_others(rounds, words or OTHERS, pathlib.Path(folder) / "lines")
+    if not words:
+        draw()
     print_machine(time.monotonic() - began)
 
 

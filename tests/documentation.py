@@ -4,8 +4,10 @@
 - In the pages (README.md, docs/*.md, the README.md of each crate) a link leads to a file, and to a heading where it names one.
   A path in backticks leads to a file or a folder, from anywhere in the tree: `map/find.rt` is in crates/halfbrown/src. A name in
   backticks such as `counting::hash_one` is that of an item in a module, of a crate or of std.
-- README's first example stands in half_tests, where it is proved, and halfmap, the program HALFMAP, answers its lines as it says.
+- README's first example stands in half_tests, where it is proved with its clause, and halfmap, the program HALFMAP, answers its lines as it says.
 - USING's imports stand in the crates, its snippets in callers, which are proved, or in examples, and its lemmas in their modules.
+- CALLING has the clauses of its calls as they stand in the sources. `tests/documentation.py --write` quotes them there anew.
+- docs/speed.svg shows the figures of SPEED.
 - The examples in the documentation of the map run, with nothing proved. Those of a page, `//!`, stand before each that follows
   in the file, and those of the crate's page before all.
 """
@@ -17,6 +19,9 @@ import shutil
 import subprocess
 import sys
 import tempfile
+import textwrap
+
+import picture
 
 TOP = pathlib.Path(__file__).resolve().parent.parent
 STD = pathlib.Path(shutil.which("rt")).resolve().parent.parent / "rattle/std/src"
@@ -26,7 +31,7 @@ SPAN = re.compile(r"`([^`]+)`")
 LINK = re.compile(r"\[[^\]]*\]\(((?!\w+://)[^)\s]+)\)")
 PATH = re.compile(r"[\w.-]+/[\w./-]*|[\w-]+\.(?:antt|c|edits|md|py|rt|sh|svg|txt)")
 IMPORT = re.compile(r"^ *(?:ghost )?use (Rattle[\w.]*)\.\{(.*)\};?\n", re.M)
-CALLERS = ("half_tests/src/*callers.rt", "half_uses/src/*.rt", "json_at/src/*.rt", "half_tests/proofs/*/*/*.antt")
+CALLERS = ("half_tests/src/*callers.rt", "half_uses/s*/*.*", "json_at/src/*.rt", "half_tests/proofs/*/*/*.antt")
 USES = "use halfbrown::{run::run, *}; use std::hash::{BuildHasher, RandomState}; use std::test::Fail;"
 
 
@@ -61,8 +66,10 @@ def named(page, tree):
 
 
 def readme(page):
-    proved = re.search(r"^ghost use.*?^}$", *texts("half_tests/src/first_example.rt"), re.M | re.S)[0]
-    yield "the first example", re.search(r"^```rust\n(.*?)\n```$", page, re.M | re.S)[1] == proved
+    proved = re.search(r"^ghost use.*?^}\n", *texts("half_tests/src/first_example.rt"), re.M | re.S)[0]
+    shown = re.findall(r"^```rust\n(.*?)^```$", page, re.M | re.S)  # What is plain Rust, and then the rest.
+    contract = re.compile(r"^ghost use .*\n\n?|^    ensures .*\n", re.M)
+    yield "the first example", shown == [contract.sub("", proved).replace("\n{", " {"), "".join(contract.findall(proved))]
     lines, answers = re.search(r"^    \$ printf '(.*)' \| make run\n((?:    .*\n)+)", page, re.M).groups()
     ran = subprocess.run(["env", HALFMAP], input=lines.replace("\\n", "\n"), capture_output=True, text=True)
     yield "the answers of halfmap", ran.stdout == answers.replace("    ", "")
@@ -75,10 +82,13 @@ def packed(text):
     return re.sub(r",(?=[)\]}])", "", text)
 
 
-def using(page):
+def imports(page):
     code = "\n".join(texts("*/src/**/*.rt", "*/specs/*.antt", "*/proofs/**/*.antt"))
     for module, names in IMPORT.findall(page):
         yield from ((it, re.search(rf"use {module}\.\{{(.*, )?{re.escape(it)}[,}}]", code)) for it in names.split(", "))
+
+
+def using(page):
     documentation = re.findall("^ *//[/!](.*)", "\n".join(texts("half*/src/**/*.rt")), re.M)
     code = packed("\n".join(texts(*CALLERS) + documentation))
     for snippet in re.findall("(?:^    .*\n)+", IMPORT.sub("", page), re.M):
@@ -88,6 +98,39 @@ def using(page):
         defined = re.findall(r"^ *pub ([\w-]+) :", *texts(f"halfbrown/proofs/{module}.antt"), re.M)
         names = ", ".join(line.strip().split("  ")[0] for line in listed.splitlines())
         yield from ((name, name in defined) for name in names.split(", "))
+
+
+def quoted(call):
+    """The signature and the clauses of a call, as CALLING has them, without those that the page leaves out."""
+    kind, _, name = call.rpartition("::")
+    files = ["entry/methods.rt"] if kind else ["map.rt", "map/*.rt", "drain.rt", "entry/find.rt"]
+    text = "\n".join(texts(*(f"halfbrown/src/{it}" for it in files)))
+    found = re.search(rf"^    pub fn {name}\b(.*?)^    {{$", text, re.M | re.S)[1]
+    head, *clauses = re.split(r"(?=\b(?:requires|ensures)\b)", " ".join(re.sub("//.*", "", found).split()))
+    yield f"fn {call}{head.strip().rstrip(',')}".replace("( ", "(").replace(", )", ")")
+    for clause in clauses:
+        word, is_starred, name, said = re.match(r"(\w+)(\*?) ?(\w*) ?{ (.*) }", clause).groups()
+        if not is_starred and name not in LEFT_OUT:
+            said = re.sub(r"\bself\b(\.new)?(?:\.(?:now|old|entry)\b)?", lambda it: "S'" if it[1] else "S", said)
+            yield f"  {word}{' ' * bool(name)}{name}: {said}"
+
+
+CALL = re.compile(r"^fn ([\w:]+)(?:.*\n)(?:  [^|\n].*\n)*((?:  \|.*\n)*)", re.M)
+LEFT_OUT = ("cost", "keeps", "runs", "same_map", "small", "state", "values_run")
+
+
+def calling(found):
+    """A call of CALLING, quoted anew above the lines by hand."""
+    lines = re.sub(r"^(.*)\n(.*)", lambda it: it[0] if len(it[0]) > 119 else it[1] + it[2], "\n".join(quoted(found[1])))
+    lines = (textwrap.fill(it, 120, subsequent_indent="      ", break_on_hyphens=False) for it in lines.splitlines())
+    return "\n".join([*lines, found[2]])
+
+
+def callers(page):
+    """The caller of CALLING and its proof, which stand in half_tests."""
+    code = packed("\n".join(texts(*CALLERS)))
+    for part in re.findall(r"^```(?:rust|antt)\n(.*?)^```", page, re.M | re.S):
+        yield part, packed(part[max(part.find("///"), 0):]) in code
 
 
 def tests_of(path, before):
@@ -119,11 +162,19 @@ def examples(sources):
     yield from ((f"the example {name}", f"test {name} ... ok\n" in ran.stdout) for name in names)
 
 
+CALLING = TOP / "crates/halfbrown/CALLING.md"
+if sys.argv[1:] == ["--write"]:
+    sys.exit(not CALLING.write_text(CALL.sub(calling, CALLING.read_text())))
 git = subprocess.run(["git", "ls-files", "-co", "--exclude-standard"], cwd=TOP, capture_output=True, text=True, check=True)
 files = [it for it in git.stdout.splitlines() if (TOP / it).exists()]
 tree = "\n".join(f"/{it}" for it in files)
 claims = [(f"{it}: {what}", stands) for it in files if it.endswith(".md") for what, stands in named(TOP / it, tree)]
 claims += [*readme((TOP / "README.md").read_text()), *using((TOP / "docs/USING.md").read_text())]
+claims += [(f"CALLING: {it[1]}", it[0] == calling(it)) for it in CALL.finditer(CALLING.read_text())]
+claims += [it for page in (CALLING, TOP / "docs/USING.md") for it in imports(page.read_text())]
+claims += callers(CALLING.read_text())
+drawn = picture.picture(*picture.figures((TOP / "docs/SPEED.md").read_text()))
+claims.append(("the picture of SPEED", drawn == (TOP / "docs/speed.svg").read_text()))
 claims += examples(TOP / "crates/halfbrown/src")
 failed = [what for what, stands in claims if not stands]
 print(*failed, f"{len(claims) - len(failed)} passed, {len(failed)} failed", sep="\n")

@@ -12,11 +12,11 @@ use Rattle.halfbrown.specs.Costs.{IsSearchCost}
 use Rattle.halfbrown.specs.Pairs.{holds_by}
 use Rattle.halfbrown.specs.State.{State, IsTableCapacity}
 
--- the buckets that a search reads which finds nothing in a table of this capacity, by the hashes of the held keys and the hash that is sought
+-- the buckets that a search reads which finds nothing in a table of this capacity, by the hashes of the held keys and the searched hash
 abbrev pub miss_looks : (capacity : ℕ) → List ℕ → (sought : ℕ) → ℕ
 miss_looks capacity hashes sought = reach hashes (buckets_of capacity) sought
 
--- those of all cases: each list of `held` hashes, and each hash that is sought. All hashes are below `hashes`
+-- those of all cases: each list of `held` hashes, and each searched hash. All hashes are below `hashes`
 abbrev pub total_misses : (hashes capacity held : ℕ) → ℕ
 total_misses hashes capacity held = sum_lists hashes held (λ list. sum_below hashes (λ sought. miss_looks capacity list sought))
 

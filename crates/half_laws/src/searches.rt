@@ -31,7 +31,7 @@ pub fn crowding_of_a_search<K: Eq + Hash, V, S: KeyHasher<K>, L: Limit>()
 {}
 
 /// How many buckets a search that finds nothing reads on average, by any form of a key, where all lists of the hashes of held
-/// keys are equally likely, and all hashes that are sought: at most 2.5 in a table that is half full, and 8.5 in any table.
+/// keys are equally likely, and all searched hashes: at most 2.5 in a table that is half full, and 8.5 in any table.
 /// The hashes alone appear in it, and no keys. `mean_of_a_probe` of `half_mean` has the exact mean.
 pub fn mean_of_a_miss<K: Eq + Hash, V, S: KeyHasher<K>>()
     ensures reads { MissLaw V S.hash }

@@ -16,7 +16,7 @@ abbrev pub sum_lists : (count size : ℕ) → (List ℕ → ℕ) → ℕ
 sum_lists count zero f = f []
 sum_lists count (suc size) f = sum_below count (λ one. sum_lists count size (λ others. f (one ∷ others)))
 
--- the buckets that unsuccessful probes read in all cases: each list of `held` hashes in the table, and each hash that is sought. All
+-- the buckets that unsuccessful probes read in all cases: each list of `held` hashes in the table, and each searched hash. All
 -- hashes are below `hashes`
 unfoldable pub total_reach : (hashes buckets held : ℕ) → ℕ
 total_reach hashes buckets held = sum_lists hashes held (λ list. sum_below hashes (λ hash. reach list buckets hash))
@@ -43,7 +43,7 @@ abbrev pub MeanIsAtMost : (total cases over under : ℕ) → Type 0
 MeanIsAtMost total cases over under = total * under ≤ over * cases
 
 -- an unsuccessful probe reads at most `over / under` buckets on average, where all lists of `held` hashes below `hashes` are equally likely,
--- and all hashes below `hashes` that are sought
+-- and all searched hashes below `hashes`
 abbrev pub MeanReachIsAtMost : (hashes buckets held over under : ℕ) → Type 0
 MeanReachIsAtMost hashes buckets held over under = MeanIsAtMost (total_reach hashes buckets held) (reach_cases hashes held) over under
 

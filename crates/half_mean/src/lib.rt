@@ -8,12 +8,12 @@ ghost use Rattle.half_mean.specs.Mean.{HomesMeanLaw, MeanReachLaw, HalfFullMeanL
 ghost use Rattle.half_mean.specs.Mean.{CapacityFillingLaw, IsLeastOver};
 
 /// There are `hashes ^ held` lists of `held` hashes below `hashes`. A mean is the total over all cases by their number: for
-/// a probe each list with each hash that is sought, and for a filling each list with each of its insertions.
+/// a probe each list with each searched hash, and for a filling each list with each of its insertions.
 pub fn cases_of_the_means()
     ensures { MeanCasesLaw }
 {}
 
-/// Where all lists of held hashes are equally likely, and all hashes that are sought, a probe that finds nothing in a table
+/// Where all lists of held hashes are equally likely, and all searched hashes, a probe that finds nothing in a table
 /// of `m` buckets with `n` pairs reads `(1 + Q) / 2` buckets on average, where `Q` is Knuth's sum `1 + 2 * n / m + 3 * n *
 /// (n - 1) / m^2 + ..`. That is at most `(1 + (m / (m - n))^2) / 2`: 2.5 where half of the buckets are full, and 8.5 where
 /// the table has no capacity left.

@@ -12,7 +12,7 @@ arrays_of is_vec capacity =
     let block : ℕ = if is_vec then 0 else 56 in
     record { keys = capacity; values = capacity; hashes = held; words = buckets_of held; word_size = word_size held; table = block }
 
--- the bytes of all of them, where a key has so many, and a value so many; a hash has eight
+-- the bytes of all of them, where a key has `key` of them, a value `value`, and a hash eight
 abbrev pub bytes_of : ℕ → ℕ → Arrays → ℕ
 bytes_of key value a = key * a.keys + value * a.values + 8 * a.hashes + a.word_size * a.words + a.table
 

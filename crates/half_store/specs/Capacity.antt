@@ -30,12 +30,12 @@ more_buckets buckets = if buckets == 0 then least_buckets else 2 * buckets
 abbrev pub buckets_for_more : ℕ → ℕ → ℕ
 buckets_for_more pairs buckets = if nat_lt pairs (capacity_of buckets) then buckets else more_buckets buckets
 
--- the least bucket count whose capacity is enough for so many pairs
+-- the least bucket count whose capacity is enough for this many pairs
 unfoldable pub buckets_for : ℕ → ℕ
 buckets_for zero = 0
 buckets_for (suc pairs) = buckets_for_more pairs (buckets_for pairs)
 
--- the least of the capacities 0, 3, 6, 12, 24, .. that is enough for so many pairs
+-- the least of the capacities 0, 3, 6, 12, 24, .. that is enough for this many pairs
 abbrev pub capacity_for : ℕ → ℕ
 capacity_for pairs = capacity_of (buckets_for pairs)
 
@@ -51,7 +51,7 @@ vec_shrunk limit is_vec pairs = is_vec || nat_le pairs limit
 abbrev pub shrunk_capacity : ℕ → Bool → ℕ → ℕ
 shrunk_capacity limit is_vec pairs = least_capacity (vec_shrunk limit is_vec pairs) pairs
 
--- the capacity of a bucket count is enough for so many pairs, and each other count that is enough for them is no smaller
+-- the capacity of a bucket count is enough for this many pairs, and each other count that is enough for them is no smaller
 pub record IsLeastFor (pairs buckets : ℕ) : Type 0 where
   pub count : IsBucketCount buckets
   pub serves : pairs ≤ capacity_of buckets

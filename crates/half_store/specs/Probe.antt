@@ -3,11 +3,11 @@ use Rattle.std.specs.Prelude.{◌≡◌, ℕ, ◌+◌, ◌-◌, ◌≤◌, ◌==
 use Rattle.half_store.specs.Reach.{home, probe_distance, reach, HomesApart}
 use Rattle.half_store.specs.Work.{Work}
 
--- so many more buckets were read
+-- n more buckets were read
 abbrev pub looked_more : Work → ℕ → Work
 looked_more w n = record w { looked = w.looked + n }
 
--- at most so many more buckets were read, and nothing else was done
+-- at most this many more buckets were read, and nothing else was done
 pub record LooksWithin (most : ℕ) (old new : Work) : Type 0 where
   pub asked : new.asked ≡ old.asked
   pub compared : new.compared ≡ old.compared

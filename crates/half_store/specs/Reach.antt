@@ -11,7 +11,7 @@ home buckets hash = hash % buckets
 unfoldable pub probe_distance : ℕ → ℕ → ℕ → ℕ
 probe_distance buckets from to = if nat_le from to then to - from else to + buckets - from
 
--- the bucket so many further than bucket `from`
+-- the bucket `count` buckets further than bucket `from`
 unfoldable pub bucket_after : ℕ → ℕ → ℕ → ℕ
 bucket_after buckets from count = if nat_lt (from + count) buckets then from + count else from + count - buckets
 

@@ -15,7 +15,7 @@ use Rattle.half_store.specs.Table.{Contents}
 abbrev pub ReturnsAt : {K : Type 0} → (K → Bool → Type 0) → List K → ℕ → Bool → Type 0
 ReturnsAt {K} returns keys index answer = (k : K) → slice_get keys index ≡ Some k → returns k answer
 
--- of the pairs in either form, where `has_hash` says that the pair at an index, with this key, has the sought hash
+-- of the pairs in either form, where `has_hash` says that the pair at an index, with this key, has the searched hash
 module _ {K V : Type 0} (returns : K → Bool → Type 0) (is_vec : Bool) (pairs : List (K × V)) (has_hash : ℕ → K → Type 0) where
   -- the match accepts the key at this index: in a vector it is the first that it accepts, in a table it is one of the hash
   pub record Accepts (index : ℕ) : Type 0 where
@@ -38,7 +38,7 @@ abbrev pub StoreSearch : {K V : Type 0} → (K → Bool → Type 0) → ℕ → 
 StoreSearch returns sought s =
     SearchOutcome returns s.is_vec s.pairs (λ index k. slice_get s.hashes index ≡ Some sought) s.capacity s.contents sought
 
--- a search from first to last among so many keys found this index, or none: it compared at least those up to and with the one that it found, and
+-- a search from first to last among this many keys found this index, or none: it compared at least those up to and with the one that it found, and
 -- at most all; key by key it compared no more than it had to
 pub record ComparesInOrder (scan : Scan) (found : Option ℕ) (len : ℕ) (before after : Work) : Type 0 where
   pub asked : after.asked ≡ before.asked

@@ -54,7 +54,7 @@ abbrev pub allowed : ℕ → Bool → ℕ → ℕ
 allowed limit is_vec capacity = if is_vec then min capacity limit else capacity
 
 module _ {K V : Type 0} (limit : ℕ) where
-  -- how many pairs in all a reservation for so many more is for
+  -- how many pairs in all a reservation for this many more is for
   abbrev pub reserved : StoreState K V → ℕ → ℕ
   reserved s additional = allowed limit s.is_vec (length s.pairs + additional)
 

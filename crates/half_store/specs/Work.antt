@@ -23,15 +23,15 @@ one_compared w = record w { compared = w.compared + 1 }
 abbrev pub one_looked : Work → Work
 one_looked w = record w { looked = w.looked + 1 }
 
--- so many more comparisons of keys
+-- n more comparisons of keys
 abbrev pub compared_more : ℕ → Work → Work
 compared_more n w = record w { compared = w.compared + n }
 
--- how many comparisons a search from first to last makes among so many keys: up to and with the one that it finds, or all
+-- how many comparisons a search from first to last makes among this many keys: up to and with the one that it finds, or all
 abbrev pub first_match_cost : Option ℕ → ℕ → ℕ
 first_match_cost None len = len
 first_match_cost (Some index) len = index + 1
 
--- so many more hashes were computed
+-- n more hashes were computed
 abbrev pub asked_more : ℕ → Work → Work
 asked_more n w = record w { asked = w.asked + n }

@@ -8,13 +8,13 @@ ghost use Rattle.half_store.specs.Capacity.{capacity_of, buckets_for, IsLeastFor
 /// The most pairs that a map may hold.
 pub const MOST_PAIRS: usize = 1 << 60;
 
-/// The load factor: of so many buckets one stays empty.
+/// The load factor: one bucket of this many stays empty.
 const BUCKETS_PER_EMPTY: usize = 4;
 
 /// The fewest buckets of a table that has any.
 const LEAST_BUCKETS: usize = 4;
 
-/// The capacity of so many buckets: 0, 3, 6, 12, 24 for 0, 4, 8, 16, 32.
+/// The capacity of this many buckets: 0, 3, 6, 12, 24 for 0, 4, 8, 16, 32.
 #[inline(always)]
 pub fn capacity_of(buckets: usize) -> usize
     ensures { result ≡ capacity_of buckets }
@@ -22,7 +22,7 @@ pub fn capacity_of(buckets: usize) -> usize
     buckets - buckets / BUCKETS_PER_EMPTY
 }
 
-/// The least bucket count whose capacity is enough for so many pairs.
+/// The least bucket count whose capacity is enough for this many pairs.
 pub fn buckets_for(needed: usize) -> usize
     requires { needed ≤ 2 ^ 62 }
     ensures value { result ≡ buckets_for needed }

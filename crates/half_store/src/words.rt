@@ -69,7 +69,7 @@ impl<T> WordVec<T> {
 }
 
 impl<T: Copy> WordVec<T> {
-    /// The same word so many times.
+    /// The same word, `count` times.
     fn of(alloc: Global, word: T, count: usize) -> Result<WordVec<T>, AllocError>
         ensures { IfOk result (λ v. v ≡ replicate count word) }
     {
@@ -205,7 +205,7 @@ impl WordArray {
         WordArray::FourBytes(WordVec::new(alloc))
     }
 
-    /// The words of so many empty buckets, of the bytes that as many pairs need as they may hold.
+    /// The words of this many empty buckets, each wide enough for the pairs that they may hold.
     pub(crate) fn empty(alloc: Global, count: usize) -> Result<WordArray, AllocError>
         requires { IsBucketCount count }
         ensures words { IfOk result (λ a. words_of a ≡ replicate count 0) }

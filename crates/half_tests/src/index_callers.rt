@@ -1,8 +1,8 @@
 //! What callers build on the calls by index, proved from their public contracts alone: a stack of names, a removal by
-//! the index that was found, and a value that is set by its index.
-ghost use Rattle.std.specs.Prelude.{◌≡◌, ◌<◌, ◌++◌, false, length, option_to_list, IfSome};
-ghost use Rattle.halfbrown.specs.Pairs.{set_value};
-ghost use Rattle.halfbrown.specs.Pairs.{pair_of, holds, take_out};
+//! the index that was found, and values that are set by an index that is given, or found.
+ghost use Rattle.std.specs.Prelude.{◌≡◌, ◌<◌, ◌++◌, false, true, length, option_to_list, IfSome};
+ghost use Rattle.std.specs.Map.{keys_of};
+ghost use Rattle.halfbrown.specs.Pairs.{pair_of, holds, set_by, set_value, take_out};
 
 use halfbrown::{Limit, LimitedHashMap};
 use std::hash::{BuildHasher, Hash};
@@ -40,5 +40,22 @@ pub fn set_at<K: Eq + Hash, S: BuildHasher, L: Limit>(
 {
     if let Some(held) = map.get_index_mut(index) {
         *held = value;
+    }
+}
+
+/// Sets the value of a key, where it is held, by its index.
+pub fn set_by_index<K: Eq + Hash, S: BuildHasher, L: Limit>(
+    map: &mut LimitedHashMap<K, u64, S, L>,
+    key: &K,
+    value: u64,
+)
+    ensures set { holds K.eq map.old.pairs key.now ≡ true
+        → map.new.pairs ≡ set_by (K.eq key.now) map.old.pairs value }
+    ensures keys { keys_of map.new.pairs ≡ keys_of map.old.pairs }
+{
+    if let Some(index) = map.get_index_of(key) {
+        if let Some(held) = map.get_index_mut(index) {
+            *held = value;
+        }
     }
 }

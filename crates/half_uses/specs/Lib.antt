@@ -1,4 +1,5 @@
 pub mod Interner
+pub mod Memo
 pub mod Scopes
 pub mod Sets
 pub mod Words

@@ -9,7 +9,7 @@ use Rattle.halfbrown.specs.State.{State, state, contents_of}
 use Rattle.halfbrown.specs.Pairs.{holds}
 use Rattle.halfbrown.specs.Growth.{is_full, is_vec_after}
 
--- at least and at most so many
+-- a least number and a greatest one
 pub record Range : Type 0 where
   pub least : ℕ
   pub most : ℕ
@@ -35,11 +35,11 @@ no_cost = record { asked = 0; compared = exactly 0; looked = exactly 0 }
 abbrev pub add_costs : Cost → Cost → Cost
 add_costs a b = record { asked = a.asked + b.asked; compared = add_ranges a.compared b.compared; looked = add_ranges a.looked b.looked }
 
--- a cost, once so many more keys were hashed
+-- a cost, once this many more keys were hashed
 abbrev pub asks_more : ℕ → Cost → Cost
 asks_more n cost = record cost { asked = n + cost.asked }
 
--- a cost, once exactly so many more buckets were read
+-- a cost, once exactly this many more buckets were read
 abbrev pub reads_more : ℕ → Cost → Cost
 reads_more n cost = record cost { looked = add_ranges cost.looked (exactly n) }
 

@@ -63,7 +63,7 @@ module _ {K V S : Type 0} (limit : ℕ) (eq : K → K → Bool) (hash : S → K 
     pub cost_is : cost ≡ add_costs spent (insert_cost limit eq hash new key false)
 
   module _ (is_default : S → Type 0) (needed : ℕ) where
-    -- a map of these items: it was made with capacity for so many pairs, and the items were inserted one after another, at this cost
+    -- a map of these items: it was made with capacity for this many pairs, and the items were inserted one after another, at this cost
     pub record IsCollection (items : List (K × V)) (m : State K V S) (cost : Cost) : Type 0 where
       pub pairs : m.pairs ≡ collected eq items
       pub keys : keys_of m.pairs ≡ first_of_each eq (keys_of items)
@@ -73,7 +73,7 @@ module _ {K V S : Type 0} (limit : ℕ) (eq : K → K → Bool) (hash : S → K 
       pub is_made : IsMade is_default (nat_le needed limit) needed made
       pub inserted : InsertsAll made items m cost
 
-    -- a map that was made with capacity for so many pairs, and then an insertion that was refused
+    -- a map that was made with capacity for this many pairs, and then an insertion that was refused
     pub record IsRefusedItem (given : List (K × V) → Type 0) (why : Refusal) (cost : Cost) : Type 0 where
       pub made : State K V S
       pub is_made : IsMade is_default (nat_le needed limit) needed made

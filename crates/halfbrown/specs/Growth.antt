@@ -18,15 +18,15 @@ HasCapacityAfter limit old needs new =
     MatchOption needs (new.capacity ≡ old.capacity)
     (λ n. MatchBool new.is_vec (new.capacity ≡ generous_capacity limit old.capacity n) (new.capacity ≡ capacity_for n))
 
--- the capacity that a reservation for so many pairs in all needs, where there is less
+-- the capacity that a reservation for this many pairs in all needs, where there is less
 abbrev pub reserve_needs : {K V S : Type 0} → ℕ → State K V S → ℕ → Option ℕ
 reserve_needs limit m total = let most = allowed limit m.is_vec total in if nat_lt m.capacity most then Some most else None
 
--- the capacity that a constructor for so many pairs needs
+-- the capacity that a constructor for this many pairs needs
 abbrev pub making_needs : ℕ → Option ℕ
 making_needs needed = if needed == 0 then None else Some needed
 
--- the capacity of a new map that was made for so many pairs
+-- the capacity of a new map that was made for this many pairs
 abbrev pub HasCapacityMade : {K V S : Type 0} → ℕ → State K V S → Type 0
 HasCapacityMade needed m = m.capacity ≡ least_capacity m.is_vec needed
 
@@ -68,7 +68,7 @@ module _ {K V S : Type 0} (limit : ℕ) where
     pub grantable : IsGrantable needs
     pub builder : new.builder ≡ old.builder
 
-  -- a granted reservation for so many pairs more: the capacity is enough for them, in a vector for no more in all than the limit
+  -- a granted reservation for this many pairs more: the capacity is enough for them, in a vector for no more in all than the limit
   pub record Reserves (old : State K V S) (additional : ℕ) (new : State K V S) : Type 0 where
     pub granted : Grants old.is_vec old (reserve_needs limit old (length old.pairs + additional)) new
     pub enough : allowed limit old.is_vec (length old.pairs + additional) ≤ new.capacity

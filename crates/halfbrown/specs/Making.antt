@@ -13,7 +13,7 @@ module _ {K V S : Type 0} (is_builder : S → Type 0) where
     pub builder : is_builder m.builder
 
   module _ (is_vec : Bool) (needed : ℕ) where
-    -- an empty map of this form, with capacity for so many pairs and a builder of which this holds
+    -- an empty map of this form, with capacity for this many pairs and a builder of which this holds
     pub record IsMade (m : State K V S) : Type 0 where
       pub form : m.is_vec ≡ is_vec
       pub pairs : m.pairs ≡ []

@@ -21,9 +21,9 @@ pub(crate) enum Answer {
     NoRoom,
     /// The value of the key.
     Value(u64),
-    /// The form is the vector, with so many pairs.
+    /// The form is the vector, with this many pairs.
     Vector(usize),
-    /// The form is the table, with so many pairs.
+    /// The form is the table, with this many pairs.
     Table(usize),
     /// The line asks for nothing that is known.
     BadLine,

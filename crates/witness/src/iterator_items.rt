@@ -13,7 +13,7 @@ pub(crate) trait Walked: ExactSizeIterator {
     /// `next`.
     fn step(&mut self) -> Option<Answer>;
 
-    /// Goes over what is left in a `for` loop, of so many items at most, and prints their list.
+    /// Goes over what is left in a `for` loop, of at most this many items, and prints their list.
     fn print_rest<R: Print>(&mut self, rt: &R, most: usize) -> io::Result<()>;
 
     /// `next`, and 1 is added to the value.

@@ -96,7 +96,7 @@ module _ (hashes : List ℕ) (m : ℕ) where
     abbrev pub Leads : ℕ → Type 0
     Leads size = (less : ℕ) → less ≤ size → load hashes m last less + size ≤ load hashes m last size + less
 
-    -- the shortest longer stretch, up to so many buckets more, that has as many over its buckets
+    -- the shortest longer stretch, up to `most` buckets more, that has as many over its buckets
     next_lead : (size most : ℕ) → ((more : ℕ) → 1 ≤ more → more ≤ most → load hashes m last (size + more) < load hashes m last size + more)
         ⊎ ((more : ℕ) × (1 ≤ more) × (more ≤ most) × (load hashes m last size + more ≤ load hashes m last (size + more))
         × ((i : ℕ) → 1 ≤ i → i < more → load hashes m last (size + i) < load hashes m last size + i))
@@ -164,7 +164,7 @@ module _ (hashes : List ℕ) (m : ℕ) where
                 (more.0, omega (arith, more.1), more.2)
           ]
 
-      -- so many loaded buckets that end here lie in such a stretch
+      -- `count` loaded buckets that end here lie in such a stretch
       pub run_leads : (count : ℕ) → ((back : ℕ) → back < count → is_loaded hashes m (bucket_after m last (m - back)) ≡ true) → (size : ℕ)
           × (count ≤ size) × (size < m) × (size ≤ load hashes m last size)
       run_leads count run =

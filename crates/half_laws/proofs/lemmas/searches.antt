@@ -160,7 +160,7 @@ module _ {K V S : Type 0} (hash : S → K → ℕ) where
   comparisons-unheld test pairs unheld = let absent = absent_of_unheld test pairs unheld in
       ap (λ i. first_match_cost i (length pairs)) absent.index
 
-  -- a search that finds none compares exactly so many keys, and reads exactly so many buckets
+  -- what a search that finds none compares, and what it reads: both are exact
   module _ (test : K → Bool) (h : K → ℕ) (sought : ℕ) (pairs : List (K × V)) (unheld : holds_by test pairs ≡ false) where
     finds_none : index_of test (keys_of pairs) ≡ None
     finds_none = let absent = absent_of_unheld test pairs unheld in absent.index
@@ -269,7 +269,7 @@ module _ {K V S : Type 0} (hash : S → K → ℕ) where
           → reach (map (hash builder) (keys_of xs)) m (hash builder k) ≡ reach (map (hash builder) (keys_of ys)) m (hash builder k)
       looked k m = reach-same builder xs ys p (eq k) (hash builder k) m
 
-      -- the form after a granted switching call on so many pairs
+      -- the form after a granted switching call on this many pairs
       abbrev stays : ℕ → Bool
       stays n = is_vec && not (is_vec && (n == limit))
 

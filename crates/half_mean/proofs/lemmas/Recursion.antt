@@ -11,7 +11,7 @@ use Rattle.half_mean.proofs.lemmas.Sums.{entries-swap, IsOrderFree, with_entry, 
 use Rattle.half_mean.proofs.lemmas.Stops.{stop}
 use Rattle.half_mean.proofs.lemmas.Blocks.{same, block, behind, block-entries, block-joined, same-behind, reach-blocks}
 
--- the sizes of the blocks of all hashes, in all tables that hold so many
+-- the sizes of the blocks of all hashes, in all tables of m buckets that hold n hashes
 abbrev pub blocks : ℕ → ℕ → ℕ
 blocks m n = sum_lists m n (λ w. sum_below m (λ h. block m w h))
 

@@ -123,6 +123,6 @@ capacity_for-capacity_of m count =
       ];
     })
 
--- no table in which so many pairs fit has less capacity than the least
+-- no table in which this many pairs fit has less capacity than the least
 pub capacity_for-least : (n m : ℕ) → IsBucketCount m → n ≤ capacity_of m → capacity_for n ≤ capacity_of m
 capacity_for-least n m count fits = let least = (buckets_for-least n).least m count fits in omega arith

@@ -13,7 +13,7 @@ use crate::words::{WordArray, Words};
 use std::alloc::{AllocError, Global};
 
 impl Table {
-    /// An empty table with the least number of buckets whose capacity is enough for so many pairs.
+    /// An empty table with the least number of buckets whose capacity is enough for this many pairs.
     ///
     /// Fails with `Size` exactly for more than 2^60 pairs.
     pub fn with_capacity(alloc: Global, needed: usize) -> Result<Table, Refusal>

@@ -45,7 +45,7 @@ module _ (m a : ℕ) (in_a : a < m) where
   pub distance_same : (b c : ℕ) → b < m → c < m → probe_distance m a b ≡ probe_distance m a c → b ≡ c
   distance_same b c p q e = omega (arith, distance_is m a b in_a, distance_is m a c in_a)
 
-  -- the bucket from which so many steps lead to a
+  -- the bucket from which t steps lead to a
   pub down-lt : (t : ℕ) → t ≤ m → bucket_after m a (m - t) < m
   down-lt t h = omega (arith, after_is m a (m - t))
 

@@ -1,0 +1,80 @@
+#!/usr/bin/env python3
+"""Draws docs/speed.svg: times and bytes of this map beside those of std's, from the figures in docs/SPEED.md, or from those that
+`make bench` has just measured."""
+
+import math
+import pathlib
+import re
+
+OPERATIONS = "hit miss build remove churn entry_few entry_many clone retain drain".split()
+DOCS = pathlib.Path(__file__).resolve().parent.parent / "docs"
+PAIRS = {16: "16 pairs, a vector", 33: "33 pairs, a table", 1_000: "1,000", 100_000: "100,000"}
+MARKS = {16: "#c0392b", 33: "#9ecae1", 1_000: "#4292c6", 100_000: "#084594"}
+HERE, STD = "#c0392b", "#bbbbbb"
+LEFT, SCALE, ROW, TOP = 140, 130, 19, 62
+
+
+def figures(page):
+    """The times by operation and pairs, and the bytes by keys and pairs, of this map and std's, as the page has them."""
+    times, memory = {}, {}
+    for line in page.splitlines():
+        numbers = [float(it) for it in re.findall(r" ([\d.]+)(?= |$)", line)]
+        words = line.split()
+        if len(numbers) == 10 and words[0] in OPERATIONS:
+            times[words[0]] = dict(zip(PAIRS, zip(numbers[::2], numbers[1::2])))
+        elif found := re.match(r"    (u64|String)? +(here|std) ", line):
+            keys = found[1] or keys
+            memory.setdefault(keys, []).append(numbers)
+    sizes = re.search(r"^    pairs a map (.*)$", page, re.M)[1].replace(",", "").split()
+    return times, {keys: dict(zip(map(int, sizes), zip(*both))) for keys, both in memory.items()}
+
+
+def text(x, y, words, anchor="start"):
+    return f'<text x="{x:g}" y="{y:g}" text-anchor="{anchor}">{words}</text>'
+
+
+def ratios(times):
+    """A row for each operation, with a dot where the time of this map stands as a multiple of std's."""
+    bottom = TOP + ROW * len(times)
+    yield text(10, 20, "Time of one operation beside that of std's map: what is left of the line is faster here. Keys are numbers.")
+    for place, (pairs, words) in enumerate(PAIRS.items()):
+        x = LEFT + (0, 160, 300, 370)[place]
+        yield f'<circle cx="{x}" cy="36" r="5" fill="{MARKS[pairs]}"/>' + text(x + 10, 40, words)
+    for ratio, words in ((0.25, "1/4"), (0.5, "1/2"), (1, "as long as std"), (2, "2"), (4, "4 times as long")):
+        x = LEFT + SCALE * math.log2(4 * ratio)
+        yield f'<path d="M{x:g} {TOP - 10}V{bottom}" stroke="{"#444" if ratio == 1 else "#ddd"}"/>' + text(x, bottom + 16, words, "middle")
+    for row, (operation, by_pairs) in enumerate(times.items()):
+        y = TOP + ROW * row
+        places = {it: LEFT + SCALE * math.log2(4 * here / std) for it, (here, std) in by_pairs.items()}
+        dots = (f'<circle cx="{x:.0f}" cy="{y}" r="5" fill="{MARKS[it]}"/>' for it, x in places.items())
+        yield text(10, y + 4, operation) + "".join(dots)
+
+
+def bars(keys, by_pairs, top):
+    """Two bars for each number of pairs a map: the bytes a pair of this map and of std's."""
+    yield text(10, top, f"Bytes a pair, keys {keys}, by pairs a map: this map, and std's in grey.")
+    for row, (pairs, both) in enumerate(by_pairs.items()):
+        y = top + 12 + 2 * ROW * row
+        drawn = text(10, y + 16, f"{pairs:,}")
+        for place, (bytes_, colour) in enumerate(zip(both, (HERE, STD))):
+            drawn += f'<rect x="{LEFT}" y="{y + 13 * place}" width="{2 * bytes_:g}" height="11" fill="{colour}"/>'
+            drawn += text(LEFT + 2 * bytes_ + 6, y + 10 + 13 * place, f"{bytes_:g}")
+        yield drawn
+
+
+def picture(times, memory):
+    """The lines of the picture."""
+    drawn, top = list(ratios(times)), TOP + ROW * len(times) + 60
+    for keys, by_pairs in memory.items():
+        drawn += bars(keys, by_pairs, top)
+        top += 2 * ROW * len(by_pairs) + 40
+    head = f'<svg xmlns="http://www.w3.org/2000/svg" width="720" height="{top - 20}" font-family="sans-serif" font-size="13">'
+    return "\n".join([head, '<rect width="100%" height="100%" fill="white"/>', *drawn, "</svg>\n"])
+
+
+def write(times, memory):
+    (DOCS / "speed.svg").write_text(picture(times, memory))
+
+
+if __name__ == "__main__":
+    write(*figures((DOCS / "SPEED.md").read_text()))
