@@ -4,11 +4,11 @@ ghost use Rattle.halfbrown.specs.Costs.{IsLookupCost};
 ghost use Rattle.halfbrown.specs.RemovalInOrder.{RemovesInOrder, RemovesInOrderAt};
 
 use super::LimitedHashMap;
-use crate::{Equivalent, Limit};
+use crate::{Equivalent, KeyHasher, Limit};
 use half_store::{Tally, uncounted};
-use std::hash::{BuildHasher, Hash};
+use std::hash::Hash;
 
-impl<K: Eq + Hash, V, S: BuildHasher, L: Limit> LimitedHashMap<K, V, S, L> {
+impl<K: Eq + Hash, V, S: KeyHasher<K>, L: Limit> LimitedHashMap<K, V, S, L> {
     /// Removes the pair of the held key that equals this one, and returns its value. Each pair behind it gets the index
     /// before its own. Where no such key is held, nothing changes. The form and the capacity stay, and no memory is needed.
     ///
@@ -36,8 +36,8 @@ impl<K: Eq + Hash, V, S: BuildHasher, L: Limit> LimitedHashMap<K, V, S, L> {
         K: Drop,
         ensures removes { RemovesInOrder L.LIMIT K.eq (Q.equivalent key) self.old
             (lookup (Q.equivalent key) self.old.pairs) result self.new }
-        ensures cost { IsLookupCost S.BuildHasher S.Hasher.Hasher K.hash_input Q.hash_input
-            Q.equivalent key self.old tally.old tally.new }
+        ensures cost { IsLookupCost S.hash (S.hash_writes self.old.builder (Q.hash_input key))
+            (Q.equivalent key) self.old tally.old tally.new }
     {
         let (_, value) = self.shift_remove_entry_counted(key, tally)?;
         Some(value)
@@ -66,8 +66,8 @@ impl<K: Eq + Hash, V, S: BuildHasher, L: Limit> LimitedHashMap<K, V, S, L> {
     ) -> Option<(K, V)>
         ensures removes { RemovesInOrder L.LIMIT K.eq (Q.equivalent key) self.old
             (lookup_entry (Q.equivalent key) self.old.pairs) result self.new }
-        ensures cost { IsLookupCost S.BuildHasher S.Hasher.Hasher K.hash_input Q.hash_input
-            Q.equivalent key self.old tally.old tally.new }
+        ensures cost { IsLookupCost S.hash (S.hash_writes self.old.builder (Q.hash_input key))
+            (Q.equivalent key) self.old tally.old tally.new }
     {
         let index = self.get_index_of_counted(key, tally)?;
         self.shift_remove_index(index)

@@ -1,5 +1,4 @@
 use Rattle.std.proofs.Common.{Some, subst, rules}
-use Rattle.halfbrown.specs.Costs.{key_hash}
 use Rattle.halfbrown.specs.Layout.{state_in}
 use Rattle.halfbrown.specs.RemovalInOrder.{RemovesInOrderAt}
 use Rattle.halfbrown.specs.State.{State}
@@ -9,7 +8,7 @@ use Rattle.halfbrown.proofs.map.LimitedHashMap.shift_remove_index.Goals as goal
 pub invariant_of-self : goal.invariant_of-self
 invariant_of-self g c =
     kept_shifted g.L.Limit.LIMIT g.K.PartialEq.eq g.met.K.Eq.laws
-    (key_hash g.S.BuildHasher g.S.Hasher.Hasher g.K.Hash.hash_input c.self.inside.builder) c.self.inside.builder c.self.inside.store
+    (g.S.KeyHasher.hash c.self.inside.builder) c.self.inside.builder c.self.inside.store
     c.shift_remove.new.self c.self.invariant c.args.index c.shift_remove.result c.shift_remove.ensures
 
 pub returns-then-index-len : goal.returns-then-index-len
@@ -18,7 +17,7 @@ returns-then-index-len g c =
     subst (λ (m : State g.row.K.Denot g.row.V.Denot g.row.S.Denot). RemovesInOrderAt g.L.Limit.LIMIT g.K.PartialEq.eq m c.args.index
     (Some c.shift_remove.result) (state_in c.shift_remove.new.self builder)) c.self.view_is
     (removed_in_order g.L.Limit.LIMIT g.K.PartialEq.eq g.met.K.Eq.laws
-    (key_hash g.S.BuildHasher g.S.Hasher.Hasher g.K.Hash.hash_input builder) builder c.self.inside.store
+    (g.S.KeyHasher.hash builder) builder c.self.inside.store
     c.shift_remove.new.self c.self.invariant c.args.index c.shift_remove.result c.shift_remove.ensures)
 
 pub returns-else-index-len : goal.returns-else-index-len
