@@ -1,5 +1,5 @@
 -- What decides the equality of maps, and what the searches of a comparison cost together.
-use Rattle.std.proofs.Common.{◌≡◌, ℕ, ◌≤◌, Bool, true, false, cond, List, [], ◌∷◌, length, Option, None, Some, is_some, refl, sym, ap, ◌∙◌}
+use Rattle.std.proofs.Common.{◌≡◌, ℕ, ◌≤◌, Bool, true, false, cond, List, [], ◌∷◌, length, is_some, refl, sym, ap, ◌∙◌}
 use Rattle.std.proofs.Common.{arith, ◌+◌, ◌-◌, ◌*◌, ◌==◌, subst}
 use Rattle.std.proofs.lemmas.Grind.{common_steps}
 use Rattle.std.specs.Bool.{one_answer}
@@ -18,10 +18,9 @@ use Rattle.halfbrown.specs.Pairs.{value_of}
 use Rattle.halfbrown.proofs.CallerLemmas.{lookup_permuted}
 use Rattle.std.proofs.Math.Nat.{mul-le-mul_left}
 use Rattle.half_store.specs.PairLists.{index_of}
-use Rattle.half_store.specs.Work.{Work, first_match_cost}
+use Rattle.half_store.specs.Work.{Work}
 use Rattle.halfbrown.specs.Costs.{Range, between, candidates, exactly, probe_length, search_asked, IsKeySearchCost, AreSearchCosts}
 use Rattle.halfbrown.specs.State.{State}
-use Rattle.halfbrown.proofs.lemmas.pairs.Indices.{first_of_index, first_within}
 
 module _ {K V : Type 0} (eq : K → K → Bool) (value_eq : V → V → Bool) (laws : IsEquivalence eq) where
   pub pairs_law : PairsLaw eq value_eq
