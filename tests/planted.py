@@ -60,7 +60,7 @@ def build(folder, limits):
 
 def said_by_script(script, folder):
     """What a script shows of a faulty program: a line with its name. One that fails for another reason shows none."""
-    program = build(folder, re.findall(r"^(?:map|owning|unit) (\d+)\b", (TESTS / script).read_text(), re.M))
+    program = build(folder, re.findall(r"^(?:map|owning|unit|small) (\d+)\b", (TESTS / script).read_text(), re.M))
     environment = os.environ | {"WITNESS": str(program)}
     ran = subprocess.run([TESTS / "scripts.py", script], env=environment, capture_output=True, text=True)
     return [line for line in ran.stdout.splitlines() if script in line] if ran.returncode else []

@@ -7,7 +7,7 @@ import itertools
 
 from model.basics import GREATEST, MOST_PAIRS, RULES, Key
 from model.coverage import COMPARING, STATES
-from model.lines import CALLS, COMMANDS, LIMITS, MAKERS_FOR, OTHER_LIMITS, PLAIN_MAKERS, WITH_TEXT, places_of
+from model.lines import CALLS, COMMANDS, LIMITS, MAKERS_FOR, OTHER_LIMITS, PLAIN_MAKERS, WITH_NUMBERS, WITH_TEXT, places_of
 from model.session import Session
 from model.walk import steps_of
 
@@ -133,7 +133,7 @@ class Script:
 
     def call(self, forms, id_=None, may_be_refused=False):
         before = "refused " * (may_be_refused and self.chance.random() < 0.1)
-        forms = [form for form in forms if self.kind == "map" or not form.startswith("run")]
+        forms = [form for form in forms if self.kind in WITH_NUMBERS or not form.startswith("run")]
         self.add(before + self.written(self.chance.choice(forms), id_))
 
     def draw(self):

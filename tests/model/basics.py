@@ -57,9 +57,10 @@ class Pair:
 
 @dataclasses.dataclass
 class Work:
-    """What one line does that is counted, and whether its requests for memory are refused."""
+    """What one line does that is counted, whether its requests for memory are refused, and whether keys have 8 bytes."""
 
     is_refused: bool = False
+    are_small: bool = False
     hashes: int = 0
     # Of the comparisons of keys the least and the most are known.
     least: int = 0

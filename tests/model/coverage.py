@@ -1,6 +1,6 @@
 """What a random run has to meet: each call of the table, and each command of a run, in each state of the map, one on a key
 with a held key and with a new one; memory that is refused wherever a call asks for some; each other refusal; each step, maker
-and limit; and the answers of some calls. A new call in the table is demanded without a word here."""
+and limit; searches for small keys; and the answers of some calls. A new call in the table is demanded without a word here."""
 
 from model.basics import MANY, Key
 from model.lines import CALLS, COMMANDS, LIMITS, MAKERS_FOR, PLAIN_MAKERS, is_on_a_key, places_of
@@ -17,6 +17,8 @@ COMPARING = ("same", "eq", "same_as LIMIT RULE", "same_from LIMIT RULE")
 AT_AN_INDEX = ("first", "last", "pop", "swap_remove_index N", "shift_remove_index N", "get_index N", "get_index_mut N V")
 AT_AN_INDEX += ("get_index_entry N V",)
 MAKING = ("from_iter ITEMS", "from_iter_hint SIZE ITEMS", "from_array ITEMS", "collect ITEMS")
+# What a search by blocks of small keys finds in a vector: a key of the first block, a later one, or none.
+SMALL_KEYS = ("small keys, held", "small keys, held past 16", "small keys, new")
 # What calls may answer.
 ANSWERS = dict.fromkeys(COMPARING, ("true, in one order", "true, in another", "false, of one length", "false, of others"))
 ANSWERS |= dict.fromkeys(AT_AN_INDEX, ("none", "a pair")) | dict.fromkeys(MAKING, ("vec", "map"))
@@ -36,12 +38,19 @@ def row_of(form, is_held):
     return f"{form}, {'held' if is_held else 'new'}" if is_on_a_key(form) else form
 
 
+def small_keys_row(key, a):
+    index = next((index for index, pair in enumerate(a.pairs) if pair.key == key), None)
+    return SMALL_KEYS[2 if index is None else index >= 16]
+
+
 def met_by(call, a):
     """The pairs of a row and a column that a call on `a` meets, before it is made. The first is of its state."""
     key = call.said[-1] if call.form.endswith(" WHICH") else call.said[0] if is_on_a_key(call.form) else None
     is_held = a.holds(key) if isinstance(key, Key) else any(key in (it.key.id, "any") for it in a.pairs)
     met = [(row_of(call.form, is_held), state) for state in a.states()]
     met += [(call.form, STOOD_FOR)] * (isinstance(key, Key) and key.mark is None)
+    if isinstance(key, Key) and a.is_vec and a.work.are_small:
+        met += [(small_keys_row(key, a), state) for state in a.states()]
     met += [(f"raw calls at limit {a.limit}", MANY)] * (call.form.startswith("raw") and MANY in a.states())
     if call.form.endswith(" STEPS"):
         met += [(f"{call.form.removesuffix(' STEPS')} {step}", MET) for step, _ in call.said[0]]
@@ -74,7 +83,7 @@ def demanded(met):
     often = [it for it in met if met[it] > 12]
     wanted += [(row, refused(state)) for row, column in often for state in STATES if column == asked(state)]
     wanted += [(row, MEMORY) for row, column in met if column == ASKED]
-    wanted += [(f"raw calls at limit {limit}", MANY) for limit in (32, 64)]
+    wanted += [(f"raw calls at limit {limit}", MANY) for limit in (32, 64)] + [(row, MANY) for row in SMALL_KEYS]
     wanted += [(form, SIZE) for form in ROWS if {"SIZE", "MAKER"} & set(places_of(form))]
     wanted += [(form, STOOD_FOR) for form in CALLS if "FORM" in places_of(form)]
     wanted += [(f"{kind} {limit}", column) for kind in LIMITS for limit in LIMITS[kind] for column in (MET, SIZE)]

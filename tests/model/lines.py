@@ -9,8 +9,9 @@ from model.one_key import ONE_KEY_CALLS
 from model.runs import COMMANDS, run
 from model.walk import WALK_CALLS, steps_of
 
-# After `owning` values count their drops, and after `unit` they have no size.
-LIMITS = {"map": (0, 1, 2, 3, 4, 5, 8, 32, 64, 2**60, GREATEST), "owning": (0, 1, 2, 3, 5, 32, GREATEST), "unit": (20,)}
+# After `owning` values count their drops, after `unit` they have no size, and after `small` keys have 8 bytes.
+LIMITS = {"map": (0, 1, 2, 3, 4, 5, 8, 32, 64, 2**60, GREATEST), "owning": (0, 1, 2, 3, 5, 32, GREATEST)}
+LIMITS |= {"unit": (20,), "small": (3, 32, 64)}
 OTHER_LIMITS = (0, 5, GREATEST)
 PLAIN_MAKERS = ("new", "default", "with_hasher")
 MAKERS_FOR = ("with_capacity", "with_capacity_and_hasher", "vec_with_capacity")
@@ -18,7 +19,7 @@ MAKERS_FOR = ("with_capacity", "with_capacity_and_hasher", "vec_with_capacity")
 MOST_ITEMS = {"from_array ITEMS": 4, "hashmap ITEMS": 3}
 # Their text takes memory of the program's own.
 WITH_TEXT = ("debug_pretty", "debug_iter_pretty")
-OF_NUMBERS = ("run COMMANDS", "entry KEY or_default")
+OF_NUMBERS, WITH_NUMBERS = ("run COMMANDS", "entry KEY or_default"), ("map", "small")
 # Each is handed `a`, or the session, which has both maps, and what the line says. A form with `*` hands in a closure.
 CALLS_ON_A = ONE_KEY_CALLS | OF_A_CALLS | {"run COMMANDS": run}
 CALLS = CALLS_ON_A | BOTH_CALLS | WALK_CALLS
@@ -157,7 +158,7 @@ def read_call(line, kind):
     """The call of a line, which `refused` may stand before, on maps of this kind."""
     words = line.removeprefix("refused ").split(" ")
     form = look_up(FORMS, name_of(words))
-    if kind != "map" and form in OF_NUMBERS:
+    if kind not in WITH_NUMBERS and form in OF_NUMBERS:
         raise BadLine
     *places, last = places_of(form)
     if last in REST:

@@ -87,12 +87,14 @@ class Map:
         hash_of = RULES[self.rule]
         return self.pairs if self.is_vec else [pair for pair in self.pairs if hash_of(pair.key) == hash_]
 
-    def match(self, hash_, accepts):
-        """Returns the pair that is found, or None. A vector is searched in order, a table among the keys of the hash."""
+    def match(self, hash_, accepts, by_block=False):
+        """Returns the pair that is found, or None. A vector is searched in order, a table among the keys of the hash. Of keys
+        in blocks more than those up to the pair may be compared."""
         candidates = self.candidates(hash_)
         for count, pair in enumerate(candidates, 1):
             if accepts(pair.key):
-                self.work.compare(*((count, count) if self.is_vec else (1, len(candidates))))
+                least = count if self.is_vec else 1
+                self.work.compare(least, least if self.is_vec and not by_block else len(candidates))
                 return pair
         self.work.compare(len(candidates), len(candidates))
         return None
@@ -105,7 +107,7 @@ class Map:
 
     def find_hashed(self, key):
         """The search for a key whose hash is handed in."""
-        return self.match(RULES[self.rule](key), lambda held: held.id == key.id)
+        return self.match(RULES[self.rule](key), lambda held: held.id == key.id, self.work.are_small)
 
     def count_hash(self):
         """A key is hashed, which only a table needs."""
@@ -170,12 +172,13 @@ class Map:
         return pair
 
     def clone(self):
-        """The capacity of a table's clone is that of the table. A vector's clone has none to spare."""
+        """The capacity of a table's clone is that of the table. A vector's clone has none to spare. Small keys are in boxes."""
         clone = self.anew()
         if self.pairs or not self.is_vec:
             clone.grow(len(self.pairs) if self.is_vec else self.capacity, self.is_vec)
         clone.pairs = [dataclasses.replace(pair) for pair in self.pairs]
         self.work.cloned += len(self.pairs)
+        self.work.requests += len(self.pairs) if self.work.are_small else 0
         return clone
 
     def same_pairs(self, other):

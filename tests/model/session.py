@@ -46,7 +46,7 @@ class Session:
 
     def answer_call(self, line):
         call = read_call(line, self.kind)
-        work = self.a.work = self.b.work = Work(call.is_refused and not self.is_granted)
+        work = self.a.work = self.b.work = Work(call.is_refused and not self.is_granted, self.kind == "small")
         met, held = met_by(call, self.a), self.held()
         try:
             answer = CALLS[call.form](self.a if call.form in CALLS_ON_A else self, *call.said)

@@ -3,7 +3,7 @@
 use crate::words::count;
 use test_support::builders::Rule;
 
-/// The values of the maps.
+/// The values of the maps, and their keys.
 #[derive(Clone, Copy)]
 pub(crate) enum Kind {
     /// Plain numbers.
@@ -12,6 +12,8 @@ pub(crate) enum Kind {
     Owning,
     /// Of no size.
     Unit,
+    /// Plain numbers, beside keys of eight bytes.
+    Small,
 }
 
 /// What a first line asks for.
@@ -35,6 +37,7 @@ pub(crate) fn parse_first<'a>(words: &[&'a str]) -> Option<First<'a>> {
         "map" => Kind::Map,
         "owning" => Kind::Owning,
         "unit" => Kind::Unit,
+        "small" => Kind::Small,
         _ => return None,
     };
     Some(First {

@@ -2,6 +2,10 @@
 
 use crate::answer::{Answer, numbered};
 use crate::words::Name;
+use halfbrown::EqualClone;
+use std::alloc::{AllocError, Global};
+use std::fmt::Debug;
+use std::hash::Hash;
 
 /// A key or a value of a script. A map lends both in columns of one type, `Column`.
 pub(crate) trait Item {
@@ -13,6 +17,12 @@ pub(crate) trait Item {
 pub(crate) trait Named: Item {
     /// How it is written.
     fn name(&self) -> Name;
+}
+
+/// A key of a script, which lines ask for others.
+pub(crate) trait Made: Named + EqualClone + Hash + Debug + Drop {
+    /// Another key, of this name. It counts where this one does.
+    fn like(&self, alloc: Global, name: Name) -> Result<Self, AllocError>;
 }
 
 /// A value of a script: a number.

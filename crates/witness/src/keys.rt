@@ -2,16 +2,16 @@
 ghost use Rattle.std.specs.Prelude.{◌≡◌, ◌==◌};
 ghost use Rattle.std.specs.Hash as fed;
 ghost use Rattle.std.specs.Cmp.Rules.{comparing, hashing};
-ghost use Rattle.std.proofs.Common.{rules, ap};
+ghost use Rattle.std.proofs.Common.{rules, ap, sym};
 ghost use Rattle.std.proofs.lemmas.Bool.{eqb-true};
 ghost use Rattle.std.specs.Cmp.{nat_eq_equiv};
 
 use crate::answer::{Answer, named};
 use crate::counts::Counts;
-use crate::key_traits::{Item, Named};
+use crate::key_traits::{Item, Made, Named};
 use crate::words::Name;
-use halfbrown::Equivalent;
-use std::alloc::AllocError;
+use halfbrown::{EqualClone, Equivalent};
+use std::alloc::{AllocError, Global};
 use std::fmt;
 use std::hash::{Hash, Hasher};
 
@@ -24,14 +24,25 @@ pub(crate) struct Key<'a> {
 }
 
 impl<'a> Key<'a> {
-    /// The key that is written so. It counts here each comparison that it is the left side of, and its drop.
-    pub(crate) fn new(name: Name, counts: &'a Counts) -> Key<'a> {
+    /// A key that counts here each comparison that it is the left side of, and its drop.
+    pub(crate) fn new(counts: &'a Counts) -> Key<'a> {
         Key {
-            id: name.id,
-            mark: name.mark,
+            id: 0,
+            mark: 1,
             counts,
             padding: [0; 3],
         }
+    }
+}
+
+impl Made for Key<'_> {
+    fn like(&self, _alloc: Global, name: Name) -> Result<Self, AllocError> {
+        Ok(Key {
+            id: name.id,
+            mark: name.mark,
+            counts: self.counts,
+            padding: self.padding,
+        })
     }
 }
 
@@ -90,6 +101,10 @@ impl Eq for Key<'_> {
     ghost laws = { Prim.search (comparing, rules) };
 }
 
+impl EqualClone for Key<'_> {
+    ghost clones_equal = { λ key copy same. Prim.search (rules, same, sym) };
+}
+
 impl Hash for Key<'_> {
     ghost hash_input = { λ key. fed.u64 key.id };
 
@@ -120,5 +135,58 @@ impl<'a> Equivalent<Key<'a>> for Id {
     fn equivalent(&self, key: &Key<'a>) -> bool {
         key.counts.count_comparison();
         self.0 == key.id
+    }
+}
+
+/// The same key in a box, which is eight bytes long. Its clone needs memory.
+#[derive(Clone, PartialEq, Eq, Hash, Drop)]
+pub(crate) struct Small<'a>(Box<Key<'a>>);
+
+impl<'a> Small<'a> {
+    /// A key that counts here.
+    pub(crate) fn new(alloc: Global, counts: &'a Counts) -> Result<Small<'a>, AllocError> {
+        Ok(Small(Box::new(alloc, Key::new(counts))?))
+    }
+}
+
+impl Made for Small<'_> {
+    fn like(&self, alloc: Global, name: Name) -> Result<Self, AllocError> {
+        let key = self.0.as_ref().like(alloc, name)?;
+        Ok(Small(Box::new(alloc, key)?))
+    }
+}
+
+impl Item for Small<'_> {
+    fn answer(&self) -> Answer {
+        self.0.answer()
+    }
+}
+
+impl Named for Small<'_> {
+    fn name(&self) -> Name {
+        self.0.name()
+    }
+}
+
+impl EqualClone for Small<'_> {
+    ghost clones_equal = { λ key copy same. Prim.search (rules, same, sym) };
+}
+
+impl fmt::Debug for Small<'_> {
+    fn fmt<W: fmt::Write>(&self, f: &mut fmt::Formatter<W>) -> fmt::Result {
+        self.0.fmt(f)
+    }
+}
+
+impl<'a> Equivalent<Small<'a>> for Id {
+    ghost equivalent = { λ form key. form.0 == key.0.value.id };
+
+    ghost hashes_alike = { λ form key same. ap fed.u64 (eqb-true form.0 key.0.value.id same) };
+
+    ghost stands_for_equals = { λ form key other.
+        nat_eq_equiv.congr form.0 key.0.value.id other.0.value.id };
+
+    fn equivalent(&self, key: &Small<'a>) -> bool {
+        self.equivalent(key.0.as_ref())
     }
 }

@@ -1,32 +1,40 @@
 //! A line after the first one: finds its call by the words, and makes it.
 
 use crate::answer::Answer;
-use crate::key_traits::Number;
-use crate::keys::{Id, Key};
+use crate::key_traits::{Made, Number};
+use crate::keys::Id;
 use crate::player::Player;
-use crate::words::{Form, count, key_name, number, parse_form, parse_which};
-use halfbrown::Limit;
+use crate::words::{Form, Name, count, key_name, number, parse_form, parse_which};
+use halfbrown::{Equivalent, Limit};
 use std::alloc::AllocError;
 use std::fmt::Debug;
 use std::hash::BuildHasher;
 use std::io;
 use test_support::builders::Counting;
 
-impl<'a, R: Print, V, S: BuildHasher, L: Limit> Player<'a, R, Key<'a>, V, S, L> {
+impl<R: Print, K: Made, V, S: BuildHasher, L: Limit> Player<'_, R, K, V, S, L> {
     /// The key that a word writes.
-    pub(crate) fn key(&self, word: &str) -> Option<Key<'a>> {
-        Some(Key::new(key_name(word)?, self.counts))
+    pub(crate) fn key(&self, word: &str) -> Option<K> {
+        self.made(key_name(word)?)
+    }
+
+    // The key of this name. None where there is no memory for it: only calls of the maps are refused any.
+    fn made(&self, name: Name) -> Option<K> {
+        self.some_key.like(self.alloc, name).ok()
     }
 }
 
-impl<'a, R: Print, V: Number + Clone + PartialEq + Debug + Drop, L: Limit> Player<
+impl<'a, R: Print, K: Made, V: Number + Clone + PartialEq + Debug + Drop, L: Limit> Player<
     'a,
     R,
-    Key<'a>,
+    K,
     V,
     Counting<'a>,
     L,
-> {
+>
+where
+    Id: Equivalent<K>,
+{
     /// Makes the call that the words ask for, and prints the answer. None where they ask for none.
     pub(crate) fn perform(&mut self, words: &[&str]) -> Option<io::Result<()>> {
         let (call, operands) = words.split_first()?;
@@ -77,12 +85,12 @@ impl<'a, R: Print, V: Number + Clone + PartialEq + Debug + Drop, L: Limit> Playe
     }
 
     // The pair that two words write.
-    fn pair(&self, key: &str, value: &str) -> Option<(Key<'a>, V)> {
+    fn pair(&self, key: &str, value: &str) -> Option<(K, V)> {
         Some((self.key(key)?, self.value(number(value)?)))
     }
 
     // The pairs that the words write. None where a word is missing or wrong.
-    fn parse_items(&self, words: &[&str]) -> Result<Option<Vec<(Key<'a>, V)>>, AllocError> {
+    fn parse_items(&self, words: &[&str]) -> Result<Option<Vec<(K, V)>>, AllocError> {
         let mut items = Vec::new(self.alloc);
         for pair in words.chunks(2) {
             let [key, value] = pair else {
@@ -163,7 +171,7 @@ impl<'a, R: Print, V: Number + Clone + PartialEq + Debug + Drop, L: Limit> Playe
             "values_slice_mut" => self.values_slice_mut(number(operand)?),
             _ => {
                 return match parse_form(operand)? {
-                    Form::Key(name) => self.search_key(call, Key::new(name, self.counts)),
+                    Form::Key(name) => self.search_key(call, self.made(name)?),
                     Form::Id(id) => self.search(call, Id(id)),
                 };
             }
@@ -197,7 +205,7 @@ impl<'a, R: Print, V: Number + Clone + PartialEq + Debug + Drop, L: Limit> Playe
     fn write(&mut self, form: &str, number: u64) -> Option<Answer> {
         let value = self.value(number);
         Some(match parse_form(form)? {
-            Form::Key(name) => self.get_mut_key(Key::new(name, self.counts), value),
+            Form::Key(name) => self.get_mut_key(self.made(name)?, value),
             Form::Id(id) => self.get_mut(Id(id), value),
         })
     }

@@ -2,18 +2,17 @@
 
 use crate::answer::{Answer, of_bool, or_refused, refused, said};
 use crate::first_line::rule_name;
-use crate::key_traits::{Named, Number, add_to};
-use crate::keys::Key;
+use crate::key_traits::{Made, Named, Number, add_to};
 use crate::player::{Player, print_map};
 use halfbrown::{Limit, LimitedHashMap, Refusal};
 use std::hash::{BuildHasher, Hash};
 use std::io;
 use test_support::builders::Counting;
 
-impl<'a, R: Print, V: Number + Drop + Clone + PartialEq, L: Limit> Player<
+impl<'a, R: Print, K: Made, V: Number + Drop + Clone + PartialEq, L: Limit> Player<
     'a,
     R,
-    Key<'a>,
+    K,
     V,
     Counting<'a>,
     L,

@@ -16,6 +16,8 @@ pub(crate) struct Player<'a, R, K: Eq + Hash, V, S: BuildHasher, L: Limit> {
     pub counts: &'a Counts,
     pub a: LimitedHashMap<K, V, S, L>,
     pub b: LimitedHashMap<K, V, S, L>,
+    /// A key, which is asked for others.
+    pub some_key: K,
     /// A value, which is asked for others.
     pub zero: V,
     /// Whether memory may be refused in the line.

@@ -1,8 +1,7 @@
 //! The calls on maps whose values are plain numbers alone: a run of commands, and `or_default`.
 
 use crate::answer::{Answer, or_refused_key, print_gap, refused, said};
-use crate::key_traits::Named;
-use crate::keys::Key;
+use crate::key_traits::{Made, Named};
 use crate::player::Player;
 use crate::words::{count, number};
 use halfbrown::run::run;
@@ -11,10 +10,7 @@ use std::alloc::AllocError;
 use std::hash::BuildHasher;
 use std::io;
 
-/// A command on the maps of a script.
-type Ordered<'a> = Command<Key<'a>, u64>;
-
-impl<'a, R: Print, S: BuildHasher, L: Limit> Player<'a, R, Key<'a>, u64, S, L> {
+impl<R: Print, K: Made, S: BuildHasher, L: Limit> Player<'_, R, K, u64, S, L> {
     /// Makes the call, and prints the answer. None where there is none.
     pub(crate) fn perform_plain(&mut self, words: &[&str]) -> Option<io::Result<()>> {
         match words {
@@ -27,13 +23,13 @@ impl<'a, R: Print, S: BuildHasher, L: Limit> Player<'a, R, Key<'a>, u64, S, L> {
         }
     }
 
-    fn print_or_default(&mut self, key: Key<'a>) -> io::Result<()> {
+    fn print_or_default(&mut self, key: K) -> io::Result<()> {
         let answered = self.or_default(key);
         print!(self.rt; "{}", or_refused_key(answered))
     }
 
     // None where a command is unknown, or a word of it is missing or wrong.
-    fn parse_commands(&self, words: &[&str]) -> Result<Option<Vec<Ordered<'a>>>, AllocError> {
+    fn parse_commands(&self, words: &[&str]) -> Result<Option<Vec<Command<K, u64>>>, AllocError> {
         let mut commands = Vec::new(self.alloc);
         // How many words of the last command are still to come.
         let mut to_come = 0;
@@ -52,7 +48,7 @@ impl<'a, R: Print, S: BuildHasher, L: Limit> Player<'a, R, Key<'a>, u64, S, L> {
     }
 
     // The first command, and how many operands it has.
-    fn first_command(&self, words: &[&str]) -> Option<(Ordered<'a>, usize)> {
+    fn first_command(&self, words: &[&str]) -> Option<(Command<K, u64>, usize)> {
         let (call, operands) = words.split_first()?;
         if let Some(command) = alone(call) {
             return Some((command, 0));
@@ -65,7 +61,7 @@ impl<'a, R: Print, S: BuildHasher, L: Limit> Player<'a, R, Key<'a>, u64, S, L> {
         Some((with_pair(call, self.key(first)?, value)?, 2))
     }
 
-    fn with_operand(&self, call: &str, operand: &str) -> Option<Ordered<'a>> {
+    fn with_operand(&self, call: &str, operand: &str) -> Option<Command<K, u64>> {
         Some(match call {
             "reserve" => Command::Reserve(count(operand)?),
             "get" => Command::Get(self.key(operand)?),
@@ -75,7 +71,7 @@ impl<'a, R: Print, S: BuildHasher, L: Limit> Player<'a, R, Key<'a>, u64, S, L> {
     }
 
     // Runs the commands, and prints the replies.
-    fn print_run(&mut self, commands: Vec<Ordered<'a>>) -> io::Result<()> {
+    fn print_run(&mut self, commands: Vec<Command<K, u64>>) -> io::Result<()> {
         let alloc = self.marked_alloc();
         let Ok(replies) = run(alloc, &mut self.a, commands) else {
             return print!(self.rt; "refused memory");
@@ -93,7 +89,7 @@ impl<'a, R: Print, S: BuildHasher, L: Limit> Player<'a, R, Key<'a>, u64, S, L> {
     }
 }
 
-fn alone<'a>(call: &str) -> Option<Ordered<'a>> {
+fn alone<K>(call: &str) -> Option<Command<K, u64>> {
     Some(match call {
         "clear" => Command::Clear,
         "shrink" => Command::Shrink,
@@ -103,7 +99,7 @@ fn alone<'a>(call: &str) -> Option<Ordered<'a>> {
     })
 }
 
-fn with_pair<'a>(call: &str, key: Key<'a>, value: u64) -> Option<Ordered<'a>> {
+fn with_pair<K: Drop>(call: &str, key: K, value: u64) -> Option<Command<K, u64>> {
     Some(match call {
         "insert" => Command::Insert(key, value),
         "insert_new" => Command::InsertNew(key, value),

@@ -3,11 +3,11 @@
 use crate::answer::refused;
 use crate::counts::Counts;
 use crate::first_line::{First, Kind, parse_first};
-use crate::key_traits::Number;
-use crate::keys::Key;
+use crate::key_traits::{Made, Number};
+use crate::keys::{Id, Key, Small};
 use crate::player::Player;
 use crate::values::{Nothing, Owned};
-use halfbrown::{AtMost, Limit, LimitedHashMap, Refusal};
+use halfbrown::{AtMost, Equivalent, Limit, LimitedHashMap, Refusal};
 use std::alloc::Global;
 use std::fmt::Debug;
 use std::io;
@@ -32,6 +32,9 @@ pub(crate) fn play(rt: &(impl Print + AllocGlobal), text: &str) -> io::Result<()
 
 // Plays the lines after a first one. False where it made no maps.
 fn begin<R: Print + AllocGlobal>(rt: &R, first: First<'_>, rest: &[&str]) -> io::Result<bool> {
+    if let Kind::Small = first.kind {
+        return begin_small(rt, first, rest);
+    }
     match first.limit {
         "0" => begin_any::<R, AtMost<0>>(rt, first, rest),
         "1" => begin_any::<R, AtMost<1>>(rt, first, rest),
@@ -49,6 +52,30 @@ fn begin<R: Print + AllocGlobal>(rt: &R, first: First<'_>, rest: &[&str]) -> io:
     }
 }
 
+// A vector of at most 3 small keys is searched in one block, one of at most 32 in two.
+fn begin_small<R: Print + AllocGlobal>(
+    rt: &R,
+    first: First<'_>,
+    rest: &[&str],
+) -> io::Result<bool> {
+    match first.limit {
+        "3" => play_small::<R, AtMost<3>>(rt, first, rest),
+        "32" => play_small::<R, AtMost<32>>(rt, first, rest),
+        "64" => play_small::<R, AtMost<64>>(rt, first, rest),
+        _ => print_bad(rt),
+    }
+}
+
+fn play_small<R: Print + AllocGlobal, L: Limit>(
+    rt: &R,
+    first: First<'_>,
+    rest: &[&str],
+) -> io::Result<bool> {
+    let counts = Counts::new();
+    let key = Small::new(rt.alloc(), &counts)?;
+    play_plain::<R, Small<'_>, L>(rt, &counts, key, first, rest)
+}
+
 fn print_bad(rt: &impl Print) -> io::Result<bool> {
     println!(rt; "bad line")?;
     Ok(false)
@@ -61,13 +88,13 @@ fn begin_any<R: Print + AllocGlobal, L: Limit>(
     first: First<'_>,
     rest: &[&str],
 ) -> io::Result<bool> {
+    let counts = Counts::new();
     match first.kind {
-        Kind::Map => play_plain::<R, L>(rt, first, rest),
+        Kind::Map => play_plain::<R, Key<'_>, L>(rt, &counts, Key::new(&counts), first, rest),
         Kind::Owning => {
-            let counts = Counts::new();
             play_others::<R, Owned<'_>, L>(rt, &counts, Owned::zero(&counts), first, rest)
         }
-        Kind::Unit => print_bad(rt),
+        _ => print_bad(rt),
     }
 }
 
@@ -76,8 +103,9 @@ fn begin_plain<R: Print + AllocGlobal, L: Limit>(
     first: First<'_>,
     rest: &[&str],
 ) -> io::Result<bool> {
+    let counts = Counts::new();
     match first.kind {
-        Kind::Map => play_plain::<R, L>(rt, first, rest),
+        Kind::Map => play_plain::<R, Key<'_>, L>(rt, &counts, Key::new(&counts), first, rest),
         _ => print_bad(rt),
     }
 }
@@ -93,13 +121,17 @@ fn begin_unit<R: Print + AllocGlobal, L: Limit>(
     }
 }
 
-fn play_plain<R: Print + AllocGlobal, L: Limit>(
-    rt: &R,
+fn play_plain<'a, R: Print + AllocGlobal, K: Made, L: Limit>(
+    rt: &'a R,
+    counts: &'a Counts,
+    key: K,
     first: First<'_>,
     rest: &[&str],
-) -> io::Result<bool> {
-    let counts = Counts::new();
-    let Some(mut player) = make::<R, u64, L>(rt, &counts, first, 0)? else {
+) -> io::Result<bool>
+where
+    Id: Equivalent<K>,
+{
+    let Some(mut player) = make::<R, K, u64, L>(rt, counts, key, 0, first)? else {
         return Ok(false);
     };
     for line in rest {
@@ -121,7 +153,8 @@ fn play_others<'a, R: Print + AllocGlobal, V: Number + Clone + PartialEq + Debug
     first: First<'_>,
     rest: &[&str],
 ) -> io::Result<bool> {
-    let Some(mut player) = make::<R, V, L>(rt, counts, first, zero)? else {
+    let Some(mut player) = make::<R, Key<'a>, V, L>(rt, counts, Key::new(counts), zero, first)?
+    else {
         return Ok(false);
     };
     for line in rest {
@@ -133,12 +166,13 @@ fn play_others<'a, R: Print + AllocGlobal, V: Number + Clone + PartialEq + Debug
 }
 
 // Answers a first line. None where its capacity was refused.
-fn make<'a, R: Print + AllocGlobal, V: Drop, L: Limit>(
+fn make<'a, R: Print + AllocGlobal, K: Made, V: Drop, L: Limit>(
     rt: &'a R,
     counts: &'a Counts,
-    first: First<'_>,
+    key: K,
     zero: V,
-) -> io::Result<Option<Player<'a, R, Key<'a>, V, Counting<'a>, L>>> {
+    first: First<'_>,
+) -> io::Result<Option<Player<'a, R, K, V, Counting<'a>, L>>> {
     let (alloc, builder) = (rt.alloc(), counts.builder(first.rule));
     let a = match make_map(alloc, builder, first.capacity) {
         Ok(map) => map,
@@ -153,6 +187,7 @@ fn make<'a, R: Print + AllocGlobal, V: Drop, L: Limit>(
         counts,
         a,
         b: LimitedHashMap::with_hasher(alloc, builder),
+        some_key: key,
         zero,
         is_refused: false,
     };
@@ -162,11 +197,11 @@ fn make<'a, R: Print + AllocGlobal, V: Drop, L: Limit>(
     Ok(Some(player))
 }
 
-fn make_map<'a, V, L: Limit>(
+fn make_map<'a, K: Made, V, L: Limit>(
     alloc: Global,
     builder: Counting<'a>,
     capacity: Option<usize>,
-) -> Result<LimitedHashMap<Key<'a>, V, Counting<'a>, L>, Refusal> {
+) -> Result<LimitedHashMap<K, V, Counting<'a>, L>, Refusal> {
     match capacity {
         Some(capacity) => LimitedHashMap::with_capacity_and_hasher(alloc, capacity, builder),
         None => Ok(LimitedHashMap::with_hasher(alloc, builder)),
