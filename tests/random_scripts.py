@@ -22,7 +22,7 @@ SIZES = (0, 1, 2, 3, 5, 6, 7, 12, 13, 33, 50)
 # Sizes that are refused.
 TOO_GREAT = (MOST_PAIRS, MOST_PAIRS + 1, 2**63, GREATEST)
 ADDING = ("insert KEY V", "insert_nocheck KEY V", "entry KEY or_insert V", "raw KEY add V", "run insert_new KEY V is_vec")
-REMOVING = ("remove FORM", "remove_entry_hashed FORM", "entry KEY remove", "raw KEY remove", "run remove KEY")
+REMOVING = ("remove QUERY", "remove_entry_hashed QUERY", "entry KEY remove", "raw KEY remove", "run remove KEY")
 ANEW = ("drop", "into_iter", "walk for_value STEPS", "walk into_iter STEPS")
 BACK = ("shrink_to_fit", "shrink_to_fit", "run shrink len")
 # Those that empty the map come less often, and those that have many cases, or are no calls on some maps, more often.
@@ -114,7 +114,7 @@ class Script:
         id_ = choice((self.any_id, self.held_id))() if id_ is None else id_
         words = {
             "KEY": lambda: self.key(id_),
-            "FORM": lambda: choice((f"@{id_}", self.key(id_), self.key(id_))),
+            "QUERY": lambda: choice((f"@{id_}", self.key(id_), self.key(id_))),
             "V": lambda: self.chance.randrange(1000),
             "N": lambda: choice(NUMBERS),
             "M": lambda: choice((0, 1, 2, 2, 3, 3, 5, 7)),

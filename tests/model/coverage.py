@@ -85,7 +85,7 @@ def demanded(met):
     wanted += [(row, MEMORY) for row, column in met if column == ASKED]
     wanted += [(f"raw calls at limit {limit}", MANY) for limit in (32, 64)] + [(row, MANY) for row in SMALL_KEYS]
     wanted += [(form, SIZE) for form in ROWS if {"SIZE", "MAKER"} & set(places_of(form))]
-    wanted += [(form, STOOD_FOR) for form in CALLS if "FORM" in places_of(form)]
+    wanted += [(form, STOOD_FOR) for form in CALLS if "QUERY" in places_of(form)]
     wanted += [(f"{kind} {limit}", column) for kind in LIMITS for limit in LIMITS[kind] for column in (MET, SIZE)]
     wanted += [(f"walk {kind} {step}", MET) for kind in KINDS for step in steps_of(kind)]
     wanted += [(f"{form}: {answer}", MET) for form, answers in ANSWERS.items() for answer in answers]

@@ -31,7 +31,7 @@ def places_of(form):
 
 
 def is_on_a_key(form):
-    return not {"KEY", "FORM", "WHICH"}.isdisjoint(places_of(form))
+    return not {"KEY", "QUERY", "WHICH"}.isdisjoint(places_of(form))
 
 
 def name_of(words):
@@ -104,7 +104,7 @@ def read_maker(word):
 
 
 PLACES = dict.fromkeys(("V", "N", "M", "SIZE", "HASH"), read_number)
-PLACES |= {"KEY": read_key, "FORM": read_form_of_key, "WHICH": read_which, "MAKER": read_maker}
+PLACES |= {"KEY": read_key, "QUERY": read_form_of_key, "WHICH": read_which, "MAKER": read_maker}
 PLACES |= {"LIMIT": read_one_of(OTHER_LIMITS), "RULE": read_one_of(RULES)}
 
 

@@ -117,6 +117,14 @@ class Map:
         self.count_hash()
         return self.find_hashed(key)
 
+    def find_to_remove_hashed(self, key):
+        """The same for a removal, which compares key by key."""
+        return self.match(RULES[self.rule](key), lambda held: held.id == key.id)
+
+    def find_to_remove(self, key):
+        self.count_hash()
+        return self.find_to_remove_hashed(key)
+
     def holds(self, key):
         """Whether a key is held, as the program asks before a call: it is not counted."""
         return any(pair.key.id == key.id for pair in self.pairs)

@@ -22,7 +22,7 @@ COMMANDS = {
     "entry_or_insert KEY V": value_or(Map.entry, Map.append),
     "raw_or_insert KEY V": value_or(Map.raw_entry, Map.append_hashing),
     "get KEY": by(Map.find, lambda a, pair: f"found {pair.value}", "found none"),
-    "remove KEY": by(Map.find, lambda a, pair: f"removed {a.take_out(pair)}", "removed none"),
+    "remove KEY": by(Map.find_to_remove, lambda a, pair: f"removed {a.take_out(pair)}", "removed none"),
     "clear": clear,
     "reserve SIZE": Map.reserve,
     "shrink": lambda a: a.shrink_to_fit() or f"form {text_of(a.is_vec)}",
