@@ -10,7 +10,7 @@ use Rattle.halfbrown.specs.declared.run.Command.TheVariants.{Reserve}
 use Rattle.halfbrown.specs.declared.run.Reply.{Reply}
 use Rattle.halfbrown.specs.Costs.{Cost, add_costs}
 use Rattle.halfbrown.specs.Memory.{bytes}
-use Rattle.halfbrown.specs.Run.{Lead, Runs, shrinks, commands_of, replies_of, cost_of}
+use Rattle.halfbrown.specs.Run.{Lead, RunsAtCost, shrinks, commands_of, replies_of, cost_of}
 use Rattle.halfbrown.specs.State.{State, IsState}
 use Rattle.halfbrown.specs.Step.{Step, refusal_in, says_vec, is_shrink, switches, form_changed}
 
@@ -120,8 +120,8 @@ module _ {K V S : Type 0} (limit : ℕ) (eq : K → K → Bool) (hash : S → K 
     pub second_replies : List (Reply K V)
     pub first_cost : Cost
     pub second_cost : Cost
-    pub first_runs : Runs limit eq hash old first first_replies between first_cost
-    pub second_runs : Runs limit eq hash between second second_replies new second_cost
+    pub first_runs : RunsAtCost limit eq hash old first first_replies between first_cost
+    pub second_runs : RunsAtCost limit eq hash between second second_replies new second_cost
     pub replies_are : replies ≡ first_replies ++ second_replies
     pub cost_is : cost ≡ add_costs first_cost second_cost
 
@@ -129,9 +129,9 @@ module _ {K : Type 0} (V : Type 0) {S : Type 0} (limit : ℕ) (eq : K → K → 
   -- a run of commands in two parts is a run of each part
   abbrev pub SplitLaw : Type 0
   SplitLaw = (old : State K V S) (first second : List (Command K V)) (replies : List (Reply K V)) (new : State K V S) (cost : Cost)
-      → Runs limit eq hash old (first ++ second) replies new cost → RunsInTwo limit eq hash old first second replies new cost
+      → RunsAtCost limit eq hash old (first ++ second) replies new cost → RunsInTwo limit eq hash old first second replies new cost
 
   -- and where the second begins with the map that the first left, both are one run
   abbrev pub JoinLaw : Type 0
   JoinLaw = (old : State K V S) (first second : List (Command K V)) (replies : List (Reply K V)) (new : State K V S) (cost : Cost)
-      → RunsInTwo limit eq hash old first second replies new cost → Runs limit eq hash old (first ++ second) replies new cost
+      → RunsInTwo limit eq hash old first second replies new cost → RunsAtCost limit eq hash old (first ++ second) replies new cost

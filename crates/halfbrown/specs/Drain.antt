@@ -14,33 +14,33 @@ use Rattle.halfbrown.specs.Layout.{state_in}
 use Rattle.halfbrown.specs.State.{State, with_pairs}
 
 -- the map as it is once the `Drain` is dropped: its own store again, with no pair
-abbrev pub map_after : {K V S L P : Type 0} {e : eq.Ghosts K} {h : hash.Ghosts K} {b : hashers.Ghosts S K} {l : limits.Ghosts L} {p : taken.Ghosts P K V}
-    → Drain K V S L P e h b l p → State K V S
+abbrev pub map_after : {K V S L P H : Type 0} {e : eq.Ghosts K} {h : hash.Ghosts K} {b : hashers.Ghosts S K H} {l : limits.Ghosts L} {p : taken.Ghosts P K V}
+    → Drain K V S L P H e h b l p → State K V S
 map_after {p} d = with_pairs (state_in (p.store d.pairs) d.map.now.builder) []
 
-module _ {K V S L : Type 0} {e : eq.Ghosts K} {h : hash.Ghosts K} {b : hashers.Ghosts S K} {l : limits.Ghosts L} {p : taken.Ghosts (StoreState K V) K V} where
+module _ {K V S L H : Type 0} {e : eq.Ghosts K} {h : hash.Ghosts K} {b : hashers.Ghosts S K H} {l : limits.Ghosts L} {p : taken.Ghosts (StoreState K V) K V} where
   -- the pairs that are still to come, first to last
-  abbrev pub rest : Drain K V S L (StoreState K V) e h b l p → List (K × V)
+  abbrev pub rest : Drain K V S L (StoreState K V) H e h b l p → List (K × V)
   rest d = d.pairs.pairs
 
   -- the ghost name of the reference to the map
-  abbrev pub lender : Drain K V S L (StoreState K V) e h b l p → GName
+  abbrev pub lender : Drain K V S L (StoreState K V) H e h b l p → GName
   lender d = d.map.ghost_name
 
   -- old and new borrow the same map, and leave it in the same form, with the same capacity and builder
-  pub record Keeps (old new : Drain K V S L (StoreState K V) e h b l p) : Type 0 where
+  pub record Keeps (old new : Drain K V S L (StoreState K V) H e h b l p) : Type 0 where
     pub map : new.map ≡ old.map
     pub form : new.pairs.is_vec ≡ old.pairs.is_vec
     pub capacity : new.pairs.capacity ≡ old.pairs.capacity
 
   -- `next` took s to t, and returned r: the first pair that was still to come; or None, and nothing changed
-  abbrev pub DrainSteps : Drain K V S L (StoreState K V) e h b l p → Option (K × V) → Drain K V S L (StoreState K V) e h b l p → Type 0
+  abbrev pub DrainSteps : Drain K V S L (StoreState K V) H e h b l p → Option (K × V) → Drain K V S L (StoreState K V) H e h b l p → Type 0
   DrainSteps s r t = MatchOption r ((rest s ≡ []) × (t ≡ s)) (λ x. (rest s ≡ x ∷ rest t) × Keeps s t)
 
   -- each call of `next` gives the next pair
-  abbrev pub RunsInOrder : Drain K V S L (StoreState K V) e h b l p → Type 0
+  abbrev pub RunsInOrder : Drain K V S L (StoreState K V) H e h b l p → Type 0
   RunsInOrder s = YieldsInOrder DrainSteps rest
 
   -- each state that calls of `next` lead to keeps what the first keeps
-  abbrev pub KeepsAlong : Drain K V S L (StoreState K V) e h b l p → Type 0
-  KeepsAlong s = (ps : List (K × V)) (t : Drain K V S L (StoreState K V) e h b l p) → Yields DrainSteps s ps t → Keeps s t
+  abbrev pub KeepsAlong : Drain K V S L (StoreState K V) H e h b l p → Type 0
+  KeepsAlong s = (ps : List (K × V)) (t : Drain K V S L (StoreState K V) H e h b l p) → Yields DrainSteps s ps t → Keeps s t

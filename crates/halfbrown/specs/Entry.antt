@@ -1,6 +1,6 @@
 -- What contracts see of an entry: its key and value, and what the map is once they are written or taken out.
 pub use Rattle.halfbrown.specs.declared.entry.Entry.TheVariants.{Occupied, Vacant}
-use Rattle.std.specs.Prelude.{◌≡◌, ℕ, Bool, true, false, List, slice_get, Option, None, Some, Result, IfOk, IfErr}
+use Rattle.std.specs.Prelude.{◌≡◌, ℕ, Bool, true, false, List, slice_get, Option, None, Some, IfSome, Result, IfOk, IfErr}
 use Rattle.std.specs.Borrow.{MutBor}
 use Rattle.std.specs.Map.{keys_of, values_of}
 use Rattle.std.specs.Option.{option_map}
@@ -19,48 +19,48 @@ use Rattle.halfbrown.specs.Preparation.{Prepares, pushed}
 use Rattle.halfbrown.specs.State.{State, IsState, WithPairs, with_pairs}
 use Rattle.halfbrown.specs.Updates.{HasPut, HasRemoved}
 
-module _ {K V S L : Type 0} {e : eq.Ghosts K} {h : hash.Ghosts K} {b : hashers.Ghosts S K} {l : limits.Ghosts L} where
+module _ {K V S L H : Type 0} {e : eq.Ghosts K} {h : hash.Ghosts K} {b : hashers.Ghosts S K H} {l : limits.Ghosts L} where
   -- the reference to the map
-  abbrev pub map_ref : Entry K V S L e h b l → MutBor (State K V S)
+  abbrev pub map_ref : Entry K V S L H e h b l → MutBor (State K V S)
   map_ref (Occupied o) = o.map
   map_ref (Vacant v) = v.map
 
   -- the map, as it is
-  abbrev pub map_of : Entry K V S L e h b l → State K V S
+  abbrev pub map_of : Entry K V S L H e h b l → State K V S
   map_of entry = (map_ref entry).now
 
   -- whether the key is held
-  abbrev pub is_occupied : Entry K V S L e h b l → Bool
+  abbrev pub is_occupied : Entry K V S L H e h b l → Bool
   is_occupied (Occupied o) = true
   is_occupied (Vacant v) = false
 
   -- the stored key where it is held, else the key that the entry was made for
-  abbrev pub entry_key : Entry K V S L e h b l → Option K
+  abbrev pub entry_key : Entry K V S L H e h b l → Option K
   entry_key (Occupied o) = slice_get (keys_of o.map.now.pairs) o.index
   entry_key (Vacant v) = Some v.key
 
   -- the value, where the key is held
-  abbrev pub entry_value : Entry K V S L e h b l → Option V
+  abbrev pub entry_value : Entry K V S L H e h b l → Option V
   entry_value (Occupied o) = slice_get (values_of o.map.now.pairs) o.index
   entry_value (Vacant v) = None
 
   -- the stored pair, where the key is held
-  abbrev pub entry_pair : Entry K V S L e h b l → Option (K × V)
+  abbrev pub entry_pair : Entry K V S L H e h b l → Option (K × V)
   entry_pair (Occupied o) = slice_get o.map.now.pairs o.index
   entry_pair (Vacant v) = None
 
   -- the map once the key has this value
-  unfoldable pub with_value : Entry K V S L e h b l → V → State K V S
+  unfoldable pub with_value : Entry K V S L H e h b l → V → State K V S
   with_value (Occupied o) value = with_pairs o.map.now (set_value o.map.now.pairs o.index value)
   with_value (Vacant v) value = pushed v.map.now v.key value v.vacancy
 
   -- the pairs once that of the key is taken out
-  abbrev pub pairs_without : Entry K V S L e h b l → List (K × V)
+  abbrev pub pairs_without : Entry K V S L H e h b l → List (K × V)
   pairs_without (Occupied o) = swap_remove_at o.map.now.pairs o.index
   pairs_without (Vacant v) = v.map.now.pairs
 
   -- the entry is that of k among these pairs
-  pub record IsEntryOf (same : K → K → Bool) (pairs : List (K × V)) (k : K) (entry : Entry K V S L e h b l) : Type 0 where
+  pub record IsEntryOf (same : K → K → Bool) (pairs : List (K × V)) (k : K) (entry : Entry K V S L H e h b l) : Type 0 where
     pub occupied : is_occupied entry ≡ holds same pairs k
     pub pair : entry_pair entry ≡ pair_of same pairs k
     pub value : entry_value entry ≡ value_of same pairs k
@@ -68,17 +68,17 @@ module _ {K V S L : Type 0} {e : eq.Ghosts K} {h : hash.Ghosts K} {b : hashers.G
     pub new_key : is_occupied entry ≡ false → entry_key entry ≡ Some k
 
   -- a value that is written through the entry is put into the map that was, for k
-  pub record PutsThroughEntry (limit : ℕ) (same : K → K → Bool) (old : State K V S) (k : K) (entry : Entry K V S L e h b l) : Type 0 where
+  pub record PutsThroughEntry (limit : ℕ) (same : K → K → Bool) (old : State K V S) (k : K) (entry : Entry K V S L H e h b l) : Type 0 where
     pub puts : (value : V) → Puts limit same old k value (insert_needs limit same old k) (with_value entry value)
     pub put : (value : V) → HasPut same old.pairs k value (with_value entry value).pairs
 
   -- a removal through the entry takes the pair of k out of these pairs
-  pub record RemovesKey (same : K → K → Bool) (pairs : List (K × V)) (k : K) (entry : Entry K V S L e h b l) : Type 0 where
+  pub record RemovesKey (same : K → K → Bool) (pairs : List (K × V)) (k : K) (entry : Entry K V S L H e h b l) : Type 0 where
     pub pairs_left : pairs_without entry ≡ take_out same pairs k
     pub removed : HasRemoved same pairs k (pairs_without entry)
 
   -- the entry is the same one, and this value has been written
-  pub record IsWritten (entry : Entry K V S L e h b l) (value : V) (written : Entry K V S L e h b l) : Type 0 where
+  pub record IsWritten (entry : Entry K V S L H e h b l) (value : V) (written : Entry K V S L H e h b l) : Type 0 where
     pub same_map : (map_ref written).ghost_name ≡ (map_ref entry).ghost_name
     pub map : map_of written ≡ with_value entry value
     pub value_is : entry_value written ≡ Some value
@@ -86,14 +86,31 @@ module _ {K V S L : Type 0} {e : eq.Ghosts K} {h : hash.Ghosts K} {b : hashers.G
     pub writes : (v : V) → with_value written v ≡ with_value entry v
     pub pairs_left : pairs_without written ≡ pairs_without entry
 
--- what becomes of the stored key of an occupied entry
-module _ {K V S L : Type 0} {e : eq.Ghosts K} {h : hash.Ghosts K} {b : hashers.Ghosts S K} {l : limits.Ghosts L} where
+-- what calls on an entry make of it
+module _ {K V S L H : Type 0} {e : eq.Ghosts K} {h : hash.Ghosts K} {b : hashers.Ghosts S K H} {l : limits.Ghosts L} where
+  -- a call on the value where the key is held, and no call else: the entry is the same one, and has the value that was left
+  pub record ModifiesEntry (modifies : Option V → Option V → Type 0) (entry modified : Entry K V S L H e h b l) : Type 0 where
+    pub same_map : (map_ref modified).ghost_name ≡ (map_ref entry).ghost_name
+    pub value : modifies (entry_value entry) (entry_value modified)
+    pub occupied : IfSome (entry_value modified) (λ value. map_of modified ≡ with_value entry value)
+    pub vacant : entry_value entry ≡ None → map_of modified ≡ map_of entry
+    pub key : entry_key modified ≡ entry_key entry
+    pub writes : (value : V) → with_value modified value ≡ with_value entry value
+    pub pairs_left : pairs_without modified ≡ pairs_without entry
+
+  -- the entry is that of the pair at this index
+  pub record IsEntryAt (m : MutBor (State K V S)) (index : ℕ) (entry : OccupiedEntry K V S L H e h b l) : Type 0 where
+    pub same_map : (map_ref (Occupied entry)).ghost_name ≡ m.ghost_name
+    pub map : map_of (Occupied entry) ≡ m.now
+    pub pair : entry_pair (Occupied entry) ≡ slice_get m.now.pairs index
+    pub writes : (value : V) → with_value (Occupied entry) value ≡ with_pairs m.now (set_value m.now.pairs index value)
+
   -- the pairs once the pair has this key
-  abbrev pub pairs_with_key : OccupiedEntry K V S L e h b l → K → List (K × V)
+  abbrev pub pairs_with_key : OccupiedEntry K V S L H e h b l → K → List (K × V)
   pairs_with_key o key = set_key o.map.now.pairs o.index key
 
   -- the entry is the same one, and its pair has this key
-  pub record HasNewKey (entry : OccupiedEntry K V S L e h b l) (key : K) (rekeyed : OccupiedEntry K V S L e h b l) : Type 0 where
+  pub record HasNewKey (entry : OccupiedEntry K V S L H e h b l) (key : K) (rekeyed : OccupiedEntry K V S L H e h b l) : Type 0 where
     pub same_map : (map_ref (Occupied rekeyed)).ghost_name ≡ (map_ref (Occupied entry)).ghost_name
     pub map : WithPairs (map_of (Occupied entry)) (pairs_with_key entry key) (map_of (Occupied rekeyed))
     pub key_is : entry_key (Occupied rekeyed) ≡ Some key
@@ -106,8 +123,8 @@ pub record HandsBackKey {K : Type 0} (k : K) (needs : Option ℕ) (refused : Ref
   pub key : refused.key ≡ k
 
 -- what `entry` returns for k: where it is granted the entry of k, in the map that is ready for its pair; where it is refused the key and the reason
-module _ {K V S L : Type 0} {e : eq.Ghosts K} {h : hash.Ghosts K} {b : hashers.Ghosts S K} {l : limits.Ghosts L} where
-  pub record MakesEntry (limit : ℕ) (same : K → K → Bool) (m : MutBor (State K V S)) (k : K) (result : Result (Entry K V S L e h b l) (RefusedKey K)) : Type 0 where
+module _ {K V S L H : Type 0} {e : eq.Ghosts K} {h : hash.Ghosts K} {b : hashers.Ghosts S K H} {l : limits.Ghosts L} where
+  pub record MakesEntry (limit : ℕ) (same : K → K → Bool) (m : MutBor (State K V S)) (k : K) (result : Result (Entry K V S L H e h b l) (RefusedKey K)) : Type 0 where
     pub same_map : IfOk result (λ entry. (map_ref entry).ghost_name ≡ m.ghost_name)
     pub ok : IfOk result (λ entry. Prepares limit m.now (insert_needs limit same m.now k) (map_of entry))
     pub entry : IfOk result (IsEntryOf same m.now.pairs k)

@@ -22,34 +22,34 @@ length-set_value [] index value = refl
 length-set_value (p ∷ pairs) zero value = refl
 length-set_value (p ∷ pairs) (suc index) value = ap suc (length-set_value pairs index value)
 
-module _ {K V S L : Type 0} {e : eq.Ghosts K} {h : hash.Ghosts K} {b : hashers.Ghosts S K} {l : limits.Ghosts L} where
-  pub still_within : (o : OccupiedEntry K V S L e h b l) (value : V) → o.index < length (with_value (Occupied o) value).pairs
+module _ {K V S L H : Type 0} {e : eq.Ghosts K} {h : hash.Ghosts K} {b : hashers.Ghosts S K H} {l : limits.Ghosts L} where
+  pub still_within : (o : OccupiedEntry K V S L H e h b l) (value : V) → o.index < length (with_value (Occupied o) value).pairs
   unfolding with_value
   still_within o value = subst (λ n. o.index < n) (sym (length-set_value o.map.now.pairs o.index value)) o.within
 
   -- the entry, once this value is written
-  abbrev pub with_entry_value : OccupiedEntry K V S L e h b l → V → OccupiedEntry K V S L e h b l
+  abbrev pub with_entry_value : OccupiedEntry K V S L H e h b l → V → OccupiedEntry K V S L H e h b l
   with_entry_value o value = record { map = record o.map { now = with_value (Occupied o) value }; index = o.index; within = still_within o value }
 
-module _ (K V S L : RattleType) {e : eq.Ghosts K.Denot} {h : hash.Ghosts K.Denot} {b : hashers.Ghosts S.Denot K.Denot} {l : limits.Ghosts L.Denot} where
+module _ (K V S L H : RattleType) {e : eq.Ghosts K.Denot} {h : hash.Ghosts K.Denot} {b : hashers.Ghosts S.Denot K.Denot H.Denot} {l : limits.Ghosts L.Denot} where
   -- the map has the last value written through the reference, for the entry's key
-  abbrev pub EntryLends : Entry K.Denot V.Denot S.Denot L.Denot e h b l → MutBor V.Denot → Fml
-  EntryLends entry r = follows (the_row K V S L e h b l) V (map_ref entry).ghost_name r.ghost_name (with_value entry)
+  abbrev pub EntryLends : Entry K.Denot V.Denot S.Denot L.Denot H.Denot e h b l → MutBor V.Denot → Fml
+  EntryLends entry r = follows (the_row K V S L H e h b l) V (map_ref entry).ghost_name r.ghost_name (with_value entry)
 
   -- where no entry was made the map is as it was
-  abbrev pub RestsIfRefused : {E : Type 0} → MutBor (State K.Denot V.Denot S.Denot) → Result (Entry K.Denot V.Denot S.Denot L.Denot e h b l) E → Fml
-  RestsIfRefused m r = RestsIfErr (the_row K V S L e h b l) m (λ entry. (map_ref entry).ghost_name) r (λ n. n ≡ m.now)
+  abbrev pub RestsIfRefused : {E : Type 0} → MutBor (State K.Denot V.Denot S.Denot) → Result (Entry K.Denot V.Denot S.Denot L.Denot H.Denot e h b l) E → Fml
+  RestsIfRefused m r = RestsIfErr (the_row K V S L H e h b l) m (λ entry. (map_ref entry).ghost_name) r (λ n. n ≡ m.now)
 
   -- where there is no entry the map is as it was
-  abbrev pub RestsIfNoEntry : MutBor (State K.Denot V.Denot S.Denot) → Option (OccupiedEntry K.Denot V.Denot S.Denot L.Denot e h b l) → Fml
-  RestsIfNoEntry m r = RestsIfNone (the_row K V S L e h b l) m (λ o. o.map.ghost_name) r (λ n. n ≡ m.now)
+  abbrev pub RestsIfNoEntry : MutBor (State K.Denot V.Denot S.Denot) → Option (OccupiedEntry K.Denot V.Denot S.Denot L.Denot H.Denot e h b l) → Fml
+  RestsIfNoEntry m r = RestsIfNone (the_row K V S L H e h b l) m (λ o. o.map.ghost_name) r (λ n. n ≡ m.now)
 
   -- the entry has the last value written through the reference
-  abbrev pub OccupiedLends : MutBor (OccupiedEntry K.Denot V.Denot S.Denot L.Denot e h b l) → MutBor V.Denot → Fml
-  OccupiedLends o r = follows (occupied.the_row (record { mir = named 1; lft = [] }) K V S L e h b l) V o.ghost_name r.ghost_name (with_entry_value o.now)
+  abbrev pub OccupiedLends : MutBor (OccupiedEntry K.Denot V.Denot S.Denot L.Denot H.Denot e h b l) → MutBor V.Denot → Fml
+  OccupiedLends o r = follows (occupied.the_row (record { mir = named 1; lft = [] }) K V S L H e h b l) V o.ghost_name r.ghost_name (with_entry_value o.now)
 
   -- the entry stays as it is
-  abbrev pub OccupiedRests : MutBor (OccupiedEntry K.Denot V.Denot S.Denot L.Denot e h b l) → Fml
+  abbrev pub OccupiedRests : MutBor (OccupiedEntry K.Denot V.Denot S.Denot L.Denot H.Denot e h b l) → Fml
   OccupiedRests o =
-      let row = occupied.the_row (record { mir = named 1; lft = [] }) K V S L e h b l in
+      let row = occupied.the_row (record { mir = named 1; lft = [] }) K V S L H e h b l in
       follows_so row row o.ghost_name none (λ x n. ⊤) (λ n. n ≡ o.now)

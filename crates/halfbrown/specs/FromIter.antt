@@ -1,8 +1,10 @@
 -- What becomes of items that are collected into a map.
 use Rattle.std.specs.Prelude.{◌≡◌, ℕ, nat_le, Bool, true, false, List, [], ◌∷◌, ◌++◌, ◌⊎◌, Option, reverse}
-use Rattle.std.specs.Iterator.{Yields}
+use Rattle.std.specs.Iterator.{Count, Yields, Drains}
+use Rattle.std.specs.Iterator.SizeHint.{IsWithinCount}
 use Rattle.std.specs.Map.{keys_of}
 use Rattle.std.specs.Option.{option_or}
+use mathlib.Core.Logic.{inl, inr}
 use Rattle.half_store.specs.declared.refusal.Refusal.{Refusal}
 use Rattle.halfbrown.specs.Costs.{Cost, no_cost, add_costs, insert_cost}
 use Rattle.halfbrown.specs.CallerLoops.{add_keys, first_of_each}
@@ -34,52 +36,104 @@ Gives {I} steps it items = (left : I) × Yields steps it items left
 abbrev pub AreFirst : {X : Type 0} → List X → List X → Type 0
 AreFirst {X} all items = (left : List X) × (all ≡ items ++ left)
 
-module _ {K V S : Type 0} (limit : ℕ) (eq : K → K → Bool) (hash : S → K → ℕ) where
-  -- from old to new the items are inserted, granted, one after another, and the cost is the sum of the insertions' costs
-  abbrev pub InsertsAll : State K V S → List (K × V) → State K V S → Cost → Type 0
-  InsertsAll old [] new cost = (new ≡ old) × (cost ≡ no_cost)
-  InsertsAll old (p ∷ items) new cost =
-      (next : State K V S) × (rest : Cost) × Puts limit eq old p.0 p.1 (insert_needs limit eq old p.0) next × IsState eq limit next
-      × InsertsAll next items new rest × (cost ≡ add_costs (insert_cost limit eq hash old p.0 true) rest)
+module _ {K V S : Type 0} (limit : ℕ) (eq : K → K → Bool) where
+  -- from old to new the items are inserted, granted, one after another
+  abbrev pub InsertsAll : State K V S → List (K × V) → State K V S → Type 0
+  InsertsAll old [] new = new ≡ old
+  InsertsAll old (p ∷ items) new = (next : State K V S)
+      × Puts limit eq old p.0 p.1 (insert_needs limit eq old p.0) next × IsState eq limit next × InsertsAll next items new
 
   -- from old to new these items are inserted: new keys come behind those held, in order, and each key has the last value that was given for it
-  pub record Extends (old : State K V S) (items : List (K × V)) (new : State K V S) (cost : Cost) : Type 0 where
+  pub record Extends (old : State K V S) (items : List (K × V)) (new : State K V S) : Type 0 where
     pub pairs : new.pairs ≡ put_all eq old.pairs items
     pub keys : keys_of new.pairs ≡ add_keys eq (keys_of old.pairs) (keys_of items)
     pub values : (k : K) → value_of eq new.pairs k ≡ option_or (last_value_of eq items k) (value_of eq old.pairs k)
     pub builder : new.builder ≡ old.builder
-    pub inserted : InsertsAll old items new cost
+    pub inserted : InsertsAll old items new
 
-  -- items of which `given` holds, and an insertion of the last one that was refused, once those before it were inserted: what was spent counts
-  -- the refused one too
-  pub record IsRefusedInsertion (given : List (K × V) → Type 0) (old : State K V S) (why : Refusal) (new : State K V S) (cost : Cost) : Type 0 where
+  -- items of which `given` holds, and an insertion of the last one that was refused, once those before it were inserted
+  pub record IsRefusedInsertion (given : List (K × V) → Type 0) (old : State K V S) (why : Refusal) (new : State K V S) : Type 0 where
     pub before : List (K × V)
     pub key : K
     pub value : V
     pub were_given : given (before ++ (key, value) ∷ [])
-    pub spent : Cost
-    pub inserted : InsertsAll old before new spent
+    pub inserted : InsertsAll old before new
     pub refused : IsRefusal (insert_needs limit eq new key) why
-    pub cost_is : cost ≡ add_costs spent (insert_cost limit eq hash new key false)
 
   module _ (is_default : S → Type 0) (needed : ℕ) where
-    -- a map of these items: it was made with capacity for this many pairs, and the items were inserted one after another, at this cost
-    pub record IsCollection (items : List (K × V)) (m : State K V S) (cost : Cost) : Type 0 where
+    -- a map of these items: it was made with capacity for this many pairs, and the items were inserted one after another
+    pub record IsCollection (items : List (K × V)) (m : State K V S) : Type 0 where
       pub pairs : m.pairs ≡ collected eq items
       pub keys : keys_of m.pairs ≡ first_of_each eq (keys_of items)
       pub values : (k : K) → value_of eq m.pairs k ≡ last_value_of eq items k
       pub builder : is_default m.builder
       pub made : State K V S
       pub is_made : IsMade is_default (nat_le needed limit) needed made
-      pub inserted : InsertsAll made items m cost
+      pub inserted : InsertsAll made items m
 
     -- a map that was made with capacity for this many pairs, and then an insertion that was refused
-    pub record IsRefusedItem (given : List (K × V) → Type 0) (why : Refusal) (cost : Cost) : Type 0 where
+    pub record IsRefusedItem (given : List (K × V) → Type 0) (why : Refusal) : Type 0 where
       pub made : State K V S
       pub is_made : IsMade is_default (nat_le needed limit) needed made
       pub reached : State K V S
-      pub insertion : IsRefusedInsertion given made why reached cost
+      pub insertion : IsRefusedInsertion given made why reached
 
     -- why items of which `given` holds were not collected: the capacity to begin with was refused, or an insertion
-    abbrev pub IsRefusedCollection : (List (K × V) → Type 0) → Refusal → Cost → Type 0
-    IsRefusedCollection given why cost = (IsRefusal (making_needs needed) why × (cost ≡ no_cost)) ⊎ IsRefusedItem given why cost
+    abbrev pub IsRefusedCollection : (List (K × V) → Type 0) → Refusal → Type 0
+    IsRefusedCollection given why = IsRefusal (making_needs needed) why ⊎ IsRefusedItem given why
+
+  -- what insertions cost, those that were granted and one that was refused
+  module _ (hash : S → K → ℕ) where
+    abbrev pub insertions_cost : (old : State K V S) (items : List (K × V)) (new : State K V S) → InsertsAll old items new → Cost
+    insertions_cost old [] new inserted = no_cost
+    insertions_cost old (p ∷ items) new inserted =
+        add_costs (insert_cost limit eq hash old p.0 true) (insertions_cost inserted.0 items new inserted.3)
+
+    abbrev pub refused_cost : {given : List (K × V) → Type 0} {old : State K V S} {why : Refusal} {new : State K V S}
+        → IsRefusedInsertion given old why new → Cost
+    refused_cost {old = old} {new = new} r =
+        add_costs (insertions_cost old r.before new r.inserted) (insert_cost limit eq hash new r.key false)
+
+    abbrev pub collection_cost : {is_default : S → Type 0} {needed : ℕ} {items : List (K × V)} {m : State K V S}
+        → IsCollection is_default needed items m → Cost
+    collection_cost {items = items} {m = m} c = insertions_cost c.made items m c.inserted
+
+    abbrev pub refused_collection_cost : {is_default : S → Type 0} {needed : ℕ} {given : List (K × V) → Type 0} {why : Refusal}
+        → IsRefusedCollection is_default needed given why → Cost
+    refused_collection_cost (inl refused) = no_cost
+    refused_collection_cost (inr item) = refused_cost item.insertion
+
+-- items that come from an iterator: it is made from them, and each call of it is a step
+module _ {K V S C I : Type 0} (into : C → I → Type 0) (steps : I → Option (K × V) → I → Type 0) (limit : ℕ) (eq : K → K → Bool) where
+  -- from old to new all that the iterator gave is inserted
+  pub record ExtendsWith (items : C) (old new : State K V S) : Type 0 where
+    pub iterator : I
+    pub is_made : into items iterator
+    pub gave : List (K × V)
+    pub drained : Drains steps iterator gave
+    pub extends : Extends limit eq old gave new
+
+  -- the last item that the iterator gave was refused, and those before it are inserted
+  pub record IsRefusedExtension (items : C) (old new : State K V S) (why : Refusal) : Type 0 where
+    pub iterator : I
+    pub is_made : into items iterator
+    pub insertion : IsRefusedInsertion limit eq (Gives steps iterator) old why new
+
+  module _ (left : I → Count) (is_default : S → Type 0) where
+    -- a map of all that the iterator gave, made with capacity for its size hint
+    pub record IsCollectionOf (items : C) (m : State K V S) : Type 0 where
+      pub iterator : I
+      pub is_made : into items iterator
+      pub hint : ℕ
+      pub hinted : IsWithinCount hint (left iterator)
+      pub gave : List (K × V)
+      pub drained : Drains steps iterator gave
+      pub collection : IsCollection limit eq is_default hint gave m
+
+    -- why the items were not collected
+    pub record IsRefusedCollectionOf (items : C) (why : Refusal) : Type 0 where
+      pub iterator : I
+      pub is_made : into items iterator
+      pub hint : ℕ
+      pub hinted : IsWithinCount hint (left iterator)
+      pub refused : IsRefusedCollection limit eq is_default hint (Gives steps iterator) why

@@ -10,10 +10,10 @@ use Rattle.halfbrown.specs.Pairs.{set_by}
 use Rattle.halfbrown.specs.State.{State, with_pairs}
 use Rattle.halfbrown.specs.contracts.map.LimitedHashMap.{the_row}
 
-module _ (K V S L : RattleType) (key : HashMembers K.Denot) (build : hashers.Ghosts S.Denot K.Denot) (most : limits.Ghosts L.Denot) where
+module _ (K V S L H : RattleType) (key : HashMembers K.Denot) (build : hashers.Ghosts S.Denot K.Denot H.Denot) (most : limits.Ghosts L.Denot) where
   -- the map's type, as the logic holds it
   abbrev pub map_row : RattleType
-  map_row = the_row K V S L (record { eq = key.eq }) (record { hash_input = key.hash_input }) build most
+  map_row = the_row K V S L H (record { eq = key.eq }) (record { hash_input = key.hash_input }) build most
 
   module _ (m : MutBor (State K.Denot V.Denot S.Denot)) where
     -- the pair at this index has the last value written through the reference

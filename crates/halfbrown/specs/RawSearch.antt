@@ -23,9 +23,9 @@ pub record ReadsPair {K V S : Type 0} (test : K → Bool) (m : State K V S) (len
   pub pair : option_map deref_pair lent ≡ lookup_entry test m.pairs
   pub value : option_map (λ pair. pair.1.now) lent ≡ lookup test m.pairs
 
-module _ {K V S L : Type 0} {e : eq.Ghosts K} {h : hash.Ghosts K} {b : hashers.Ghosts S K} {l : limits.Ghosts L} (limit : ℕ) (same : K → K → Bool) where
+module _ {K V S L H : Type 0} {e : eq.Ghosts K} {h : hash.Ghosts K} {b : hashers.Ghosts S K H} {l : limits.Ghosts L} (limit : ℕ) (same : K → K → Bool) where
   -- what `raw_entry_mut` returns: where it is granted the same map, ready for one pair more; where it is refused the reason
-  pub record MakesReady (m : MutBor (State K V S)) (result : Result (RawEntryBuilderMut K V S L e h b l) Refusal) : Type 0 where
+  pub record MakesReady (m : MutBor (State K V S)) (result : Result (RawEntryBuilderMut K V S L H e h b l) Refusal) : Type 0 where
     pub same_map : IfOk result (λ ready. (ready_ref ready).ghost_name ≡ m.ghost_name)
     pub ok : IfOk result (λ ready. Prepares limit m.now (new_key_needs limit m.now) (ready_map ready))
     pub capacity : IfOk result (λ ready. length (ready_map ready).pairs < (ready_map ready).capacity)
@@ -33,13 +33,13 @@ module _ {K V S L : Type 0} {e : eq.Ghosts K} {h : hash.Ghosts K} {b : hashers.G
     pub state : IfOk result (λ ready. IsState same limit (ready_map ready))
 
   -- the entry is that of the key which passes the test, in the map that was ready
-  pub record EntersByKey (test : K → Bool) (ready : RawEntryBuilderMut K V S L e h b l) (entry : RawEntryMut K V S L e h b l) : Type 0 where
+  pub record EntersByKey (test : K → Bool) (ready : RawEntryBuilderMut K V S L H e h b l) (entry : RawEntryMut K V S L H e h b l) : Type 0 where
     pub same_map : (raw_ref entry).ghost_name ≡ (ready_ref ready).ghost_name
     pub finds : IsRawEntryOf same test (ready_map ready) entry
     pub state : IsState same limit (raw_map entry)
 
   -- the entry is that of a pair which the match accepts, under this hash, in the map that was ready
-  pub record EntersByMatch (returns : K → Bool → Type 0) (hash_of : S → K → ℕ) (sought : ℕ) (ready : RawEntryBuilderMut K V S L e h b l) (result : RawEntryMut K V S L e h b l) : Type 0 where
+  pub record EntersByMatch (returns : K → Bool → Type 0) (hash_of : S → K → ℕ) (sought : ℕ) (ready : RawEntryBuilderMut K V S L H e h b l) (result : RawEntryMut K V S L H e h b l) : Type 0 where
     pub same_map : (raw_ref result).ghost_name ≡ (ready_ref ready).ghost_name
     pub map : raw_map result ≡ ready_map ready
     pub found : ReadsMatch returns hash_of sought (ready_map ready) (found_pair result)

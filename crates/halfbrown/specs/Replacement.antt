@@ -19,13 +19,13 @@ pub record MovesLast {K V S : Type 0} (old : State K V S) (index last : ℕ) (ne
   pub moved : (pair : K × V) × (slice_get old.pairs index ≡ Some pair) × WithPairs old (swap_remove_at old.pairs index ++ pair ∷ []) new
   pub last_is : last ≡ length (swap_remove_at old.pairs index)
 
-module _ {K V S L : Type 0} {e : eq.Ghosts K} {h : hash.Ghosts K} {b : hashers.Ghosts S K} {l : limits.Ghosts L} where
+module _ {K V S L H : Type 0} {e : eq.Ghosts K} {h : hash.Ghosts K} {b : hashers.Ghosts S K H} {l : limits.Ghosts L} where
   -- the pairs once the entry's key has the value that was returned: in a vector its pair goes last, in a table it keeps its index
-  abbrev pub kept_pairs : Entry K V S L e h b l → K → V → List (K × V)
+  abbrev pub kept_pairs : Entry K V S L H e h b l → K → V → List (K × V)
   kept_pairs entry key value = if (map_of entry).is_vec then pairs_without entry ++ (key, value) ∷ [] else (with_value entry value).pairs
 
   -- the stored key stays, with the value that was returned
-  pub record KeepsPair (entry : Entry K V S L e h b l) (key : K) (value : V) (result : Entry K V S L e h b l) : Type 0 where
+  pub record KeepsPair (entry : Entry K V S L H e h b l) (key : K) (value : V) (result : Entry K V S L H e h b l) : Type 0 where
     pub pair : entry_pair result ≡ Some (key, value)
     pub key_is : entry_key result ≡ Some key
     pub value_is : entry_value result ≡ Some value
@@ -34,7 +34,7 @@ module _ {K V S L : Type 0} {e : eq.Ghosts K} {h : hash.Ghosts K} {b : hashers.G
     pub pairs_left : pairs_without result ≡ pairs_without entry
 
   -- the pair is gone, and the entry is vacant, with the stored key
-  pub record LosesPair (entry : Entry K V S L e h b l) (key : K) (result : Entry K V S L e h b l) : Type 0 where
+  pub record LosesPair (entry : Entry K V S L H e h b l) (key : K) (result : Entry K V S L H e h b l) : Type 0 where
     pub key_is : entry_key result ≡ Some key
     pub no_value : entry_value result ≡ None
     pub map : WithPairs (map_of entry) (pairs_without entry) (map_of result)
@@ -42,7 +42,7 @@ module _ {K V S L : Type 0} {e : eq.Ghosts K} {h : hash.Ghosts K} {b : hashers.G
     pub pairs_left : pairs_without result ≡ pairs_without entry
 
   -- the closure was given the stored key and its value, and its answer decides what becomes of the pair
-  pub record ReplacesEntry (returns : Bor K → V → Option V → Type 0) (entry result : Entry K V S L e h b l) : Type 0 where
+  pub record ReplacesEntry (returns : Bor K → V → Option V → Type 0) (entry result : Entry K V S L H e h b l) : Type 0 where
     pub key : K
     pub value : V
     pub answer : Option V
@@ -51,12 +51,12 @@ module _ {K V S L : Type 0} {e : eq.Ghosts K} {h : hash.Ghosts K} {b : hashers.G
     pub after : MatchOption answer (LosesPair entry key result) (λ v. KeepsPair entry key v result)
 
   -- the entry is replaced, in the same map, which is whole
-  pub record PutsBack (limit : ℕ) (same : K → K → Bool) (returns : Bor K → V → Option V → Type 0) (entry result : Entry K V S L e h b l) : Type 0 where
+  pub record PutsBack (limit : ℕ) (same : K → K → Bool) (returns : Bor K → V → Option V → Type 0) (entry result : Entry K V S L H e h b l) : Type 0 where
     pub replaces : ReplacesEntry returns entry result
     pub same_map : (map_ref result).ghost_name ≡ (map_ref entry).ghost_name
     pub state : IsState same limit (map_of result)
 
   -- one insertion probe where the pair is gone, and nothing else
-  abbrev pub IsReplacementCost : (S → K → ℕ) → Entry K V S L e h b l → Work → Work → Type 0
+  abbrev pub IsReplacementCost : (S → K → ℕ) → Entry K V S L H e h b l → Work → Work → Type 0
   IsReplacementCost hash result before after = IfSome (entry_key result) (λ key. after ≡ looked_more before
       (if is_occupied result then 0 else probe_length (hash (map_of result).builder) (map_of result).is_vec (map_of result).capacity (map_of result).pairs (hash (map_of result).builder key)))

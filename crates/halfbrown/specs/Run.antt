@@ -28,6 +28,13 @@ module _ {K V S : Type 0} (limit : ℕ) (eq : K → K → Bool) where
   Lead old [] new = new ≡ old
   Lead old (s ∷ steps) new = (s.before ≡ old) × IsValidStep limit eq s × IsState eq limit s.after × Lead s.after steps new
 
+  -- there are steps that lead from old to new, and have these commands and these replies
+  pub record Runs (old : State K V S) (commands : List (Command K V)) (replies : List (Reply K V)) (new : State K V S) : Type 0 where
+    pub steps : List (Step K V S)
+    pub lead : Lead old steps new
+    pub commands_are : commands ≡ commands_of steps
+    pub replies_are : replies ≡ replies_of steps
+
   module _ (hash : S → K → ℕ) where
     -- what a step costs
     abbrev pub step_cost : Step K V S → Cost
@@ -38,11 +45,8 @@ module _ {K V S : Type 0} (limit : ℕ) (eq : K → K → Bool) where
     cost_of [] = no_cost
     cost_of (s ∷ steps) = add_costs (step_cost s) (cost_of steps)
 
-    -- there are steps that lead from old to new, and have these commands and these replies, and together this cost
-    pub record Runs (old : State K V S) (commands : List (Command K V)) (replies : List (Reply K V)) (new : State K V S) (cost : Cost)
-        : Type 0 where
-      pub steps : List (Step K V S)
-      pub lead : Lead old steps new
-      pub commands_are : commands ≡ commands_of steps
-      pub replies_are : replies ≡ replies_of steps
-      pub cost_is : cost ≡ cost_of steps
+    -- such steps, which together have this cost
+    pub record RunsAtCost (old : State K V S) (commands : List (Command K V)) (replies : List (Reply K V)) (new : State K V S)
+        (cost : Cost) : Type 0 where
+      pub run : Runs old commands replies new
+      pub cost_is : cost ≡ cost_of run.steps

@@ -1,8 +1,9 @@
 -- What callers read off a changed list of pairs: which key has which value.
-use Rattle.std.specs.Prelude.{◌≡◌, ◌+◌, Bool, true, false, List, [], ◌∷◌, ◌++◌, length, Some, None, if◌then◌else◌}
+use Rattle.std.specs.Prelude.{◌≡◌, ℕ, ◌+◌, ◌^◌, ◌<◌, Bool, true, false, List, [], ◌∷◌, ◌++◌, length, Some, None, if◌then◌else◌}
 use Rattle.std.specs.Map.{keys_of, values_of, lookup}
 use Rattle.std.specs.Option.{option_map}
-use Rattle.halfbrown.specs.Pairs.{value_of, pair_of, holds, holds_by}
+use Rattle.halfbrown.specs.Pairs.{value_of, pair_of, holds, holds_by, set_values}
+use Rattle.halfbrown.specs.State.{State, IsState, with_pairs}
 
 -- after these values are written into the pairs: each pair has its key, and where there is one for each pair, its value of them; there
 -- are as many pairs
@@ -10,6 +11,12 @@ pub record HasValues {K V : Type 0} (old : List (K × V)) (vs : List V) (new : L
   pub keys : keys_of new ≡ keys_of old
   pub values : length vs ≡ length old → values_of new ≡ vs
   pub len : length new ≡ length old
+
+-- whatever values are written into the pairs of a map: each pair has its key, and no two keys are equal
+pub record KeepsKeys {K V S : Type 0} (limit : ℕ) (eq : K → K → Bool) (old : State K V S) : Type 0 where
+  pub small : length old.pairs < 2 ^ 63
+  pub written : (vs : List V) → HasValues old.pairs vs (set_values old.pairs vs)
+  pub state : (vs : List V) → IsState eq limit (with_pairs old (set_values old.pairs vs))
 
 module _ {K V : Type 0} (eq : K → K → Bool) where
   -- after the pair (k, v) is put: k is held with the value v, as are its equals; each other key has what it had; there is one pair more

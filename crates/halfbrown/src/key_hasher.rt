@@ -22,6 +22,9 @@ use std::hash::{BuildHasher, Hash};
 /// assert!(rt; knows(&ages, 1));
 /// ```
 pub trait KeyHasher<K: Hash> {
+    /// The builder's hasher.
+    type Hasher;
+
     // The hash of a key, which `hash_one` returns.
     ghost hash: { Self → K → ℕ };
 
@@ -38,6 +41,8 @@ pub trait KeyHasher<K: Hash> {
 }
 
 impl<K: Hash, S: BuildHasher> KeyHasher<K> for S {
+    type Hasher = <S as BuildHasher>::Hasher;
+
     ghost hash = { λ s k. hash_by S.BuildHasher S.Hasher.Hasher s (K.hash_input k) };
 
     ghost hash_writes = { hash_by S.BuildHasher S.Hasher.Hasher };

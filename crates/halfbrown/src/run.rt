@@ -1,7 +1,7 @@
 //! Whole runs: a list of commands, done one after another, with a reply to each.
 ghost use Rattle.std.specs.Prelude.{◌≡◌, ◌+◌, ◌*◌, ◌≤◌, true, false, [], length, vec_capacity, IsOk, IfOk, IfErr, OnErr};
-ghost use Rattle.halfbrown.specs.Costs.{Cost, GrewBy};
-ghost use Rattle.halfbrown.specs.Run.{Runs, shrinks};
+ghost use Rattle.halfbrown.specs.Costs.{GrewBy};
+ghost use Rattle.halfbrown.specs.Run.{Runs, cost_of, shrinks};
 ghost use Rattle.halfbrown.specs.RunCost.{command_cost};
 ghost use Rattle.halfbrown.specs.Step.{Executes, is_refused};
 
@@ -78,8 +78,8 @@ pub fn run<K: Eq + Hash + Drop, V: Copy, S: KeyHasher<K>, L: Limit>(
     map: &mut LimitedHashMap<K, V, S, L>,
     commands: Vec<Command<K, V>>,
 ) -> Result<Vec<Reply<K, V>>, Vec<Command<K, V>>>
-    ensures run { IfOk result (λ replies. (cost : Cost)
-        × Runs L.LIMIT K.eq S.hash map.old commands.items replies.items map.new cost) }
+    ensures run { IfOk result (λ replies.
+        Runs L.LIMIT K.eq map.old commands.items replies.items map.new) }
     ensures stays_a_table { shrinks commands.items ≡ false → map.old.is_vec ≡ false
         → map.new.is_vec ≡ false }
     ensures empty { commands.items ≡ [] → IsOk result }
@@ -98,8 +98,8 @@ pub fn run_counted<K: Eq + Hash + Drop, V: Copy, S: KeyHasher<K>, L: Limit>(
     tally: &mut Tally,
 ) -> Result<Vec<Reply<K, V>>, Vec<Command<K, V>>>
     // There are steps that lead from the old map to the new one, with these commands and replies, and the tally grew by what they cost.
-    ensures run { IfOk result (λ replies. (cost : Cost) × Runs L.LIMIT K.eq S.hash
-        map.old commands.items replies.items map.new cost × GrewBy cost tally.old tally.new) }
+    ensures run { IfOk result (λ replies. (run : Runs L.LIMIT K.eq map.old commands.items replies.items map.new)
+        × GrewBy (cost_of L.LIMIT K.eq S.hash run.steps) tally.old tally.new) }
     ensures empty { commands.items ≡ [] → IsOk result }
     ensures memory { IfOk result (λ replies. vec_capacity replies ≡ length commands.items) }
 

@@ -15,10 +15,10 @@ use Rattle.halfbrown.specs.declared.key_hasher.KeyHasher as hashers
 use Rattle.half_store.specs.declared.store.drain.IntoStore as taken
 use Rattle.halfbrown.specs.declared.limit.Limit as limits
 
-module _ {K V S L : Type 0} {e : eq.Ghosts K} {h : hash.Ghosts K} {b : hashers.Ghosts S K} {l : limits.Ghosts L}
+module _ {K V S L H : Type 0} {e : eq.Ghosts K} {h : hash.Ghosts K} {b : hashers.Ghosts S K H} {l : limits.Ghosts L}
     {p : taken.Ghosts (StoreState K V) K V} where
   -- of the same map and with the same pairs it is the same
-  pub same_drain : (s t : Drain K V S L (StoreState K V) e h b l p) → t.map ≡ s.map → t.pairs ≡ s.pairs → t ≡ s
+  pub same_drain : (s t : Drain K V S L (StoreState K V) H e h b l p) → t.map ≡ s.map → t.pairs ≡ s.pairs → t ≡ s
   same_drain s t map pairs = λ i. record {
     map = map i;
     pairs = pairs i;
@@ -33,6 +33,6 @@ module _ {K V S L : Type 0} {e : eq.Ghosts K} {h : hash.Ghosts K} {b : hashers.G
   pub runs : YieldsInOrder (DrainSteps {K = K} {V = V} {S = S} {L = L} {e = e} {h = h} {b = b} {l = l} {p = p}) rest
   runs r t = as_is r (rest r.from) (from_front DrainSteps (λ y. y) rest (λ s t h. ap length h.0) (λ s x t h. h.0) r t)
 
-  pub keeps_along : (s : Drain K V S L (StoreState K V) e h b l p) → KeepsAlong s
+  pub keeps_along : (s : Drain K V S L (StoreState K V) H e h b l p) → KeepsAlong s
   keeps_along s [] t y = subst (Keeps s) y (record { map = refl; form = refl; capacity = refl })
   keeps_along s (x ∷ xs) t y = grind (arith, common_steps, keeps_along y.0 xs t y.2)

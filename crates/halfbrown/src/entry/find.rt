@@ -1,11 +1,11 @@
 //! Making the entry of a key, or of the pair at an index.
-ghost use Rattle.std.specs.Prelude.{◌≡◌, ◌<◌, ◌↔◌, IfSome, IsSome, is_ok, length, slice_get};
+//!
+//! A clause `unchanged` says that the map stays as it is where no entry is made.
+ghost use Rattle.std.specs.Prelude.{◌<◌, ◌↔◌, IfSome, IsSome, is_ok, length};
 ghost use Rattle.std.specs.Borrow.{sem};
 ghost use Rattle.halfbrown.specs.Costs.{IsInsertCost};
-ghost use Rattle.halfbrown.specs.Entry.{MakesEntry, Occupied, entry_pair, map_of, map_ref, with_value};
+ghost use Rattle.halfbrown.specs.Entry.{IsEntryAt, MakesEntry};
 ghost use Rattle.halfbrown.specs.EntryLending.{RestsIfNoEntry, RestsIfRefused};
-ghost use Rattle.halfbrown.specs.Pairs.{set_value};
-ghost use Rattle.halfbrown.specs.State.{with_pairs};
 
 use super::{Entry, OccupiedEntry, VacantEntry};
 use crate::{KeyHasher, Limit, LimitedHashMap, RefusedKey};
@@ -29,7 +29,7 @@ impl<K: Eq + Hash, V, S: KeyHasher<K>, L: Limit> LimitedHashMap<K, V, S, L> {
     pub fn entry(&mut self, key: K) -> Result<Entry<'_, K, V, S, L>, RefusedKey<K>>
     where
         K: Drop,
-        ensures* unchanged { sem 𝓛 (RestsIfRefused K.row V.row S.row L.row self.entry result) }
+        ensures* unchanged { sem 𝓛 (RestsIfRefused K.row V.row S.row L.row S.Hasher.row self.entry result) }
         ensures makes { MakesEntry L.LIMIT K.eq self.entry key result }
     {
         uncounted!(self.entry_counted(key))
@@ -45,7 +45,7 @@ impl<K: Eq + Hash, V, S: KeyHasher<K>, L: Limit> LimitedHashMap<K, V, S, L> {
     ) -> Result<Entry<'_, K, V, S, L>, RefusedKey<K>>
     where
         K: Drop,
-        ensures* unchanged { sem 𝓛 (RestsIfRefused K.row V.row S.row L.row self.entry result) }
+        ensures* unchanged { sem 𝓛 (RestsIfRefused K.row V.row S.row L.row S.Hasher.row self.entry result) }
         ensures makes { MakesEntry L.LIMIT K.eq self.entry key result }
         ensures cost { IsInsertCost L.LIMIT K.eq S.hash self.old key (is_ok result)
             tally.old tally.new }
@@ -72,14 +72,8 @@ impl<K: Eq + Hash, V, S: KeyHasher<K>, L: Limit> LimitedHashMap<K, V, S, L> {
     #[inline(always)]
     #[tactic(auto, unfolding(crate::specs::Entry::with_value))]
     pub fn get_index_entry(&mut self, index: usize) -> Option<OccupiedEntry<'_, K, V, S, L>>
-        ensures* unchanged { sem 𝓛 (RestsIfNoEntry K.row V.row S.row L.row self.entry result) }
-        ensures same_map { IfSome result
-            (λ o. (map_ref (Occupied o)).ghost_name ≡ self.entry.ghost_name) }
-        ensures map { IfSome result (λ o. map_of (Occupied o) ≡ self.old) }
-        ensures pair { IfSome result
-            (λ o. entry_pair (Occupied o) ≡ slice_get self.old.pairs index) }
-        ensures writes { IfSome result (λ o. (value : V) → with_value (Occupied o) value
-            ≡ with_pairs self.old (set_value self.old.pairs index value)) }
+        ensures* unchanged { sem 𝓛 (RestsIfNoEntry K.row V.row S.row L.row S.Hasher.row self.entry result) }
+        ensures entry { IfSome result (IsEntryAt self.entry index) }
         ensures held { IsSome result ↔ (index < length self.old.pairs) }
     {
         if index < self.len() {

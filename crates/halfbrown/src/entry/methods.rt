@@ -1,9 +1,11 @@
 //! The calls of an entry.
-ghost use Rattle.std.specs.Prelude.{◌≡◌, None, Some, IfSome, unwrap_or};
+//!
+//! A clause `writes_back` says what the map is once the borrow that the call returns has ended.
+ghost use Rattle.std.specs.Prelude.{◌≡◌, None, Some, unwrap_or};
 ghost use Rattle.std.specs.Borrow.{sem, MutBor};
 ghost use Rattle.std.specs.Map.Calls.{ModifiesValue};
 ghost use Rattle.std.specs.Option.{UnwrapsOrElse};
-ghost use Rattle.halfbrown.specs.Entry.{map_ref, map_of, entry_key, entry_value, with_value, pairs_without};
+ghost use Rattle.halfbrown.specs.Entry.{entry_key, entry_value, ModifiesEntry};
 ghost use Rattle.halfbrown.specs.EntryLending.{EntryLends};
 
 use super::Entry;
@@ -38,7 +40,7 @@ impl<'a, K: Eq + Hash, V, S: KeyHasher<K>, L: Limit> Entry<'a, K, V, S, L> {
     pub fn or_insert(self, default: V) -> &'a mut V
     where
         V: Drop,
-        ensures* writes_back { sem 𝓛 (EntryLends K.row V.row S.row L.row self.entry result) }
+        ensures* writes_back { sem 𝓛 (EntryLends K.row V.row S.row L.row S.Hasher.row self.entry result) }
         ensures value { result.now ≡ unwrap_or (entry_value self.entry) default }
     {
         match self {
@@ -55,7 +57,7 @@ impl<'a, K: Eq + Hash, V, S: KeyHasher<K>, L: Limit> Entry<'a, K, V, S, L> {
     #[inline(always)]
     pub fn or_insert_with<F: FnOnce() -> V>(self, default: F) -> &'a mut V
         requires { entry_value self ≡ None → F.pre default }
-        ensures* writes_back { sem 𝓛 (EntryLends K.row V.row S.row L.row self.entry result) }
+        ensures* writes_back { sem 𝓛 (EntryLends K.row V.row S.row L.row S.Hasher.row self.entry result) }
         ensures value { UnwrapsOrElse (entry_value self.entry) (F.post default) result.now }
     {
         match self {
@@ -73,7 +75,7 @@ impl<'a, K: Eq + Hash, V, S: KeyHasher<K>, L: Limit> Entry<'a, K, V, S, L> {
     pub fn or_default(self) -> &'a mut V
     where
         V: Default,
-        ensures* writes_back { sem 𝓛 (EntryLends K.row V.row S.row L.row self.entry result) }
+        ensures* writes_back { sem 𝓛 (EntryLends K.row V.row S.row L.row S.Hasher.row self.entry result) }
         ensures value { UnwrapsOrElse (entry_value self.entry) V.is_default result.now }
     {
         match self {
@@ -91,14 +93,7 @@ impl<'a, K: Eq + Hash, V, S: KeyHasher<K>, L: Limit> Entry<'a, K, V, S, L> {
     #[inline(always)]
     pub fn and_modify<F: FnOnce(&mut V)>(self, f: F) -> Entry<'a, K, V, S, L>
         requires { (lent : MutBor V) → entry_value self ≡ Some lent.now → F.pre f lent }
-        ensures modified { ModifiesValue F.FnOnce f (entry_value self.entry) (entry_value result) }
-        ensures same_map { (map_ref result).ghost_name ≡ (map_ref self.entry).ghost_name }
-        ensures key { entry_key result ≡ entry_key self.entry }
-        ensures writes { (value : V) → with_value result value ≡ with_value self.entry value }
-        ensures pairs_left { pairs_without result ≡ pairs_without self.entry }
-        ensures vacant { entry_value self.entry ≡ None → map_of result ≡ map_of self.entry }
-        ensures occupied { IfSome (entry_value result)
-            (λ value. map_of result ≡ with_value self.entry value) }
+        ensures { ModifiesEntry (ModifiesValue F.FnOnce f) self.entry result }
     {
         match self {
             Entry::Occupied(mut entry) => {

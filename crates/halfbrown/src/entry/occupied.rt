@@ -3,6 +3,8 @@
 //! ```
 //! let Entry::Occupied(mut entry) = ages.entry(1)? else { unreachable!() };
 //! ```
+//!
+//! A clause `writes_back` says what the entry or the map is once the borrow that the call returns has ended.
 ghost use Rattle.std.specs.Prelude.{◌≡◌, ◌<◌, true, Some, IfSome, length, slice_get};
 ghost use Rattle.std.specs.Borrow.{sem};
 ghost use Rattle.half_store.specs.PairLists.{swap_remove_at};
@@ -36,7 +38,7 @@ impl<'a, K: Eq + Hash, V, S: KeyHasher<K>, L: Limit> OccupiedEntry<'a, K, V, S, 
     /// ```
     #[inline(always)]
     pub fn key_mut(&mut self) -> &K
-        ensures* unchanged { sem 𝓛 (OccupiedRests K.row V.row S.row L.row self.entry) }
+        ensures* unchanged { sem 𝓛 (OccupiedRests K.row V.row S.row L.row S.Hasher.row self.entry) }
         ensures key { entry_key (Occupied self.old) ≡ Some result.now }
     {
         self.key()
@@ -90,7 +92,7 @@ impl<'a, K: Eq + Hash, V, S: KeyHasher<K>, L: Limit> OccupiedEntry<'a, K, V, S, 
     /// ```
     #[inline(always)]
     pub fn get_mut(&mut self) -> &mut V
-        ensures* writes_back { sem 𝓛 (OccupiedLends K.row V.row S.row L.row self.entry result) }
+        ensures* writes_back { sem 𝓛 (OccupiedLends K.row V.row S.row L.row S.Hasher.row self.entry result) }
         ensures value { entry_value (Occupied self.old) ≡ Some result.now }
         ensures written { (w : V)
             → IsWritten (Occupied self.old) w (Occupied (with_entry_value self.old w)) }
@@ -109,7 +111,7 @@ impl<'a, K: Eq + Hash, V, S: KeyHasher<K>, L: Limit> OccupiedEntry<'a, K, V, S, 
     #[tactic(auto, using(crate::proofs::lemmas::entry::Methods::occupied_writes))]
     pub fn into_mut(self) -> &'a mut V
         ensures* writes_back { sem 𝓛
-            (EntryLends K.row V.row S.row L.row (Occupied self.entry) result) }
+            (EntryLends K.row V.row S.row L.row S.Hasher.row (Occupied self.entry) result) }
         ensures value { entry_value (Occupied self.entry) ≡ Some result.now }
     {
         let map = self.map;
@@ -137,7 +139,7 @@ impl<'a, K: Eq + Hash, V, S: KeyHasher<K>, L: Limit> OccupiedEntry<'a, K, V, S, 
     /// ```
     #[inline(always)]
     pub fn get_key_value_mut(&mut self) -> (&K, &mut V)
-        ensures* writes_back { sem 𝓛 (OccupiedLends K.row V.row S.row L.row self.entry result.1) }
+        ensures* writes_back { sem 𝓛 (OccupiedLends K.row V.row S.row L.row S.Hasher.row self.entry result.1) }
         ensures pair { entry_pair (Occupied self.old) ≡ Some (result.0.now, result.1.now) }
         ensures written { (w : V)
             → IsWritten (Occupied self.old) w (Occupied (with_entry_value self.old w)) }

@@ -3,6 +3,8 @@
 //! ```
 //! let Entry::Vacant(entry) = ages.entry(3)? else { unreachable!() };
 //! ```
+//!
+//! A clause `writes_back` says what the map is once the borrow that the call returns has ended.
 ghost use Rattle.std.specs.Prelude.{◌≡◌, Some};
 ghost use Rattle.std.specs.Borrow.{sem};
 ghost use Rattle.halfbrown.specs.Entry.{Vacant, entry_key, map_of};
@@ -54,7 +56,7 @@ impl<'a, K: Eq + Hash, V, S: KeyHasher<K>, L: Limit> VacantEntry<'a, K, V, S, L>
     #[inline(always)]
     pub fn insert(self, value: V) -> &'a mut V
         ensures* writes_back { sem 𝓛
-            (EntryLends K.row V.row S.row L.row (Vacant self.entry) result) }
+            (EntryLends K.row V.row S.row L.row S.Hasher.row (Vacant self.entry) result) }
         ensures value { result.now ≡ value }
     {
         let VacantEntry { map, key, vacancy } = self;

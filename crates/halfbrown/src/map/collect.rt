@@ -1,9 +1,10 @@
 //! Maps made from items.
 ghost use Rattle.std.specs.Prelude.{◌≡◌, ◌⊎◌, ℕ, ⊤, true, List, IfOk, IfErr, OnOk, OnErr};
-ghost use Rattle.std.specs.Iterator.{IsFinite, Drains, DrainsIf, ExtendsWithItems};
-ghost use Rattle.std.specs.Iterator.SizeHint.{IsWithinCount};
-ghost use Rattle.halfbrown.specs.FromIter.{Gives, AreFirst, Extends, IsCollection, IsRefusedCollection, IsRefusedInsertion};
-ghost use Rattle.halfbrown.specs.Costs.{Cost, GrewBy};
+ghost use Rattle.std.specs.Iterator.{IsFinite, IsFiniteIterable, Drains, DrainsIf, ExtendsWithItems};
+ghost use Rattle.halfbrown.specs.FromIter.{Gives, AreFirst, Extends, ExtendsWith, IsRefusedExtension};
+ghost use Rattle.halfbrown.specs.FromIter.{IsCollection, IsCollectionOf, IsRefusedCollection, IsRefusedCollectionOf};
+ghost use Rattle.halfbrown.specs.FromIter.{insertions_cost, refused_cost, collection_cost, refused_collection_cost};
+ghost use Rattle.halfbrown.specs.Costs.{GrewBy};
 ghost use Rattle.halfbrown.specs.State.{IsState};
 
 use super::LimitedHashMap;
@@ -35,17 +36,11 @@ impl<K: Eq + Hash + Drop, V: Drop, S: KeyHasher<K> + Default + Drop, L: Limit> L
         alloc: Global,
         items: I,
     ) -> Result<Self, Refusal>
-        requires { (it : I.IntoIter) → I.into_iter_gives items it
-            → I.IntoIter.can_next it × IsFinite (I.IntoIter.remaining it) }
-        // The iterator gave all its items, and its size hint was this number.
-        ensures collected { IfOk result (λ m. (it : I.IntoIter) × (gave : List (K × V)) × (hint : ℕ)
-            × (cost : Cost) × I.into_iter_gives items it × Drains I.IntoIter.next_gives it gave
-            × IsWithinCount hint (I.IntoIter.remaining it)
-            × IsCollection L.LIMIT K.eq S.hash S.is_default hint gave m cost) }
-        ensures refused { IfErr result (λ why. (it : I.IntoIter) × (hint : ℕ) × (cost : Cost)
-            × I.into_iter_gives items it × IsWithinCount hint (I.IntoIter.remaining it)
-            × IsRefusedCollection L.LIMIT K.eq S.hash S.is_default hint
-            (Gives I.IntoIter.next_gives it) why cost) }
+        requires { IsFiniteIterable I.into_iter_gives I.IntoIter.can_next I.IntoIter.remaining items }
+        ensures collected { IfOk result (IsCollectionOf I.into_iter_gives I.IntoIter.next_gives
+            L.LIMIT K.eq I.IntoIter.remaining S.is_default items) }
+        ensures refused { IfErr result (IsRefusedCollectionOf I.into_iter_gives I.IntoIter.next_gives
+            L.LIMIT K.eq I.IntoIter.remaining S.is_default items) }
         ensures state { IfOk result (IsState K.eq L.LIMIT) }
     {
         uncounted!(LimitedHashMap::from_iter_counted(alloc, items))
@@ -57,17 +52,13 @@ impl<K: Eq + Hash + Drop, V: Drop, S: KeyHasher<K> + Default + Drop, L: Limit> L
         items: I,
         tally: &mut Tally,
     ) -> Result<Self, Refusal>
-        requires { (it : I.IntoIter) → I.into_iter_gives items it
-            → I.IntoIter.can_next it × IsFinite (I.IntoIter.remaining it) }
-        ensures collected { IfOk result (λ m. (it : I.IntoIter) × (gave : List (K × V)) × (hint : ℕ)
-            × (cost : Cost) × I.into_iter_gives items it × Drains I.IntoIter.next_gives it gave
-            × IsWithinCount hint (I.IntoIter.remaining it)
-            × IsCollection L.LIMIT K.eq S.hash S.is_default hint gave m cost
-            × GrewBy cost tally.old tally.new) }
-        ensures refused { IfErr result (λ why. (it : I.IntoIter) × (hint : ℕ) × (cost : Cost)
-            × I.into_iter_gives items it × IsWithinCount hint (I.IntoIter.remaining it)
-            × IsRefusedCollection L.LIMIT K.eq S.hash S.is_default hint
-            (Gives I.IntoIter.next_gives it) why cost × GrewBy cost tally.old tally.new) }
+        requires { IsFiniteIterable I.into_iter_gives I.IntoIter.can_next I.IntoIter.remaining items }
+        ensures collected { IfOk result (λ m. (made : IsCollectionOf I.into_iter_gives
+            I.IntoIter.next_gives L.LIMIT K.eq I.IntoIter.remaining S.is_default items m)
+            × GrewBy (collection_cost L.LIMIT K.eq S.hash made.collection) tally.old tally.new) }
+        ensures refused { IfErr result (λ why. (made : IsRefusedCollectionOf I.into_iter_gives
+            I.IntoIter.next_gives L.LIMIT K.eq I.IntoIter.remaining S.is_default items why)
+            × GrewBy (refused_collection_cost L.LIMIT K.eq S.hash made.refused) tally.old tally.new) }
         // A vector has hashed nothing.
         ensures nothing_hashed { IfOk result
             (λ m. m.is_vec ≡ true → tally.new.asked ≡ tally.old.asked) }
@@ -85,10 +76,9 @@ impl<K: Eq + Hash + Drop, V: Drop, S: KeyHasher<K> + Default + Drop, L: Limit> L
     /// assert_eq!(rt; ages.len(), 2);
     /// ```
     pub fn from_array<const N: usize>(alloc: Global, pairs: [(K, V); N]) -> Result<Self, Refusal>
-        ensures collected { IfOk result (λ m. (cost : Cost)
-            × IsCollection L.LIMIT K.eq S.hash S.is_default N pairs m cost) }
-        ensures refused { IfErr result (λ why. (why ≡ Refusal.Memory) ⊎ ((cost : Cost)
-            × IsRefusedCollection L.LIMIT K.eq S.hash S.is_default N (AreFirst pairs) why cost)) }
+        ensures collected { IfOk result (IsCollection L.LIMIT K.eq S.is_default N pairs) }
+        ensures refused { IfErr result (λ why. (why ≡ Refusal.Memory)
+            ⊎ IsRefusedCollection L.LIMIT K.eq S.is_default N (AreFirst pairs) why) }
         ensures state { IfOk result (IsState K.eq L.LIMIT) }
     {
         // A vector is gone over whatever the size of a pair is.
@@ -107,13 +97,12 @@ impl<K: Eq + Hash + Drop, V: Drop, S: KeyHasher<K> + Default + Drop, L: Limit> L
     ) -> Result<Self, Refusal>
         requires can { I.can_next items }
         requires ends { IsFinite (I.remaining items) }
-        ensures collected { IfOk result
-            (λ m. (gave : List (K × V)) × (cost : Cost) × Drains I.next_gives items gave
-            × IsCollection L.LIMIT K.eq S.hash S.is_default capacity gave m cost
-            × GrewBy cost tally.old tally.new) }
-        ensures refused { IfErr result (λ why. (cost : Cost)
-            × IsRefusedCollection L.LIMIT K.eq S.hash S.is_default capacity
-            (Gives I.next_gives items) why cost × GrewBy cost tally.old tally.new) }
+        ensures collected { IfOk result (λ m. (gave : List (K × V)) × Drains I.next_gives items gave
+            × (made : IsCollection L.LIMIT K.eq S.is_default capacity gave m)
+            × GrewBy (collection_cost L.LIMIT K.eq S.hash made) tally.old tally.new) }
+        ensures refused { IfErr result (λ why. (made : IsRefusedCollection L.LIMIT K.eq S.is_default
+            capacity (Gives I.next_gives items) why)
+            × GrewBy (refused_collection_cost L.LIMIT K.eq S.hash made) tally.old tally.new) }
         ensures nothing_hashed { IfOk result
             (λ m. m.is_vec ≡ true → tally.new.asked ≡ tally.old.asked) }
         ensures state { IfOk result (IsState K.eq L.LIMIT) }
@@ -136,15 +125,11 @@ impl<K: Eq + Hash + Drop, V: Drop, S: KeyHasher<K>, L: Limit> LimitedHashMap<K, 
     /// assert_eq!(rt; ages.get(&2), Some(&42));
     /// ```
     pub fn extend<I: IntoIterator<Item = (K, V)>>(&mut self, items: I) -> Result<(), Refusal>
-        requires { (it : I.IntoIter) → I.into_iter_gives items it
-            → I.IntoIter.can_next it × IsFinite (I.IntoIter.remaining it) }
-        ensures extended { OnOk result ((it : I.IntoIter) × (gave : List (K × V))
-            × (cost : Cost) × I.into_iter_gives items it × Drains I.IntoIter.next_gives it gave
-            × Extends L.LIMIT K.eq S.hash self.old gave self.new cost) }
-        ensures refused { IfErr result
-            (λ why. (it : I.IntoIter) × (cost : Cost) × I.into_iter_gives items it
-            × IsRefusedInsertion L.LIMIT K.eq S.hash (Gives I.IntoIter.next_gives it)
-            self.old why self.new cost) }
+        requires { IsFiniteIterable I.into_iter_gives I.IntoIter.can_next I.IntoIter.remaining items }
+        ensures extended { OnOk result (ExtendsWith I.into_iter_gives I.IntoIter.next_gives
+            L.LIMIT K.eq items self.old self.new) }
+        ensures refused { IfErr result (IsRefusedExtension I.into_iter_gives I.IntoIter.next_gives
+            L.LIMIT K.eq items self.old self.new) }
     {
         uncounted!(self.extend_counted(items))
     }
@@ -155,16 +140,13 @@ impl<K: Eq + Hash + Drop, V: Drop, S: KeyHasher<K>, L: Limit> LimitedHashMap<K, 
         items: I,
         tally: &mut Tally,
     ) -> Result<(), Refusal>
-        requires { (it : I.IntoIter) → I.into_iter_gives items it
-            → I.IntoIter.can_next it × IsFinite (I.IntoIter.remaining it) }
-        ensures extended { OnOk result ((it : I.IntoIter) × (gave : List (K × V))
-            × (cost : Cost) × I.into_iter_gives items it × Drains I.IntoIter.next_gives it gave
-            × Extends L.LIMIT K.eq S.hash self.old gave self.new cost
-            × GrewBy cost tally.old tally.new) }
-        ensures refused { IfErr result (λ why. (it : I.IntoIter)
-            × (cost : Cost) × I.into_iter_gives items it
-            × IsRefusedInsertion L.LIMIT K.eq S.hash (Gives I.IntoIter.next_gives it)
-            self.old why self.new cost × GrewBy cost tally.old tally.new) }
+        requires { IsFiniteIterable I.into_iter_gives I.IntoIter.can_next I.IntoIter.remaining items }
+        ensures extended { OnOk result ((made : ExtendsWith I.into_iter_gives I.IntoIter.next_gives
+            L.LIMIT K.eq items self.old self.new) × GrewBy (insertions_cost L.LIMIT K.eq S.hash
+            self.old made.gave self.new made.extends.inserted) tally.old tally.new) }
+        ensures refused { IfErr result (λ why. (made : IsRefusedExtension I.into_iter_gives
+            I.IntoIter.next_gives L.LIMIT K.eq items self.old self.new why)
+            × GrewBy (refused_cost L.LIMIT K.eq S.hash made.insertion) tally.old tally.new) }
     {
         for (key, value) in items {
             self.insert_counted(key, value, tally)?;
@@ -178,23 +160,19 @@ impl<K: Eq + Hash + Drop, V: Drop, S: KeyHasher<K> + Default + Drop, L: Limit> F
     for LimitedHashMap<K, V, S, L> {
     type Alloc = Global;
 
-    ghost from_iter_gives = { λ items m. (hint : ℕ) × (cost : Cost)
-        × IsCollection L.LIMIT K.eq S.hash S.is_default hint items m cost };
+    ghost from_iter_gives = { λ items m. (hint : ℕ)
+        × IsCollection L.LIMIT K.eq S.is_default hint items m };
 
     fn from_iter<I: IntoIterator<Item = (K, V)>>(
         alloc: Global,
         items: I,
     ) -> Result<Self, AllocError>
-        requires { (it : I.IntoIter) → I.into_iter_gives items it
-            → I.IntoIter.can_next it × IsFinite (I.IntoIter.remaining it) }
+        requires { IsFiniteIterable I.into_iter_gives I.IntoIter.can_next I.IntoIter.remaining items }
         ensures ran { IfOk result (λ m. (it : I.IntoIter) × (gave : List (K × V))
             × I.into_iter_gives items it × DrainsIf I.IntoIter.next_gives ⊤ it gave
-            × ((hint : ℕ) × (cost : Cost)
-            × IsCollection L.LIMIT K.eq S.hash S.is_default hint gave m cost)) }
-        ensures refused { OnErr result ((it : I.IntoIter) × (why : Refusal) × (hint : ℕ)
-            × (cost : Cost) × I.into_iter_gives items it
-            × IsRefusedCollection L.LIMIT K.eq S.hash S.is_default hint
-            (Gives I.IntoIter.next_gives it) why cost) }
+            × ((hint : ℕ) × IsCollection L.LIMIT K.eq S.is_default hint gave m)) }
+        ensures refused { OnErr result ((why : Refusal) × IsRefusedCollectionOf I.into_iter_gives
+            I.IntoIter.next_gives L.LIMIT K.eq I.IntoIter.remaining S.is_default items why) }
     {
         match LimitedHashMap::from_iter(alloc, items) {
             Ok(map) => Ok(map),
@@ -206,19 +184,14 @@ impl<K: Eq + Hash + Drop, V: Drop, S: KeyHasher<K> + Default + Drop, L: Limit> F
 // Beside the inherent call, for code over any collection. On error the items before the refused one stay.
 impl<K: Eq + Hash + Drop, V: Drop, S: KeyHasher<K>, L: Limit> Extend<(K, V)>
     for LimitedHashMap<K, V, S, L> {
-    ghost extend_gives = { λ old items new. (cost : Cost)
-        × Extends L.LIMIT K.eq S.hash old items new cost };
+    ghost extend_gives = { Extends L.LIMIT K.eq };
 
     fn extend<I: IntoIterator<Item = (K, V)>>(&mut self, items: I) -> Result<(), AllocError>
-        requires { (it : I.IntoIter) → I.into_iter_gives items it
-            → I.IntoIter.can_next it × IsFinite (I.IntoIter.remaining it) }
+        requires { IsFiniteIterable I.into_iter_gives I.IntoIter.can_next I.IntoIter.remaining items }
         ensures ran { ExtendsWithItems I.into_iter_gives I.IntoIter.next_gives
-            (λ old gave new. (cost : Cost) × Extends L.LIMIT K.eq S.hash old gave new cost)
-            items self.old self.new result }
-        ensures refused { OnErr result ((it : I.IntoIter) × (why : Refusal) × (cost : Cost)
-            × I.into_iter_gives items it
-            × IsRefusedInsertion L.LIMIT K.eq S.hash (Gives I.IntoIter.next_gives it)
-            self.old why self.new cost) }
+            (Extends L.LIMIT K.eq) items self.old self.new result }
+        ensures refused { OnErr result ((why : Refusal) × IsRefusedExtension I.into_iter_gives
+            I.IntoIter.next_gives L.LIMIT K.eq items self.old self.new why) }
     {
         match LimitedHashMap::extend(self, items) {
             Ok(()) => Ok(()),

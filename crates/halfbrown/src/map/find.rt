@@ -4,6 +4,7 @@ ghost use Rattle.std.specs.Borrow.{Bor};
 ghost use Rattle.std.specs.Fn.{FnReturnsAt};
 ghost use Rattle.std.specs.Map.{keys_of};
 ghost use Rattle.std.specs.Result.{result_ok};
+ghost use Rattle.half_store.specs.Search.{CallableOnKeys};
 ghost use Rattle.half_store.specs.Work.{first_match_cost};
 ghost use Rattle.half_store.specs.declared.vecmap.search.Scan.TheVariants.{ByKey};
 ghost use Rattle.halfbrown.specs.Costs.{IsSearchCost, IsLookupCost, IsHashedLookupCost};
@@ -61,8 +62,7 @@ impl<K: Eq + Hash, V, S: KeyHasher<K>, L: Limit> LimitedHashMap<K, V, S, L> {
         scan: Scan,
         tally: &mut Tally,
     ) -> Result<usize, Vacancy>
-        requires { (key : Bor K) (index : ℕ)
-            → slice_get (keys_of self.now.pairs) index ≡ Some key.now → F.pre matches.now key }
+        requires { CallableOnKeys (F.pre matches.now) (keys_of self.now.pairs) }
         ensures found { MatchSearch (FnReturnsAt F.Fn matches.now) S.hash hash self.now result }
         ensures cost { IsSearchCost S.hash hash self.now (result_ok result) 0 tally.old tally.new }
         ensures in_order { scan ≡ ByKey → self.now.is_vec ≡ true → tally.new.compared

@@ -1,4 +1,6 @@
 //! Look-ups by key.
+//!
+//! A clause `writes_back` says what the map is once the borrow that the call returns has ended.
 ghost use Rattle.std.specs.Prelude.{◌≡◌, IsTrue, Some, OnSome, ◌<◌, length, slice_get};
 ghost use Rattle.std.specs.Borrow.{sem};
 ghost use Rattle.std.specs.Map.{values_of, lookup, lookup_entry};
@@ -83,7 +85,7 @@ impl<K: Eq + Hash, V, S: KeyHasher<K>, L: Limit> LimitedHashMap<K, V, S, L> {
     /// ```
     #[inline(always)]
     pub fn get_mut<Q: Equivalent<K>>(&mut self, key: Q) -> Option<&mut V>
-        ensures* writes_back { sem 𝓛 (LendsValueBy K.row V.row S.row L.row K.Hash S.KeyHasher
+        ensures* writes_back { sem 𝓛 (LendsValueBy K.row V.row S.row L.row S.Hasher.row K.Hash S.KeyHasher
             L.Limit self.entry (Q.equivalent key) result) }
         ensures value { option_copied_mut result ≡ lookup (Q.equivalent key) self.old.pairs }
         ensures written { OnSome result ((written : V) → HasSetBy K.eq (Q.equivalent key)
@@ -95,7 +97,7 @@ impl<K: Eq + Hash, V, S: KeyHasher<K>, L: Limit> LimitedHashMap<K, V, S, L> {
     /// `get_mut`, with its work counted: that of one search.
     #[inline(always)]
     pub fn get_mut_counted<Q: Equivalent<K>>(&mut self, key: Q, tally: &mut Tally) -> Option<&mut V>
-        ensures* writes_back { sem 𝓛 (LendsValueBy K.row V.row S.row L.row K.Hash S.KeyHasher
+        ensures* writes_back { sem 𝓛 (LendsValueBy K.row V.row S.row L.row S.Hasher.row K.Hash S.KeyHasher
             L.Limit self.entry (Q.equivalent key) result) }
         ensures value { option_copied_mut result ≡ lookup (Q.equivalent key) self.old.pairs }
         ensures written { OnSome result ((written : V) → HasSetBy K.eq (Q.equivalent key)
@@ -152,7 +154,7 @@ impl<K: Eq + Hash, V, S: KeyHasher<K>, L: Limit> LimitedHashMap<K, V, S, L> {
     #[inline(always)]
     pub(crate) fn value_at_mut(&mut self, index: usize) -> &mut V
         requires { index < length self.old.pairs }
-        ensures* writes_back { sem 𝓛 (LendsValueAt K.row V.row S.row L.row K.Hash S.KeyHasher
+        ensures* writes_back { sem 𝓛 (LendsValueAt K.row V.row S.row L.row S.Hasher.row K.Hash S.KeyHasher
             L.Limit self.entry index result) }
         ensures value { slice_get (values_of self.old.pairs) index ≡ Some result.now }
     {

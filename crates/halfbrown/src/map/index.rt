@@ -1,4 +1,6 @@
 //! Pairs by their index in the order of the pairs: read, written, found by a key, and removed.
+//!
+//! A clause `writes_back` says what the map is once the borrow that the call returns has ended.
 ghost use Rattle.std.specs.Prelude.{◌≡◌, ◌-◌, ◌<◌, ◌↔◌, ◌++◌, IsSome, length, option_to_list, slice_get};
 ghost use Rattle.std.specs.Borrow.{sem};
 ghost use Rattle.std.specs.Map.{keys_of, values_of};
@@ -48,7 +50,7 @@ impl<K: Eq + Hash, V, S: KeyHasher<K>, L: Limit> LimitedHashMap<K, V, S, L> {
     /// ```
     #[inline(always)]
     pub fn get_index_mut(&mut self, index: usize) -> Option<&mut V>
-        ensures* writes_back { sem 𝓛 (LendsValueIfAt K.row V.row S.row L.row K.Hash S.KeyHasher
+        ensures* writes_back { sem 𝓛 (LendsValueIfAt K.row V.row S.row L.row S.Hasher.row K.Hash S.KeyHasher
             L.Limit self.entry index result) }
         ensures value { option_copied_mut result ≡ slice_get (values_of self.old.pairs) index }
         ensures held { IsSome result ↔ (index < length self.old.pairs) }

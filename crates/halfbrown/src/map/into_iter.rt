@@ -53,7 +53,7 @@ impl<'a, K: Eq + Hash, V, S: KeyHasher<K>, L: Limit> IntoIterator
     #[inline(always)]
     fn into_iter(self) -> Iter<'a, K, V>
         ensures* rests { sem 𝓛
-            (Rests K.row V.row S.row L.row K.Hash S.KeyHasher L.Limit self.entry) }
+            (Rests K.row V.row S.row L.row S.Hasher.row K.Hash S.KeyHasher L.Limit self.entry) }
         ensures into_iter_gives { (pairs_left result ≡ self.old.pairs)
             × (length self.old.pairs < 2 ^ 63) × ShowsPairsInOrder K V × ShowsPairValuesInOrder K V
             × IsState K.eq L.LIMIT self.old }

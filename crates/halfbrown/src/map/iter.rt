@@ -1,12 +1,13 @@
 //! Iteration over the pairs, the keys and the values, from first to last.
-ghost use Rattle.std.specs.Prelude.{◌≡◌, ◌^◌, ◌<◌, List, length};
+//!
+//! A clause `writes_back` says what the map is once the borrow that the call returns has ended.
+ghost use Rattle.std.specs.Prelude.{◌≡◌, ◌^◌, ◌<◌, length};
 ghost use Rattle.std.specs.Borrow.{sem};
 ghost use Rattle.std.specs.Iterator.Runs.{YieldsMutRefsInOrder};
 ghost use Rattle.std.specs.Map.{keys_of, values_of};
 ghost use Rattle.std.specs.Map.Iter.{LendsValuesInOrder};
-ghost use Rattle.half_store.specs.PairLists.{set_values};
-ghost use Rattle.halfbrown.specs.State.{IsState, with_pairs};
-ghost use Rattle.halfbrown.specs.Updates.{HasValues};
+ghost use Rattle.halfbrown.specs.State.{IsState};
+ghost use Rattle.halfbrown.specs.Updates.{KeepsKeys};
 
 use super::LimitedHashMap;
 use crate::{Iter, IterMut, KeyHasher, Keys, Limit, Values, ValuesMut};
@@ -80,15 +81,11 @@ impl<K: Eq + Hash, V, S: KeyHasher<K>, L: Limit> LimitedHashMap<K, V, S, L> {
     /// ```
     #[inline(always)]
     pub fn iter_mut(&mut self) -> IterMut<'_, K, V>
-        ensures* writes_back { sem 𝓛 (LendsValues K.row V.row S.row L.row K.Hash S.KeyHasher
+        ensures* writes_back { sem 𝓛 (LendsValues K.row V.row S.row L.row S.Hasher.row K.Hash S.KeyHasher
             L.Limit self.entry (iter_mut_name result)) }
         ensures left { iter_mut_left result ≡ self.old.pairs }
-        ensures small { length self.old.pairs < 2 ^ 63 }
         ensures values_run { LendsValuesInOrder (iter_mut_left {K = K} {V = V}) }
-        ensures written { (vs : List V)
-            → HasValues self.old.pairs vs (set_values self.old.pairs vs) }
-        ensures state { (vs : List V)
-            → IsState K.eq L.LIMIT (with_pairs self.old (set_values self.old.pairs vs)) }
+        ensures keeps { KeepsKeys L.LIMIT K.eq self.old }
     {
         let (keys, values) = self.store.columns_mut();
         IterMut::new(keys, values)
@@ -104,15 +101,11 @@ impl<K: Eq + Hash, V, S: KeyHasher<K>, L: Limit> LimitedHashMap<K, V, S, L> {
     /// ```
     #[inline(always)]
     pub fn values_mut(&mut self) -> ValuesMut<'_, K, V>
-        ensures* writes_back { sem 𝓛 (LendsValues K.row V.row S.row L.row K.Hash S.KeyHasher
+        ensures* writes_back { sem 𝓛 (LendsValues K.row V.row S.row L.row S.Hasher.row K.Hash S.KeyHasher
             L.Limit self.entry (values_mut_name result)) }
         ensures left { values_mut_left result ≡ values_of self.old.pairs }
-        ensures small { length self.old.pairs < 2 ^ 63 }
         ensures runs { YieldsMutRefsInOrder (ValuesMutSteps {K = K} {V = V}) values_mut_left }
-        ensures written { (vs : List V)
-            → HasValues self.old.pairs vs (set_values self.old.pairs vs) }
-        ensures state { (vs : List V)
-            → IsState K.eq L.LIMIT (with_pairs self.old (set_values self.old.pairs vs)) }
+        ensures keeps { KeepsKeys L.LIMIT K.eq self.old }
     {
         let (_, values) = self.store.columns_mut();
         ValuesMut::new(values)
@@ -127,14 +120,10 @@ impl<K: Eq + Hash, V, S: KeyHasher<K>, L: Limit> LimitedHashMap<K, V, S, L> {
     /// ```
     #[inline(always)]
     pub fn values_slice_mut(&mut self) -> &mut [V]
-        ensures* writes_back { sem 𝓛 (LendsValues K.row V.row S.row L.row K.Hash S.KeyHasher
+        ensures* writes_back { sem 𝓛 (LendsValues K.row V.row S.row L.row S.Hasher.row K.Hash S.KeyHasher
             L.Limit self.entry result.ghost_name) }
         ensures values { result.now ≡ values_of self.old.pairs }
-        ensures small { length self.old.pairs < 2 ^ 63 }
-        ensures written { (vs : List V)
-            → HasValues self.old.pairs vs (set_values self.old.pairs vs) }
-        ensures state { (vs : List V)
-            → IsState K.eq L.LIMIT (with_pairs self.old (set_values self.old.pairs vs)) }
+        ensures keeps { KeepsKeys L.LIMIT K.eq self.old }
     {
         let (_, values) = self.store.columns_mut();
         values

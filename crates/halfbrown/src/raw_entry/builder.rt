@@ -5,6 +5,7 @@ ghost use Rattle.std.specs.Fn.{FnReturnsAt};
 ghost use Rattle.std.specs.Map.{keys_of};
 ghost use Rattle.std.specs.Map.Iter.{deref_pair};
 ghost use Rattle.std.specs.Option.{option_map};
+ghost use Rattle.half_store.specs.Search.{CallableOnKeys};
 ghost use Rattle.halfbrown.specs.Costs.{IsLookupCost, IsHashedLookupCost};
 ghost use Rattle.halfbrown.specs.Match.{ReadsMatch, IsMatchCost};
 ghost use Rattle.halfbrown.specs.RawEntryBuilder.{map_in};
@@ -93,8 +94,7 @@ impl<'a, K: Eq + Hash, V, S: KeyHasher<K>, L: Limit> RawEntryBuilder<'a, K, V, S
     /// ```
     #[inline(always)]
     pub fn from_hash<F: Fn(&K) -> bool>(self, hash: u64, is_match: F) -> Option<(&'a K, &'a V)>
-        requires { (key : Bor K) (index : ℕ)
-            → slice_get (keys_of (map_in self).pairs) index ≡ Some key.now → F.pre is_match key }
+        requires { CallableOnKeys (F.pre is_match) (keys_of (map_in self).pairs) }
         ensures { ReadsMatch (FnReturnsAt F.Fn is_match) S.hash hash (map_in self.entry)
             (option_map deref_pair result) }
     {
@@ -109,8 +109,7 @@ impl<'a, K: Eq + Hash, V, S: KeyHasher<K>, L: Limit> RawEntryBuilder<'a, K, V, S
         is_match: F,
         tally: &mut Tally,
     ) -> Option<(&'a K, &'a V)>
-        requires { (key : Bor K) (index : ℕ)
-            → slice_get (keys_of (map_in self).pairs) index ≡ Some key.now → F.pre is_match key }
+        requires { CallableOnKeys (F.pre is_match) (keys_of (map_in self).pairs) }
         ensures found { ReadsMatch (FnReturnsAt F.Fn is_match) S.hash hash (map_in self.entry)
             (option_map deref_pair result) }
         ensures cost { IsMatchCost S.hash hash (map_in self.entry) (option_map deref_pair result)

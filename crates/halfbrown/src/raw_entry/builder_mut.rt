@@ -3,6 +3,7 @@ ghost use Rattle.std.specs.Prelude.{◌≡◌, ℕ, Some, slice_get};
 ghost use Rattle.std.specs.Borrow.{Bor};
 ghost use Rattle.std.specs.Fn.{FnReturnsAt};
 ghost use Rattle.std.specs.Map.{keys_of};
+ghost use Rattle.half_store.specs.Search.{CallableOnKeys};
 ghost use Rattle.halfbrown.specs.Costs.{IsLookupCost, IsHashedLookupCost};
 ghost use Rattle.halfbrown.specs.Match.{IsMatchCost};
 ghost use Rattle.halfbrown.specs.RawEntry.{found_pair};
@@ -106,8 +107,7 @@ impl<'a, K: Eq + Hash, V, S: KeyHasher<K>, L: Limit> RawEntryBuilderMut<'a, K, V
     /// ```
     #[inline]
     pub fn from_hash<F: Fn(&K) -> bool>(self, hash: u64, is_match: F) -> RawEntryMut<'a, K, V, S, L>
-        requires { (key : Bor K) (index : ℕ)
-            → slice_get (keys_of (ready_map self).pairs) index ≡ Some key.now → F.pre is_match key }
+        requires { CallableOnKeys (F.pre is_match) (keys_of (ready_map self).pairs) }
         ensures { EntersByMatch L.LIMIT K.eq (FnReturnsAt F.Fn is_match)
             S.hash hash self.entry result }
     {
@@ -122,8 +122,7 @@ impl<'a, K: Eq + Hash, V, S: KeyHasher<K>, L: Limit> RawEntryBuilderMut<'a, K, V
         is_match: F,
         tally: &mut Tally,
     ) -> RawEntryMut<'a, K, V, S, L>
-        requires { (key : Bor K) (index : ℕ)
-            → slice_get (keys_of (ready_map self).pairs) index ≡ Some key.now → F.pre is_match key }
+        requires { CallableOnKeys (F.pre is_match) (keys_of (ready_map self).pairs) }
         ensures searches { EntersByMatch L.LIMIT K.eq (FnReturnsAt F.Fn is_match)
             S.hash hash self.entry result }
         ensures cost { IsMatchCost S.hash hash (ready_map self.entry) (found_pair result)

@@ -1,4 +1,6 @@
 //! Making what raw entries are made from.
+//!
+//! A clause `unchanged` says that the map stays as it is where memory is refused.
 ghost use Rattle.std.specs.Prelude.{◌≡◌, is_ok, if◌then◌else◌};
 ghost use Rattle.std.specs.Borrow.{sem};
 ghost use Rattle.half_store.specs.Work.{asked_more};
@@ -37,7 +39,7 @@ impl<K: Eq + Hash, V, S: KeyHasher<K>, L: Limit> LimitedHashMap<K, V, S, L> {
     /// ```
     #[inline]
     pub fn raw_entry_mut(&mut self) -> Result<RawEntryBuilderMut<'_, K, V, S, L>, Refusal>
-        ensures* unchanged { sem 𝓛 (RestsIfUnready K.row V.row S.row L.row self.entry result) }
+        ensures* unchanged { sem 𝓛 (RestsIfUnready K.row V.row S.row L.row S.Hasher.row self.entry result) }
         ensures makes { MakesReady L.LIMIT K.eq self.entry result }
     {
         uncounted!(self.raw_entry_mut_counted())
@@ -49,7 +51,7 @@ impl<K: Eq + Hash, V, S: KeyHasher<K>, L: Limit> LimitedHashMap<K, V, S, L> {
         &mut self,
         tally: &mut Tally,
     ) -> Result<RawEntryBuilderMut<'_, K, V, S, L>, Refusal>
-        ensures* unchanged { sem 𝓛 (RestsIfUnready K.row V.row S.row L.row self.entry result) }
+        ensures* unchanged { sem 𝓛 (RestsIfUnready K.row V.row S.row L.row S.Hasher.row self.entry result) }
         ensures makes { MakesReady L.LIMIT K.eq self.entry result }
         ensures cost { tally.new ≡ (if is_ok result
             then asked_more (switch_asked L.LIMIT self.old) tally.old else tally.old) }

@@ -29,7 +29,8 @@ module _ {K V S : Type 0} (limit : ℕ) (eq : K → K → Bool) where
 
   module _ (hash : S → K → ℕ) where
     pub split_law : SplitLaw V limit eq hash
-    split_law old first second replies new cost run =
+    split_law old first second replies new cost at_cost =
+        let run = at_cost.run in
         let parts = parts_of first second run.steps run.commands_are in
         let leads = lead_parts old new parts.0 parts.1 (subst (λ steps. Lead limit eq old steps new) parts.2 run.lead) in
         record {
@@ -38,10 +39,10 @@ module _ {K V S : Type 0} (limit : ℕ) (eq : K → K → Bool) where
           second_replies = replies_of parts.1;
           first_cost = cost_of limit eq hash parts.0;
           second_cost = cost_of limit eq hash parts.1;
-          first_runs = record { steps = parts.0; lead = leads.1; commands_are = parts.3; replies_are = refl; cost_is = refl };
-          second_runs = record { steps = parts.1; lead = leads.2; commands_are = parts.4; replies_are = refl; cost_is = refl };
+          first_runs = record { run = record { steps = parts.0; lead = leads.1; commands_are = parts.3; replies_are = refl }; cost_is = refl };
+          second_runs = record { run = record { steps = parts.1; lead = leads.2; commands_are = parts.4; replies_are = refl }; cost_is = refl };
           replies_are = run.replies_are ∙ ap replies_of parts.2 ∙ map-append (λ s. s.reply) parts.0 parts.1;
-          cost_is = run.cost_is ∙ ap (cost_of limit eq hash) parts.2 ∙ cost_of-append limit eq hash parts.0 parts.1;
+          cost_is = at_cost.cost_is ∙ ap (cost_of limit eq hash) parts.2 ∙ cost_of-append limit eq hash parts.0 parts.1;
         }
 
     pub join_law : JoinLaw V limit eq hash

@@ -13,10 +13,10 @@ returns c =
     let table = c.in_ok-map.ensures in
     let told = c.retain.ensures in
     let left : IsTableOf Rule.Plain (twins (11 ∷ [])) 3 c.retain.new.self = record {
-      form = told.form ∙ table.form;
+      form = told.after.form ∙ table.form;
       pairs = filter_same_pairs _ (λ pair. pair.0 == 11) _ (λ k v b w f call. search rules) _ _ told.kept
           ∙ ap (filter (λ pair. pair.0 == 11)) table.pairs;
-      capacity = told.capacity ∙ table.capacity;
-      builder = ap (λ b. b.rule) told.builder ∙ table.builder;
+      capacity = told.after.capacity ∙ table.capacity;
+      builder = ap (λ b. b.rule) told.after.builder ∙ table.builder;
     } in
     found_at_home _ _ _ 11 c.retain.new.self left _ _ c.get_counted.ensures.cost refl refl refl

@@ -72,10 +72,10 @@ module _ {K V S : Type 0} (limit : ℕ) (same : K → K → Bool) (laws : IsEqui
   has_removed_at : (ps : List (K × V)) → IsDistinct same (keys_of m.pairs) → take_out same m.pairs k ≡ ps → HasRemoved same old.pairs k ps
   has_removed_at ps distinct is = grind (arith, common_steps, has_removed, taken_is)
 
-module _ {K V S L : Type 0} {e : eq.Ghosts K} {h : hash.Ghosts K} {b : hashers.Ghosts S K} {l : limits.Ghosts L}
+module _ {K V S L H : Type 0} {e : eq.Ghosts K} {h : hash.Ghosts K} {b : hashers.Ghosts S K H} {l : limits.Ghosts L}
     (limit : ℕ) (same : K → K → Bool) (laws : IsEquivalence same) (old : State K V S) where
   -- of a held key
-  module _ (k : K) (o : OccupiedEntry K V S L e h b l) (prepared : Prepares limit old (insert_needs limit same old k) o.map.now)
+  module _ (k : K) (o : OccupiedEntry K V S L H e h b l) (prepared : Prepares limit old (insert_needs limit same old k) o.map.now)
       (at : IsIndexOf (same k) o.map.now.pairs o.index) where
     pub found_entry : IsEntryOf same old.pairs k (Occupied o)
     found_entry = grind (arith, common_steps, key_of-pair)
@@ -95,7 +95,7 @@ module _ {K V S L : Type 0} {e : eq.Ghosts K} {h : hash.Ghosts K} {b : hashers.G
     }
 
   -- of a key that is not held
-  module _ (v : VacantEntry K V S L e h b l) (prepared : Prepares limit old (insert_needs limit same old v.key) v.map.now)
+  module _ (v : VacantEntry K V S L H e h b l) (prepared : Prepares limit old (insert_needs limit same old v.key) v.map.now)
       (absent : IsAbsent (same v.key) v.map.now.pairs) where
     pub missing_entry : IsEntryOf same old.pairs v.key (Vacant v)
     missing_entry = grind (arith, common_steps)
@@ -112,8 +112,8 @@ module _ {K V S L : Type 0} {e : eq.Ghosts K} {h : hash.Ghosts K} {b : hashers.G
     pub missing_removes : IsDistinct same (keys_of v.map.now.pairs) → RemovesKey same old.pairs v.key (Vacant v)
     missing_removes distinct = grind (arith, common_steps)
 
-module _ {K V S L : Type 0} {e : eq.Ghosts K} {h : hash.Ghosts K} {b : hashers.Ghosts S K} {l : limits.Ghosts L}
-    (o : OccupiedEntry K V S L e h b l) where
+module _ {K V S L H : Type 0} {e : eq.Ghosts K} {h : hash.Ghosts K} {b : hashers.Ghosts S K H} {l : limits.Ghosts L}
+    (o : OccupiedEntry K V S L H e h b l) where
   -- the map with this value
   pub occupied_writes : (value : V) → with_pairs o.map.now (set_value o.map.now.pairs o.index value) ≡ with_value (Occupied o) value
   unfolding with_value
@@ -166,8 +166,8 @@ module _ {K V S L : Type 0} {e : eq.Ghosts K} {h : hash.Ghosts K} {b : hashers.G
       → HasNewKey o key (record { map = map; index = o.index; within = within })
   rekeyed_entry key map within same after = grind (arith, common_steps, key-set_key, slice_get, swap_remove_at-set_key, values_of-set_key)
 
-module _ {K V S L : Type 0} {e : eq.Ghosts K} {h : hash.Ghosts K} {b : hashers.Ghosts S K} {l : limits.Ghosts L}
-    (v : VacantEntry K V S L e h b l) where
+module _ {K V S L H : Type 0} {e : eq.Ghosts K} {h : hash.Ghosts K} {b : hashers.Ghosts S K H} {l : limits.Ghosts L}
+    (v : VacantEntry K V S L H e h b l) where
   -- the map with this pair more
   pub vacant_writes : (value : V) → pushed v.map.now v.key value v.vacancy ≡ with_value (Vacant v) value
   unfolding with_value

@@ -41,10 +41,10 @@ module _ {K V : Type 0} where
   pair-last [] p = refl
   pair-last (q ∷ ps) p = pair-last ps p
 
-module _ {K V S L : Type 0} {e : eq.Ghosts K} {h : hash.Ghosts K} {b : hashers.Ghosts S K} {l : limits.Ghosts L}
-    {returns : Bor K → V → Option V → Type 0} (o : OccupiedEntry K V S L e h b l) where
+module _ {K V S L H : Type 0} {e : eq.Ghosts K} {h : hash.Ghosts K} {b : hashers.Ghosts S K H} {l : limits.Ghosts L}
+    {returns : Bor K → V → Option V → Type 0} (o : OccupiedEntry K V S L H e h b l) where
   -- the pair is gone
-  pub loses_pair : (v : VacantEntry K V S L e h b l) → ReplacesValue returns o.map.now.pairs o.index v.map.now.pairs (Some v.key)
+  pub loses_pair : (v : VacantEntry K V S L H e h b l) → ReplacesValue returns o.map.now.pairs o.index v.map.now.pairs (Some v.key)
       → WithPairs o.map.now v.map.now.pairs v.map.now
       → ReplacesEntry returns (Occupied o) (Vacant v)
   unfolding with_value

@@ -7,7 +7,7 @@ use Rattle.std.specs.Cmp.{IsEquivalence}
 use Rattle.std.specs.Map.{keys_of}
 use Rattle.std.specs.Option.{option_or}
 use Rattle.halfbrown.specs.FromIter.{put_all, collected, last_value_of, InsertsAll, Extends, IsCollection, IsRefusedInsertion}
-use Rattle.halfbrown.specs.FromIter.{IsRefusedCollection}
+use Rattle.halfbrown.specs.FromIter.{IsRefusedCollection, insertions_cost, refused_cost}
 use Rattle.halfbrown.specs.Pairs.{value_of, put}
 use Rattle.halfbrown.proofs.CallerFacts.{holds_by-any}
 use Rattle.halfbrown.proofs.CallerLemmas.{keys_put, lookup_put}
@@ -37,7 +37,7 @@ one_of : {V : Type 0} (b : Bool) (v : V) (other : Option V) → option_or (cond 
 one_of b v other = grind (arith, common_steps)
 
 module _ {K V : Type 0} (eq : K → K → Bool) where
-  keys_put_all : (ps items : List (K × V)) → keys_of (put_all eq ps items) ≡ add_keys eq (keys_of ps) (keys_of items)
+  pub keys_put_all : (ps items : List (K × V)) → keys_of (put_all eq ps items) ≡ add_keys eq (keys_of ps) (keys_of items)
   keys_put_all ps [] = refl
   keys_put_all ps (p ∷ items) = grind (arith, common_steps, holds_by-any, keys_put, keys_put_all (put eq ps p.0 p.1) items)
 
@@ -47,13 +47,13 @@ module _ {K V : Type 0} (eq : K → K → Bool) where
       ∙ or_past (eq k p.0) p.1 (value_of eq ps k) (value_of eq qs k)
 
   module _ (laws : IsEquivalence eq) where
-    value_put_all : (ps items : List (K × V)) (k : K)
+    pub value_put_all : (ps items : List (K × V)) (k : K)
         → value_of eq (put_all eq ps items) k ≡ option_or (last_value_of eq items k) (value_of eq ps k)
     value_put_all ps [] k = refl
     value_put_all ps (p ∷ items) k = grind (arith, common_steps, lookup_put, one_of, or_assoc, reverse, reverse-append, value_append, value_put_all (put eq ps p.0 p.1) items k)
 
     -- each key has the value of the last of the items that has its equal
-    values_of_collected : (items : List (K × V)) (k : K) → value_of eq (collected eq items) k ≡ last_value_of eq items k
+    pub values_of_collected : (items : List (K × V)) (k : K) → value_of eq (collected eq items) k ≡ last_value_of eq items k
     values_of_collected items k = value_put_all [] items k ∙ or_none (last_value_of eq items k)
 
 -- Items that are inserted one after another.
@@ -78,125 +78,121 @@ pub yields_front : {I X : Type 0} (steps : I → Option X → I → Type 0) (s :
 yields_front steps s [] x u y = (s, refl)
 yields_front steps s (z ∷ xs) x u y = let front = yields_front steps y.0 xs x u y.2 in (front.0, (y.0, y.1, front.1))
 
-module _ {K V S : Type 0} (limit : ℕ) (eq : K → K → Bool) (hash : S → K → ℕ) where
-  -- one item more
-  pub inserts_more : (old middle new : State K V S) (items : List (K × V)) (k : K) (v : V) (cost : Cost)
-      → InsertsAll limit eq hash old items middle cost
-      → Puts limit eq middle k v (insert_needs limit eq middle k) new → IsState eq limit new
-      → InsertsAll limit eq hash old (items ++ (k, v) ∷ []) new (add_costs cost (insert_cost limit eq hash middle k true))
-  inserts_more old middle new [] k v cost so_far puts state =
-      let last = insert_cost limit eq hash old k true in (
-        new,
-        no_cost,
-        subst (λ m. Puts limit eq m k v (insert_needs limit eq m k) new) so_far.0 puts,
-        state,
-        (refl, refl),
-        (λ i. add_costs (so_far.1 i) (insert_cost limit eq hash (so_far.0 i) k true)) ∙ sym (none_more last) ∙ more_none last,
-      )
-  inserts_more old middle new (p ∷ items) k v cost so_far puts state =
-      let first = insert_cost limit eq hash old p.0 true in
-      let last = insert_cost limit eq hash middle k true in
-      let rest = so_far.1 in (
-        so_far.0,
-        add_costs rest last,
-        so_far.2,
-        so_far.3,
-        inserts_more so_far.0 middle new items k v rest so_far.4 puts state,
-        ap (λ c. add_costs c last) so_far.5 ∙ sym (costs_assoc first rest last),
-      )
-
-  -- what was inserted so far
-  pub record InsertsSoFar (old : State K V S) (items : List (K × V)) (now : State K V S) (before after : Work) : Type 0 where
-    pub cost : Cost
-    pub inserted : InsertsAll limit eq hash old items now cost
-    pub spent : GrewBy cost before after
-
-  pub item_more : (old now new : State K V S) (items : List (K × V)) (k : K) (v : V) (before middle after : Work)
-      → InsertsSoFar old items now before middle
-      → Puts limit eq now k v (insert_needs limit eq now k) new → IsState eq limit new
-      → GrewBy (insert_cost limit eq hash now k true) middle after
-      → InsertsSoFar old (items ++ (k, v) ∷ []) new before after
-  item_more old now new items k v before middle after so_far puts state grew = record {
-    cost = add_costs so_far.cost (insert_cost limit eq hash now k true);
-    inserted = inserts_more old now new items k v so_far.cost so_far.inserted puts state;
-    spent = spent_both so_far.cost (insert_cost limit eq hash now k true) before middle after so_far.spent grew;
-  }
-
-  -- one item that was refused
-  pub item_refused : (old now new : State K V S) (items : List (K × V)) (given : List (K × V) → Type 0) (k : K) (v : V) (why : Refusal)
-      (before middle after : Work)
-      → InsertsSoFar old items now before middle → given (items ++ (k, v) ∷ []) → new ≡ now → IsRefusal (insert_needs limit eq now k) why
-      → GrewBy (insert_cost limit eq hash now k false) middle after
-      → (cost : Cost) × IsRefusedInsertion limit eq hash given old why new cost × GrewBy cost before after
-  item_refused old now new items given k v why before middle after so_far was_given same refused grew =
-      let last = insert_cost limit eq hash now k false in (
-        add_costs so_far.cost last,
-        record {
-          before = items;
-          key = k;
-          value = v;
-          were_given = was_given;
-          spent = so_far.cost;
-          inserted = subst (λ m. InsertsAll limit eq hash old items m so_far.cost) (sym same) so_far.inserted;
-          refused = subst (λ m. IsRefusal (insert_needs limit eq m k) why) (sym same) refused;
-          cost_is = ap (λ m. add_costs so_far.cost (insert_cost limit eq hash m k false)) (sym same);
-        },
-        spent_both so_far.cost last before middle after so_far.spent grew,
-      )
-
+module _ {K V S : Type 0} (limit : ℕ) (eq : K → K → Bool) where
   -- ---- what follows of the insertions
 
-  pub inserts_pairs : (old new : State K V S) (items : List (K × V)) (cost : Cost) → InsertsAll limit eq hash old items new cost
+  pub inserts_pairs : (old new : State K V S) (items : List (K × V)) → InsertsAll limit eq old items new
       → new.pairs ≡ put_all eq old.pairs items
-  inserts_pairs old new [] cost inserts = ap (λ m. m.pairs) inserts.0
-  inserts_pairs old new (p ∷ items) cost inserts = inserts_pairs inserts.0 new items inserts.1 inserts.4
-      ∙ ap (λ ps. put_all eq ps items) inserts.2.pairs
+  inserts_pairs old new [] inserts = ap (λ m. m.pairs) inserts
+  inserts_pairs old new (p ∷ items) inserts = inserts_pairs inserts.0 new items inserts.3
+      ∙ ap (λ ps. put_all eq ps items) inserts.1.pairs
 
-  pub inserts_builder : (old new : State K V S) (items : List (K × V)) (cost : Cost) → InsertsAll limit eq hash old items new cost
-      → new.builder ≡ old.builder
-  inserts_builder old new [] cost inserts = ap (λ m. m.builder) inserts.0
-  inserts_builder old new (p ∷ items) cost inserts = inserts_builder inserts.0 new items inserts.1 inserts.4 ∙ inserts.2.builder
+  pub inserts_builder : (old new : State K V S) (items : List (K × V)) → InsertsAll limit eq old items new → new.builder ≡ old.builder
+  inserts_builder old new [] inserts = ap (λ m. m.builder) inserts
+  inserts_builder old new (p ∷ items) inserts = inserts_builder inserts.0 new items inserts.3 ∙ inserts.1.builder
 
-  pub inserts_state : (old new : State K V S) (items : List (K × V)) (cost : Cost) → InsertsAll limit eq hash old items new cost
+  pub inserts_state : (old new : State K V S) (items : List (K × V)) → InsertsAll limit eq old items new
       → IsState eq limit old → IsState eq limit new
-  inserts_state old new [] cost inserts state = subst (IsState eq limit) (sym inserts.0) state
-  inserts_state old new (p ∷ items) cost inserts state = inserts_state inserts.0 new items inserts.1 inserts.4 inserts.3
+  inserts_state old new [] inserts state = subst (IsState eq limit) (sym inserts) state
+  inserts_state old new (p ∷ items) inserts state = inserts_state inserts.0 new items inserts.3 inserts.2
 
-  -- insertions that leave a vector have hashed nothing
-  pub inserts_asked : (old new : State K V S) (items : List (K × V)) (cost : Cost) → InsertsAll limit eq hash old items new cost
-      → new.is_vec ≡ true → (old.is_vec ≡ true) × (cost.asked ≡ 0)
-  inserts_asked old new [] cost inserts form = (sym (ap (λ m. m.is_vec) inserts.0) ∙ form, ap (λ c. c.asked) inserts.1)
-  inserts_asked old new (p ∷ items) cost inserts form = grind (arith, common_steps, and_left, asked_nothing, not, inserts_asked inserts.0 new items inserts.1 inserts.4 form)
+  abbrev pub extends_of : IsEquivalence eq → (old new : State K V S) (items : List (K × V))
+      → InsertsAll limit eq old items new → Extends limit eq old items new
+  extends_of laws old new items inserts =
+      let pairs = inserts_pairs old new items inserts in
+      record {
+        pairs = pairs;
+        keys = ap keys_of pairs ∙ keys_put_all eq old.pairs items;
+        values = λ k. ap (λ ps. value_of eq ps k) pairs ∙ value_put_all eq laws old.pairs items k;
+        builder = inserts_builder old new items inserts;
+        inserted = inserts;
+      }
 
-  pub extends_of : IsEquivalence eq → (old new : State K V S) (items : List (K × V)) (cost : Cost)
-      → InsertsAll limit eq hash old items new cost → Extends limit eq hash old items new cost
-  extends_of laws old new items cost inserts = grind (arith, common_steps, inserts_builder, inserts_pairs, keys_put_all, value_put_all)
+  -- ---- what they cost
+
+  module _ (hash : S → K → ℕ) where
+    -- one item more
+    inserts_more : (old middle new : State K V S) (items : List (K × V)) (k : K) (v : V) (inserts : InsertsAll limit eq old items middle)
+        → Puts limit eq middle k v (insert_needs limit eq middle k) new → IsState eq limit new
+        → (more : InsertsAll limit eq old (items ++ (k, v) ∷ []) new) × (insertions_cost limit eq hash old (items ++ (k, v) ∷ []) new more
+        ≡ add_costs (insertions_cost limit eq hash old items middle inserts) (insert_cost limit eq hash middle k true))
+    inserts_more old middle new [] k v same puts state =
+        let last = insert_cost limit eq hash old k true in (
+          (new, subst (λ m. Puts limit eq m k v (insert_needs limit eq m k) new) same puts, state, refl),
+          sym (more_none last) ∙ none_more last ∙ ap (λ m. add_costs no_cost (insert_cost limit eq hash m k true)) (sym same),
+        )
+    inserts_more old middle new (p ∷ items) k v inserts puts state =
+        let first = insert_cost limit eq hash old p.0 true in
+        let rest = insertions_cost limit eq hash inserts.0 items middle inserts.3 in
+        let more = inserts_more inserts.0 middle new items k v inserts.3 puts state in (
+          (inserts.0, inserts.1, inserts.2, more.0),
+          ap (add_costs first) more.1 ∙ costs_assoc first rest (insert_cost limit eq hash middle k true),
+        )
+
+    -- what was inserted so far
+    pub record InsertsSoFar (old : State K V S) (items : List (K × V)) (now : State K V S) (before after : Work) : Type 0 where
+      pub inserted : InsertsAll limit eq old items now
+      pub spent : GrewBy (insertions_cost limit eq hash old items now inserted) before after
+
+    pub item_more : (old now new : State K V S) (items : List (K × V)) (k : K) (v : V) (before middle after : Work)
+        → InsertsSoFar old items now before middle
+        → Puts limit eq now k v (insert_needs limit eq now k) new → IsState eq limit new
+        → GrewBy (insert_cost limit eq hash now k true) middle after
+        → InsertsSoFar old (items ++ (k, v) ∷ []) new before after
+    item_more old now new items k v before middle after so_far puts state grew =
+        let more = inserts_more old now new items k v so_far.inserted puts state in
+        let last = insert_cost limit eq hash now k true in
+        let cost = insertions_cost limit eq hash old items now so_far.inserted in
+        record {
+          inserted = more.0;
+          spent = subst (λ cost. GrewBy cost before after) (sym more.1) (spent_both cost last before middle after so_far.spent grew);
+        }
+
+    -- one item that was refused
+    pub item_refused : (old now new : State K V S) (items : List (K × V)) (given : List (K × V) → Type 0) (k : K) (v : V) (why : Refusal)
+        (before middle after : Work)
+        → InsertsSoFar old items now before middle → given (items ++ (k, v) ∷ []) → new ≡ now → IsRefusal (insert_needs limit eq now k) why
+        → GrewBy (insert_cost limit eq hash now k false) middle after
+        → (refused : IsRefusedInsertion limit eq given old why new) × GrewBy (refused_cost limit eq hash refused) before after
+    item_refused old now new items given k v why before middle after so_far was_given same refused grew =
+        let cost = insertions_cost limit eq hash old items now so_far.inserted in
+        subst (λ m. (refused : IsRefusedInsertion limit eq given old why m) × GrewBy (refused_cost limit eq hash refused) before after)
+        (sym same) (
+          record { before = items; key = k; value = v; were_given = was_given; inserted = so_far.inserted; refused = refused },
+          spent_both cost (insert_cost limit eq hash now k false) before middle after so_far.spent grew,
+        )
+
+    -- insertions that leave a vector have hashed nothing
+    pub inserts_asked : (old new : State K V S) (items : List (K × V)) (inserts : InsertsAll limit eq old items new)
+        → new.is_vec ≡ true → (old.is_vec ≡ true) × ((insertions_cost limit eq hash old items new inserts).asked ≡ 0)
+    inserts_asked old new [] inserts form = (sym (ap (λ m. m.is_vec) inserts) ∙ form, refl)
+    inserts_asked old new (p ∷ items) inserts form = grind (arith, common_steps, and_left, asked_nothing, not, inserts_asked inserts.0 new items inserts.3 form)
 
   -- ---- collections
 
   module _ (laws : IsEquivalence eq) (is_default : S → Type 0) (needed : ℕ) where
-    pub collection_of : (made new : State K V S) (items : List (K × V)) (cost : Cost) → IsMade is_default (nat_le needed limit) needed made
-        → InsertsAll limit eq hash made items new cost
-        → IsCollection limit eq hash is_default needed items new cost
-    collection_of made new items cost is_made inserts =
-        let pairs = inserts_pairs made new items cost inserts ∙ ap (λ ps. put_all eq ps items) is_made.pairs in
+    abbrev pub collection_of : (made new : State K V S) (items : List (K × V)) → IsMade is_default (nat_le needed limit) needed made
+        → InsertsAll limit eq made items new
+        → IsCollection limit eq is_default needed items new
+    collection_of made new items is_made inserts =
+        let pairs = inserts_pairs made new items inserts ∙ ap (λ ps. put_all eq ps items) is_made.pairs in
         record {
           pairs = pairs;
           keys = ap keys_of pairs ∙ keys_put_all eq [] items;
           values = λ k. ap (λ ps. value_of eq ps k) pairs ∙ values_of_collected eq laws items k;
-          builder = subst is_default (sym (inserts_builder made new items cost inserts)) is_made.builder;
+          builder = subst is_default (sym (inserts_builder made new items inserts)) is_made.builder;
           made = made;
           is_made = is_made;
           inserted = inserts;
         }
 
     -- a refusal of items, of which more is known
-    pub refusal_given : (given known : List (K × V) → Type 0) (why : Refusal) (cost : Cost)
+    pub refusal_given : (given known : List (K × V) → Type 0) (why : Refusal)
         → ((items : List (K × V)) → given items → known items)
-        → IsRefusedCollection limit eq hash is_default needed given why cost
-        → IsRefusedCollection limit eq hash is_default needed known why cost
-    refusal_given given known why cost also (inl refused) = inl refused
-    refusal_given given known why cost also (inr item) =
+        → IsRefusedCollection limit eq is_default needed given why
+        → IsRefusedCollection limit eq is_default needed known why
+    refusal_given given known why also (inl refused) = inl refused
+    refusal_given given known why also (inr item) =
         let i = item.insertion in
         inr (record {
           made = item.made;
@@ -207,10 +203,8 @@ module _ {K V S : Type 0} (limit : ℕ) (eq : K → K → Bool) (hash : S → K 
             key = i.key;
             value = i.value;
             were_given = also (i.before ++ (i.key, i.value) ∷ []) i.were_given;
-            spent = i.spent;
             inserted = i.inserted;
             refused = i.refused;
-            cost_is = i.cost_is;
           };
         })
 

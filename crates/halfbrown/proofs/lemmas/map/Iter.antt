@@ -6,7 +6,7 @@ use Rattle.half_store.specs.PairLists.{set_values}
 use Rattle.half_store.specs.Store.{StoreState, store_with_pairs}
 use Rattle.halfbrown.specs.Layout.{IsKept, state_in}
 use Rattle.halfbrown.specs.State.{State, IsState, with_pairs}
-use Rattle.halfbrown.specs.Updates.{HasValues}
+use Rattle.halfbrown.specs.Updates.{HasValues, KeepsKeys}
 use Rattle.halfbrown.proofs.lemmas.map.Layout.{kept_keys, state_of}
 use Rattle.std.proofs.iter.runs.Sources.{from_front, as_is}
 use Rattle.std.specs.Iterator.{YieldsFirstRef}
@@ -48,9 +48,7 @@ module _ {K V S : Type 0} (eq : K → K → Bool) (hash : K → ℕ) (limit : �
     pub back : (vs : List V)
         → state_in (store_with_pairs s (set_values s.pairs vs)) builder ≡ with_pairs map (set_values map.pairs vs)
     pub pairs : s.pairs ≡ map.pairs
-    pub small : length map.pairs < 2 ^ 63
-    pub written : (vs : List V) → HasValues map.pairs vs (set_values map.pairs vs)
-    pub state : (vs : List V) → IsState eq limit (with_pairs map (set_values map.pairs vs))
+    pub keeps : KeepsKeys limit eq map
 
   comes_back : (vs : List V)
       → state_in (store_with_pairs s (set_values s.pairs vs)) builder ≡ with_pairs map (set_values map.pairs vs)
@@ -60,10 +58,12 @@ module _ {K V S : Type 0} (eq : K → K → Bool) (hash : K → ℕ) (limit : �
   lent_values kept small = record {
     back = comes_back;
     pairs = ap (λ m. m.pairs) is;
-    small = omega (arith, ap (λ m. length m.pairs) is);
-    written = has_values map.pairs;
-    state = λ vs. subst (IsState eq limit) (comes_back vs)
-        (state_of eq hash limit (store_with_pairs s (set_values s.pairs vs)) builder (kept_written eq hash limit s kept vs));
+    keeps = record {
+      small = omega (arith, ap (λ m. length m.pairs) is);
+      written = has_values map.pairs;
+      state = λ vs. subst (IsState eq limit) (comes_back vs)
+          (state_of eq hash limit (store_with_pairs s (set_values s.pairs vs)) builder (kept_written eq hash limit s kept vs));
+    };
   }
 
 -- What the runs of each iterator show.

@@ -27,10 +27,10 @@ use Rattle.halfbrown.specs.Entry as entries
 
 module _ {K : Type 0} (same : K → K → Bool) (laws : IsEquivalence same) (test : K → Bool)
     (one_class : (k other : K) → test k ≡ true → test other ≡ same k other) where
-  module _ {V S L : Type 0} {e : eq.Ghosts K} {h : hash.Ghosts K} {b : hashers.Ghosts S K} {l : limits.Ghosts L}
+  module _ {V S L H : Type 0} {e : eq.Ghosts K} {h : hash.Ghosts K} {b : hashers.Ghosts S K H} {l : limits.Ghosts L}
       (m : State K V S) where
     -- where a search of the map found the key
-    pub found_entry : (o : OccupiedEntry K V S L e h b l) → m ≡ o.map.now → IsDistinct same (keys_of o.map.now.pairs)
+    pub found_entry : (o : OccupiedEntry K V S L H e h b l) → m ≡ o.map.now → IsDistinct same (keys_of o.map.now.pairs)
         → IsIndexOf test o.map.now.pairs o.index → IsRawEntryOf same test m (Occupied o)
     unfolding entries.with_value
     found_entry o is distinct at = subst (λ n. IsRawEntryOf same test n (Occupied o)) (sym is) (record {
@@ -49,7 +49,7 @@ module _ {K : Type 0} (same : K → K → Bool) (laws : IsEquivalence same) (tes
     })
 
     -- where it found none
-    pub missing_entry : (v : RawVacantEntryMut K V S L e h b l) → m ≡ v.map.now → IsDistinct same (keys_of v.map.now.pairs)
+    pub missing_entry : (v : RawVacantEntryMut K V S L H e h b l) → m ≡ v.map.now → IsDistinct same (keys_of v.map.now.pairs)
         → IsAbsent test v.map.now.pairs → IsRawEntryOf same test m (Vacant v)
     missing_entry v is distinct absent = subst (λ n. IsRawEntryOf same test n (Vacant v)) (sym is) (record {
       map = refl;
@@ -66,11 +66,11 @@ module _ {K : Type 0} (same : K → K → Bool) (laws : IsEquivalence same) (tes
           (has_removed_by same laws test one_class v.map.now.pairs distinct);
     })
 
-module _ {K V S L : Type 0} {e : eq.Ghosts K} {h : hash.Ghosts K} {b : hashers.Ghosts S K} {l : limits.Ghosts L}
+module _ {K V S L H : Type 0} {e : eq.Ghosts K} {h : hash.Ghosts K} {b : hashers.Ghosts S K H} {l : limits.Ghosts L}
     (same : K → K → Bool) (laws : IsEquivalence same) where
   -- where the key was not held its pair is put
-  pub adds_pair : (v : RawVacantEntryMut K V S L e h b l) (key : K) (value : V)
-      (result : OccupiedEntry K V S L e h b l) → holds same v.map.now.pairs key ≡ false
+  pub adds_pair : (v : RawVacantEntryMut K V S L H e h b l) (key : K) (value : V)
+      (result : OccupiedEntry K V S L H e h b l) → holds same v.map.now.pairs key ≡ false
       → PutsThroughRawEntry (Vacant v) key value result → AddsThroughRawEntry same v.map.now.pairs key value result
   adds_pair v key value result unheld puts =
       let absent = absent_of_unheld (same key) v.map.now.pairs unheld in
@@ -81,7 +81,7 @@ module _ {K V S L : Type 0} {e : eq.Ghosts K} {h : hash.Ghosts K} {b : hashers.G
             (has_put same laws v.map.now.pairs key written);
       }
 
-  found_at : (m : State K V S) (o : OccupiedEntry K V S L e h b l) → m ≡ o.map.now → IsDistinct same (keys_of o.map.now.pairs)
+  found_at : (m : State K V S) (o : OccupiedEntry K V S L H e h b l) → m ≡ o.map.now → IsDistinct same (keys_of o.map.now.pairs)
       → (found : Option (K × V)) → slice_get o.map.now.pairs o.index ≡ found
       → IfSome found (λ pair. IsRawEntryOf same (same pair.0) m (Occupied o))
   found_at m o is distinct None at = tt
@@ -90,7 +90,7 @@ module _ {K V S L : Type 0} {e : eq.Ghosts K} {h : hash.Ghosts K} {b : hashers.G
       (index_of_pair same laws o.map.now.pairs o.index pair distinct at)
 
   -- the entry of a pair that a match found is that of the pair's key
-  pub found_by_match : (m : State K V S) (o : OccupiedEntry K V S L e h b l) → m ≡ o.map.now
+  pub found_by_match : (m : State K V S) (o : OccupiedEntry K V S L H e h b l) → m ≡ o.map.now
       → IsDistinct same (keys_of o.map.now.pairs)
       → IfSome (slice_get o.map.now.pairs o.index) (λ pair. IsRawEntryOf same (same pair.0) m (Occupied o))
   found_by_match m o is distinct = found_at m o is distinct (slice_get o.map.now.pairs o.index) refl

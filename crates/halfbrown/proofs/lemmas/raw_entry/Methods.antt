@@ -80,8 +80,8 @@ module _ {K V : Type 0} where
   key-last [] k v = refl
   key-last (p ∷ ps) k v = key-last ps k v
 
-module _ {K V S L : Type 0} {e : eq.Ghosts K} {h : hash.Ghosts K} {b : hashers.Ghosts S K} {l : limits.Ghosts L}
-    (o : OccupiedEntry K V S L e h b l) where
+module _ {K V S L H : Type 0} {e : eq.Ghosts K} {h : hash.Ghosts K} {b : hashers.Ghosts S K H} {l : limits.Ghosts L}
+    (o : OccupiedEntry K V S L H e h b l) where
   -- the pair has a value
   pub held_value : entry_value (entries.Occupied o) ≡ None → ⊥
   held_value none = some_is_not_none (values_of o.map.now.pairs) o.index (omega (arith, length-values_of o.map.now.pairs, o.within)) none
@@ -103,7 +103,7 @@ module _ {K V S L : Type 0} {e : eq.Ghosts K} {h : hash.Ghosts K} {b : hashers.G
   key_there key = some_at (keys_of o.map.now.pairs) o.index key (omega (arith, length-keys_of o.map.now.pairs, o.within))
 
   -- a pair that is found and written is the one that is put
-  pub written_puts : (key : K) (value : V) (written : OccupiedEntry K V S L e h b l)
+  pub written_puts : (key : K) (value : V) (written : OccupiedEntry K V S L H e h b l)
       → IsWritten (entries.Occupied o) value (entries.Occupied written) → PutsThroughRawEntry (Occupied o) key value written
   written_puts key value written is = record {
     same_map = is.same_map;
@@ -114,10 +114,10 @@ module _ {K V S L : Type 0} {e : eq.Ghosts K} {h : hash.Ghosts K} {b : hashers.G
     pairs_left = is.pairs_left;
   }
 
-module _ {K V S L : Type 0} {e : eq.Ghosts K} {h : hash.Ghosts K} {b : hashers.Ghosts S K} {l : limits.Ghosts L}
-    (v : RawVacantEntryMut K V S L e h b l) (key : K) (value : V) where
+module _ {K V S L H : Type 0} {e : eq.Ghosts K} {h : hash.Ghosts K} {b : hashers.Ghosts S K H} {l : limits.Ghosts L}
+    (v : RawVacantEntryMut K V S L H e h b l) (key : K) (value : V) where
   -- the pair that is appended is the one that is put
-  pub added_puts : (o : OccupiedEntry K V S L e h b l) → o.map.ghost_name ≡ v.map.ghost_name → o.index ≡ length v.map.now.pairs
+  pub added_puts : (o : OccupiedEntry K V S L H e h b l) → o.map.ghost_name ≡ v.map.ghost_name → o.index ≡ length v.map.now.pairs
       → WithPairs v.map.now (v.map.now.pairs ++ (key, value) ∷ []) o.map.now → PutsThroughRawEntry (Vacant v) key value o
   unfolding with_value
   added_puts o same last after =
@@ -136,10 +136,10 @@ module _ {K V S L : Type 0} {e : eq.Ghosts K} {h : hash.Ghosts K} {b : hashers.G
         pairs_left = (λ i. swap_remove_at (after.pairs i) (last i)) ∙ swap_remove_at-last ps (key, value);
       }
 
-module _ {K V S L : Type 0} {e : eq.Ghosts K} {h : hash.Ghosts K} {b : hashers.Ghosts S K} {l : limits.Ghosts L}
+module _ {K V S L H : Type 0} {e : eq.Ghosts K} {h : hash.Ghosts K} {b : hashers.Ghosts S K H} {l : limits.Ghosts L}
   where
     -- a pair that is left is put with its own value
-    held_puts_at : (o : OccupiedEntry K V S L e h b l) (key : K) (value : V) (within : o.index < length o.map.now.pairs)
+    held_puts_at : (o : OccupiedEntry K V S L H e h b l) (key : K) (value : V) (within : o.index < length o.map.now.pairs)
         → PutsThroughRawEntry (Occupied o) key (unwrap_or (found_value (Occupied o)) value)
         (record { map = o.map; index = o.index; within = within })
     held_puts_at o key value within = record {
@@ -157,7 +157,7 @@ module _ {K V S L : Type 0} {e : eq.Ghosts K} {h : hash.Ghosts K} {b : hashers.G
     }
 
     -- a pair that is found and left is put with its own value, however it was shown that its index is within
-    pub held_puts : (entry : RawEntryMut K V S L e h b l) (o : OccupiedEntry K V S L e h b l) → entry ≡ Occupied o
+    pub held_puts : (entry : RawEntryMut K V S L H e h b l) (o : OccupiedEntry K V S L H e h b l) → entry ≡ Occupied o
         → (key : K) (value : V) (within : o.index < length o.map.now.pairs)
         → PutsThroughRawEntry entry key (unwrap_or (found_value entry) value) (record { map = o.map; index = o.index; within = within })
     held_puts entry o is key value within =
@@ -165,13 +165,13 @@ module _ {K V S L : Type 0} {e : eq.Ghosts K} {h : hash.Ghosts K} {b : hashers.G
         (record { map = o.map; index = o.index; within = within })) (sym is) (held_puts_at o key value within)
 
     -- the key and the value that are held once a pair is added where none was found
-    pub found_or : (entry : RawEntryMut K V S L e h b l) (key : K) (value : V)
+    pub found_or : (entry : RawEntryMut K V S L H e h b l) (key : K) (value : V)
         → (unwrap_or (found_key entry) key, unwrap_or (found_value entry) value) ≡ unwrap_or (found_pair entry) (key, value)
     found_or (Occupied o) key value = pair_or o.map.now.pairs o.index key value
     found_or (Vacant v) key value = refl
 
     -- a pair that is found and left is put with its own key and value
-    pub held_puts_pair : (limit : ℕ) (same : K → K → Bool) (entry : RawEntryMut K V S L e h b l) (o : OccupiedEntry K V S L e h b l)
+    pub held_puts_pair : (limit : ℕ) (same : K → K → Bool) (entry : RawEntryMut K V S L H e h b l) (o : OccupiedEntry K V S L H e h b l)
         → entry ≡ Occupied o → (within : o.index < length o.map.now.pairs) → IsState same limit o.map.now
         → IfSome (slice_get o.map.now.pairs o.index)
         (λ pair. PutsEntry limit same entry pair.0 pair.1 (record { map = o.map; index = o.index; within = within }))

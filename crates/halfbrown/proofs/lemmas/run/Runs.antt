@@ -1,5 +1,5 @@
 -- A run so far, and one step more.
-use Rattle.std.proofs.Common.{◌≡◌, ◌∙◌, ℕ, Bool, false, ◌||◌, List, [], ◌∷◌, ◌++◌, length, ap, sym, refl, subst, arith, append_assoc}
+use Rattle.std.proofs.Common.{◌≡◌, ◌∙◌, ℕ, Bool, false, ◌||◌, List, [], ◌∷◌, ◌++◌, length, ap, sym, refl, subst, arith, append_assoc, append-nil}
 use Rattle.std.proofs.lemmas.Grind.{common_steps}
 use Rattle.std.proofs.lemmas.List.{length-map, map-append}
 use Rattle.half_store.specs.Work.{Work}
@@ -59,8 +59,11 @@ module _ {K V S : Type 0} (limit : ℕ) (eq : K → K → Bool) where
           }
 
       pub run_ended : (now : State K V S) (left : List (Command K V)) (replies : List (Reply K V)) (after : Work) → left ≡ []
-          → RunSoFar now left replies after → (cost : Cost) × Runs limit eq hash old commands replies now cost × GrewBy cost before after
-      run_ended now left replies after none so_far = grind (arith, common_steps)
+          → RunSoFar now left replies after
+          → (run : Runs limit eq old commands replies now) × GrewBy (cost_of limit eq hash run.steps) before after
+      run_ended now left replies after none so_far =
+          let all = so_far.commands_are ∙ ap (λ cs. commands_of so_far.steps ++ cs) none ∙ append-nil (commands_of so_far.steps) in
+          (record { steps = so_far.steps; lead = so_far.lead; commands_are = all; replies_are = so_far.replies_are }, so_far.spent)
 
     -- a run without `Shrink`
     pub steps_pay_two : (old new : State K V S) (steps : List (Step K V S)) → Lead limit eq old steps new
@@ -79,10 +82,10 @@ module _ {K V S : Type 0} (limit : ℕ) (eq : K → K → Bool) where
           all = omega (arith, first.all, rest.all, ap (switch_left limit) same);
         }
 
-    pub run_pays_two : (old new : State K V S) (commands : List (Command K V)) (replies : List (Reply K V)) (cost : Cost)
-        → Runs limit eq hash old commands replies new cost → shrinks commands ≡ false
-        → PaysTwo limit (length commands) cost.asked old.is_vec new.is_vec
-    run_pays_two old new commands replies cost run none = grind (arith, common_steps, length-map, steps_pay_two)
+    pub run_pays_two : (old new : State K V S) (commands : List (Command K V)) (replies : List (Reply K V))
+        (run : Runs limit eq old commands replies new) → shrinks commands ≡ false
+        → PaysTwo limit (length commands) (cost_of limit eq hash run.steps).asked old.is_vec new.is_vec
+    run_pays_two old new commands replies run none = grind (arith, common_steps, length-map, steps_pay_two)
 
 -- a table stays one
 pub table_stays : (limit count asked : ℕ) (was is : Bool) → PaysTwo limit count asked was is → was ≡ false → is ≡ false

@@ -1,4 +1,4 @@
-use Rattle.std.proofs.Common.{[], sym, subst, arith}
+use Rattle.std.proofs.Common.{◌≡◌, [], sym, subst, arith}
 use Rattle.std.proofs.lemmas.Grind.{common_steps}
 use Rattle.std.proofs.lemmas.List.{nil_from_length}
 use Rattle.std.specs.Vec.Iter.{into_iter_items}
@@ -53,24 +53,27 @@ loop-command-preserved g c =
     }
 
 pub returns-clause-run : goal.returns-clause-run
-returns-clause-run g c = grind (arith, common_steps, nil_from_length, run_ended)
+returns-clause-run g c =
+    let none : into_iter_items c.loop-command.left ≡ [] = grind (arith, common_steps, nil_from_length) in
+    run_ended g.L.Limit.LIMIT g.K.PartialEq.eq g.S.KeyHasher.hash c.args.map.now c.args.commands.items c.args.tally.now c.loop-command.map
+    (into_iter_items c.loop-command.left) c.loop-command.replies.items c.loop-command.tally none c.loop-command.invariant.so_far
 
 pub returns-clause-stays_a_table : goal.returns-clause-stays_a_table
 returns-clause-stays_a_table g c none =
     let run = returns-clause-run g c in
     table_stays _ _ _ _ _
-    (run_pays_two g.L.Limit.LIMIT g.K.PartialEq.eq g.S.KeyHasher.hash _ _ _ _ _ run.1 none)
+    (run_pays_two g.L.Limit.LIMIT g.K.PartialEq.eq g.S.KeyHasher.hash _ _ _ _ run.0 none)
 
 pub returns-clause-nothing_hashed : goal.returns-clause-nothing_hashed
 returns-clause-nothing_hashed g c none form =
     let run = returns-clause-run g c in
     let pays =
-    run_pays_two g.L.Limit.LIMIT g.K.PartialEq.eq g.S.KeyHasher.hash _ _ _ _ _ run.1 none in
-    omega (arith, run.2.asked, (pays.vector form).1)
+    run_pays_two g.L.Limit.LIMIT g.K.PartialEq.eq g.S.KeyHasher.hash _ _ _ _ run.0 none in
+    omega (arith, run.1.asked, (pays.vector form).1)
 
 pub returns-clause-hashes : goal.returns-clause-hashes
 returns-clause-hashes g c none =
     let run = returns-clause-run g c in
     let pays =
-    run_pays_two g.L.Limit.LIMIT g.K.PartialEq.eq g.S.KeyHasher.hash _ _ _ _ _ run.1 none in
-    omega (arith, run.2.asked, pays.all, switch_left_most g.L.Limit.LIMIT c.args.map.now.is_vec)
+    run_pays_two g.L.Limit.LIMIT g.K.PartialEq.eq g.S.KeyHasher.hash _ _ _ _ run.0 none in
+    omega (arith, run.1.asked, pays.all, switch_left_most g.L.Limit.LIMIT c.args.map.now.is_vec)

@@ -33,26 +33,26 @@ use Rattle.halfbrown.specs.declared.map.LimitedHashMap.TheView.{view, invariant}
 use Rattle.halfbrown.specs.contracts.map.LimitedHashMap as C
 use Rattle.halfbrown.specs.contracts.map.LimitedHashMap.TheInside as I
 
-abbrev pub the_former : Former {0} → Type 0 → Type 0 → Type 0 → Former {0}
-the_former g K S L = via (pair (const Bool) (pair (list (entry g K)) (const (ℕ × (S × Contents))))) (λ X. State K (g.Of X) S)
+abbrev pub the_former : Former {0} → Type 0 → Type 0 → Type 0 → Type 0 → Former {0}
+the_former g K S L T = via (pair (const Bool) (pair (list (entry g K)) (const (ℕ × (S × Contents))))) (λ X. State K (g.Of X) S)
     (λ X m. (m.is_vec, (m.pairs, (m.capacity, (m.builder, contents_of m)))))
     (λ X v. state v.0 v.1.0 v.1.1.0 v.1.1.1.0 v.1.1.1.1) (λ X m. refl) (λ X v. refl)
 
-abbrev pub the_weighed : {g : Former {0}} → Weighed g → (K S L : Type 0) → Weighed (the_former g K S L)
-the_weighed w K S L =
+abbrev pub the_weighed : {g : Former {0}} → Weighed g → (K S L T : Type 0) → Weighed (the_former g K S L T)
+the_weighed w K S L T =
     record { weight = λ X μ m. most (w.weight X μ) (values_of m.pairs); puts = λ X μ m. entries_puts w K X μ m.pairs }
 
-pub the_empty : (K S L : Type 0) → K → S → L → State K ⊥ S
-the_empty K S L k s l = state true [] 0 s no_contents
+pub the_empty : (K S L T : Type 0) → K → S → L → T → State K ⊥ S
+the_empty K S L T k s l t = state true [] 0 s no_contents
 
-abbrev pub the_items : (K S L X : Type 0) → State K X S → List X
-the_items K S L X m = values_of m.pairs
+abbrev pub the_items : (K S L T X : Type 0) → State K X S → List X
+the_items K S L T X m = values_of m.pairs
 
-pub the_items_listed : (K S L X : Type 0) (m : State K X S) → listed _ (children (the_former this K S L) X m) ≡ the_items K S L X m
-the_items_listed K S L X m = values_listed K X m.pairs
+pub the_items_listed : (K S L T X : Type 0) (m : State K X S) → listed _ (children (the_former this K S L T) X m) ≡ the_items K S L T X m
+the_items_listed K S L T X m = values_listed K X m.pairs
 
-abbrev fields : Type 0 → Type 0 → Type 0 → Former {0}
-fields K S L = via (pair (store.the_former this K) (const S)) (λ X. Inside K X S L) (λ X u. (u.store, u.builder))
+abbrev fields : Type 0 → Type 0 → Type 0 → Type 0 → Former {0}
+fields K S L T = via (pair (store.the_former this K) (const S)) (λ X. Inside K X S L T) (λ X u. (u.store, u.builder))
     (λ X v. record { store = v.0; builder = v.1; limit = record {} }) (λ X u. refl) (λ X v. refl)
 
 module _ {K X : Type 0} (same : K → K → Bool) (hashed : K → ℕ) (limit : ℕ) (s : StoreState K X) where
@@ -96,25 +96,25 @@ module _ {K X : Type 0} (same : K → K → Bool) (hashed : K → ℕ) (limit : 
       exceeds = p.exceeds;
     }
 
-module _ (K S L : RattleType) (G : eq.Ghosts K.Denot) (H : hash.Ghosts K.Denot) (B : hashers.Ghosts S.Denot K.Denot)
+module _ (K S L T : RattleType) (G : eq.Ghosts K.Denot) (H : hash.Ghosts K.Denot) (B : hashers.Ghosts S.Denot K.Denot T.Denot)
     (Z : limits.Ghosts L.Denot) (R R' : RattleType) (h : R.Denot → R'.Denot) where
   abbrev former : Former {0}
-  former = the_former this K.Denot S.Denot L.Denot
+  former = the_former this K.Denot S.Denot L.Denot T.Denot
 
-  pub the_places : Alike R R' h → Alike (C.the_row K R S L G H B Z) (C.the_row K R' S L G H B Z) (former.map R.Denot R'.Denot h)
-  the_places a = view_places (fields K.Denot S.Denot L.Denot) former (λ X. view K.Denot X S.Denot L.Denot G H B Z)
+  pub the_places : Alike R R' h → Alike (C.the_row K R S L T G H B Z) (C.the_row K R' S L T G H B Z) (former.map R.Denot R'.Denot h)
+  the_places a = view_places (fields K.Denot S.Denot L.Denot T.Denot) former (λ X. view K.Denot X S.Denot L.Denot T.Denot G H B Z)
       (λ X Y k u. refl) (λ X u. refl)
-      R.Denot R'.Denot h (C.the_row K R S L G H B Z).coded (C.the_row K R' S L G H B Z).coded
-      (invariant K.Denot R.Denot S.Denot L.Denot G H B Z) (invariant K.Denot R'.Denot S.Denot L.Denot G H B Z)
+      R.Denot R'.Denot h (C.the_row K R S L T G H B Z).coded (C.the_row K R' S L T G H B Z).coded
+      (invariant K.Denot R.Denot S.Denot L.Denot T.Denot G H B Z) (invariant K.Denot R'.Denot S.Denot L.Denot T.Denot G H B Z)
       (λ u. Kept-prop G.eq (B.hash u.builder) Z.LIMIT u.store) (λ u. Kept-prop G.eq (B.hash u.builder) Z.LIMIT u.store)
       (λ u. goes G.eq (B.hash u.builder) Z.LIMIT u.store h) (λ u. comes G.eq (B.hash u.builder) Z.LIMIT u.store h)
-      (over (I.the_row K R S L G H B Z)) (over (I.the_row K R' S L G H B Z))
-      (struct_places (I.the_type K R S L G H B Z) (I.the_type K R' S L G H B Z)
+      (over (I.the_row K R S L T G H B Z)) (over (I.the_row K R' S L T G H B Z))
+      (struct_places (I.the_type K R S L T G H B Z) (I.the_type K R' S L T G H B Z)
       ((store.the_former this K.Denot).map R.Denot R'.Denot h, (λ s. s, (λ l. l, tt))) _ (λ d. refl) refl
       (laid _ _ _ (store.the_places K R R' h a), ((refl, (λ n. refl, λ n. refl)), ((refl, (λ n. refl, λ n. refl)), tt))))
 
   pub the_codes_placed : Recodes R R' h
-      → Recodes (C.the_row K R S L G H B Z) (C.the_row K R' S L G H B Z) (former.map R.Denot R'.Denot h)
+      → Recodes (C.the_row K R S L T G H B Z) (C.the_row K R' S L T G H B Z) (former.map R.Denot R'.Denot h)
   the_codes_placed e m =
       let code = coded× coded_ℕ (coded× S.coded contents_code) in
       let rest = code.code (m.capacity, (m.builder, contents_of m)) in
@@ -150,8 +150,8 @@ module _ {K X Y : Type 0} (h : X → Y) (same : K → K → Bool) (value_eq : Y 
 
 pub ruleset naturals = (same_pairs-map, refl)
 
-pub the_eq_natural : (K S L X Y : Type 0) (h : X → Y) (G : eq.Ghosts K) (H : hash.Ghosts K) (V : eq.Ghosts Y) (B : hashers.Ghosts S K)
+pub the_eq_natural : (K S L T X Y : Type 0) (h : X → Y) (G : eq.Ghosts K) (H : hash.Ghosts K) (V : eq.Ghosts Y) (B : hashers.Ghosts S K T)
     (Z : limits.Ghosts L) (m n : State K X S)
-    → same_pairs G.eq V.eq ((the_former this K S L).map X Y h m).pairs ((the_former this K S L).map X Y h n).pairs
+    → same_pairs G.eq V.eq ((the_former this K S L T).map X Y h m).pairs ((the_former this K S L T).map X Y h n).pairs
     ≡ same_pairs G.eq (λ a b. V.eq (h a) (h b)) m.pairs n.pairs
-the_eq_natural K S L X Y h G H V B Z m n = same_pairs-map h G.eq V.eq m.pairs n.pairs
+the_eq_natural K S L T X Y h G H V B Z m n = same_pairs-map h G.eq V.eq m.pairs n.pairs

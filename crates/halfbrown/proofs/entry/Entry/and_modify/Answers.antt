@@ -1,20 +1,35 @@
-use Rattle.std.proofs.Common.{Option, refl, sym, ap, subst, ◌∙◌}
+use Rattle.std.proofs.Common.{◌≡◌, IfSome, Option, refl, sym, ap, subst, ◌∙◌}
 use Rattle.std.specs.Map.Calls.{MayWrite, ModifiesValue}
-use Rattle.halfbrown.specs.Entry.{entry_value}
+use Rattle.halfbrown.specs.Entry.{Occupied, entry_value, map_of, with_value, ModifiesEntry}
+use Rattle.halfbrown.specs.EntryLending.{with_entry_value}
 use Rattle.halfbrown.proofs.entry.Entry.and_modify.Goals as goal
 
-pub returns-in-Occupied-clause-modified : goal.returns-in-Occupied-clause-modified
-returns-in-Occupied-clause-modified g c =
+pub returns-in-Occupied : goal.returns-in-Occupied
+returns-in-Occupied g c =
     let left = c.f.new.arg2 in
-    let old = ap entry_value c.in-Occupied.is ∙ c.get_mut.ensures.value in
-    let new = (c.get_mut.ensures.written left).value_is in
+    let written = c.get_mut.ensures.written left in
+    let modifies = ModifiesValue g.F.FnOnce c.args.f in
     let changed : MayWrite g.F.FnOnce c.args.f c.get_mut.result.now left =
     record { lent = c.get_mut.result; result = c.f.result; left = _; before = refl; met = c.f.ensures; after = refl } in
-    subst (λ (p : Option g.row.V.Denot × Option g.row.V.Denot). ModifiesValue g.F.FnOnce c.args.f p.0 p.1) (λ i. (sym old i, sym new i))
-    changed
+    subst (λ entry. ModifiesEntry modifies entry (Occupied (with_entry_value c.in-Occupied.entry left))) (sym c.in-Occupied.is) (record {
+      same_map = written.same_map;
+      value = subst (λ (p : Option g.row.V.Denot × Option g.row.V.Denot). modifies p.0 p.1)
+          (λ i. (sym c.get_mut.ensures.value i, sym written.value_is i)) changed;
+      occupied = subst (λ value. IfSome value (λ value. map_of (Occupied (with_entry_value c.in-Occupied.entry left))
+          ≡ with_value (Occupied c.in-Occupied.entry) value)) (sym written.value_is) written.map;
+      vacant = λ none. cc (sym none ∙ c.get_mut.ensures.value);
+      key = written.key;
+      writes = written.writes;
+      pairs_left = written.pairs_left;
+    })
 
-pub returns-in-Occupied-clause-vacant : goal.returns-in-Occupied-clause-vacant
-returns-in-Occupied-clause-vacant g c none = cc (sym none ∙ ap entry_value c.in-Occupied.is ∙ c.get_mut.ensures.value)
-
-pub returns-in-Vacant-clause-modified : goal.returns-in-Vacant-clause-modified
-returns-in-Vacant-clause-modified g c = rw c.in-Vacant.is refl
+pub returns-in-Vacant : goal.returns-in-Vacant
+returns-in-Vacant g c = rw c.in-Vacant.is (record {
+  same_map = refl;
+  value = refl;
+  occupied = tt;
+  vacant = λ none. refl;
+  key = refl;
+  writes = λ value. refl;
+  pairs_left = refl;
+})

@@ -1,8 +1,8 @@
 use Rattle.std.proofs.Common.{nat_le, refl, inl, inr, sym, subst, arith}
 use Rattle.std.proofs.lemmas.Grind.{common_steps}
 use Rattle.std.specs.Iterator.{Drains}
-use Rattle.halfbrown.specs.FromIter.{Gives, IsRefusedInsertion}
-use Rattle.halfbrown.specs.Costs.{no_cost}
+use Rattle.halfbrown.specs.Costs.{GrewBy}
+use Rattle.halfbrown.specs.FromIter.{Gives, IsRefusedInsertion, refused_cost}
 use Rattle.halfbrown.specs.Making.{IsMade}
 use Rattle.halfbrown.proofs.lemmas.map.Collect.{at_error, collection_of, inserts_asked, inserts_state}
 use Rattle.halfbrown.proofs.lemmas.map.Costs.{spent_none}
@@ -11,7 +11,7 @@ use Rattle.halfbrown.proofs.map.LimitedHashMap.collect.Goals as goal
 pub returns-in_err-map-clause-refused : goal.returns-in_err-map-clause-refused
 returns-in_err-map-clause-refused g c =
     (at_error c.from_residual.result c.in_err-map.field-0.0 (Unit {0}) _ c.from_residual.ensures
-    (no_cost, inl (c.in_err-map.ensures.makes.refused, refl), spent_none c.args.tally.now)).1
+    (inl c.in_err-map.ensures.makes.refused, spent_none c.args.tally.now)).1
 
 pub returns-in_err-extend_counted-clause-refused : goal.returns-in_err-extend_counted-clause-refused
 returns-in_err-extend_counted-clause-refused g c =
@@ -21,6 +21,7 @@ returns-in_err-extend_counted-clause-refused g c =
     let why = c.in_err-extend_counted.field-0.0 in
     let made = c.in_ok-map.map in
     let after = c.extend_counted.new.self in
+    let before = c.args.tally.now in
     let refused = c.in_err-extend_counted.ensures.refused in
     let told = c.in_ok-map.ensures.makes.ok in
     let is_made : IsMade g.S.Default.is_default (nat_le c.args.capacity L) c.args.capacity made = record {
@@ -31,15 +32,16 @@ returns-in_err-extend_counted-clause-refused g c =
       grantable = told.grantable;
     } in
     let given = Gives g.I.Iterator.next_gives in
-    let insertion = subst (λ it. IsRefusedInsertion L E H (given it) made why after refused.1) refused.2 refused.3 in
+    let counted = subst (λ it. (insertion : IsRefusedInsertion L E (given it) made why after)
+    × GrewBy (refused_cost L E H insertion) before c.extend_counted.new.tally)
+    refused.0.is_made (refused.0.insertion, refused.1) in
     (at_error c.from_residual-in_err-extend_counted.result why (Unit {0}) _ c.from_residual-in_err-extend_counted.ensures
-    (refused.1, inr (record { made = made; is_made = is_made; reached = after; insertion = insertion }), refused.4)).1
+    (inr (record { made = made; is_made = is_made; reached = after; insertion = counted.0 }), counted.1)).1
 
 pub returns-clause-collected : goal.returns-clause-collected
 returns-clause-collected g c =
     let L = g.L.Limit.LIMIT in
     let E = g.K.PartialEq.eq in
-    let H = g.S.KeyHasher.hash in
     let made = c.in_ok-map.map in
     let told = c.in_ok-map.ensures.makes.ok in
     let is_made : IsMade g.S.Default.is_default (nat_le c.args.capacity L) c.args.capacity made = record {
@@ -50,12 +52,11 @@ returns-clause-collected g c =
       grantable = told.grantable;
     } in
     let all = c.in_ok-extend_counted.ensures.extended in (
+      all.0.gave,
+      subst (λ it. Drains g.I.Iterator.next_gives it all.0.gave) all.0.is_made all.0.drained,
+      collection_of L E g.met.K.Eq.laws g.S.Default.is_default c.args.capacity made c.extend_counted.new.self all.0.gave is_made
+          all.0.extends.inserted,
       all.1,
-      all.2,
-      subst (λ it. Drains g.I.Iterator.next_gives it all.1) all.3 all.4,
-      collection_of L E H g.met.K.Eq.laws g.S.Default.is_default c.args.capacity made c.extend_counted.new.self all.1 all.2 is_made
-          all.5.inserted,
-      all.6,
     )
 
 pub returns-clause-nothing_hashed : goal.returns-clause-nothing_hashed

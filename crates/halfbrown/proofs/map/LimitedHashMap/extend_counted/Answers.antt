@@ -1,8 +1,15 @@
 use Rattle.halfbrown.specs.FromIter.{Gives}
-use Rattle.std.proofs.Common.{arith}
+use Rattle.std.proofs.Common.{arith, refl}
 use Rattle.std.proofs.lemmas.Grind.{common_steps}
 use Rattle.halfbrown.proofs.lemmas.map.Collect.{extends_of, item_more, item_refused, at_error, yields_more}
+use Rattle.halfbrown.proofs.lemmas.map.Costs.{spent_none}
 use Rattle.halfbrown.proofs.map.LimitedHashMap.extend_counted.Goals as goal
+
+pub loop-key-init : goal.loop-key-init
+loop-key-init g c =
+    let it = c.into_iter-key-iterator.result in
+    let runs = c.requires it c.into_iter-key-iterator.ensures.into_iter_gives in
+    record { can = runs.0; ends = runs.1; so_far = record { inserted = refl; spent = spent_none c.args.tally.now } }
 
 pub loop-key-preserved-in_ok-insert_counted : goal.loop-key-preserved-in_ok-insert_counted
 loop-key-preserved-in_ok-insert_counted g c = grind (arith, common_steps, item_more)
@@ -10,8 +17,18 @@ loop-key-preserved-in_ok-insert_counted g c = grind (arith, common_steps, item_m
 pub loop-key-preserved : goal.loop-key-preserved
 loop-key-preserved g c = grind (arith, common_steps, item_more)
 
-pub returns : goal.returns
-returns g c = grind (arith, common_steps, extends_of)
+pub returns-clause-extended : goal.returns-clause-extended
+returns-clause-extended g c =
+    let so_far = c.loop-key.invariant.so_far in (
+      record {
+        iterator = c.into_iter-key-iterator.result;
+        is_made = c.into_iter-key-iterator.ensures.into_iter_gives;
+        gave = c.loop-key.yielded;
+        drained = (c.next.new.self, (c.loop-key.key-iterator, c.loop-key.yielded_by, c.in-None.ensures.steps));
+        extends = extends_of g.L.Limit.LIMIT g.K.PartialEq.eq g.met.K.Eq.laws c.args.self.now c.loop-key.self c.loop-key.yielded so_far.inserted;
+      },
+      so_far.spent,
+    )
 
 pub returns-in_err-insert_counted-clause-extended : goal.returns-in_err-insert_counted-clause-extended
 returns-in_err-insert_counted-clause-extended g c =
@@ -32,4 +49,4 @@ returns-in_err-insert_counted-clause-refused g c =
     c.loop-key.invariant.so_far (c.next.new.self, one_more) c.in_err-insert_counted.ensures.inserts.returned.unchanged
     c.in_err-insert_counted.ensures.inserts.returned.why c.in_err-insert_counted.ensures.cost.grew in
     (at_error c.from_residual.result back.why (Unit {0}) _ c.from_residual.ensures
-    (it, refused.0, c.into_iter-key-iterator.ensures.into_iter_gives, refused.1, refused.2)).1
+    (record { iterator = it; is_made = c.into_iter-key-iterator.ensures.into_iter_gives; insertion = refused.0 }, refused.1)).1

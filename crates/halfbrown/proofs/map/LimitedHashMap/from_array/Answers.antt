@@ -8,26 +8,19 @@ use Rattle.halfbrown.proofs.map.LimitedHashMap.from_array.Goals as goal
 
 pub returns-clause-collected : goal.returns-clause-collected
 returns-clause-collected g c =
-    let H = g.S.KeyHasher.hash in
     IfOk-weaker c.uncounted.result _ _
-    (λ m h. (
-      h.1,
-      subst (λ (xs : List (g.row.K.Denot × g.row.V.Denot)). IsCollection g.L.Limit.LIMIT g.K.PartialEq.eq H g.S.Default.is_default g.row.N
-          xs m h.1)
-          (All-taken c.into_iter.result h.0 h.2 ∙ c.into_iter.ensures.rest ∙ c.in-Ok.ensures.items) h.3,
-    ))
+    (λ m h. subst (λ (xs : List (g.row.K.Denot × g.row.V.Denot)). IsCollection g.L.Limit.LIMIT g.K.PartialEq.eq g.S.Default.is_default
+    g.row.N xs m)
+    (All-taken c.into_iter.result h.0 h.1 ∙ c.into_iter.ensures.rest ∙ c.in-Ok.ensures.items) h.2)
     c.uncounted.ensures.collected
 
 pub returns-clause-refused : goal.returns-clause-refused
 returns-clause-refused g c =
-    let H = g.S.KeyHasher.hash in
     let it = c.into_iter.result in
     let is_all = c.into_iter.ensures.rest ∙ c.in-Ok.ensures.items in
     IfErr-weaker c.uncounted.result _ _
     (λ why h. inr (
-      h.0,
-      refusal_given g.L.Limit.LIMIT g.K.PartialEq.eq H g.met.K.Eq.laws g.S.Default.is_default g.row.N (Gives into_iter_steps it)
-          (AreFirst c.args.pairs) why h.0
-          (λ xs gave. (into_iter_items gave.0, sym is_all ∙ gave_first it xs gave.0 gave.1)) h.1,
-    ))
+    refusal_given g.L.Limit.LIMIT g.K.PartialEq.eq g.met.K.Eq.laws g.S.Default.is_default g.row.N (Gives into_iter_steps it)
+    (AreFirst c.args.pairs) why
+    (λ xs gave. (into_iter_items gave.0, sym is_all ∙ gave_first it xs gave.0 gave.1)) h.0))
     c.uncounted.ensures.refused

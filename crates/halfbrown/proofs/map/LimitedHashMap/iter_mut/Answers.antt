@@ -18,9 +18,7 @@ returns g c =
         writes_back = tt;
         left = c.new.ensures.left ∙ (λ j. zip (c.columns_mut-values.ensures.keys j) (c.columns_mut-values.ensures.values j))
             ∙ zip_columns inside.store.pairs ∙ lent.pairs;
-        small = lent.small;
         values_run = lends_values_in_order _;
-        written = lent.written;
-        state = lent.state;
+        keeps = lent.keeps;
       },
     )

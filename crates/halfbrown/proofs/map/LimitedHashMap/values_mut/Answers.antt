@@ -18,9 +18,7 @@ returns g c =
       record {
         writes_back = tt;
         left = c.new.ensures.left ∙ c.columns_mut-values.ensures.values ∙ ap values_of lent.pairs;
-        small = lent.small;
         runs = values_lend_in_order;
-        written = lent.written;
-        state = lent.state;
+        keeps = lent.keeps;
       },
     )

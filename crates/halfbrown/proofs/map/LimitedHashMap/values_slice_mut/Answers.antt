@@ -18,8 +18,6 @@ returns g c =
       record {
         writes_back = tt;
         values = c.columns_mut-values.ensures.values ∙ ap values_of lent.pairs;
-        small = lent.small;
-        written = lent.written;
-        state = lent.state;
+        keeps = lent.keeps;
       },
     )

@@ -4,10 +4,10 @@ use Rattle.halfbrown.proofs.map.collect.LimitedHashMapExtendTuple2.extend.Goals 
 pub returns-in-Err : goal.returns-in-Err
 returns-in-Err g c =
     let told = c.in-Err.ensures.refused in
-    let it = told.0 in
-    let refused = told.3 in
+    let it = told.iterator in
+    let refused = told.insertion in
     let given = refused.were_given in
     let front = yields_front g.I.IntoIter.Iterator.next_gives it refused.before (refused.key, refused.value) given.0 given.1 in
-    let extends = extends_of g.L.Limit.LIMIT g.K.PartialEq.eq g.S.KeyHasher.hash
-    g.met.K.Eq.laws c.args.self.now c.extend.new.self refused.before refused.spent refused.inserted in
-    record { ran = (it, refused.before, told.2, (refused.spent, extends), front); refused = (it, c.in-Err.field-0, told.1, told.2, refused) }
+    let extends = extends_of g.L.Limit.LIMIT g.K.PartialEq.eq g.met.K.Eq.laws c.args.self.now c.extend.new.self refused.before
+    refused.inserted in
+    record { ran = (it, refused.before, told.is_made, extends, front); refused = (c.in-Err.field-0, told) }
