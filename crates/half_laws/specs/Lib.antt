@@ -10,6 +10,5 @@ pub use Rattle.halfbrown.specs.Costs
 pub use Rattle.halfbrown.specs.Growth
 pub use Rattle.halfbrown.specs.Pairs
 pub use Rattle.halfbrown.specs.Run
-pub use Rattle.halfbrown.specs.RunCost
 pub use Rattle.halfbrown.specs.State
 pub use Rattle.halfbrown.specs.Step

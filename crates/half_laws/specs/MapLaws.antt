@@ -10,7 +10,7 @@ use Rattle.halfbrown.specs.declared.run.Command.TheVariants.{Insert, InsertNew, 
 use Rattle.halfbrown.specs.Costs.{probe_length, addition_grows, capacity_after_switch, capacity_after_growth, new_key_cost, GrewBy, IsSearchCost, IsInsertCost}
 use Rattle.halfbrown.specs.Growth.{is_vec_after}
 use Rattle.halfbrown.specs.Pairs.{holds, holds_by}
-use Rattle.halfbrown.specs.RunCost.{command_cost}
+use Rattle.halfbrown.specs.Run.{command_cost}
 use Rattle.halfbrown.specs.State.{State, IsState, IsTableCapacity}
 
 -- two maps have the same form, capacity and builder, and the same pairs in any order

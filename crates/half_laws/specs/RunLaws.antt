@@ -4,12 +4,11 @@ use Rattle.std.specs.Prelude.{◌≡◌, ℕ, ◌+◌, ◌*◌, ◌≤◌, max, 
 use Rattle.std.specs.List.{list_any}
 use Rattle.std.specs.Option.{option_or}
 use Rattle.half_store.specs.declared.refusal.Refusal.{Refusal}
-use Rattle.half_store.specs.Arrays as store
 use Rattle.halfbrown.specs.declared.run.Command.{Command}
 use Rattle.halfbrown.specs.declared.run.Command.TheVariants.{Reserve}
 use Rattle.halfbrown.specs.declared.run.Reply.{Reply}
 use Rattle.halfbrown.specs.Costs.{Cost, add_costs}
-use Rattle.halfbrown.specs.Memory.{bytes}
+use Rattle.half_store.specs.Arrays.{bytes}
 use Rattle.halfbrown.specs.Run.{Lead, RunsAtCost, shrinks, commands_of, replies_of, cost_of}
 use Rattle.halfbrown.specs.State.{State, IsState}
 use Rattle.halfbrown.specs.Step.{Step, refusal_in, says_vec, is_shrink, switches, form_changed}
@@ -80,11 +79,11 @@ module _ {K : Type 0} (V S : Type 0) (limit : ℕ) (eq : K → K → Bool) where
   CapacityLaw = EachRun (λ old steps new. IsState eq limit old → reserves (commands_of steps) ≡ false
       → new.capacity ≤ max old.capacity (2 * most_held old steps + 8))
 
-  -- so all arrays take at most the bytes of a table with that capacity, whatever bytes a key and a value have
+  -- so its arrays, and the block of its table, take at most the bytes of a table with that capacity, whatever bytes a key and a value have
   abbrev pub BytesLaw : Type 0
   BytesLaw = EachRun (λ old steps new. IsState eq limit old → reserves (commands_of steps) ≡ false → (key value : ℕ)
       → let most : ℕ = max old.capacity (2 * most_held old steps + 8) in
-      bytes key value new ≤ store.bytes key value false most)
+      bytes key value new.is_vec new.capacity ≤ bytes key value false most)
 
   -- without `Shrink` and `Reserve` a run moves at most two pairs for each command, and once those that it began with and twice the limit
   abbrev pub MovesLaw : Type 0

@@ -44,8 +44,8 @@ pub fn hashes_of_a_run<K: Eq + Hash, V, S: KeyHasher<K>, L: Limit>()
 {}
 
 /// After a run without `Reserve` the capacity is at most eight more than twice the most pairs that the map held at
-/// once, or what it was at first, and all arrays take at most the bytes of a table with that capacity. What was inserted
-/// and removed on the way leaves no more.
+/// once, or what it was at first, and its memory is at most that of a table with that capacity. What was inserted and
+/// removed on the way leaves no more.
 pub fn capacity_of_a_run<K: Eq + Hash, V, S: KeyHasher<K>, L: Limit>()
     ensures capacity { CapacityLaw V S L.LIMIT K.eq }
     ensures bytes { BytesLaw V S L.LIMIT K.eq }

@@ -1,5 +1,5 @@
 //! What callers say of the work that a call does.
-ghost use Rattle.std.specs.Prelude.{◌≡◌, ◌≤◌, ◌+◌, true, length, OnOk};
+ghost use Rattle.std.specs.Prelude.{◌≡◌, ◌≤◌, ◌+◌, true, OnOk};
 ghost use Rattle.halfbrown.specs.Costs.{GrewBy, insert_cost};
 
 use halfbrown::{KeyHasher, Limit, LimitedHashMap, Refusal, Tally};

@@ -1,6 +1,6 @@
 //! Objects of a document: members by name, in the order of the document.
 ghost use Rattle.std.specs.Map.{lookup};
-ghost use Rattle.std.specs.Prelude.{◌≡◌, ◌↔◌, not, [], filter, length, IfOk, OnOk, OnErr, IfErr, IsTrue};
+ghost use Rattle.std.specs.Prelude.{◌≡◌, not, [], filter, length, IfOk, OnOk, OnErr, IfErr};
 ghost use Rattle.std.specs.Option.{option_copied};
 ghost use Rattle.halfbrown.specs.Pairs.{value_of, holds_by, put};
 ghost use Rattle.halfbrown.specs.Equality.{same_pairs};

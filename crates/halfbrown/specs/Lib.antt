@@ -15,19 +15,14 @@ pub mod Lending
 pub mod Lookup
 pub mod Making
 pub mod Match
-pub mod Memory
 pub mod Pairs
 pub mod Preparation
 pub mod RawEntry
-pub mod RawEntryBuilder
-pub mod RawEntryLending
 pub mod RawSearch
-pub mod Refusal
 pub mod Removal
 pub mod RemovalInOrder
 pub mod Replacement
 pub mod Run
-pub mod RunCost
 pub mod State
 pub mod Step
 pub mod Updates
@@ -37,6 +32,7 @@ pub use Rattle.half_store.specs.Capacity
 pub use Rattle.half_store.specs.Hash
 pub use Rattle.half_store.specs.Probe
 pub use Rattle.half_store.specs.Reach
+pub use Rattle.half_store.specs.Refusal
 pub use Rattle.half_store.specs.ValueReplacement
 pub use Rattle.half_store.specs.Search
 pub use Rattle.half_store.specs.Store

@@ -1,12 +1,13 @@
 -- Whole runs: lists of steps.
-use Rattle.std.specs.Prelude.{◌≡◌, ℕ, Bool, List, [], ◌∷◌, map}
+use Rattle.std.specs.Prelude.{◌≡◌, ℕ, Bool, not, if◌then◌else◌, List, [], ◌∷◌, map}
 use Rattle.std.specs.List.{list_any}
 use Rattle.halfbrown.specs.declared.run.Command.{Command}
+use Rattle.halfbrown.specs.declared.run.Command.TheVariants.{Insert, InsertNew, EntryOrInsert, RawOrInsert, Get, Remove}
 use Rattle.halfbrown.specs.declared.run.Reply.{Reply}
 use Rattle.halfbrown.specs.State.{State, IsState}
 use Rattle.halfbrown.specs.Step.{Step, IsValidStep, is_refused, is_shrink}
-use Rattle.halfbrown.specs.Costs.{Cost, no_cost, add_costs}
-use Rattle.halfbrown.specs.RunCost.{command_cost}
+use Rattle.halfbrown.specs.Costs.{Cost, no_cost, add_costs, key_search_cost, insert_cost, raw_insert_cost, new_key_cost}
+use Rattle.halfbrown.specs.Pairs.{holds}
 
 -- whether `Shrink` is among the commands
 abbrev pub shrinks : {K V : Type 0} → List (Command K V) → Bool
@@ -36,9 +37,20 @@ module _ {K V S : Type 0} (limit : ℕ) (eq : K → K → Bool) where
     pub replies_are : replies ≡ replies_of steps
 
   module _ (hash : S → K → ℕ) where
+    -- what a command costs on a map, by whether it was refused
+    abbrev pub command_cost : State K V S → Command K V → Bool → Cost
+    command_cost m (Insert k v) refused = insert_cost limit eq hash m k (not refused)
+    command_cost m (InsertNew k v) refused =
+        add_costs (key_search_cost eq hash m k) (if holds eq m.pairs k then no_cost else new_key_cost limit eq hash m k (not refused))
+    command_cost m (EntryOrInsert k v) refused = insert_cost limit eq hash m k (not refused)
+    command_cost m (RawOrInsert k v) refused = raw_insert_cost limit eq hash m k (not refused)
+    command_cost m (Get k) refused = key_search_cost eq hash m k
+    command_cost m (Remove k) refused = key_search_cost eq hash m k
+    command_cost m command refused = no_cost
+
     -- what a step costs
     abbrev pub step_cost : Step K V S → Cost
-    step_cost s = command_cost limit eq hash s.before s.command (is_refused s.reply)
+    step_cost s = command_cost s.before s.command (is_refused s.reply)
 
     -- what the steps cost together
     abbrev pub cost_of : List (Step K V S) → Cost

@@ -2,7 +2,6 @@
 ghost use Rattle.std.specs.Prelude.{◌≡◌, ◌^◌, ◌<◌, ◌↔◌, false, [], length, IsTrue};
 ghost use Rattle.halfbrown.specs.State.{IsState, WithPairs};
 
-mod at;
 mod clone;
 mod collect;
 mod debug;
@@ -12,13 +11,13 @@ mod find;
 mod get;
 mod growth;
 mod index;
+mod inner;
 mod insert;
 mod into_iter;
 mod iter;
 mod make;
 mod prepare;
 mod remove;
-mod replace;
 mod retain;
 mod shift_remove;
 mod switch;

@@ -1,11 +1,9 @@
 //! Raw entries: pairs by a hash that the caller knows, or by a match on keys.
 ghost use Rattle.std.specs.Prelude.{◌<◌, length};
 
-mod builder;
-mod builder_mut;
 mod debug;
-mod make;
 mod methods;
+mod search;
 mod vacant;
 
 use crate::{AtMost, DefaultHashBuilder, KeyHasher, Limit, LimitedHashMap, OccupiedEntry};

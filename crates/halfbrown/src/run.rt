@@ -2,7 +2,7 @@
 ghost use Rattle.std.specs.Prelude.{◌≡◌, ◌+◌, ◌*◌, ◌≤◌, true, false, [], length, vec_capacity, IsOk, IfOk, IfErr, OnErr};
 ghost use Rattle.halfbrown.specs.Costs.{GrewBy};
 ghost use Rattle.halfbrown.specs.Run.{Runs, cost_of, shrinks};
-ghost use Rattle.halfbrown.specs.RunCost.{command_cost};
+ghost use Rattle.halfbrown.specs.Run.{command_cost};
 ghost use Rattle.halfbrown.specs.Step.{Executes, is_refused};
 
 use crate::{KeyHasher, Limit, LimitedHashMap, Refused};

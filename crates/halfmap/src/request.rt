@@ -1,5 +1,5 @@
 //! What a line asks for.
-ghost use Rattle.std.specs.Prelude.{◌≡◌, ℕ, List, ◌++◌, IfSome, IfNone, position, take, drop, ◌∷◌, ◌+◌};
+ghost use Rattle.std.specs.Prelude.{◌≡◌, ℕ, ◌++◌, IfSome, IfNone, position, take, drop, ◌∷◌, ◌+◌};
 ghost use Rattle.halfmap.specs.Request.{Writes, WritesAfter, WritesTwo, IsTextOf, is_space};
 ghost use Rattle.halfmap.specs.declared.request.Request.{Request as RequestValue};
 

@@ -26,7 +26,7 @@ use Rattle.half_laws.specs.MapLaws.{CrowdedProbeLaw, CrowdedGrowthLaw, CrowdedUn
 use Rattle.half_laws.specs.MapLaws.{CommandBucketsLaw, finds_in_vector}
 use Rattle.halfbrown.specs.Growth.{is_full, is_vec_after}
 use Rattle.halfbrown.specs.Pairs.{holds, holds_by}
-use Rattle.halfbrown.specs.RunCost.{command_cost}
+use Rattle.halfbrown.specs.Run.{command_cost}
 use Rattle.halfbrown.specs.State.{State, state, contents_of, IsState, IsTableCapacity}
 use Rattle.halfbrown.proofs.lemmas.map.Growth.{full_len}
 use Rattle.halfbrown.proofs.lemmas.pairs.Indices.{absent_of_unheld, found_where_held}

@@ -1,5 +1,5 @@
 //! Removal that keeps the order: a pass over the buckets makes the pair the last one, and then it is removed as any other.
-ghost use Rattle.std.specs.Prelude.{◌≡◌, ℕ, ◌+◌, ◌*◌, ◌<◌, ◌≤◌, length, remove, slice_index, vec_capacity};
+ghost use Rattle.std.specs.Prelude.{◌≡◌, ◌+◌, ◌*◌, ◌<◌, ◌≤◌, length, remove, slice_index, vec_capacity};
 ghost use Rattle.half_store.specs.Buckets.{EachOnce};
 ghost use Rattle.half_store.specs.Probe.{looked_more, LooksWithin};
 ghost use Rattle.half_store.specs.Reach.{reach};

@@ -1,15 +1,7 @@
 //! The search for a key, or by a match on keys: in a vector by `==` alone, in a table by hash.
-ghost use Rattle.std.specs.Prelude.{◌≡◌, ◌+◌, ◌<◌, ℕ, Some, false, true, length, slice_get};
-ghost use Rattle.std.specs.Borrow.{Bor};
-ghost use Rattle.std.specs.Fn.{FnReturnsAt};
-ghost use Rattle.std.specs.Map.{keys_of};
-ghost use Rattle.std.specs.Result.{result_ok};
-ghost use Rattle.half_store.specs.Search.{CallableOnKeys};
-ghost use Rattle.half_store.specs.Work.{first_match_cost};
-ghost use Rattle.half_store.specs.declared.vecmap.search.Scan.TheVariants.{ByKey};
-ghost use Rattle.halfbrown.specs.Costs.{IsSearchCost, IsLookupCost, IsHashedLookupCost};
+ghost use Rattle.std.specs.Prelude.{◌≡◌, ◌+◌, ◌<◌, false};
+ghost use Rattle.halfbrown.specs.Costs.{IsLookupCost, IsHashedLookupCost};
 ghost use Rattle.halfbrown.specs.Lookup.{KeySearch};
-ghost use Rattle.halfbrown.specs.Match.{MatchSearch};
 ghost use Rattle.halfbrown.specs.State.{IsState};
 
 use super::LimitedHashMap;
@@ -51,24 +43,5 @@ impl<K: Eq + Hash, V, S: KeyHasher<K>, L: Limit> LimitedHashMap<K, V, S, L> {
             ensures { result ≡ Q.equivalent key held.now }
         { key.equivalent(held) };
         self.find_match(hash, &matches, Scan::ByBlock, tally)
-    }
-
-    /// Searches for a key that `matches` accepts: in a vector for the first, in a table among the keys of this hash.
-    #[inline(always)]
-    pub(crate) fn find_match<F: Fn(&K) -> bool>(
-        &self,
-        hash: u64,
-        matches: &F,
-        scan: Scan,
-        tally: &mut Tally,
-    ) -> Result<usize, Vacancy>
-        requires { CallableOnKeys (F.pre matches.now) (keys_of self.now.pairs) }
-        ensures found { MatchSearch (FnReturnsAt F.Fn matches.now) S.hash hash self.now result }
-        ensures cost { IsSearchCost S.hash hash self.now (result_ok result) 0 tally.old tally.new }
-        ensures in_order { scan ≡ ByKey → self.now.is_vec ≡ true → tally.new.compared
-            ≡ tally.old.compared + first_match_cost (result_ok result) (length self.now.pairs) }
-        ensures state { IsState K.eq L.LIMIT self.now }
-    {
-        self.store.find(hash, matches, scan, tally)
     }
 }

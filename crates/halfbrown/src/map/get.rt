@@ -1,9 +1,9 @@
 //! Look-ups by key.
 //!
 //! A clause `writes_back` says what the map is once the borrow that the call returns has ended.
-ghost use Rattle.std.specs.Prelude.{◌≡◌, IsTrue, Some, OnSome, ◌<◌, length, slice_get};
+ghost use Rattle.std.specs.Prelude.{◌≡◌, IsTrue, Some, OnSome, ◌<◌};
 ghost use Rattle.std.specs.Borrow.{sem};
-ghost use Rattle.std.specs.Map.{values_of, lookup, lookup_entry};
+ghost use Rattle.std.specs.Map.{lookup, lookup_entry};
 ghost use Rattle.std.specs.Map.Iter.{deref_pair};
 ghost use Rattle.std.specs.Option.{option_copied, option_copied_mut, option_map};
 ghost use Rattle.halfbrown.specs.Costs.{IsLookupCost};
@@ -18,7 +18,7 @@ use std::hash::Hash;
 use std::ops::Index;
 
 impl<K: Eq + Hash, V, S: KeyHasher<K>, L: Limit> LimitedHashMap<K, V, S, L> {
-    ghost use Rattle.halfbrown.specs.Lending.{LendsValueBy, LendsValueAt};
+    ghost use Rattle.halfbrown.specs.Lending.{LendsValueBy};
 
     /// Returns the value of the held key that equals this one. It costs one search.
     ///
@@ -148,18 +148,6 @@ impl<K: Eq + Hash, V, S: KeyHasher<K>, L: Limit> LimitedHashMap<K, V, S, L> {
             Ok(index) => self.columns().value_at(index),
             Err(_) => unreachable!(),
         }
-    }
-
-    /// The value of the pair at this index, to be written.
-    #[inline(always)]
-    pub(crate) fn value_at_mut(&mut self, index: usize) -> &mut V
-        requires { index < length self.old.pairs }
-        ensures* writes_back { sem 𝓛 (LendsValueAt K.row V.row S.row L.row S.Hasher.row K.Hash S.KeyHasher
-            L.Limit self.entry index result) }
-        ensures value { slice_get (values_of self.old.pairs) index ≡ Some result.now }
-    {
-        let (_, value) = self.store.pair_at_mut(index);
-        value
     }
 }
 

@@ -3,7 +3,7 @@ ghost use Rattle.std.specs.Prelude.{◌≡◌, ◌<◌, false, length, OnOk, OnE
 ghost use Rattle.half_store.specs.Probe.{looked_more};
 ghost use Rattle.half_store.specs.Store.{IsVacancy};
 ghost use Rattle.half_store.specs.Work.{asked_more};
-ghost use Rattle.halfbrown.specs.Costs.{probe_length, switch_asked, new_key_cost, GrewBy, IsInsertCost};
+ghost use Rattle.halfbrown.specs.Costs.{switch_asked, new_key_cost, GrewBy, IsInsertCost};
 ghost use Rattle.halfbrown.specs.Growth.{is_full, addition_needs, insert_needs, new_key_needs, IsRefusal};
 ghost use Rattle.halfbrown.specs.Pairs.{holds};
 ghost use Rattle.halfbrown.specs.Preparation.{IsReadyFor, HasVacancyFor, Prepares, growth_looks};
@@ -72,18 +72,6 @@ impl<K: Eq + Hash, V, S: KeyHasher<K>, L: Limit> LimitedHashMap<K, V, S, L> {
     {
         self.switch_if_full(tally)?;
         self.make_capacity()
-    }
-
-    /// Where a pair of a key that is not held may be added, under the key's hash: the capacity must be enough for it. In a table
-    /// its bucket is probed for, and a vector does not look at the hash.
-    #[inline(always)]
-    pub(crate) fn vacancy_for(&self, hash: u64, tally: &mut Tally) -> Vacancy
-        requires capacity { length self.now.pairs < self.now.capacity }
-        ensures vacant { IsVacancy self.now.is_vec (contents_of self.now) hash result }
-        ensures work { tally.new ≡ looked_more tally.old (probe_length
-            (S.hash self.now.builder) self.now.is_vec self.now.capacity self.now.pairs hash) }
-    {
-        self.store.vacancy_for(hash, tally)
     }
 
     // Makes the capacity enough for one pair more.

@@ -1,11 +1,9 @@
 //! Removal.
-ghost use Rattle.std.specs.Prelude.{◌≡◌, ◌<◌, false, length, slice_get, Some};
-ghost use Rattle.std.specs.Map.{values_of, lookup, lookup_entry};
+ghost use Rattle.std.specs.Prelude.{◌≡◌, ◌<◌, false, Some};
+ghost use Rattle.std.specs.Map.{lookup, lookup_entry};
 ghost use Rattle.std.specs.Option.{option_map};
-ghost use Rattle.half_store.specs.PairLists.{swap_remove_at};
 ghost use Rattle.halfbrown.specs.Costs.{IsLookupCost, IsHashedLookupCost};
 ghost use Rattle.halfbrown.specs.Removal.{Removes};
-ghost use Rattle.halfbrown.specs.State.{IsState, WithPairs};
 
 use super::LimitedHashMap;
 use crate::{Equivalent, KeyHasher, Limit};
@@ -136,17 +134,5 @@ impl<K: Eq + Hash, V, S: KeyHasher<K>, L: Limit> LimitedHashMap<K, V, S, L> {
             ensures { result ≡ Q.equivalent key held.now }
         { key.equivalent(held) };
         self.store.take(hash, &matches, tally)
-    }
-
-    /// Removes the pair at this index.
-    #[inline(always)]
-    pub(crate) fn take_at(&mut self, index: usize) -> (K, V)
-        requires { index < length self.old.pairs }
-        ensures taken { slice_get self.old.pairs index ≡ Some result }
-        ensures value { slice_get (values_of self.old.pairs) index ≡ Some result.1 }
-        ensures after { WithPairs self.old (swap_remove_at self.old.pairs index) self.new }
-        ensures state { IsState K.eq L.LIMIT self.new }
-    {
-        self.store.swap_remove(index)
     }
 }

@@ -1,8 +1,8 @@
 -- A run of two lists of commands: its steps are those of the first, and then those of the second.
-use Rattle.std.proofs.Common.{◌≡◌, ◌∙◌, ℕ, Bool, List, [], ◌∷◌, ◌++◌, ap, refl, subst, arith}
-use Rattle.std.proofs.lemmas.Grind.{common_steps}
+use Rattle.std.proofs.Common.{◌≡◌, ◌∙◌, ℕ, Bool, List, [], ◌∷◌, ◌++◌, ap, refl, sym, subst}
 use Rattle.std.proofs.lemmas.List.{map-append}
 use Rattle.halfbrown.specs.declared.run.Command.{Command}
+use Rattle.halfbrown.specs.Costs.{add_costs}
 use Rattle.halfbrown.specs.Run.{Lead, commands_of, replies_of, cost_of}
 use Rattle.halfbrown.specs.State.{State}
 use Rattle.halfbrown.specs.Step.{Step}
@@ -46,4 +46,17 @@ module _ {K V S : Type 0} (limit : ℕ) (eq : K → K → Bool) where
         }
 
     pub join_law : JoinLaw V limit eq hash
-    join_law old first second replies new cost both = grind (arith, common_steps, cost_of-append, lead_on, map-append)
+    join_law old first second replies new cost both =
+        let a = both.first_runs in
+        let b = both.second_runs in
+        let s = a.run.steps in
+        let t = b.run.steps in
+        record {
+          run = record {
+            steps = s ++ t;
+            lead = lead_on limit eq old both.between new s t a.run.lead b.run.lead;
+            commands_are = (λ i. a.run.commands_are i ++ b.run.commands_are i) ∙ sym (map-append (λ s. s.command) s t);
+            replies_are = both.replies_are ∙ (λ i. a.run.replies_are i ++ b.run.replies_are i) ∙ sym (map-append (λ s. s.reply) s t);
+          };
+          cost_is = both.cost_is ∙ (λ i. add_costs (a.cost_is i) (b.cost_is i)) ∙ sym (cost_of-append limit eq hash s t);
+        }

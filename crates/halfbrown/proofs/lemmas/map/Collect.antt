@@ -17,7 +17,7 @@ use Rattle.std.specs.Vec.Iter.{into_iter_items, into_iter_steps}
 use Rattle.std.specs.declared.vec.IntoIter.{IntoIter}
 use Rattle.half_store.specs.Work.{Work}
 use Rattle.half_store.specs.declared.refusal.Refusal.{Refusal}
-use Rattle.halfbrown.specs.Costs.{Cost, GrewBy, no_cost, add_costs, search_asked, insert_cost}
+use Rattle.halfbrown.specs.Costs.{GrewBy, no_cost, add_costs, search_asked, insert_cost}
 use Rattle.halfbrown.specs.Growth.{insert_needs, IsRefusal}
 use Rattle.halfbrown.specs.Insertion.{Puts}
 use Rattle.halfbrown.specs.Making.{IsMade}

@@ -1,4 +1,4 @@
-use Rattle.std.proofs.Common.{nat_le, refl, inl, inr, sym, subst, arith}
+use Rattle.std.proofs.Common.{nat_le, inl, inr, sym, subst, arith}
 use Rattle.std.proofs.lemmas.Grind.{common_steps}
 use Rattle.std.specs.Iterator.{Drains}
 use Rattle.halfbrown.specs.Costs.{GrewBy}

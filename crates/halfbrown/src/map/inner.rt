@@ -1,0 +1,170 @@
+//! The calls of the store, as calls of the map: what they need and do is said of the map.
+//!
+//! A clause `writes_back` says what the map is once the borrow that the call returns has ended.
+ghost use Rattle.std.specs.Prelude.{◌≡◌, ◌+◌, ◌<◌, false, true, Some, [], ◌∷◌, ◌++◌, IfSome, OnSome, length, slice_get};
+ghost use Rattle.std.specs.Borrow.{sem, Bor};
+ghost use Rattle.std.specs.Fn.{FnReturnsAt};
+ghost use Rattle.std.specs.Map.{keys_of, values_of};
+ghost use Rattle.std.specs.Option.{option_map};
+ghost use Rattle.std.specs.Result.{result_ok};
+ghost use Rattle.half_store.specs.PairLists.{set_key, set_value, swap_remove_at};
+ghost use Rattle.half_store.specs.Probe.{looked_more};
+ghost use Rattle.half_store.specs.Search.{CallableOnKeys};
+ghost use Rattle.half_store.specs.Store.{IsVacancy};
+ghost use Rattle.half_store.specs.ValueReplacement.{ReplacesValue};
+ghost use Rattle.half_store.specs.Work.{first_match_cost};
+ghost use Rattle.half_store.specs.declared.vecmap.search.Scan.TheVariants.{ByKey};
+ghost use Rattle.halfbrown.specs.Costs.{probe_length, IsSearchCost};
+ghost use Rattle.halfbrown.specs.Match.{MatchSearch};
+ghost use Rattle.halfbrown.specs.Pairs.{holds};
+ghost use Rattle.halfbrown.specs.Preparation.{pushed};
+ghost use Rattle.halfbrown.specs.State.{IsState, WithPairs, contents_of};
+ghost use Rattle.halfbrown.specs.Updates.{HasKeyReplaced};
+
+use super::LimitedHashMap;
+use crate::{KeyHasher, Limit};
+use half_store::{Columns, Scan, Tally, Vacancy};
+use std::hash::Hash;
+use std::mem::replace;
+
+impl<K: Eq + Hash, V, S: KeyHasher<K>, L: Limit> LimitedHashMap<K, V, S, L> {
+    ghost use Rattle.halfbrown.specs.Lending.{LendsValueAt};
+
+    /// The keys and the values, by index.
+    #[inline(always)]
+    pub(crate) fn columns(&self) -> &Columns<K, V>
+        ensures pairs { result.now.pairs ≡ self.now.pairs }
+        ensures state { IsState K.eq L.LIMIT self.now }
+    {
+        self.store.columns()
+    }
+
+    /// The stored key of the pair at this index, and its value, to be written.
+    #[inline(always)]
+    pub(crate) fn pair_at_mut(&mut self, index: usize) -> (&K, &mut V)
+        requires { index < length self.old.pairs }
+        ensures* writes_back { sem 𝓛 (LendsValueAt K.row V.row S.row L.row S.Hasher.row K.Hash S.KeyHasher
+            L.Limit self.entry index result.1) }
+        ensures pair { slice_get self.old.pairs index ≡ Some (result.0.now, result.1.now) }
+    {
+        self.store.pair_at_mut(index)
+    }
+
+    /// Replaces the stored key of the pair at this index by an equal one, and returns the old one.
+    #[inline(always)]
+    pub(crate) fn set_key_at(&mut self, index: usize, key: K) -> K
+        requires within { index < length self.old.pairs }
+        requires equal { IfSome (slice_get (keys_of self.old.pairs) index)
+            (λ k. K.eq key k ≡ true) }
+        ensures old { slice_get (keys_of self.old.pairs) index ≡ Some result }
+        ensures after { WithPairs self.old (set_key self.old.pairs index key) self.new }
+        ensures replaced { HasKeyReplaced K.eq self.old.pairs key self.new.pairs }
+        ensures state { IsState K.eq L.LIMIT self.new }
+    {
+        self.store.set_key(index, key)
+    }
+
+    /// Searches for a key that `matches` accepts: in a vector for the first, in a table among the keys of this hash.
+    #[inline(always)]
+    pub(crate) fn find_match<F: Fn(&K) -> bool>(
+        &self,
+        hash: u64,
+        matches: &F,
+        scan: Scan,
+        tally: &mut Tally,
+    ) -> Result<usize, Vacancy>
+        requires { CallableOnKeys (F.pre matches.now) (keys_of self.now.pairs) }
+        ensures found { MatchSearch (FnReturnsAt F.Fn matches.now) S.hash hash self.now result }
+        ensures cost { IsSearchCost S.hash hash self.now (result_ok result) 0 tally.old tally.new }
+        ensures in_order { scan ≡ ByKey → self.now.is_vec ≡ true → tally.new.compared
+            ≡ tally.old.compared + first_match_cost (result_ok result) (length self.now.pairs) }
+        ensures state { IsState K.eq L.LIMIT self.now }
+    {
+        self.store.find(hash, matches, scan, tally)
+    }
+
+    /// Where a pair of a key that is not held may be added, under the key's hash: the capacity must be enough for it. In a table
+    /// its bucket is probed for, and a vector does not look at the hash.
+    #[inline(always)]
+    pub(crate) fn vacancy_for(&self, hash: u64, tally: &mut Tally) -> Vacancy
+        requires capacity { length self.now.pairs < self.now.capacity }
+        ensures vacant { IsVacancy self.now.is_vec (contents_of self.now) hash result }
+        ensures work { tally.new ≡ looked_more tally.old (probe_length
+            (S.hash self.now.builder) self.now.is_vec self.now.capacity self.now.pairs hash) }
+    {
+        self.store.vacancy_for(hash, tally)
+    }
+
+    /// The value of the pair at this index, to be written.
+    #[inline(always)]
+    pub(crate) fn value_at_mut(&mut self, index: usize) -> &mut V
+        requires { index < length self.old.pairs }
+        ensures* writes_back { sem 𝓛 (LendsValueAt K.row V.row S.row L.row S.Hasher.row K.Hash S.KeyHasher
+            L.Limit self.entry index result) }
+        ensures value { slice_get (values_of self.old.pairs) index ≡ Some result.now }
+    {
+        let (_, value) = self.store.pair_at_mut(index);
+        value
+    }
+
+    /// Replaces the value of the pair at this index, and returns the old one.
+    #[inline(always)]
+    pub(crate) fn set_at(&mut self, index: usize, value: V) -> V
+        requires { index < length self.old.pairs }
+        ensures old { slice_get (values_of self.old.pairs) index ≡ Some result }
+        ensures after { WithPairs self.old (set_value self.old.pairs index value) self.new }
+        ensures state { IsState K.eq L.LIMIT self.new }
+    {
+        let (_, held) = self.store.pair_at_mut(index);
+        replace(held, value)
+    }
+
+    /// Adds a pair whose key is not held, at a vacancy for it. It probes nothing.
+    #[inline(always)]
+    pub(crate) fn push(&mut self, key: K, value: V, vacancy: Vacancy)
+        requires capacity { length self.old.pairs < self.old.capacity }
+        requires absent { holds K.eq self.old.pairs key ≡ false }
+        requires vacant { IsVacancy self.old.is_vec (contents_of self.old)
+            (S.hash self.old.builder key) vacancy }
+        ensures exact { self.new ≡ pushed self.old key value vacancy }
+        ensures after { WithPairs self.old (self.old.pairs ++ (key, value) ∷ []) self.new }
+        ensures state { IsState K.eq L.LIMIT self.new }
+    {
+        self.store.push(key, value, vacancy);
+    }
+
+    /// Removes the pair at this index.
+    #[inline(always)]
+    pub(crate) fn take_at(&mut self, index: usize) -> (K, V)
+        requires { index < length self.old.pairs }
+        ensures taken { slice_get self.old.pairs index ≡ Some result }
+        ensures value { slice_get (values_of self.old.pairs) index ≡ Some result.1 }
+        ensures after { WithPairs self.old (swap_remove_at self.old.pairs index) self.new }
+        ensures state { IsState K.eq L.LIMIT self.new }
+    {
+        self.store.swap_remove(index)
+    }
+
+    /// Hands the value of the pair at this index to `f`, with its key. Where `f` returns none the pair is removed, and
+    /// its key returned with its hash, at which a vector does not look.
+    #[inline]
+    pub(crate) fn replace_at<F: FnOnce(&K, V) -> Option<V>>(
+        &mut self,
+        index: usize,
+        f: F,
+    ) -> Option<(K, u64)>
+        requires within { index < length self.old.pairs }
+        requires callable { (key : Bor K) (value : V)
+            → slice_get self.old.pairs index ≡ Some (key.now, value) → F.pre f key value }
+        ensures replaces { ReplacesValue (F.post f) self.old.pairs index self.new.pairs
+            (option_map (λ removed. removed.0) result) }
+        ensures after { WithPairs self.old self.new.pairs self.new }
+        ensures hash { IfSome result
+            (λ removed. self.new.is_vec ≡ false → removed.1 ≡ S.hash self.new.builder removed.0) }
+        ensures absent { IfSome result (λ removed. holds K.eq self.new.pairs removed.0 ≡ false) }
+        ensures capacity_left { OnSome result (length self.new.pairs < self.new.capacity) }
+        ensures state { IsState K.eq L.LIMIT self.new }
+    {
+        self.store.replace_with(index, f)
+    }
+}

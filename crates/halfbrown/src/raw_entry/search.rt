@@ -1,0 +1,300 @@
+//! What raw entries are made from, and the searches of it.
+//!
+//! A clause `unchanged` says that the map stays as it is where memory is refused.
+ghost use Rattle.std.specs.Prelude.{◌≡◌, is_ok, if◌then◌else◌};
+ghost use Rattle.std.specs.Borrow.{sem};
+ghost use Rattle.std.specs.Fn.{FnReturnsAt};
+ghost use Rattle.std.specs.Map.{keys_of};
+ghost use Rattle.std.specs.Map.Iter.{deref_pair};
+ghost use Rattle.std.specs.Option.{option_map};
+ghost use Rattle.half_store.specs.Search.{CallableOnKeys};
+ghost use Rattle.half_store.specs.Work.{asked_more};
+ghost use Rattle.halfbrown.specs.Costs.{IsLookupCost, IsHashedLookupCost, switch_asked};
+ghost use Rattle.halfbrown.specs.Match.{ReadsMatch, IsMatchCost};
+ghost use Rattle.halfbrown.specs.RawEntry.{found_pair};
+ghost use Rattle.halfbrown.specs.RawSearch.{map_in, ready_map, MakesReady, RestsIfUnready, ReadsPair, EntersByKey, EntersByMatch};
+
+use super::{Prepared, RawEntryBuilder, RawEntryBuilderMut, RawEntryMut, RawVacantEntryMut};
+use crate::{Equivalent, KeyHasher, Limit, LimitedHashMap, OccupiedEntry};
+use half_store::{Refusal, Scan, Tally, uncounted};
+use std::hash::Hash;
+
+impl<K: Eq + Hash, V, S: KeyHasher<K>, L: Limit> LimitedHashMap<K, V, S, L> {
+    /// Look-ups by a known hash, or by a match on keys. It costs nothing.
+    ///
+    /// ```
+    /// assert_eq!(rt; ages.raw_entry().from_key(&2), Some((&2, &41)));
+    /// ```
+    #[inline(always)]
+    pub fn raw_entry(&self) -> RawEntryBuilder<'_, K, V, S, L>
+        ensures { map_in result ≡ self.now }
+    {
+        RawEntryBuilder { map: self }
+    }
+
+    /// Makes what a raw entry is searched through: by a known hash or by a match on keys, to read, write, remove or add
+    /// a pair.
+    ///
+    /// A full vector becomes a table first, and the capacity is made enough for one more pair, whatever is searched
+    /// afterwards. Fails only where more capacity is needed, and then nothing changes. No call on the entry fails.
+    ///
+    /// ```
+    /// let (_, age) = ages.raw_entry_mut()?.from_key(&3).or_insert(3, 5);
+    /// assert_eq!(rt; *age, 5);
+    /// ```
+    #[inline]
+    pub fn raw_entry_mut(&mut self) -> Result<RawEntryBuilderMut<'_, K, V, S, L>, Refusal>
+        ensures* unchanged { sem 𝓛 (RestsIfUnready K.row V.row S.row L.row S.Hasher.row self.entry result) }
+        ensures makes { MakesReady L.LIMIT K.eq self.entry result }
+    {
+        uncounted!(self.raw_entry_mut_counted())
+    }
+
+    /// `raw_entry_mut`, with its work counted: one hash for each pair at a switch, and nothing else.
+    #[inline]
+    pub fn raw_entry_mut_counted(
+        &mut self,
+        tally: &mut Tally,
+    ) -> Result<RawEntryBuilderMut<'_, K, V, S, L>, Refusal>
+        ensures* unchanged { sem 𝓛 (RestsIfUnready K.row V.row S.row L.row S.Hasher.row self.entry result) }
+        ensures makes { MakesReady L.LIMIT K.eq self.entry result }
+        ensures cost { tally.new ≡ (if is_ok result
+            then asked_more (switch_asked L.LIMIT self.old) tally.old else tally.old) }
+    {
+        match self.make_room(tally) {
+            Ok(()) => Ok(RawEntryBuilderMut::Ready(Prepared { map: self })),
+            Err(why) => Err(why),
+        }
+    }
+}
+
+impl<'a, K: Eq + Hash, V, S: KeyHasher<K>, L: Limit> RawEntryBuilder<'a, K, V, S, L> {
+    /// Returns the stored key that equals this one, and its value. It costs one search.
+    ///
+    /// ```
+    /// assert_eq!(rt; ages.raw_entry().from_key(&1), Some((&1, &36)));
+    /// ```
+    #[inline(always)]
+    pub fn from_key<Q: Equivalent<K>>(self, key: Q) -> Option<(&'a K, &'a V)>
+        ensures { ReadsPair (Q.equivalent key) (map_in self.entry) result }
+    {
+        uncounted!(self.from_key_counted(key))
+    }
+
+    /// `from_key`, with its work counted: that of one search.
+    #[inline(always)]
+    pub fn from_key_counted<Q: Equivalent<K>>(
+        self,
+        key: Q,
+        tally: &mut Tally,
+    ) -> Option<(&'a K, &'a V)>
+        ensures reads { ReadsPair (Q.equivalent key) (map_in self.entry) result }
+        ensures cost { IsLookupCost S.hash (S.hash_writes (map_in self.entry).builder
+            (Q.hash_input key)) (Q.equivalent key) (map_in self.entry) tally.old tally.new }
+    {
+        match self.map.find(key, tally) {
+            Ok(index) => Some(self.map.columns().pair_at(index)),
+            Err(_) => None,
+        }
+    }
+
+    /// `from_key` by a hash that is known, which must be the builder's hash of the key. Nothing is hashed.
+    ///
+    /// ```
+    /// let hash = ages.hasher().hash_one(&1u64);
+    /// assert_eq!(rt; ages.raw_entry().from_key_hashed_nocheck(hash, &1), Some((&1, &36)));
+    /// ```
+    #[inline(always)]
+    pub fn from_key_hashed_nocheck<Q: Equivalent<K>>(
+        self,
+        hash: u64,
+        key: Q,
+    ) -> Option<(&'a K, &'a V)>
+        requires { hash ≡ S.hash_writes (map_in self).builder (Q.hash_input key) }
+        ensures { ReadsPair (Q.equivalent key) (map_in self.entry) result }
+    {
+        uncounted!(self.from_key_hashed_nocheck_counted(hash, key))
+    }
+
+    /// `from_key_hashed_nocheck`, with its work counted: that of one search, with no hash.
+    #[inline(always)]
+    pub fn from_key_hashed_nocheck_counted<Q: Equivalent<K>>(
+        self,
+        hash: u64,
+        key: Q,
+        tally: &mut Tally,
+    ) -> Option<(&'a K, &'a V)>
+        requires { hash ≡ S.hash_writes (map_in self).builder (Q.hash_input key) }
+        ensures reads { ReadsPair (Q.equivalent key) (map_in self.entry) result }
+        ensures cost { IsHashedLookupCost S.hash (S.hash_writes (map_in self.entry).builder
+            (Q.hash_input key)) (Q.equivalent key) (map_in self.entry) tally.old tally.new }
+    {
+        match self.map.find_hashed(hash, key, tally) {
+            Ok(index) => Some(self.map.columns().pair_at(index)),
+            Err(_) => None,
+        }
+    }
+
+    /// Returns a pair whose key `is_match` accepts, and none exactly where there is none. In a vector it is the first
+    /// such pair, whatever the hash. In a table it is one among those of this hash. Any hash may be given.
+    ///
+    /// `is_match` is called only with held keys, and in a table only with those of this hash.
+    ///
+    /// ```
+    /// let hash = ages.hasher().hash_one(&1u64);
+    /// assert_eq!(rt; ages.raw_entry().from_hash(hash, |id| *id == 1), Some((&1, &36)));
+    /// ```
+    #[inline(always)]
+    pub fn from_hash<F: Fn(&K) -> bool>(self, hash: u64, is_match: F) -> Option<(&'a K, &'a V)>
+        requires { CallableOnKeys (F.pre is_match) (keys_of (map_in self).pairs) }
+        ensures { ReadsMatch (FnReturnsAt F.Fn is_match) S.hash hash (map_in self.entry)
+            (option_map deref_pair result) }
+    {
+        uncounted!(self.from_hash_counted(hash, is_match))
+    }
+
+    /// `from_hash`, with its work counted: that of one search, with no hash.
+    #[inline(always)]
+    pub fn from_hash_counted<F: Fn(&K) -> bool>(
+        self,
+        hash: u64,
+        is_match: F,
+        tally: &mut Tally,
+    ) -> Option<(&'a K, &'a V)>
+        requires { CallableOnKeys (F.pre is_match) (keys_of (map_in self).pairs) }
+        ensures found { ReadsMatch (FnReturnsAt F.Fn is_match) S.hash hash (map_in self.entry)
+            (option_map deref_pair result) }
+        ensures cost { IsMatchCost S.hash hash (map_in self.entry) (option_map deref_pair result)
+            tally.old tally.new }
+    {
+        let index = self
+            .map
+            .find_match(hash, &is_match, Scan::ByKey, tally)
+            .ok()?;
+        Some(self.map.columns().pair_at(index))
+    }
+}
+
+impl<'a, K: Eq + Hash, V, S: KeyHasher<K>, L: Limit> RawEntryBuilderMut<'a, K, V, S, L> {
+    /// The entry of the held key that equals this one, or a vacant entry. It costs one search.
+    ///
+    /// ```
+    /// let age = match ages.raw_entry_mut()?.from_key(&1) {
+    ///     RawEntryMut::Occupied(entry) => *entry.into_mut(),
+    ///     RawEntryMut::Vacant(_vacant) => 0,
+    /// };
+    /// assert_eq!(rt; age, 36);
+    /// ```
+    #[inline]
+    pub fn from_key<Q: Equivalent<K>>(self, key: Q) -> RawEntryMut<'a, K, V, S, L>
+        ensures { EntersByKey L.LIMIT K.eq (Q.equivalent key) self.entry result }
+    {
+        uncounted!(self.from_key_counted(key))
+    }
+
+    /// `from_key`, with its work counted: that of one search.
+    #[inline]
+    pub fn from_key_counted<Q: Equivalent<K>>(
+        self,
+        key: Q,
+        tally: &mut Tally,
+    ) -> RawEntryMut<'a, K, V, S, L>
+        ensures searches { EntersByKey L.LIMIT K.eq (Q.equivalent key) self.entry result }
+        ensures cost { IsLookupCost S.hash (S.hash_writes (ready_map self.entry).builder
+            (Q.hash_input key)) (Q.equivalent key) (ready_map self.entry) tally.old tally.new }
+    {
+        let RawEntryBuilderMut::Ready(ready) = self;
+        match ready.map.find(key, tally) {
+            Ok(index) => RawEntryMut::Occupied(OccupiedEntry {
+                map: ready.map,
+                index,
+            }),
+            Err(_) => RawEntryMut::Vacant(RawVacantEntryMut { map: ready.map }),
+        }
+    }
+
+    /// `from_key` by a hash that is known, which must be the builder's hash of the key. Nothing is hashed.
+    ///
+    /// ```
+    /// let hash = ages.hasher().hash_one(&1u64);
+    /// let entry = ages.raw_entry_mut()?.from_key_hashed_nocheck(hash, &1).insert(1, 37);
+    /// assert_eq!(rt; *entry.get(), 37);
+    /// ```
+    #[inline]
+    pub fn from_key_hashed_nocheck<Q: Equivalent<K>>(
+        self,
+        hash: u64,
+        key: Q,
+    ) -> RawEntryMut<'a, K, V, S, L>
+        requires { hash ≡ S.hash_writes (ready_map self).builder (Q.hash_input key) }
+        ensures { EntersByKey L.LIMIT K.eq (Q.equivalent key) self.entry result }
+    {
+        uncounted!(self.from_key_hashed_nocheck_counted(hash, key))
+    }
+
+    /// `from_key_hashed_nocheck`, with its work counted: that of one search, with no hash.
+    #[inline]
+    pub fn from_key_hashed_nocheck_counted<Q: Equivalent<K>>(
+        self,
+        hash: u64,
+        key: Q,
+        tally: &mut Tally,
+    ) -> RawEntryMut<'a, K, V, S, L>
+        requires { hash ≡ S.hash_writes (ready_map self).builder (Q.hash_input key) }
+        ensures searches { EntersByKey L.LIMIT K.eq (Q.equivalent key) self.entry result }
+        ensures cost { IsHashedLookupCost S.hash (S.hash_writes (ready_map self.entry).builder
+            (Q.hash_input key)) (Q.equivalent key) (ready_map self.entry) tally.old tally.new }
+    {
+        let RawEntryBuilderMut::Ready(ready) = self;
+        match ready.map.find_hashed(hash, key, tally) {
+            Ok(index) => RawEntryMut::Occupied(OccupiedEntry {
+                map: ready.map,
+                index,
+            }),
+            Err(_) => RawEntryMut::Vacant(RawVacantEntryMut { map: ready.map }),
+        }
+    }
+
+    /// The entry of a pair whose key `is_match` accepts, which is vacant exactly where there is none. In a vector it is
+    /// the first such pair, whatever the hash. In a table it is one among those of this hash. Any hash may be given.
+    ///
+    /// `is_match` is called only with held keys, and in a table only with those of this hash.
+    ///
+    /// ```
+    /// let hash = ages.hasher().hash_one(&1u64);
+    /// ages.raw_entry_mut()?.from_hash(hash, |id| *id == 1).and_modify(|_, age| *age = 37);
+    /// assert_eq!(rt; ages.get(&1), Some(&37));
+    /// ```
+    #[inline]
+    pub fn from_hash<F: Fn(&K) -> bool>(self, hash: u64, is_match: F) -> RawEntryMut<'a, K, V, S, L>
+        requires { CallableOnKeys (F.pre is_match) (keys_of (ready_map self).pairs) }
+        ensures { EntersByMatch L.LIMIT K.eq (FnReturnsAt F.Fn is_match)
+            S.hash hash self.entry result }
+    {
+        uncounted!(self.from_hash_counted(hash, is_match))
+    }
+
+    /// `from_hash`, with its work counted: that of one search, with no hash.
+    #[inline]
+    pub fn from_hash_counted<F: Fn(&K) -> bool>(
+        self,
+        hash: u64,
+        is_match: F,
+        tally: &mut Tally,
+    ) -> RawEntryMut<'a, K, V, S, L>
+        requires { CallableOnKeys (F.pre is_match) (keys_of (ready_map self).pairs) }
+        ensures searches { EntersByMatch L.LIMIT K.eq (FnReturnsAt F.Fn is_match)
+            S.hash hash self.entry result }
+        ensures cost { IsMatchCost S.hash hash (ready_map self.entry) (found_pair result)
+            tally.old tally.new }
+    {
+        let RawEntryBuilderMut::Ready(ready) = self;
+        match ready.map.find_match(hash, &is_match, Scan::ByKey, tally) {
+            Ok(index) => RawEntryMut::Occupied(OccupiedEntry {
+                map: ready.map,
+                index,
+            }),
+            Err(_) => RawEntryMut::Vacant(RawVacantEntryMut { map: ready.map }),
+        }
+    }
+}
