@@ -1,10 +1,16 @@
 -- What an insertion does where it is granted, and what it hands back where it is refused.
-use Rattle.std.specs.Prelude.{◌≡◌, ℕ, Bool, Option, Result, OnOk, IfOk, IfErr}
+use Rattle.std.specs.Prelude.{◌≡◌, ℕ, Bool, Option, Some, Result, Ok, Err, OnOk, IfOk, IfErr}
+use Rattle.std.specs.Map.{keys_of}
 use Rattle.halfbrown.specs.declared.refused.Refused.{Refused}
 use Rattle.halfbrown.specs.Growth.{is_vec_after, insert_needs, new_key_needs, IsRefusal, IsGrantable, HasCapacityAfter}
-use Rattle.halfbrown.specs.Pairs.{put, value_of}
+use Rattle.halfbrown.specs.Pairs.{index_of, put, value_of}
 use Rattle.halfbrown.specs.State.{State, IsState}
 use Rattle.halfbrown.specs.Updates.{HasPut}
+
+-- the result without the index in it
+abbrev pub without_index : {V E : Type 0} → Result (ℕ × Option V) E → Result (Option V) E
+without_index (Ok inserted) = Ok inserted.1
+without_index (Err why) = Err why
 
 module _ {K V S : Type 0} where
   -- a granted insertion of (k, v) that needed this much capacity: the pair is put, and a full vector has become a table
@@ -31,6 +37,11 @@ module _ {K V S : Type 0} where
       pub put : OnOk result (HasPut eq old.pairs k v new.pairs)
       pub returned : IfErr result (HandsBack old k v (insert_needs limit eq old k) new)
       pub state : IsState eq limit new
+
+    -- an insertion of (k, v) that returns the index of its pair too
+    pub record InsertsAt (result : Result (ℕ × Option V) (Refused K V)) (new : State K V S) : Type 0 where
+      pub index : IfOk result (λ inserted. index_of (eq k) (keys_of new.pairs) ≡ Some inserted.0)
+      pub inserts : Inserts (without_index result) new
 
     -- an insertion of (k, v) without a search for k, which is not held
     pub record InsertsNewKey (result : Result (Unit {0}) (Refused K V)) (new : State K V S) : Type 0 where

@@ -1,11 +1,11 @@
 //! The calls of an entry.
 //!
 //! A clause `writes_back` says what the map is once the borrow that the call returns has ended.
-ghost use Rattle.std.specs.Prelude.{◌≡◌, None, Some, unwrap_or};
+ghost use Rattle.std.specs.Prelude.{◌≡◌, true, false, None, Some, length, slice_get, unwrap_or};
 ghost use Rattle.std.specs.Borrow.{sem, MutBor};
 ghost use Rattle.std.specs.Map.Calls.{ModifiesValue};
 ghost use Rattle.std.specs.Option.{UnwrapsOrElse};
-ghost use Rattle.halfbrown.specs.Entry.{entry_key, entry_value, ModifiesEntry};
+ghost use Rattle.halfbrown.specs.Entry.{is_occupied, map_of, entry_key, entry_pair, entry_value, ModifiesEntry};
 ghost use Rattle.halfbrown.specs.EntryLending.{EntryLends};
 
 use super::Entry;
@@ -81,6 +81,24 @@ impl<'a, K: Eq + Hash, V, S: KeyHasher<K>, L: Limit> Entry<'a, K, V, S, L> {
         match self {
             Entry::Occupied(entry) => entry.into_mut(),
             Entry::Vacant(entry) => entry.insert(V::default()),
+        }
+    }
+
+    /// The index of its pair in the order of the pairs: the one that it has, or that of a pair added through the entry.
+    ///
+    /// ```
+    /// assert_eq!(rt; ages.entry(2)?.index(), 1);
+    /// assert_eq!(rt; ages.entry(3)?.index(), 2);
+    /// ```
+    #[inline(always)]
+    pub fn index(&self) -> usize
+        ensures held { is_occupied self.now ≡ true
+            → slice_get (map_of self.now).pairs result ≡ entry_pair self.now }
+        ensures vacant { is_occupied self.now ≡ false → result ≡ length (map_of self.now).pairs }
+    {
+        match self {
+            Entry::Occupied(entry) => entry.index(),
+            Entry::Vacant(entry) => entry.index(),
         }
     }
 

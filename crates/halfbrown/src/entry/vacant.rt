@@ -5,7 +5,7 @@
 //! ```
 //!
 //! A clause `writes_back` says what the map is once the borrow that the call returns has ended.
-ghost use Rattle.std.specs.Prelude.{◌≡◌, Some};
+ghost use Rattle.std.specs.Prelude.{◌≡◌, Some, length};
 ghost use Rattle.std.specs.Borrow.{sem};
 ghost use Rattle.halfbrown.specs.Entry.{Vacant, entry_key, map_of};
 ghost use Rattle.halfbrown.specs.EntryLending.{EntryLends};
@@ -44,6 +44,18 @@ impl<'a, K: Eq + Hash, V, S: KeyHasher<K>, L: Limit> VacantEntry<'a, K, V, S, L>
             vacancy: _,
         } = self;
         key
+    }
+
+    /// The index that a pair added through the entry gets: the number of pairs.
+    ///
+    /// ```
+    /// assert_eq!(rt; entry.index(), 2);
+    /// ```
+    #[inline(always)]
+    pub fn index(&self) -> usize
+        ensures { result ≡ length (map_of (Vacant self.now)).pairs }
+    {
+        self.map.len()
     }
 
     /// Adds the pair at the end, and returns its value, to be written for as long as the map is borrowed. It needs no

@@ -90,6 +90,46 @@ impl<K: Eq + Hash, V, S: KeyHasher<K>, L: Limit> LimitedHashMap<K, V, S, L> {
         self.get_index(self.len().saturating_sub(1))
     }
 
+    /// Returns the value of the first pair, to be written, or none where the map is empty. Nothing is hashed or compared.
+    ///
+    /// ```
+    /// if let Some(age) = ages.first_mut() {
+    ///     *age = 37;
+    /// }
+    /// assert_eq!(rt; ages.get(&1), Some(&37));
+    /// ```
+    #[inline(always)]
+    pub fn first_mut(&mut self) -> Option<&mut V>
+        ensures* writes_back { sem 𝓛 (LendsValueIfAt K.row V.row S.row L.row S.Hasher.row K.Hash
+            S.KeyHasher L.Limit self.entry 0 result) }
+        ensures value { option_copied_mut result ≡ slice_get (values_of self.old.pairs) 0 }
+        ensures held { IsSome result ↔ (0 < length self.old.pairs) }
+        ensures state { IsState K.eq L.LIMIT self.old }
+    {
+        self.get_index_mut(0)
+    }
+
+    /// Returns the value of the last pair, to be written, or none where the map is empty. Nothing is hashed or compared.
+    ///
+    /// ```
+    /// if let Some(age) = ages.last_mut() {
+    ///     *age = 42;
+    /// }
+    /// assert_eq!(rt; ages.get(&2), Some(&42));
+    /// ```
+    #[inline(always)]
+    pub fn last_mut(&mut self) -> Option<&mut V>
+        ensures* writes_back { sem 𝓛 (LendsValueIfAt K.row V.row S.row L.row S.Hasher.row K.Hash
+            S.KeyHasher L.Limit self.entry (length self.old.pairs - 1) result) }
+        ensures value { option_copied_mut result
+            ≡ slice_get (values_of self.old.pairs) (length self.old.pairs - 1) }
+        ensures held { IsSome result ↔ (0 < length self.old.pairs) }
+        ensures state { IsState K.eq L.LIMIT self.old }
+    {
+        let index = self.len().saturating_sub(1);
+        self.get_index_mut(index)
+    }
+
     /// Returns the index of the pair whose key equals this one, or none where no such key is held. It costs one search.
     ///
     /// ```

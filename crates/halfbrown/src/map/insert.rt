@@ -1,7 +1,7 @@
 //! Insertion, and what it writes: a value replaced, or a pair added whose key is not held.
 ghost use Rattle.std.specs.Prelude.{◌≡◌, ◌<◌, false, Some, is_ok};
 ghost use Rattle.halfbrown.specs.Costs.{new_key_cost, GrewBy, IsInsertCost};
-ghost use Rattle.halfbrown.specs.Insertion.{Inserts, InsertsNewKey};
+ghost use Rattle.halfbrown.specs.Insertion.{Inserts, InsertsAt, InsertsNewKey};
 ghost use Rattle.halfbrown.specs.Pairs.{holds};
 
 use super::LimitedHashMap;
@@ -52,6 +52,46 @@ impl<K: Eq + Hash, V, S: KeyHasher<K>, L: Limit> LimitedHashMap<K, V, S, L> {
             Ok(Err(vacancy)) => {
                 self.push(key, value, vacancy);
                 Ok(None)
+            }
+            Err(why) => Err(Refused { key, value, why }),
+        }
+    }
+
+    /// `insert`, which returns the index of the pair too.
+    ///
+    /// ```
+    /// assert_eq!(rt; ages.insert_full(2, 42)?, (1, Some(41)));
+    /// assert_eq!(rt; ages.insert_full(3, 5)?, (2, None));
+    /// ```
+    #[inline]
+    pub fn insert_full(&mut self, key: K, value: V) -> Result<(usize, Option<V>), Refused<K, V>>
+    where
+        K: Drop,
+        ensures { InsertsAt L.LIMIT K.eq self.old key value result self.new }
+    {
+        uncounted!(self.insert_full_counted(key, value))
+    }
+
+    /// `insert_full`, with its work counted: that of `insert`.
+    #[inline]
+    pub fn insert_full_counted(
+        &mut self,
+        key: K,
+        value: V,
+        tally: &mut Tally,
+    ) -> Result<(usize, Option<V>), Refused<K, V>>
+    where
+        K: Drop,
+        ensures inserts { InsertsAt L.LIMIT K.eq self.old key value result self.new }
+        ensures cost { IsInsertCost L.LIMIT K.eq S.hash self.old key (is_ok result)
+            tally.old tally.new }
+    {
+        match self.prepare(&key, tally) {
+            Ok(Ok(index)) => Ok((index, Some(self.set_at(index, value)))),
+            Ok(Err(vacancy)) => {
+                let index = self.len();
+                self.push(key, value, vacancy);
+                Ok((index, None))
             }
             Err(why) => Err(Refused { key, value, why }),
         }

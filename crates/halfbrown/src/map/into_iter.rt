@@ -1,13 +1,16 @@
 //! A map in a `for` loop, lent or by value.
 ghost use Rattle.std.specs.Prelude.{◌≡◌, ◌^◌, ◌<◌, length};
 ghost use Rattle.std.specs.Borrow.{sem};
+ghost use Rattle.std.specs.Map.{keys_of, values_of};
 ghost use Rattle.std.specs.Map.Iter.{GivesInOrder, ShowsValuesInOrder};
+ghost use Rattle.std.specs.Vec.Iter.{into_iter_items};
 ghost use Rattle.halfbrown.specs.State.{IsState};
 
 use super::LimitedHashMap;
 use crate::{IntoIter, Iter, KeyHasher, Limit};
 use std::hash::Hash;
 use std::iter::IntoIterator;
+use std::vec;
 
 impl<'a, K: Eq + Hash, V, S: KeyHasher<K>, L: Limit> IntoIterator
     for &'a LimitedHashMap<K, V, S, L> {
@@ -74,13 +77,55 @@ impl<K: Eq + Hash + Drop, V: Drop, S: KeyHasher<K> + Drop, L: Limit> IntoIterato
 
     // The builder and the table are dropped at once: the iterator has the two columns alone.
     fn into_iter(self) -> IntoIter<K, V> {
+        let (keys, values) = self.into_columns();
+        IntoIter::new(keys, values)
+    }
+}
+
+impl<K: Eq + Hash + Drop, V: Drop, S: KeyHasher<K> + Drop, L: Limit> LimitedHashMap<K, V, S, L> {
+    /// The keys, in order, by value. The values, the builder and the table are dropped at once. It takes no memory.
+    ///
+    /// ```
+    /// assert_eq!(rt; ages.into_keys().next(), Some(1));
+    /// ```
+    pub fn into_keys(self) -> vec::IntoIter<K>
+        ensures items { into_iter_items result ≡ keys_of self.pairs }
+        ensures small { length self.pairs < 2 ^ 63 }
+        ensures state { IsState K.eq L.LIMIT self }
+    {
+        let (keys, values) = self.into_columns();
+        drop(values);
+        keys.into_iter()
+    }
+
+    /// The values, in order, by value. The keys, the builder and the table are dropped at once. It takes no memory.
+    ///
+    /// ```
+    /// assert_eq!(rt; ages.into_values().next(), Some(36));
+    /// ```
+    pub fn into_values(self) -> vec::IntoIter<V>
+        ensures items { into_iter_items result ≡ values_of self.pairs }
+        ensures small { length self.pairs < 2 ^ 63 }
+        ensures state { IsState K.eq L.LIMIT self }
+    {
+        let (keys, values) = self.into_columns();
+        drop(keys);
+        values.into_iter()
+    }
+
+    // The two columns. The builder and the table are dropped.
+    fn into_columns(self) -> (Vec<K>, Vec<V>)
+        ensures keys { result.0.items ≡ keys_of self.pairs }
+        ensures values { result.1.items ≡ values_of self.pairs }
+        ensures small { length self.pairs < 2 ^ 63 }
+        ensures state { IsState K.eq L.LIMIT self }
+    {
         let LimitedHashMap {
             store,
             builder,
             limit: _,
         } = self;
         drop(builder);
-        let (keys, values) = store.into_columns();
-        IntoIter::new(keys, values)
+        store.into_columns()
     }
 }

@@ -1,10 +1,11 @@
 -- Insertions: what was prepared for a pair, and the pair put then.
-use Rattle.std.proofs.Common.{◌≡◌, ℕ, Bool, List, Option, Ok, sym, ap, subst, ◌∙◌, arith}
+use Rattle.std.proofs.Common.{◌≡◌, ℕ, Bool, List, Option, Some, Ok, sym, ap, subst, ◌∙◌, arith}
 use Rattle.std.proofs.lemmas.Grind.{common_steps}
 use Rattle.std.specs.Cmp.{IsEquivalence}
+use Rattle.std.specs.Map.{keys_of}
 use Rattle.halfbrown.specs.Growth.{insert_needs, new_key_needs}
-use Rattle.halfbrown.specs.Insertion.{Puts, Inserts, InsertsNewKey}
-use Rattle.halfbrown.specs.Pairs.{put, value_of}
+use Rattle.halfbrown.specs.Insertion.{Puts, Inserts, InsertsAt, InsertsNewKey}
+use Rattle.halfbrown.specs.Pairs.{index_of, put, value_of}
 use Rattle.halfbrown.specs.Preparation.{Prepares}
 use Rattle.halfbrown.specs.State.{State, IsState, WithPairs}
 use Rattle.halfbrown.specs.Updates.{HasPut}
@@ -26,6 +27,15 @@ module _ {K V S : Type 0} (limit : ℕ) (eq : K → K → Bool) (laws : IsEquiva
   pub inserted : Prepares limit old (insert_needs limit eq old k) middle → (before : Option V) → before ≡ value_of eq middle.pairs k
       → IsState eq limit new → Inserts limit eq old k v (Ok before) new
   inserted prepared before was now = grind (arith, common_steps, has_put_now, puts_now)
+
+  -- the same, and the index of its pair
+  pub inserted_at : Prepares limit old (insert_needs limit eq old k) middle → (index : ℕ) (before : Option V)
+      → before ≡ value_of eq middle.pairs k → index_of (eq k) (keys_of ps) ≡ Some index
+      → IsState eq limit new → InsertsAt limit eq old k v (Ok (index, before)) new
+  inserted_at prepared index before was at now = record {
+    index = ap (λ qs. index_of (eq k) (keys_of qs)) written.pairs ∙ at;
+    inserts = inserted prepared before was now;
+  }
 
   -- a granted insertion without a search
   pub inserted_unchecked : Prepares limit old (new_key_needs limit old) middle → IsState eq limit new

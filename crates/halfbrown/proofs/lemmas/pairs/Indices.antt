@@ -1,7 +1,8 @@
 -- Where a key stands among pairs of distinct keys, and what that says of reading and changing them.
-use Rattle.std.proofs.Common.{◌≡◌, ℕ, zero, suc, ◌<◌, Bool, true, false, cond, ◌||◌, List, [], ◌∷◌, length, get_or, slice_get, Option, None}
+use Rattle.std.proofs.Common.{◌≡◌, ℕ, zero, suc, ◌<◌, Bool, true, false, cond, ◌||◌, List, [], ◌∷◌, ◌++◌, length, get_or, slice_get, Option, None}
 use Rattle.std.proofs.Common.{Some, is_some, sym, refl, ap, ◌∙◌, arith, true≢false}
 use Rattle.std.proofs.lemmas.Grind.{common_steps}
+use Rattle.std.proofs.lemmas.List.{map-append}
 use Rattle.std.specs.Option.{option_map}
 use Rattle.std.specs.List.{IsDistinct, list_any}
 use Rattle.std.specs.Map.{keys_of, values_of, lookup, lookup_entry}
@@ -44,6 +45,12 @@ module _ {K : Type 0} (test : K → Bool) where
   index_of-first (k ∷ ks) zero f = ap (λ b. cond b (Some 0) (option_map suc (index_of test ks))) f
   index_of-first (k ∷ ks) (suc i) f = ap (λ b. cond b (Some 0) (option_map suc (index_of test ks))) f.0
       ∙ ap (option_map suc) (index_of-first ks i f.1)
+
+  -- a key that passes behind keys that do not is the first
+  pub index_of-last : (ks : List K) (k : K) → NonePasses ks → test k ≡ true → index_of test (ks ++ k ∷ []) ≡ Some (length ks)
+  index_of-last [] k n passes = ap (λ b. cond b (Some 0) (option_map suc None)) passes
+  index_of-last (l ∷ ks) k n passes = ap (λ b. cond b (Some 0) (option_map suc (index_of test (ks ++ k ∷ [])))) n.0
+      ∙ ap (option_map suc) (index_of-last ks k n.1 passes)
 
   pub index_of-none : (ks : List K) → NonePasses ks → index_of test ks ≡ None
   index_of-none [] n = refl
@@ -138,6 +145,12 @@ module _ {K V : Type 0} (test : K → Bool) where
 
   pub absent_of_index : (ps : List (K × V)) → None ≡ index_of test (keys_of ps) → IsAbsent test ps
   absent_of_index ps e = absent_of_none ps (none_of_index test (keys_of ps) (sym e))
+
+  -- a pair behind pairs of which no key passes
+  pub index_of-added : (ps : List (K × V)) (k : K) (v : V) → index_of test (keys_of ps) ≡ None → test k ≡ true
+      → index_of test (keys_of (ps ++ (k, v) ∷ [])) ≡ Some (length ps)
+  index_of-added ps k v none passes = ap (index_of test) (map-append (λ p. p.0) ps ((k, v) ∷ []))
+      ∙ index_of-last test (keys_of ps) k (none_of_index test (keys_of ps) none) passes ∙ ap (λ n. Some n) (length-keys_of ps)
 
   found_by : (ps : List (K × V)) (found : Option ℕ) → found ≡ index_of test (keys_of ps) → is_some found ≡ holds_by test ps
   found_by ps None e = sym (absent_of_index ps e).held
