@@ -26,7 +26,7 @@ RULES = (
      r"fn \w+_counted\b(?:<.*?>)?\((?!\s*&?(?:mut )?self\b)", "| map/collect 1, run 1 |"),
     ("The libraries make no plain call: these are calls of entries and tables, of std's traits and of the program.",
      r"(?<!fn )\b(?:PLAIN)(?:::<[^()]*>)?\(|::(?:PLAIN)\b(?!\()",
-     "store/change 2, store/shift 2, table/shift 1, vecmap/shift 2 | entry/debug 1, entry/methods 4, entry/occupied 2, "
+     "store/change 2, store/shift 2, table/shift 1, vecmap/shift 2 | entry/debug 1, entry/methods 6, entry/occupied 2, "
      "map/collect 2, map/debug 1, map/equality 1, map/shift_remove 1, raw_entry/debug 1, raw_entry/methods 1, run 3 | answer 3"),
     ("Slices are indexed, and no map.", r"[\w\])]\[",
      "buckets 1, table/deletion 2, table/probe 1, table/rehash 2, vecmap/replace 1, vecmap/retain 2, vecmap/search 1, vecmap 7, words 4 |  | "
@@ -50,12 +50,12 @@ RULES = (
      r"\b(?:alloc|allocator|push|reserve\w*|extend\w*|append|resize\w*|clone\w*|copy|copied|grow\w*|collect)\b",
      "blocks 11, store/change 2, store/drain 1, store/memory 16, store/switch 5, store 2, table/memory 9, vecmap/slices 2, "
      "vecmap/memory 19, vecmap 4, words 15 | entry/vacant 1, iter/column 2, iter 4, macros 4, map/clone 7, map/collect 16, "
-     "map/switch 1, map/growth 2, map/inner 2, map/insert 2, map/make 12, map/prepare 2, map 3, raw_entry/vacant 1, run 6 | lines 1, main 1, "
+     "map/switch 1, map/growth 2, map/inner 2, map/insert 3, map/make 12, map/prepare 2, map 3, raw_entry/vacant 1, run 6 | lines 1, main 1, "
      "session 10"),
     ("A refusal is made, handed on or looked at in these places.",
      r"\bErr\b|\bRefusal::\w|\bAllocError\b(?!>)|\bStopped\b(?!>)|\bNoRoom\b|\b(?:check_size|ok_or\w*)\(",
      "blocks 2, refusal 13, store/change 2, store/find 3, store/memory 3, table/deletion 2, table/find 3, table/memory 1, "
-     "table/probe 1, vecmap/memory 3, words 2 | entry/find 3, map/collect 8, map/get 2, map/insert 5, map/prepare 2, "
+     "table/probe 1, vecmap/memory 3, words 2 | entry/find 3, map/collect 8, map/get 2, map/insert 8, map/prepare 2, "
      "raw_entry/search 7, refused 4, run 6 | answer 4, lines 5, main 2, session 11"),
     ("Where no clause says when a call fails, these words do: memory was refused, two counts differ, or u64 ends.",
      r"if words\.capacity\(\) == words\.len\(\) \{\s*Ok\(WordVec \{ words \}\)\s*\} else \{\s*Err\(AllocError\)"
