@@ -98,7 +98,8 @@ pub fn run_counted<K: Eq + Hash + Drop, V: Copy, S: KeyHasher<K>, L: Limit>(
     tally: &mut Tally,
 ) -> Result<Vec<Reply<K, V>>, Vec<Command<K, V>>>
     // There are steps that lead from the old map to the new one, with these commands and replies, and the tally grew by what they cost.
-    ensures run { IfOk result (λ replies. (run : Runs L.LIMIT K.eq map.old commands.items replies.items map.new)
+    ensures run { IfOk result (λ replies.
+        (run : Runs L.LIMIT K.eq map.old commands.items replies.items map.new)
         × GrewBy (cost_of L.LIMIT K.eq S.hash run.steps) tally.old tally.new) }
     ensures empty { commands.items ≡ [] → IsOk result }
     ensures memory { IfOk result (λ replies. vec_capacity replies ≡ length commands.items) }

@@ -29,7 +29,8 @@ impl<K: Eq + Hash, V, S: KeyHasher<K>, L: Limit> LimitedHashMap<K, V, S, L> {
     pub fn entry(&mut self, key: K) -> Result<Entry<'_, K, V, S, L>, RefusedKey<K>>
     where
         K: Drop,
-        ensures* unchanged { sem 𝓛 (RestsIfRefused K.row V.row S.row L.row S.Hasher.row self.entry result) }
+        ensures* unchanged { sem 𝓛
+            (RestsIfRefused K.row V.row S.row L.row S.Hasher.row self.entry result) }
         ensures makes { MakesEntry L.LIMIT K.eq self.entry key result }
     {
         uncounted!(self.entry_counted(key))
@@ -45,7 +46,8 @@ impl<K: Eq + Hash, V, S: KeyHasher<K>, L: Limit> LimitedHashMap<K, V, S, L> {
     ) -> Result<Entry<'_, K, V, S, L>, RefusedKey<K>>
     where
         K: Drop,
-        ensures* unchanged { sem 𝓛 (RestsIfRefused K.row V.row S.row L.row S.Hasher.row self.entry result) }
+        ensures* unchanged { sem 𝓛
+            (RestsIfRefused K.row V.row S.row L.row S.Hasher.row self.entry result) }
         ensures makes { MakesEntry L.LIMIT K.eq self.entry key result }
         ensures cost { IsInsertCost L.LIMIT K.eq S.hash self.old key (is_ok result)
             tally.old tally.new }
@@ -72,7 +74,8 @@ impl<K: Eq + Hash, V, S: KeyHasher<K>, L: Limit> LimitedHashMap<K, V, S, L> {
     #[inline(always)]
     #[tactic(auto, unfolding(crate::specs::Entry::with_value))]
     pub fn get_index_entry(&mut self, index: usize) -> Option<OccupiedEntry<'_, K, V, S, L>>
-        ensures* unchanged { sem 𝓛 (RestsIfNoEntry K.row V.row S.row L.row S.Hasher.row self.entry result) }
+        ensures* unchanged { sem 𝓛
+            (RestsIfNoEntry K.row V.row S.row L.row S.Hasher.row self.entry result) }
         ensures entry { IfSome result (IsEntryAt self.entry index) }
         ensures held { IsSome result ↔ (index < length self.old.pairs) }
     {

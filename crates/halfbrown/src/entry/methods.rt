@@ -40,7 +40,8 @@ impl<'a, K: Eq + Hash, V, S: KeyHasher<K>, L: Limit> Entry<'a, K, V, S, L> {
     pub fn or_insert(self, default: V) -> &'a mut V
     where
         V: Drop,
-        ensures* writes_back { sem 𝓛 (EntryLends K.row V.row S.row L.row S.Hasher.row self.entry result) }
+        ensures* writes_back { sem 𝓛
+            (EntryLends K.row V.row S.row L.row S.Hasher.row self.entry result) }
         ensures value { result.now ≡ unwrap_or (entry_value self.entry) default }
     {
         match self {
@@ -57,7 +58,8 @@ impl<'a, K: Eq + Hash, V, S: KeyHasher<K>, L: Limit> Entry<'a, K, V, S, L> {
     #[inline(always)]
     pub fn or_insert_with<F: FnOnce() -> V>(self, default: F) -> &'a mut V
         requires { entry_value self ≡ None → F.pre default }
-        ensures* writes_back { sem 𝓛 (EntryLends K.row V.row S.row L.row S.Hasher.row self.entry result) }
+        ensures* writes_back { sem 𝓛
+            (EntryLends K.row V.row S.row L.row S.Hasher.row self.entry result) }
         ensures value { UnwrapsOrElse (entry_value self.entry) (F.post default) result.now }
     {
         match self {
@@ -75,7 +77,8 @@ impl<'a, K: Eq + Hash, V, S: KeyHasher<K>, L: Limit> Entry<'a, K, V, S, L> {
     pub fn or_default(self) -> &'a mut V
     where
         V: Default,
-        ensures* writes_back { sem 𝓛 (EntryLends K.row V.row S.row L.row S.Hasher.row self.entry result) }
+        ensures* writes_back { sem 𝓛
+            (EntryLends K.row V.row S.row L.row S.Hasher.row self.entry result) }
         ensures value { UnwrapsOrElse (entry_value self.entry) V.is_default result.now }
     {
         match self {

@@ -92,7 +92,8 @@ impl<'a, K: Eq + Hash, V, S: KeyHasher<K>, L: Limit> OccupiedEntry<'a, K, V, S, 
     /// ```
     #[inline(always)]
     pub fn get_mut(&mut self) -> &mut V
-        ensures* writes_back { sem 𝓛 (OccupiedLends K.row V.row S.row L.row S.Hasher.row self.entry result) }
+        ensures* writes_back { sem 𝓛
+            (OccupiedLends K.row V.row S.row L.row S.Hasher.row self.entry result) }
         ensures value { entry_value (Occupied self.old) ≡ Some result.now }
         ensures written { (w : V)
             → IsWritten (Occupied self.old) w (Occupied (with_entry_value self.old w)) }
@@ -139,7 +140,8 @@ impl<'a, K: Eq + Hash, V, S: KeyHasher<K>, L: Limit> OccupiedEntry<'a, K, V, S, 
     /// ```
     #[inline(always)]
     pub fn get_key_value_mut(&mut self) -> (&K, &mut V)
-        ensures* writes_back { sem 𝓛 (OccupiedLends K.row V.row S.row L.row S.Hasher.row self.entry result.1) }
+        ensures* writes_back { sem 𝓛
+            (OccupiedLends K.row V.row S.row L.row S.Hasher.row self.entry result.1) }
         ensures pair { entry_pair (Occupied self.old) ≡ Some (result.0.now, result.1.now) }
         ensures written { (w : V)
             → IsWritten (Occupied self.old) w (Occupied (with_entry_value self.old w)) }

@@ -36,11 +36,12 @@ impl<K: Eq + Hash + Drop, V: Drop, S: KeyHasher<K> + Default + Drop, L: Limit> L
         alloc: Global,
         items: I,
     ) -> Result<Self, Refusal>
-        requires { IsFiniteIterable I.into_iter_gives I.IntoIter.can_next I.IntoIter.remaining items }
+        requires { IsFiniteIterable I.into_iter_gives I.IntoIter.can_next
+            I.IntoIter.remaining items }
         ensures collected { IfOk result (IsCollectionOf I.into_iter_gives I.IntoIter.next_gives
             L.LIMIT K.eq I.IntoIter.remaining S.is_default items) }
-        ensures refused { IfErr result (IsRefusedCollectionOf I.into_iter_gives I.IntoIter.next_gives
-            L.LIMIT K.eq I.IntoIter.remaining S.is_default items) }
+        ensures refused { IfErr result (IsRefusedCollectionOf I.into_iter_gives
+            I.IntoIter.next_gives L.LIMIT K.eq I.IntoIter.remaining S.is_default items) }
         ensures state { IfOk result (IsState K.eq L.LIMIT) }
     {
         uncounted!(LimitedHashMap::from_iter_counted(alloc, items))
@@ -52,13 +53,15 @@ impl<K: Eq + Hash + Drop, V: Drop, S: KeyHasher<K> + Default + Drop, L: Limit> L
         items: I,
         tally: &mut Tally,
     ) -> Result<Self, Refusal>
-        requires { IsFiniteIterable I.into_iter_gives I.IntoIter.can_next I.IntoIter.remaining items }
+        requires { IsFiniteIterable I.into_iter_gives I.IntoIter.can_next
+            I.IntoIter.remaining items }
         ensures collected { IfOk result (λ m. (made : IsCollectionOf I.into_iter_gives
             I.IntoIter.next_gives L.LIMIT K.eq I.IntoIter.remaining S.is_default items m)
             × GrewBy (collection_cost L.LIMIT K.eq S.hash made.collection) tally.old tally.new) }
         ensures refused { IfErr result (λ why. (made : IsRefusedCollectionOf I.into_iter_gives
             I.IntoIter.next_gives L.LIMIT K.eq I.IntoIter.remaining S.is_default items why)
-            × GrewBy (refused_collection_cost L.LIMIT K.eq S.hash made.refused) tally.old tally.new) }
+            × GrewBy (refused_collection_cost L.LIMIT K.eq S.hash made.refused)
+            tally.old tally.new) }
         // A vector has hashed nothing.
         ensures nothing_hashed { IfOk result
             (λ m. m.is_vec ≡ true → tally.new.asked ≡ tally.old.asked) }
@@ -125,7 +128,8 @@ impl<K: Eq + Hash + Drop, V: Drop, S: KeyHasher<K>, L: Limit> LimitedHashMap<K, 
     /// assert_eq!(rt; ages.get(&2), Some(&42));
     /// ```
     pub fn extend<I: IntoIterator<Item = (K, V)>>(&mut self, items: I) -> Result<(), Refusal>
-        requires { IsFiniteIterable I.into_iter_gives I.IntoIter.can_next I.IntoIter.remaining items }
+        requires { IsFiniteIterable I.into_iter_gives I.IntoIter.can_next
+            I.IntoIter.remaining items }
         ensures extended { OnOk result (ExtendsWith I.into_iter_gives I.IntoIter.next_gives
             L.LIMIT K.eq items self.old self.new) }
         ensures refused { IfErr result (IsRefusedExtension I.into_iter_gives I.IntoIter.next_gives
@@ -140,7 +144,8 @@ impl<K: Eq + Hash + Drop, V: Drop, S: KeyHasher<K>, L: Limit> LimitedHashMap<K, 
         items: I,
         tally: &mut Tally,
     ) -> Result<(), Refusal>
-        requires { IsFiniteIterable I.into_iter_gives I.IntoIter.can_next I.IntoIter.remaining items }
+        requires { IsFiniteIterable I.into_iter_gives I.IntoIter.can_next
+            I.IntoIter.remaining items }
         ensures extended { OnOk result ((made : ExtendsWith I.into_iter_gives I.IntoIter.next_gives
             L.LIMIT K.eq items self.old self.new) × GrewBy (insertions_cost L.LIMIT K.eq S.hash
             self.old made.gave self.new made.extends.inserted) tally.old tally.new) }
@@ -167,7 +172,8 @@ impl<K: Eq + Hash + Drop, V: Drop, S: KeyHasher<K> + Default + Drop, L: Limit> F
         alloc: Global,
         items: I,
     ) -> Result<Self, AllocError>
-        requires { IsFiniteIterable I.into_iter_gives I.IntoIter.can_next I.IntoIter.remaining items }
+        requires { IsFiniteIterable I.into_iter_gives I.IntoIter.can_next
+            I.IntoIter.remaining items }
         ensures ran { IfOk result (λ m. (it : I.IntoIter) × (gave : List (K × V))
             × I.into_iter_gives items it × DrainsIf I.IntoIter.next_gives ⊤ it gave
             × ((hint : ℕ) × IsCollection L.LIMIT K.eq S.is_default hint gave m)) }
@@ -187,7 +193,8 @@ impl<K: Eq + Hash + Drop, V: Drop, S: KeyHasher<K>, L: Limit> Extend<(K, V)>
     ghost extend_gives = { Extends L.LIMIT K.eq };
 
     fn extend<I: IntoIterator<Item = (K, V)>>(&mut self, items: I) -> Result<(), AllocError>
-        requires { IsFiniteIterable I.into_iter_gives I.IntoIter.can_next I.IntoIter.remaining items }
+        requires { IsFiniteIterable I.into_iter_gives I.IntoIter.can_next
+            I.IntoIter.remaining items }
         ensures ran { ExtendsWithItems I.into_iter_gives I.IntoIter.next_gives
             (Extends L.LIMIT K.eq) items self.old self.new result }
         ensures refused { OnErr result ((why : Refusal) × IsRefusedExtension I.into_iter_gives

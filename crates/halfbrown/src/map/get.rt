@@ -85,8 +85,8 @@ impl<K: Eq + Hash, V, S: KeyHasher<K>, L: Limit> LimitedHashMap<K, V, S, L> {
     /// ```
     #[inline(always)]
     pub fn get_mut<Q: Equivalent<K>>(&mut self, key: Q) -> Option<&mut V>
-        ensures* writes_back { sem 𝓛 (LendsValueBy K.row V.row S.row L.row S.Hasher.row K.Hash S.KeyHasher
-            L.Limit self.entry (Q.equivalent key) result) }
+        ensures* writes_back { sem 𝓛 (LendsValueBy K.row V.row S.row L.row S.Hasher.row K.Hash
+            S.KeyHasher L.Limit self.entry (Q.equivalent key) result) }
         ensures value { option_copied_mut result ≡ lookup (Q.equivalent key) self.old.pairs }
         ensures written { OnSome result ((written : V) → HasSetBy K.eq (Q.equivalent key)
             self.old.pairs written (set_by (Q.equivalent key) self.old.pairs written)) }
@@ -97,8 +97,8 @@ impl<K: Eq + Hash, V, S: KeyHasher<K>, L: Limit> LimitedHashMap<K, V, S, L> {
     /// `get_mut`, with its work counted: that of one search.
     #[inline(always)]
     pub fn get_mut_counted<Q: Equivalent<K>>(&mut self, key: Q, tally: &mut Tally) -> Option<&mut V>
-        ensures* writes_back { sem 𝓛 (LendsValueBy K.row V.row S.row L.row S.Hasher.row K.Hash S.KeyHasher
-            L.Limit self.entry (Q.equivalent key) result) }
+        ensures* writes_back { sem 𝓛 (LendsValueBy K.row V.row S.row L.row S.Hasher.row K.Hash
+            S.KeyHasher L.Limit self.entry (Q.equivalent key) result) }
         ensures value { option_copied_mut result ≡ lookup (Q.equivalent key) self.old.pairs }
         ensures written { OnSome result ((written : V) → HasSetBy K.eq (Q.equivalent key)
             self.old.pairs written (set_by (Q.equivalent key) self.old.pairs written)) }

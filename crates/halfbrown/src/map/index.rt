@@ -50,8 +50,8 @@ impl<K: Eq + Hash, V, S: KeyHasher<K>, L: Limit> LimitedHashMap<K, V, S, L> {
     /// ```
     #[inline(always)]
     pub fn get_index_mut(&mut self, index: usize) -> Option<&mut V>
-        ensures* writes_back { sem 𝓛 (LendsValueIfAt K.row V.row S.row L.row S.Hasher.row K.Hash S.KeyHasher
-            L.Limit self.entry index result) }
+        ensures* writes_back { sem 𝓛 (LendsValueIfAt K.row V.row S.row L.row S.Hasher.row K.Hash
+            S.KeyHasher L.Limit self.entry index result) }
         ensures value { option_copied_mut result ≡ slice_get (values_of self.old.pairs) index }
         ensures held { IsSome result ↔ (index < length self.old.pairs) }
         ensures state { IsState K.eq L.LIMIT self.old }

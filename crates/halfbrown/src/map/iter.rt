@@ -81,8 +81,8 @@ impl<K: Eq + Hash, V, S: KeyHasher<K>, L: Limit> LimitedHashMap<K, V, S, L> {
     /// ```
     #[inline(always)]
     pub fn iter_mut(&mut self) -> IterMut<'_, K, V>
-        ensures* writes_back { sem 𝓛 (LendsValues K.row V.row S.row L.row S.Hasher.row K.Hash S.KeyHasher
-            L.Limit self.entry (iter_mut_name result)) }
+        ensures* writes_back { sem 𝓛 (LendsValues K.row V.row S.row L.row S.Hasher.row K.Hash
+            S.KeyHasher L.Limit self.entry (iter_mut_name result)) }
         ensures left { iter_mut_left result ≡ self.old.pairs }
         ensures values_run { LendsValuesInOrder (iter_mut_left {K = K} {V = V}) }
         ensures keeps { KeepsKeys L.LIMIT K.eq self.old }
@@ -101,8 +101,8 @@ impl<K: Eq + Hash, V, S: KeyHasher<K>, L: Limit> LimitedHashMap<K, V, S, L> {
     /// ```
     #[inline(always)]
     pub fn values_mut(&mut self) -> ValuesMut<'_, K, V>
-        ensures* writes_back { sem 𝓛 (LendsValues K.row V.row S.row L.row S.Hasher.row K.Hash S.KeyHasher
-            L.Limit self.entry (values_mut_name result)) }
+        ensures* writes_back { sem 𝓛 (LendsValues K.row V.row S.row L.row S.Hasher.row K.Hash
+            S.KeyHasher L.Limit self.entry (values_mut_name result)) }
         ensures left { values_mut_left result ≡ values_of self.old.pairs }
         ensures runs { YieldsMutRefsInOrder (ValuesMutSteps {K = K} {V = V}) values_mut_left }
         ensures keeps { KeepsKeys L.LIMIT K.eq self.old }
@@ -120,8 +120,8 @@ impl<K: Eq + Hash, V, S: KeyHasher<K>, L: Limit> LimitedHashMap<K, V, S, L> {
     /// ```
     #[inline(always)]
     pub fn values_slice_mut(&mut self) -> &mut [V]
-        ensures* writes_back { sem 𝓛 (LendsValues K.row V.row S.row L.row S.Hasher.row K.Hash S.KeyHasher
-            L.Limit self.entry result.ghost_name) }
+        ensures* writes_back { sem 𝓛 (LendsValues K.row V.row S.row L.row S.Hasher.row K.Hash
+            S.KeyHasher L.Limit self.entry result.ghost_name) }
         ensures values { result.now ≡ values_of self.old.pairs }
         ensures keeps { KeepsKeys L.LIMIT K.eq self.old }
     {

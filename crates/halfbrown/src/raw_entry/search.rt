@@ -44,7 +44,8 @@ impl<K: Eq + Hash, V, S: KeyHasher<K>, L: Limit> LimitedHashMap<K, V, S, L> {
     /// ```
     #[inline]
     pub fn raw_entry_mut(&mut self) -> Result<RawEntryBuilderMut<'_, K, V, S, L>, Refusal>
-        ensures* unchanged { sem 𝓛 (RestsIfUnready K.row V.row S.row L.row S.Hasher.row self.entry result) }
+        ensures* unchanged { sem 𝓛
+            (RestsIfUnready K.row V.row S.row L.row S.Hasher.row self.entry result) }
         ensures makes { MakesReady L.LIMIT K.eq self.entry result }
     {
         uncounted!(self.raw_entry_mut_counted())
@@ -56,7 +57,8 @@ impl<K: Eq + Hash, V, S: KeyHasher<K>, L: Limit> LimitedHashMap<K, V, S, L> {
         &mut self,
         tally: &mut Tally,
     ) -> Result<RawEntryBuilderMut<'_, K, V, S, L>, Refusal>
-        ensures* unchanged { sem 𝓛 (RestsIfUnready K.row V.row S.row L.row S.Hasher.row self.entry result) }
+        ensures* unchanged { sem 𝓛
+            (RestsIfUnready K.row V.row S.row L.row S.Hasher.row self.entry result) }
         ensures makes { MakesReady L.LIMIT K.eq self.entry result }
         ensures cost { tally.new ≡ (if is_ok result
             then asked_more (switch_asked L.LIMIT self.old) tally.old else tally.old) }
