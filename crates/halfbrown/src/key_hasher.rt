@@ -22,7 +22,7 @@ use std::hash::{BuildHasher, Hash};
 /// assert!(rt; knows(&ages, 1));
 /// ```
 pub trait KeyHasher<K: Hash> {
-    /// The builder's hasher.
+    /// The builder's hasher. It is named here too, so that a function needs no more than a map to hand it on.
     type Hasher;
 
     // The hash of a key, which `hash_one` returns.
