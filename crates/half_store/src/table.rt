@@ -88,8 +88,8 @@ impl Table {
 
     /// Searches for a pair of this hash whose key `matches` accepts. `matches` is called with keys of that hash alone.
     ///
-    /// Returns its entry index, or the empty bucket at which the probe ended, which is 0 where there are none. Where none is
-    /// found it has read exactly `reach` buckets and called `matches` once for each pair of that hash.
+    /// Returns its entry index and its bucket, or the empty bucket at which the probe ended, which is 0 where there are none.
+    /// Where none is found it has read exactly `reach` buckets and called `matches` once for each pair of that hash.
     #[inline(always)]
     pub fn find<K, F: Fn(&K) -> bool>(
         &self,
@@ -97,7 +97,7 @@ impl Table {
         hash: u64,
         matches: &F,
         tally: &mut Tally,
-    ) -> Result<usize, usize>
+    ) -> Result<(usize, usize), usize>
         requires keys { length self.now.hashes ≤ length keys.now }
         requires callable { (key : Bor K) (index : ℕ) → slice_get self.now.hashes index ≡ Some hash
             → slice_get keys.now index ≡ Some key.now → F.pre matches.now key }
@@ -206,14 +206,14 @@ impl Table {
         matches: &F,
         tally: &mut Tally,
         removal: &mut Tally,
-    ) -> Result<usize, usize>
+    ) -> Result<(usize, usize), usize>
         requires keys { length self.old.hashes ≤ length keys.now }
         requires callable { (key : Bor K) (index : ℕ) → slice_get self.old.hashes index ≡ Some hash
             → slice_get keys.now index ≡ Some key.now → F.pre matches.now key }
         ensures finds { TableSearch (ReturnsAt (FnReturnsAt F.Fn matches.now) keys.now) self.old hash result
             tally.old tally.new }
-        ensures removes { IfOk result (λ index. RemovesFromTable self.old index self.new hash) }
-        ensures cost { IfOk result (λ index. LooksWithin (removal_reads self.old.hashes self.old.buckets index)
+        ensures removes { IfOk result (λ pair. RemovesFromTable self.old pair.0 self.new hash) }
+        ensures cost { IfOk result (λ pair. LooksWithin (removal_reads self.old.hashes self.old.buckets pair.0)
             removal.old removal.new) }
         ensures same { OnErr result ((self.new ≡ self.old) × (removal.new ≡ removal.old)) }
     {

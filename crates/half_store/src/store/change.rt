@@ -60,7 +60,7 @@ impl<K, V> Store<K, V> {
             };
         };
         match uncounted!(table.take(self.columns.keys(), hash, matches, tally)) {
-            Ok(index) => Some(self.columns.swap_remove(index)),
+            Ok((index, _)) => Some(self.columns.swap_remove(index)),
             Err(_) => None,
         }
     }

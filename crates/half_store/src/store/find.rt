@@ -47,7 +47,7 @@ impl<K, V> Store<K, V> {
             };
         };
         match table.find(self.columns.keys(), hash, matches, tally) {
-            Ok(index) => Ok(index),
+            Ok((index, _)) => Ok(index),
             Err(bucket) => Err(Vacancy { hash, bucket }),
         }
     }

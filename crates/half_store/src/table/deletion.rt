@@ -14,7 +14,7 @@ ghost use Rattle.half_store.specs.Table.{table_state};
 ghost use Rattle.half_store.specs.TableLayout.{IsIndexed, IsIndexedButFor, IsVacantBeside};
 ghost use Rattle.half_store.specs.TableSearch.{TableSearch};
 
-use super::find::find_with_bucket;
+use super::find::find_in;
 use super::probe::{home, next};
 use crate::Tally;
 use crate::buckets::HashedBuckets;
@@ -106,7 +106,7 @@ pub(super) fn take_in<B: Words, K, F: Fn(&K) -> bool>(
     matches: &F,
     tally: &mut Tally,
     removal: &mut Tally,
-) -> Result<usize, usize>
+) -> Result<(usize, usize), usize>
     requires indexed { IsIndexed hashes.old.items (B.words buckets.old) }
     requires fits { length hashes.old.items ≤ B.most buckets.old }
     requires keys { length hashes.old.items ≤ length keys.now }
@@ -115,9 +115,9 @@ pub(super) fn take_in<B: Words, K, F: Fn(&K) -> bool>(
     ensures finds { TableSearch (ReturnsAt (FnReturnsAt F.Fn matches.now) keys.now)
         (table_state hashes.old.items (slots_by hashes.old.items (B.words buckets.old)))
         hash result tally.old tally.new }
-    ensures hashes { IfOk result (λ index. hashes.new.items ≡ swap_remove hashes.old.items index 0) }
-    ensures cost { IfOk result (λ index.
-        LooksWithin (removal_reads hashes.old.items (length (B.words buckets.old)) index) removal.old removal.new) }
+    ensures hashes { IfOk result (λ pair. hashes.new.items ≡ swap_remove hashes.old.items pair.0 0) }
+    ensures cost { IfOk result (λ pair.
+        LooksWithin (removal_reads hashes.old.items (length (B.words buckets.old)) pair.0) removal.old removal.new) }
     ensures capacity { vec_capacity hashes.new ≡ vec_capacity hashes.old }
     ensures indexed { IsIndexed hashes.new.items (B.words buckets.new) }
     ensures len { length (B.words buckets.new) ≡ length (B.words buckets.old) }
@@ -129,13 +129,11 @@ pub(super) fn take_in<B: Words, K, F: Fn(&K) -> bool>(
         buckets: &*buckets,
         hashes: hashes.as_slice(),
     };
-    match find_with_bucket(&held, keys, hash, matches, tally) {
-        Ok((index, bucket)) => {
-            remove_at(buckets, hashes, index, bucket, removal);
-            Ok(index)
-        }
-        Err(bucket) => Err(bucket),
+    let found = find_in(&held, keys, hash, matches, tally);
+    if let Ok((index, bucket)) = found {
+        remove_at(buckets, hashes, index, bucket, removal);
     }
+    found
 }
 
 /// The bucket of the pair at this entry index: where a probe from its stored hash meets the index. It reads fewer buckets than
