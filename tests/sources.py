@@ -42,7 +42,7 @@ RULES = (
      "equivalent 6, map/equality 2, map/find 1, map/remove 1 | lines 1, request 4, session 2"),
     ("Counted work is done in these places.",
      r"\b(?:hash_one|hash_key|compare|word_at|read|search|first_match|first_empty|find_in)\b",
-     "buckets 3, counting 3, store/find 1, table/deletion 4, table/find 2, table/probe 5, table/rehash 1, table/shift 1, "
+     "buckets 3, counting 3, store/change 1, store/find 1, table/deletion 4, table/find 2, table/probe 5, table/rehash 1, table/shift 1, "
      "table 4, vecmap/search 3, vecmap 1, words 6 | key_hasher 3, map/switch 2 |"),
     ("The words of buckets are read by `word_at` alone.", r"\bwords\b",
      "lib 1, store/memory 3, table/memory 2, words 44 |  |"),
@@ -54,7 +54,7 @@ RULES = (
      "session 10"),
     ("A refusal is made, handed on or looked at in these places.",
      r"\bErr\b|\bRefusal::\w|\bAllocError\b(?!>)|\bStopped\b(?!>)|\bNoRoom\b|\b(?:check_size|ok_or\w*)\(",
-     "blocks 2, refusal 13, store/change 2, store/find 3, store/memory 3, table/find 1, table/memory 1, "
+     "blocks 2, refusal 13, store/change 1, store/find 3, store/memory 3, table/find 1, table/memory 1, "
      "table/probe 1, vecmap/memory 3, words 2 | entry/find 3, map/collect 8, map/get 2, map/insert 5, map/prepare 2, "
      "raw_entry/builder 2, raw_entry/builder_mut 3, raw_entry/make 2, refused 4, run 6 | answer 4, lines 5, main 2, session 11"),
     ("Where no clause says when a call fails, these words do: memory was refused, two counts differ, or u64 ends.",

@@ -12,7 +12,8 @@ ghost use Rattle.half_store.specs.Store.{store_pushed, IsVacancy, KeepsForm};
 
 use super::Store;
 use super::find::Vacancy;
-use crate::{Scan, Tally, uncounted};
+use crate::vecmap::search::{Scan, first_match};
+use crate::{Tally, uncounted};
 
 impl<K, V> Store<K, V> {
     /// Adds a pair at the end, at a vacancy for its hash. The capacity must be enough for it. It reads no bucket.
@@ -54,10 +55,8 @@ impl<K, V> Store<K, V> {
         ensures { Takes self.old self.new (FnReturnsAt F.Fn matches.now) hash result tally.old tally.new }
     {
         let Some(table) = &mut self.table else {
-            return match self.find(hash, matches, Scan::ByKey, tally) {
-                Ok(index) => Some(self.columns.swap_remove(index)),
-                Err(_) => None,
-            };
+            let index = first_match(self.columns.keys(), matches, Scan::ByKey, tally)?;
+            return Some(self.columns.swap_remove(index));
         };
         match uncounted!(table.take(self.columns.keys(), hash, matches, tally)) {
             Ok((index, _)) => Some(self.columns.swap_remove(index)),
