@@ -48,14 +48,14 @@ RULES = (
      "lib 1, store/memory 3, table/memory 2, words 44 |  |"),
     ("Memory is taken, and values are cloned, in these places.",
      r"\b(?:alloc|allocator|push|reserve\w*|extend\w*|append|resize\w*|clone\w*|copy|copied|grow\w*|collect)\b",
-     "blocks 11, store/change 2, store/drain 1, store/memory 16, store/switch 5, store 2, table/memory 9, vecmap/slices 2, "
+     "blocks 11, store/change 3, store/drain 1, store/memory 16, store/switch 5, store 2, table/memory 9, vecmap/slices 2, "
      "vecmap/memory 19, vecmap 4, words 15 | entry/vacant 1, iter/column 2, iter 4, macros 4, map/clone 7, map/collect 16, "
-     "map/switch 1, map/growth 2, map/insert 4, map/make 12, map/prepare 2, map 3, raw_entry/vacant 1, run 6 | lines 1, main 1, "
+     "map/growth 2, map/insert 4, map/make 12, map/prepare 2, map 3, raw_entry/vacant 1, run 6 | lines 1, main 1, "
      "session 10"),
     ("A refusal is made, handed on or looked at in these places.",
      r"\bErr\b|\bRefusal::\w|\bAllocError\b(?!>)|\bStopped\b(?!>)|\bNoRoom\b|\b(?:check_size|ok_or\w*)\(",
-     "blocks 2, refusal 13, store/change 1, store/find 3, store/memory 3, table/find 1, table/memory 1, "
-     "table/probe 1, vecmap/memory 3, words 2 | entry/find 3, map/collect 8, map/get 2, map/insert 5, map/prepare 2, "
+     "blocks 2, refusal 13, store/change 3, store/find 3, store/memory 3, table/find 1, table/memory 1, "
+     "table/probe 1, vecmap/memory 3, words 2 | entry/find 3, entry/replace 1, map/collect 8, map/get 2, map/insert 5, map/prepare 2, "
      "raw_entry/builder 2, raw_entry/builder_mut 3, raw_entry/make 2, refused 4, run 6 | answer 4, lines 5, main 2, session 11"),
     ("Where no clause says when a call fails, these words do: memory was refused, two counts differ, or u64 ends.",
      r"if words\.capacity\(\) == words\.len\(\) \{\s*Ok\(WordVec \{ words \}\)\s*\} else \{\s*Err\(AllocError\)"
