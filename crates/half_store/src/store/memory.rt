@@ -8,6 +8,7 @@ ghost use Rattle.half_store.specs.Refusal.{refusal_of};
 ghost use Rattle.half_store.specs.Store.{reserved, reserved_capacity};
 
 use super::Store;
+use crate::capacity::{buckets_for, capacity_of};
 use crate::refusal::check_size;
 use crate::{Columns, Refusal, Table};
 use std::alloc::{AllocError, Global};
@@ -133,14 +134,21 @@ impl<K, V> Store<K, V> {
         ensures some { OnErr result (0 < shrunk_capacity limit self.old.is_vec (length self.old.pairs)) }
         ensures less { OnErr result (shrunk_capacity limit self.old.is_vec (length self.old.pairs) < self.old.capacity) }
     {
+        let len = self.columns.len();
         let Some(table) = &mut self.table else {
-            return self.columns.shrink_to_fit();
+            return self.columns.shrink_to(len);
         };
-        if self.columns.len() > limit {
-            return self.columns.shrink_beside(table);
+        if len <= limit {
+            self.columns.shrink_to(len)?;
+            self.table = None;
+            return Ok(());
         }
-        self.columns.shrink_to_fit()?;
-        self.table = None;
+        let buckets = buckets_for(table.len());
+        if capacity_of(buckets) < table.capacity() {
+            let fresh = Table::empty(self.columns.allocator(), buckets)?;
+            self.columns.shrink_to(fresh.capacity())?;
+            table.move_to(fresh);
+        }
         Ok(())
     }
 

@@ -25,7 +25,9 @@ impl<K, V> Store<K, V> {
     {
         let alloc = self.columns.allocator();
         let table = Box::new(alloc, Table::with_capacity(alloc, needed)?)?;
-        self.columns.reserve(table.capacity())?;
+        if self.columns.capacity() < table.capacity() {
+            self.columns.grow_to(table.capacity())?;
+        }
         Ok(table)
     }
 
