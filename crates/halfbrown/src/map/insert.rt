@@ -10,6 +10,7 @@ ghost use Rattle.halfbrown.specs.Preparation.{pushed};
 ghost use Rattle.halfbrown.specs.State.{IsState, WithPairs, contents_of};
 
 use super::LimitedHashMap;
+use super::prepare::Place;
 use crate::{KeyHasher, Limit, Refused};
 use half_store::{Tally, Vacancy, uncounted};
 use std::hash::Hash;
@@ -54,8 +55,8 @@ impl<K: Eq + Hash, V, S: KeyHasher<K>, L: Limit> LimitedHashMap<K, V, S, L> {
             tally.old tally.new }
     {
         match self.prepare(&key, tally) {
-            Ok(Ok(index)) => Ok(Some(self.set_at(index, value))),
-            Ok(Err(vacancy)) => {
+            Ok(Place::Held(index)) => Ok(Some(self.set_at(index, value))),
+            Ok(Place::Vacant(vacancy)) => {
                 self.push(key, value, vacancy);
                 Ok(None)
             }
