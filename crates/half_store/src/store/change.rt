@@ -6,6 +6,7 @@ ghost use Rattle.std.specs.Map.{keys_of};
 ghost use Rattle.std.specs.Map.Calls.{CalledAtPair, TakesPair, CallableOnEachPair, RetainsPairs};
 ghost use Rattle.std.specs.Option.{option_map};
 ghost use Rattle.std.specs.Result.{result_err};
+ghost use Rattle.half_store.specs.Calls.{CallableOnKeys};
 ghost use Rattle.half_store.specs.PairLists.{swap_remove_at};
 ghost use Rattle.half_store.specs.StoreRemoval.{SwapRemoves, Takes};
 ghost use Rattle.half_store.specs.ValueReplacement.{kept_index, ReplacesValue};
@@ -51,9 +52,9 @@ impl<K, V> Store<K, V> {
         matches: &F,
         tally: &mut Tally,
     ) -> Option<(K, V)>
-        requires { (key : Bor K) (index : ℕ) → slice_get (keys_of self.old.pairs) index ≡ Some key.now
-            → F.pre matches.now key }
-        ensures { Takes self.old self.new (FnReturnsAt F.Fn matches.now) hash result tally.old tally.new }
+        requires { CallableOnKeys (F.pre matches.now) (keys_of self.old.pairs) }
+        ensures { Takes self.old self.new (FnReturnsAt F.Fn matches.now) hash result
+            tally.old tally.new }
     {
         let Some(table) = &mut self.table else {
             let index = first_match(self.columns.keys(), matches, Scan::ByKey, tally)?;
@@ -75,10 +76,10 @@ impl<K, V> Store<K, V> {
         f: F,
     ) -> Result<usize, (K, u64)>
         requires within { index < length self.old.pairs }
-        requires callable { (key : Bor K) (value : V) → slice_get self.old.pairs index ≡ Some (key.now, value)
-            → F.pre f key value }
-        ensures replaces { ReplacesValue (F.post f) self.old.is_vec self.old.pairs index self.new.pairs
-            (option_map (λ removed. removed.0) (result_err result)) }
+        requires callable { (key : Bor K) (value : V)
+            → slice_get self.old.pairs index ≡ Some (key.now, value) → F.pre f key value }
+        ensures replaces { ReplacesValue (F.post f) self.old.is_vec self.old.pairs index
+            self.new.pairs (option_map (λ removed. removed.0) (result_err result)) }
         ensures at { IfOk result (λ at. at ≡ kept_index self.old.is_vec self.old.pairs index) }
         ensures hash { IfErr result (λ removed. self.old.is_vec ≡ false
             → slice_get self.old.hashes index ≡ Some removed.1) }

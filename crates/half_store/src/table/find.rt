@@ -1,8 +1,8 @@
 //! The search of a table, over buckets of either size.
 ghost use Rattle.std.specs.Prelude.{◌≡◌, ℕ, ◌+◌, ◌≤◌, Some, length, slice_get, slice_index, IfOk};
-ghost use Rattle.std.specs.Borrow.{Bor};
 ghost use Rattle.std.specs.Fn.{FnReturnsAt};
 ghost use Rattle.half_store.specs.Buckets.{slots_by};
+ghost use Rattle.half_store.specs.Calls.{CallableOnHash};
 ghost use Rattle.half_store.specs.Search.{ReturnsAt};
 ghost use Rattle.half_store.specs.Table.{table_state};
 ghost use Rattle.half_store.specs.TableLayout.{IsIndexed};
@@ -24,8 +24,7 @@ pub(super) fn find_in<P: Buckets, K, F: Fn(&K) -> bool>(
 ) -> Result<(usize, usize), usize>
     requires indexed { IsIndexed (P.hashes buckets.now) (P.words buckets.now) }
     requires keys { length (P.hashes buckets.now) ≤ length keys.now }
-    requires callable { (key : Bor K) (index : ℕ) → slice_get (P.hashes buckets.now) index ≡ Some hash
-        → slice_get keys.now index ≡ Some key.now → F.pre matches.now key }
+    requires callable { CallableOnHash (F.pre matches.now) (P.hashes buckets.now) hash keys.now }
     ensures finds { TableSearch (ReturnsAt (FnReturnsAt F.Fn matches.now) keys.now)
         (table_state (P.hashes buckets.now) (slots_by (P.hashes buckets.now) (P.words buckets.now)))
         hash result tally.old tally.new }

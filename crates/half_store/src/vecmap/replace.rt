@@ -10,9 +10,10 @@ impl<K, V> Columns<K, V> {
     /// index, and else it is removed and its key returned: the last pair takes its index.
     pub fn replace_with<F: FnOnce(&K, V) -> Option<V>>(&mut self, index: usize, f: F) -> Option<K>
         requires within { index < length self.old.pairs }
-        requires callable { (key : Bor K) (value : V) → slice_get self.old.pairs index ≡ Some (key.now, value)
-            → F.pre f key value }
-        ensures replaces { ReplacesValue (F.post f) false self.old.pairs index self.new.pairs result }
+        requires callable { (key : Bor K) (value : V)
+            → slice_get self.old.pairs index ≡ Some (key.now, value) → F.pre f key value }
+        ensures replaces { ReplacesValue (F.post f) false self.old.pairs index self.new.pairs
+            result }
         ensures capacity { self.new.capacity ≡ self.old.capacity }
     {
         let value = self.values.swap_remove(index);
