@@ -32,30 +32,30 @@ RULES = (
      "buckets 1, table/deletion 2, table/probe 1, table/rehash 2, vecmap/replace 1, vecmap/retain 2, vecmap/search 1, vecmap 7, words 4 |  | "
      "lines 2, request 2"),
     ("What compares keys is handed on, and only `compare` calls it.", r"\b(?:matches|is_match)\b",
-     "counting 2, store/change 3, store/find 3, table/deletion 2, table/find 4, table/probe 2, table 6, vecmap/search 10 | "
+     "counting 2, store/change 3, store/find 3, table/deletion 2, table/find 2, table/probe 2, table 6, vecmap/search 10 | "
      "map/find 2, map/inner 2, map/remove 2, raw_entry/search 4 |"),
     ("No hasher is built: a key is hashed by `hash_one`.", r"\.(?:hash|build_hasher)\(|::(?:hash|build_hasher)\b", "||"),
     ("Keys and values are compared in these places; the other comparisons are of numbers, and of bytes in a line.",
      r"[!=]=\s*(?![\s\d]|b')"
      r"|(?:\.|::)(?:eq|ne|cmp|partial_cmp|equivalent|contains|starts_with|ends_with|strip_\w+)\b",
-     "table/deletion 2, table/probe 1, table/retain 1, table/shift 1, vecmap/memory 1, words 1 | "
+     "table/deletion 2, table/probe 1, table/retain 1, table/shift 1, words 1 | "
      "equivalent 6, map/equality 2, map/find 1, map/remove 1 | lines 1, request 4, session 2"),
     ("Counted work is done in these places.",
-     r"\b(?:hash_one|hash_key|compare|word_at|read|search|first_match|first_empty|find_in|find_with_bucket)\b",
-     "buckets 3, counting 3, store/find 1, table/deletion 4, table/find 4, table/probe 5, table/rehash 1, table/shift 1, "
+     r"\b(?:hash_one|hash_key|compare|word_at|read|search|first_match|first_empty|find_in)\b",
+     "buckets 3, counting 3, store/change 1, store/find 1, table/deletion 4, table/find 2, table/probe 5, table/rehash 1, table/shift 1, "
      "table 4, vecmap/search 3, vecmap 1, words 6 | key_hasher 3, map/switch 2, raw_entry 1 |"),
     ("The words of buckets are read by `word_at` alone.", r"\bwords\b",
      "lib 1, store/memory 3, table/memory 2, words 44 |  |"),
     ("Memory is taken, and values are cloned, in these places.",
      r"\b(?:alloc|allocator|push|reserve\w*|extend\w*|append|resize\w*|clone\w*|copy|copied|grow\w*|collect)\b",
-     "blocks 11, store/change 2, store/drain 1, store/memory 16, store/switch 5, store 2, table/memory 9, vecmap/slices 2, "
-     "vecmap/memory 19, vecmap 4, words 15 | entry/vacant 1, iter/column 2, iter 4, macros 4, map/clone 7, map/collect 16, "
-     "map/switch 1, map/growth 2, map/inner 2, map/insert 3, map/make 12, map/prepare 2, map 3, raw_entry/vacant 1, run 6 | lines 1, main 1, "
+     "blocks 11, store/change 3, store/drain 1, store/memory 17, store/switch 5, store 2, table/memory 9, vecmap/slices 2, "
+     "vecmap/memory 17, vecmap 4, words 15 | entry/vacant 1, iter/column 2, iter 4, macros 4, map/clone 7, map/collect 16, "
+     "map/growth 2, map/inner 2, map/insert 3, map/make 12, map/prepare 2, map 3, raw_entry/vacant 1, run 6 | lines 1, main 1, "
      "session 10"),
     ("A refusal is made, handed on or looked at in these places.",
      r"\bErr\b|\bRefusal::\w|\bAllocError\b(?!>)|\bStopped\b(?!>)|\bNoRoom\b|\b(?:check_size|ok_or\w*)\(",
-     "blocks 2, refusal 13, store/change 2, store/find 3, store/memory 3, table/deletion 2, table/find 3, table/memory 1, "
-     "table/probe 1, vecmap/memory 3, words 2 | entry/find 3, map/collect 8, map/get 2, map/insert 8, map/prepare 2, "
+     "blocks 2, refusal 13, store/change 3, store/find 3, store/memory 3, table/find 1, table/memory 1, "
+     "table/probe 1, vecmap/memory 3, words 2 | entry/find 2, entry/replace 1, map/collect 8, map/get 2, map/insert 6, map/prepare 1, "
      "raw_entry/search 7, refused 4, run 6 | answer 4, lines 5, main 2, session 11"),
     ("Where no clause says when a call fails, these words do: memory was refused, two counts differ, or u64 ends.",
      r"if words\.capacity\(\) == words\.len\(\) \{\s*Ok\(WordVec \{ words \}\)\s*\} else \{\s*Err\(AllocError\)"

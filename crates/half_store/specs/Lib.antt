@@ -1,5 +1,6 @@
 pub mod Arrays
 pub mod Buckets
+pub mod Calls
 pub mod Capacity
 pub mod Columns
 pub mod ColumnsLending

@@ -38,3 +38,7 @@ probe_reads buckets hash bucket = probe_distance buckets (home buckets hash) buc
 -- the most buckets that a removal of the pair at this entry index reads: one fewer than unsuccessful probes for its hash and for the last one
 abbrev pub removal_reads : List ℕ → ℕ → ℕ → ℕ
 removal_reads hashes buckets index = reach hashes buckets (slice_index hashes index) + reach hashes buckets (slice_index hashes (length hashes - 1)) - 1
+
+-- what is left of them where the bucket of the pair is known, and no probe for it is needed
+abbrev pub reads_left : List ℕ → ℕ → ℕ → ℕ → ℕ
+reads_left hashes buckets index bucket = removal_reads hashes buckets index - probe_reads buckets (slice_index hashes index) bucket

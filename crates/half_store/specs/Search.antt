@@ -35,13 +35,13 @@ module _ {K V : Type 0} (returns : K → Bool → Type 0) (is_vec : Bool) (pairs
 
   -- the search found this index, or none, and where there is capacity a pair of the hash may be added here
   abbrev pub SearchOutcome : ℕ → Contents → ℕ → Result ℕ Vacancy → Type 0
-  SearchOutcome capacity contents sought (Ok index) = Accepts index
-  SearchOutcome capacity contents sought (Err vacancy) = AcceptsNone × (0 < capacity → IsVacancy is_vec contents sought vacancy)
+  SearchOutcome capacity contents hash (Ok index) = Accepts index
+  SearchOutcome capacity contents hash (Err vacancy) = AcceptsNone × (0 < capacity → IsVacancy is_vec contents hash vacancy)
 
 -- a search of a store by the match under this hash
 abbrev pub StoreSearch : {K V : Type 0} → (K → Bool → Type 0) → ℕ → StoreState K V → Result ℕ Vacancy → Type 0
-StoreSearch returns sought s =
-    SearchOutcome returns s.is_vec s.pairs (λ index k. slice_get s.hashes index ≡ Some sought) s.capacity s.contents sought
+StoreSearch returns hash s =
+    SearchOutcome returns s.is_vec s.pairs (λ index k. slice_get s.hashes index ≡ Some hash) s.capacity s.contents hash
 
 -- a search from first to last among this many keys found this index, or none: it compared at least those up to and with the one that it found, and
 -- at most all; key by key it compared no more than it had to
@@ -53,8 +53,8 @@ pub record ComparesInOrder (scan : Scan) (found : Option ℕ) (len : ℕ) (befor
   pub looked : after.looked ≡ before.looked
 
 -- what a search of a store under this hash cost that found this index, or none
-pub record IsStoreSearchCost {K V : Type 0} (s : StoreState K V) (sought : ℕ) (scan : Scan) (index : Option ℕ) (before after : Work) : Type 0 where
+pub record IsStoreSearchCost {K V : Type 0} (s : StoreState K V) (hash : ℕ) (scan : Scan) (index : Option ℕ) (before after : Work) : Type 0 where
   pub vector : s.is_vec ≡ true → ComparesInOrder scan index (length s.pairs) before after
-  pub found : s.is_vec ≡ false → IfSome index (λ _. IsTableHitCost s.hashes (buckets_of s.capacity) sought before after)
-  pub missing : s.is_vec ≡ false → IfNone index (after ≡ after_missing s.hashes (buckets_of s.capacity) sought before)
-  pub short : s.is_vec ≡ false → reach s.hashes (buckets_of s.capacity) sought ≤ length s.hashes + 1
+  pub found : s.is_vec ≡ false → IfSome index (λ _. IsTableHitCost s.hashes (buckets_of s.capacity) hash before after)
+  pub missing : s.is_vec ≡ false → IfNone index (after ≡ after_missing s.hashes (buckets_of s.capacity) hash before)
+  pub short : s.is_vec ≡ false → reach s.hashes (buckets_of s.capacity) hash ≤ length s.hashes + 1

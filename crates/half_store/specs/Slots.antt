@@ -1,5 +1,5 @@
 -- What the buckets contain: a stored hash in each full bucket.
-use Rattle.std.specs.Prelude.{◌≡◌, ◌≢◌, ℕ, ◌+◌, ◌-◌, ◌<◌, Bool, false, List, length, Option, Some, None, slice_index, slice_index_or}
+use Rattle.std.specs.Prelude.{◌≡◌, ◌≢◌, ℕ, ◌+◌, ◌-◌, ◌<◌, ◌==◌, Bool, false, List, length, count_by, Option, Some, None, slice_index, slice_index_or}
 use Rattle.half_store.specs.Buckets.{slots_by}
 use Rattle.half_store.specs.Reach.{home, probe_distance}
 
@@ -15,6 +15,14 @@ stored test (Some hash) = test hash
 -- the probe distance of a bucket from the hash's home bucket
 abbrev pub distance_from_home : List (Option ℕ) → ℕ → ℕ → ℕ
 distance_from_home slots hash bucket = probe_distance (length slots) (home (length slots) hash) bucket
+
+-- how many buckets a probe for the hash reads up to and with this one
+abbrev pub reads_to : List (Option ℕ) → ℕ → ℕ → ℕ
+reads_to slots hash bucket = distance_from_home slots hash bucket + 1
+
+-- how many buckets have this hash
+abbrev pub stored_count : List (Option ℕ) → ℕ → ℕ
+stored_count slots hash = count_by (stored (λ held. held == hash)) slots
 
 -- each bucket that a probe from `start` reads before this one is full
 abbrev pub FullBefore : List (Option ℕ) → ℕ → ℕ → Type 0
@@ -36,7 +44,7 @@ pub record IsFoundAt (slots : List (Option ℕ)) (hash bucket : ℕ) : Type 0 wh
 pub record EndsAtPair (hashes words : List ℕ) (hash index bucket before after : ℕ) : Type 0 where
   pub found : IsFoundAt (slots_by hashes words) hash bucket
   pub entry : index ≡ slice_index words bucket - 1
-  pub looked : after ≡ before + (distance_from_home (slots_by hashes words) hash bucket + 1)
+  pub looked : after ≡ before + reads_to (slots_by hashes words) hash bucket
 
 -- some bucket is empty
 abbrev pub SomeVacant : List (Option ℕ) → Type 0

@@ -5,9 +5,11 @@ use Rattle.half_store.specs.declared.store.find.Vacancy.{Vacancy}
 use Rattle.half_store.specs.declared.vecmap.search.Scan.TheVariants.{ByKey}
 use Rattle.half_store.specs.PairLists.{swap_remove_at}
 use Rattle.half_store.specs.Probe.{LooksWithin, probe_reads}
-use Rattle.half_store.specs.Reach.{reach}
+use Rattle.half_store.specs.Buckets.{slots_by}
+use Rattle.half_store.specs.Reach.{reach, probe_distance}
 use Rattle.half_store.specs.Search.{StoreSearch, IsStoreSearchCost}
 use Rattle.half_store.specs.Store.{StoreState, KeepsForm}
+use Rattle.half_store.specs.TableLayout.{IsVacantBeside}
 use Rattle.half_store.specs.Work.{Work}
 
 -- the bucket of the last pair, which a probe for its hash finds, leads to this entry index
@@ -17,6 +19,11 @@ pub record Renames (hashes old : List ℕ) (index : ℕ) (new : List ℕ) (befor
   pub near : probe_reads (length old) (slice_index hashes (length hashes - 1)) bucket < reach hashes (length old) (slice_index hashes (length hashes - 1))
   pub words : new ≡ slice_set old bucket (index + 1)
   pub reads : LooksWithin (probe_reads (length old) (slice_index hashes (length hashes - 1)) bucket) before after
+
+-- closing the gap at this bucket reads those after it, up to any empty one
+abbrev pub ShiftsUpTo : List ℕ → List ℕ → ℕ → Work → Work → Type 0
+ShiftsUpTo hashes old removed before after = (vacant : ℕ) → IsVacantBeside (slots_by hashes (slice_set old removed 0)) removed vacant →
+    LooksWithin (probe_distance (length old) removed vacant) before after
 
 module _ {K V : Type 0} (old new : StoreState K V) where
   -- the pair at this index is gone, and the last pair has its index
@@ -34,8 +41,8 @@ module _ {K V : Type 0} (old new : StoreState K V) where
   TakesFound (Err vacancy) None = new ≡ old
 
   -- a search by the match under this hash, and the removal of what it found
-  pub record Takes (returns : K → Bool → Type 0) (sought : ℕ) (result : Option (K × V)) (before after : Work) : Type 0 where
+  pub record Takes (returns : K → Bool → Type 0) (hash : ℕ) (result : Option (K × V)) (before after : Work) : Type 0 where
     pub search : Result ℕ Vacancy
-    pub finds : StoreSearch returns sought old search
-    pub cost : IsStoreSearchCost old sought ByKey (result_ok search) before after
+    pub finds : StoreSearch returns hash old search
+    pub cost : IsStoreSearchCost old hash ByKey (result_ok search) before after
     pub takes : TakesFound search result

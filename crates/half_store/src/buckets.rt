@@ -24,7 +24,8 @@ pub trait Buckets {
     fn read(&self, bucket: usize, tally: &mut Tally) -> Option<(usize, u64)>
         requires whole { WithinHashes (hashes self.now) (words self.now) }
         requires within { bucket < length (words self.now) }
-        ensures hash { option_map (λ pair. pair.1) result ≡ slot_at (slots_by (hashes self.now) (words self.now)) bucket }
+        ensures hash { option_map (λ pair. pair.1) result
+            ≡ slot_at (slots_by (hashes self.now) (words self.now)) bucket }
         ensures index { IfSome result (λ pair. pair.0 ≡ slice_index (words self.now) bucket - 1) }
         ensures counted { tally.new ≡ one_looked tally.old };
 }

@@ -11,7 +11,8 @@ use std::hash::{BuildHasher, Hash};
 /// Hashes a key: calls `hash_one` of the builder.
 #[inline(always)]
 pub fn hash_one<K: Hash, S: BuildHasher>(builder: &S, key: &K, tally: &mut Tally) -> u64
-    ensures hash { result ≡ hash_by S.BuildHasher S.Hasher.Hasher builder.now (K.hash_input key.now) }
+    ensures hash { result
+        ≡ hash_by S.BuildHasher S.Hasher.Hasher builder.now (K.hash_input key.now) }
     ensures counted { tally.new ≡ one_asked tally.old }
 {
     tally.add_asked();

@@ -1,4 +1,8 @@
 //! The storage of a map in two forms: pairs in two columns, an index over them where there is one, and a tally of the work.
+//!
+//! Its API is the names below the modules, the macro `uncounted`, and `counting`, by which a map hashes a key. No map calls
+//! what else the modules have: they are public since contracts name a type by its module, and for those who prove or test what
+//! a probe reads.
 #![tactic(auto)]
 
 mod blocks;

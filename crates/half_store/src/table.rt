@@ -4,8 +4,8 @@
 //! column, and a test of a key. Probes go up from the home bucket of a hash, one bucket at a time, and a removal shifts
 //! back what follows it, so no tombstone is left.
 ghost use Rattle.std.specs.Prelude.{◌≡◌, ℕ, ◌+◌, ◌^◌, ◌<◌, ◌≤◌, [], ◌∷◌, ◌++◌, length, Some, slice_get, IfOk, OnErr};
-ghost use Rattle.std.specs.Borrow.{Bor};
 ghost use Rattle.std.specs.Fn.{FnReturnsAt};
+ghost use Rattle.half_store.specs.Calls.{CallableOnHash};
 ghost use Rattle.half_store.specs.Reach.{reach};
 ghost use Rattle.half_store.specs.Capacity.{capacity_of, IsBucketCount, capacity_for, buckets_of};
 ghost use Rattle.half_store.specs.Probe.{looked_more, LooksWithin, removal_reads};
@@ -56,7 +56,8 @@ impl Model for Table {
 
     ghost view = { λ t. table_state t.hashes.items (slots_by t.hashes.items (words_of t.buckets)) };
 
-    ghost invariant = { λ t. IsTable t.hashes.items (words_of t.buckets) (most_of t.buckets) (vec_capacity t.hashes) };
+    ghost invariant = { λ t. IsTable t.hashes.items (words_of t.buckets) (most_of t.buckets)
+        (vec_capacity t.hashes) };
 }
 
 impl Table {
@@ -88,8 +89,8 @@ impl Table {
 
     /// Searches for a pair of this hash whose key `matches` accepts. `matches` is called with keys of that hash alone.
     ///
-    /// Returns its entry index, or the empty bucket at which the probe ended, which is 0 where there are none. Where none is
-    /// found it has read exactly `reach` buckets and called `matches` once for each pair of that hash.
+    /// Returns its entry index and its bucket, or the empty bucket at which the probe ended, which is 0 where there are none.
+    /// Where none is found it has read exactly `reach` buckets and called `matches` once for each pair of that hash.
     #[inline(always)]
     pub fn find<K, F: Fn(&K) -> bool>(
         &self,
@@ -97,12 +98,11 @@ impl Table {
         hash: u64,
         matches: &F,
         tally: &mut Tally,
-    ) -> Result<usize, usize>
+    ) -> Result<(usize, usize), usize>
         requires keys { length self.now.hashes ≤ length keys.now }
-        requires callable { (key : Bor K) (index : ℕ) → slice_get self.now.hashes index ≡ Some hash
-            → slice_get keys.now index ≡ Some key.now → F.pre matches.now key }
-        ensures { TableSearch (ReturnsAt (FnReturnsAt F.Fn matches.now) keys.now) self.now hash result
-            tally.old tally.new }
+        requires callable { CallableOnHash (F.pre matches.now) self.now.hashes hash keys.now }
+        ensures { TableSearch (ReturnsAt (FnReturnsAt F.Fn matches.now) keys.now) self.now
+            hash result tally.old tally.new }
     {
         let hashes = self.hashes.as_slice();
         match &self.buckets {
@@ -132,7 +132,8 @@ impl Table {
     pub fn insertion_probe(&self, hash: u64, tally: &mut Tally) -> usize
         requires { 0 < self.now.buckets }
         ensures vacancy { IsVacancyIn (table_contents self.now) hash result }
-        ensures cost { tally.new ≡ looked_more tally.old (reach self.now.hashes self.now.buckets hash) }
+        ensures cost { tally.new ≡ looked_more tally.old
+            (reach self.now.hashes self.now.buckets hash) }
         ensures buckets { self.now.buckets ≡ buckets_of (capacity_of self.now.buckets) }
     {
         let hashes = self.hashes.as_slice();
@@ -153,7 +154,8 @@ impl Table {
         requires vacancy { IsVacancyIn (table_contents self.old) hash bucket }
         ensures hashes { self.new.hashes ≡ self.old.hashes ++ hash ∷ [] }
         ensures buckets { self.new.buckets ≡ self.old.buckets }
-        ensures contents { table_contents self.new ≡ with_hash_in (table_contents self.old) hash bucket }
+        ensures contents { table_contents self.new
+            ≡ with_hash_in (table_contents self.old) hash bucket }
     {
         let word = self.len() + 1;
         self.buckets.set_word(bucket, word);
@@ -166,7 +168,8 @@ impl Table {
         requires { length self.old.hashes < capacity_of self.old.buckets }
         ensures hashes { self.new.hashes ≡ self.old.hashes ++ hash ∷ [] }
         ensures buckets { self.new.buckets ≡ self.old.buckets }
-        ensures cost { tally.new ≡ looked_more tally.old (reach self.old.hashes self.old.buckets hash) }
+        ensures cost { tally.new ≡ looked_more tally.old
+            (reach self.old.hashes self.old.buckets hash) }
         ensures capacity { self.old.buckets ≡ buckets_of (capacity_of self.old.buckets) }
     {
         let _ = &self.hashes; // opens the invariant for the prover, and does nothing
@@ -188,7 +191,8 @@ impl Table {
     pub fn remove_counted(&mut self, index: usize, tally: &mut Tally) -> u64
         requires { index < length self.old.hashes }
         ensures removes { RemovesFromTable self.old index self.new result }
-        ensures cost { LooksWithin (removal_reads self.old.hashes self.old.buckets index) tally.old tally.new }
+        ensures cost { LooksWithin (removal_reads self.old.hashes self.old.buckets index)
+            tally.old tally.new }
     {
         match &mut self.buckets {
             WordArray::FourBytes(buckets) => remove_in(buckets, &mut self.hashes, index, tally),
@@ -206,15 +210,14 @@ impl Table {
         matches: &F,
         tally: &mut Tally,
         removal: &mut Tally,
-    ) -> Result<usize, usize>
+    ) -> Result<(usize, usize), usize>
         requires keys { length self.old.hashes ≤ length keys.now }
-        requires callable { (key : Bor K) (index : ℕ) → slice_get self.old.hashes index ≡ Some hash
-            → slice_get keys.now index ≡ Some key.now → F.pre matches.now key }
-        ensures finds { TableSearch (ReturnsAt (FnReturnsAt F.Fn matches.now) keys.now) self.old hash result
-            tally.old tally.new }
-        ensures removes { IfOk result (λ index. RemovesFromTable self.old index self.new hash) }
-        ensures cost { IfOk result (λ index. LooksWithin (removal_reads self.old.hashes self.old.buckets index)
-            removal.old removal.new) }
+        requires callable { CallableOnHash (F.pre matches.now) self.old.hashes hash keys.now }
+        ensures finds { TableSearch (ReturnsAt (FnReturnsAt F.Fn matches.now) keys.now) self.old
+            hash result tally.old tally.new }
+        ensures removes { IfOk result (λ pair. RemovesFromTable self.old pair.0 self.new hash) }
+        ensures cost { IfOk result (λ pair. LooksWithin
+            (removal_reads self.old.hashes self.old.buckets pair.0) removal.old removal.new) }
         ensures same { OnErr result ((self.new ≡ self.old) × (removal.new ≡ removal.old)) }
     {
         match &mut self.buckets {

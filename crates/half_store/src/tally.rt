@@ -21,7 +21,8 @@ impl Model for Tally {
 
     ghost Value = { Work };
 
-    ghost view = { λ t. record { asked = t.asked.number; compared = t.compared.number; looked = t.looked.number } };
+    ghost view = { λ t.
+        record { asked = t.asked.number; compared = t.compared.number; looked = t.looked.number } };
 }
 
 const _: () = prove!(size_of::<Tally>() == 0);

@@ -121,6 +121,7 @@ impl<K, V> Columns<K, V> {
         requires { index < length self.old.pairs }
         ensures taken { slice_get self.old.pairs index ≡ Some result }
         ensures after { self.new ≡ columns_with self.old (swap_remove_at self.old.pairs index) }
+        ensures room { length self.new.pairs < self.new.capacity }
     {
         (self.keys.swap_remove(index), self.values.swap_remove(index))
     }

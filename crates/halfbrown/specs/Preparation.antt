@@ -1,8 +1,10 @@
 -- Capacity for one pair more: what each call that adds a pair makes first, and what adding the pair there leaves.
-use Rattle.std.specs.Prelude.{ℕ, ◌+◌, ◌<◌, nat_lt, Bool, [], ◌∷◌, ◌++◌, length, Option, Result, Ok, Err, if◌then◌else◌}
+use Rattle.std.specs.Prelude.{ℕ, ◌+◌, ◌<◌, nat_lt, Bool, [], ◌∷◌, ◌++◌, length, Option, if◌then◌else◌}
 use Rattle.half_store.specs.Capacity.{capacity_for}
 use Rattle.half_store.specs.Store.{IsVacancy, filled}
 use Rattle.half_store.specs.declared.store.find.Vacancy.{Vacancy}
+use Rattle.halfbrown.specs.declared.map.prepare.Place.{Place}
+use Rattle.halfbrown.specs.declared.map.prepare.Place.TheVariants.{Held, Vacant}
 use Rattle.halfbrown.specs.Costs.{probe_length}
 use Rattle.halfbrown.specs.Growth.{is_vec_after, Grants}
 use Rattle.halfbrown.specs.Lookup.{IsIndexOf, IsAbsent}
@@ -31,6 +33,6 @@ module _ {K V S : Type 0} where
       pub vacant : IsVacancy m.is_vec (contents_of m) (hash m.builder k) vacancy
 
     -- all is ready for an insertion of k: its index is found, or a vacancy for its pair
-    abbrev pub IsReadyFor : State K V S → K → Result ℕ Vacancy → Type 0
-    IsReadyFor m k (Ok index) = IsIndexOf (eq k) m.pairs index
-    IsReadyFor m k (Err vacancy) = HasVacancyFor m k vacancy
+    abbrev pub IsReadyFor : State K V S → K → Place → Type 0
+    IsReadyFor m k (Held index) = IsIndexOf (eq k) m.pairs index
+    IsReadyFor m k (Vacant vacancy) = HasVacancyFor m k vacancy

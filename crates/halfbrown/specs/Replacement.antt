@@ -1,10 +1,9 @@
 -- What an entry is after its value was handed to a closure, which returned another or none.
-use Rattle.std.specs.Prelude.{◌≡◌, ℕ, Bool, List, [], ◌∷◌, ◌++◌, length, slice_get, Option, None, Some, IfSome, MatchOption, if◌then◌else◌}
+use Rattle.std.specs.Prelude.{◌≡◌, ℕ, Bool, List, [], ◌∷◌, ◌++◌, Option, None, Some, IfSome, MatchOption, if◌then◌else◌}
 use Rattle.std.specs.Borrow.{Bor}
 use Rattle.std.specs.declared.cmp.PartialEq as eq
 use Rattle.std.specs.declared.hash.Hash as hash
 use Rattle.halfbrown.specs.declared.key_hasher.KeyHasher as hashers
-use Rattle.half_store.specs.PairLists.{swap_remove_at}
 use Rattle.half_store.specs.Probe.{looked_more}
 use Rattle.half_store.specs.ValueReplacement.{Answers}
 use Rattle.half_store.specs.Work.{Work}
@@ -12,12 +11,7 @@ use Rattle.halfbrown.specs.declared.entry.Entry.{Entry}
 use Rattle.halfbrown.specs.declared.limit.Limit as limits
 use Rattle.halfbrown.specs.Costs.{probe_length}
 use Rattle.halfbrown.specs.Entry.{map_ref, map_of, is_occupied, entry_key, entry_value, entry_pair, with_value, pairs_without}
-use Rattle.halfbrown.specs.State.{State, IsState, WithPairs}
-
--- the pair at this index has gone to the end, which is the index `last`: the pair that was last has its index
-pub record MovesLast {K V S : Type 0} (old : State K V S) (index last : ℕ) (new : State K V S) : Type 0 where
-  pub moved : (pair : K × V) × (slice_get old.pairs index ≡ Some pair) × WithPairs old (swap_remove_at old.pairs index ++ pair ∷ []) new
-  pub last_is : last ≡ length (swap_remove_at old.pairs index)
+use Rattle.halfbrown.specs.State.{IsState, WithPairs}
 
 module _ {K V S L H : Type 0} {e : eq.Ghosts K} {h : hash.Ghosts K} {b : hashers.Ghosts S K H} {l : limits.Ghosts L} where
   -- the pairs once the entry's key has the value that was returned: in a vector its pair goes last, in a table it keeps its index

@@ -16,7 +16,7 @@ mod insert;
 mod into_iter;
 mod iter;
 mod make;
-mod prepare;
+pub(crate) mod prepare;
 mod remove;
 mod retain;
 mod shift_remove;

@@ -1,2 +1,3 @@
 -- Lemmas of the store.
 pub mod States
+pub mod Searches

@@ -1,18 +1,21 @@
 //! Adding and removing pairs.
-ghost use Rattle.std.specs.Prelude.{◌≡◌, ℕ, ◌<◌, ◌≤◌, false, Some, None, IfSome, IfNone, length, map, slice_get};
+ghost use Rattle.std.specs.Prelude.{◌≡◌, ℕ, ◌<◌, ◌≤◌, false, Some, IfOk, IfErr, OnOk, length, map, slice_get};
 ghost use Rattle.std.specs.Borrow.{Bor};
 ghost use Rattle.std.specs.Fn.{FnReturnsAt};
 ghost use Rattle.std.specs.Map.{keys_of};
 ghost use Rattle.std.specs.Map.Calls.{CalledAtPair, TakesPair, CallableOnEachPair, RetainsPairs};
 ghost use Rattle.std.specs.Option.{option_map};
+ghost use Rattle.std.specs.Result.{result_err};
+ghost use Rattle.half_store.specs.Calls.{CallableOnKeys};
 ghost use Rattle.half_store.specs.PairLists.{swap_remove_at};
 ghost use Rattle.half_store.specs.StoreRemoval.{SwapRemoves, Takes};
-ghost use Rattle.half_store.specs.ValueReplacement.{ReplacesValue};
+ghost use Rattle.half_store.specs.ValueReplacement.{kept_index, ReplacesValue};
 ghost use Rattle.half_store.specs.Store.{store_pushed, IsVacancy, KeepsForm};
 
 use super::Store;
 use super::find::Vacancy;
-use crate::{Scan, Tally, uncounted};
+use crate::vecmap::search::{Scan, first_match};
+use crate::{Tally, uncounted};
 
 impl<K, V> Store<K, V> {
     /// Adds a pair at the end, at a vacancy for its hash. The capacity must be enough for it. It reads no bucket.
@@ -49,48 +52,55 @@ impl<K, V> Store<K, V> {
         matches: &F,
         tally: &mut Tally,
     ) -> Option<(K, V)>
-        requires { (key : Bor K) (index : ℕ) → slice_get (keys_of self.old.pairs) index ≡ Some key.now
-            → F.pre matches.now key }
-        ensures { Takes self.old self.new (FnReturnsAt F.Fn matches.now) hash result tally.old tally.new }
+        requires { CallableOnKeys (F.pre matches.now) (keys_of self.old.pairs) }
+        ensures { Takes self.old self.new (FnReturnsAt F.Fn matches.now) hash result
+            tally.old tally.new }
     {
         let Some(table) = &mut self.table else {
-            return match self.find(hash, matches, Scan::ByKey, tally) {
-                Ok(index) => Some(self.columns.swap_remove(index)),
-                Err(_) => None,
-            };
+            let index = first_match(self.columns.keys(), matches, Scan::ByKey, tally)?;
+            return Some(self.columns.swap_remove(index));
         };
         match uncounted!(table.take(self.columns.keys(), hash, matches, tally)) {
-            Ok(index) => Some(self.columns.swap_remove(index)),
+            Ok((index, _)) => Some(self.columns.swap_remove(index)),
             Err(_) => None,
         }
     }
 
-    /// Hands the value of the pair at this index to `f`, with its key. Where `f` returns a value the pair has that one, and
-    /// else it is removed, and its key returned with its hash, which is 0 in a vector: the last pair takes its index.
+    /// Hands the value of the pair at this index to `f`, with its key. Where `f` returns a value the pair has that one, and its
+    /// index is returned: in a vector it goes last, and the last pair takes its index, and in a table it keeps it. Else the pair
+    /// is removed, and its key returned with its hash, which is 0 in a vector: the last pair takes its index.
     #[inline]
     pub fn replace_with<F: FnOnce(&K, V) -> Option<V>>(
         &mut self,
         index: usize,
         f: F,
-    ) -> Option<(K, u64)>
+    ) -> Result<usize, (K, u64)>
         requires within { index < length self.old.pairs }
-        requires callable { (key : Bor K) (value : V) → slice_get self.old.pairs index ≡ Some (key.now, value)
-            → F.pre f key value }
-        ensures replaces { ReplacesValue (F.post f) self.old.pairs index self.new.pairs
-            (option_map (λ removed. removed.0) result) }
-        ensures hash { IfSome result (λ removed. self.old.is_vec ≡ false
+        requires callable { (key : Bor K) (value : V)
+            → slice_get self.old.pairs index ≡ Some (key.now, value) → F.pre f key value }
+        ensures replaces { ReplacesValue (F.post f) self.old.is_vec self.old.pairs index
+            self.new.pairs (option_map (λ removed. removed.0) (result_err result)) }
+        ensures at { IfOk result (λ at. at ≡ kept_index self.old.is_vec self.old.pairs index) }
+        ensures hash { IfErr result (λ removed. self.old.is_vec ≡ false
             → slice_get self.old.hashes index ≡ Some removed.1) }
-        ensures hashes { IfSome result (λ _. self.old.is_vec ≡ false
+        ensures hashes { IfErr result (λ _. self.old.is_vec ≡ false
             → self.new.hashes ≡ swap_remove_at self.old.hashes index) }
-        ensures kept { IfNone result (self.new.hashes ≡ self.old.hashes) }
+        ensures kept { OnOk result (self.new.hashes ≡ self.old.hashes) }
         ensures form { KeepsForm self.old self.new }
     {
-        let key = self.columns.replace_with(index, f)?;
-        let hash = match &mut self.table {
-            Some(table) => table.remove(index),
-            None => 0,
+        let Some(table) = &mut self.table else {
+            let last = self.columns.len() - 1;
+            let (key, value) = self.columns.swap_remove(index);
+            let Some(value) = f(&key, value) else {
+                return Err((key, 0));
+            };
+            self.columns.push(key, value);
+            return Ok(last);
         };
-        Some((key, hash))
+        match self.columns.replace_with(index, f) {
+            Some(key) => Err((key, table.remove(index))),
+            None => Ok(index),
+        }
     }
 
     /// Calls `f` at each pair, in order, and keeps those that it accepts, in their order, with the values that it left.

@@ -1,9 +1,9 @@
 //! A search by a match on keys, and a probe for a vacancy.
-ghost use Rattle.std.specs.Prelude.{◌≡◌, ℕ, ◌<◌, Some, length, slice_get, if◌then◌else◌};
-ghost use Rattle.std.specs.Borrow.{Bor};
+ghost use Rattle.std.specs.Prelude.{◌≡◌, ◌<◌, length, if◌then◌else◌};
 ghost use Rattle.std.specs.Fn.{FnReturnsAt};
 ghost use Rattle.std.specs.Map.{keys_of};
 ghost use Rattle.std.specs.Result.{result_ok};
+ghost use Rattle.half_store.specs.Calls.{CallableOnKeys};
 ghost use Rattle.half_store.specs.Capacity.{buckets_of};
 ghost use Rattle.half_store.specs.Probe.{looked_more};
 ghost use Rattle.half_store.specs.Reach.{reach};
@@ -34,8 +34,7 @@ impl<K, V> Store<K, V> {
         scan: Scan,
         tally: &mut Tally,
     ) -> Result<usize, Vacancy>
-        requires { (key : Bor K) (index : ℕ) → slice_get (keys_of self.now.pairs) index ≡ Some key.now
-            → F.pre matches.now key }
+        requires { CallableOnKeys (F.pre matches.now) (keys_of self.now.pairs) }
         ensures found { StoreSearch (FnReturnsAt F.Fn matches.now) hash self.now result }
         ensures cost { IsStoreSearchCost self.now hash scan (result_ok result) tally.old tally.new }
     {
@@ -47,7 +46,7 @@ impl<K, V> Store<K, V> {
             };
         };
         match table.find(self.columns.keys(), hash, matches, tally) {
-            Ok(index) => Ok(index),
+            Ok((index, _)) => Ok(index),
             Err(bucket) => Err(Vacancy { hash, bucket }),
         }
     }
@@ -58,8 +57,8 @@ impl<K, V> Store<K, V> {
         requires { length self.now.pairs < self.now.capacity }
         ensures hash { result.hash ≡ hash }
         ensures vacant { IsVacancy self.now.is_vec self.now.contents hash result }
-        ensures cost { tally.new ≡ looked_more tally.old
-            (if self.now.is_vec then 0 else reach self.now.hashes (buckets_of self.now.capacity) hash) }
+        ensures cost { tally.new ≡ looked_more tally.old (if self.now.is_vec then 0
+            else reach self.now.hashes (buckets_of self.now.capacity) hash) }
     {
         let bucket = match &self.table {
             Some(table) => table.insertion_probe(hash, tally),

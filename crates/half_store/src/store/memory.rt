@@ -8,6 +8,7 @@ ghost use Rattle.half_store.specs.Refusal.{refusal_of};
 ghost use Rattle.half_store.specs.Store.{reserved, reserved_capacity};
 
 use super::Store;
+use crate::capacity::{buckets_for, capacity_of};
 use crate::refusal::check_size;
 use crate::{Columns, Refusal, Table};
 use std::alloc::{AllocError, Global};
@@ -30,7 +31,7 @@ pub struct Arrays {
 }
 
 impl<K, V> Store<K, V> {
-    /// No pairs, with capacity for so many: a vector with exactly this capacity where the limit allows them, else a table.
+    /// No pairs, with capacity for this many: a vector with exactly this capacity where the limit allows them, else a table.
     pub fn with_capacity(
         alloc: Global,
         capacity: usize,
@@ -41,7 +42,8 @@ impl<K, V> Store<K, V> {
         ensures hashes { IfOk result (λ s. s.hashes ≡ []) }
         ensures capacity { IfOk result (λ s. s.capacity ≡ least_capacity s.is_vec capacity) }
         ensures within { IfOk result (λ s. s.is_vec ≡ true → s.capacity ≤ limit) }
-        ensures series { IfOk result (λ s. s.is_vec ≡ false → s.capacity ≡ capacity_for s.capacity) }
+        ensures series { IfOk result (λ s. s.is_vec ≡ false
+            → s.capacity ≡ capacity_for s.capacity) }
         ensures exceeds { IfOk result (λ s. s.is_vec ≡ false → limit < s.capacity) }
         ensures granted { OnOk result (capacity ≤ 2 ^ 60) }
         ensures refused { IfErr result (λ why. why ≡ refusal_of capacity) }
@@ -83,7 +85,7 @@ impl<K, V> Store<K, V> {
         }
     }
 
-    /// Makes the capacity enough for so many pairs more, in a vector for no more in all than the limit.
+    /// Makes the capacity enough for this many pairs more, in a vector for no more in all than the limit.
     ///
     /// Where it is not enough yet, a table gets the least of its series that is, and a vector grows as `Columns::grow` says.
     #[inline(never)]
@@ -97,11 +99,13 @@ impl<K, V> Store<K, V> {
         ensures grown { OnOk result (self.old.capacity < reserved limit self.old additional
             → self.new.capacity ≡ reserved_capacity limit self.old additional) }
         ensures more { self.old.capacity ≤ self.new.capacity }
-        ensures series { self.new.is_vec ≡ false → self.new.capacity ≡ capacity_for self.new.capacity }
+        ensures series { self.new.is_vec ≡ false
+            → self.new.capacity ≡ capacity_for self.new.capacity }
         ensures granted { OnOk result (self.old.capacity < reserved limit self.old additional
             → reserved limit self.old additional ≤ 2 ^ 60) }
-        ensures refused { IfErr result (λ why. (self.old.capacity < reserved limit self.old additional)
-            × (why ≡ refusal_of (reserved limit self.old additional))) }
+        ensures needed { OnErr result (self.old.capacity < reserved limit self.old additional) }
+        ensures refused { IfErr result
+            (λ why. why ≡ refusal_of (reserved limit self.old additional)) }
         ensures err { OnErr result (self.new ≡ self.old) }
     {
         let len = self.columns.len();
@@ -123,24 +127,35 @@ impl<K, V> Store<K, V> {
     /// error nothing changes.
     pub fn shrink_to_fit(&mut self, limit: usize) -> Result<(), AllocError>
         ensures pairs { self.new.pairs ≡ self.old.pairs }
-        ensures form { OnOk result (self.new.is_vec ≡ vec_shrunk limit self.old.is_vec (length self.old.pairs)) }
+        ensures form { OnOk result (self.new.is_vec
+            ≡ vec_shrunk limit self.old.is_vec (length self.old.pairs)) }
         ensures capacity { OnOk result (self.new.capacity
             ≡ shrunk_capacity limit self.old.is_vec (length self.old.pairs)) }
         ensures hashes { self.new.is_vec ≡ false → self.new.hashes ≡ self.old.hashes }
-        ensures series { OnOk result (self.new.is_vec ≡ false → self.new.capacity ≡ capacity_for self.new.capacity) }
+        ensures series { OnOk result (self.new.is_vec ≡ false
+            → self.new.capacity ≡ capacity_for self.new.capacity) }
         ensures fits { OnOk result (length self.old.pairs ≤ self.new.capacity) }
         ensures err { OnErr result (self.new ≡ self.old) }
-        ensures some { OnErr result (0 < shrunk_capacity limit self.old.is_vec (length self.old.pairs)) }
-        ensures less { OnErr result (shrunk_capacity limit self.old.is_vec (length self.old.pairs) < self.old.capacity) }
+        ensures some { OnErr result
+            (0 < shrunk_capacity limit self.old.is_vec (length self.old.pairs)) }
+        ensures less { OnErr result (shrunk_capacity limit self.old.is_vec (length self.old.pairs)
+            < self.old.capacity) }
     {
+        let len = self.columns.len();
         let Some(table) = &mut self.table else {
-            return self.columns.shrink_to_fit();
+            return self.columns.shrink_to(len);
         };
-        if self.columns.len() > limit {
-            return self.columns.shrink_beside(table);
+        if len <= limit {
+            self.columns.shrink_to(len)?;
+            self.table = None;
+            return Ok(());
         }
-        self.columns.shrink_to_fit()?;
-        self.table = None;
+        let buckets = buckets_for(table.len());
+        if capacity_of(buckets) < table.capacity() {
+            let fresh = Table::empty(self.columns.allocator(), buckets)?;
+            self.columns.shrink_to(fresh.capacity())?;
+            table.move_to(fresh);
+        }
         Ok(())
     }
 

@@ -8,7 +8,7 @@ use super::Store;
 use crate::{Refusal, Table};
 
 impl<K, V> Store<K, V> {
-    /// An empty table with capacity for so many pairs, in a block of its own. The columns get the same capacity, after the table
+    /// An empty table with capacity for this many pairs, in a block of its own. The columns get the same capacity, after the table
     /// has all its memory. On error nothing changes.
     pub fn new_table(&mut self, needed: usize) -> Result<Box<Table>, Refusal>
         requires { self.old.is_vec ≡ true }
@@ -18,14 +18,17 @@ impl<K, V> Store<K, V> {
         ensures capacity { IfOk result (λ t. capacity_of t.value.buckets ≡ capacity_for needed) }
         ensures enough { OnOk result (needed ≤ capacity_for needed) }
         ensures series { OnOk result (capacity_for needed ≡ capacity_for (capacity_for needed)) }
-        ensures columns { OnOk result (self.new.capacity ≡ max self.old.capacity (capacity_for needed)) }
+        ensures columns { OnOk result (self.new.capacity
+            ≡ max self.old.capacity (capacity_for needed)) }
         ensures granted { OnOk result (needed ≤ 2 ^ 60) }
         ensures refused { IfErr result (λ why. why ≡ refusal_of needed) }
         ensures err { OnErr result (self.new ≡ self.old) }
     {
         let alloc = self.columns.allocator();
         let table = Box::new(alloc, Table::with_capacity(alloc, needed)?)?;
-        self.columns.reserve(table.capacity())?;
+        if self.columns.capacity() < table.capacity() {
+            self.columns.grow_to(table.capacity())?;
+        }
         Ok(table)
     }
 
@@ -34,8 +37,8 @@ impl<K, V> Store<K, V> {
         requires vector { self.old.is_vec ≡ true }
         requires len { length table.value.hashes ≡ length self.old.pairs }
         requires backed { capacity_of table.value.buckets ≡ self.old.capacity }
-        ensures { self.new ≡ table_of (record { pairs = self.old.pairs; capacity = self.old.capacity })
-            table.value }
+        ensures { self.new ≡ table_of
+            (record { pairs = self.old.pairs; capacity = self.old.capacity }) table.value }
     {
         self.table = Some(table);
     }

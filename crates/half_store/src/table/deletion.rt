@@ -1,20 +1,20 @@
 //! Backward-shift deletion: after a removal the pairs that follow move back, so that no tombstone is needed.
 ghost use Rattle.std.specs.Prelude.{◌≡◌, ℕ, ◌+◌, ◌-◌, ◌^◌, ◌<◌, ◌≤◌, Some, IfOk, OnErr};
 ghost use Rattle.std.specs.Prelude.{length, slice_get, slice_set, slice_index, vec_capacity};
-ghost use Rattle.std.specs.Borrow.{Bor};
 ghost use Rattle.std.specs.Fn.{FnReturnsAt};
 ghost use Rattle.std.specs.List.{swap_remove};
 ghost use Rattle.half_store.specs.Buckets.{slots_by};
+ghost use Rattle.half_store.specs.Calls.{CallableOnHash};
 ghost use Rattle.half_store.specs.Capacity.{IsBucketCount};
-ghost use Rattle.half_store.specs.Probe.{looked_more, LooksWithin, probe_reads, removal_reads};
+ghost use Rattle.half_store.specs.Probe.{looked_more, LooksWithin, reads_left, removal_reads};
 ghost use Rattle.half_store.specs.Reach.{home, probe_distance, IsNearer};
-ghost use Rattle.half_store.specs.StoreRemoval.{Renames};
+ghost use Rattle.half_store.specs.StoreRemoval.{Renames, ShiftsUpTo};
 ghost use Rattle.half_store.specs.Search.{ReturnsAt};
 ghost use Rattle.half_store.specs.Table.{table_state};
-ghost use Rattle.half_store.specs.TableLayout.{IsIndexed, IsIndexedButFor, IsVacantBeside};
+ghost use Rattle.half_store.specs.TableLayout.{IsIndexed, IsIndexedButFor};
 ghost use Rattle.half_store.specs.TableSearch.{TableSearch};
 
-use super::find::find_with_bucket;
+use super::find::find_in;
 use super::probe::{home, next};
 use crate::Tally;
 use crate::buckets::HashedBuckets;
@@ -37,7 +37,8 @@ pub(super) fn remove_in<B: Words>(
     ensures indexed { IsIndexed hashes.new.items (B.words buckets.new) }
     ensures len { length (B.words buckets.new) ≡ length (B.words buckets.old) }
     ensures most { B.most buckets.new ≡ B.most buckets.old }
-    ensures cost { LooksWithin (removal_reads hashes.old.items (length (B.words buckets.old)) index) tally.old tally.new }
+    ensures cost { LooksWithin (removal_reads hashes.old.items (length (B.words buckets.old)) index)
+        tally.old tally.new }
 {
     let bucket = bucket_of(buckets, hashes.as_slice(), index, tally);
     remove_at(buckets, hashes, index, bucket, tally)
@@ -62,8 +63,8 @@ fn remove_at<B: Words>(
     ensures indexed { IsIndexed hashes.new.items (B.words buckets.new) }
     ensures len { length (B.words buckets.new) ≡ length (B.words buckets.old) }
     ensures most { B.most buckets.new ≡ B.most buckets.old }
-    ensures cost { LooksWithin (removal_reads hashes.old.items (length (B.words buckets.old)) index
-        - probe_reads (length (B.words buckets.old)) (slice_index hashes.old.items index) bucket) tally.old tally.new }
+    ensures cost { LooksWithin (reads_left hashes.old.items (length (B.words buckets.old)) index
+        bucket) tally.old tally.new }
 {
     rename_last(buckets, hashes.as_slice(), index, bucket, tally);
     let hash = hashes.swap_remove(index);
@@ -85,7 +86,8 @@ fn rename_last<B: Words>(
     requires within { index < length hashes.now }
     requires at { slice_index (B.words buckets.old) bucket ≡ index + 1 }
     requires fits { length hashes.now ≤ B.most buckets.old }
-    ensures renames { Renames hashes.now (B.words buckets.old) index (B.words buckets.new) tally.old tally.new }
+    ensures renames { Renames hashes.now (B.words buckets.old) index (B.words buckets.new)
+        tally.old tally.new }
     ensures most { B.most buckets.new ≡ B.most buckets.old }
 {
     let last = hashes.len() - 1;
@@ -106,36 +108,34 @@ pub(super) fn take_in<B: Words, K, F: Fn(&K) -> bool>(
     matches: &F,
     tally: &mut Tally,
     removal: &mut Tally,
-) -> Result<usize, usize>
+) -> Result<(usize, usize), usize>
     requires indexed { IsIndexed hashes.old.items (B.words buckets.old) }
     requires fits { length hashes.old.items ≤ B.most buckets.old }
     requires keys { length hashes.old.items ≤ length keys.now }
-    requires callable { (key : Bor K) (index : ℕ) → slice_get hashes.old.items index ≡ Some hash
-        → slice_get keys.now index ≡ Some key.now → F.pre matches.now key }
+    requires callable { CallableOnHash (F.pre matches.now) hashes.old.items hash keys.now }
     ensures finds { TableSearch (ReturnsAt (FnReturnsAt F.Fn matches.now) keys.now)
         (table_state hashes.old.items (slots_by hashes.old.items (B.words buckets.old)))
         hash result tally.old tally.new }
-    ensures hashes { IfOk result (λ index. hashes.new.items ≡ swap_remove hashes.old.items index 0) }
-    ensures cost { IfOk result (λ index.
-        LooksWithin (removal_reads hashes.old.items (length (B.words buckets.old)) index) removal.old removal.new) }
+    ensures hashes { IfOk result (λ pair. hashes.new.items
+        ≡ swap_remove hashes.old.items pair.0 0) }
+    ensures cost { IfOk result (λ pair. LooksWithin (removal_reads
+        hashes.old.items (length (B.words buckets.old)) pair.0) removal.old removal.new) }
     ensures capacity { vec_capacity hashes.new ≡ vec_capacity hashes.old }
     ensures indexed { IsIndexed hashes.new.items (B.words buckets.new) }
     ensures len { length (B.words buckets.new) ≡ length (B.words buckets.old) }
     ensures most { B.most buckets.new ≡ B.most buckets.old }
-    ensures same { OnErr result ((hashes.new.items ≡ hashes.old.items) × (B.words buckets.new ≡ B.words buckets.old)
-        × (removal.new ≡ removal.old)) }
+    ensures same { OnErr result ((hashes.new.items ≡ hashes.old.items)
+        × (B.words buckets.new ≡ B.words buckets.old) × (removal.new ≡ removal.old)) }
 {
     let held = HashedBuckets {
         buckets: &*buckets,
         hashes: hashes.as_slice(),
     };
-    match find_with_bucket(&held, keys, hash, matches, tally) {
-        Ok((index, bucket)) => {
-            remove_at(buckets, hashes, index, bucket, removal);
-            Ok(index)
-        }
-        Err(bucket) => Err(bucket),
+    let found = find_in(&held, keys, hash, matches, tally);
+    if let Ok((index, bucket)) = found {
+        remove_at(buckets, hashes, index, bucket, removal);
     }
+    found
 }
 
 /// The bucket of the pair at this entry index: where a probe from its stored hash meets the index. It reads fewer buckets than
@@ -146,7 +146,8 @@ fn bucket_of<B: Words>(buckets: &B, hashes: &[u64], index: usize, tally: &mut Ta
     requires within { index < length hashes.now }
     ensures within { result < length (B.words buckets.now) }
     ensures at { slice_index (B.words buckets.now) result ≡ index + 1 }
-    ensures near { IsNearer hashes.now (length (B.words buckets.now)) (slice_index hashes.now index) result }
+    ensures near { IsNearer hashes.now (length (B.words buckets.now)) (slice_index hashes.now index)
+        result }
     ensures cost { tally.new ≡ looked_more tally.old (probe_distance (length (B.words buckets.now))
         (home (length (B.words buckets.now)) (slice_index hashes.now index)) result + 1) }
 {
@@ -197,13 +198,13 @@ fn hash_of(word: usize, hashes: &[u64]) -> u64
 /// whose home bucket is not after it. What the gap contains is not read; it is emptied at the end.
 fn backward_shift<B: Words>(buckets: &mut B, hashes: &[u64], removed: usize, tally: &mut Tally)
     requires count { IsBucketCount (length (B.words buckets.old)) }
-    requires removed { IsIndexedButFor hashes.now (slice_set (B.words buckets.old) removed 0) removed }
+    requires removed { IsIndexedButFor hashes.now (slice_set (B.words buckets.old) removed 0)
+        removed }
     requires fits { length hashes.now ≤ B.most buckets.old }
     ensures indexed { IsIndexed hashes.now (B.words buckets.new) }
     ensures len { length (B.words buckets.new) ≡ length (B.words buckets.old) }
     ensures most { B.most buckets.new ≡ B.most buckets.old }
-    ensures cost { (vacant : ℕ) → IsVacantBeside (slots_by hashes.now (slice_set (B.words buckets.old) removed 0)) removed vacant
-        → LooksWithin (probe_distance (length (B.words buckets.old)) removed vacant) tally.old tally.new }
+    ensures cost { ShiftsUpTo hashes.now (B.words buckets.old) removed tally.old tally.new }
 {
     let count = buckets.count();
     let mut gap = removed;

@@ -6,10 +6,11 @@ ghost use Rattle.std.specs.Borrow.{Bor};
 ghost use Rattle.std.specs.Fn.{FnReturnsAt};
 ghost use Rattle.half_store.specs.Reach.{home, bucket_after};
 ghost use Rattle.half_store.specs.Buckets.{slots_by, WithinHashes};
+ghost use Rattle.half_store.specs.Calls.{CallableInBuckets, RefusedInBuckets};
 ghost use Rattle.half_store.specs.Capacity.{IsBucketCount};
 ghost use Rattle.half_store.specs.Probe.{looked_more};
 ghost use Rattle.half_store.specs.Search.{ReturnsAt};
-ghost use Rattle.half_store.specs.Slots.{slot_at, stored, distance_from_home, IsVacancyFor, EndsAtPair, SomeVacant, ProbeInvariant};
+ghost use Rattle.half_store.specs.Slots.{reads_to, stored_count, IsVacancyFor, EndsAtPair, SomeVacant, ProbeInvariant};
 
 use crate::Tally;
 use crate::buckets::Buckets;
@@ -54,24 +55,24 @@ pub fn search<P: Buckets, K, F: Fn(&K) -> bool>(
     requires vacant { SomeVacant (slots_by (P.hashes buckets.now) (P.words buckets.now)) }
     requires ordered { ProbeInvariant (slots_by (P.hashes buckets.now) (P.words buckets.now)) }
     requires keys { length (P.hashes buckets.now) ≤ length keys.now }
-    requires callable { (key : Bor K) (bucket : ℕ)
-        → slot_at (slots_by (P.hashes buckets.now) (P.words buckets.now)) bucket ≡ Some hash
-        → slice_get keys.now (slice_index (P.words buckets.now) bucket - 1) ≡ Some key.now → F.pre matches.now key }
-    ensures found { IfOk result (λ found. EndsAtPair (P.hashes buckets.now) (P.words buckets.now) hash found.0 found.1
-        tally.old.looked tally.new.looked) }
-    ensures accepted { IfOk result (λ found. ReturnsAt (FnReturnsAt F.Fn matches.now) keys.now found.0 true) }
-    ensures vacancy { IfErr result (IsVacancyFor (slots_by (P.hashes buckets.now) (P.words buckets.now)) hash) }
-    ensures refused { OnErr result ((bucket : ℕ)
-        → slot_at (slots_by (P.hashes buckets.now) (P.words buckets.now)) bucket ≡ Some hash
-        → ReturnsAt (FnReturnsAt F.Fn matches.now) keys.now (slice_index (P.words buckets.now) bucket - 1) false) }
+    requires callable { CallableInBuckets (F.pre matches.now) (P.hashes buckets.now)
+        (P.words buckets.now) hash keys.now }
+    ensures found { IfOk result (λ found. EndsAtPair (P.hashes buckets.now) (P.words buckets.now)
+        hash found.0 found.1 tally.old.looked tally.new.looked) }
+    ensures accepted { IfOk result
+        (λ found. ReturnsAt (FnReturnsAt F.Fn matches.now) keys.now found.0 true) }
+    ensures vacancy { IfErr result
+        (IsVacancyFor (slots_by (P.hashes buckets.now) (P.words buckets.now)) hash) }
+    ensures refused { OnErr result (RefusedInBuckets (FnReturnsAt F.Fn matches.now)
+        (P.hashes buckets.now) (P.words buckets.now) hash keys.now) }
     ensures asked { tally.new.asked ≡ tally.old.asked }
     ensures looked_missing { IfErr result (λ bucket. tally.new.looked ≡ tally.old.looked
-        + (distance_from_home (slots_by (P.hashes buckets.now) (P.words buckets.now)) hash bucket + 1)) }
+        + reads_to (slots_by (P.hashes buckets.now) (P.words buckets.now)) hash bucket) }
     ensures compared_some { OnOk result (tally.old.compared + 1 ≤ tally.new.compared) }
     ensures compared_most { tally.new.compared ≤ tally.old.compared
-        + count_by (stored (λ held. held == hash)) (slots_by (P.hashes buckets.now) (P.words buckets.now)) }
+        + stored_count (slots_by (P.hashes buckets.now) (P.words buckets.now)) hash }
     ensures compared_all { OnErr result (tally.new.compared ≡ tally.old.compared
-        + count_by (stored (λ held. held == hash)) (slots_by (P.hashes buckets.now) (P.words buckets.now))) }
+        + stored_count (slots_by (P.hashes buckets.now) (P.words buckets.now)) hash) }
 {
     let count = buckets.count();
     let mut bucket = home(hash, count);
@@ -94,9 +95,10 @@ pub fn first_empty<P: Buckets>(buckets: &P, hash: u64, tally: &mut Tally) -> usi
     requires whole { WithinHashes (P.hashes buckets.now) (P.words buckets.now) }
     requires count { IsBucketCount (length (P.words buckets.now)) }
     requires vacant { SomeVacant (slots_by (P.hashes buckets.now) (P.words buckets.now)) }
-    ensures vacancy { IsVacancyFor (slots_by (P.hashes buckets.now) (P.words buckets.now)) hash result }
+    ensures vacancy { IsVacancyFor (slots_by (P.hashes buckets.now) (P.words buckets.now)) hash
+        result }
     ensures cost { tally.new ≡ looked_more tally.old
-        (distance_from_home (slots_by (P.hashes buckets.now) (P.words buckets.now)) hash result + 1) }
+        (reads_to (slots_by (P.hashes buckets.now) (P.words buckets.now)) hash result) }
 {
     let count = buckets.count();
     let mut bucket = home(hash, count);

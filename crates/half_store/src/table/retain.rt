@@ -16,7 +16,8 @@ impl Table {
         f: F,
     )
         requires len { length self.old.hashes ≡ length pairs.old.pairs }
-        requires callable { CallableOnEachPair (CalledAtPair F.FnMut) (TakesPair F.FnMut) f pairs.old.pairs }
+        requires callable { CallableOnEachPair (CalledAtPair F.FnMut) (TakesPair F.FnMut) f
+            pairs.old.pairs }
         ensures kept { RetainsPairs (CalledAtPair F.FnMut) f pairs.old.pairs pairs.new.pairs }
         ensures len { length pairs.new.pairs ≤ length pairs.old.pairs }
         ensures capacity { pairs.new.capacity ≡ pairs.old.capacity }

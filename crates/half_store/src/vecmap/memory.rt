@@ -1,12 +1,11 @@
 //! The capacity of the two columns: making it, and giving it back. All memory is had before anything changes.
-ghost use Rattle.std.specs.Prelude.{◌≡◌, ◌^◌, ◌<◌, ◌≤◌, max, [], length, IsOk, IfOk, OnOk, OnErr, IfErr};
+ghost use Rattle.std.specs.Prelude.{◌≡◌, ◌^◌, ◌<◌, ◌≤◌, min, max, [], length, IsOk, IfOk, OnOk, OnErr, IfErr};
 ghost use Rattle.std.specs.List.{AllZip};
 ghost use Rattle.half_store.specs.Capacity.{capacity_of, capacity_for, generous_capacity};
 ghost use Rattle.half_store.specs.Refusal.{refusal_of};
 
 use super::Columns;
 use crate::blocks::{clone_all, grow_beside, move_to};
-use crate::capacity::{buckets_for, capacity_of};
 use crate::refusal::check_size;
 use crate::{Refusal, Table};
 use std::alloc::{AllocError, Global};
@@ -65,58 +64,34 @@ impl<K, V> Columns<K, V> {
         (self.keys.capacity(), self.values.capacity())
     }
 
-    /// Shrinks the capacity to the pairs. On error nothing changes.
-    pub fn shrink_to_fit(&mut self) -> Result<(), AllocError>
+    /// Shrinks to this capacity, which must be enough for the pairs, where it is less than theirs. On error nothing changes.
+    #[tactic(auto, using(crate::proofs::lemmas::vecmap::Columns::opened))]
+    pub fn shrink_to(&mut self, capacity: usize) -> Result<(), AllocError>
+        requires { length self.old.pairs ≤ capacity }
         ensures pairs { self.new.pairs ≡ self.old.pairs }
-        ensures ok { OnOk result (self.new.capacity ≡ length self.old.pairs) }
+        ensures ok { OnOk result (self.new.capacity ≡ min self.old.capacity capacity) }
         ensures err { OnErr result (self.new ≡ self.old) }
-        ensures needed { OnErr result ((0 < length self.old.pairs) × (length self.old.pairs < self.old.capacity)) }
+        ensures needed { OnErr result ((0 < capacity) × (capacity < self.old.capacity)) }
     {
-        if self.len() < self.capacity() {
-            let fresh = Columns::with_capacity(self.allocator(), self.len())?;
-            self.move_to(fresh);
+        if capacity < self.capacity() {
+            let fresh = Columns::with_capacity(self.allocator(), capacity)?;
+            // Each column's old memory is freed as soon as it is empty.
+            move_to(&mut self.keys, fresh.keys);
+            move_to(&mut self.values, fresh.values);
         }
         Ok(())
     }
 
-    /// Shrinks a table and its columns to the least capacity that the pairs fit. On error nothing changes.
-    pub(crate) fn shrink_beside(&mut self, table: &mut Table) -> Result<(), AllocError>
-        requires len { length table.old.hashes ≡ length self.old.pairs }
-        requires backed { capacity_of table.old.buckets ≡ self.old.capacity }
-        ensures pairs { self.new.pairs ≡ self.old.pairs }
-        ensures hashes { table.new.hashes ≡ table.old.hashes }
-        ensures columns { OnOk result (self.new.capacity ≡ capacity_for (length self.old.pairs)) }
-        ensures table { OnOk result (capacity_of table.new.buckets ≡ capacity_for (length self.old.pairs)) }
-        ensures series { capacity_of table.new.buckets ≡ capacity_for (capacity_of table.new.buckets) }
-        ensures fits { length self.old.pairs ≤ capacity_of table.new.buckets }
-        ensures err { OnErr result ((self.new ≡ self.old) × (table.new ≡ table.old)) }
-        ensures needed { OnErr result ((0 < capacity_for (length self.old.pairs))
-            × (capacity_for (length self.old.pairs) < self.old.capacity)) }
-    {
-        let buckets = buckets_for(table.len());
-        let capacity = capacity_of(buckets);
-        if table.capacity() == capacity {
-            return Ok(());
-        }
-        let fresh = Table::empty(self.allocator(), buckets)?;
-        let columns = Columns::with_capacity(self.allocator(), capacity)?;
-        table.move_to(fresh);
-        self.move_to(columns);
-        Ok(())
-    }
-
-    /// Makes the capacity enough for `needed` pairs in all, and no greater where that needs memory. On error nothing changes.
+    /// Grows to exactly this capacity. On error nothing changes.
     #[inline(never)]
-    pub fn reserve(&mut self, needed: usize) -> Result<(), AllocError>
+    pub fn grow_to(&mut self, capacity: usize) -> Result<(), AllocError>
+        requires { self.old.capacity < capacity }
         ensures pairs { self.new.pairs ≡ self.old.pairs }
-        ensures ok { OnOk result (self.new.capacity ≡ max self.old.capacity needed) }
+        ensures ok { OnOk result (self.new.capacity ≡ capacity) }
         ensures err { OnErr result (self.new ≡ self.old) }
-        ensures needed { OnErr result (self.old.capacity < needed) }
     {
-        if self.capacity() < needed {
-            let values = grow_beside(&mut self.keys, needed)?;
-            move_to(&mut self.values, values);
-        }
+        let values = grow_beside(&mut self.keys, capacity)?;
+        move_to(&mut self.values, values);
         Ok(())
     }
 
@@ -141,18 +116,6 @@ impl<K, V> Columns<K, V> {
         table.move_to(fresh);
         move_to(&mut self.values, values);
         Ok(())
-    }
-
-    // Moves the pairs into columns that have room for them. Each column's old memory is freed as soon as it is empty.
-    fn move_to(&mut self, fresh: Columns<K, V>)
-        requires empty { fresh.pairs ≡ [] }
-        requires fits { length self.old.pairs ≤ fresh.capacity }
-        ensures pairs { self.new.pairs ≡ self.old.pairs }
-        ensures capacity { self.new.capacity ≡ fresh.capacity }
-    {
-        let Columns { keys, values } = fresh;
-        move_to(&mut self.keys, keys);
-        move_to(&mut self.values, values);
     }
 
     /// Makes the capacity enough for `needed` pairs in all. Where that needs memory it grows to twice what it was, but at
@@ -183,7 +146,7 @@ impl<K, V> Columns<K, V> {
             .max(FIRST_CAPACITY)
             .max(needed)
             .min(limit);
-        self.reserve(generous)?;
+        self.grow_to(generous)?;
         Ok(())
     }
 }

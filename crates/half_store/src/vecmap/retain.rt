@@ -43,7 +43,8 @@ fn retain_in_columns<K, V, F: FnMut(&K, &mut V) -> bool>(
     mut f: F,
 ) -> usize
     requires even { length values.old ≡ length keys.old }
-    requires callable { CallableOnEachPair (CalledAtPair F.FnMut) (TakesPair F.FnMut) f (zip keys.old values.old) }
+    requires callable { CallableOnEachPair (CalledAtPair F.FnMut) (TakesPair F.FnMut) f
+        (zip keys.old values.old) }
     ensures kept { RetainsPairs (CalledAtPair F.FnMut) f (zip keys.old values.old)
         (zip (take result keys.new) (take result values.new)) }
     ensures within { result ≤ length keys.old }

@@ -1,7 +1,7 @@
 //! A search from first to last.
-ghost use Rattle.std.specs.Prelude.{◌≡◌, ℕ, ◌+◌, ◌-◌, ◌<◌, ◌≤◌, true, false, Some, IfSome, IfNone, length, slice_get};
-ghost use Rattle.std.specs.Borrow.{Bor};
+ghost use Rattle.std.specs.Prelude.{◌≡◌, ℕ, ◌+◌, ◌-◌, ◌<◌, ◌≤◌, true, false, IfSome, IfNone, length};
 ghost use Rattle.std.specs.Fn.{FnReturnsAt};
+ghost use Rattle.half_store.specs.Calls.{CallableOnKeys};
 ghost use Rattle.half_store.specs.Search.{ReturnsAt, ComparesInOrder};
 ghost use Rattle.half_store.specs.Work.{compared_more, first_match_cost};
 ghost use Rattle.half_store.specs.declared.vecmap.search.Scan.TheVariants.{ByBlock};
@@ -28,7 +28,7 @@ pub(crate) fn first_match<K, F: Fn(&K) -> bool>(
     scan: Scan,
     tally: &mut Tally,
 ) -> Option<usize>
-    requires { (key : Bor K) (index : ℕ) → slice_get keys.now index ≡ Some key.now → F.pre matches.now key }
+    requires { CallableOnKeys (F.pre matches.now) keys.now }
     ensures found { IfSome result (λ index. (index < length keys.now)
         × ReturnsAt (FnReturnsAt F.Fn matches.now) keys.now index true) }
     ensures none_before { IfSome result (λ index. (earlier : ℕ) → earlier < index
@@ -58,7 +58,7 @@ fn first_match_by_key<K, F: Fn(&K) -> bool>(
     matches: &F,
     tally: &mut Tally,
 ) -> Option<usize>
-    requires { (key : Bor K) (index : ℕ) → slice_get keys.now index ≡ Some key.now → F.pre matches.now key }
+    requires { CallableOnKeys (F.pre matches.now) keys.now }
     ensures found { IfSome result (λ index. (index < length keys.now)
         × ReturnsAt (FnReturnsAt F.Fn matches.now) keys.now index true) }
     ensures none_before { IfSome result (λ index. (earlier : ℕ) → earlier < index
@@ -81,7 +81,7 @@ fn first_match_by_block<K, F: Fn(&K) -> bool>(
     matches: &F,
     tally: &mut Tally,
 ) -> Option<usize>
-    requires { (key : Bor K) (index : ℕ) → slice_get keys.now index ≡ Some key.now → F.pre matches.now key }
+    requires { CallableOnKeys (F.pre matches.now) keys.now }
     ensures found { IfSome result (λ index. (index < length keys.now)
         × ReturnsAt (FnReturnsAt F.Fn matches.now) keys.now index true) }
     ensures none_before { IfSome result (λ index. (earlier : ℕ) → earlier < index
@@ -123,7 +123,7 @@ fn first_match_between<K, F: Fn(&K) -> bool>(
 ) -> usize
     requires order { start ≤ end }
     requires within { end ≤ length keys.now }
-    requires callable { (key : Bor K) (index : ℕ) → slice_get keys.now index ≡ Some key.now → F.pre matches.now key }
+    requires callable { CallableOnKeys (F.pre matches.now) keys.now }
     ensures from { start ≤ result }
     ensures within { result ≤ end }
     ensures found { result < end → ReturnsAt (FnReturnsAt F.Fn matches.now) keys.now result true }

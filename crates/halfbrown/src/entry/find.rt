@@ -8,6 +8,7 @@ ghost use Rattle.halfbrown.specs.Entry.{IsEntryAt, MakesEntry};
 ghost use Rattle.halfbrown.specs.EntryLending.{RestsIfNoEntry, RestsIfRefused};
 
 use super::{Entry, OccupiedEntry, VacantEntry};
+use crate::map::prepare::Place;
 use crate::{KeyHasher, Limit, LimitedHashMap, RefusedKey};
 use half_store::{Tally, uncounted};
 use std::hash::Hash;
@@ -53,8 +54,8 @@ impl<K: Eq + Hash, V, S: KeyHasher<K>, L: Limit> LimitedHashMap<K, V, S, L> {
             tally.old tally.new }
     {
         match self.prepare(&key, tally) {
-            Ok(Ok(index)) => Ok(Entry::Occupied(OccupiedEntry { map: self, index })),
-            Ok(Err(vacancy)) => Ok(Entry::Vacant(VacantEntry {
+            Ok(Place::Held(index)) => Ok(Entry::Occupied(OccupiedEntry { map: self, index })),
+            Ok(Place::Vacant(vacancy)) => Ok(Entry::Vacant(VacantEntry {
                 map: self,
                 key,
                 vacancy,

@@ -47,13 +47,10 @@ impl<'a, K: Eq + Hash, V, S: KeyHasher<K>, L: Limit> OccupiedEntry<'a, K, V, S, 
         let index = self.index;
         let map = self.map;
         match map.replace_at(index, f) {
-            Some((key, hash)) => {
+            Ok(index) => Entry::Occupied(OccupiedEntry { map, index }),
+            Err((key, hash)) => {
                 let vacancy = map.vacancy_for(hash, tally);
                 Entry::Vacant(VacantEntry { map, key, vacancy })
-            }
-            None => {
-                let index = map.settle(index);
-                Entry::Occupied(OccupiedEntry { map, index })
             }
         }
     }

@@ -1,17 +1,17 @@
 //! The calls of the store, as calls of the map: what they need and do is said of the map.
 //!
 //! A clause `writes_back` says what the map is once the borrow that the call returns has ended.
-ghost use Rattle.std.specs.Prelude.{◌≡◌, ◌+◌, ◌<◌, false, true, Some, [], ◌∷◌, ◌++◌, IfSome, OnSome, length, slice_get};
+ghost use Rattle.std.specs.Prelude.{◌≡◌, ◌+◌, ◌<◌, false, true, Some, [], ◌∷◌, ◌++◌, IfOk, IfErr, IfSome, OnErr, length, slice_get};
 ghost use Rattle.std.specs.Borrow.{sem, Bor};
 ghost use Rattle.std.specs.Fn.{FnReturnsAt};
 ghost use Rattle.std.specs.Map.{keys_of, values_of};
 ghost use Rattle.std.specs.Option.{option_map};
-ghost use Rattle.std.specs.Result.{result_ok};
+ghost use Rattle.std.specs.Result.{result_ok, result_err};
 ghost use Rattle.half_store.specs.PairLists.{set_key, set_value, swap_remove_at};
 ghost use Rattle.half_store.specs.Probe.{looked_more};
 ghost use Rattle.half_store.specs.Search.{CallableOnKeys};
 ghost use Rattle.half_store.specs.Store.{IsVacancy};
-ghost use Rattle.half_store.specs.ValueReplacement.{ReplacesValue};
+ghost use Rattle.half_store.specs.ValueReplacement.{kept_index, ReplacesValue};
 ghost use Rattle.half_store.specs.Work.{first_match_cost};
 ghost use Rattle.half_store.specs.declared.vecmap.search.Scan.TheVariants.{ByKey};
 ghost use Rattle.halfbrown.specs.Costs.{probe_length, IsSearchCost};
@@ -145,24 +145,26 @@ impl<K: Eq + Hash, V, S: KeyHasher<K>, L: Limit> LimitedHashMap<K, V, S, L> {
         self.store.swap_remove(index)
     }
 
-    /// Hands the value of the pair at this index to `f`, with its key. Where `f` returns none the pair is removed, and
-    /// its key returned with its hash, at which a vector does not look.
+    /// Hands the value of the pair at this index to `f`, with its key. Where `f` returns a value the pair has that one, and
+    /// its index is returned: in a vector it goes last, and the last pair takes its index, and in a table it keeps it. Else
+    /// the pair is removed, and its key returned with its hash, at which a vector does not look.
     #[inline]
     pub(crate) fn replace_at<F: FnOnce(&K, V) -> Option<V>>(
         &mut self,
         index: usize,
         f: F,
-    ) -> Option<(K, u64)>
+    ) -> Result<usize, (K, u64)>
         requires within { index < length self.old.pairs }
         requires callable { (key : Bor K) (value : V)
             → slice_get self.old.pairs index ≡ Some (key.now, value) → F.pre f key value }
-        ensures replaces { ReplacesValue (F.post f) self.old.pairs index self.new.pairs
-            (option_map (λ removed. removed.0) result) }
+        ensures replaces { ReplacesValue (F.post f) self.old.is_vec self.old.pairs index
+            self.new.pairs (option_map (λ removed. removed.0) (result_err result)) }
+        ensures at { IfOk result (λ at. at ≡ kept_index self.old.is_vec self.old.pairs index) }
         ensures after { WithPairs self.old self.new.pairs self.new }
-        ensures hash { IfSome result
+        ensures hash { IfErr result
             (λ removed. self.new.is_vec ≡ false → removed.1 ≡ S.hash self.new.builder removed.0) }
-        ensures absent { IfSome result (λ removed. holds K.eq self.new.pairs removed.0 ≡ false) }
-        ensures capacity_left { OnSome result (length self.new.pairs < self.new.capacity) }
+        ensures absent { IfErr result (λ removed. holds K.eq self.new.pairs removed.0 ≡ false) }
+        ensures capacity_left { OnErr result (length self.new.pairs < self.new.capacity) }
         ensures state { IsState K.eq L.LIMIT self.new }
     {
         self.store.replace_with(index, f)

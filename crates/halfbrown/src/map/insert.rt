@@ -5,6 +5,7 @@ ghost use Rattle.halfbrown.specs.Insertion.{Inserts, InsertsAt, InsertsNewKey};
 ghost use Rattle.halfbrown.specs.Pairs.{holds};
 
 use super::LimitedHashMap;
+use super::prepare::Place;
 use crate::{KeyHasher, Limit, Refused};
 use half_store::{Tally, uncounted};
 use std::hash::Hash;
@@ -48,8 +49,8 @@ impl<K: Eq + Hash, V, S: KeyHasher<K>, L: Limit> LimitedHashMap<K, V, S, L> {
             tally.old tally.new }
     {
         match self.prepare(&key, tally) {
-            Ok(Ok(index)) => Ok(Some(self.set_at(index, value))),
-            Ok(Err(vacancy)) => {
+            Ok(Place::Held(index)) => Ok(Some(self.set_at(index, value))),
+            Ok(Place::Vacant(vacancy)) => {
                 self.push(key, value, vacancy);
                 Ok(None)
             }
@@ -87,8 +88,8 @@ impl<K: Eq + Hash, V, S: KeyHasher<K>, L: Limit> LimitedHashMap<K, V, S, L> {
             tally.old tally.new }
     {
         match self.prepare(&key, tally) {
-            Ok(Ok(index)) => Ok((index, Some(self.set_at(index, value)))),
-            Ok(Err(vacancy)) => {
+            Ok(Place::Held(index)) => Ok((index, Some(self.set_at(index, value)))),
+            Ok(Place::Vacant(vacancy)) => {
                 let index = self.len();
                 self.push(key, value, vacancy);
                 Ok((index, None))

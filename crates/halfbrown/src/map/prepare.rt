@@ -14,14 +14,18 @@ use crate::{KeyHasher, Limit};
 use half_store::{Refusal, Tally, Vacancy};
 use std::hash::Hash;
 
+/// Where the pair of a key is, or may be added.
+pub(crate) enum Place {
+    /// The key is held, at this index.
+    Held(usize),
+    /// It is not held, and its pair may be added here.
+    Vacant(Vacancy),
+}
+
 impl<K: Eq + Hash, V, S: KeyHasher<K>, L: Limit> LimitedHashMap<K, V, S, L> {
     /// Switches a full map and searches for a key; where it is not held, makes capacity for its pair.
     #[inline(always)]
-    pub(crate) fn prepare(
-        &mut self,
-        key: &K,
-        tally: &mut Tally,
-    ) -> Result<Result<usize, Vacancy>, Refusal>
+    pub(crate) fn prepare(&mut self, key: &K, tally: &mut Tally) -> Result<Place, Refusal>
         ensures ok { OnOk result
             (Prepares L.LIMIT self.old (insert_needs L.LIMIT K.eq self.old key.now) self.new) }
         ensures ready { IfOk result (IsReadyFor K.eq S.hash self.new key.now) }
@@ -33,8 +37,8 @@ impl<K: Eq + Hash, V, S: KeyHasher<K>, L: Limit> LimitedHashMap<K, V, S, L> {
     {
         self.switch_if_full(tally)?;
         match self.find(key, tally) {
-            Ok(index) => Ok(Ok(index)),
-            Err(vacancy) => Ok(Err(self.make_capacity_keeping(vacancy, tally)?)),
+            Ok(index) => Ok(Place::Held(index)),
+            Err(vacancy) => Ok(Place::Vacant(self.make_capacity_keeping(vacancy, tally)?)),
         }
     }
 

@@ -1,5 +1,4 @@
-//! What depends on the form of a map: the switch of a full vector, the hash of a key, and where a pair goes whose value was
-//! replaced. Nothing else asks for the form.
+//! What depends on the form of a map: the switch of a full vector, and the hash of a key. Nothing else asks for the form.
 ghost use Rattle.std.specs.Prelude.{◌≡◌, ◌≤◌, ◌<◌, true, false, [], length, map};
 ghost use Rattle.std.specs.Prelude.{OnOk, OnErr, IfErr, is_ok, if◌then◌else◌};
 ghost use Rattle.half_store.specs.Capacity.{capacity_of};
@@ -7,12 +6,11 @@ ghost use Rattle.half_store.specs.Work.{asked_more};
 ghost use Rattle.halfbrown.specs.Costs.{search_asked, switch_asked};
 ghost use Rattle.halfbrown.specs.Growth.{is_full, switch_needs, IsRefusal};
 ghost use Rattle.halfbrown.specs.Preparation.{Prepares};
-ghost use Rattle.halfbrown.specs.Replacement.{MovesLast};
 ghost use Rattle.halfbrown.specs.State.{IsState};
 
 use super::LimitedHashMap;
 use crate::{KeyHasher, Limit};
-use half_store::{Refusal, Table, Tally, Vacancy, uncounted};
+use half_store::{Refusal, Table, Tally, uncounted};
 use std::hash::Hash;
 
 impl<K: Eq + Hash, V, S: KeyHasher<K>, L: Limit> LimitedHashMap<K, V, S, L> {
@@ -73,24 +71,6 @@ impl<K: Eq + Hash, V, S: KeyHasher<K>, L: Limit> LimitedHashMap<K, V, S, L> {
             return 0;
         }
         self.builder.hash_key(key, tally)
-    }
-
-    /// Where the pair at this index goes once its value was replaced: in a vector to the end, and the pair that was last takes its
-    /// index; in a table it stays. Returns its index.
-    #[inline]
-    pub(crate) fn settle(&mut self, index: usize) -> usize
-        requires { index < length self.old.pairs }
-        ensures vector { self.old.is_vec ≡ true → MovesLast self.old index result self.new }
-        ensures table { self.old.is_vec ≡ false → (self.new ≡ self.old) × (result ≡ index) }
-        ensures state { IsState K.eq L.LIMIT self.new }
-    {
-        if !self.is_vec() {
-            return index;
-        }
-        let last = self.len() - 1;
-        let (key, value) = self.take_at(index);
-        self.push(key, value, Vacancy { hash: 0, bucket: 0 });
-        last
     }
 }
 

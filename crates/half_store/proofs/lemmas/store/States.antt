@@ -1,5 +1,5 @@
 -- What stays true of a store whose columns change.
-use Rattle.std.proofs.Common.{◌≡◌, ℕ, zero, suc, List, [], ◌∷◌, length, Option, None, Some, is_none, if◌then◌else◌, refl, sym, arith, ap, subst}
+use Rattle.std.proofs.Common.{◌≡◌, ℕ, zero, suc, Bool, List, [], ◌∷◌, length, Option, None, Some, is_none, if◌then◌else◌, refl, sym, arith, ap, subst}
 use Rattle.std.proofs.Common.{◌∙◌}
 use Rattle.std.proofs.lemmas.Grind.{common_steps}
 use Rattle.std.proofs.lemmas.Option.{same_Some}
@@ -7,7 +7,7 @@ use Rattle.std.specs.Borrow.{Bor}
 use Rattle.std.specs.Global.{Box}
 use Rattle.half_store.specs.Columns.{ColumnsState}
 use Rattle.half_store.specs.PairLists.{set_key, set_value, set_values, swap_remove_at}
-use Rattle.half_store.specs.ValueReplacement.{with_answer, ReplacesValue}
+use Rattle.half_store.specs.ValueReplacement.{kept_pairs, with_answer, ReplacesValue}
 use Rattle.half_store.specs.Store.{StoreState, IsStore, IsTableOver, KeepsForm, vector_of, table_of, store_of}
 use Rattle.half_store.specs.Table.{TableState}
 
@@ -63,31 +63,29 @@ module _ {K V : Type 0} where
       → IsStore old index → IsStore new index
   kept_store index old new len capacity is = grind (arith, common_steps)
 
-  module _ (old : List (K × V)) (index : ℕ) (new : List (K × V)) (key : K) where
-    kept_by : (answer : Option V) → new ≡ with_answer old index answer → None ≡ (if is_none answer then Some key else None) → (v : V)
-        × (answer ≡ Some v) × (new ≡ set_value old index v)
+  module _ (is_vec : Bool) (old : List (K × V)) (index : ℕ) (new : List (K × V)) (key : K) where
+    kept_by : (answer : Option V) → new ≡ with_answer is_vec old index key answer → None ≡ (if is_none answer then Some key else None)
+        → (v : V) × (answer ≡ Some v) × (new ≡ kept_pairs is_vec old index key v)
     kept_by None is removed = absurd cc
     kept_by (Some v) is removed = (v, refl, is)
 
-    lost_by : (k : K) (answer : Option V) → new ≡ with_answer old index answer → Some k ≡ (if is_none answer then Some key else None)
-        → (answer ≡ None) × (new ≡ swap_remove_at old index) × (key ≡ k)
+    lost_by : (k : K) (answer : Option V) → new ≡ with_answer is_vec old index key answer
+        → Some k ≡ (if is_none answer then Some key else None) → (answer ≡ None) × (new ≡ swap_remove_at old index) × (key ≡ k)
     lost_by k None is removed = (refl, is, sym (same_Some k key removed))
     lost_by k (Some v) is removed = absurd cc
 
-  module _ {returns : Bor K → V → Option V → Type 0} {old : List (K × V)} {index : ℕ} {new : List (K × V)} where
+  module _ {returns : Bor K → V → Option V → Type 0} {is_vec : Bool} {old : List (K × V)} {index : ℕ} {new : List (K × V)} where
     -- where nothing was removed a value was returned
-    pub kept_value : (r : ReplacesValue returns old index new None) → (v : V) × (r.answer ≡ Some v) × (new ≡ set_value old index v)
-    kept_value r = kept_by old index new r.key r.answer r.pairs r.removed_is
+    pub kept_value : (r : ReplacesValue returns is_vec old index new None)
+        → (v : V) × (r.answer ≡ Some v) × (new ≡ kept_pairs is_vec old index r.key v)
+    kept_value r = kept_by is_vec old index new r.key r.answer r.pairs r.removed_is
 
     -- where a key was removed none was
-    pub lost_pair : {k : K} (r : ReplacesValue returns old index new (Some k)) → (r.answer ≡ None) × (new ≡ swap_remove_at old index)
-        × (r.key ≡ k)
-    lost_pair {k} r = lost_by old index new r.key k r.answer r.pairs r.removed_is
+    pub lost_pair : {k : K} (r : ReplacesValue returns is_vec old index new (Some k))
+        → (r.answer ≡ None) × (new ≡ swap_remove_at old index) × (r.key ≡ k)
+    lost_pair {k} r = lost_by is_vec old index new r.key k r.answer r.pairs r.removed_is
 
-  -- what becomes of a pair of the columns becomes of that of the store over them
-  pub replaces_in_store :
-      {returns : Bor K → V → Option V → Type 0} {at : ℕ} {removed : Option K} (old new : ColumnsState K V) (was index : Option (Box TableState))
-      {s : StoreState K V}
-      → store_of old was ≡ s → ReplacesValue returns old.pairs at new.pairs removed
-      → ReplacesValue returns s.pairs at (store_of new index).pairs removed
-  replaces_in_store {returns} {at} {removed} old new was index view r = grind (arith, common_steps, pairs_of-store)
+  -- what becomes of a pair is told of the store before
+  pub replaces_in : {returns : Bor K → V → Option V → Type 0} {index : ℕ} {removed : Option K} {new : List (K × V)} {was s : StoreState K V}
+      → was ≡ s → ReplacesValue returns was.is_vec was.pairs index new removed → ReplacesValue returns s.is_vec s.pairs index new removed
+  replaces_in {returns} {index} {removed} {new} is = subst (λ (s : StoreState K V). ReplacesValue returns s.is_vec s.pairs index new removed) is

@@ -12,7 +12,7 @@ use Rattle.half_store.specs.Probe.{after_missing, looked_more, LooksWithin, remo
 use Rattle.half_store.specs.Slots.{slot_at, stored, IsVacancyFor, EndsAtPair, distance_from_home}
 use Rattle.half_store.specs.Table.{TableState, table_state}
 use Rattle.half_store.specs.TableLayout.{IsIndexed}
-use Rattle.half_store.specs.TableSearch.{TableSearch, RemovesFromTable, without_bucket}
+use Rattle.half_store.specs.TableSearch.{TableSearch, RemovesFromTable}
 use Rattle.half_store.specs.Work.{Work}
 use Rattle.half_store.proofs.lemmas.table.Buckets.{length-slots_by, slot_of_word, some_bucket}
 use Rattle.half_store.proofs.lemmas.table.Circle.{distance_self}
@@ -66,7 +66,7 @@ module _ {hashes words : List ℕ} (x : IsIndexed hashes words) (hash : ℕ) whe
       → new.asked ≡ old.asked → IfErr result (λ p. new.looked ≡ old.looked + (distance_from_home slots hash p + 1))
       → OnOk result (old.compared + 1 ≤ new.compared) → new.compared ≤ old.compared + held
       → OnErr result (new.compared ≡ old.compared + held)
-      → TableSearch returns (table_state hashes slots) hash (without_bucket result) old new
+      → TableSearch returns (table_state hashes slots) hash result old new
   finds returns (Ok (index, p)) old new ends accepted vacancy refused asked looked some most all =
       let in_p : p < length slots = full-lt slots p (full_from _ hash ends.found.found) in
       let vacant = index-vacant x (omega (arith, length-slots_by hashes words)) in
@@ -75,6 +75,7 @@ module _ {hashes words : List ℕ} (x : IsIndexed hashes words) (hash : ℕ) whe
       let read = ends.looked in
       record {
         found = ap (slice_get hashes) ends.entry ∙ index_at p ends.found.found;
+        at = ends.found;
         accepted = accepted;
         refused = tt;
         vacancy = tt;
@@ -99,6 +100,7 @@ module _ {hashes words : List ℕ} (x : IsIndexed hashes words) (hash : ℕ) whe
       let same = index-counted x (λ h. h == hash) in
       record {
         found = tt;
+        at = tt;
         accepted = tt;
         refused = each_index (λ index. returns index false) refused;
         vacancy = λ buckets. vacancy;
@@ -110,18 +112,18 @@ module _ {hashes words : List ℕ} (x : IsIndexed hashes words) (hash : ℕ) whe
 
 -- A search that removes what it finds, in the words of callers.
 module _ (hashes words hashes' words' : List ℕ) {t : TableState} (view : table_state hashes (slots_by hashes words) ≡ t) where
-  pub taken_removes : (hash : ℕ) (result : Result ℕ ℕ) → length words' ≡ length words
-      → IfOk result (λ index. slice_get t.hashes index ≡ Some hash) → IfOk result (λ index. hashes' ≡ swap_remove hashes index 0)
-      → IfOk result (λ index. RemovesFromTable t index (table_state hashes' (slots_by hashes' words')) hash)
+  pub taken_removes : (hash : ℕ) (result : Result (ℕ × ℕ) ℕ) → length words' ≡ length words
+      → IfOk result (λ pair. slice_get t.hashes pair.0 ≡ Some hash) → IfOk result (λ pair. hashes' ≡ swap_remove hashes pair.0 0)
+      → IfOk result (λ pair. RemovesFromTable t pair.0 (table_state hashes' (slots_by hashes' words')) hash)
   taken_removes hash result len found left = grind (arith, common_steps)
 
-  pub taken_cost : (old new : Work) (result : Result ℕ ℕ)
-      → IfOk result (λ index. LooksWithin (removal_reads hashes (length words) index) old new)
-      → IfOk result (λ index. LooksWithin (removal_reads t.hashes t.buckets index) old new)
+  pub taken_cost : (old new : Work) (result : Result (ℕ × ℕ) ℕ)
+      → IfOk result (λ pair. LooksWithin (removal_reads hashes (length words) pair.0) old new)
+      → IfOk result (λ pair. LooksWithin (removal_reads t.hashes t.buckets pair.0) old new)
   taken_cost old new result cost = grind (arith, common_steps)
 
-  pub taken_none : (old new : Work) (result : Result ℕ ℕ)
+  pub taken_none : (old new : Work) (result : Result (ℕ × ℕ) ℕ)
       → OnErr result ((hashes' ≡ hashes) × (words' ≡ words) × (new ≡ old))
       → OnErr result ((table_state hashes' (slots_by hashes' words') ≡ t) × (new ≡ old))
-  taken_none old new (Ok index) same = tt
+  taken_none old new (Ok pair) same = tt
   taken_none old new (Err bucket) (kept, also, unread) = ((λ i. table_state (kept i) (slots_by (kept i) (also i))) ∙ view, unread)

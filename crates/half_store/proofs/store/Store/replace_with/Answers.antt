@@ -1,21 +1,40 @@
-use Rattle.std.proofs.Common.{arith}
+use Rattle.std.proofs.Common.{◌∷◌, ◌++◌, [], None, Some, refl, ap, ◌∙◌, arith}
 use Rattle.std.proofs.lemmas.Grind.{common_steps}
-use Rattle.half_store.proofs.lemmas.store.States.{kept_store, kept_value, length-set_value, keeps_form, table_keeps_form, replaces_in_store}
-use Rattle.half_store.proofs.store.Store.replace_with.Goals.{in-Some, in-None}
+use Rattle.half_store.proofs.lemmas.store.States.{kept_store, kept_value, length-set_value, pairs_of-store, replaces_in, vector_view}
 use Rattle.half_store.proofs.store.Store.replace_with.Goals as goal
 
-pub invariant_of-self : goal.invariant_of-self
-invariant_of-self g c = grind (arith, common_steps, kept_store, kept_value, length-set_value)
+pub returns-in_default-f-clause-replaces : goal.returns-in_default-f-clause-replaces
+returns-in_default-f-clause-replaces g c =
+    let taken = c.swap_remove-key in
+    replaces_in (vector_view c.self.inside.columns c.in_default.is c.self.view_is)
+    (record {
+      key = taken.result.0;
+      value = taken.result.1;
+      answer = None;
+      pair = taken.ensures.taken;
+      answered = record { shown = _; shows = refl; met = c.in_default-f.ensures };
+      pairs = pairs_of-store taken.new.self c.self.inside.table ∙ ap (λ cs. cs.pairs) taken.ensures.after;
+      removed_is = refl;
+    })
 
-pub returns-in_err-key-clause-form : goal.returns-in_err-key-clause-form
-returns-in_err-key-clause-form g c =
-    keeps_form c.self.inside.table c.self.inside.columns c.replace_with.new.self c.self.view_is c.in_err-key.ensures.capacity
+pub push-requires : goal.push-requires
+push-requires g c = c.swap_remove-key.ensures.room
 
-pub returns-in_err-key-clause-replaces : goal.returns-in_err-key-clause-replaces
-returns-in_err-key-clause-replaces g c = grind (arith, common_steps, replaces_in_store)
+pub returns-in_default-clause-replaces : goal.returns-in_default-clause-replaces
+returns-in_default-clause-replaces g c =
+    let taken = c.swap_remove-key in
+    let value = c.in-Some-f.value in
+    replaces_in (vector_view c.self.inside.columns c.in_default.is c.self.view_is)
+    (record {
+      key = taken.result.0;
+      value = taken.result.1;
+      answer = Some value;
+      pair = taken.ensures.taken;
+      answered = record { shown = _; shows = refl; met = c.in-Some-f.ensures };
+      pairs = pairs_of-store c.push.new.self c.self.inside.table ∙ ap (λ cs. cs.pairs) c.push.ensures
+          ∙ ap (λ cs. cs.pairs ++ (taken.result.0, value) ∷ []) taken.ensures.after;
+      removed_is = refl;
+    })
 
-pub returns-clause-replaces : goal.returns-clause-replaces
-returns-clause-replaces g c = grind (arith, common_steps, in-None, in-Some, replaces_in_store)
-
-pub returns-clause-form : goal.returns-clause-form
-returns-clause-form g c = grind (arith, common_steps, in-None, in-Some, keeps_form, table_keeps_form)
+pub invariant_of-self-2 : goal.invariant_of-self-2
+invariant_of-self-2 g c = grind (arith, common_steps, kept_store, kept_value, length-set_value)

@@ -1,67 +1,67 @@
-use Rattle.std.proofs.Common.{◌≡◌, Ok, Err, length, slice_get, refl, sym, ap, subst, ◌∙◌, arith, true≢false, rules}
+use Rattle.std.proofs.Common.{◌≡◌, Ok, Err, slice_get, sym, ap, ◌∙◌, arith, rules}
+use Rattle.std.proofs.lemmas.Grind.{common_steps}
+use Rattle.std.proofs.lemmas.Map.Entries.{length-keys_of}
 use Rattle.std.proofs.lemmas.Option.{slice_get_within}
-use Rattle.std.specs.Fn.{FnReturnsAt}
 use Rattle.half_store.specs.PairLists.{swap_remove_at}
-use Rattle.half_store.specs.Search.{StoreSearch}
-use Rattle.half_store.specs.Store.{StoreState, table_of}
-use Rattle.half_store.specs.declared.store.find.Vacancy.{Vacancy}
-use Rattle.half_store.proofs.lemmas.store.States.{table_view, table_over, table_keeps_form, pairs_of-store}
+use Rattle.half_store.specs.Store.{table_of}
+use Rattle.half_store.proofs.lemmas.store.Searches.{vector_accepts, vector_refuses, table_accepts, table_refuses}
+use Rattle.half_store.proofs.lemmas.store.States.{vector_view, table_view, table_over, table_keeps_form}
 use Rattle.half_store.proofs.lemmas.vecmap.Zip.{swap_remove_at_is}
 use Rattle.half_store.proofs.store.Store.take.Goals as goal
 
-pub swap_remove-requires : goal.swap_remove-requires
-swap_remove-requires g c =
-    omega (arith, c.in-Ok.ensures.found.within, ap length (pairs_of-store c.self.inside.columns c.self.inside.table))
+pub returns-in_err-index : goal.returns-in_err-index
+returns-in_err-index g c =
+    let columns = c.self.inside.columns in
+    record {
+      search = Err (record { hash = 0; bucket = 0 });
+      finds = vector_refuses columns c.keys.ensures.keys (vector_view columns c.in_default.is c.self.view_is) c.in_err-index.ensures.absent;
+      cost = grind (arith, common_steps, length-keys_of);
+      takes = grind (arith, common_steps);
+    }
 
-pub swap_remove-requires-in-Ok-take : goal.swap_remove-requires-in-Ok-take
-swap_remove-requires-in-Ok-take g c =
+pub returns-in_default : goal.returns-in_default
+returns-in_default g c =
+    let columns = c.self.inside.columns in let told = c.in_ok-index.ensures in
+    record {
+      search = Ok c.in_ok-index.index;
+      finds = vector_accepts columns c.keys.ensures.keys (vector_view columns c.in_default.is c.self.view_is) told.found told.none_before;
+      cost = grind (arith, common_steps, length-keys_of);
+      takes = grind (arith, common_steps);
+    }
+
+pub swap_remove-requires-in-Ok : goal.swap_remove-requires-in-Ok
+swap_remove-requires-in-Ok g c =
     let kept = table_over c.self.inside.columns c.deref_mut.ensures.value c.in-Some.is c.self.invariant in
-    omega (arith, slice_get_within c.deref_mut.result.now.hashes c.in-Ok-take.index c.args.hash c.in-Ok-take.ensures.finds.found, kept.len)
+    omega (arith, slice_get_within c.deref_mut.result.now.hashes c.in-Ok.index c.args.hash c.in-Ok.ensures.finds.found, kept.len)
 
-pub returns-in-Ok-take : goal.returns-in-Ok-take
-returns-in-Ok-take g c =
+pub returns-in-Ok : goal.returns-in-Ok
+returns-in-Ok g c =
     let columns = c.self.inside.columns in
     let table = c.deref_mut.result.now in
     let is : table_of columns table ≡ c.args.self.now = table_view columns c.deref_mut.ensures.value c.in-Some.is c.self.view_is in
-    let kept = table_over columns c.deref_mut.ensures.value c.in-Some.is c.self.invariant in
-    let index = c.in-Ok-take.index in
-    let found = c.in-Ok-take.ensures.finds in
+    let index = c.in-Ok.index in
     record {
       search = Ok index;
-      finds = subst (λ (s : StoreState g.row.K.Denot g.row.V.Denot). StoreSearch (FnReturnsAt g.F.Fn c.args.matches.now) c.args.hash s (Ok index)) is
-          (record {
-            within = omega (arith, slice_get_within table.hashes index c.args.hash found.found, kept.len);
-            accepted = λ k at. found.accepted k (ap (λ ks. slice_get ks index) c.keys.ensures.keys ∙ at);
-            first = λ form. absurd (true≢false (sym form));
-            hashed = λ form k at. found.found;
-          });
+      finds = table_accepts columns c.keys-2.ensures.keys is (table_over columns c.deref_mut.ensures.value c.in-Some.is c.self.invariant)
+          c.in-Ok.ensures.finds;
       cost = search rules;
       takes = record {
-        removed = ap (λ s. slice_get s.pairs index) (sym is) ∙ c.swap_remove-in-Ok-take.ensures.taken;
-        pairs = ap (λ cs. cs.pairs) c.swap_remove-in-Ok-take.ensures.after ∙ ap (λ s. swap_remove_at s.pairs index) is;
-        hashes = λ form. c.in-Ok-take.ensures.removes.hashes ∙ swap_remove_at_is table.hashes index 0
+        removed = ap (λ s. slice_get s.pairs index) (sym is) ∙ c.swap_remove-in-Ok.ensures.taken;
+        pairs = ap (λ cs. cs.pairs) c.swap_remove-in-Ok.ensures.after ∙ ap (λ s. swap_remove_at s.pairs index) is;
+        hashes = λ form. c.in-Ok.ensures.removes.hashes ∙ swap_remove_at_is table.hashes index 0
             ∙ ap (λ s. swap_remove_at s.hashes index) is;
-        form = table_keeps_form columns c.swap_remove-in-Ok-take.new.self c.in-Some.is c.self.view_is
-            (c.in-Ok-take.ensures.removes.buckets ∙ ap (λ t. t.buckets) c.deref_mut.ensures.value) (ap (λ cs. cs.capacity) c.swap_remove-in-Ok-take.ensures.after);
+        form = table_keeps_form columns c.swap_remove-in-Ok.new.self c.in-Some.is c.self.view_is
+            (c.in-Ok.ensures.removes.buckets ∙ ap (λ t. t.buckets) c.deref_mut.ensures.value) (ap (λ cs. cs.capacity) c.swap_remove-in-Ok.ensures.after);
       };
     }
 
-pub returns-in-Err-take : goal.returns-in-Err-take
-returns-in-Err-take g c =
+pub returns-in-Err : goal.returns-in-Err
+returns-in-Err g c =
     let columns = c.self.inside.columns in
-    let table = c.deref_mut.result.now in
-    let is : table_of columns table ≡ c.args.self.now = table_view columns c.deref_mut.ensures.value c.in-Some.is c.self.view_is in
-    let found = c.in-Err-take.ensures.finds in
-    let vacancy : Vacancy = record { hash = c.args.hash; bucket = c.in-Err-take.field-0 } in
     record {
-      search = Err vacancy;
-      finds = subst (λ (s : StoreState g.row.K.Denot g.row.V.Denot). StoreSearch (FnReturnsAt g.F.Fn c.args.matches.now) c.args.hash s
-          (Err vacancy)) is (
-            record {
-              refused = λ index k at own. found.refused index (own refl) k (ap (λ ks. slice_get ks index) c.keys.ensures.keys ∙ at);
-            },
-            λ some form. (refl, found.vacancy (omega (arith, some))),
-          );
+      search = Err (record { hash = c.args.hash; bucket = c.in-Err.field-0 });
+      finds = table_refuses columns c.keys-2.ensures.keys (table_view columns c.deref_mut.ensures.value c.in-Some.is c.self.view_is)
+          c.in-Err.ensures.finds;
       cost = search rules;
       takes = search rules;
     }

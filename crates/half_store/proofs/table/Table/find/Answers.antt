@@ -10,11 +10,11 @@ pub returns-in-FourBytes : goal.returns-in-FourBytes
 returns-in-FourBytes g c =
     let view = view_lent c.self.view_is c.as_slice-hashes.ensures.value (ap words_of c.in-FourBytes.is) in
     subst (λ t. TableSearch
-    (ReturnsAt (FnReturnsAt g.F.Fn c.args.matches.now) c.args.keys.now) t c.args.hash c.find_in.result c.args.tally.now c.find_in.new.tally) view c.find_in.ensures
+    (ReturnsAt (FnReturnsAt g.F.Fn c.args.matches.now) c.args.keys.now) t c.args.hash c.find_in.result c.args.tally.now c.find_in.new.tally) view c.find_in.ensures.finds
 
 pub returns-in-EightBytes : goal.returns-in-EightBytes
 returns-in-EightBytes g c =
     let view = view_lent c.self.view_is c.as_slice-hashes.ensures.value (ap words_of c.in-EightBytes.is) in
     let ended = c.find_in-in-EightBytes in
     subst (λ t. TableSearch
-    (ReturnsAt (FnReturnsAt g.F.Fn c.args.matches.now) c.args.keys.now) t c.args.hash ended.result c.args.tally.now ended.new.tally) view ended.ensures
+    (ReturnsAt (FnReturnsAt g.F.Fn c.args.matches.now) c.args.keys.now) t c.args.hash ended.result c.args.tally.now ended.new.tally) view ended.ensures.finds

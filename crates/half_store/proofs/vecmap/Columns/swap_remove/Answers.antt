@@ -1,7 +1,8 @@
 use Rattle.std.proofs.Common.{sym, ap, ◌∙◌, arith}
+use Rattle.std.proofs.lemmas.Grind.{common_steps}
 use Rattle.std.specs.List.{zip, slice_get}
 use Rattle.half_store.proofs.lemmas.vecmap.Columns.{opened, pairs_are}
-use Rattle.half_store.proofs.lemmas.vecmap.Zip.{slice_get-zip, zip-swap_remove_at}
+use Rattle.half_store.proofs.lemmas.vecmap.Zip.{length-zip, slice_get-zip, zip-swap_remove_at}
 use Rattle.half_store.specs.PairLists.{swap_remove_at}
 use Rattle.half_store.proofs.vecmap.Columns.swap_remove.Goals as goal
 
@@ -25,4 +26,5 @@ returns g c =
           ((λ j. zip (c.swap_remove.ensures.items j) (c.swap_remove-2.ensures.items j))
           ∙ zip-swap_remove_at keys values c.args.index _ _ c.self.invariant.length ∙ ap (λ ps. swap_remove_at ps c.args.index) o.pairs)
           c.swap_remove.ensures.capacity;
+      room = grind (arith, common_steps, length-zip);
     }

@@ -1,35 +1,28 @@
 use Rattle.std.proofs.Common.{refl}
-use Rattle.halfbrown.proofs.lemmas.entry.Replace.{loses_pair, still_within, keeps, settled_within}
+use Rattle.halfbrown.proofs.lemmas.entry.Replace.{keeps_pair, kept_within, loses_pair}
 use Rattle.halfbrown.proofs.lemmas.map.Find.{vacancy_for}
 use Rattle.halfbrown.proofs.entry.OccupiedEntry.replace_entry_with_counted.Goals as goal
 
 pub invariant_of-result : goal.invariant_of-result
-invariant_of-result g c = record {
-  capacity_left = c.in-Some.ensures.capacity_left;
-  absent = c.in-Some.ensures.absent;
-  vacant = ∣ vacancy_for _ _ _ _ c.in-Some.ensures.hash _ c.vacancy_for-vacancy.ensures.vacant ∣₁;
-}
+invariant_of-result g c = record { within = kept_within c.args.self.within c.in-Ok.ensures.replaces c.in-Ok.ensures.at }
 
-pub returns-in-Some-clause-replaced : goal.returns-in-Some-clause-replaced
-returns-in-Some-clause-replaced g c = record {
-  replaces = loses_pair c.args.self _ c.in-Some.ensures.replaces c.in-Some.ensures.after;
+pub returns-in-Ok-clause-replaced : goal.returns-in-Ok-clause-replaced
+returns-in-Ok-clause-replaced g c = record {
+  replaces = keeps_pair c.args.self _ c.in-Ok.ensures.replaces c.in-Ok.ensures.at c.in-Ok.ensures.after;
   same_map = refl;
-  state = c.in-Some.ensures.state;
+  state = c.in-Ok.ensures.state;
 }
 
-pub settle-index-requires : goal.settle-index-requires
-settle-index-requires g c = still_within c.args.self c.replace_at.new.self c.in-None.ensures.replaces
-
-pub invariant_of-result-in-None : goal.invariant_of-result-in-None
-invariant_of-result-in-None g c = record {
-  within = settled_within c.args.self c.replace_at.new.self c.in-None.ensures.replaces c.in-None.ensures.after _ _
-      c.settle-index.ensures.vector c.settle-index.ensures.table;
+pub invariant_of-result-in-Err : goal.invariant_of-result-in-Err
+invariant_of-result-in-Err g c = record {
+  capacity_left = c.in-Err.ensures.capacity_left;
+  absent = c.in-Err.ensures.absent;
+  vacant = ∣ vacancy_for _ _ _ _ c.in-Err.ensures.hash _ c.vacancy_for-vacancy.ensures.vacant ∣₁;
 }
 
-pub returns-in-None-clause-replaced : goal.returns-in-None-clause-replaced
-returns-in-None-clause-replaced g c = record {
-  replaces = keeps c.args.self c.replace_at.new.self c.in-None.ensures.replaces c.in-None.ensures.after _ _ c.settle-index.ensures.vector
-      c.settle-index.ensures.table _;
+pub returns-in-Err-clause-replaced : goal.returns-in-Err-clause-replaced
+returns-in-Err-clause-replaced g c = record {
+  replaces = loses_pair c.args.self _ c.in-Err.ensures.replaces c.in-Err.ensures.after;
   same_map = refl;
-  state = c.settle-index.ensures.state;
+  state = c.in-Err.ensures.state;
 }

@@ -3,15 +3,15 @@ use Rattle.halfbrown.specs.Preparation.{IsReadyFor}
 use Rattle.halfbrown.proofs.lemmas.entry.Methods.{found_entry, found_writes, found_removes, missing_entry, missing_writes, missing_removes}
 use Rattle.halfbrown.proofs.map.LimitedHashMap.entry_counted.Goals as goal
 
-pub returns-in-Ok-Ok : goal.returns-in-Ok-Ok
-returns-in-Ok-Ok g c =
+pub returns-in-Ok-Held : goal.returns-in-Ok-Held
+returns-in-Ok-Held g c =
     let same = g.K.PartialEq.eq in
     let laws = g.met.K.Eq.laws in
     let limit = g.L.Limit.LIMIT in
     let key = c.args.key in
-    let prepared = c.in-Ok-Ok.ensures.ok in
+    let prepared = c.in-Ok-Held.ensures.ok in
     let at = subst (IsReadyFor same g.S.KeyHasher.hash c.prepare.new.self key)
-    c.in-Ok-Ok.field-0-is c.in-Ok-Ok.ensures.ready in (
+    c.in-Ok-Held.field-0-is c.in-Ok-Held.ensures.ready in (
       (refl, λ n. refl, tt),
       record {
         unchanged = tt;
@@ -24,18 +24,18 @@ returns-in-Ok-Ok g c =
           returned = tt;
           state = c.prepare.ensures.state;
         };
-        cost = c.in-Ok-Ok.ensures.cost;
+        cost = c.in-Ok-Held.ensures.cost;
       },
     )
 
-pub returns-in-Ok-Err : goal.returns-in-Ok-Err
-returns-in-Ok-Err g c =
+pub returns-in-Ok-Vacant : goal.returns-in-Ok-Vacant
+returns-in-Ok-Vacant g c =
     let same = g.K.PartialEq.eq in
     let laws = g.met.K.Eq.laws in
     let limit = g.L.Limit.LIMIT in
-    let prepared = c.in-Ok-Err.ensures.ok in
+    let prepared = c.in-Ok-Vacant.ensures.ok in
     let ready = subst (IsReadyFor same g.S.KeyHasher.hash c.prepare.new.self c.args.key)
-    c.in-Ok-Err.field-0-is c.in-Ok-Err.ensures.ready in (
+    c.in-Ok-Vacant.field-0-is c.in-Ok-Vacant.ensures.ready in (
       (refl, λ n. refl, tt),
       record {
         unchanged = tt;
@@ -48,12 +48,12 @@ returns-in-Ok-Err g c =
           returned = tt;
           state = c.prepare.ensures.state;
         };
-        cost = c.in-Ok-Err.ensures.cost;
+        cost = c.in-Ok-Vacant.ensures.cost;
       },
     )
 
-pub invariant_of-result-in-Ok-Err : goal.invariant_of-result-in-Ok-Err
-invariant_of-result-in-Ok-Err g c =
+pub invariant_of-result-in-Ok-Vacant : goal.invariant_of-result-in-Ok-Vacant
+invariant_of-result-in-Ok-Vacant g c =
     let hash = g.S.KeyHasher.hash in
-    let ready = subst (IsReadyFor g.K.PartialEq.eq hash c.prepare.new.self c.args.key) c.in-Ok-Err.field-0-is c.in-Ok-Err.ensures.ready in
+    let ready = subst (IsReadyFor g.K.PartialEq.eq hash c.prepare.new.self c.args.key) c.in-Ok-Vacant.field-0-is c.in-Ok-Vacant.ensures.ready in
     record { capacity_left = ready.capacity; absent = ready.absent.held; vacant = ∣ ready.vacant ∣₁ }

@@ -6,25 +6,25 @@ use Rattle.halfbrown.proofs.lemmas.map.Layout.{keys_of-set_value}
 use Rattle.halfbrown.proofs.lemmas.pairs.Indices.{index_of-added}
 use Rattle.halfbrown.proofs.map.LimitedHashMap.insert_full_counted.Goals as goal
 
-pub returns-in-Ok-Ok-clause-inserts : goal.returns-in-Ok-Ok-clause-inserts
-returns-in-Ok-Ok-clause-inserts g c =
+pub returns-in-Ok-Held-clause-inserts : goal.returns-in-Ok-Held-clause-inserts
+returns-in-Ok-Held-clause-inserts g c =
     let eq = g.K.PartialEq.eq in
     let key = c.args.key in
     let middle = c.prepare.new.self in
-    let found = c.in-Ok-Ok.ensures in
-    let ready = subst (IsReadyFor eq g.S.KeyHasher.hash middle key) c.in-Ok-Ok.field-0-is found.ready in
+    let found = c.in-Ok-Held.ensures in
+    let ready = subst (IsReadyFor eq g.S.KeyHasher.hash middle key) c.in-Ok-Held.field-0-is found.ready in
     inserted_at g.L.Limit.LIMIT eq g.met.K.Eq.laws c.args.self.now middle c.set_at.new.self key c.args.value _
     c.set_at.ensures.after (ready.put_is key c.args.value)
-    found.ok c.in-Ok-Ok.index (Some c.set_at.result) (sym c.set_at.ensures.old ∙ sym ready.value)
-    (ap (index_of (eq key)) (keys_of-set_value middle.pairs c.in-Ok-Ok.index c.args.value) ∙ ready.index_is) c.set_at.ensures.state
+    found.ok c.in-Ok-Held.index (Some c.set_at.result) (sym c.set_at.ensures.old ∙ sym ready.value)
+    (ap (index_of (eq key)) (keys_of-set_value middle.pairs c.in-Ok-Held.index c.args.value) ∙ ready.index_is) c.set_at.ensures.state
 
-pub returns-in-Ok-Err-clause-inserts : goal.returns-in-Ok-Err-clause-inserts
-returns-in-Ok-Err-clause-inserts g c =
+pub returns-in-Ok-Vacant-clause-inserts : goal.returns-in-Ok-Vacant-clause-inserts
+returns-in-Ok-Vacant-clause-inserts g c =
     let eq = g.K.PartialEq.eq in
     let key = c.args.key in
     let middle = c.prepare.new.self in
-    let missing = c.in-Ok-Err.ensures in
-    let ready = subst (IsReadyFor eq g.S.KeyHasher.hash middle key) c.in-Ok-Err.field-0-is missing.ready in
+    let missing = c.in-Ok-Vacant.ensures in
+    let ready = subst (IsReadyFor eq g.S.KeyHasher.hash middle key) c.in-Ok-Vacant.field-0-is missing.ready in
     inserted_at g.L.Limit.LIMIT eq g.met.K.Eq.laws c.args.self.now middle c.push.new.self key c.args.value _ c.push.ensures.after
     (ready.absent.put_is key c.args.value)
     missing.ok c.len-index.result None (sym ready.absent.value)
