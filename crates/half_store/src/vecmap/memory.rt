@@ -64,9 +64,9 @@ impl<K, V> Columns<K, V> {
         (self.keys.capacity(), self.values.capacity())
     }
 
-    /// Shrinks to this capacity, which must be enough for the pairs, where it is less than theirs. On error nothing changes.
+    /// Shrinks a greater capacity to this one, which must be enough for the pairs. On error nothing changes.
     #[tactic(auto, using(crate::proofs::lemmas::vecmap::Columns::opened))]
-    pub fn shrink_to(&mut self, capacity: usize) -> Result<(), AllocError>
+    pub(crate) fn shrink_to(&mut self, capacity: usize) -> Result<(), AllocError>
         requires { length self.old.pairs ≤ capacity }
         ensures pairs { self.new.pairs ≡ self.old.pairs }
         ensures ok { OnOk result (self.new.capacity ≡ min self.old.capacity capacity) }
@@ -84,7 +84,7 @@ impl<K, V> Columns<K, V> {
 
     /// Grows to exactly this capacity. On error nothing changes.
     #[inline(never)]
-    pub fn grow_to(&mut self, capacity: usize) -> Result<(), AllocError>
+    pub(crate) fn grow_to(&mut self, capacity: usize) -> Result<(), AllocError>
         requires { self.old.capacity < capacity }
         ensures pairs { self.new.pairs ≡ self.old.pairs }
         ensures ok { OnOk result (self.new.capacity ≡ capacity) }
@@ -122,7 +122,7 @@ impl<K, V> Columns<K, V> {
     /// least to eight pairs and what is needed, so that many insertions cost few growths, and never past `limit`. Where it
     /// needs none, nothing changes.
     #[inline(never)]
-    pub fn grow(&mut self, needed: usize, limit: usize) -> Result<(), Refusal>
+    pub(crate) fn grow(&mut self, needed: usize, limit: usize) -> Result<(), Refusal>
         requires { needed ≤ limit }
         ensures pairs { self.new.pairs ≡ self.old.pairs }
         ensures ok { OnOk result (needed ≤ self.new.capacity) }
