@@ -1,6 +1,5 @@
 -- What a search by a match on keys finds.
 use Rattle.std.specs.Prelude.{◌≡◌, ℕ, ◌+◌, ◌<◌, ◌≤◌, Bool, true, false, List, length, slice_get, Option, Some, IfSome, IfNone, Result, Ok, Err}
-use Rattle.std.specs.Borrow.{Bor}
 use Rattle.std.specs.Map.{keys_of}
 use Rattle.half_store.specs.Capacity.{buckets_of}
 use Rattle.half_store.specs.Probe.{IsTableHitCost, after_missing}
@@ -11,10 +10,6 @@ use Rattle.half_store.specs.declared.vecmap.search.Scan.{Scan}
 use Rattle.half_store.specs.declared.vecmap.search.Scan.TheVariants.{ByKey}
 use Rattle.half_store.specs.Store.{StoreState, IsVacancy}
 use Rattle.half_store.specs.Table.{Contents}
-
--- the match may be called on each of these keys
-abbrev pub CallableOnKeys : {K : Type 0} → (Bor K → Type 0) → List K → Type 0
-CallableOnKeys {K} callable keys = (key : Bor K) (index : ℕ) → slice_get keys index ≡ Some key.now → callable key
 
 -- the match returned this of the key at this index
 abbrev pub ReturnsAt : {K : Type 0} → (K → Bool → Type 0) → List K → ℕ → Bool → Type 0

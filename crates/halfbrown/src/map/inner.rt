@@ -9,7 +9,7 @@ ghost use Rattle.std.specs.Option.{option_map};
 ghost use Rattle.std.specs.Result.{result_ok, result_err};
 ghost use Rattle.half_store.specs.PairLists.{set_key, set_value, swap_remove_at};
 ghost use Rattle.half_store.specs.Probe.{looked_more};
-ghost use Rattle.half_store.specs.Search.{CallableOnKeys};
+ghost use Rattle.half_store.specs.Calls.{CallableOnKeys};
 ghost use Rattle.half_store.specs.Store.{IsVacancy};
 ghost use Rattle.half_store.specs.ValueReplacement.{kept_index, ReplacesValue};
 ghost use Rattle.half_store.specs.Work.{first_match_cost};

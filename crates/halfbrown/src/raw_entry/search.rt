@@ -7,7 +7,7 @@ ghost use Rattle.std.specs.Fn.{FnReturnsAt};
 ghost use Rattle.std.specs.Map.{keys_of};
 ghost use Rattle.std.specs.Map.Iter.{deref_pair};
 ghost use Rattle.std.specs.Option.{option_map};
-ghost use Rattle.half_store.specs.Search.{CallableOnKeys};
+ghost use Rattle.half_store.specs.Calls.{CallableOnKeys};
 ghost use Rattle.half_store.specs.Work.{asked_more};
 ghost use Rattle.halfbrown.specs.Costs.{IsLookupCost, IsHashedLookupCost, switch_asked};
 ghost use Rattle.halfbrown.specs.Match.{ReadsMatch, IsMatchCost};
