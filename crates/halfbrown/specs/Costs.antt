@@ -95,23 +95,23 @@ module _ {K V : Type 0} (hash : K → ℕ) where
         let probe = probe_length is_vec capacity pairs sought in
         if is_vec then exactly 0 else (if is_some found then between 1 (probe - 1) else exactly probe)
 
-    -- what it costs, where the builder is asked so often
+    -- what it costs, where the builder is asked for `asked` hashes
     abbrev pub search_cost : ℕ → Bool → ℕ → List (K × V) → Cost
     search_cost asked is_vec capacity pairs =
         record { asked = asked; compared = search_compares is_vec pairs; looked = search_looks is_vec capacity pairs }
 
--- what one search in the map cost that found this index, or none, under this hash, by the tally before it and after, where the builder was
--- asked so often
+-- what one search in the map under this hash cost, by the tally before it and after: it found this index, or none, and the builder was asked
+-- for `asked` hashes
 pub record IsSearchCost {K V S : Type 0} (hash : S → K → ℕ) (sought : ℕ) (m : State K V S) (found : Option ℕ) (asked : ℕ) (before after : Work) : Type 0 where
   pub grew : GrewBy (search_cost (hash m.builder) sought found asked m.is_vec m.capacity m.pairs) before after
   pub looked_once : m.is_vec ≡ false → is_some found ≡ true → NoHomeIsShared (hash m.builder) m.capacity m.pairs
       → after.looked ≡ before.looked + 1
   pub short : probe_length (hash m.builder) m.is_vec m.capacity m.pairs sought ≤ length m.pairs + 1
 
--- what one search in the map by a form of a key cost, by the tally before it and after, where the form has the sought hash and stands for the
--- keys that pass the test
+-- what one search in the map by a form of a key cost, by the tally before it and after: the form has the searched hash, and stands for the keys
+-- that pass the test
 module _ {K V S : Type 0} (hash : S → K → ℕ) (sought : ℕ) (test : K → Bool) (m : State K V S) where
-  -- where the builder was asked so often
+  -- where the builder was asked for `asked` hashes
   abbrev pub IsLookupCostAsking : ℕ → Work → Work → Type 0
   IsLookupCostAsking asked before after = IsSearchCost hash sought m (index_of test (keys_of m.pairs)) asked before after
 

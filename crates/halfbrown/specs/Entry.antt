@@ -67,7 +67,7 @@ module _ {K V S L H : Type 0} {e : eq.Ghosts K} {h : hash.Ghosts K} {b : hashers
     pub stored_key : is_occupied entry ≡ true → entry_key entry ≡ option_map (λ p. p.0) (pair_of same pairs k)
     pub new_key : is_occupied entry ≡ false → entry_key entry ≡ Some k
 
-  -- a value that is written through the entry is put into the map that was, for k
+  -- whatever value is written through the entry, the map is the old one with that value put for k, as by an insertion
   pub record PutsThroughEntry (limit : ℕ) (same : K → K → Bool) (old : State K V S) (k : K) (entry : Entry K V S L H e h b l) : Type 0 where
     pub puts : (value : V) → Puts limit same old k value (insert_needs limit same old k) (with_value entry value)
     pub put : (value : V) → HasPut same old.pairs k value (with_value entry value).pairs

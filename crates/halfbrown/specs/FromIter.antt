@@ -51,7 +51,7 @@ module _ {K V S : Type 0} (limit : ℕ) (eq : K → K → Bool) where
     pub builder : new.builder ≡ old.builder
     pub inserted : InsertsAll old items new
 
-  -- items of which `given` holds, and an insertion of the last one that was refused, once those before it were inserted
+  -- `given` holds of these items: all but the last were inserted, and the insertion of the last was refused
   pub record IsRefusedInsertion (given : List (K × V) → Type 0) (old : State K V S) (why : Refusal) (new : State K V S) : Type 0 where
     pub before : List (K × V)
     pub key : K
@@ -78,7 +78,8 @@ module _ {K V S : Type 0} (limit : ℕ) (eq : K → K → Bool) where
       pub reached : State K V S
       pub insertion : IsRefusedInsertion given made why reached
 
-    -- why items of which `given` holds were not collected: the capacity to begin with was refused, or an insertion
+    -- why items were not collected: the capacity to begin with was refused, or the insertion of one of the items; `given` holds of the items up
+    -- to it
     abbrev pub IsRefusedCollection : (List (K × V) → Type 0) → Refusal → Type 0
     IsRefusedCollection given why = IsRefusal (making_needs needed) why ⊎ IsRefusedItem given why
 

@@ -51,7 +51,7 @@ module _ {K V S : Type 0} (limit : ℕ) where
   abbrev pub insert_needs : (K → K → Bool) → State K V S → K → Option ℕ
   insert_needs eq m k = if is_full m then Some (limit + 1) else (if holds eq m.pairs k then None else addition_needs m)
 
--- a call that needs this much may be refused, for this reason
+-- a call that needs this much capacity was refused for this reason; one that needs none is never refused
 abbrev pub IsRefusal : Option ℕ → Refusal → Type 0
 IsRefusal needs why = IfNone needs ⊥ × IfSome needs (λ n. why ≡ refusal_of n)
 

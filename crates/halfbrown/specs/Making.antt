@@ -5,7 +5,7 @@ use Rattle.halfbrown.specs.Growth.{making_needs, HasCapacityMade, IsGrantable, I
 use Rattle.halfbrown.specs.State.{State}
 
 module _ {K V S : Type 0} (is_builder : S → Type 0) where
-  -- an empty vector that has taken no memory, with a builder of which this holds
+  -- an empty vector that has taken no memory; `is_builder` holds of its builder
   pub record IsNew (m : State K V S) : Type 0 where
     pub form : m.is_vec ≡ true
     pub pairs : m.pairs ≡ []
@@ -13,7 +13,7 @@ module _ {K V S : Type 0} (is_builder : S → Type 0) where
     pub builder : is_builder m.builder
 
   module _ (is_vec : Bool) (needed : ℕ) where
-    -- an empty map of this form, with capacity for this many pairs and a builder of which this holds
+    -- an empty map of this form, with capacity for this many pairs; `is_builder` holds of its builder
     pub record IsMade (m : State K V S) : Type 0 where
       pub form : m.is_vec ≡ is_vec
       pub pairs : m.pairs ≡ []

@@ -40,7 +40,8 @@ pub type DefaultHashBuilder = BuildHasherDefault<FoldHasher>;
 /// ```
 pub type SizedHashMap<K, V, S, const N: usize> = LimitedHashMap<K, V, S, AtMost<N>>;
 
-/// A map that stores up to 32 pairs in a vector. Another builder is the third argument of the type, and `with_hasher` takes it.
+/// A map that stores up to 32 pairs in a vector. Another builder is the third argument of the type, and `with_hasher`
+/// takes it.
 pub type HashMap<K, V, S = DefaultHashBuilder> = LimitedHashMap<K, V, S, AtMost<32>>;
 
 /// A map in two forms. Up to the limit its pairs are stored in a vector, which is searched by `==`, and nothing is
@@ -50,12 +51,12 @@ pub type HashMap<K, V, S = DefaultHashBuilder> = LimitedHashMap<K, V, S, AtMost<
 /// In both forms the pairs keep the order of their insertion, until a removal moves the last pair to the index that
 /// became free. `shift_remove` keeps the order, and takes longer.
 ///
-/// A search in a vector compares keys in order, up to the one that it finds or a few more, and hashes nothing. A search in a table
-/// hashes the key once, probes from its home bucket on, and compares only keys of the same hash. How many buckets it
-/// reads where it finds nothing is decided by the home buckets of the held keys, whatever the history.
+/// A search in a vector compares keys in order, up to the one that it finds or a few more, and hashes nothing. A search
+/// in a table hashes the key once, probes from its home bucket on, and compares only keys of the same hash. How many
+/// buckets it reads where it finds nothing is decided by the home buckets of the held keys, whatever the history.
 ///
-/// Its limit `L` is a type, `AtMost<8>` for 8 pairs. `SizedHashMap` takes the number instead. A function of maps of every limit has
-/// `L: Limit` as a parameter. Most users need neither, and write `HashMap`.
+/// Its limit `L` is a type, `AtMost<8>` for 8 pairs. `SizedHashMap` takes the number instead. A function of maps of
+/// every limit has `L: Limit` as a parameter. Most users need neither, and write `HashMap`.
 pub struct LimitedHashMap<
     K: Eq + Hash,
     V,
@@ -95,7 +96,7 @@ impl<K: Eq + Hash + Drop, V: Drop, S: KeyHasher<K> + Drop, L: Limit> Drop
 }
 
 impl<K: Eq + Hash, V, S: KeyHasher<K>, L: Limit> LimitedHashMap<K, V, S, L> {
-    /// How many pairs are held.
+    /// Returns the number of pairs.
     ///
     /// ```
     /// assert_eq!(rt; ages.len(), 2);
@@ -109,7 +110,7 @@ impl<K: Eq + Hash, V, S: KeyHasher<K>, L: Limit> LimitedHashMap<K, V, S, L> {
         self.columns().len()
     }
 
-    /// Whether no pair is held.
+    /// Returns whether the map is empty.
     ///
     /// ```
     /// assert!(rt; !ages.is_empty());
@@ -121,7 +122,7 @@ impl<K: Eq + Hash, V, S: KeyHasher<K>, L: Limit> LimitedHashMap<K, V, S, L> {
         self.len() == 0
     }
 
-    /// Whether the form is the vector.
+    /// Returns whether the form is the vector.
     ///
     /// ```
     /// assert!(rt; ages.is_vec()); // two pairs, and the limit is 32
@@ -134,7 +135,7 @@ impl<K: Eq + Hash, V, S: KeyHasher<K>, L: Limit> LimitedHashMap<K, V, S, L> {
         self.store.is_vec()
     }
 
-    /// Whether the form is the table.
+    /// Returns whether the form is the table.
     ///
     /// ```
     /// assert!(rt; !ages.is_map());
@@ -146,7 +147,7 @@ impl<K: Eq + Hash, V, S: KeyHasher<K>, L: Limit> LimitedHashMap<K, V, S, L> {
         !self.store.is_vec()
     }
 
-    /// The builder that the map was made with, in both forms.
+    /// Returns the builder that the map was made with, in both forms.
     ///
     /// ```
     /// let hash = ages.hasher().hash_one(&1u64); // the hash that a table of these ages stores for 1
@@ -159,7 +160,7 @@ impl<K: Eq + Hash, V, S: KeyHasher<K>, L: Limit> LimitedHashMap<K, V, S, L> {
         &self.builder
     }
 
-    /// How many pairs fit before more memory is needed. In a vector it is at most the limit.
+    /// Returns how many pairs fit before more memory is needed. In a vector this is at most the limit.
     ///
     /// ```
     /// let ages = HashMap::<u64, u32>::with_capacity(alloc, 4)?;

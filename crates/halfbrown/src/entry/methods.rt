@@ -13,7 +13,7 @@ use crate::{KeyHasher, Limit};
 use std::hash::Hash;
 
 impl<'a, K: Eq + Hash, V, S: KeyHasher<K>, L: Limit> Entry<'a, K, V, S, L> {
-    /// The stored key where it is held, else the key that the entry was made for.
+    /// Returns the stored key where it is held, else the key that the entry was made for.
     ///
     /// ```
     /// assert_eq!(rt; *ages.entry(1)?.key(), 1);
@@ -87,7 +87,7 @@ impl<'a, K: Eq + Hash, V, S: KeyHasher<K>, L: Limit> Entry<'a, K, V, S, L> {
         }
     }
 
-    /// The index of its pair in the order of the pairs: the one that it has, or that of a pair added through the entry.
+    /// Returns the index of its pair in the order of the pairs: the one that it has, or that of a pair added through it.
     ///
     /// ```
     /// assert_eq!(rt; ages.entry(2)?.index(), 1);

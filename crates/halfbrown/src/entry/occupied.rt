@@ -19,7 +19,7 @@ use crate::{KeyHasher, Limit};
 use std::hash::Hash;
 
 impl<'a, K: Eq + Hash, V, S: KeyHasher<K>, L: Limit> OccupiedEntry<'a, K, V, S, L> {
-    /// The stored key.
+    /// Returns the stored key.
     ///
     /// ```
     /// assert_eq!(rt; *entry.key(), 1);
@@ -31,7 +31,8 @@ impl<'a, K: Eq + Hash, V, S: KeyHasher<K>, L: Limit> OccupiedEntry<'a, K, V, S, 
         self.map.columns().key_at(self.index)
     }
 
-    /// The stored key. It cannot be written, since its hash may not change: `insert_key` replaces it by an equal one.
+    /// Returns the stored key. It cannot be written, since its hash may not change: `insert_key` replaces it by an equal
+    /// one.
     ///
     /// ```
     /// assert_eq!(rt; *entry.key_mut(), 1);
@@ -44,7 +45,7 @@ impl<'a, K: Eq + Hash, V, S: KeyHasher<K>, L: Limit> OccupiedEntry<'a, K, V, S, 
         self.key()
     }
 
-    /// The stored key, for as long as the map is borrowed.
+    /// Returns the stored key, for as long as the map is borrowed.
     ///
     /// ```
     /// assert_eq!(rt; *entry.into_key(), 1);
@@ -56,7 +57,7 @@ impl<'a, K: Eq + Hash, V, S: KeyHasher<K>, L: Limit> OccupiedEntry<'a, K, V, S, 
         self.into_key_value().0
     }
 
-    /// The index of its pair in the order of the pairs.
+    /// Returns the index of its pair in the order of the pairs.
     ///
     /// ```
     /// assert_eq!(rt; entry.index(), 0);
@@ -72,7 +73,7 @@ impl<'a, K: Eq + Hash, V, S: KeyHasher<K>, L: Limit> OccupiedEntry<'a, K, V, S, 
         self.index
     }
 
-    /// Its value.
+    /// Returns the value.
     ///
     /// ```
     /// assert_eq!(rt; *entry.get(), 36);
@@ -84,7 +85,7 @@ impl<'a, K: Eq + Hash, V, S: KeyHasher<K>, L: Limit> OccupiedEntry<'a, K, V, S, 
         self.map.columns().value_at(self.index)
     }
 
-    /// Its value, to be written.
+    /// Returns the value, to be written.
     ///
     /// ```
     /// *entry.get_mut() = 37;
@@ -102,7 +103,7 @@ impl<'a, K: Eq + Hash, V, S: KeyHasher<K>, L: Limit> OccupiedEntry<'a, K, V, S, 
         self.map.value_at_mut(index)
     }
 
-    /// Its value, to be written for as long as the map is borrowed.
+    /// Returns the value, to be written for as long as the map is borrowed.
     ///
     /// ```
     /// *entry.into_mut() = 37;
@@ -119,7 +120,7 @@ impl<'a, K: Eq + Hash, V, S: KeyHasher<K>, L: Limit> OccupiedEntry<'a, K, V, S, 
         map.value_at_mut(self.index)
     }
 
-    /// The stored key and its value.
+    /// Returns the stored key and the value.
     ///
     /// ```
     /// assert_eq!(rt; entry.get_key_value(), (&1, &36));
@@ -131,7 +132,7 @@ impl<'a, K: Eq + Hash, V, S: KeyHasher<K>, L: Limit> OccupiedEntry<'a, K, V, S, 
         self.map.columns().pair_at(self.index)
     }
 
-    /// The stored key, and its value to be written.
+    /// Returns the stored key, and the value to be written.
     ///
     /// ```
     /// let (_, age) = entry.get_key_value_mut();
@@ -150,7 +151,7 @@ impl<'a, K: Eq + Hash, V, S: KeyHasher<K>, L: Limit> OccupiedEntry<'a, K, V, S, 
         self.map.pair_at_mut(index)
     }
 
-    /// The stored key, and its value to be written, for as long as the map is borrowed.
+    /// Returns the stored key, and the value to be written, for as long as the map is borrowed.
     ///
     /// ```
     /// let (_, age) = entry.into_key_value();
@@ -165,7 +166,7 @@ impl<'a, K: Eq + Hash, V, S: KeyHasher<K>, L: Limit> OccupiedEntry<'a, K, V, S, 
         map.pair_at_mut(self.index)
     }
 
-    /// Replaces its value, and returns the old one. The stored key stays.
+    /// Replaces the value, and returns the old one. The stored key stays.
     ///
     /// ```
     /// assert_eq!(rt; entry.insert(37), 36);

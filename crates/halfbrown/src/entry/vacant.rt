@@ -15,7 +15,7 @@ use crate::{KeyHasher, Limit};
 use std::hash::Hash;
 
 impl<'a, K: Eq + Hash, V, S: KeyHasher<K>, L: Limit> VacantEntry<'a, K, V, S, L> {
-    /// The key that the entry was made for.
+    /// Returns the key that the entry was made for.
     ///
     /// ```
     /// assert_eq!(rt; *entry.key(), 3);
@@ -27,7 +27,7 @@ impl<'a, K: Eq + Hash, V, S: KeyHasher<K>, L: Limit> VacantEntry<'a, K, V, S, L>
         &self.key
     }
 
-    /// The key that the entry was made for. The map stays as it is.
+    /// Returns the key that the entry was made for. The map stays as it is.
     ///
     /// ```
     /// assert_eq!(rt; entry.into_key(), 3);
@@ -46,7 +46,7 @@ impl<'a, K: Eq + Hash, V, S: KeyHasher<K>, L: Limit> VacantEntry<'a, K, V, S, L>
         key
     }
 
-    /// The index that a pair added through the entry gets: the number of pairs.
+    /// Returns the index that a pair added through the entry gets: the number of pairs.
     ///
     /// ```
     /// assert_eq!(rt; entry.index(), 2);

@@ -45,7 +45,7 @@ impl<K, V> IntoIter<K, V> {
         }
     }
 
-    /// How many pairs are left.
+    /// Returns the number of pairs that are left.
     ///
     /// ```
     /// assert_eq!(rt; ages.into_iter().len(), 2);
@@ -57,7 +57,7 @@ impl<K, V> IntoIter<K, V> {
         self.keys.len()
     }
 
-    /// Whether no pair is left.
+    /// Returns whether no pair is left.
     ///
     /// ```
     /// assert!(rt; !ages.into_iter().is_empty());

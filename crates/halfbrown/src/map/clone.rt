@@ -11,12 +11,12 @@ use std::hash::Hash;
 use std::marker::PhantomData;
 
 impl<K: Eq + Hash, V, S: KeyHasher<K>, L: Limit> LimitedHashMap<K, V, S, L> {
-    /// A map of the same form, with clones of the pairs in the same order and a clone of the builder.
+    /// Returns a map of the same form, with clones of the pairs in the same order and a clone of the builder.
     ///
     /// A clone of a table has the same capacity and the same stored hashes, and nothing is hashed or compared. A clone
     /// of a vector has no capacity to spare.
     ///
-    /// A clone of a key must equal the key, and a clone of the builder must hash as the builder does. Fails only with
+    /// A clone of a key must equal the key, and a clone of the builder must hash as the builder does. It fails only with
     /// `Memory`: where memory is refused here, or to a clone of a key, of a value or of the builder.
     ///
     /// ```

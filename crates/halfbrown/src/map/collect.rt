@@ -19,7 +19,7 @@ impl<K: Eq + Hash + Drop, V: Drop, S: KeyHasher<K> + Default + Drop, L: Limit> L
     S,
     L,
 > {
-    /// A map of these items, with the default of the builder's type.
+    /// Returns a map of these items, with the default of the builder's type.
     ///
     /// It is made with capacity for the items' lower size hint, so it is a table where that is more than the limit.
     /// Then each item is inserted, in order: of equal keys the first stays, with the last value.
@@ -72,7 +72,7 @@ impl<K: Eq + Hash + Drop, V: Drop, S: KeyHasher<K> + Default + Drop, L: Limit> L
         LimitedHashMap::collect(alloc, hint, items, tally)
     }
 
-    /// A map of these pairs, with the default of the builder's type: `from_iter` of an array. `hashmap!` calls it.
+    /// Returns a map of these pairs, with the default of the builder's type: `from_iter` of an array. `hashmap!` calls it.
     ///
     /// ```
     /// let ages = HashMap::<u64, u32>::from_array(alloc, [(1, 36), (2, 41)])?;

@@ -24,7 +24,7 @@ impl<'a, K: Eq + Hash, V, S: KeyHasher<K>, L: Limit> IntoIterator
         × (length map.now.pairs < 2 ^ 63) × ShowsPairsInOrder K V × ShowsPairValuesInOrder K V
         × IsState K.eq L.LIMIT map.now };
 
-    /// The pairs, each as `(&K, &V)`, in order, as `iter` lends them.
+    /// Returns the pairs, each as `(&K, &V)`, in order, as `iter` lends them.
     ///
     /// ```
     /// let mut oldest = 0;
@@ -52,7 +52,7 @@ impl<'a, K: Eq + Hash, V, S: KeyHasher<K>, L: Limit> IntoIterator
         × (length map.now.pairs < 2 ^ 63) × ShowsPairsInOrder K V × ShowsPairValuesInOrder K V
         × IsState K.eq L.LIMIT map.now };
 
-    // The values can be read alone, as upstream has it. `iter_mut` lends them to be written.
+    // The values can be read alone, as in the Rust crate. `iter_mut` lends them to be written.
     #[inline(always)]
     fn into_iter(self) -> Iter<'a, K, V>
         ensures* rests { sem 𝓛
@@ -83,7 +83,7 @@ impl<K: Eq + Hash + Drop, V: Drop, S: KeyHasher<K> + Drop, L: Limit> IntoIterato
 }
 
 impl<K: Eq + Hash + Drop, V: Drop, S: KeyHasher<K> + Drop, L: Limit> LimitedHashMap<K, V, S, L> {
-    /// The keys, in order, by value. The values, the builder and the table are dropped at once. It takes no memory.
+    /// Returns the keys, in order, by value. The values, the builder and the table are dropped at once. It takes no memory.
     ///
     /// ```
     /// assert_eq!(rt; ages.into_keys().next(), Some(1));
@@ -98,7 +98,7 @@ impl<K: Eq + Hash + Drop, V: Drop, S: KeyHasher<K> + Drop, L: Limit> LimitedHash
         keys.into_iter()
     }
 
-    /// The values, in order, by value. The keys, the builder and the table are dropped at once. It takes no memory.
+    /// Returns the values, in order, by value. The keys, the builder and the table are dropped at once. It takes no memory.
     ///
     /// ```
     /// assert_eq!(rt; ages.into_values().next(), Some(36));

@@ -20,7 +20,7 @@ impl<K: Eq + Hash, V, S: KeyHasher<K>, L: Limit> LimitedHashMap<K, V, S, L> {
     ghost use Rattle.halfbrown.specs.Iter.{values_mut_left, values_mut_name, ValuesMutSteps};
     ghost use Rattle.halfbrown.specs.Lending.{LendsValues};
 
-    /// The pairs, each as `(&K, &V)`, in order. Iteration hashes nothing and compares no keys.
+    /// Returns the pairs, each as `(&K, &V)`, in order. Iteration hashes nothing and compares no keys.
     ///
     /// ```
     /// let mut pairs = ages.iter();
@@ -39,7 +39,7 @@ impl<K: Eq + Hash, V, S: KeyHasher<K>, L: Limit> LimitedHashMap<K, V, S, L> {
         Iter::new(columns.keys(), columns.values())
     }
 
-    /// The keys, in order.
+    /// Returns the keys, in order.
     ///
     /// ```
     /// assert_eq!(rt; ages.keys().next(), Some(&1));
@@ -54,7 +54,7 @@ impl<K: Eq + Hash, V, S: KeyHasher<K>, L: Limit> LimitedHashMap<K, V, S, L> {
         Keys::new(self.columns().keys())
     }
 
-    /// The values, in order.
+    /// Returns the values, in order.
     ///
     /// ```
     /// assert_eq!(rt; ages.values().next(), Some(&36));
@@ -91,7 +91,7 @@ impl<K: Eq + Hash, V, S: KeyHasher<K>, L: Limit> LimitedHashMap<K, V, S, L> {
         IterMut::new(keys, values)
     }
 
-    /// The values, in order, to be written.
+    /// Returns the values, in order, to be written.
     ///
     /// ```
     /// for age in ages.values_mut() {
@@ -111,8 +111,8 @@ impl<K: Eq + Hash, V, S: KeyHasher<K>, L: Limit> LimitedHashMap<K, V, S, L> {
         ValuesMut::new(values)
     }
 
-    /// The values, in order, as a slice to be written. What a proof knows of the slice at the end, it knows of the map.
-    /// After a loop over `values_mut` it knows only the keys.
+    /// Returns the values, in order, as a slice to be written. What a proof knows of the slice at the end, it knows of
+    /// the map. After a loop over `values_mut` it knows only the keys.
     ///
     /// ```
     /// ages.values_slice_mut().fill(0);

@@ -11,7 +11,7 @@ use std::hash::{BuildHasherDefault, Hash};
 use std::marker::PhantomData;
 
 impl<K: Eq + Hash, V, L: Limit> LimitedHashMap<K, V, DefaultHashBuilder, L> {
-    /// An empty vector with the default builder. It takes no memory. `with_hasher` takes another builder.
+    /// Returns an empty vector with the default builder. It takes no memory. `with_hasher` takes another builder.
     ///
     /// ```
     /// let ages = HashMap::<u64, u32>::new(alloc);
@@ -24,11 +24,11 @@ impl<K: Eq + Hash, V, L: Limit> LimitedHashMap<K, V, DefaultHashBuilder, L> {
         LimitedHashMap::with_hasher(alloc, BuildHasherDefault::new())
     }
 
-    /// An empty map with the default builder and capacity for this many pairs: a vector where the limit allows them,
-    /// else a table. `with_capacity_and_hasher` takes another builder.
+    /// Returns an empty map with the default builder and capacity for this many pairs: a vector where the limit allows
+    /// them, else a table. `with_capacity_and_hasher` takes another builder.
     ///
-    /// A vector has exactly this capacity, and a table the least of 3, 6, 12, 24 and so on that is enough. Fails with
-    /// `Size` for more than 2^60 pairs, and with `Memory` where memory is refused. For no pairs it takes none, and
+    /// A vector has exactly this capacity, and a table the least of 3, 6, 12, 24 and so on that is enough. It fails
+    /// with `Size` for more than 2^60 pairs, and with `Memory` where memory is refused. For no pairs it takes none, and
     /// never fails.
     ///
     /// ```
@@ -44,8 +44,8 @@ impl<K: Eq + Hash, V, L: Limit> LimitedHashMap<K, V, DefaultHashBuilder, L> {
         LimitedHashMap::with_capacity_and_hasher(alloc, capacity, BuildHasherDefault::new())
     }
 
-    /// An empty vector with the default builder and capacity for this many pairs, or for as many as the limit allows.
-    /// It still becomes a table at the limit. Fails as `with_capacity` does.
+    /// Returns an empty vector with the default builder and capacity for this many pairs, or for as many as the limit
+    /// allows. It still becomes a table at the limit. Fails as `with_capacity` does.
     ///
     /// ```
     /// let ages = HashMap::<u64, u32>::vec_with_capacity(alloc, 100)?;
@@ -62,7 +62,7 @@ impl<K: Eq + Hash, V, L: Limit> LimitedHashMap<K, V, DefaultHashBuilder, L> {
 }
 
 impl<K: Eq + Hash, V, S: KeyHasher<K>, L: Limit> LimitedHashMap<K, V, S, L> {
-    /// An empty vector with this builder. It takes no memory.
+    /// Returns an empty vector with this builder. It takes no memory.
     ///
     /// ```
     /// let ages = HashMap::<u64, u32, _>::with_hasher(alloc, RandomState::new(&rt)?);
@@ -79,7 +79,7 @@ impl<K: Eq + Hash, V, S: KeyHasher<K>, L: Limit> LimitedHashMap<K, V, S, L> {
         }
     }
 
-    /// An empty vector with the builder type's own default. It takes no memory.
+    /// Returns an empty vector with the builder type's own default. It takes no memory.
     ///
     /// ```
     /// let ages = HashMap::<u64, u32>::default(alloc);
@@ -94,8 +94,8 @@ impl<K: Eq + Hash, V, S: KeyHasher<K>, L: Limit> LimitedHashMap<K, V, S, L> {
         LimitedHashMap::with_hasher(alloc, S::default())
     }
 
-    /// An empty map with this builder and capacity for this many pairs: a vector where the limit allows them, else a
-    /// table. Fails as `with_capacity` does.
+    /// Returns an empty map with this builder and capacity for this many pairs: a vector where the limit allows them,
+    /// else a table. It fails as `with_capacity` does.
     ///
     /// ```
     /// let builder = DefaultHashBuilder::new();

@@ -137,7 +137,7 @@ impl<'a, K: Eq + Hash, V, S: KeyHasher<K>, L: Limit> RawEntryBuilder<'a, K, V, S
         }
     }
 
-    /// Returns a pair whose key `is_match` accepts, and none exactly where there is none. In a vector it is the first
+    /// Returns a pair whose key `is_match` accepts, or none exactly where there is no such pair. In a vector it is the first
     /// such pair, whatever the hash. In a table it is one among those of this hash. Any hash may be given.
     ///
     /// `is_match` is called only with held keys, and in a table only with those of this hash.
@@ -178,7 +178,7 @@ impl<'a, K: Eq + Hash, V, S: KeyHasher<K>, L: Limit> RawEntryBuilder<'a, K, V, S
 }
 
 impl<'a, K: Eq + Hash, V, S: KeyHasher<K>, L: Limit> RawEntryBuilderMut<'a, K, V, S, L> {
-    /// The entry of the held key that equals this one, or a vacant entry. It costs one search.
+    /// Returns the entry of the held key that equals this one, or a vacant entry. It costs one search.
     ///
     /// ```
     /// let age = match ages.raw_entry_mut()?.from_key(&1) {
@@ -257,8 +257,9 @@ impl<'a, K: Eq + Hash, V, S: KeyHasher<K>, L: Limit> RawEntryBuilderMut<'a, K, V
         }
     }
 
-    /// The entry of a pair whose key `is_match` accepts, which is vacant exactly where there is none. In a vector it is
-    /// the first such pair, whatever the hash. In a table it is one among those of this hash. Any hash may be given.
+    /// Returns the entry of a pair whose key `is_match` accepts, or a vacant entry exactly where there is no such pair. In
+    /// a vector it is the first such pair, whatever the hash. In a table it is one among those of this hash. Any hash
+    /// may be given.
     ///
     /// `is_match` is called only with held keys, and in a table only with those of this hash.
     ///
