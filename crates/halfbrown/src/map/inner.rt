@@ -146,8 +146,8 @@ impl<K: Eq + Hash, V, S: KeyHasher<K>, L: Limit> LimitedHashMap<K, V, S, L> {
     }
 
     /// Hands the value of the pair at this index to `f`, with its key. Where `f` returns a value the pair has that one, and
-    /// its index is returned: in a vector it goes last, and the last pair takes its index, and in a table it keeps it. Else
-    /// the pair is removed, and its key returned with its hash, at which a vector does not look.
+    /// its index is returned: in a vector it goes last, and the last pair takes its index; in a table it stays. Where `f`
+    /// returns none the pair is removed, and its key returned with its hash, at which a vector does not look.
     #[inline]
     pub(crate) fn replace_at<F: FnOnce(&K, V) -> Option<V>>(
         &mut self,
