@@ -6,7 +6,7 @@ ghost use Rattle.std.specs.Option.{option_or};
 ghost use Rattle.halfbrown.specs.CallerLoops.{add_keys, first_of_each};
 ghost use Rattle.halfbrown.specs.Pairs.{value_of};
 
-use half_uses::hash_set::HashSet;
+use half_set::HashSet;
 use halfbrown::{Limit, LimitedHashMap, Refusal};
 use std::alloc::Global;
 use std::hash::{BuildHasher, Hash};

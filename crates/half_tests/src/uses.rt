@@ -1,7 +1,7 @@
 //! The libraries of `half_uses`, in use: each public call once.
 
 use half_uses::cache::Cache;
-use half_uses::hash_set::HashSet;
+use half_set::HashSet;
 use half_uses::interner::Interner;
 use half_uses::object::Object;
 use half_uses::scopes::Scopes;

@@ -1,5 +1,4 @@
 pub mod Interner
 pub mod Memo
 pub mod Scopes
-pub mod Sets
 pub mod Words
