@@ -19,9 +19,9 @@ use Rattle.halfbrown.specs.CallerLoops.{add_key, add_keys}
 use Rattle.halfbrown.specs.Equality.{same_value}
 use Rattle.halfbrown.specs.EqualityLaws.{same_pairs-Decides}
 use Rattle.halfbrown.specs.Pairs.{value_of, holds_by}
-use Rattle.halfbrown.proofs.CallerFacts.{holds_by-any}
+use Rattle.halfbrown.proofs.CallerFacts.{holds_by-any, keys_taken}
 use Rattle.halfbrown.specs.Updates.{HasRemovedBy}
-use Rattle.half_set.specs.Sets.{same_values, with_nothing, RemovesValue}
+use Rattle.half_set.specs.Sets.{same_values, with_nothing}
 
 module _ {T : Type 0} {eq : T → T → Bool} (laws : IsEquivalence eq) where
   member_added : (xs : List T) (k q : T) → is_member eq (add_key eq xs k) q ≡ (is_member eq xs q || eq q k)
@@ -32,24 +32,16 @@ module _ {T : Type 0} {eq : T → T → Bool} (laws : IsEquivalence eq) where
   union_added xs [] q = grind (arith, common_steps)
   union_added xs (k ∷ more) q = grind (arith, common_steps, union_added (add_key eq xs k) more q, member_added xs k q)
 
--- what a removal from the map is to the values
-pub removes_value : {T V : Type 0} {eq : T → T → Bool} {test : T → Bool} {removed : Bool} {old new : List (T × V)}
-    → HasRemovedBy eq test old new → removed ≡ holds_by test old → RemovesValue eq test (keys_of old) removed (keys_of new)
-removes_value {eq = eq} {test = test} {old = old} {new = new} has is = record {
-  was_member = is ∙ holds_by-any test old;
-  gone = sym (holds_by-any test new) ∙ has.not_held;
-  others = λ x apart. sym (holds_by-any (eq x) new) ∙ ap is_some (has.others x apart) ∙ holds_by-any (eq x) old;
-}
-
-keys_past : {T V : Type 0} (p : T × V) (ps qs : List (T × V)) (ks : List T) (b : Bool) → keys_of qs ≡ ks
-    → keys_of (cond b ps (p ∷ qs)) ≡ cond b (keys_of ps) (p.0 ∷ ks)
-keys_past p ps qs ks true more = refl
-keys_past p ps qs ks false more = ap (λ l. p.0 ∷ l) more
+-- a removal from the map leaves the other members
+pub others_removed : {T V : Type 0} {eq : T → T → Bool} {test : T → Bool} (old new : List (T × V)) (x : T) → HasRemovedBy eq test old new
+    → test x ≡ false → is_member eq (keys_of new) x ≡ is_member eq (keys_of old) x
+others_removed {eq = eq} old new x has apart =
+    sym (holds_by-any (eq x) new) ∙ ap is_some (has.others x apart) ∙ holds_by-any (eq x) old
 
 -- the keys after a removal that keeps the order
 pub keys_removed : {T V : Type 0} (test : T → Bool) (ps : List (T × V)) → keys_of (remove_entry test ps) ≡ remove_key test (keys_of ps)
 keys_removed test [] = refl
-keys_removed test (p ∷ ps) = keys_past p ps (remove_entry test ps) (remove_key test (keys_of ps)) (test p.0) (keys_removed test ps)
+keys_removed test (p ∷ ps) = grind (arith, common_steps, keys_removed test ps)
 
 keys_chosen : {T V : Type 0} (b : Bool) (p : T × V) (ps : List (T × V)) (bs : List Bool) (xs : List T) → keys_of ps ≡ items_where_true bs xs
     → keys_of (cond b (p ∷ ps) ps) ≡ items_where_true (b ∷ bs) (p.0 ∷ xs)
@@ -67,10 +59,7 @@ with_nothing-keys_of (p ∷ pairs) = ap (λ ps. p ∷ ps) (with_nothing-keys_of 
 
 module _ {T : Type 0} {eq : T → T → Bool} (laws : IsEquivalence eq) where
   same_either : (a b : Option (Unit {0})) → (option_eq (λ x y. true) a b ≡ true) ↔ (is_some a ≡ is_some b)
-  same_either None None = (λ e. refl, λ e. refl)
-  same_either None (Some y) = (λ e. e, λ e. e)
-  same_either (Some x) None = (λ e. sym e, λ e. sym e)
-  same_either (Some x) (Some y) = (λ e. refl, λ e. refl)
+  same_either a b = grind (arith, common_steps)
 
   held_member : (xs : List T) (q : T) → is_some (value_of eq (with_nothing xs) q) ≡ is_member eq xs q
   held_member xs q = holds_by-any (eq q) (with_nothing xs) ∙ ap (list_any (eq q)) (keys_of-with_nothing xs)
@@ -113,3 +102,5 @@ module _ {S F T : Type 0} (g : Mut F (Bor T × Unit {0}) Bool) (part : S → F) 
 
 pub shows_in_order : {T : Type 0} → ShowsInOrder (deref {X = T})
 shows_in_order = from_front (TakesFirst deref) deref (λ s. s) (λ s t h. ap length h.0) (λ s x t h. h)
+
+pub ruleset set_facts = (union_added, others_removed, keys_removed, keys_taken, shows_in_order)

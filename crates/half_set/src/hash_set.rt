@@ -1,4 +1,6 @@
 //! The set, over a map whose values are nothing.
+#![tactic(auto, using(halfbrown::proofs::CallerFacts::map_facts, crate::proofs::Sets::set_facts))]
+
 ghost use Rattle.std.specs.Prelude.{◌≡◌, ◌↔◌, ◌^◌, ◌<◌, List, [], ◌∷◌, ◌++◌, true, not, filter, length, All, IsTrue, IfOk, OnOk, OnErr};
 ghost use Rattle.std.specs.Cmp.{partial_equiv_from_equiv};
 ghost use Rattle.std.specs.Fn.{CalledAt};
@@ -36,11 +38,6 @@ impl<T: Eq + Hash> Model for HashSet<T> {
 
 impl<T: Eq + Hash> HashSet<T> {
     /// No values. It takes no memory.
-    ///
-    /// ```
-    /// let names = HashSet::<String>::new(alloc);
-    /// assert!(rt; !names.contains("Ada"));
-    /// ```
     pub fn new(alloc: Global) -> HashSet<T>
         ensures { result ≡ [] }
     {
@@ -49,18 +46,86 @@ impl<T: Eq + Hash> HashSet<T> {
         }
     }
 
+    /// How many values there are.
+    pub fn len(&self) -> usize
+        ensures len { result ≡ length self.now }
+        ensures distinct { IsDistinct T.eq self.now }
+    {
+        self.map.len()
+    }
+
+    /// Whether there is no value.
+    pub fn is_empty(&self) -> bool
+        ensures { IsTrue result ↔ (self.now ≡ []) }
+    {
+        self.map.is_empty()
+    }
+
+    /// Whether an equal value is in the set. It costs one search, as do `insert` and the removals.
+    pub fn contains<Q: Equivalent<T>>(&self, value: Q) -> bool
+        ensures { result ≡ list_any (Q.equivalent value) self.now }
+    {
+        self.map.contains_key(value)
+    }
+
+    /// The values, in order.
+    pub fn iter(&self) -> Keys<'_, T, ()>
+        ensures left { column_left result ≡ self.now }
+        ensures small { length self.now < 2 ^ 63 }
+        ensures runs { ShowsColumnInOrder T (Unit {0}) }
+    {
+        self.map.keys()
+    }
+
+    /// The values of this set, and then those that the other has beside them, in order.
+    pub fn union<'a>(&'a self, other: &'a HashSet<T>) -> Union<'a, T>
+        ensures left { result ≡ self.now ++ filter (λ value. not (is_member T.eq self.now value)) other.now }
+        ensures runs { ShowsInOrder (deref {X = T}) }
+    {
+        Union {
+            first: self.iter(),
+            then: other.difference(self),
+        }
+    }
+
+    /// The values that the other set has too, in order.
+    pub fn intersection<'a>(&'a self, other: &'a HashSet<T>) -> Selected<'a, T>
+        ensures left { result ≡ filter (is_member T.eq other.now) self.now }
+        ensures runs { ShowsInOrder (deref {X = T}) }
+    {
+        Selected {
+            values: self.iter(),
+            other,
+            members: true,
+        }
+    }
+
+    /// The values that the other set lacks, in order.
+    pub fn difference<'a>(&'a self, other: &'a HashSet<T>) -> Selected<'a, T>
+        ensures left { result ≡ filter (λ value. not (is_member T.eq other.now value)) self.now }
+        ensures runs { ShowsInOrder (deref {X = T}) }
+    {
+        Selected {
+            values: self.iter(),
+            other,
+            members: false,
+        }
+    }
+
+    /// Whether each value of this set is in the other.
+    pub fn is_subset(&self, other: &HashSet<T>) -> bool
+        ensures { IsTrue result ↔ All (λ value. IsTrue (is_member T.eq other.now value)) self.now }
+    {
+        self.iter().all(|value| other.contains(value))
+    }
+}
+
+impl<T: Eq + Hash + Drop> HashSet<T> {
     /// Of equal items the first, in order. The items must end. Fails as `insert` does.
-    ///
-    /// ```
-    /// let others = HashSet::<u64>::from_iter(alloc, [2, 1, 2])?;
-    /// assert!(rt; others == seen);
-    /// ```
     pub fn from_iter<I: IntoIterator<Item = T>>(
         alloc: Global,
         items: I,
     ) -> Result<HashSet<T>, Refusal>
-    where
-        T: Drop,
         requires { (it : I.IntoIter) → I.into_iter_gives items it
             → I.IntoIter.can_next it × IsFinite (I.IntoIter.remaining it) }
         ensures { IfOk result (λ set. (it : I.IntoIter) × I.into_iter_gives items it
@@ -71,50 +136,8 @@ impl<T: Eq + Hash> HashSet<T> {
         Ok(set)
     }
 
-    /// How many values there are.
-    ///
-    /// ```
-    /// assert_eq!(rt; seen.len(), 2);
-    /// ```
-    pub fn len(&self) -> usize
-        ensures len { result ≡ length self.now }
-        ensures distinct { IsDistinct T.eq self.now }
-    {
-        self.map.len()
-    }
-
-    /// Whether there is no value.
-    ///
-    /// ```
-    /// assert!(rt; !seen.is_empty());
-    /// ```
-    pub fn is_empty(&self) -> bool
-        ensures { IsTrue result ↔ (self.now ≡ []) }
-    {
-        self.map.is_empty()
-    }
-
-    /// Whether an equal value is in the set. It costs one search, as do `insert` and the removals.
-    ///
-    /// ```
-    /// assert!(rt; seen.contains(&1));
-    /// ```
-    #[tactic(auto, using(halfbrown::proofs::CallerFacts::map_facts))]
-    pub fn contains<Q: Equivalent<T>>(&self, value: Q) -> bool
-        ensures { result ≡ list_any (Q.equivalent value) self.now }
-    {
-        self.map.contains_key(value)
-    }
-
     /// Inserts a value, and returns whether it is new. Where an equal one is in the set nothing changes, nor does it on error.
-    ///
-    /// ```
-    /// assert!(rt; !seen.insert(1)?);
-    /// ```
-    #[tactic(auto, using(halfbrown::proofs::CallerFacts::map_facts))]
     pub fn insert(&mut self, value: T) -> Result<bool, Refusal>
-    where
-        T: Drop,
         ensures is_new { IfOk result (λ is_new. is_new ≡ not (is_member T.eq self.old value)) }
         ensures after { OnOk result (self.new ≡ add_key T.eq self.old value) }
         ensures err { OnErr result (self.new ≡ self.old) }
@@ -123,15 +146,7 @@ impl<T: Eq + Hash> HashSet<T> {
     }
 
     /// Inserts each item, in order. The items must end. On error those before the refused one have been inserted.
-    ///
-    /// ```
-    /// seen.extend([2, 3])?;
-    /// assert_eq!(rt; seen.len(), 3);
-    /// ```
-    #[tactic(auto, using(crate::proofs::Sets::union_added))]
     pub fn extend<I: IntoIterator<Item = T>>(&mut self, items: I) -> Result<(), Refusal>
-    where
-        T: Drop,
         requires { (it : I.IntoIter) → I.into_iter_gives items it
             → I.IntoIter.can_next it × IsFinite (I.IntoIter.remaining it) }
         ensures extended { OnOk result ((it : I.IntoIter) × I.into_iter_gives items it
@@ -149,13 +164,7 @@ impl<T: Eq + Hash> HashSet<T> {
     }
 
     /// Removes the value that equals this one, and returns whether there was one. The last value takes its place.
-    ///
-    /// ```
-    /// assert!(rt; seen.remove(&1));
-    /// ```
     pub fn remove<Q: Equivalent<T>>(&mut self, value: Q) -> bool
-    where
-        T: Drop,
         ensures after { self.new ≡ take_out_value (Q.equivalent value) self.old }
         ensures removes { RemovesValue T.eq (Q.equivalent value) self.old result self.new }
     {
@@ -164,13 +173,7 @@ impl<T: Eq + Hash> HashSet<T> {
 
     /// Removes the value that equals this one, and returns whether there was one. The others keep their order, which takes a step
     /// for each of them.
-    ///
-    /// ```
-    /// assert!(rt; seen.shift_remove(&1));
-    /// ```
     pub fn shift_remove<Q: Equivalent<T>>(&mut self, value: Q) -> bool
-    where
-        T: Drop,
         ensures after { self.new ≡ remove_key (Q.equivalent value) self.old }
         ensures removes { RemovesValue T.eq (Q.equivalent value) self.old result self.new }
     {
@@ -178,107 +181,18 @@ impl<T: Eq + Hash> HashSet<T> {
     }
 
     /// Removes all values.
-    ///
-    /// ```
-    /// seen.clear();
-    /// assert!(rt; seen.is_empty());
-    /// ```
     pub fn clear(&mut self)
-    where
-        T: Drop,
         ensures { self.new ≡ [] }
     {
         self.map.clear();
     }
 
     /// Keeps the values that `keep` accepts, in their order. It is called once at each, from first to last.
-    ///
-    /// ```
-    /// seen.retain(|value| *value < 2);
-    /// assert_eq!(rt; seen.len(), 1);
-    /// ```
     pub fn retain<F: FnMut(&T) -> bool>(&mut self, mut keep: F)
-    where
-        T: Drop,
         requires { F.IsAlwaysCallable keep }
         ensures { IsFiltered (CalledAt F.FnMut) keep self.old self.new }
     {
         self.map.retain(move |value, _| keep(value));
-    }
-
-    /// The values, in order.
-    ///
-    /// ```
-    /// assert_eq!(rt; seen.iter().next(), Some(&1));
-    /// ```
-    pub fn iter(&self) -> Keys<'_, T, ()>
-        ensures left { column_left result ≡ self.now }
-        ensures small { length self.now < 2 ^ 63 }
-        ensures runs { ShowsColumnInOrder T (Unit {0}) }
-    {
-        self.map.keys()
-    }
-
-    /// The values of this set, and then those that the other has beside them, in order.
-    ///
-    /// ```
-    /// let others = HashSet::<u64>::from_iter(alloc, [3, 2])?;
-    /// assert_eq!(rt; seen.union(&others).last(), Some(&3));
-    /// ```
-    pub fn union<'a>(&'a self, other: &'a HashSet<T>) -> Union<'a, T>
-        ensures left { result ≡ self.now ++ filter (λ value. not (is_member T.eq self.now value)) other.now }
-        ensures runs { ShowsInOrder (deref {X = T}) }
-    {
-        Union {
-            first: self.iter(),
-            then: other.difference(self),
-        }
-    }
-
-    /// The values that the other set has too, in order.
-    ///
-    /// ```
-    /// let others = HashSet::<u64>::from_iter(alloc, [3, 2])?;
-    /// assert_eq!(rt; seen.intersection(&others).next(), Some(&2));
-    /// ```
-    pub fn intersection<'a>(&'a self, other: &'a HashSet<T>) -> Selected<'a, T>
-        ensures left { result ≡ filter (is_member T.eq other.now) self.now }
-        ensures runs { ShowsInOrder (deref {X = T}) }
-    {
-        Selected {
-            values: self.iter(),
-            other,
-            members: true,
-        }
-    }
-
-    /// The values that the other set lacks, in order.
-    ///
-    /// ```
-    /// let others = HashSet::<u64>::from_iter(alloc, [3, 2])?;
-    /// assert_eq!(rt; seen.difference(&others).next(), Some(&1));
-    /// ```
-    pub fn difference<'a>(&'a self, other: &'a HashSet<T>) -> Selected<'a, T>
-        ensures left { result ≡ filter (λ value. not (is_member T.eq other.now value)) self.now }
-        ensures runs { ShowsInOrder (deref {X = T}) }
-    {
-        Selected {
-            values: self.iter(),
-            other,
-            members: false,
-        }
-    }
-
-    /// Whether each value of this set is in the other.
-    ///
-    /// ```
-    /// let others = HashSet::<u64>::from_iter(alloc, [3, 2, 1])?;
-    /// assert!(rt; seen.is_subset(&others));
-    /// ```
-    pub fn is_subset(&self, other: &HashSet<T>) -> bool
-        ensures { IsTrue result ↔ All (λ value. IsTrue (is_member T.eq other.now value)) self.now }
-    {
-        self.iter().all(|value| other.contains(value))
     }
 }
 
@@ -308,11 +222,6 @@ impl<T: Eq + Hash + Drop> IntoIterator for HashSet<T> {
     ghost into_iter_gives = { λ set it. (it ≡ set) × (length set < 2 ^ 63) × GivesInOrder T };
 
     /// The values, by value, in order.
-    ///
-    /// ```
-    /// let values = seen.into_iter().collect::<Vec<u64>>(alloc)?;
-    /// assert_eq!(rt; values.as_slice(), [1, 2]);
-    /// ```
     fn into_iter(self) -> IntoIter<T> {
         let HashSet { map } = self;
         IntoIter {

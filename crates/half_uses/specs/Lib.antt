@@ -1,3 +1,5 @@
+pub mod Bank
+pub mod BoundedCache
 pub mod Interner
 pub mod Memo
 pub mod Scopes

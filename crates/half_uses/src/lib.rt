@@ -4,6 +4,8 @@
 //! `memo` shows how a struct keeps a fact of its map.
 #![tactic(auto)]
 
+pub mod bank;
+pub mod bounded_cache;
 pub mod cache;
 pub mod interner;
 pub mod memo;
