@@ -17,7 +17,7 @@ pub enum Declined {
     TooLittle,
 }
 
-/// Accounts, each with its balance. The sum of all balances fits a `u64`.
+/// Accounts, each with its balance, and the sum of all balances.
 ///
 /// ```
 /// let mut bank = Bank::<u64>::new(alloc);
@@ -29,7 +29,8 @@ pub enum Declined {
 #[derive(Drop)]
 pub struct Bank<A: Eq + Hash> {
     balances: HashMap<A, u64>,
-    ghost fits: { sum (values_of balances.pairs) < 2 ^ 64 },
+    total: u64,
+    ghost adds_up: { total ≡ sum (values_of balances.pairs) },
 }
 
 impl<A: Eq + Hash> Bank<A> {
@@ -39,14 +40,15 @@ impl<A: Eq + Hash> Bank<A> {
     {
         Bank {
             balances: HashMap::new(alloc),
+            total: 0,
         }
     }
 
-    /// The sum of all balances.
+    /// The sum of all balances. It takes one step.
     pub fn total(&self) -> u64
         ensures { result ≡ sum (values_of self.now.balances.pairs) }
     {
-        self.balances.values().sum()
+        self.total
     }
 
     /// The balance of an account, where there is one.
@@ -57,6 +59,7 @@ impl<A: Eq + Hash> Bank<A> {
     }
 
     /// Opens an account, which must be new. On error nothing changes.
+    #[tactic(auto, using(halfbrown::proofs::ValueFacts::value_facts))]
     pub fn open(&mut self, account: A, balance: u64) -> Result<(), Refused<A, u64>>
         requires new { holds A.eq self.old.balances.pairs account ≡ false }
         requires fits { sum (values_of self.old.balances.pairs) + balance < 2 ^ 64 }
@@ -65,17 +68,21 @@ impl<A: Eq + Hash> Bank<A> {
         ensures handed_back { IfErr result (λ refused. (refused.key ≡ account) × (refused.value ≡ balance)) }
     {
         self.balances.insert_nocheck(account, balance)?;
+        self.total += balance;
         Ok(())
     }
 
     /// Closes an account, and returns its balance, or none where there is no such account.
+    #[tactic(auto, using(halfbrown::proofs::ValueFacts::value_facts))]
     pub fn close(&mut self, account: &A) -> Option<u64>
     where
         A: Drop,
         ensures balance { result ≡ value_of A.eq self.old.balances.pairs account.now }
         ensures after { self.new.balances.pairs ≡ take_out A.eq self.old.balances.pairs account.now }
     {
-        self.balances.remove(account)
+        let balance = self.balances.remove(account)?;
+        self.total -= balance;
+        Some(balance)
     }
 
     /// Moves an amount from one account to another. The sum of all balances stays. An account that is unknown, or has less than
@@ -99,6 +106,8 @@ impl<A: Eq + Hash> Bank<A> {
             return Err(Declined::TooLittle);
         }
         *balance -= amount;
+        // No balance is more than the total.
+        let _total = self.total;
         if let Some(balance) = self.balances.get_mut(to) {
             *balance += amount;
         }

@@ -1,7 +1,7 @@
 -- What callers read off the values of a list of pairs after a change: their sum, and the pairs once a value is set by its index.
 -- `using` takes the sets at the end.
-use Rattle.std.proofs.Common.{◌≡◌, ℕ, zero, suc, ◌+◌, ◌-◌, ◌<◌, ◌≤◌, Bool, cond, List, [], ◌∷◌, ◌++◌, length, slice_get, get_or, Option, None, Some}
-use Rattle.std.proofs.Common.{Result, Ok, Err, OnOk, IfErr, unwrap_or, sum, is_some, refl, sym, ap, ◌∙◌, arith}
+use Rattle.std.proofs.Common.{◌≡◌, ℕ, zero, suc, ◌+◌, ◌-◌, ◌≤◌, Bool, cond, List, [], ◌∷◌, ◌++◌, length, slice_get, get_or, Option, None, Some}
+use Rattle.std.proofs.Common.{unwrap_or, sum, is_some, refl, sym, ap, ◌∙◌, arith}
 use Rattle.std.proofs.lemmas.Grind.{common_steps}
 use Rattle.std.proofs.lemmas.List.{map_push}
 use Rattle.std.proofs.lemmas.List.Sums.{sum_by-cons, fold_push}
@@ -13,10 +13,6 @@ use Rattle.std.specs.Map.{keys_of, values_of, lookup}
 use Rattle.std.specs.Option.{option_map}
 use Rattle.half_store.specs.PairLists.{index_of, set_value, swap_remove_at}
 use Rattle.halfbrown.specs.Pairs.{holds_by, value_of, put, set_by, take_out_by}
-use Rattle.halfbrown.specs.Growth.{new_key_needs}
-use Rattle.halfbrown.specs.Insertion.{Puts, HandsBack, InsertsNewKey}
-use Rattle.halfbrown.specs.State.{State}
-use Rattle.halfbrown.specs.declared.refused.Refused.{Refused}
 use Rattle.halfbrown.proofs.CallerFacts.{set_same}
 use Rattle.halfbrown.proofs.CallerLemmas.{lookup_put}
 use Rattle.halfbrown.proofs.lemmas.pairs.Indices.{absent_of_index, index_found}
@@ -65,33 +61,20 @@ module _ {K V : Type 0} (f : V → ℕ) where
       → sum_by f (values_of (take_out_by test ps)) + unwrap_or (option_map f (lookup test ps)) 0 ≡ sum_by f (values_of ps)
   sum_taken test ps = sum_taken_by test ps (index_of test (keys_of ps)) refl
 
--- of numbers none is more than the sum, nor is what is left once one is removed
-module _ {K : Type 0} where
-  pub held_within : (test : K → Bool) (ps : List (K × ℕ)) → unwrap_or (lookup test ps) 0 ≤ sum (values_of ps)
-  held_within test ps = grind (arith, common_steps, sum_taken (λ n. n) test ps)
+module _ {K : Type 0} (test : K → Bool) (ps : List (K × ℕ)) where
+  -- the same of numbers
+  pub total_taken : sum (values_of (take_out_by test ps)) + unwrap_or (lookup test ps) 0 ≡ sum (values_of ps)
+  total_taken = grind (arith, common_steps, sum_taken (λ n. n) test ps)
 
-  pub taken_within : (test : K → Bool) (ps : List (K × ℕ)) → sum (values_of (take_out_by test ps)) ≤ sum (values_of ps)
-  taken_within test ps = grind (arith, common_steps, sum_taken (λ n. n) test ps)
+  -- none is more than their sum
+  pub held_within : unwrap_or (lookup test ps) 0 ≤ sum (values_of ps)
+  held_within = omega (arith, total_taken)
 
-  -- a number is moved from a key to another: the sum stays, and the number that grows is no more than it
-  module _ (from to : K → Bool) (ps : List (K × ℕ)) (n : ℕ) {v w : ℕ} (had : lookup from ps ≡ Some v) (enough : n ≤ v)
-      (has : lookup to (set_by from ps (v - n)) ≡ Some w) where
-    pub moved_within : w + n ≤ sum (values_of ps)
-    moved_within = grind (arith, common_steps, sum_set (λ n. n) from ps (v - n), held_within to (set_by from ps (v - n)))
-
-    pub sum_moved : sum (values_of (set_by to (set_by from ps (v - n)) (w + n))) ≡ sum (values_of ps)
-    sum_moved = grind (arith, common_steps, sum_set (λ n. n) from ps (v - n), sum_set (λ n. n) to (set_by from ps (v - n)) (w + n))
-
-  module _ {S : Type 0} (limit : ℕ) (eq : K → K → Bool) (old new : State K ℕ S) (k : K) (v bound : ℕ)
-      (below : sum (values_of old.pairs) + v < bound) where
-    below_by : (r : Result (Unit {0}) (Refused K ℕ)) → OnOk r (Puts limit eq old k v (new_key_needs limit old) new)
-        → IfErr r (HandsBack old k v (new_key_needs limit old) new) → sum (values_of new.pairs) < bound
-    below_by (Ok x) puts back = omega (arith, below, ap (λ ps. sum (values_of ps)) puts.pairs, sum_put (λ n. n) eq old.pairs k v)
-    below_by (Err e) puts back = omega (arith, below, ap (λ m. sum (values_of m.pairs)) back.unchanged)
-
-    -- an insertion of a new key keeps the sum below a bound, be it granted or refused
-    pub inserted_below : (r : Result (Unit {0}) (Refused K ℕ)) → InsertsNewKey limit eq old k v r new → sum (values_of new.pairs) < bound
-    inserted_below r is = below_by r is.ok is.returned
+module _ {K : Type 0} (from to : K → Bool) (ps : List (K × ℕ)) (n : ℕ) {v w : ℕ} (had : lookup from ps ≡ Some v) (enough : n ≤ v)
+    (has : lookup to (set_by from ps (v - n)) ≡ Some w) where
+  -- a number to which some of another is moved is no more than the sum was
+  pub moved_within : w + n ≤ sum (values_of ps)
+  moved_within = grind (arith, common_steps, sum_set (λ n. n) from ps (v - n), held_within to (set_by from ps (v - n)))
 
 -- ---- a value that is set by its index
 
@@ -112,6 +95,6 @@ module _ {K V : Type 0} where
       let found = index_of_pair eq laws ps i p distinct at in
       ap (λ l. value_of eq l q) (sym (found.put_is p.0 v)) ∙ lookup_put eq laws ps p.0 v q
 
-pub ruleset value_facts = (moved_within, sum_moved, set_same)
+pub ruleset value_facts = (sum_set, sum_put, total_taken, moved_within, set_same)
 
 pub ruleset index_facts = (keys_set_value, length_set_value, lookup_set_value)
