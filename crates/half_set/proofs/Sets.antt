@@ -1,13 +1,13 @@
 -- The values of a set after some are added, and when two sets are equal.
-use Rattle.std.proofs.Common.{◌≡◌, ◌↔◌, Bool, true, false, cond, List, [], ◌∷◌, ◌||◌, Option, None, Some, is_some, IsTrue, sym, refl, ap, subst, ◌∙◌, arith, suc, length}
+use Rattle.std.proofs.Common.{◌≡◌, ◌↔◌, Bool, true, false, cond, List, [], ◌∷◌, ◌||◌, Option, None, Some, is_some, IsTrue, sym, refl, ap, subst, ◌∙◌, arith, suc, length, Bor}
 use denote.Param.Always.{always_mut, mut_next}
 use Rattle.std.proofs.iter.runs.Sources.{from_front}
 use Rattle.std.proofs.lemmas.Grind.{common_steps}
 use Rattle.std.proofs.lemmas.List.Folds.{list_any-append}
+use Rattle.std.proofs.lemmas.List.Sums.{length-filter, count_by-le-length}
 use Rattle.std.proofs.lemmas.Map.Steps.{list_any_congr}
 use Rattle.std.specs.Cmp.{IsEquivalence}
 use Rattle.std.specs.Fn.{Mut, CalledAt}
-use Rattle.std.specs.Borrow.{Bor}
 use Rattle.std.specs.List.{FoldsTo, items_where_true, list_any}
 use Rattle.std.specs.List.Retain.{IsFiltered}
 use Rattle.std.specs.Map.{keys_of, remove_entry}
@@ -103,4 +103,4 @@ module _ {S F T : Type 0} (g : Mut F (Bor T × Unit {0}) Bool) (part : S → F) 
 pub shows_in_order : {T : Type 0} → ShowsInOrder (deref {X = T})
 shows_in_order = from_front (TakesFirst deref) deref (λ s. s) (λ s t h. ap length h.0) (λ s x t h. h)
 
-pub ruleset set_facts = (union_added, others_removed, keys_removed, keys_taken, shows_in_order)
+pub ruleset set_facts = (union_added, others_removed, keys_removed, keys_taken, shows_in_order, length-filter, count_by-le-length)

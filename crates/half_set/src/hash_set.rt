@@ -8,6 +8,7 @@ ghost use Rattle.std.specs.Iterator.{IsFinite};
 ghost use Rattle.std.specs.Iterator.Runs.{WholeRun};
 ghost use Rattle.std.specs.List.{IsDistinct, list_any};
 ghost use Rattle.std.specs.List.Retain.{IsFiltered};
+ghost use Rattle.std.specs.Map.{keys_of};
 ghost use Rattle.std.specs.Map.Iter.{GivesInOrder, ShowsInOrder, deref};
 ghost use Rattle.std.specs.Set.{is_member, remove_key, IsUnion};
 ghost use Rattle.halfbrown.specs.CallerLoops.{add_key, add_keys, first_of_each};
@@ -28,9 +29,6 @@ pub struct HashSet<T: Eq + Hash> {
 }
 
 impl<T: Eq + Hash> Model for HashSet<T> {
-    ghost use Rattle.std.specs.Prelude.{List};
-    ghost use Rattle.std.specs.Map.{keys_of};
-
     ghost Value = { List T };
 
     ghost view = { λ s. keys_of s.map.pairs };
@@ -91,6 +89,7 @@ impl<T: Eq + Hash> HashSet<T> {
     /// The values that the other set has too, in order.
     pub fn intersection<'a>(&'a self, other: &'a HashSet<T>) -> Selected<'a, T>
         ensures left { result ≡ filter (is_member T.eq other.now) self.now }
+        ensures small { length result < 2 ^ 63 }
         ensures runs { ShowsInOrder (deref {X = T}) }
     {
         Selected {
@@ -103,6 +102,7 @@ impl<T: Eq + Hash> HashSet<T> {
     /// The values that the other set lacks, in order.
     pub fn difference<'a>(&'a self, other: &'a HashSet<T>) -> Selected<'a, T>
         ensures left { result ≡ filter (λ value. not (is_member T.eq other.now value)) self.now }
+        ensures small { length result < 2 ^ 63 }
         ensures runs { ShowsInOrder (deref {X = T}) }
     {
         Selected {

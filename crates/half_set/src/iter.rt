@@ -1,7 +1,10 @@
 //! The iterators of a set.
-ghost use Rattle.std.specs.Prelude.{length};
+ghost use Rattle.std.specs.Prelude.{List, ◌++◌, length};
 ghost use Rattle.std.specs.Iterator.{at_most};
+ghost use Rattle.std.specs.Map.{keys_of};
 ghost use Rattle.std.specs.Map.Iter.{TakesFirst, deref};
+ghost use Rattle.halfbrown.specs.Iter.{column_left};
+ghost use Rattle.half_set.specs.Sets.{selected};
 
 use crate::HashSet;
 use halfbrown::Keys;
@@ -15,9 +18,6 @@ pub struct IntoIter<T> {
 }
 
 impl<T> Model for IntoIter<T> {
-    ghost use Rattle.std.specs.Prelude.{List};
-    ghost use Rattle.std.specs.Map.{keys_of};
-
     ghost Value = { List T };
 
     ghost view = { λ it. keys_of it.pairs };
@@ -46,10 +46,6 @@ pub struct Selected<'a, T: Eq + Hash> {
 }
 
 impl<'a, T: Eq + Hash> Model for Selected<'a, T> {
-    ghost use Rattle.std.specs.Prelude.{List};
-    ghost use Rattle.halfbrown.specs.Iter.{column_left};
-    ghost use Rattle.half_set.specs.Sets.{selected};
-
     ghost Value = { List T };
 
     ghost view = { λ s. selected T.eq s.members s.other.now (column_left s.values) };
@@ -80,9 +76,6 @@ pub struct Union<'a, T: Eq + Hash> {
 }
 
 impl<'a, T: Eq + Hash> Model for Union<'a, T> {
-    ghost use Rattle.std.specs.Prelude.{List, ◌++◌};
-    ghost use Rattle.halfbrown.specs.Iter.{column_left};
-
     ghost Value = { List T };
 
     ghost view = { λ u. column_left u.first ++ u.then };
