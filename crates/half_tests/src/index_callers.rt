@@ -1,8 +1,8 @@
 //! What callers build on the calls by index, proved from their public contracts alone: a stack of names, a removal by
 //! the index that was found, and values that are set by an index that is given, or found.
-ghost use Rattle.std.specs.Prelude.{◌≡◌, ◌<◌, ◌++◌, false, true, length, option_to_list, IfSome};
+ghost use Rattle.std.specs.Prelude.{◌≡◌, ◌<◌, ◌++◌, ℕ, false, true, length, option_to_list, slice_get, Some, IfSome, if◌then◌else◌};
 ghost use Rattle.std.specs.Map.{keys_of};
-ghost use Rattle.halfbrown.specs.Pairs.{pair_of, holds, set_by, set_value, take_out};
+ghost use Rattle.halfbrown.specs.Pairs.{value_of, pair_of, holds, set_by, set_value, take_out};
 
 use halfbrown::{Limit, LimitedHashMap};
 use std::hash::{BuildHasher, Hash};
@@ -31,12 +31,17 @@ pub fn remove_by_index<K: Eq + Hash + Drop, V: Drop, S: BuildHasher, L: Limit>(
 }
 
 /// Sets the value of the pair at an index, where there is one, and else changes nothing.
+#[tactic(auto, using(halfbrown::proofs::ValueFacts::index_facts))]
 pub fn set_at<K: Eq + Hash, S: BuildHasher, L: Limit>(
     map: &mut LimitedHashMap<K, u64, S, L>,
     index: usize,
     value: u64,
 )
     ensures set { index < length map.old.pairs → map.new.pairs ≡ set_value map.old.pairs index value }
+    ensures keys { keys_of map.new.pairs ≡ keys_of map.old.pairs }
+    ensures len { length map.new.pairs ≡ length map.old.pairs }
+    ensures values { (pair : K × ℕ) → slice_get map.old.pairs index ≡ Some pair → (key : K) → value_of K.eq map.new.pairs key
+        ≡ (if K.eq pair.0 key then Some value else value_of K.eq map.old.pairs key) }
 {
     if let Some(held) = map.get_index_mut(index) {
         *held = value;

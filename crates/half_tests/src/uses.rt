@@ -1,7 +1,9 @@
-//! The libraries of `half_uses`, in use: each public call once.
+//! The libraries of `half_uses`, and the set of `half_set`, in use: each public call once.
 
+use half_set::HashSet;
+use half_uses::bank::{Bank, Declined};
+use half_uses::bounded_cache::BoundedCache;
 use half_uses::cache::Cache;
-use half_uses::hash_set::HashSet;
 use half_uses::interner::Interner;
 use half_uses::object::Object;
 use half_uses::scopes::Scopes;
@@ -61,13 +63,75 @@ fn a_set_keeps_the_order_of_insertions(rt: HostRuntime) -> Result<(), Fail> {
     assert_true(set.remove(&2) && !set.remove(&2), "it was there once")?;
     assert_true(set.insert(5)? && !set.insert(5)?, "new once")?;
     assert_true(!set.is_empty(), "four are left")?;
-    let mut values = set.into_iter();
-    let order = [values.next(), values.next(), values.next(), values.next()];
+    let values = set.into_iter().collect::<Vec<u64>>(alloc)?;
     assert_same(
-        order,
-        [Some(1), Some(4), Some(3), Some(5)],
+        values.as_slice(),
+        [1, 4, 3, 5].as_slice(),
         "the last took the place of 2",
     )
+}
+
+#[test]
+fn sets_are_compared_and_made_smaller(rt: HostRuntime) -> Result<(), Fail> {
+    let alloc = rt.alloc();
+    let mut set = HashSet::<u64>::from_iter(alloc, [1, 2, 3, 4])?;
+    let others = HashSet::<u64>::from_iter(alloc, [5, 4, 2])?;
+    let union = set.union(&others).copied().collect::<Vec<u64>>(alloc)?;
+    assert_same(union.as_slice(), [1, 2, 3, 4, 5].as_slice(), "and then 5")?;
+    let both = set
+        .intersection(&others)
+        .copied()
+        .collect::<Vec<u64>>(alloc)?;
+    assert_same(
+        both.as_slice(),
+        [2, 4].as_slice(),
+        "in the order of the left",
+    )?;
+    let left = set.difference(&others).copied().collect::<Vec<u64>>(alloc)?;
+    assert_same(left.as_slice(), [1, 3].as_slice(), "without 2 and 4")?;
+    assert_true(
+        set.shift_remove(&1) && !set.shift_remove(&1),
+        "it was there once",
+    )?;
+    assert_same(set.iter().next(), Some(&2), "the others keep their order")?;
+    set.retain(|value| *value > 2);
+    assert_same(set.iter().next(), Some(&3), "2 is gone")?;
+    set.clear();
+    assert_same(set.len(), 0, "no value is left")
+}
+
+#[test]
+fn a_bounded_cache_forgets_the_oldest(rt: HostRuntime) -> Result<(), Fail> {
+    let mut cache = BoundedCache::<u64, u64>::new(rt.alloc(), 2);
+    for key in [1, 2, 1, 3] {
+        cache.insert(key, key * 10)?;
+    }
+    let values = [1, 2, 3].map(|key: u64| cache.get(&key).copied());
+    assert_same(values, [None, Some(20), Some(30)], "1 is the oldest")?;
+    assert_same(cache.len(), 2, "never more than the bound")
+}
+
+#[test]
+fn a_bank_keeps_its_total(rt: HostRuntime) -> Result<(), Fail> {
+    let mut bank = Bank::<u64>::new(rt.alloc());
+    bank.open(1, 50)?;
+    bank.open(2, 0)?;
+    assert_same(bank.transfer(&1, &2, 20), Ok(()), "1 has enough")?;
+    assert_same(bank.transfer(&1, &1, 30), Ok(()), "to itself")?;
+    assert_same(
+        bank.transfer(&1, &2, 31),
+        Err(Declined::TooLittle),
+        "30 are left",
+    )?;
+    assert_same(
+        bank.transfer(&1, &3, 1),
+        Err(Declined::Unknown),
+        "there is no 3",
+    )?;
+    let balances = [1, 2, 3].map(|account: u64| bank.balance(&account));
+    assert_same(balances, [Some(30), Some(20), None], "20 were moved")?;
+    assert_same(bank.total(), 50, "and none were lost")?;
+    assert_same((bank.close(&2), bank.total()), (Some(20), 30), "without 2")
 }
 
 // {"id": 7, "size": 2, "id": 8}

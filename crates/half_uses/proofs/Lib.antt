@@ -1,3 +1,2 @@
 pub mod Interning
-pub mod Sets
 pub mod TextWords

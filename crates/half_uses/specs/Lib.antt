@@ -1,5 +1,6 @@
+pub mod Bank
+pub mod BoundedCache
 pub mod Interner
 pub mod Memo
 pub mod Scopes
-pub mod Sets
 pub mod Words

@@ -1,7 +1,7 @@
 use Rattle.std.proofs.Common.{◌≡◌}
-use Rattle.half_uses.specs.Sets.{same_values}
-use Rattle.half_uses.proofs.Sets.{same_members, with_nothing-keys_of}
-use Rattle.half_uses.proofs.hash_set.HashSetPartialEq.eq.Goals as goal
+use Rattle.half_set.specs.Sets.{same_values}
+use Rattle.half_set.proofs.Sets.{same_members, with_nothing-keys_of}
+use Rattle.half_set.proofs.hash_set.HashSetPartialEq.eq.Goals as goal
 
 pub returns : goal.returns
 returns g c =

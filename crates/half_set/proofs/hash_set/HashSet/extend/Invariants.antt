@@ -1,6 +1,6 @@
 use Rattle.std.proofs.Common.{◌≡◌}
 use Rattle.halfbrown.specs.CallerLoops.{add_keys}
-use Rattle.half_uses.proofs.hash_set.HashSet.extend.Given as goal
+use Rattle.half_set.proofs.hash_set.HashSet.extend.Given as goal
 
 abbrev pub invariant-loop-item : goal.invariant-loop-item
 invariant-loop-item g l =

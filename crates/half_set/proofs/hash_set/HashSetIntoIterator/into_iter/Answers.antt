@@ -2,7 +2,7 @@ use Rattle.std.proofs.Common.{arith, ap, ◌∙◌}
 use Rattle.std.proofs.lemmas.Grind.{common_steps}
 use Rattle.std.specs.Map.{keys_of}
 use Rattle.halfbrown.proofs.lemmas.map.Iter.{gives_in_order}
-use Rattle.half_uses.proofs.hash_set.HashSetIntoIterator.into_iter.Goals as goal
+use Rattle.half_set.proofs.hash_set.HashSetIntoIterator.into_iter.Goals as goal
 
 pub returns : goal.returns
 returns g c =

@@ -1,4 +1,4 @@
-use Rattle.half_uses.proofs.hash_set.HashSet.from_iter.Goals as goal
+use Rattle.half_set.proofs.hash_set.HashSet.from_iter.Goals as goal
 
 pub returns : goal.returns
 returns g c =

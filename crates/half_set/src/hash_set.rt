@@ -1,0 +1,231 @@
+//! The set, over a map whose values are nothing.
+#![tactic(auto, using(halfbrown::proofs::CallerFacts::map_facts, crate::proofs::Sets::set_facts))]
+
+ghost use Rattle.std.specs.Prelude.{◌≡◌, ◌↔◌, ◌^◌, ◌<◌, List, [], ◌∷◌, ◌++◌, true, not, filter, length, All, IsTrue, IfOk, OnOk, OnErr};
+ghost use Rattle.std.specs.Cmp.{partial_equiv_from_equiv};
+ghost use Rattle.std.specs.Fn.{CalledAt};
+ghost use Rattle.std.specs.Iterator.{IsFinite};
+ghost use Rattle.std.specs.Iterator.Runs.{WholeRun};
+ghost use Rattle.std.specs.List.{IsDistinct, list_any};
+ghost use Rattle.std.specs.List.Retain.{IsFiltered};
+ghost use Rattle.std.specs.Map.{keys_of};
+ghost use Rattle.std.specs.Map.Iter.{GivesInOrder, ShowsInOrder, deref};
+ghost use Rattle.std.specs.Set.{is_member, remove_key, IsUnion};
+ghost use Rattle.halfbrown.specs.CallerLoops.{add_key, add_keys, first_of_each};
+ghost use Rattle.halfbrown.specs.FromIter.{Gives};
+ghost use Rattle.halfbrown.specs.Iter.{column_left, ShowsColumnInOrder};
+ghost use Rattle.half_set.specs.Sets.{same_values, same_values_equiv, take_out_value, RemovesValue};
+
+use crate::{IntoIter, Selected, Union};
+use halfbrown::{Equivalent, HashMap, Keys, Refusal};
+use std::alloc::Global;
+use std::hash::Hash;
+use std::marker::Model;
+
+/// A set. Up to 32 values are searched by `==`, and nothing is hashed. Contracts see it as the list of its values.
+#[derive(Drop)]
+pub struct HashSet<T: Eq + Hash> {
+    map: HashMap<T, ()>,
+}
+
+impl<T: Eq + Hash> Model for HashSet<T> {
+    ghost Value = { List T };
+
+    ghost view = { λ s. keys_of s.map.pairs };
+}
+
+impl<T: Eq + Hash> HashSet<T> {
+    /// No values. It takes no memory.
+    pub fn new(alloc: Global) -> HashSet<T>
+        ensures { result ≡ [] }
+    {
+        HashSet {
+            map: HashMap::new(alloc),
+        }
+    }
+
+    /// How many values there are.
+    pub fn len(&self) -> usize
+        ensures len { result ≡ length self.now }
+        ensures distinct { IsDistinct T.eq self.now }
+    {
+        self.map.len()
+    }
+
+    /// Whether there is no value.
+    pub fn is_empty(&self) -> bool
+        ensures { IsTrue result ↔ (self.now ≡ []) }
+    {
+        self.map.is_empty()
+    }
+
+    /// Whether an equal value is in the set. It costs one search, as do `insert` and the removals.
+    pub fn contains<Q: Equivalent<T>>(&self, value: Q) -> bool
+        ensures { result ≡ list_any (Q.equivalent value) self.now }
+    {
+        self.map.contains_key(value)
+    }
+
+    /// The values, in order.
+    pub fn iter(&self) -> Keys<'_, T, ()>
+        ensures left { column_left result ≡ self.now }
+        ensures small { length self.now < 2 ^ 63 }
+        ensures runs { ShowsColumnInOrder T (Unit {0}) }
+    {
+        self.map.keys()
+    }
+
+    /// The values of this set, and then those that the other has beside them, in order.
+    pub fn union<'a>(&'a self, other: &'a HashSet<T>) -> Union<'a, T>
+        ensures left { result ≡ self.now ++ filter (λ value. not (is_member T.eq self.now value)) other.now }
+        ensures runs { ShowsInOrder (deref {X = T}) }
+    {
+        Union {
+            first: self.iter(),
+            then: other.difference(self),
+        }
+    }
+
+    /// The values that the other set has too, in order.
+    pub fn intersection<'a>(&'a self, other: &'a HashSet<T>) -> Selected<'a, T>
+        ensures left { result ≡ filter (is_member T.eq other.now) self.now }
+        ensures small { length result < 2 ^ 63 }
+        ensures runs { ShowsInOrder (deref {X = T}) }
+    {
+        Selected {
+            values: self.iter(),
+            other,
+            members: true,
+        }
+    }
+
+    /// The values that the other set lacks, in order.
+    pub fn difference<'a>(&'a self, other: &'a HashSet<T>) -> Selected<'a, T>
+        ensures left { result ≡ filter (λ value. not (is_member T.eq other.now value)) self.now }
+        ensures small { length result < 2 ^ 63 }
+        ensures runs { ShowsInOrder (deref {X = T}) }
+    {
+        Selected {
+            values: self.iter(),
+            other,
+            members: false,
+        }
+    }
+
+    /// Whether each value of this set is in the other.
+    pub fn is_subset(&self, other: &HashSet<T>) -> bool
+        ensures { IsTrue result ↔ All (λ value. IsTrue (is_member T.eq other.now value)) self.now }
+    {
+        self.iter().all(|value| other.contains(value))
+    }
+}
+
+impl<T: Eq + Hash + Drop> HashSet<T> {
+    /// Of equal items the first, in order. The items must end. Fails as `insert` does.
+    pub fn from_iter<I: IntoIterator<Item = T>>(
+        alloc: Global,
+        items: I,
+    ) -> Result<HashSet<T>, Refusal>
+        requires { (it : I.IntoIter) → I.into_iter_gives items it
+            → I.IntoIter.can_next it × IsFinite (I.IntoIter.remaining it) }
+        ensures { IfOk result (λ set. (it : I.IntoIter) × I.into_iter_gives items it
+            × WholeRun I.IntoIter.next_gives it (λ run. set ≡ first_of_each T.eq run.items)) }
+    {
+        let mut set = HashSet::new(alloc);
+        set.extend(items)?;
+        Ok(set)
+    }
+
+    /// Inserts a value, and returns whether it is new. Where an equal one is in the set nothing changes, nor does it on error.
+    pub fn insert(&mut self, value: T) -> Result<bool, Refusal>
+        ensures is_new { IfOk result (λ is_new. is_new ≡ not (is_member T.eq self.old value)) }
+        ensures after { OnOk result (self.new ≡ add_key T.eq self.old value) }
+        ensures err { OnErr result (self.new ≡ self.old) }
+    {
+        Ok(self.map.insert(value, ())?.is_none())
+    }
+
+    /// Inserts each item, in order. The items must end. On error those before the refused one have been inserted.
+    pub fn extend<I: IntoIterator<Item = T>>(&mut self, items: I) -> Result<(), Refusal>
+        requires { (it : I.IntoIter) → I.into_iter_gives items it
+            → I.IntoIter.can_next it × IsFinite (I.IntoIter.remaining it) }
+        ensures extended { OnOk result ((it : I.IntoIter) × I.into_iter_gives items it
+            × WholeRun I.IntoIter.next_gives it (λ run. (self.new ≡ add_keys T.eq self.old run.items)
+            × IsUnion T.eq self.old run.items self.new)) }
+        ensures refused { OnErr result ((it : I.IntoIter) × (before : List T) × (refused : T)
+            × I.into_iter_gives items it × Gives I.IntoIter.next_gives it (before ++ refused ∷ [])
+            × (self.new ≡ add_keys T.eq self.old before)) }
+        ensures kept { (value : T) → is_member T.eq self.old value ≡ true → is_member T.eq self.new value ≡ true }
+    {
+        for item in items {
+            self.insert(item)?;
+        }
+        Ok(())
+    }
+
+    /// Removes the value that equals this one, and returns whether there was one. The last value takes its place.
+    pub fn remove<Q: Equivalent<T>>(&mut self, value: Q) -> bool
+        ensures after { self.new ≡ take_out_value (Q.equivalent value) self.old }
+        ensures removes { RemovesValue T.eq (Q.equivalent value) self.old result self.new }
+    {
+        self.map.remove(value).is_some()
+    }
+
+    /// Removes the value that equals this one, and returns whether there was one. The others keep their order, which takes a step
+    /// for each of them.
+    pub fn shift_remove<Q: Equivalent<T>>(&mut self, value: Q) -> bool
+        ensures after { self.new ≡ remove_key (Q.equivalent value) self.old }
+        ensures removes { RemovesValue T.eq (Q.equivalent value) self.old result self.new }
+    {
+        self.map.shift_remove(value).is_some()
+    }
+
+    /// Removes all values.
+    pub fn clear(&mut self)
+        ensures { self.new ≡ [] }
+    {
+        self.map.clear();
+    }
+
+    /// Keeps the values that `keep` accepts, in their order. It is called once at each, from first to last.
+    pub fn retain<F: FnMut(&T) -> bool>(&mut self, mut keep: F)
+        requires { F.IsAlwaysCallable keep }
+        ensures { IsFiltered (CalledAt F.FnMut) keep self.old self.new }
+    {
+        self.map.retain(move |value, _| keep(value));
+    }
+}
+
+impl<T: Eq + Hash> PartialEq for HashSet<T> {
+    ghost eq = { same_values T.eq };
+
+    ghost laws = { partial_equiv_from_equiv (same_values_equiv T.eq T.Eq.laws) };
+
+    /// Whether both sets have the same values, in any order.
+    fn eq(&self, other: &Self) -> bool
+        ensures same { result ≡ same_values T.eq self.now other.now }
+        ensures members { IsTrue result ↔ ((value : T) → is_member T.eq self.now value ≡ is_member T.eq other.now value) }
+    {
+        self.map == other.map
+    }
+}
+
+impl<T: Eq + Hash> Eq for HashSet<T> {
+    ghost laws = { same_values_equiv T.eq T.Eq.laws };
+}
+
+impl<T: Eq + Hash + Drop> IntoIterator for HashSet<T> {
+    type Item = T;
+
+    type IntoIter = IntoIter<T>;
+
+    ghost into_iter_gives = { λ set it. (it ≡ set) × (length set < 2 ^ 63) × GivesInOrder T };
+
+    /// The values, by value, in order.
+    fn into_iter(self) -> IntoIter<T> {
+        let HashSet { map } = self;
+        IntoIter {
+            pairs: map.into_iter(),
+        }
+    }
+}

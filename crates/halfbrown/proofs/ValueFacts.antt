@@ -1,0 +1,100 @@
+-- What callers read off the values of a list of pairs after a change: their sum, and the pairs once a value is set by its index.
+-- `using` takes the sets at the end.
+use Rattle.std.proofs.Common.{◌≡◌, ℕ, zero, suc, ◌+◌, ◌-◌, ◌≤◌, Bool, cond, List, [], ◌∷◌, ◌++◌, length, slice_get, get_or, Option, None, Some}
+use Rattle.std.proofs.Common.{unwrap_or, sum, is_some, refl, sym, ap, ◌∙◌, arith}
+use Rattle.std.proofs.lemmas.Grind.{common_steps}
+use Rattle.std.proofs.lemmas.List.{map_push}
+use Rattle.std.proofs.lemmas.List.Sums.{sum_by-cons, fold_push}
+use Rattle.std.proofs.lemmas.Map.Entries.{length-keys_of, sum_by_values_permutation}
+use Rattle.std.proofs.lemmas.Option.{slice_get-get_or, slice_get-map}
+use Rattle.std.specs.Cmp.{IsEquivalence}
+use Rattle.std.specs.List.{IsDistinct, sum_by}
+use Rattle.std.specs.Map.{keys_of, values_of, lookup}
+use Rattle.std.specs.Option.{option_map}
+use Rattle.half_store.specs.PairLists.{index_of, set_value, swap_remove_at}
+use Rattle.halfbrown.specs.Pairs.{holds_by, value_of, put, set_by, take_out_by}
+use Rattle.halfbrown.proofs.CallerFacts.{set_same}
+use Rattle.halfbrown.proofs.CallerLemmas.{lookup_put}
+use Rattle.halfbrown.proofs.lemmas.pairs.Indices.{absent_of_index, index_found}
+use Rattle.halfbrown.proofs.lemmas.pairs.PairIndices.{index_of_pair}
+use Rattle.halfbrown.proofs.lemmas.pairs.SwapRemove.{IsPermutation-swap_remove_at}
+
+-- ---- sums
+
+module _ {K V : Type 0} (f : V → ℕ) where
+  set_past : (p : K × V) (ps qs : List (K × V)) (w : V) (found : Option V) (b : Bool)
+      → sum_by f (values_of qs) + unwrap_or (option_map f found) 0 ≡ sum_by f (values_of ps) + cond (is_some found) (f w) 0
+      → sum_by f (values_of (cond b ((p.0, w) ∷ ps) (p ∷ qs))) + unwrap_or (option_map f (cond b (Some p.1) found)) 0
+      ≡ sum_by f (values_of (p ∷ ps)) + cond (is_some (cond b (Some p.1) found)) (f w) 0
+  set_past p ps qs w found b more = grind (arith, common_steps, sum_by-cons)
+
+  -- where a value is set, it counts in the place of the old one
+  pub sum_set : (test : K → Bool) (ps : List (K × V)) (w : V)
+      → sum_by f (values_of (set_by test ps w)) + unwrap_or (option_map f (lookup test ps)) 0
+      ≡ sum_by f (values_of ps) + cond (holds_by test ps) (f w) 0
+  sum_set test [] w = refl
+  sum_set test (p ∷ ps) w = set_past p ps (set_by test ps w) w (lookup test ps) (test p.0) (sum_set test ps w)
+
+  sum_push : (ps : List (K × V)) (k : K) (v : V) → sum_by f (values_of (ps ++ (k, v) ∷ [])) ≡ sum_by f (values_of ps) + f v
+  sum_push ps k v = ap (sum_by f) (map_push (λ p. p.1) ps (k, v)) ∙ fold_push (λ n x. n + f x) 0 (values_of ps) v
+
+  -- after a put the value counts in the place of the one that the key had
+  pub sum_put : (eq : K → K → Bool) (ps : List (K × V)) (k : K) (v : V)
+      → sum_by f (values_of (put eq ps k v)) + unwrap_or (option_map f (value_of eq ps k)) 0 ≡ sum_by f (values_of ps) + f v
+  sum_put eq ps k v = grind (arith, common_steps, sum_set (eq k) ps v, sum_push ps k v)
+
+  sum_taken_by : (test : K → Bool) (ps : List (K × V)) (index : Option ℕ) → index ≡ index_of test (keys_of ps)
+      → sum_by f (values_of (take_out_by test ps)) + unwrap_or (option_map f (lookup test ps)) 0 ≡ sum_by f (values_of ps)
+  sum_taken_by test ps None is = let absent = absent_of_index test ps is in grind (arith, common_steps, absent.take_is, absent.value)
+  sum_taken_by test [] (Some i) is = absurd cc
+  sum_taken_by test (p ∷ ps) (Some i) is =
+      let found = index_found test (p ∷ ps) i is in
+      let rest = swap_remove_at (p ∷ ps) i in
+      let removed = get_or (p ∷ ps) i p in
+      let value : lookup test (p ∷ ps) ≡ Some removed.1 =
+      found.value ∙ slice_get-map (λ p. p.1) (p ∷ ps) i ∙ ap (option_map (λ p. p.1)) (slice_get-get_or (p ∷ ps) i p found.within) in
+      let same = sum_by_values_permutation f (p ∷ ps) (removed ∷ rest) (IsPermutation-swap_remove_at (p ∷ ps) i p found.within) in
+      rw (found.take_is, value) (omega (arith, same, sum_by-cons f removed.1 (values_of rest)))
+
+  -- what is left once a pair is removed
+  pub sum_taken : (test : K → Bool) (ps : List (K × V))
+      → sum_by f (values_of (take_out_by test ps)) + unwrap_or (option_map f (lookup test ps)) 0 ≡ sum_by f (values_of ps)
+  sum_taken test ps = sum_taken_by test ps (index_of test (keys_of ps)) refl
+
+module _ {K : Type 0} (test : K → Bool) (ps : List (K × ℕ)) where
+  -- the same of numbers
+  pub total_taken : sum (values_of (take_out_by test ps)) + unwrap_or (lookup test ps) 0 ≡ sum (values_of ps)
+  total_taken = grind (arith, common_steps, sum_taken (λ n. n) test ps)
+
+  -- none is more than their sum
+  pub held_within : unwrap_or (lookup test ps) 0 ≤ sum (values_of ps)
+  held_within = omega (arith, total_taken)
+
+module _ {K : Type 0} (from to : K → Bool) (ps : List (K × ℕ)) (n : ℕ) {v w : ℕ} (had : lookup from ps ≡ Some v) (enough : n ≤ v)
+    (has : lookup to (set_by from ps (v - n)) ≡ Some w) where
+  -- a number to which some of another is moved is no more than the sum was
+  pub moved_within : w + n ≤ sum (values_of ps)
+  moved_within = grind (arith, common_steps, sum_set (λ n. n) from ps (v - n), held_within to (set_by from ps (v - n)))
+
+-- ---- a value that is set by its index
+
+module _ {K V : Type 0} where
+  pub keys_set_value : (ps : List (K × V)) (i : ℕ) (v : V) → keys_of (set_value ps i v) ≡ keys_of ps
+  keys_set_value [] i v = refl
+  keys_set_value (p ∷ ps) zero v = refl
+  keys_set_value (p ∷ ps) (suc i) v = ap (λ ks. p.0 ∷ ks) (keys_set_value ps i v)
+
+  pub length_set_value : (ps : List (K × V)) (i : ℕ) (v : V) → length (set_value ps i v) ≡ length ps
+  length_set_value ps i v = sym (length-keys_of (set_value ps i v)) ∙ ap length (keys_set_value ps i v) ∙ length-keys_of ps
+
+  -- the key of the pair at the index has the value, and each other key what it had
+  pub lookup_set_value : {eq : K → K → Bool} (laws : IsEquivalence eq) (ps : List (K × V)) (i : ℕ) (v : V) (p : K × V) (q : K)
+      → IsDistinct eq (keys_of ps) → slice_get ps i ≡ Some p
+      → value_of eq (set_value ps i v) q ≡ cond (eq p.0 q) (Some v) (value_of eq ps q)
+  lookup_set_value {eq} laws ps i v p q distinct at =
+      let found = index_of_pair eq laws ps i p distinct at in
+      ap (λ l. value_of eq l q) (sym (found.put_is p.0 v)) ∙ lookup_put eq laws ps p.0 v q
+
+pub ruleset value_facts = (sum_set, sum_put, total_taken, moved_within, set_same)
+
+pub ruleset index_facts = (keys_set_value, length_set_value, lookup_set_value)
