@@ -1,0 +1,51 @@
+-- Where a path leads: JSON Pointer (RFC 6901). The byte 126 is `~`, 47 is `/`, 48 is `0` and 49 is `1`.
+use Rattle.std.specs.Prelude.{◌==◌, ◌&&◌, ◌||◌, ◌^◌, ℕ, not, List, [], ◌∷◌, length, Option, None, Some, option_map, option_and_then, nat_lt, slice_get, if◌then◌else◌}
+use Rattle.std.specs.List.{slice_split}
+use Rattle.std.specs.Str.{all_ascii_digits}
+use Rattle.std.specs.Str.Parse.{digits_value}
+use Rattle.json_value.specs.Members.{member}
+use Rattle.json_value.specs.declared.value.Value.{Value}
+use Rattle.json_value.specs.declared.value.Value.TheOpen.{Value-F}
+use Rattle.json_value.specs.declared.value.Value.TheViews.{out-Value}
+
+abbrev mutual
+  -- the name that a step stands for, in which `~1` is `/` and `~0` is `~`: a step with another `~` stands for none
+  pub name_of : List ℕ → Option (List ℕ)
+  name_of [] = Some []
+  name_of (c ∷ step) = if c == 126 then name_after_tilde step else option_map (λ name. c ∷ name) (name_of step)
+
+  -- the same of what stands behind a `~`
+  pub name_after_tilde : List ℕ → Option (List ℕ)
+  name_after_tilde [] = None
+  name_after_tilde (c ∷ step) =
+      if c == 48 then option_map (λ name. 126 ∷ name) (name_of step)
+      else (if c == 49 then option_map (λ name. 47 ∷ name) (name_of step) else None)
+
+-- the index that a step writes: digits, of which the first is a 0 only where it is the last too
+unfoldable pub index_of : List ℕ → Option ℕ
+index_of [] = None
+index_of (c ∷ step) =
+    if (not (c == 48) || length step == 0) && all_ascii_digits (c ∷ step) && nat_lt (digits_value 10 (c ∷ step)) (2 ^ 64)
+    then Some (digits_value 10 (c ∷ step)) else None
+
+abbrev pub child_in : Value → Value-F Value → List ℕ → Option Value
+child_in v Value-F.Null step = None
+child_in v (Value-F.Bool b) step = None
+child_in v (Value-F.Number s) step = None
+child_in v (Value-F.Text s) step = None
+child_in v (Value-F.List vs) step = option_and_then (slice_get vs.items) (index_of step)
+child_in v (Value-F.Object m) step = option_and_then (member v) (name_of step)
+
+-- where one step leads: in a list to the item at its index, in an object to the member of its name
+abbrev pub child : Value → List ℕ → Option Value
+child v step = child_in v (out-Value v) step
+
+-- where steps lead, one after the other
+abbrev pub descendant : Value → List (List ℕ) → Option Value
+descendant v [] = Some v
+descendant v (step ∷ steps) = option_and_then (λ w. descendant w steps) (child v step)
+
+-- where a path leads: its steps stand between its slashes, and it is empty or begins with one
+abbrev pub value_at : Value → List ℕ → Option Value
+value_at v [] = Some v
+value_at v (c ∷ path) = if c == 47 then descendant v (slice_split (λ b. b == 47) path) else None

@@ -1,0 +1,101 @@
+//! JSON values whose objects are maps: looked into, changed, merged, and compared in any order of members.
+ghost use Rattle.std.specs.Prelude.{◌≡◌, true, IfOk, IfErr, OnOk, OnErr};
+ghost use Rattle.std.specs.Option.{option_copied, option_copied_mut};
+ghost use Rattle.std.specs.String.{string_eq};
+ghost use Rattle.halfbrown.specs.FromIter.{put_all};
+ghost use Rattle.halfbrown.specs.Pairs.{put, value_of};
+
+mod error;
+mod pointer;
+mod read;
+#[cfg(test)]
+mod tests;
+mod write;
+
+pub use error::Error;
+use halfbrown::HashMap;
+
+/// A JSON value. Two are equal whatever the order of their members, and numbers only as they are written.
+///
+/// ```
+/// let mut document = Value::parse(alloc, r#"{"a": [1, {"b": 2}], "a": [3]}"#)?;
+/// let three = document.pointer("/a/0"); // of members of one name the last value wins
+/// let text = document.to_string(alloc)?; // {"a":[3]}
+/// ```
+#[derive(Debug, Drop, PartialEq)]
+pub enum Value {
+    Null,
+    Bool(bool),
+    /// A number as it is written.
+    Number(String),
+    Text(String),
+    List(Vec<Value>),
+    /// Members by name, in the order of the text.
+    Object(HashMap<String, Value>),
+}
+
+impl Value {
+    ghost use Rattle.json_value.specs.Members.{is_object, member, members_of};
+
+    /// The member of this name.
+    pub fn get(&self, name: &str) -> Option<&Value>
+        ensures { option_copied result ≡ member self.now name.now }
+    {
+        match self {
+            Value::Object(members) => members.get(name),
+            _ => None,
+        }
+    }
+
+    /// The member of this name, to be written.
+    pub fn get_mut(&mut self, name: &str) -> Option<&mut Value>
+        ensures { option_copied_mut result ≡ member self.old name.now }
+    {
+        match self {
+            Value::Object(members) => members.get_mut(name),
+            _ => None,
+        }
+    }
+
+    /// Gives a member of an object its value, and returns the value that it had. A new member comes last. On error nothing
+    /// changes.
+    pub fn set(&mut self, name: String, value: Value) -> Result<Option<Value>, Error>
+        ensures before { IfOk result (λ before. before ≡ value_of string_eq (members_of self.old) name) }
+        ensures after { OnOk result (members_of self.new ≡ put string_eq (members_of self.old) name value) }
+        ensures err { OnErr result (self.new ≡ self.old) }
+        ensures refused { is_object self.old ≡ true → IfErr result (λ error. error ≡ Error.Memory) }
+    {
+        match self {
+            Value::Object(members) => Ok(members.insert(name, value)?),
+            _ => Err(Error::NoObject),
+        }
+    }
+
+    /// Puts the members of another object into this one. Of a name in both the other's value wins, at the place of this
+    /// one's. On error the members before the refused one stay.
+    pub fn merge(&mut self, other: Value) -> Result<(), Error>
+        ensures after { OnOk result (members_of self.new ≡ put_all string_eq (members_of self.old) (members_of other)) }
+        ensures refused { is_object self.old ≡ true → is_object other ≡ true
+            → IfErr result (λ error. error ≡ Error.Memory) }
+    {
+        match self {
+            Value::Object(members) => match other {
+                Value::Object(others) => put_each(members, others),
+                _ => Err(Error::NoObject),
+            },
+            _ => Err(Error::NoObject),
+        }
+    }
+}
+
+// Puts these members, in order.
+fn put_each(
+    members: &mut HashMap<String, Value>,
+    others: HashMap<String, Value>,
+) -> Result<(), Error>
+    ensures after { OnOk result (members.new.pairs ≡ put_all string_eq members.old.pairs others.pairs) }
+    ensures refused { IfErr result (λ error. error ≡ Error.Memory) }
+{
+    members.extend(others)?;
+    Ok(())
+}

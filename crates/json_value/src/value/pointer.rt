@@ -1,0 +1,103 @@
+//! Following a path: JSON Pointer (RFC 6901).
+ghost use Rattle.std.specs.Prelude.{◌≡◌, ◌↔◌, [], ◌∷◌, IsTrue, IfSome, IfNone, Some, option_map, option_and_then};
+ghost use Rattle.std.specs.Map.{lookup};
+ghost use Rattle.std.specs.Option.{option_copied};
+ghost use Rattle.std.specs.Str.{bytes_eq};
+ghost use Rattle.std.specs.String.{string_bytes};
+ghost use Rattle.json_value.specs.Pointer.{name_of, index_of, child as child_at, value_at};
+
+use super::Value;
+use halfbrown::HashMap;
+
+impl Value {
+    /// The value that a path leads to, by JSON Pointer (RFC 6901): `/a/0` is the first item of member `a`, and an empty
+    /// path is the whole value. In a name `~1` stands for `/` and `~0` for `~`, and any other `~` leads to nothing. It
+    /// allocates nothing. A name with an escape is compared with those of all members, and any other is looked up.
+    ///
+    /// ```
+    /// let document = Value::parse(alloc, r#"{"a/b": [1], "m~n": 8}"#)?;
+    /// let one = document.pointer("/a~1b/0");
+    /// let eight = document.pointer("/m~0n");
+    /// ```
+    pub fn pointer(&self, path: &str) -> Option<&Value>
+        ensures { option_copied result ≡ value_at self.now path.now }
+    {
+        if path.is_empty() {
+            return Some(self);
+        }
+        let mut value = self;
+        for step in path.strip_prefix('/')?.split('/') {
+            value = value.child(step)?;
+        }
+        Some(value)
+    }
+
+    // Where one step leads.
+    fn child(&self, step: &str) -> Option<&Value>
+        ensures { option_copied result ≡ child_at self.now step.now }
+    {
+        match self {
+            Value::List(items) => items.get(index(step)?),
+            Value::Object(members) => member(members, step),
+            _ => None,
+        }
+    }
+}
+
+// The index that a step writes.
+fn index(step: &str) -> Option<usize>
+    ensures { result ≡ index_of step.now }
+{
+    if step.starts_with('+') || (step.starts_with('0') && step.len() > 1) {
+        return None;
+    }
+    step.parse().ok()
+}
+
+// The member of the name that a step stands for.
+fn member<'a>(members: &'a HashMap<String, Value>, step: &str) -> Option<&'a Value>
+    ensures { option_copied result ≡ option_and_then
+        (λ name. lookup (λ k. bytes_eq name (string_bytes k)) members.now.pairs) (name_of step.now) }
+{
+    if !step.contains('~') {
+        return members.get(step);
+    }
+    for (name, value) in members {
+        if stands_for(step.as_bytes(), name.as_bytes()) {
+            return Some(value);
+        }
+    }
+    None
+}
+
+// Whether a step stands for this name.
+fn stands_for(step: &[u8], name: &[u8]) -> bool
+    ensures { IsTrue result ↔ (name_of step.now ≡ Some name.now) }
+{
+    let mut rest = step;
+    for byte in name {
+        let Some((first, more)) = first_byte(rest) else {
+            return false;
+        };
+        if first != *byte {
+            return false;
+        }
+        rest = more;
+    }
+    rest.is_empty()
+}
+
+// The first byte of the name that a step stands for, and the rest of the step. None where the step ends, and where it begins with
+// a `~` that is no escape.
+fn first_byte(step: &[u8]) -> Option<(u8, &[u8])>
+    ensures some { IfSome result (λ first. name_of step.now ≡ option_map (λ name. first.0 ∷ name) (name_of first.1.now)) }
+    ensures none { IfNone result (IfSome (name_of step.now) (λ name. name ≡ [])) }
+{
+    match step {
+        [b'~', b'0', rest @ ..] => Some((b'~', rest)),
+        [b'~', b'1', rest @ ..] => Some((b'/', rest)),
+        [b'~', ..] => None,
+        [byte, rest @ ..] => Some((*byte, rest)),
+        [] => None,
+    }
+}
