@@ -1,3 +1,4 @@
+pub mod Merging
 pub mod Pointer
 pub mod Reading
 pub mod Writing

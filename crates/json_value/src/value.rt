@@ -1,9 +1,11 @@
 //! JSON values whose objects are maps: looked into, changed, merged, and compared in any order of members.
-ghost use Rattle.std.specs.Prelude.{◌≡◌, true, IfOk, IfErr, OnOk, OnErr};
+ghost use Rattle.std.specs.Prelude.{◌≡◌, true, IfOk, IfErr, IfNone, OnOk, OnErr};
+ghost use Rattle.std.specs.Map.{remove_entry};
 ghost use Rattle.std.specs.Option.{option_copied, option_copied_mut};
 ghost use Rattle.std.specs.String.{string_eq};
 ghost use Rattle.halfbrown.specs.FromIter.{put_all};
 ghost use Rattle.halfbrown.specs.Pairs.{put, value_of};
+ghost use Rattle.json_value.specs.Members.{PutsFirst};
 
 mod error;
 mod pointer;
@@ -35,7 +37,7 @@ pub enum Value {
 }
 
 impl Value {
-    ghost use Rattle.json_value.specs.Members.{is_object, member, members_of};
+    ghost use Rattle.json_value.specs.Members.{is_object, member, members_of, is_named, IsRefusedMerge};
 
     /// The member of this name.
     pub fn get(&self, name: &str) -> Option<&Value>
@@ -62,6 +64,7 @@ impl Value {
     pub fn set(&mut self, name: String, value: Value) -> Result<Option<Value>, Error>
         ensures before { IfOk result (λ before. before ≡ value_of string_eq (members_of self.old) name) }
         ensures after { OnOk result (members_of self.new ≡ put string_eq (members_of self.old) name value) }
+        ensures object { OnOk result (is_object self.old ≡ true) }
         ensures err { OnErr result (self.new ≡ self.old) }
         ensures refused { is_object self.old ≡ true → IfErr result (λ error. error ≡ Error.Memory) }
     {
@@ -71,12 +74,27 @@ impl Value {
         }
     }
 
+    /// Takes the member of this name out, and returns its value. The other members keep their order. Where there is none,
+    /// nothing changes.
+    pub fn remove(&mut self, name: &str) -> Option<Value>
+        ensures value { result ≡ member self.old name.now }
+        ensures after { members_of self.new ≡ remove_entry (is_named name.now) (members_of self.old) }
+        ensures kind { is_object self.new ≡ is_object self.old }
+        ensures unchanged { IfNone result (self.new ≡ self.old) }
+    {
+        match self {
+            Value::Object(members) => members.shift_remove(name),
+            _ => None,
+        }
+    }
+
     /// Puts the members of another object into this one. Of a name in both the other's value wins, at the place of this
-    /// one's. On error the members before the refused one stay.
+    /// one's. On `NoObject` nothing changes. On `Memory` the first members of the other are put, up to the refused one.
     pub fn merge(&mut self, other: Value) -> Result<(), Error>
         ensures after { OnOk result (members_of self.new ≡ put_all string_eq (members_of self.old) (members_of other)) }
-        ensures refused { is_object self.old ≡ true → is_object other ≡ true
-            → IfErr result (λ error. error ≡ Error.Memory) }
+        ensures kind { is_object self.new ≡ is_object self.old }
+        ensures err { IfErr result (λ error. IsRefusedMerge error self.old other self.new) }
+        ensures objects { OnOk result ((is_object self.old ≡ true) × (is_object other ≡ true)) }
     {
         match self {
             Value::Object(members) => match other {
@@ -88,13 +106,14 @@ impl Value {
     }
 }
 
-// Puts these members, in order.
+// Puts these members, in order. On error the members before the refused one are put.
 fn put_each(
     members: &mut HashMap<String, Value>,
     others: HashMap<String, Value>,
 ) -> Result<(), Error>
     ensures after { OnOk result (members.new.pairs ≡ put_all string_eq members.old.pairs others.pairs) }
-    ensures refused { IfErr result (λ error. error ≡ Error.Memory) }
+    ensures refused { IfErr result (λ error. (error ≡ Error.Memory)
+        × PutsFirst members.old.pairs others.pairs members.new.pairs) }
 {
     members.extend(others)?;
     Ok(())

@@ -118,5 +118,12 @@ fn members_are_changed_and_merged(rt: HostRuntime) -> Result<(), Error> {
     assert_eq!(rt; text.as_str(), r#"{"a":null,"b":{"c":true},"d":[]}"#);
     let refused = value.merge(Value::Null).err();
     assert_eq!(rt; refused, Some(Error::NoObject));
+    let removed = value.remove("a");
+    assert_eq!(rt; removed, Some(Value::Null));
+    assert!(rt; value.remove("a").is_none());
+    assert_eq!(rt;
+        value.to_string(alloc)?.as_str(),
+        r#"{"b":{"c":true},"d":[]}"#
+    );
     Ok(())
 }
