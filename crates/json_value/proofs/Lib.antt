@@ -1,3 +1,4 @@
+pub mod Changing
 pub mod Merging
 pub mod Pointer
 pub mod Reading

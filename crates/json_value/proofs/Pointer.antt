@@ -1,8 +1,11 @@
 -- A path, a step at a time.
-use Rattle.std.proofs.Common.{◌≡◌, ◌≢◌, ℕ, suc, ◌<◌, ◌≤◌, true, false, List, [], ◌∷◌, length, get_or, Option, None, Some, option_map, option_and_then, Result, Ok, Err, refl, sym, ap, ◌∙◌, arith, true≢false, eq-eqb, eqb-true, ne_eqb, slice_index, slice_get, ◌==◌, Vec, Global, rules}
+use Rattle.std.proofs.Common.{◌≡◌, ◌≢◌, ℕ, suc, ◌<◌, ◌≤◌, true, false, List, [], ◌∷◌, ◌++◌, length, get_or, Option, None, Some, option_map, option_and_then, Result, Ok, Err, refl, sym, ap, ◌∙◌, arith, true≢false, eq-eqb, eqb-true, ne_eqb, slice_index, slice_get, ◌==◌, Vec, Global, rules}
 use Rattle.std.proofs.lemmas.Bool.Decides.{nat_tests}
 use Rattle.std.proofs.lemmas.Str.Parse.{IsNumeralModel, numerals_by_value, tells_all_ascii_digits, parse_plain}
+use Rattle.std.proofs.lemmas.List.{get_or_default}
+use Rattle.std.proofs.lemmas.List.Splits.{slice_split_at, slice_split_none}
 use Rattle.std.specs.Borrow.{Bor}
+use Rattle.std.specs.List.{All, slice_split}
 use Rattle.std.specs.Iterator.{AlwaysYields}
 use Rattle.std.specs.Result.{result_ok}
 use Rattle.std.specs.Str.{all_ascii_digits}
@@ -96,3 +99,16 @@ pub descendant-end : (v : Value) (steps : List (List ℕ)) (s t : Split ℕ) →
     → descendant v steps ≡ Some v
 descendant-end v [] s t left ended = refl
 descendant-end v (step ∷ more) s t left ended = absurd (left.0 t ended)
+
+-- the first of some steps, and the others behind a slash
+has_no_slash : (step : List ℕ) → ((i : ℕ) → i < length step → get_or step i 0 ≢ 47) → All (λ b. (b == 47) ≡ false) step
+has_no_slash step free k d less = ne_eqb _ 47 (λ e. free k less (get_or_default step k 0 d less ∙ e))
+
+module _ (steps : List ℕ) where
+  pub steps-more : (step rest : List ℕ) → steps ≡ step ++ 47 ∷ rest → ((i : ℕ) → i < length step → get_or step i 0 ≢ 47)
+      → slice_split (λ b. b == 47) steps ≡ step ∷ slice_split (λ b. b == 47) rest
+  steps-more step rest cut free =
+      ap (slice_split (λ b. b == 47)) cut ∙ slice_split_at (λ b. b == 47) step 47 rest (has_no_slash step free) refl
+
+  pub steps-last : ((i : ℕ) → i < length steps → get_or steps i 0 ≢ 47) → slice_split (λ b. b == 47) steps ≡ steps ∷ []
+  steps-last free = slice_split_none (λ b. b == 47) steps (has_no_slash steps free)

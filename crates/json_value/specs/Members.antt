@@ -44,6 +44,7 @@ PutsFirst old others new =
 -- what a refused merge leaves: of or into no object all as it was, and else some first members of the other are put
 abbrev pub IsRefusedMerge : Error → Value → Value → Value → Type 0
 IsRefusedMerge Error.Invalid old other new = ⊥
+IsRefusedMerge Error.NotThere old other new = ⊥
 IsRefusedMerge Error.NoObject old other new = (is_object old && is_object other ≡ false) × (new ≡ old)
 IsRefusedMerge Error.Memory old other new =
     (is_object old && is_object other ≡ true) × PutsFirst (members_of old) (members_of other) (members_of new)

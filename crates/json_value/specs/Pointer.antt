@@ -3,10 +3,17 @@ use Rattle.std.specs.Prelude.{◌==◌, ◌&&◌, ◌||◌, ◌^◌, ℕ, not, L
 use Rattle.std.specs.List.{slice_split}
 use Rattle.std.specs.Str.{all_ascii_digits}
 use Rattle.std.specs.Str.Parse.{digits_value}
-use Rattle.json_value.specs.Members.{member}
+use Rattle.std.specs.Map.{keys_of}
+use Rattle.std.specs.Option.{option_map_or}
+use Rattle.std.specs.Vec.{with_item}
+use Rattle.std.specs.declared.alloc.Global.{Global}
+use Rattle.std.specs.declared.string.String.{String}
+use Rattle.halfbrown.specs.Pairs.{index_of as first_index, set_value}
+use Rattle.halfbrown.specs.State.{with_pairs}
+use Rattle.json_value.specs.Members.{is_named, member}
 use Rattle.json_value.specs.declared.value.Value.{Value}
 use Rattle.json_value.specs.declared.value.Value.TheOpen.{Value-F}
-use Rattle.json_value.specs.declared.value.Value.TheViews.{out-Value}
+use Rattle.json_value.specs.declared.value.Value.TheViews.{out-Value, List as list_of, Object as object_of}
 
 abbrev mutual
   -- the name that a step stands for, in which `~1` is `/` and `~0` is `~`: a step with another `~` stands for none
@@ -49,3 +56,36 @@ descendant v (step ∷ steps) = option_and_then (λ w. descendant w steps) (chil
 abbrev pub value_at : Value → List ℕ → Option Value
 value_at v [] = Some v
 value_at v (c ∷ path) = if c == 47 then descendant v (slice_split (λ b. b == 47) path) else None
+
+-- ---- changing what a path leads to
+
+-- the index of the member that a step names
+abbrev pub place_of : List (String Global × Value) → List ℕ → Option ℕ
+place_of members step = option_and_then (λ name. first_index (is_named name) (keys_of members)) (name_of step)
+
+abbrev pub put_child_in : Value → Value-F Value → List ℕ → Value → Value
+put_child_in v Value-F.Null step w = v
+put_child_in v (Value-F.Bool b) step w = v
+put_child_in v (Value-F.Number s) step w = v
+put_child_in v (Value-F.Text s) step w = v
+put_child_in v (Value-F.List vs) step w = option_map_or (λ i. list_of (with_item vs i w)) (index_of step) v
+put_child_in v (Value-F.Object m) step w = option_map_or (λ i. object_of (with_pairs m (set_value m.pairs i w))) (place_of m.pairs step) v
+
+-- the value whose item or member that a step leads to is w, and all else the same
+abbrev pub put_child : Value → List ℕ → Value → Value
+put_child v step w = put_child_in v (out-Value v) step w
+
+-- the value in which w is what the steps lead to
+abbrev pub put_steps : Value → List (List ℕ) → Value → Value
+put_steps v [] w = w
+put_steps v (step ∷ steps) w = option_map_or (λ x. put_child v step (put_steps x steps w)) (child v step) v
+
+-- the steps of a path, behind its first slash
+abbrev pub steps_of : Option (List ℕ) → List (List ℕ)
+steps_of None = []
+steps_of (Some path) = slice_split (λ b. b == 47) path
+
+-- the value in which w is what a path leads to, and all else is the same
+abbrev pub put_at : Value → List ℕ → Value → Value
+put_at v [] w = w
+put_at v (c ∷ path) w = if c == 47 then put_steps v (slice_split (λ b. b == 47) path) w else v

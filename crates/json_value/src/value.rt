@@ -1,12 +1,13 @@
 //! JSON values whose objects are maps: looked into, changed, merged, and compared in any order of members.
 ghost use Rattle.std.specs.Prelude.{◌≡◌, true, IfOk, IfErr, IfNone, OnOk, OnErr};
 ghost use Rattle.std.specs.Map.{remove_entry};
-ghost use Rattle.std.specs.Option.{option_copied, option_copied_mut};
+ghost use Rattle.std.specs.Option.{option_copied};
 ghost use Rattle.std.specs.String.{string_eq};
 ghost use Rattle.halfbrown.specs.FromIter.{put_all};
 ghost use Rattle.halfbrown.specs.Pairs.{put, value_of};
 ghost use Rattle.json_value.specs.Members.{PutsFirst};
 
+mod change;
 mod error;
 mod pointer;
 mod read;
@@ -45,16 +46,6 @@ impl Value {
     {
         match self {
             Value::Object(members) => members.get(name),
-            _ => None,
-        }
-    }
-
-    /// The member of this name, to be written.
-    pub fn get_mut(&mut self, name: &str) -> Option<&mut Value>
-        ensures { option_copied_mut result ≡ member self.old name.now }
-    {
-        match self {
-            Value::Object(members) => members.get_mut(name),
             _ => None,
         }
     }

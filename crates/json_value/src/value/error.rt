@@ -12,6 +12,8 @@ pub enum Error {
     Invalid,
     /// A member was given to a value that is no object.
     NoObject,
+    /// A path leads to no value.
+    NotThere,
     /// There is no memory.
     Memory,
 }
@@ -21,6 +23,7 @@ impl fmt::Display for Error {
         match self {
             Error::Invalid => write!(f, "this is no JSON"),
             Error::NoObject => write!(f, "this is no object"),
+            Error::NotThere => write!(f, "the path leads to no value"),
             Error::Memory => write!(f, "memory could not be allocated"),
         }
     }

@@ -45,7 +45,7 @@ impl Value {
 }
 
 // The index that a step writes.
-fn index(step: &str) -> Option<usize>
+pub(super) fn index(step: &str) -> Option<usize>
     ensures { result ≡ index_of step.now }
 {
     if step.starts_with('+') || (step.starts_with('0') && step.len() > 1) {
@@ -71,7 +71,7 @@ fn member<'a>(members: &'a HashMap<String, Value>, step: &str) -> Option<&'a Val
 }
 
 // Whether a step stands for this name.
-fn stands_for(step: &[u8], name: &[u8]) -> bool
+pub(super) fn stands_for(step: &[u8], name: &[u8]) -> bool
     ensures { IsTrue result ↔ (name_of step.now ≡ Some name.now) }
 {
     let mut rest = step;

@@ -109,7 +109,9 @@ fn members_are_compared_in_any_order(rt: HostRuntime) -> Result<(), Error> {
 fn members_are_changed_and_merged(rt: HostRuntime) -> Result<(), Error> {
     let alloc = rt.alloc();
     let mut value = Value::parse(alloc, r#"{"a": 1, "b": {"c": 2}}"#)?;
-    if let Some(b) = value.get_mut("b") {
+    if let Value::Object(members) = &mut value
+        && let Some(b) = members.get_mut("b")
+    {
         let before = b.set(String::from_str(alloc, "c")?, Value::Bool(true))?;
         assert_eq!(rt; before, Some(Value::parse(alloc, "2")?));
     }
@@ -125,5 +127,33 @@ fn members_are_changed_and_merged(rt: HostRuntime) -> Result<(), Error> {
         value.to_string(alloc)?.as_str(),
         r#"{"b":{"c":true},"d":[]}"#
     );
+    Ok(())
+}
+
+#[test]
+fn what_a_path_leads_to_is_set(rt: HostRuntime) -> Result<(), Error> {
+    let alloc = rt.alloc();
+    let mut value = Value::parse(alloc, r#"{"a":[1,{"b":2}],"m~n":[],"x/y":3}"#)?;
+    for (path, before) in [
+        ("/a/1/b", "2"),
+        ("/a/0", "1"),
+        ("/m~0n", "[]"),
+        ("/x~1y", "3"),
+    ] {
+        let had = value.set_at(path, Value::Null)?;
+        assert_eq!(rt; had.to_string(alloc)?.as_str(), before);
+    }
+    let wanted = r#"{"a":[null,{"b":null}],"m~n":null,"x/y":null}"#;
+    for path in ["/a/2", "/a/00", "/c", "a", "/m~n", "/a/1/b/0", "/x~0y"] {
+        assert_eq!(rt;
+            value.set_at(path, Value::Null).err(),
+            Some(Error::NotThere),
+            "{path}"
+        );
+    }
+    assert_eq!(rt; value.to_string(alloc)?.as_str(), wanted);
+    let whole = value.set_at("", Value::Bool(true))?;
+    assert_eq!(rt; whole.to_string(alloc)?.as_str(), wanted);
+    assert_eq!(rt; value, Value::Bool(true));
     Ok(())
 }

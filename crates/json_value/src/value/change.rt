@@ -1,0 +1,74 @@
+//! Changing what a path leads to.
+ghost use Rattle.std.specs.Prelude.{◌≡◌, ◌∷◌, Some, None, IfOk, IfErr, OnOk, IfSome, OnSome, IfNone};
+ghost use Rattle.std.specs.Option.{option_copied};
+ghost use Rattle.json_value.specs.Pointer.{descendant, place_of, put_at, put_steps, steps_of, value_at};
+
+use super::pointer::{index, stands_for};
+use super::{Error, Value};
+use halfbrown::HashMap;
+use std::mem;
+
+impl Value {
+    /// Gives what a path leads to a new value, and returns the value that it had.
+    pub fn set_at(&mut self, path: &str, value: Value) -> Result<Value, Error>
+        ensures before { IfOk result (λ before. value_at self.old path.now ≡ Some before) }
+        ensures after { OnOk result (self.new ≡ put_at self.old path.now value) }
+        ensures missing { IfErr result (λ error. (error ≡ Error.NotThere)
+            × (value_at self.old path.now ≡ None) × (self.new ≡ self.old)) }
+    {
+        if self.pointer(path).is_none() {
+            return Err(Error::NotThere);
+        }
+        self.set_steps(path.strip_prefix('/'), value)
+            .ok_or(Error::NotThere)
+    }
+
+    // Gives what these steps lead to a new value, and returns the value that it had.
+    fn set_steps(&mut self, steps: Option<&str>, value: Value) -> Option<Value>
+        ensures before { result ≡ descendant self.old (steps_of (option_copied steps.entry)) }
+        ensures after { OnSome result (self.new
+            ≡ put_steps self.old (steps_of (option_copied steps.entry)) value) }
+    {
+        let Some(steps) = steps else {
+            return Some(mem::replace(self, value));
+        };
+        let (step, rest) = first_step(steps);
+        match self {
+            Value::List(items) => items.get_mut(index(step)?)?.set_steps(rest, value),
+            Value::Object(members) => {
+                let place = place(members, step)?;
+                members.get_index_mut(place)?.set_steps(rest, value)
+            }
+            _ => None,
+        }
+    }
+}
+
+// The first of these steps, and the others behind the next slash.
+fn first_step(steps: &str) -> (&str, Option<&str>)
+    ensures { steps_of (Some steps.now)
+        ≡ result.0.now ∷ steps_of (option_copied result.1) }
+{
+    match steps.split_once('/') {
+        Some((step, rest)) => (step, Some(rest)),
+        None => (steps, None),
+    }
+}
+
+// The index of the member of the name that a step stands for.
+fn place(members: &HashMap<String, Value>, step: &str) -> Option<usize>
+    ensures { result ≡ place_of members.now.pairs step.now }
+{
+    if !step.contains('~') {
+        return members.get_index_of(step);
+    }
+    let len = members.len();
+    let mut index = 0;
+    for (name, _) in members {
+        if stands_for(step.as_bytes(), name.as_bytes()) {
+            return Some(index);
+        }
+        index += 1;
+    }
+    None
+}
