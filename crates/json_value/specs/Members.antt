@@ -4,8 +4,12 @@ use Rattle.std.specs.Map.{lookup}
 use Rattle.std.specs.Str.{bytes_eq}
 use Rattle.std.specs.String.{string_bytes, string_eq}
 use Rattle.std.specs.declared.alloc.Global.{Global}
+use Rattle.std.specs.declared.hash.BuildHasherDefault.{BuildHasherDefault}
+use Rattle.std.specs.declared.hash.FoldHasher.{FoldHasher}
 use Rattle.std.specs.declared.string.String.{String}
+use Rattle.std.specs.declared.vec.Vec.{Vec}
 use Rattle.halfbrown.specs.FromIter.{put_all}
+use Rattle.halfbrown.specs.State.{State}
 use Rattle.json_value.specs.declared.value.error.Error.{Error}
 use Rattle.json_value.specs.declared.value.Value.{Value}
 use Rattle.json_value.specs.declared.value.Value.TheOpen.{Value-F}
@@ -48,3 +52,27 @@ IsRefusedMerge Error.NotThere old other new = ⊥
 IsRefusedMerge Error.NoObject old other new = (is_object old && is_object other ≡ false) × (new ≡ old)
 IsRefusedMerge Error.Memory old other new =
     (is_object old && is_object other ≡ true) × PutsFirst (members_of old) (members_of other) (members_of new)
+
+-- the map of an object
+abbrev pub map_in : Value-F Value → Option (State (String Global) Value (BuildHasherDefault FoldHasher))
+map_in Value-F.Null = None
+map_in (Value-F.Bool b) = None
+map_in (Value-F.Number s) = None
+map_in (Value-F.Text s) = None
+map_in (Value-F.List vs) = None
+map_in (Value-F.Object m) = Some m
+
+abbrev pub as_object : Value → Option (State (String Global) Value (BuildHasherDefault FoldHasher))
+as_object v = map_in (out-Value v)
+
+-- the items of a list
+abbrev pub list_in : Value-F Value → Option (Vec Value Global)
+list_in Value-F.Null = None
+list_in (Value-F.Bool b) = None
+list_in (Value-F.Number s) = None
+list_in (Value-F.Text s) = None
+list_in (Value-F.List vs) = Some vs
+list_in (Value-F.Object m) = None
+
+abbrev pub as_list : Value → Option (Vec Value Global)
+as_list v = list_in (out-Value v)

@@ -1,7 +1,8 @@
 //! JSON values whose objects are maps: looked into, changed, merged, and compared in any order of members.
 ghost use Rattle.std.specs.Prelude.{◌≡◌, true, IfOk, IfErr, IfNone, OnOk, OnErr};
 ghost use Rattle.std.specs.Map.{remove_entry};
-ghost use Rattle.std.specs.Option.{option_copied};
+ghost use Rattle.std.specs.Borrow.{LendsIf, sem};
+ghost use Rattle.std.specs.Option.{option_copied, option_copied_mut};
 ghost use Rattle.std.specs.String.{string_eq};
 ghost use Rattle.halfbrown.specs.FromIter.{put_all};
 ghost use Rattle.halfbrown.specs.Pairs.{put, value_of};
@@ -38,7 +39,10 @@ pub enum Value {
 }
 
 impl Value {
-    ghost use Rattle.json_value.specs.Members.{is_object, member, members_of, is_named, IsRefusedMerge};
+    ghost use Rattle.json_value.specs.Members.{is_object, member, members_of, is_named, IsRefusedMerge, as_object, as_list};
+    ghost use Rattle.json_value.specs.Rows.{list_row, object_row};
+    ghost use Rattle.json_value.specs.contracts.value.Value.{the_row};
+    ghost use Rattle.json_value.specs.declared.value.Value.{List, Object};
 
     /// The member of this name.
     pub fn get(&self, name: &str) -> Option<&Value>
@@ -46,6 +50,28 @@ impl Value {
     {
         match self {
             Value::Object(members) => members.get(name),
+            _ => None,
+        }
+    }
+
+    /// The members of an object, to be changed.
+    pub fn as_object_mut(&mut self) -> Option<&mut HashMap<String, Value>>
+        ensures* writes_back { sem 𝓛 (LendsIf the_row object_row self.entry result Object self.old) }
+        ensures value { option_copied_mut result ≡ as_object self.old }
+    {
+        match self {
+            Value::Object(members) => Some(members),
+            _ => None,
+        }
+    }
+
+    /// The items of a list, to be changed.
+    pub fn as_list_mut(&mut self) -> Option<&mut Vec<Value>>
+        ensures* writes_back { sem 𝓛 (LendsIf the_row list_row self.entry result List self.old) }
+        ensures value { option_copied_mut result ≡ as_list self.old }
+    {
+        match self {
+            Value::List(items) => Some(items),
             _ => None,
         }
     }

@@ -13,6 +13,7 @@ impl Value {
     pub fn set_at(&mut self, path: &str, value: Value) -> Result<Value, Error>
         ensures before { IfOk result (λ before. value_at self.old path.now ≡ Some before) }
         ensures after { OnOk result (self.new ≡ put_at self.old path.now value) }
+        ensures there { OnOk result (value_at self.new path.now ≡ Some value) }
         ensures missing { IfErr result (λ error. (error ≡ Error.NotThere)
             × (value_at self.old path.now ≡ None) × (self.new ≡ self.old)) }
     {

@@ -109,7 +109,7 @@ fn members_are_compared_in_any_order(rt: HostRuntime) -> Result<(), Error> {
 fn members_are_changed_and_merged(rt: HostRuntime) -> Result<(), Error> {
     let alloc = rt.alloc();
     let mut value = Value::parse(alloc, r#"{"a": 1, "b": {"c": 2}}"#)?;
-    if let Value::Object(members) = &mut value
+    if let Some(members) = value.as_object_mut()
         && let Some(b) = members.get_mut("b")
     {
         let before = b.set(String::from_str(alloc, "c")?, Value::Bool(true))?;
