@@ -1,21 +1,20 @@
--- What a step leads to once another value is put there.
-use Rattle.std.proofs.Common.{◌≡◌, ◌==◌, Bool, true, false, cond, ℕ, zero, suc, List, [], ◌∷◌, Option, None, Some, option_and_then, slice_get, slice_set, Vec, Global, refl, sym, ap, ◌∙◌, arith, rules}
+-- What steps lead to once another value is put somewhere.
+use Rattle.std.proofs.Common.{◌≡◌, ◌≢◌, inl, inr, ◌==◌, Bool, true, false, cond, ℕ, zero, suc, List, [], ◌∷◌, Option, None, Some, option_and_then, slice_get}
+use Rattle.std.proofs.Common.{slice_set, refl, sym, ap, ◌∙◌, arith, rules}
 use Rattle.std.proofs.lemmas.Grind.{common_steps}
 use Rattle.std.proofs.lemmas.Option.{gets}
 use Rattle.std.specs.List.{slice_split}
 use Rattle.std.specs.Map.{keys_of, values_of}
 use Rattle.std.specs.Option.{option_map_or}
-use Rattle.std.specs.Vec.{with_item}
+use Rattle.std.specs.declared.alloc.Global.{Global}
+use Rattle.std.specs.declared.string.String.{String}
 use Rattle.halfbrown.specs.Pairs.{index_of as first_index, set_value}
-use Rattle.halfbrown.specs.State.{with_pairs}
-use Rattle.json_value.proofs.Changing.{child-Object, put_child-List, put_child-Object}
-use Rattle.json_value.proofs.Pointer.{child-List}
-use Rattle.json_value.proofs.Writing.{Members}
 use Rattle.json_value.specs.Members.{is_named}
-use Rattle.json_value.specs.Pointer.{child, child_in, descendant, index_of, name_of, place_of, put_at, put_child, put_steps, value_at}
+use Rattle.json_value.specs.Pointer.{child, children, descendant, member_place, name_of, place, put_at, put_child, put_steps}
+use Rattle.json_value.specs.Pointer.{Part, PathsPart, value_at, with_child}
 use Rattle.json_value.specs.declared.value.Value.{Value, the_lemmas}
 use Rattle.json_value.specs.declared.value.Value.TheOpen.{Value-F}
-use Rattle.json_value.specs.declared.value.Value.TheViews.{out-Value, List as list_of, Object as object_of}
+use Rattle.json_value.specs.declared.value.Value.TheViews.{out-Value}
 
 none≢some : {X : Type 0} (x : X) → None ≡ Some x → ⊥
 none≢some x e = cc
@@ -34,40 +33,57 @@ module _ {K V : Type 0} where
   values_set (p ∷ ps) zero w = refl
   values_set (p ∷ ps) (suc i) w = ap (λ vs. p.1 ∷ vs) (values_set ps i w)
 
-nothing : (v : Value) (step : List ℕ) (x : Value) (o : Value-F Value) → out-Value v ≡ o → child_in v o step ≡ None → child v step ≡ Some x → ⊥
-nothing v step x o is none some = none≢some x (sym none ∙ ap (λ f. child_in v f step) (sym is) ∙ some)
+get-other : {X : Type 0} (xs : List X) (i j : ℕ) (y : X) → j ≢ i → slice_get (slice_set xs i y) j ≡ slice_get xs j
+get-other xs i j y apart = grind (arith, common_steps, gets)
 
-module _ (step : List ℕ) (x y : Value) where
-  put-List : (vs : Vec Value Global) (o : Option ℕ) → index_of step ≡ o → option_and_then (slice_get vs.items) o ≡ Some x
-      → child (put_child (list_of vs) step y) step ≡ Some y
-  put-List vs None at some = absurd (none≢some x some)
-  put-List vs (Some i) at some =
-      ap (λ v. child v step) (put_child-List vs step i y at) ∙ child-List (with_item vs i y) step
-      ∙ ap (option_and_then (slice_get (slice_set vs.items i y))) at ∙ get-set vs.items i x y some
+place_kept : (ps : List (String Global × Value)) (i : ℕ) (y : Value) (step : List ℕ) → member_place (set_value ps i y) step ≡ member_place ps step
+place_kept ps i y step = ap (λ ks. option_and_then (λ name. first_index (is_named name) ks) (name_of step)) (keys_set ps i y)
 
-  put-Object : (m : Members) (o : Option ℕ) → place_of m.pairs step ≡ o → option_and_then (slice_get (values_of m.pairs)) o ≡ Some x
-      → child (put_child (object_of m) step y) step ≡ Some y
-  put-Object m None at some = absurd (none≢some x some)
-  put-Object m (Some i) at some =
-      let put = set_value m.pairs i y in
-      let same : place_of put step ≡ Some i = ap (λ ks. option_and_then (λ name. first_index (is_named name) ks) (name_of step)) (keys_set m.pairs i y) ∙ at in
-      ap (λ v. child v step) (put_child-Object m step i y at) ∙ child-Object (with_pairs m put) step
-      ∙ ap (option_and_then (slice_get (values_of put))) same ∙ ap (λ vs. slice_get vs i) (values_set m.pairs i y)
-      ∙ get-set (values_of m.pairs) i x y some
+module _ (v : Value) (i : ℕ) (y : Value) where
+  children_by : (o : Value-F Value) → out-Value v ≡ o → children (with_child v i y) ≡ slice_set (children v) i y
+  children_by Value-F.Null is = search (rules, the_lemmas)
+  children_by (Value-F.Bool b) is = search (rules, the_lemmas)
+  children_by (Value-F.Number s) is = search (rules, the_lemmas)
+  children_by (Value-F.Text s) is = search (rules, the_lemmas)
+  children_by (Value-F.List vs) is = search (rules, the_lemmas)
+  children_by (Value-F.Object m) is = search (rules, the_lemmas, values_set)
 
-  put_by : (v : Value) (o : Value-F Value) → out-Value v ≡ o → child v step ≡ Some x → child (put_child v step y) step ≡ Some y
-  put_by v Value-F.Null is some = absurd (nothing v step x _ is refl some)
-  put_by v (Value-F.Bool b) is some = absurd (nothing v step x _ is refl some)
-  put_by v (Value-F.Number s) is some = absurd (nothing v step x _ is refl some)
-  put_by v (Value-F.Text s) is some = absurd (nothing v step x _ is refl some)
-  put_by v (Value-F.List vs) is some =
-      let list : v ≡ list_of vs = search (rules, the_lemmas) in
-      ap (λ w. child (put_child w step y) step) list
-      ∙ put-List vs (index_of step) refl (sym (child-List vs step) ∙ ap (λ w. child w step) (sym list) ∙ some)
-  put_by v (Value-F.Object m) is some =
-      let object : v ≡ object_of m = search (rules, the_lemmas) in
-      ap (λ w. child (put_child w step y) step) object
-      ∙ put-Object m (place_of m.pairs step) refl (sym (child-Object m step) ∙ ap (λ w. child w step) (sym object) ∙ some)
+  place_by : (step : List ℕ) (o : Value-F Value) → out-Value v ≡ o → place (with_child v i y) step ≡ place v step
+  place_by step Value-F.Null is = search (rules, the_lemmas)
+  place_by step (Value-F.Bool b) is = search (rules, the_lemmas)
+  place_by step (Value-F.Number s) is = search (rules, the_lemmas)
+  place_by step (Value-F.Text s) is = search (rules, the_lemmas)
+  place_by step (Value-F.List vs) is = search (rules, the_lemmas)
+  place_by step (Value-F.Object m) is = search (rules, the_lemmas, place_kept)
+
+  child_put : (step : List ℕ) → child (with_child v i y) step ≡ option_and_then (slice_get (slice_set (children v) i y)) (place v step)
+  child_put step =
+      ap (λ vs. option_and_then (slice_get vs) (place (with_child v i y) step)) (children_by (out-Value v) refl)
+      ∙ ap (option_and_then (slice_get (slice_set (children v) i y))) (place_by step (out-Value v) refl)
+
+module _ (v : Value) (step : List ℕ) (y : Value) where
+  same_by : (x : Value) (other : List ℕ) (o : Option ℕ) → place v step ≡ o → place v other ≡ o
+      → option_and_then (slice_get (children v)) o ≡ Some x
+      → child (option_map_or (λ i. with_child v i y) o v) other ≡ Some y
+  same_by x other None at too some = absurd (none≢some x some)
+  same_by x other (Some i) at too some =
+      child_put v i y other ∙ ap (option_and_then (slice_get (slice_set (children v) i y))) too ∙ get-set (children v) i x y some
+
+  -- where the step and another lead to the same place, both lead to what was put
+  put_same : (x : Value) (other : List ℕ) → place v step ≡ place v other → child v step ≡ Some x → child (put_child v step y) other ≡ Some y
+  put_same x other same = same_by x other (place v step) refl (sym same)
+
+  other_by : (other : List ℕ) (o p : Option ℕ) → o ≢ p → place v other ≡ p
+      → child (option_map_or (λ i. with_child v i y) o v) other ≡ option_and_then (slice_get (children v)) p
+  other_by other None p apart at = ap (option_and_then (slice_get (children v))) at
+  other_by other (Some i) None apart at = child_put v i y other ∙ ap (option_and_then (slice_get (slice_set (children v) i y))) at
+  other_by other (Some i) (Some j) apart at =
+      child_put v i y other ∙ ap (option_and_then (slice_get (slice_set (children v) i y))) at
+      ∙ get-other (children v) i j y (λ e. apart (ap Some (sym e)))
+
+  -- a step to another place leads where it led
+  put_other : (other : List ℕ) → place v step ≢ place v other → child (put_child v step y) other ≡ child v other
+  put_other other apart = other_by other (place v step) (place v other) apart refl
 
 put_behind : (v : Value) (step : List ℕ) (steps : List (List ℕ)) (b w : Value)
     → ((x : Value) → descendant x steps ≡ Some b → descendant (put_steps x steps w) steps ≡ Some w) → (o : Option Value) → child v step ≡ o
@@ -75,7 +91,7 @@ put_behind : (v : Value) (step : List ℕ) (steps : List (List ℕ)) (b w : Valu
     → descendant (option_map_or (λ x. put_child v step (put_steps x steps w)) o v) (step ∷ steps) ≡ Some w
 put_behind v step steps b w more None is there = absurd (none≢some b there)
 put_behind v step steps b w more (Some x) is there =
-    ap (option_and_then (λ z. descendant z steps)) (put_by step x (put_steps x steps w) v (out-Value v) refl is) ∙ more x there
+    ap (option_and_then (λ z. descendant z steps)) (put_same v step (put_steps x steps w) x step refl is) ∙ more x there
 
 -- what is put is there
 put_there : (v : Value) (steps : List (List ℕ)) (b w : Value) → descendant v steps ≡ Some b
@@ -92,3 +108,31 @@ behind_slash v path b w false there = absurd (none≢some b there)
 pub put_at_there : (v : Value) (path : List ℕ) (b w : Value) → value_at v path ≡ Some b → value_at (put_at v path w) path ≡ Some w
 put_at_there v [] b w there = refl
 put_at_there v (c ∷ path) b w there = behind_slash v path b w (c == 47) there
+
+first_apart : (v : Value) (step : List ℕ) (steps : List (List ℕ)) (other : List ℕ) (others : List (List ℕ)) (w : Value)
+    → place v step ≢ place v other → (o : Option Value) → child v step ≡ o
+    → descendant (option_map_or (λ z. put_child v step (put_steps z steps w)) o v) (other ∷ others) ≡ descendant v (other ∷ others)
+first_apart v step steps other others w apart None is = refl
+first_apart v step steps other others w apart (Some x) is =
+    ap (option_and_then (λ z. descendant z others)) (put_other v step (put_steps x steps w) other apart)
+
+-- other steps lead where they led
+put_steps_other : (v : Value) (steps others : List (List ℕ)) (w : Value) → Part v steps others
+    → descendant (put_steps v steps w) others ≡ descendant v others
+put_steps_other v [] others w part = absurd part
+put_steps_other v (step ∷ steps) [] w part = absurd part
+put_steps_other v (step ∷ steps) (other ∷ others) w (inl apart) = first_apart v step steps other others w apart (child v step) refl
+put_steps_other v (step ∷ steps) (other ∷ others) w (inr same) =
+    let x = same.1 in
+    let y = put_steps x steps w in
+    ap (λ o. descendant (option_map_or (λ z. put_child v step (put_steps z steps w)) o v) (other ∷ others)) same.2
+    ∙ ap (option_and_then (λ z. descendant z others)) (put_same v step y x other same.0 same.2)
+    ∙ put_steps_other x steps others w same.3
+    ∙ ap (option_and_then (λ z. descendant z others)) (sym (ap (option_and_then (slice_get (children v))) (sym same.0) ∙ same.2))
+
+-- what is put at a path leaves what other paths lead to
+pub put_at_other : (v : Value) (path other : List ℕ) (w : Value) → PathsPart v path other → value_at (put_at v path w) other ≡ value_at v other
+put_at_other v [] other w part = absurd part
+put_at_other v (c ∷ path) [] w part = absurd part
+put_at_other v (c ∷ path) (d ∷ other) w part =
+    rw (part.0, part.1) (put_steps_other v (slice_split (λ b. b == 47) path) (slice_split (λ b. b == 47) other) w part.2)

@@ -4,8 +4,11 @@ use Rattle.std.proofs.lemmas.Bool.Decides.{nat_tests}
 use Rattle.std.proofs.lemmas.Str.Parse.{IsNumeralModel, numerals_by_value, tells_all_ascii_digits, parse_plain}
 use Rattle.std.proofs.lemmas.List.{get_or_default}
 use Rattle.std.proofs.lemmas.List.Splits.{slice_split_at, slice_split_none}
+use Rattle.std.proofs.lemmas.Option.{slice_get-map}
 use Rattle.std.specs.Borrow.{Bor}
 use Rattle.std.specs.List.{All, slice_split}
+use Rattle.std.specs.Map.{values_of}
+use Rattle.std.specs.Map.Iter.{deref_pair}
 use Rattle.std.specs.Iterator.{AlwaysYields}
 use Rattle.std.specs.Result.{result_ok}
 use Rattle.std.specs.Str.{all_ascii_digits}
@@ -13,9 +16,11 @@ use Rattle.std.specs.Str.Iter.{split_steps}
 use Rattle.std.specs.Str.Parse.{digits_value, ParsesUnsigned}
 use Rattle.std.specs.Str.Pattern.{FindsChar}
 use Rattle.std.specs.declared.str.Split.{Split}
-use Rattle.json_value.specs.Pointer.{name_of, name_after_tilde, index_of, child, descendant, value_at}
+use Rattle.std.specs.declared.string.String.{String}
+use Rattle.json_value.proofs.Writing.{Members}
+use Rattle.json_value.specs.Pointer.{name_of, name_after_tilde, index_of, child, children, descendant, place, value_at}
 use Rattle.json_value.specs.declared.value.Value.{Value, the_lemmas}
-use Rattle.json_value.specs.declared.value.Value.TheViews.{List as list_of}
+use Rattle.json_value.specs.declared.value.Value.TheViews.{List as list_of, Object as object_of}
 
 -- ---- names
 
@@ -70,9 +75,21 @@ module _ {E : Type 0} where
 
 -- ---- steps
 
-pub child-List : (vs : Vec Value Global) (step : List ℕ)
-    → child (list_of vs) step ≡ option_and_then (slice_get vs.items) (index_of step)
-child-List vs step = search (rules, the_lemmas)
+pub children-List : (vs : Vec Value Global) → children (list_of vs) ≡ vs.items
+children-List vs = search (rules, the_lemmas)
+
+-- a step that leads to a place leads to the value there
+pub child-at : (v : Value) (step : List ℕ) (i : ℕ) (vs : List Value) → place v step ≡ Some i → children v ≡ vs
+    → child v step ≡ slice_get vs i
+child-at v step i vs at is = ap (option_and_then (slice_get (children v))) at ∙ ap (λ l. slice_get l i) is
+
+-- the value of the member at the place
+pub child-member : (v : Value) (m : Members) (step : List ℕ) (i : ℕ) (o : Option (Bor (String Global) × Bor Value)) → v ≡ object_of m
+    → place v step ≡ Some i → option_map deref_pair o ≡ slice_get m.pairs i → child v step ≡ option_map (λ p. p.1) (option_map deref_pair o)
+child-member v m step i o is at found =
+    let values : children (object_of m) ≡ values_of m.pairs = search (rules, the_lemmas) in
+    child-at v step i (values_of m.pairs) at (ap children is ∙ values) ∙ slice_get-map (λ p. p.1) m.pairs i
+    ∙ ap (option_map (λ p. p.1)) (sym found)
 
 -- no path begins with anything but a slash
 pub value_at-no_slash : (v : Value) (path : List ℕ) → 0 < length path → ((rest : List ℕ) → path ≢ 47 ∷ rest) → value_at v path ≡ None

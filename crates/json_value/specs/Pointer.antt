@@ -1,16 +1,16 @@
 -- Where a path leads: JSON Pointer (RFC 6901). The byte 126 is `~`, 47 is `/`, 48 is `0` and 49 is `1`.
-use Rattle.std.specs.Prelude.{◌==◌, ◌&&◌, ◌||◌, ◌^◌, ℕ, not, List, [], ◌∷◌, length, Option, None, Some, option_map, option_and_then, nat_lt, slice_get, if◌then◌else◌}
+use Rattle.std.specs.Prelude.{◌≡◌, ◌≢◌, ◌⊎◌, ◌==◌, ◌&&◌, ◌||◌, ◌^◌, ℕ, not, List, [], ◌∷◌, length, Option, None, Some, option_map, option_and_then, nat_lt, slice_get, if◌then◌else◌}
 use Rattle.std.specs.List.{slice_split}
 use Rattle.std.specs.Str.{all_ascii_digits}
 use Rattle.std.specs.Str.Parse.{digits_value}
-use Rattle.std.specs.Map.{keys_of}
+use Rattle.std.specs.Map.{keys_of, values_of}
 use Rattle.std.specs.Option.{option_map_or}
 use Rattle.std.specs.Vec.{with_item}
 use Rattle.std.specs.declared.alloc.Global.{Global}
 use Rattle.std.specs.declared.string.String.{String}
 use Rattle.halfbrown.specs.Pairs.{index_of as first_index, set_value}
 use Rattle.halfbrown.specs.State.{with_pairs}
-use Rattle.json_value.specs.Members.{is_named, member}
+use Rattle.json_value.specs.Members.{is_named}
 use Rattle.json_value.specs.declared.value.Value.{Value}
 use Rattle.json_value.specs.declared.value.Value.TheOpen.{Value-F}
 use Rattle.json_value.specs.declared.value.Value.TheViews.{out-Value, List as list_of, Object as object_of}
@@ -35,17 +35,37 @@ index_of (c ∷ step) =
     if (not (c == 48) || length step == 0) && all_ascii_digits (c ∷ step) && nat_lt (digits_value 10 (c ∷ step)) (2 ^ 64)
     then Some (digits_value 10 (c ∷ step)) else None
 
-abbrev pub child_in : Value → Value-F Value → List ℕ → Option Value
-child_in v Value-F.Null step = None
-child_in v (Value-F.Bool b) step = None
-child_in v (Value-F.Number s) step = None
-child_in v (Value-F.Text s) step = None
-child_in v (Value-F.List vs) step = option_and_then (slice_get vs.items) (index_of step)
-child_in v (Value-F.Object m) step = option_and_then (member v) (name_of step)
+abbrev pub children_in : Value-F Value → List Value
+children_in Value-F.Null = []
+children_in (Value-F.Bool b) = []
+children_in (Value-F.Number s) = []
+children_in (Value-F.Text s) = []
+children_in (Value-F.List vs) = vs.items
+children_in (Value-F.Object m) = values_of m.pairs
 
--- where one step leads: in a list to the item at its index, in an object to the member of its name
+-- the items of a list, or the values of the members of an object, in order
+abbrev pub children : Value → List Value
+children v = children_in (out-Value v)
+
+-- the index of the member that a step names
+abbrev pub member_place : List (String Global × Value) → List ℕ → Option ℕ
+member_place members step = option_and_then (λ name. first_index (is_named name) (keys_of members)) (name_of step)
+
+abbrev pub place_in : Value-F Value → List ℕ → Option ℕ
+place_in Value-F.Null step = None
+place_in (Value-F.Bool b) step = None
+place_in (Value-F.Number s) step = None
+place_in (Value-F.Text s) step = None
+place_in (Value-F.List vs) step = index_of step
+place_in (Value-F.Object m) step = member_place m.pairs step
+
+-- where among them one step leads: in a list to the index that it writes, in an object to the member of its name
+abbrev pub place : Value → List ℕ → Option ℕ
+place v step = place_in (out-Value v) step
+
+-- what one step leads to
 abbrev pub child : Value → List ℕ → Option Value
-child v step = child_in v (out-Value v) step
+child v step = option_and_then (slice_get (children v)) (place v step)
 
 -- where steps lead, one after the other
 abbrev pub descendant : Value → List (List ℕ) → Option Value
@@ -59,21 +79,21 @@ value_at v (c ∷ path) = if c == 47 then descendant v (slice_split (λ b. b == 
 
 -- ---- changing what a path leads to
 
--- the index of the member that a step names
-abbrev pub place_of : List (String Global × Value) → List ℕ → Option ℕ
-place_of members step = option_and_then (λ name. first_index (is_named name) (keys_of members)) (name_of step)
+abbrev pub with_child_in : Value → Value-F Value → ℕ → Value → Value
+with_child_in v Value-F.Null i w = v
+with_child_in v (Value-F.Bool b) i w = v
+with_child_in v (Value-F.Number s) i w = v
+with_child_in v (Value-F.Text s) i w = v
+with_child_in v (Value-F.List vs) i w = list_of (with_item vs i w)
+with_child_in v (Value-F.Object m) i w = object_of (with_pairs m (set_value m.pairs i w))
 
-abbrev pub put_child_in : Value → Value-F Value → List ℕ → Value → Value
-put_child_in v Value-F.Null step w = v
-put_child_in v (Value-F.Bool b) step w = v
-put_child_in v (Value-F.Number s) step w = v
-put_child_in v (Value-F.Text s) step w = v
-put_child_in v (Value-F.List vs) step w = option_map_or (λ i. list_of (with_item vs i w)) (index_of step) v
-put_child_in v (Value-F.Object m) step w = option_map_or (λ i. object_of (with_pairs m (set_value m.pairs i w))) (place_of m.pairs step) v
+-- the value with w as its item, or as the value of its member, at this index
+abbrev pub with_child : Value → ℕ → Value → Value
+with_child v i w = with_child_in v (out-Value v) i w
 
--- the value whose item or member that a step leads to is w, and all else the same
+-- the value in which w is what a step leads to
 abbrev pub put_child : Value → List ℕ → Value → Value
-put_child v step w = put_child_in v (out-Value v) step w
+put_child v step w = option_map_or (λ i. with_child v i w) (place v step) v
 
 -- the value in which w is what the steps lead to
 abbrev pub put_steps : Value → List (List ℕ) → Value → Value
@@ -89,3 +109,18 @@ steps_of (Some path) = slice_split (λ b. b == 47) path
 abbrev pub put_at : Value → List ℕ → Value → Value
 put_at v [] w = w
 put_at v (c ∷ path) w = if c == 47 then put_steps v (slice_split (λ b. b == 47) path) w else v
+
+-- whether at some step these steps and others part, and go on in different items or members
+abbrev pub Part : Value → List (List ℕ) → List (List ℕ) → Type 0
+Part v [] others = ⊥
+Part v (step ∷ steps) [] = ⊥
+Part v (step ∷ steps) (other ∷ others) =
+    (place v step ≢ place v other)
+    ⊎ ((place v step ≡ place v other) × (x : Value) × (child v step ≡ Some x) × Part x steps others)
+
+-- the same of two paths
+abbrev pub PathsPart : Value → List ℕ → List ℕ → Type 0
+PathsPart v [] other = ⊥
+PathsPart v (c ∷ path) [] = ⊥
+PathsPart v (c ∷ path) (d ∷ other) =
+    (c ≡ 47) × (d ≡ 47) × Part v (slice_split (λ b. b == 47) path) (slice_split (λ b. b == 47) other)

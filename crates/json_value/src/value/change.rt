@@ -1,11 +1,9 @@
 //! Changing what a path leads to.
-ghost use Rattle.std.specs.Prelude.{◌≡◌, ◌∷◌, Some, None, IfOk, IfErr, OnOk, IfSome, OnSome, IfNone};
+ghost use Rattle.std.specs.Prelude.{◌≡◌, ◌∷◌, ℕ, List, Some, None, IfOk, IfErr, OnOk, IfSome, OnSome, IfNone};
 ghost use Rattle.std.specs.Option.{option_copied};
-ghost use Rattle.json_value.specs.Pointer.{descendant, place_of, put_at, put_steps, steps_of, value_at};
+ghost use Rattle.json_value.specs.Pointer.{descendant, put_at, put_steps, steps_of, value_at, PathsPart};
 
-use super::pointer::{index, stands_for};
 use super::{Error, Value};
-use halfbrown::HashMap;
 use std::mem;
 
 impl Value {
@@ -14,6 +12,8 @@ impl Value {
         ensures before { IfOk result (λ before. value_at self.old path.now ≡ Some before) }
         ensures after { OnOk result (self.new ≡ put_at self.old path.now value) }
         ensures there { OnOk result (value_at self.new path.now ≡ Some value) }
+        ensures others { OnOk result ((other : List ℕ) → PathsPart self.old path.now other
+            → value_at self.new other ≡ value_at self.old other) }
         ensures missing { IfErr result (λ error. (error ≡ Error.NotThere)
             × (value_at self.old path.now ≡ None) × (self.new ≡ self.old)) }
     {
@@ -34,12 +34,10 @@ impl Value {
             return Some(mem::replace(self, value));
         };
         let (step, rest) = first_step(steps);
+        let place = self.place(step)?;
         match self {
-            Value::List(items) => items.get_mut(index(step)?)?.set_steps(rest, value),
-            Value::Object(members) => {
-                let place = place(members, step)?;
-                members.get_index_mut(place)?.set_steps(rest, value)
-            }
+            Value::List(items) => items.get_mut(place)?.set_steps(rest, value),
+            Value::Object(members) => members.get_index_mut(place)?.set_steps(rest, value),
             _ => None,
         }
     }
@@ -54,22 +52,4 @@ fn first_step(steps: &str) -> (&str, Option<&str>)
         Some((step, rest)) => (step, Some(rest)),
         None => (steps, None),
     }
-}
-
-// The index of the member of the name that a step stands for.
-fn place(members: &HashMap<String, Value>, step: &str) -> Option<usize>
-    ensures { result ≡ place_of members.now.pairs step.now }
-{
-    if !step.contains('~') {
-        return members.get_index_of(step);
-    }
-    let len = members.len();
-    let mut index = 0;
-    for (name, _) in members {
-        if stands_for(step.as_bytes(), name.as_bytes()) {
-            return Some(index);
-        }
-        index += 1;
-    }
-    None
 }

@@ -4,7 +4,7 @@ ghost use Rattle.std.specs.Map.{lookup};
 ghost use Rattle.std.specs.Option.{option_copied};
 ghost use Rattle.std.specs.Str.{bytes_eq};
 ghost use Rattle.std.specs.String.{string_bytes};
-ghost use Rattle.json_value.specs.Pointer.{name_of, index_of, child as child_at, value_at};
+ghost use Rattle.json_value.specs.Pointer.{name_of, index_of, child as child_at, member_place as place_in_members, place as place_of, value_at};
 
 use super::Value;
 use halfbrown::HashMap;
@@ -32,20 +32,35 @@ impl Value {
         Some(value)
     }
 
-    // Where one step leads.
+    // What one step leads to.
     fn child(&self, step: &str) -> Option<&Value>
         ensures { option_copied result ≡ child_at self.now step.now }
     {
+        let place = self.place(step)?;
         match self {
-            Value::List(items) => items.get(index(step)?),
-            Value::Object(members) => member(members, step),
+            Value::List(items) => items.get(place),
+            Value::Object(members) => {
+                let (_, value) = members.get_index(place)?;
+                Some(value)
+            }
+            _ => None,
+        }
+    }
+
+    // Where one step leads, among the items of a list or the members of an object.
+    pub(super) fn place(&self, step: &str) -> Option<usize>
+        ensures { result ≡ place_of self.now step.now }
+    {
+        match self {
+            Value::List(_) => index(step),
+            Value::Object(members) => member_place(members, step),
             _ => None,
         }
     }
 }
 
 // The index that a step writes.
-pub(super) fn index(step: &str) -> Option<usize>
+fn index(step: &str) -> Option<usize>
     ensures { result ≡ index_of step.now }
 {
     if step.starts_with('+') || (step.starts_with('0') && step.len() > 1) {
@@ -54,24 +69,26 @@ pub(super) fn index(step: &str) -> Option<usize>
     step.parse().ok()
 }
 
-// The member of the name that a step stands for.
-fn member<'a>(members: &'a HashMap<String, Value>, step: &str) -> Option<&'a Value>
-    ensures { option_copied result ≡ option_and_then
-        (λ name. lookup (λ k. bytes_eq name (string_bytes k)) members.now.pairs) (name_of step.now) }
+// The index of the member of the name that a step stands for.
+fn member_place(members: &HashMap<String, Value>, step: &str) -> Option<usize>
+    ensures { result ≡ place_in_members members.now.pairs step.now }
 {
     if !step.contains('~') {
-        return members.get(step);
+        return members.get_index_of(step);
     }
-    for (name, value) in members {
+    let len = members.len();
+    let mut index = 0;
+    for (name, _) in members {
         if stands_for(step.as_bytes(), name.as_bytes()) {
-            return Some(value);
+            return Some(index);
         }
+        index += 1;
     }
     None
 }
 
 // Whether a step stands for this name.
-pub(super) fn stands_for(step: &[u8], name: &[u8]) -> bool
+fn stands_for(step: &[u8], name: &[u8]) -> bool
     ensures { IsTrue result ↔ (name_of step.now ≡ Some name.now) }
 {
     let mut rest = step;
