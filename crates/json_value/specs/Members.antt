@@ -1,5 +1,5 @@
 -- What contracts see of a value: the members that it has.
-use Rattle.std.specs.Prelude.{◌≡◌, ◌&&◌, ℕ, Bool, true, false, List, [], ◌∷◌, ◌++◌, Option, None, Some, is_some, unwrap_or}
+use Rattle.std.specs.Prelude.{◌≡◌, ◌&&◌, ℕ, Bool, true, false, List, [], ◌∷◌, ◌++◌, Option, None, Some}
 use Rattle.std.specs.Map.{lookup}
 use Rattle.std.specs.Str.{bytes_eq}
 use Rattle.std.specs.String.{string_bytes, string_eq}
@@ -15,21 +15,37 @@ use Rattle.json_value.specs.declared.value.Value.{Value}
 use Rattle.json_value.specs.declared.value.Value.TheOpen.{Value-F}
 use Rattle.json_value.specs.declared.value.Value.TheViews.{out-Value}
 
-abbrev pub object_in : Value-F Value → Option (List (String Global × Value))
-object_in Value-F.Null = None
-object_in (Value-F.Bool b) = None
-object_in (Value-F.Number s) = None
-object_in (Value-F.Text s) = None
-object_in (Value-F.List vs) = None
-object_in (Value-F.Object m) = Some m.pairs
+-- the map of names and values that an object is
+abbrev pub Map : Type 0
+Map = State (String Global) Value (BuildHasherDefault FoldHasher)
+
+module _ {X : Type 0} (list : Vec Value Global → X) (object : Map → X) (other : X) where
+  abbrev pub by_kind_in : Value-F Value → X
+  by_kind_in Value-F.Null = other
+  by_kind_in (Value-F.Bool b) = other
+  by_kind_in (Value-F.Number s) = other
+  by_kind_in (Value-F.Text s) = other
+  by_kind_in (Value-F.List vs) = list vs
+  by_kind_in (Value-F.Object m) = object m
+
+  -- one thing for a list, another for an object, and a third for any other value
+  abbrev pub by_kind : Value → X
+  by_kind v = by_kind_in (out-Value v)
+
+-- the map of an object, and the items of a list
+abbrev pub as_object : Value → Option Map
+as_object = by_kind (λ vs. None) Some None
+
+abbrev pub as_list : Value → Option (Vec Value Global)
+as_list = by_kind Some (λ m. None) None
 
 -- whether it is an object
 abbrev pub is_object : Value → Bool
-is_object v = is_some (object_in (out-Value v))
+is_object = by_kind (λ vs. false) (λ m. true) false
 
 -- the members in order, of which only an object has any
 abbrev pub members_of : Value → List (String Global × Value)
-members_of v = unwrap_or (object_in (out-Value v)) []
+members_of = by_kind (λ vs. []) (λ m. m.pairs) []
 
 -- whether a name is this one
 abbrev pub is_named : List ℕ → String Global → Bool
@@ -52,27 +68,3 @@ IsRefusedMerge Error.NotThere old other new = ⊥
 IsRefusedMerge Error.NoObject old other new = (is_object old && is_object other ≡ false) × (new ≡ old)
 IsRefusedMerge Error.Memory old other new =
     (is_object old && is_object other ≡ true) × PutsFirst (members_of old) (members_of other) (members_of new)
-
--- the map of an object
-abbrev pub map_in : Value-F Value → Option (State (String Global) Value (BuildHasherDefault FoldHasher))
-map_in Value-F.Null = None
-map_in (Value-F.Bool b) = None
-map_in (Value-F.Number s) = None
-map_in (Value-F.Text s) = None
-map_in (Value-F.List vs) = None
-map_in (Value-F.Object m) = Some m
-
-abbrev pub as_object : Value → Option (State (String Global) Value (BuildHasherDefault FoldHasher))
-as_object v = map_in (out-Value v)
-
--- the items of a list
-abbrev pub list_in : Value-F Value → Option (Vec Value Global)
-list_in Value-F.Null = None
-list_in (Value-F.Bool b) = None
-list_in (Value-F.Number s) = None
-list_in (Value-F.Text s) = None
-list_in (Value-F.List vs) = Some vs
-list_in (Value-F.Object m) = None
-
-abbrev pub as_list : Value → Option (Vec Value Global)
-as_list v = list_in (out-Value v)

@@ -10,10 +10,9 @@ use Rattle.std.specs.declared.alloc.Global.{Global}
 use Rattle.std.specs.declared.string.String.{String}
 use Rattle.halfbrown.specs.Pairs.{index_of as first_index, set_value}
 use Rattle.halfbrown.specs.State.{with_pairs}
-use Rattle.json_value.specs.Members.{is_named}
+use Rattle.json_value.specs.Members.{by_kind, is_named}
 use Rattle.json_value.specs.declared.value.Value.{Value}
-use Rattle.json_value.specs.declared.value.Value.TheOpen.{Value-F}
-use Rattle.json_value.specs.declared.value.Value.TheViews.{out-Value, List as list_of, Object as object_of}
+use Rattle.json_value.specs.declared.value.Value.TheViews.{List as list_of, Object as object_of}
 
 abbrev mutual
   -- the name that a step stands for, in which `~1` is `/` and `~0` is `~`: a step with another `~` stands for none
@@ -35,33 +34,17 @@ index_of (c ∷ step) =
     if (not (c == 48) || length step == 0) && all_ascii_digits (c ∷ step) && nat_lt (digits_value 10 (c ∷ step)) (2 ^ 64)
     then Some (digits_value 10 (c ∷ step)) else None
 
-abbrev pub children_in : Value-F Value → List Value
-children_in Value-F.Null = []
-children_in (Value-F.Bool b) = []
-children_in (Value-F.Number s) = []
-children_in (Value-F.Text s) = []
-children_in (Value-F.List vs) = vs.items
-children_in (Value-F.Object m) = values_of m.pairs
-
 -- the items of a list, or the values of the members of an object, in order
 abbrev pub children : Value → List Value
-children v = children_in (out-Value v)
+children = by_kind (λ vs. vs.items) (λ m. values_of m.pairs) []
 
 -- the index of the member that a step names
 abbrev pub member_place : List (String Global × Value) → List ℕ → Option ℕ
 member_place members step = option_and_then (λ name. first_index (is_named name) (keys_of members)) (name_of step)
 
-abbrev pub place_in : Value-F Value → List ℕ → Option ℕ
-place_in Value-F.Null step = None
-place_in (Value-F.Bool b) step = None
-place_in (Value-F.Number s) step = None
-place_in (Value-F.Text s) step = None
-place_in (Value-F.List vs) step = index_of step
-place_in (Value-F.Object m) step = member_place m.pairs step
-
 -- where among them one step leads: in a list to the index that it writes, in an object to the member of its name
 abbrev pub place : Value → List ℕ → Option ℕ
-place v step = place_in (out-Value v) step
+place v step = by_kind (λ vs. index_of step) (λ m. member_place m.pairs step) None v
 
 -- what one step leads to
 abbrev pub child : Value → List ℕ → Option Value
@@ -79,17 +62,9 @@ value_at v (c ∷ path) = if c == 47 then descendant v (slice_split (λ b. b == 
 
 -- ---- changing what a path leads to
 
-abbrev pub with_child_in : Value → Value-F Value → ℕ → Value → Value
-with_child_in v Value-F.Null i w = v
-with_child_in v (Value-F.Bool b) i w = v
-with_child_in v (Value-F.Number s) i w = v
-with_child_in v (Value-F.Text s) i w = v
-with_child_in v (Value-F.List vs) i w = list_of (with_item vs i w)
-with_child_in v (Value-F.Object m) i w = object_of (with_pairs m (set_value m.pairs i w))
-
 -- the value with w as its item, or as the value of its member, at this index
 abbrev pub with_child : Value → ℕ → Value → Value
-with_child v i w = with_child_in v (out-Value v) i w
+with_child v i w = by_kind (λ vs. list_of (with_item vs i w)) (λ m. object_of (with_pairs m (set_value m.pairs i w))) v v
 
 -- the value in which w is what a step leads to
 abbrev pub put_child : Value → List ℕ → Value → Value
