@@ -40,26 +40,16 @@ place_kept : (ps : List (String Global × Value)) (i : ℕ) (y : Value) (step : 
 place_kept ps i y step = ap (λ ks. option_and_then (λ name. first_index (is_named name) ks) (name_of step)) (keys_set ps i y)
 
 module _ (v : Value) (i : ℕ) (y : Value) where
-  children_by : (o : Value-F Value) → out-Value v ≡ o → children (with_child v i y) ≡ slice_set (children v) i y
-  children_by Value-F.Null is = search (rules, the_lemmas)
-  children_by (Value-F.Bool b) is = search (rules, the_lemmas)
-  children_by (Value-F.Number s) is = search (rules, the_lemmas)
-  children_by (Value-F.Text s) is = search (rules, the_lemmas)
-  children_by (Value-F.List vs) is = search (rules, the_lemmas)
-  children_by (Value-F.Object m) is = search (rules, the_lemmas, values_set)
+  children_put : children (with_child v i y) ≡ slice_set (children v) i y
+  children_put = grind (arith, the_lemmas, values_set)
 
-  place_by : (step : List ℕ) (o : Value-F Value) → out-Value v ≡ o → place (with_child v i y) step ≡ place v step
-  place_by step Value-F.Null is = search (rules, the_lemmas)
-  place_by step (Value-F.Bool b) is = search (rules, the_lemmas)
-  place_by step (Value-F.Number s) is = search (rules, the_lemmas)
-  place_by step (Value-F.Text s) is = search (rules, the_lemmas)
-  place_by step (Value-F.List vs) is = search (rules, the_lemmas)
-  place_by step (Value-F.Object m) is = search (rules, the_lemmas, place_kept)
+  place_put : (step : List ℕ) → place (with_child v i y) step ≡ place v step
+  place_put step = grind (arith, the_lemmas, place_kept)
 
   child_put : (step : List ℕ) → child (with_child v i y) step ≡ option_and_then (slice_get (slice_set (children v) i y)) (place v step)
   child_put step =
-      ap (λ vs. option_and_then (slice_get vs) (place (with_child v i y) step)) (children_by (out-Value v) refl)
-      ∙ ap (option_and_then (slice_get (slice_set (children v) i y))) (place_by step (out-Value v) refl)
+      ap (λ vs. option_and_then (slice_get vs) (place (with_child v i y) step)) children_put
+      ∙ ap (option_and_then (slice_get (slice_set (children v) i y))) (place_put step)
 
 module _ (v : Value) (step : List ℕ) (y : Value) where
   same_by : (x : Value) (other : List ℕ) (o : Option ℕ) → place v step ≡ o → place v other ≡ o

@@ -19,12 +19,12 @@ mod write;
 pub use error::Error;
 use halfbrown::HashMap;
 
-/// A JSON value. Two are equal whatever the order of their members, and numbers only as they are written.
+/// A JSON value. Two are equal whatever the order of their members, and numbers only where they are written alike.
 ///
 /// ```
-/// let mut document = Value::parse(alloc, r#"{"a": [1, {"b": 2}], "a": [3]}"#)?;
-/// let three = document.pointer("/a/0"); // of members of one name the last value wins
-/// let text = document.to_string(alloc)?; // {"a":[3]}
+/// let paid = Value::parse(alloc, r#"{"paid": true, "id": 7}"#)?;
+/// let same = Value::parse(alloc, r#"{"id": 7, "paid": true}"#)?;
+/// assert!(rt; paid == same);
 /// ```
 #[derive(Debug, Drop, PartialEq)]
 pub enum Value {
@@ -39,12 +39,17 @@ pub enum Value {
 }
 
 impl Value {
-    ghost use Rattle.json_value.specs.Members.{is_object, member, members_of, is_named, IsRefusedMerge, as_object, as_list};
+    ghost use Rattle.json_value.specs.Members.{as_list, as_object, is_named, is_object, member, members_of, IsRefusedMerge};
     ghost use Rattle.json_value.specs.Rows.{list_row, object_row};
     ghost use Rattle.json_value.specs.contracts.value.Value.{the_row};
     ghost use Rattle.json_value.specs.declared.value.Value.{List, Object};
 
-    /// The member of this name.
+    /// The value of the member of this name, or none where there is none, or where this is no object. It costs one look-up.
+    ///
+    /// ```
+    /// assert_eq!(rt; order.get("paid"), Some(&Value::Bool(true)));
+    /// assert_eq!(rt; order.get("price"), None);
+    /// ```
     pub fn get(&self, name: &str) -> Option<&Value>
         ensures { option_copied result ≡ member self.now name.now }
     {
@@ -54,7 +59,15 @@ impl Value {
         }
     }
 
-    /// The members of an object, to be changed.
+    /// The members of an object, to be changed, or none where this is no object.
+    ///
+    /// ```
+    /// if let Some(members) = order.as_object_mut()
+    ///     && let Some(id) = members.get_mut("id")
+    /// {
+    ///     *id = Value::Null;
+    /// }
+    /// ```
     pub fn as_object_mut(&mut self) -> Option<&mut HashMap<String, Value>>
         ensures* writes_back { sem 𝓛 (LendsIf the_row object_row self.entry result Object self.old) }
         ensures value { option_copied_mut result ≡ as_object self.old }
@@ -65,7 +78,14 @@ impl Value {
         }
     }
 
-    /// The items of a list, to be changed.
+    /// The items of a list, to be changed, or none where this is no list.
+    ///
+    /// ```
+    /// let mut colours = Value::parse(alloc, r#"["red", "blue"]"#)?;
+    /// if let Some(items) = colours.as_list_mut() {
+    ///     items.reverse();
+    /// }
+    /// ```
     pub fn as_list_mut(&mut self) -> Option<&mut Vec<Value>>
         ensures* writes_back { sem 𝓛 (LendsIf the_row list_row self.entry result List self.old) }
         ensures value { option_copied_mut result ≡ as_list self.old }
@@ -76,8 +96,14 @@ impl Value {
         }
     }
 
-    /// Gives a member of an object its value, and returns the value that it had. A new member comes last. On error nothing
-    /// changes.
+    /// Gives the member of this name a value, and returns the value that it had. A new member comes last. It fails with
+    /// `NoObject` where this is no object, and with `Memory` where there is none for a new member. On error nothing
+    /// changes. It costs one look-up, and now and then the growth of the map.
+    ///
+    /// ```
+    /// let before = order.set(String::from_str(alloc, "paid")?, Value::Bool(false))?;
+    /// assert_eq!(rt; before, Some(Value::Bool(true)));
+    /// ```
     pub fn set(&mut self, name: String, value: Value) -> Result<Option<Value>, Error>
         ensures before { IfOk result (λ before. before ≡ value_of string_eq (members_of self.old) name) }
         ensures after { OnOk result (members_of self.new ≡ put string_eq (members_of self.old) name value) }
@@ -91,8 +117,13 @@ impl Value {
         }
     }
 
-    /// Takes the member of this name out, and returns its value. The other members keep their order. Where there is none,
-    /// nothing changes.
+    /// Takes the member of this name out, and returns its value. The others keep their order. Where there is none, nothing
+    /// changes. It costs one look-up, and then time that grows with the number of members.
+    ///
+    /// ```
+    /// assert_eq!(rt; order.remove("paid"), Some(Value::Bool(true)));
+    /// assert_eq!(rt; order.remove("paid"), None);
+    /// ```
     pub fn remove(&mut self, name: &str) -> Option<Value>
         ensures value { result ≡ member self.old name.now }
         ensures after { members_of self.new ≡ remove_entry (is_named name.now) (members_of self.old) }
@@ -105,8 +136,15 @@ impl Value {
         }
     }
 
-    /// Puts the members of another object into this one. Of a name in both the other's value wins, at the place of this
-    /// one's. On `NoObject` nothing changes. On `Memory` the first members of the other are put, up to the refused one.
+    /// Puts the members of another object into this one, in order. Of a name in both the other's value wins, at the place of
+    /// this one's. It fails with `NoObject` where one of the two is no object, and then nothing changes. It fails with
+    /// `Memory` at a member for which there is none, and those before it are put. It costs one look-up for each member of
+    /// the other, and the growth of the map.
+    ///
+    /// ```
+    /// order.merge(Value::parse(alloc, r#"{"paid": false, "note": "late"}"#)?)?;
+    /// assert_eq!(rt; order.get("paid"), Some(&Value::Bool(false)));
+    /// ```
     pub fn merge(&mut self, other: Value) -> Result<(), Error>
         ensures after { OnOk result (members_of self.new ≡ put_all string_eq (members_of self.old) (members_of other)) }
         ensures kind { is_object self.new ≡ is_object self.old }

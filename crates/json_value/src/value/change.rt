@@ -7,7 +7,15 @@ use super::{Error, Value};
 use std::mem;
 
 impl Value {
-    /// Gives what a path leads to a new value, and returns the value that it had.
+    /// Gives the member or the item that a path leads to a new value, and returns the value that it had. All else stays. It
+    /// fails with `NotThere` where the path leads to nothing, and then nothing changes: no member and no item is added. It
+    /// follows the path twice.
+    ///
+    /// ```
+    /// let before = order.set_at("/items/0/name", Value::Null)?;
+    /// let failure = order.set_at("/items/1/name", Value::Null).err();
+    /// assert_eq!(rt; failure, Some(Error::NotThere));
+    /// ```
     pub fn set_at(&mut self, path: &str, value: Value) -> Result<Value, Error>
         ensures before { IfOk result (λ before. value_at self.old path.now ≡ Some before) }
         ensures after { OnOk result (self.new ≡ put_at self.old path.now value) }

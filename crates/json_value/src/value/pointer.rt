@@ -10,9 +10,8 @@ use super::Value;
 use halfbrown::HashMap;
 
 impl Value {
-    /// The value that a path leads to, by JSON Pointer (RFC 6901): `/a/0` is the first item of member `a`, and an empty
-    /// path is the whole value. In a name `~1` stands for `/` and `~0` for `~`, and any other `~` leads to nothing. It
-    /// allocates nothing. A name with an escape is compared with those of all members, and any other is looked up.
+    /// The value that a path leads to, or none where it leads to none: where a step names no member or no item, where the path
+    /// is not empty and begins with no slash, and where a `~` in it is no escape. It costs one look-up for each step.
     ///
     /// ```
     /// let document = Value::parse(alloc, r#"{"a/b": [1], "m~n": 8}"#)?;

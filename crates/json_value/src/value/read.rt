@@ -10,10 +10,12 @@ use json::Scratch;
 use std::alloc::Global;
 
 impl Value {
-    /// Reads a text. Of members of one name the last value wins, at the place of the first.
+    /// Reads a text. Of members of one name the last value wins, at the place of the first. It fails with `Invalid` where the
+    /// text is no JSON or nests more than 128 deep, and with `Memory`. It costs time and memory that grow with the text.
     ///
     /// ```
-    /// let list = Value::parse(alloc, "[1, 2]")?;
+    /// let document = Value::parse(alloc, r#"{"a": [1, 2], "b": null, "a": [3]}"#)?;
+    /// let text = document.to_string(alloc)?; // {"a":[3],"b":null}
     /// ```
     pub fn parse(alloc: Global, text: &str) -> Result<Value, Error>
         ensures json { IfOk result (λ value. (j : Json) × (document text.now ≡ Some j) × (json_of value ≡ merged j)) }

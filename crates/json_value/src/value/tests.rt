@@ -1,6 +1,34 @@
-//! Values, in use: what no clause says.
+//! Values, in use: callers that are proved, and what no clause says.
+ghost use Rattle.std.specs.Prelude.{◌≡◌, ℕ, List, Some, OnOk, OnErr, OnSome, true};
+ghost use Rattle.halfbrown.specs.Pairs.{set_by};
+ghost use Rattle.json_value.specs.Members.{is_named, member, members_of};
+ghost use Rattle.json_value.specs.Pointer.{value_at, PathsPart};
+ghost use Rattle.json_value.specs.declared.value.Value.{Bool};
+
 use super::{Error, Value};
 use std::alloc::Global;
+use std::mem;
+
+// Gives a member that is there a new value, through the map.
+fn replace_member(document: &mut Value, name: &str, value: Value) -> Option<Value>
+    ensures before { result ≡ member document.old name.now }
+    ensures after { OnSome result (members_of document.new
+        ≡ set_by (is_named name.now) (members_of document.old) value) }
+{
+    let member = document.as_object_mut()?.get_mut(name)?;
+    Some(mem::replace(member, value))
+}
+
+// Marks what a path leads to. All else stays.
+fn mark(document: &mut Value, path: &str) -> Result<(), Error>
+    ensures there { OnOk result (value_at document.new path.now ≡ Some (Bool true)) }
+    ensures kept { OnOk result ((other : List ℕ) → PathsPart document.old path.now other
+        → value_at document.new other ≡ value_at document.old other) }
+    ensures refused { OnErr result (document.new ≡ document.old) }
+{
+    document.set_at(path, Value::Bool(true))?;
+    Ok(())
+}
 
 // The text of the value that a path leads to.
 fn text_at(alloc: Global, text: &str, path: &str) -> Result<Option<String>, Error> {
@@ -109,12 +137,10 @@ fn members_are_compared_in_any_order(rt: HostRuntime) -> Result<(), Error> {
 fn members_are_changed_and_merged(rt: HostRuntime) -> Result<(), Error> {
     let alloc = rt.alloc();
     let mut value = Value::parse(alloc, r#"{"a": 1, "b": {"c": 2}}"#)?;
-    if let Some(members) = value.as_object_mut()
-        && let Some(b) = members.get_mut("b")
-    {
-        let before = b.set(String::from_str(alloc, "c")?, Value::Bool(true))?;
-        assert_eq!(rt; before, Some(Value::parse(alloc, "2")?));
-    }
+    mark(&mut value, "/b/c")?;
+    assert_eq!(rt; replace_member(&mut value, "c", Value::Null), None);
+    let before = replace_member(&mut value, "a", Value::Bool(false));
+    assert_eq!(rt; before, Some(Value::parse(alloc, "1")?));
     value.merge(Value::parse(alloc, r#"{"d": [], "a": null}"#)?)?;
     let text = value.to_string(alloc)?;
     assert_eq!(rt; text.as_str(), r#"{"a":null,"b":{"c":true},"d":[]}"#);
