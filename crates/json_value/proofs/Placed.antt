@@ -1,6 +1,6 @@
 -- What steps lead to once another value is put somewhere.
 use Rattle.std.proofs.Common.{◌≡◌, ◌≢◌, inl, inr, ◌==◌, Bool, true, false, cond, ℕ, zero, suc, List, [], ◌∷◌, Option, None, Some, option_and_then, slice_get}
-use Rattle.std.proofs.Common.{slice_set, refl, sym, ap, ◌∙◌, arith, rules}
+use Rattle.std.proofs.Common.{slice_set, refl, sym, ap, ◌∙◌, arith}
 use Rattle.std.proofs.lemmas.Grind.{common_steps}
 use Rattle.std.proofs.lemmas.Option.{gets}
 use Rattle.std.specs.List.{slice_split}
@@ -13,8 +13,6 @@ use Rattle.json_value.specs.Members.{is_named}
 use Rattle.json_value.specs.Pointer.{child, children, descendant, member_place, name_of, place, put_at, put_child, put_steps}
 use Rattle.json_value.specs.Pointer.{Part, PathsPart, value_at, with_child}
 use Rattle.json_value.specs.declared.value.Value.{Value, the_lemmas}
-use Rattle.json_value.specs.declared.value.Value.TheOpen.{Value-F}
-use Rattle.json_value.specs.declared.value.Value.TheViews.{out-Value}
 
 none≢some : {X : Type 0} (x : X) → None ≡ Some x → ⊥
 none≢some x e = cc
