@@ -31,7 +31,7 @@ SPAN = re.compile(r"`([^`]+)`")
 LINK = re.compile(r"\[[^\]]*\]\(((?!\w+://)[^)\s]+)\)")
 PATH = re.compile(r"[\w.-]+/[\w./-]*|[\w-]+\.(?:antt|c|edits|md|py|rt|sh|svg|txt)")
 IMPORT = re.compile(r"^ *(?:ghost )?use (Rattle[\w.]*)\.\{(.*)\};?\n", re.M)
-CALLERS = ("half_tests/src/*callers.rt", "half_uses/s*/*.*", "json_at/src/*.rt", "half_tests/proofs/*/*/*.antt")
+CALLERS = ("half_tests/src/*callers.rt", "half_uses/s*/*.*", "json_value/src/*.rt", "half_tests/proofs/*/*/*.antt")
 USES = "use halfbrown::{run::run, *}; use std::hash::{BuildHasher, RandomState}; use std::test::Fail;"
 
 

@@ -60,7 +60,7 @@ unproved_parts() {
     part "documents" env JSON_AT="$(built json_at)" tests/documents.py
     part "tests of half_tests" try_tests half_tests
     part "tests of halfmap" try_tests halfmap
-    part "tests of json_at" try_tests json_at
+    part "tests of json_value" try_tests json_value
     part "must not compile" tests/must_not_compile.py
     part "sources" tests/sources.py
     part "documentation" env HALFMAP="$(built halfmap || echo none)" tests/documentation.py

@@ -1,5 +1,5 @@
 //! Why nothing is printed.
-use crate::value::Error;
+use json_value::Error;
 use std::{fmt, io};
 
 /// Why no value was printed.

@@ -4,10 +4,9 @@
 #![tactic(auto)]
 
 mod failure;
-mod value;
 
 use crate::failure::Failure;
-use crate::value::Value;
+use json_value::Value;
 use std::alloc::Global;
 use std::io::Read;
 use std::process::ExitCode;

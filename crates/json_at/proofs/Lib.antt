@@ -1,3 +1,0 @@
-pub mod Pointer
-pub mod Reading
-pub mod Writing

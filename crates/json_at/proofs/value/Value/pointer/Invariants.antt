@@ -1,8 +1,0 @@
-use Rattle.std.proofs.Common.{◌≡◌, ℕ, List}
-use Rattle.json_at.proofs.Pointer.{StepsLeft}
-use Rattle.json_at.proofs.value.Value.pointer.Given as goal
-use Rattle.json_at.specs.Pointer.{descendant, value_at}
-
-abbrev pub invariant-loop-step : goal.invariant-loop-step
-invariant-loop-step l =
-    (steps : List (List ℕ)) × StepsLeft l.step-iterator steps × (value_at l.fn.self l.fn.path ≡ descendant l.value steps)

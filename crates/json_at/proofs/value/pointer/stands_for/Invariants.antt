@@ -1,6 +1,0 @@
-use Rattle.std.proofs.Common.{◌≡◌, ◌↔◌, Some, drop}
-use Rattle.json_at.specs.Pointer.{name_of}
-use Rattle.json_at.proofs.value.pointer.stands_for.Given as goal
-
-abbrev pub invariant-loop-byte : goal.invariant-loop-byte
-invariant-loop-byte l = (name_of l.step ≡ Some l.name) ↔ (name_of l.rest ≡ Some (drop l.byte-index l.name))

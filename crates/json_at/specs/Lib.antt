@@ -1,4 +1,0 @@
-pub mod Error
-pub mod Json
-pub mod Members
-pub mod Pointer

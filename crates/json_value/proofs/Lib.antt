@@ -1,0 +1,6 @@
+pub mod Changing
+pub mod Merging
+pub mod Placed
+pub mod Pointer
+pub mod Reading
+pub mod Writing

@@ -1,0 +1,135 @@
+use Rattle.std.proofs.Common.{◌≡◌, ◌+◌, ◌≤◌, [], ◌∷◌, ◌++◌, map, take, append-nil, sym, ap, subst, ◌∙◌, arith, rules}
+use Rattle.std.proofs.lemmas.List.{append_assoc, flat_map_more, map-append, take_all, take_more}
+use Rattle.std.specs.List.{flat_map}
+use Rattle.std.specs.Map.Iter.{deref_pair}
+use Rattle.std.specs.String.{string_bytes}
+use Rattle.halfbrown.specs.Iter.{pairs_left}
+use Rattle.json.specs.Token as token
+use Rattle.json.specs.Tree.{items_depth, members_depth, ItemsHaveNumbers, MembersHaveNumbers}
+use Rattle.json.specs.Value.{items_of}
+use Rattle.json_value.proofs.Reading.{seen}
+use Rattle.json_value.proofs.Writing.{member_tokens, shown, value_tokens, items_nest, members_nest, list_tokens, list_nests, object_tokens}
+use Rattle.json_value.proofs.Writing.{object_nests, list_writable, item_writable, object_writable, member_writable}
+use Rattle.json_value.proofs.value.Value.+write.Goals as goal
+use Rattle.json_value.specs.Json.{json_of, members_of}
+
+pub loop-item-preserved : goal.loop-item-preserved
+loop-item-preserved t c =
+    let l = c.loop-item in
+    let xs = c.deref-item-items.result.now in
+    let x = c.item-item.result in
+    let start = c.begin_array.new.self.tokens in
+    let inner = c.in_ok-inner-in-List.inner in
+    let more : take (l.item-index + 1) xs ≡ take l.item-index xs ++ x ∷ [] =
+    take_more xs l.item-index x (omega arith) ∙ ap (λ y. take l.item-index xs ++ y ∷ []) (sym c.item-item.is) in
+    let done = c.in_ok-write-in-List.ensures in (
+      done.tokens ∙ ap (λ ts. ts ++ value_tokens x) l.invariant.0 ∙ flat_map_more value_tokens start (take l.item-index xs) x
+          ∙ ap (λ ys. start ++ flat_map value_tokens ys) (sym more),
+      done.before ∙ l.invariant.1,
+      subst (λ ys. items_depth (items_of (map json_of ys)) ≤ inner) (sym more)
+          (items_nest inner (take l.item-index xs) x l.invariant.2 done.nests),
+    )
+
+pub returns-in_ok-end_array-in-List-clause-tokens : goal.returns-in_ok-end_array-in-List-clause-tokens
+returns-in_ok-end_array-in-List-clause-tokens t c =
+    let l = c.loop-item in
+    let start = c.begin_array.new.self.tokens in
+    let vs = c.in-List.items in
+    let xs = c.deref-item-items.result.now in
+    let all : take l.item-index xs ≡ vs.items = take_all l.item-index xs (omega arith) ∙ c.deref-item-items.ensures.value in
+    let begun : start ≡ c.args.writer.now.tokens ++ token.begin_array ∷ [] = search rules in
+    let ended : c.end_array.new.self.tokens ≡ l.writer.tokens ++ token.end_array ∷ [] = search rules in
+    list_tokens _ _ _ _ vs begun (l.invariant.0 ∙ ap (λ ys. start ++ flat_map value_tokens ys) all) ended
+    ∙ ap (λ v. c.args.writer.now.tokens ++ value_tokens v) (sym c.in-List.is)
+
+pub returns-in_ok-end_array-in-List-clause-nests : goal.returns-in_ok-end_array-in-List-clause-nests
+returns-in_ok-end_array-in-List-clause-nests t c =
+    let l = c.loop-item in
+    let vs = c.in-List.items in
+    let inner = c.in_ok-inner-in-List.inner in
+    let xs = c.deref-item-items.result.now in
+    let all : take l.item-index xs ≡ vs.items = take_all l.item-index xs (omega arith) ∙ c.deref-item-items.ensures.value in
+    let nested = subst (λ ys. items_depth (items_of (map json_of ys)) ≤ inner) all l.invariant.2 in
+    let deep = list_nests inner c.args.depth vs nested (search rules) in
+    search rules
+
+pub loop-name-preserved : goal.loop-name-preserved
+loop-name-preserved t c =
+    let l = c.loop-name in
+    let name = c.in-Some.name.now in
+    let v = c.in-Some.member.now in
+    let start = c.begin_object.new.self.tokens in
+    let inner = c.in_ok-inner-in-Object.inner in
+    let named : c.key.new.self.tokens ≡ l.writer.tokens ++ token.key (string_bytes name) ∷ [] = search rules in
+    let kept : c.key.new.self.before ≡ l.writer.before = search rules in
+    let more = map-append deref_pair l.yielded ((c.in-Some.name, c.in-Some.member) ∷ []) in
+    let done = c.in_ok-write-in-Object.ensures in (
+      tt,
+      tt,
+      done.tokens ∙ ap (λ ts. ts ++ value_tokens v) named
+          ∙ append_assoc l.writer.tokens (token.key (string_bytes name) ∷ []) (value_tokens v)
+          ∙ ap (λ ts. ts ++ member_tokens (name, v)) l.invariant.2 ∙ flat_map_more member_tokens start (shown l.yielded) (name, v)
+          ∙ ap (λ ms. start ++ flat_map member_tokens ms) (sym more),
+      done.before ∙ kept ∙ l.invariant.3,
+      subst (λ ms. members_depth (members_of (seen ms)) ≤ inner) (sym more)
+          (members_nest inner (shown l.yielded) (name, v) l.invariant.4 done.nests),
+      ap (λ ms. ms ++ pairs_left c.next.new.self) more ∙ append_assoc (shown l.yielded) ((name, v) ∷ []) (pairs_left c.next.new.self)
+          ∙ ap (λ ms. shown l.yielded ++ ms) (sym c.in-Some.ensures.steps) ∙ l.invariant.5,
+    )
+
+pub returns-in_ok-end_object-in-Object-clause-tokens : goal.returns-in_ok-end_object-in-Object-clause-tokens
+returns-in_ok-end_object-in-Object-clause-tokens t c =
+    let l = c.loop-name in
+    let start = c.begin_object.new.self.tokens in
+    let m = c.in-Object.members in
+    let given : pairs_left c.into_iter-name-iterator.result ≡ m.pairs = search rules in
+    let all : shown l.yielded ≡ m.pairs =
+    sym (append-nil (shown l.yielded)) ∙ ap (λ ms. shown l.yielded ++ ms) (sym c.in-None.ensures.steps.0) ∙ l.invariant.5 ∙ given in
+    let begun : start ≡ c.args.writer.now.tokens ++ token.begin_object ∷ [] = search rules in
+    let ended : c.end_object.new.self.tokens ≡ l.writer.tokens ++ token.end_object ∷ [] = search rules in
+    object_tokens m _ _ _ _ begun (l.invariant.2 ∙ ap (λ ms. start ++ flat_map member_tokens ms) all) ended
+    ∙ ap (λ v. c.args.writer.now.tokens ++ value_tokens v) (sym c.in-Object.is)
+
+pub returns-in_ok-end_object-in-Object-clause-nests : goal.returns-in_ok-end_object-in-Object-clause-nests
+returns-in_ok-end_object-in-Object-clause-nests t c =
+    let l = c.loop-name in
+    let m = c.in-Object.members in
+    let inner = c.in_ok-inner-in-Object.inner in
+    let given : pairs_left c.into_iter-name-iterator.result ≡ m.pairs = search rules in
+    let all : shown l.yielded ≡ m.pairs =
+    sym (append-nil (shown l.yielded)) ∙ ap (λ ms. shown l.yielded ++ ms) (sym c.in-None.ensures.steps.0) ∙ l.invariant.5 ∙ given in
+    let nested = subst (λ ms. members_depth (members_of (seen ms)) ≤ inner) all l.invariant.4 in
+    let deep = object_nests m inner c.args.depth nested (search rules) in
+    search rules
+
+pub returns-in_err-write-in-List-clause-refused : goal.returns-in_err-write-in-List-clause-refused
+returns-in_err-write-in-List-clause-refused t c numbers deep =
+    let xs = c.deref-item-items.result.now in
+    let same = sym c.deref-item-items.ensures.value in
+    let inner = c.in_ok-inner-in-List.inner in
+    let step : c.args.depth ≡ inner + 1 = search rules in
+    let whole = list_writable c.in-List.items c.args.self.now c.args.depth c.in-List.is numbers deep in
+    let numbered = subst (λ ys. ItemsHaveNumbers (items_of (map json_of ys))) same whole.0 in
+    let room = subst (λ ys. items_depth (items_of (map json_of ys)) ≤ inner) same (omega (arith, whole.1, step)) in
+    let its = item_writable xs c.loop-item.item-index c.item-item.result inner (omega arith) c.item-item.is numbered room in
+    let failed = c.in_err-write-in-List.ensures.refused its.0 its.1 in
+    search rules
+
+pub returns-in_err-write-in-Object-clause-refused : goal.returns-in_err-write-in-Object-clause-refused
+returns-in_err-write-in-Object-clause-refused t c numbers deep =
+    let l = c.loop-name in
+    let m = c.in-Object.members in
+    let name = c.in-Some.name.now in
+    let v = c.in-Some.member.now in
+    let left = pairs_left c.next.new.self in
+    let inner = c.in_ok-inner-in-Object.inner in
+    let step : c.args.depth ≡ inner + 1 = search rules in
+    let given : pairs_left c.into_iter-name-iterator.result ≡ m.pairs = search rules in
+    let all : shown l.yielded ++ (name, v) ∷ left ≡ m.pairs =
+    ap (λ ms. shown l.yielded ++ ms) (sym c.in-Some.ensures.steps) ∙ l.invariant.5 ∙ given in
+    let whole = object_writable m c.args.self.now c.args.depth c.in-Object.is numbers deep in
+    let numbered = subst (λ ms. MembersHaveNumbers (members_of (seen ms))) (sym all) whole.0 in
+    let room = subst (λ ms. members_depth (members_of (seen ms)) ≤ inner) (sym all) (omega (arith, whole.1, step)) in
+    let its = member_writable (shown l.yielded) left (name, v) inner numbered room in
+    let failed = c.in_err-write-in-Object.ensures.refused its.0 its.1 in
+    search rules
