@@ -1,10 +1,11 @@
 -- The values of a set after some are added, and when two sets are equal.
-use Rattle.std.proofs.Common.{◌≡◌, ◌↔◌, Bool, true, false, cond, List, [], ◌∷◌, ◌||◌, Option, None, Some, is_some, IsTrue, sym, refl, ap, subst, ◌∙◌, arith, suc, length, Bor}
+use Rattle.std.proofs.Common.{◌≡◌, ◌↔◌, ℕ, ◌+◌, Bool, true, false, cond, List, [], ◌∷◌, ◌||◌, Option, None, Some, is_some, IsTrue, sym, refl, ap, subst, ◌∙◌, arith, suc, length, Bor}
 use denote.Param.Always.{always_mut, mut_next}
 use Rattle.std.proofs.iter.runs.Sources.{from_front}
 use Rattle.std.proofs.lemmas.Grind.{common_steps}
 use Rattle.std.proofs.lemmas.List.Folds.{list_any-append}
 use Rattle.std.proofs.lemmas.List.Sums.{length-filter, count_by-le-length}
+use Rattle.std.proofs.lemmas.Map.Entries.{length-keys_of}
 use Rattle.std.proofs.lemmas.Map.Steps.{list_any_congr}
 use Rattle.std.specs.Cmp.{IsEquivalence}
 use Rattle.std.specs.Fn.{Mut, CalledAt}
@@ -18,6 +19,10 @@ use Rattle.std.specs.Set.{is_member, remove_key, IsUnion}
 use Rattle.halfbrown.specs.CallerLoops.{add_key, add_keys}
 use Rattle.halfbrown.specs.Equality.{same_value}
 use Rattle.halfbrown.specs.EqualityLaws.{same_pairs-Decides}
+use Rattle.halfbrown.specs.Growth.{IsRefusal, insert_needs}
+use Rattle.halfbrown.specs.Refusal.{refusal_of}
+use Rattle.halfbrown.specs.State.{State}
+use Rattle.halfbrown.specs.declared.Refusal.{Refusal}
 use Rattle.halfbrown.specs.Pairs.{value_of, holds_by}
 use Rattle.halfbrown.proofs.CallerFacts.{holds_by-any, keys_taken}
 use Rattle.halfbrown.specs.Updates.{HasRemovedBy}
@@ -103,4 +108,11 @@ module _ {S F T : Type 0} (g : Mut F (Bor T × Unit {0}) Bool) (part : S → F) 
 pub shows_in_order : {T : Type 0} → ShowsInOrder (deref {X = T})
 shows_in_order = from_front (TakesFirst deref) deref (λ s. s) (λ s t h. ap length h.0) (λ s x t h. h)
 
-pub ruleset set_facts = (union_added, others_removed, keys_removed, keys_taken, shows_in_order, length-filter, count_by-le-length)
+-- ---- refusals
+
+-- an insertion is refused for the reason that one pair more than there are would be
+pub refusal_is : {K V S : Type 0} (limit : ℕ) (eq : K → K → Bool) (m : State K V S) (k : K) (why : Refusal)
+    → IsRefusal (insert_needs limit eq m k) why → why ≡ refusal_of (length (keys_of m.pairs) + 1)
+refusal_is limit eq m k why is = grind (arith, common_steps, length-keys_of m.pairs)
+
+pub ruleset set_facts = (refusal_is, union_added, others_removed, keys_removed, keys_taken, shows_in_order, length-filter, count_by-le-length)

@@ -1,7 +1,7 @@
 //! The set, over a map whose values are nothing.
 #![tactic(auto, using(halfbrown::proofs::CallerFacts::map_facts, crate::proofs::Sets::set_facts))]
 
-ghost use Rattle.std.specs.Prelude.{◌≡◌, ◌↔◌, ◌^◌, ◌<◌, List, [], ◌∷◌, ◌++◌, true, not, filter, length, All, IsTrue, IfOk, OnOk, OnErr};
+ghost use Rattle.std.specs.Prelude.{◌≡◌, ◌↔◌, ◌+◌, ◌^◌, ◌<◌, List, [], ◌∷◌, ◌++◌, true, not, filter, length, All, IsTrue, IfOk, IfErr, OnOk, OnErr};
 ghost use Rattle.std.specs.Cmp.{partial_equiv_from_equiv};
 ghost use Rattle.std.specs.Fn.{CalledAt};
 ghost use Rattle.std.specs.Iterator.{IsFinite};
@@ -14,6 +14,7 @@ ghost use Rattle.std.specs.Set.{is_member, remove_key, IsUnion};
 ghost use Rattle.halfbrown.specs.CallerLoops.{add_key, add_keys, first_of_each};
 ghost use Rattle.halfbrown.specs.FromIter.{Gives};
 ghost use Rattle.halfbrown.specs.Iter.{column_left, ShowsColumnInOrder};
+ghost use Rattle.halfbrown.specs.Refusal.{refusal_of};
 ghost use Rattle.half_set.specs.Sets.{same_values, same_values_equiv, take_out_value, RemovesValue};
 
 use crate::{IntoIter, Selected, Union};
@@ -141,6 +142,7 @@ impl<T: Eq + Hash + Drop> HashSet<T> {
         ensures is_new { IfOk result (λ is_new. is_new ≡ not (is_member T.eq self.old value)) }
         ensures after { OnOk result (self.new ≡ add_key T.eq self.old value) }
         ensures err { OnErr result (self.new ≡ self.old) }
+        ensures why { IfErr result (λ why. why ≡ refusal_of (length self.old + 1)) }
     {
         Ok(self.map.insert(value, ())?.is_none())
     }
@@ -152,9 +154,9 @@ impl<T: Eq + Hash + Drop> HashSet<T> {
         ensures extended { OnOk result ((it : I.IntoIter) × I.into_iter_gives items it
             × WholeRun I.IntoIter.next_gives it (λ run. (self.new ≡ add_keys T.eq self.old run.items)
             × IsUnion T.eq self.old run.items self.new)) }
-        ensures refused { OnErr result ((it : I.IntoIter) × (before : List T) × (refused : T)
+        ensures refused { IfErr result (λ why. (it : I.IntoIter) × (before : List T) × (refused : T)
             × I.into_iter_gives items it × Gives I.IntoIter.next_gives it (before ++ refused ∷ [])
-            × (self.new ≡ add_keys T.eq self.old before)) }
+            × (self.new ≡ add_keys T.eq self.old before) × (why ≡ refusal_of (length self.new + 1))) }
         ensures kept { (value : T) → is_member T.eq self.old value ≡ true → is_member T.eq self.new value ≡ true }
     {
         for item in items {

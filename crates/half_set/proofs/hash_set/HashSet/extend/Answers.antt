@@ -24,4 +24,5 @@ returns-in_err-insert-clause-refused g c =
       c.into_iter-item-iterator.ensures.into_iter_gives,
       (c.next.new.self, given),
       c.in_err-insert.ensures.err ∙ c.loop-item.invariant.2,
+      rw c.in_err-insert.ensures.err c.in_err-insert.ensures.why,
     )).1
