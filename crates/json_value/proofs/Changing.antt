@@ -10,11 +10,6 @@ use Rattle.json_value.specs.Pointer.{value_at, with_child}
 use Rattle.json_value.specs.declared.value.Value.{Value, the_lemmas}
 use Rattle.json_value.specs.declared.value.Value.TheViews.{List as list_of}
 
--- ---- one step
-
-none≢some : {X : Type 0} (x : X) → None ≡ Some x → ⊥
-none≢some x e = cc
-
 after_some : {X P Q : Type 0} (o : Option X) → (P → Q) → OnSome o P → OnSome o Q
 after_some None f h = tt
 after_some (Some x) f h = f h

@@ -1,5 +1,5 @@
 //! JSON values whose objects are maps: looked into, changed, merged, and compared in any order of members.
-ghost use Rattle.std.specs.Prelude.{◌≡◌, true, IfOk, IfErr, IfNone, OnOk, OnErr};
+ghost use Rattle.std.specs.Prelude.{◌≡◌, if◌then◌else◌, true, IfOk, IfErr, IfNone, OnOk, OnErr};
 ghost use Rattle.std.specs.Map.{remove_entry};
 ghost use Rattle.std.specs.Borrow.{LendsIf, sem};
 ghost use Rattle.std.specs.Option.{option_copied, option_copied_mut};
@@ -109,7 +109,8 @@ impl Value {
         ensures after { OnOk result (members_of self.new ≡ put string_eq (members_of self.old) name value) }
         ensures object { OnOk result (is_object self.old ≡ true) }
         ensures err { OnErr result (self.new ≡ self.old) }
-        ensures refused { is_object self.old ≡ true → IfErr result (λ error. error ≡ Error.Memory) }
+        ensures refused { IfErr result
+            (λ error. error ≡ (if is_object self.old then Error.Memory else Error.NoObject)) }
     {
         match self {
             Value::Object(members) => Ok(members.insert(name, value)?),

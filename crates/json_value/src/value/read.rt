@@ -1,5 +1,5 @@
 //! Reading a value.
-ghost use Rattle.std.specs.Prelude.{◌≡◌, Some, None, Err, IfOk, IfErr};
+ghost use Rattle.std.specs.Prelude.{◌≡◌, ◌⊎◌, Some, None, IfOk, IfErr};
 ghost use Rattle.json.specs.Json.{Json, document};
 ghost use Rattle.json.specs.Value.{value_view};
 ghost use Rattle.json_value.specs.Json.{json_of, merged};
@@ -19,7 +19,8 @@ impl Value {
     /// ```
     pub fn parse(alloc: Global, text: &str) -> Result<Value, Error>
         ensures json { IfOk result (λ value. (j : Json) × (document text.now ≡ Some j) × (json_of value ≡ merged j)) }
-        ensures no_json { result ≡ Err Error.Invalid → document text.now ≡ None }
+        ensures err { IfErr result (λ error. (error ≡ Error.Memory)
+            ⊎ ((error ≡ Error.Invalid) × (document text.now ≡ None))) }
     {
         let mut scratch = Scratch::new(alloc);
         let read = json::Value::parse(alloc, text, &mut scratch)?;
