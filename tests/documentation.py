@@ -31,7 +31,7 @@ SPAN = re.compile(r"`([^`]+)`")
 LINK = re.compile(r"\[[^\]]*\]\(((?!\w+://)[^)\s]+)\)")
 PATH = re.compile(r"[\w.-]+/[\w./-]*|[\w-]+\.(?:antt|c|edits|md|py|rt|sh|svg|txt)")
 IMPORT = re.compile(r"^ *(?:ghost )?use (Rattle[\w.]*)\.\{(.*)\};?\n", re.M)
-CALLERS = ("half_tests/src/*callers.rt", "half_uses/s*/*.*", "json_value/src/*.rt", "half_tests/proofs/*/*/*.antt")
+CALLERS = ("half_tests/src/callers/*.rt", "half_uses/s*/*.*", "json_value/src/*.rt", "half_tests/proofs/*/*/*/*.antt")
 USES = "use halfbrown::{run::run, *}; use std::hash::{BuildHasher, RandomState}; use std::test::Fail;"
 
 
@@ -66,7 +66,7 @@ def named(page, tree):
 
 
 def readme(page):
-    proved = re.search(r"^ghost use.*?^}\n", *texts("half_tests/src/first_example.rt"), re.M | re.S)[0]
+    proved = re.search(r"^ghost use.*?^}\n", *texts("half_tests/src/callers/first_example.rt"), re.M | re.S)[0]
     shown = re.findall(r"^```rust\n(.*?)^```$", page, re.M | re.S)  # What is plain Rust, and then the rest.
     contract = re.compile(r"^ghost use .*\n\n?|^    ensures .*\n", re.M)
     yield "the first example", shown == [contract.sub("", proved).replace("\n{", " {"), "".join(contract.findall(proved))]

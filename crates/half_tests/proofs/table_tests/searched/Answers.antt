@@ -1,6 +1,0 @@
-use Rattle.std.proofs.Common.{arith}
-use Rattle.half_store.proofs.lemmas.table.Layout.{index-vacant}
-use Rattle.half_tests.proofs.table_tests.searched.Goals as goal
-
-pub search-ended-requires-clause-vacant : goal.search-ended-requires-clause-vacant
-search-ended-requires-clause-vacant c = index-vacant c.hashed_buckets.ensures.indexed (omega (arith, c.if-count-eq0.false, c.count.ensures))

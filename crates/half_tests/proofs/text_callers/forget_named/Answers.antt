@@ -1,5 +1,0 @@
-use Rattle.halfbrown.proofs.TextFacts.{has_removed_text}
-use Rattle.half_tests.proofs.text_callers.forget_named.Goals as goal
-
-pub returns : goal.returns
-returns c = has_removed_text c.args.name.now c.len-before.ensures.state.distinct c.remove.ensures
