@@ -1,5 +1,5 @@
 -- The values of a set after some are added, and when two sets are equal.
-use Rattle.std.proofs.Common.{◌≡◌, ◌↔◌, ℕ, ◌+◌, Bool, true, false, cond, List, [], ◌∷◌, ◌||◌, Option, None, Some, is_some, IsTrue, sym, refl, ap, subst, ◌∙◌, arith, suc, length, Bor}
+use Rattle.std.proofs.Common.{◌≡◌, ◌↔◌, ℕ, ◌+◌, Bool, true, false, cond, List, [], ◌∷◌, ◌||◌, Option, is_some, IsTrue, sym, refl, ap, subst, ◌∙◌, arith, suc, length, Bor}
 use denote.Param.Always.{always_mut, mut_next}
 use Rattle.std.proofs.iter.runs.Sources.{from_front}
 use Rattle.std.proofs.lemmas.Grind.{common_steps}
@@ -23,7 +23,7 @@ use Rattle.halfbrown.specs.Growth.{IsRefusal, insert_needs}
 use Rattle.halfbrown.specs.Refusal.{refusal_of}
 use Rattle.halfbrown.specs.State.{State}
 use Rattle.halfbrown.specs.declared.Refusal.{Refusal}
-use Rattle.halfbrown.specs.Pairs.{value_of, holds_by}
+use Rattle.halfbrown.specs.Pairs.{value_of}
 use Rattle.halfbrown.proofs.CallerFacts.{holds_by-any, keys_taken}
 use Rattle.halfbrown.specs.Updates.{HasRemovedBy}
 use Rattle.half_set.specs.Sets.{same_values, with_nothing}

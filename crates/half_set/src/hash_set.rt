@@ -129,8 +129,11 @@ impl<T: Eq + Hash + Drop> HashSet<T> {
     ) -> Result<HashSet<T>, Refusal>
         requires { (it : I.IntoIter) → I.into_iter_gives items it
             → I.IntoIter.can_next it × IsFinite (I.IntoIter.remaining it) }
-        ensures { IfOk result (λ set. (it : I.IntoIter) × I.into_iter_gives items it
+        ensures made { IfOk result (λ set. (it : I.IntoIter) × I.into_iter_gives items it
             × WholeRun I.IntoIter.next_gives it (λ run. set ≡ first_of_each T.eq run.items)) }
+        ensures refused { IfErr result (λ why. (it : I.IntoIter) × (before : List T) × (refused : T)
+            × I.into_iter_gives items it × Gives I.IntoIter.next_gives it (before ++ refused ∷ [])
+            × (why ≡ refusal_of (length (first_of_each T.eq before) + 1))) }
     {
         let mut set = HashSet::new(alloc);
         set.extend(items)?;
