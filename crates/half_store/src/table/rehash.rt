@@ -5,8 +5,8 @@ ghost use Rattle.half_store.specs.TableLayout.{IsIndexed};
 
 use super::probe::first_empty;
 use crate::buckets::HashedBuckets;
-use crate::words::Words;
 use crate::uncounted;
+use crate::words::Words;
 
 /// Puts all pairs into empty buckets, in the order of their entry indices.
 pub(super) fn rehash<B: Words>(buckets: &mut B, hashes: &[u64])

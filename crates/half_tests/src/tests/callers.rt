@@ -1,11 +1,11 @@
 //! The callers, in use: that their calls succeed. What they return is in their contracts.
 
 use crate::callers::basics::{add_label, declare, forget, keep_the_young, stored};
+use crate::callers::by_index::{forget_last, remove_by_index, set_at};
 use crate::callers::copies::{an_age_twice, five_ages, no_ages, numbered, one_age};
 use crate::callers::drains::{take_each, take_first};
 use crate::callers::entries::{count_up, meaning, toggle};
 use crate::callers::errors::{add_two, ages_of_main};
-use crate::callers::by_index::{forget_last, remove_by_index, set_at};
 use crate::callers::limits::{at_and_above_8, at_and_above_32, raw_look_up, raw_meaning};
 use crate::callers::raw_entries::{cached, respell};
 use crate::callers::worked::an_insertion_that_grows;
