@@ -1,22 +1,11 @@
 -- Members that are put one after another.
-use Rattle.std.proofs.Common.{◌≡◌, ℕ, Bool, List, [], ◌∷◌, Result, Ok, Err, IfErr, IsErrAnd, true, refl, rules, sym, subst, ap, ◌∙◌}
-use Rattle.halfbrown.specs.Costs.{Cost}
-use Rattle.halfbrown.specs.FromIter.{put_all, InsertsAll}
-use Rattle.halfbrown.specs.State.{State}
+use Rattle.std.proofs.Common.{◌≡◌, Result, Ok, Err, IfErr, IsErrAnd, true, refl, rules, sym, subst}
 use Rattle.json_value.specs.Members.{is_object, members_of, PutsFirst, IsRefusedMerge}
 use Rattle.json_value.specs.declared.value.Value.{Value, the_lemmas}
 use Rattle.json_value.specs.declared.value.Value.TheViews.{Object}
 use Rattle.json_value.proofs.Writing.{Members}
 use Rattle.json_value.specs.declared.value.error.Error.{Error}
 use Rattle.json_value.specs.declared.value.error.Error.TheVariants.{Memory}
-
-module _ {K V S : Type 0} (limit : ℕ) (eq : K → K → Bool) (hash : S → K → ℕ) where
-  -- the pairs that were inserted are put
-  pub pairs_inserted : (old : State K V S) (items : List (K × V)) (new : State K V S) (cost : Cost)
-      → InsertsAll limit eq hash old items new cost → new.pairs ≡ put_all eq old.pairs items
-  pairs_inserted old [] new cost done = ap (λ m. m.pairs) done.0
-  pairs_inserted old (p ∷ items) new cost done =
-      pairs_inserted done.0 items new done.1 done.4 ∙ ap (λ ps. put_all eq ps items) done.2.pairs
 
 -- an error that is one, and what else holds
 pub err_also : {A E : Type 0} (P : E → Type 0) (Q : Type 0) (r : Result A E) → IsErrAnd r P → Q → IfErr r (λ e. P e × Q)

@@ -34,4 +34,4 @@ object_row =
     let hashed = hash.ghosts global.the_row ghosts hash.no_dict hash.no_dict in
     let hashes = key_hasher.ghosts name_row builder_row fold.the_row hashed key_hasher.no_dict (full_eq.ghosts global.the_row ghosts full_eq.no_dict full_eq.no_dict) key_hasher.no_dict equal
     key_hasher.no_dict (builder.ghosts fold.the_row hasher.ghosts builder.no_dict (copied.ghosts fold.the_row) builder.no_dict) key_hasher.no_dict hasher.ghosts key_hasher.no_dict key_hasher.no_dict in
-    map.the_row name_row the_row builder_row (at_most.the_row (number 32)) equal hashed hashes (limit.ghosts (number 32))
+    map.the_row name_row the_row builder_row (at_most.the_row (number 32)) fold.the_row equal hashed hashes (limit.ghosts (number 32))
