@@ -19,6 +19,7 @@ pub mod Pairs
 pub mod Preparation
 pub mod RawEntry
 pub mod RawSearch
+pub mod Refusal
 pub mod Removal
 pub mod RemovalInOrder
 pub mod Replacement
@@ -32,7 +33,6 @@ pub use Rattle.half_store.specs.Capacity
 pub use Rattle.half_store.specs.Hash
 pub use Rattle.half_store.specs.Probe
 pub use Rattle.half_store.specs.Reach
-pub use Rattle.half_store.specs.Refusal
 pub use Rattle.half_store.specs.ValueReplacement
 pub use Rattle.half_store.specs.Search
 pub use Rattle.half_store.specs.Store
