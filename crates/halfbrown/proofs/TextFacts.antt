@@ -95,6 +95,12 @@ module _ {V Y S : Type 0} {limit : ℕ} {old new : State (String Y) V S} {k : St
       (sym (ap (keyed_by string_bytes) puts.pairs ∙ keyed_by-put string_bytes bytes_eq old.pairs k v))
       (has_put bytes_eq nat_list_eq_equiv (keyed_by string_bytes old.pairs) (string_bytes k) v)
 
+  -- what every other text has after it, where the text of the key is known
+  pub others_text : Puts limit string_eq old k v needs new → (text : List ℕ) → string_bytes k ≡ text
+      → (other : List ℕ) → bytes_eq text other ≡ false
+      → value_of bytes_eq (keyed_by string_bytes new.pairs) other ≡ value_of bytes_eq (keyed_by string_bytes old.pairs) other
+  others_text puts text is other apart = (has_put_text puts).others other (ap (λ t. bytes_eq t other) is ∙ apart)
+
 -- what the removal of a text leaves for every text
 pub has_removed_text : {V R Y S : Type 0} {limit : ℕ} {old new : State (String Y) V S} {held result : Option R} (text : List ℕ)
     → IsDistinct string_eq (keys_of old.pairs) → Removes limit string_eq (λ k. bytes_eq text (string_bytes k)) old held result new
@@ -161,4 +167,4 @@ count_str_fits of xs ps counted k =
     omega (arith, most, length-map xs of, ap (λ o. unwrap_or o 0) (lookup-keyed_by (λ k. k.now) (bytes_eq k.now) ps))
 
 -- for functions over texts
-pub ruleset text_facts = (lookup-keyed_by, has_put_text, has_removed_text)
+pub ruleset text_facts = (lookup-keyed_by, has_put_text, others_text, has_removed_text)

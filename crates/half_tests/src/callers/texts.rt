@@ -1,9 +1,9 @@
 //! What callers say of texts: for every text, by its bytes, what a map of owned keys has.
-ghost use Rattle.std.specs.Prelude.{◌≡◌, IfOk, OnOk, Some, None, if◌then◌else◌};
+ghost use Rattle.std.specs.Prelude.{◌≡◌, ℕ, List, false, IfOk, OnOk, Some, None, if◌then◌else◌};
 ghost use Rattle.std.specs.Str.{bytes_eq};
 ghost use Rattle.std.specs.String.{string_bytes};
 ghost use Rattle.halfbrown.specs.CallerLoops.{keyed_by};
-ghost use Rattle.halfbrown.specs.Pairs.{holds};
+ghost use Rattle.halfbrown.specs.Pairs.{holds, value_of};
 ghost use Rattle.halfbrown.specs.Updates.{HasPut, HasRemoved};
 
 use halfbrown::{Entry, HashMap, Refusal};
@@ -15,6 +15,23 @@ pub fn store_named(ages: &mut HashMap<String, u32>, name: String, age: u32) -> R
         (keyed_by string_bytes ages.new.pairs)) }
 {
     ages.insert(name, age)?;
+    Ok(())
+}
+
+/// Stores an age under a copy of a name that is lent. Every other text has the age that it had.
+#[tactic(auto, using(halfbrown::proofs::TextFacts::text_facts))]
+pub fn store_copied(
+    alloc: Global,
+    ages: &mut HashMap<String, u32>,
+    name: &str,
+    age: u32,
+) -> Result<(), Refusal>
+    ensures stored { OnOk result (value_of bytes_eq (keyed_by string_bytes ages.new.pairs) name.now ≡ Some age) }
+    ensures others { OnOk result ((other : List ℕ) → bytes_eq name.now other ≡ false
+        → value_of bytes_eq (keyed_by string_bytes ages.new.pairs) other
+        ≡ value_of bytes_eq (keyed_by string_bytes ages.old.pairs) other) }
+{
+    ages.insert(String::from_str(alloc, name)?, age)?;
     Ok(())
 }
 
