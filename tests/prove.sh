@@ -9,7 +9,7 @@ cd "$(dirname "$0")/../crates" || exit 1
 began=$(date +@%s.%N)
 jobs=$(nproc)
 [ "$jobs" -le 4 ] || jobs=4
-# It took 18 processor minutes, and 7 minutes on four idle processors.
+# It took 16 processor minutes, and six and a half minutes on four idle processors.
 minutes=$((3 + 16 / jobs))
 [ "${1-}" != minutes ] || exec echo "$minutes"
 log=$(mktemp) || exit 1

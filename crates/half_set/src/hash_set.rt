@@ -1,10 +1,11 @@
 //! The set, over a map whose values are nothing.
 #![tactic(auto, using(halfbrown::proofs::CallerFacts::map_facts, crate::proofs::Sets::set_facts))]
 
-ghost use Rattle.std.specs.Prelude.{◌≡◌, ◌↔◌, ◌+◌, ◌^◌, ◌<◌, List, [], ◌∷◌, ◌++◌, true, not, filter, length, All, IsTrue, IfOk, IfErr, OnOk, OnErr};
+ghost use Rattle.std.specs.Prelude.{◌≡◌, ◌↔◌, ◌+◌, ◌^◌, ◌<◌, List, [], ◌∷◌, ◌++◌, true, not, filter, length, All};
+ghost use Rattle.std.specs.Prelude.{IsTrue, IfOk, IfErr, OnOk, OnErr};
 ghost use Rattle.std.specs.Cmp.{partial_equiv_from_equiv};
 ghost use Rattle.std.specs.Fn.{CalledAt};
-ghost use Rattle.std.specs.Iterator.{IsFinite};
+ghost use Rattle.std.specs.Iterator.{IsFiniteIterable};
 ghost use Rattle.std.specs.Iterator.Runs.{WholeRun};
 ghost use Rattle.std.specs.List.{IsDistinct, list_any};
 ghost use Rattle.std.specs.List.Retain.{IsFiltered};
@@ -127,8 +128,8 @@ impl<T: Eq + Hash + Drop> HashSet<T> {
         alloc: Global,
         items: I,
     ) -> Result<HashSet<T>, Refusal>
-        requires { (it : I.IntoIter) → I.into_iter_gives items it
-            → I.IntoIter.can_next it × IsFinite (I.IntoIter.remaining it) }
+        requires { IsFiniteIterable I.into_iter_gives I.IntoIter.can_next
+            I.IntoIter.remaining items }
         ensures made { IfOk result (λ set. (it : I.IntoIter) × I.into_iter_gives items it
             × WholeRun I.IntoIter.next_gives it (λ run. set ≡ first_of_each T.eq run.items)) }
         ensures refused { IfErr result (λ why. (it : I.IntoIter) × (before : List T) × (refused : T)
@@ -152,8 +153,8 @@ impl<T: Eq + Hash + Drop> HashSet<T> {
 
     /// Inserts each item, in order. The items must end. On error those before the refused one have been inserted.
     pub fn extend<I: IntoIterator<Item = T>>(&mut self, items: I) -> Result<(), Refusal>
-        requires { (it : I.IntoIter) → I.into_iter_gives items it
-            → I.IntoIter.can_next it × IsFinite (I.IntoIter.remaining it) }
+        requires { IsFiniteIterable I.into_iter_gives I.IntoIter.can_next
+            I.IntoIter.remaining items }
         ensures extended { OnOk result ((it : I.IntoIter) × I.into_iter_gives items it
             × WholeRun I.IntoIter.next_gives it (λ run. (self.new ≡ add_keys T.eq self.old run.items)
             × IsUnion T.eq self.old run.items self.new)) }

@@ -4,7 +4,8 @@ ghost use Rattle.std.specs.Map.{lookup};
 ghost use Rattle.std.specs.Option.{option_copied};
 ghost use Rattle.std.specs.Str.{bytes_eq};
 ghost use Rattle.std.specs.String.{string_bytes};
-ghost use Rattle.json_value.specs.Pointer.{name_of, index_of, child as child_at, member_place as place_in_members, place as place_of, value_at};
+ghost use Rattle.json_value.specs.Pointer.{name_of, index_of, child as child_at, value_at};
+ghost use Rattle.json_value.specs.Pointer.{member_place as place_in_members, place as place_of};
 
 use super::Value;
 use halfbrown::HashMap;
