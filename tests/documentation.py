@@ -116,7 +116,7 @@ def quoted(call):
 
 
 CALL = re.compile(r"^fn ([\w:]+)(?:.*\n)(?:  [^|\n].*\n)*((?:  \|.*\n)*)", re.M)
-LEFT_OUT = ("cost", "keeps", "runs", "same_map", "small", "state", "values_run")
+LEFT_OUT = ("cost", "keeps", "runs", "small", "state", "values_run")
 
 
 def calling(found):

@@ -1,6 +1,7 @@
 //! Keys with their hashes, and a map that takes them.
 ghost use Rattle.std.specs.Prelude.{◌≡◌};
 ghost use Rattle.half_bench.specs.Hashes.{default_hash};
+ghost use Rattle.halfbrown.specs.Making.{IsDefaultBuilder};
 
 use crate::keys::{Key, Lawful, OfNumber};
 use crate::maps::AtLimit;
@@ -30,7 +31,7 @@ impl<K: Eq + Hash> Hashed<K> {
     // The hash, which is that of every default builder.
     #[inline(always)]
     fn hash_by(&self, _builder: &DefaultHashBuilder) -> u64
-        requires { ⟦<DefaultHashBuilder as Default>⟧.is_default _builder.now }
+        requires { IsDefaultBuilder _builder.now }
         ensures { result ≡ ⟦<DefaultHashBuilder as KeyHasher<K>>⟧.hash _builder.now self.now.key }
     {
         self.hash
@@ -41,7 +42,7 @@ impl<K: Eq + Hash> Hashed<K> {
 #[derive(Drop)]
 pub(crate) struct Filled<K: Eq + Hash, const N: usize> {
     pub map: AtLimit<K, N>,
-    ghost usual: { ⟦<DefaultHashBuilder as Default>⟧.is_default map.builder },
+    ghost usual: { IsDefaultBuilder map.builder },
 }
 
 impl<K: Eq + Hash + Drop, const N: usize> Filled<K, N> {
@@ -63,7 +64,7 @@ fn insert_hashed<K: Eq + Hash + Drop, const N: usize>(
     map: &mut AtLimit<K, N>,
     hashed: Hashed<K>,
 ) -> io::Result<()>
-    requires { ⟦<DefaultHashBuilder as Default>⟧.is_default map.old.builder }
+    requires { IsDefaultBuilder map.old.builder }
     ensures { map.new.builder ≡ map.old.builder }
 {
     let hash = hashed.hash_by(map.hasher());

@@ -41,13 +41,10 @@ module _ {K V : Type 0} where
   ValuesMutSteps s r t = slice.iter_mut_steps s.values r t.values
 
 module _ (K V : Type 0) where
-  -- each run of an `Iter` shows the pairs that it had left, in order
-  abbrev pub ShowsPairsInOrder : Type 0
-  ShowsPairsInOrder = EveryRun (IterSteps {K = K} {V = V}) (λ p. ItemsMapTo p deref_pair (pairs_left p.from))
-
-  -- each run of an `Iter` shows their values, in order
-  abbrev pub ShowsPairValuesInOrder : Type 0
-  ShowsPairValuesInOrder = EveryRun (IterSteps {K = K} {V = V}) (λ p. ItemsMapTo p (λ x. x.1.now) (values_of (pairs_left p.from)))
+  -- each run of an `Iter` shows the pairs that it had left, in order, and so their values
+  pub record ShowsPairsInOrder : Type 0 where
+    pub pairs : EveryRun (IterSteps {K = K} {V = V}) (λ p. ItemsMapTo p deref_pair (pairs_left p.from))
+    pub values : EveryRun (IterSteps {K = K} {V = V}) (λ p. ItemsMapTo p (λ x. x.1.now) (values_of (pairs_left p.from)))
 
 -- what a `Column` has left: the keys that a `Keys` has, or the values that a `Values` has
 abbrev pub column_left : {T O : Type 0} → Column T O → List T

@@ -1,8 +1,16 @@
 -- What the calls that make an empty map return.
 use Rattle.std.specs.Prelude.{◌≡◌, ℕ, Bool, true, [], Result, IfOk, IfErr}
+use Rattle.std.specs.Hash.BuildHasherDefault.{initial_hasher}
+use Rattle.std.specs.Hash.FoldHasher.{initial}
+use Rattle.std.specs.declared.hash.BuildHasherDefault.{BuildHasherDefault}
+use Rattle.std.specs.declared.hash.FoldHasher.{FoldHasher}
 use Rattle.half_store.specs.declared.refusal.Refusal.{Refusal}
 use Rattle.halfbrown.specs.Growth.{making_needs, HasCapacityMade, IsGrantable, IsRefusal}
 use Rattle.halfbrown.specs.State.{State}
+
+-- the builder that a map has where its maker names none: `DefaultHashBuilder::new()`
+abbrev pub IsDefaultBuilder : BuildHasherDefault FoldHasher → Type 0
+IsDefaultBuilder builder = initial_hasher builder ≡ initial
 
 module _ {K V S : Type 0} (is_builder : S → Type 0) where
   -- an empty vector that has taken no memory; `is_builder` holds of its builder

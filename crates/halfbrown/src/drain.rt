@@ -49,7 +49,7 @@ impl<'a, K: Eq + Hash + Drop, V: Drop, S: KeyHasher<K>, L: Limit, P: IntoStore<K
 }
 
 impl<K: Eq + Hash, V, S: KeyHasher<K>, L: Limit> LimitedHashMap<K, V, S, L> {
-    ghost use Rattle.halfbrown.specs.Drain.{rest, lender, map_after, RunsInOrder, KeepsAlong};
+    ghost use Rattle.halfbrown.specs.Drain.{rest, map_after, StepsThroughPairs};
 
     /// Takes all pairs out, and returns them in order. Once what it returns is dropped, even before its end, the map
     /// holds no pair: those that were left are dropped too. The form, the capacity and the builder stay.
@@ -66,10 +66,8 @@ impl<K: Eq + Hash, V, S: KeyHasher<K>, L: Limit> LimitedHashMap<K, V, S, L> {
     pub fn drain(&mut self) -> Drain<'_, K, V, S, L>
         ensures pairs { rest result ≡ self.old.pairs }
         ensures small { length (rest result) < 2 ^ 63 }
-        ensures same_map { lender result ≡ self.entry.ghost_name }
         ensures after { WithPairs self.old [] (map_after result) }
-        ensures runs { RunsInOrder result }
-        ensures keeps { KeepsAlong result }
+        ensures runs { StepsThroughPairs self.entry.ghost_name result }
     {
         let pairs = self.take_store();
         Drain { map: self, pairs }

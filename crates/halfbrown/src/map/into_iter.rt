@@ -14,14 +14,14 @@ use std::vec;
 
 impl<'a, K: Eq + Hash, V, S: KeyHasher<K>, L: Limit> IntoIterator
     for &'a LimitedHashMap<K, V, S, L> {
-    ghost use Rattle.halfbrown.specs.Iter.{pairs_left, ShowsPairsInOrder, ShowsPairValuesInOrder};
+    ghost use Rattle.halfbrown.specs.Iter.{pairs_left, ShowsPairsInOrder};
 
     type Item = (&'a K, &'a V);
 
     type IntoIter = Iter<'a, K, V>;
 
     ghost into_iter_gives = { λ map it. (pairs_left it ≡ map.now.pairs)
-        × (length map.now.pairs < 2 ^ 63) × ShowsPairsInOrder K V × ShowsPairValuesInOrder K V
+        × (length map.now.pairs < 2 ^ 63) × ShowsPairsInOrder K V
         × IsState K.eq L.LIMIT map.now };
 
     /// Returns the pairs, each as `(&K, &V)`, in order, as `iter` lends them.
@@ -41,7 +41,7 @@ impl<'a, K: Eq + Hash, V, S: KeyHasher<K>, L: Limit> IntoIterator
 
 impl<'a, K: Eq + Hash, V, S: KeyHasher<K>, L: Limit> IntoIterator
     for &'a mut LimitedHashMap<K, V, S, L> {
-    ghost use Rattle.halfbrown.specs.Iter.{pairs_left, ShowsPairsInOrder, ShowsPairValuesInOrder};
+    ghost use Rattle.halfbrown.specs.Iter.{pairs_left, ShowsPairsInOrder};
     ghost use Rattle.halfbrown.specs.Lending.{Rests};
 
     type Item = (&'a K, &'a V);
@@ -49,7 +49,7 @@ impl<'a, K: Eq + Hash, V, S: KeyHasher<K>, L: Limit> IntoIterator
     type IntoIter = Iter<'a, K, V>;
 
     ghost into_iter_gives = { λ map it. (pairs_left it ≡ map.now.pairs)
-        × (length map.now.pairs < 2 ^ 63) × ShowsPairsInOrder K V × ShowsPairValuesInOrder K V
+        × (length map.now.pairs < 2 ^ 63) × ShowsPairsInOrder K V
         × IsState K.eq L.LIMIT map.now };
 
     // The values can be read alone, as in the Rust crate. `iter_mut` lends them to be written.
@@ -58,7 +58,7 @@ impl<'a, K: Eq + Hash, V, S: KeyHasher<K>, L: Limit> IntoIterator
         ensures* rests { sem 𝓛
             (Rests K.row V.row S.row L.row S.Hasher.row K.Hash S.KeyHasher L.Limit self.entry) }
         ensures into_iter_gives { (pairs_left result ≡ self.old.pairs)
-            × (length self.old.pairs < 2 ^ 63) × ShowsPairsInOrder K V × ShowsPairValuesInOrder K V
+            × (length self.old.pairs < 2 ^ 63) × ShowsPairsInOrder K V
             × IsState K.eq L.LIMIT self.old }
     {
         (&*self).into_iter()

@@ -14,7 +14,7 @@ use crate::{Iter, IterMut, KeyHasher, Keys, Limit, Values, ValuesMut};
 use std::hash::Hash;
 
 impl<K: Eq + Hash, V, S: KeyHasher<K>, L: Limit> LimitedHashMap<K, V, S, L> {
-    ghost use Rattle.halfbrown.specs.Iter.{pairs_left, ShowsPairsInOrder, ShowsPairValuesInOrder};
+    ghost use Rattle.halfbrown.specs.Iter.{pairs_left, ShowsPairsInOrder};
     ghost use Rattle.halfbrown.specs.Iter.{column_left, ShowsColumnInOrder};
     ghost use Rattle.halfbrown.specs.Iter.{iter_mut_left, iter_mut_name};
     ghost use Rattle.halfbrown.specs.Iter.{values_mut_left, values_mut_name, ValuesMutSteps};
@@ -32,7 +32,6 @@ impl<K: Eq + Hash, V, S: KeyHasher<K>, L: Limit> LimitedHashMap<K, V, S, L> {
         ensures left { pairs_left result ≡ self.now.pairs }
         ensures small { length self.now.pairs < 2 ^ 63 }
         ensures runs { ShowsPairsInOrder K V }
-        ensures values_run { ShowsPairValuesInOrder K V }
         ensures state { IsState K.eq L.LIMIT self.now }
     {
         let columns = self.columns();

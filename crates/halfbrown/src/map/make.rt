@@ -1,6 +1,6 @@
 //! Making a map.
 ghost use Rattle.std.specs.Prelude.{◌≡◌, true, min, nat_le, IfOk};
-ghost use Rattle.halfbrown.specs.Making.{IsNew, Makes};
+ghost use Rattle.halfbrown.specs.Making.{IsDefaultBuilder, IsNew, Makes};
 ghost use Rattle.halfbrown.specs.State.{IsState};
 
 use super::{DefaultHashBuilder, LimitedHashMap};
@@ -18,7 +18,7 @@ impl<K: Eq + Hash, V, L: Limit> LimitedHashMap<K, V, DefaultHashBuilder, L> {
     /// assert!(rt; ages.is_empty() && ages.is_vec());
     /// ```
     pub fn new(alloc: Global) -> Self
-        ensures made { IsNew ⟦<DefaultHashBuilder as Default>⟧.is_default result }
+        ensures made { IsNew IsDefaultBuilder result }
         ensures state { IsState K.eq L.LIMIT result }
     {
         LimitedHashMap::with_hasher(alloc, BuildHasherDefault::new())
@@ -37,7 +37,7 @@ impl<K: Eq + Hash, V, L: Limit> LimitedHashMap<K, V, DefaultHashBuilder, L> {
     /// assert!(rt; small.is_vec() && large.is_map());
     /// ```
     pub fn with_capacity(alloc: Global, capacity: usize) -> Result<Self, Refusal>
-        ensures makes { Makes ⟦<DefaultHashBuilder as Default>⟧.is_default (nat_le capacity L.LIMIT)
+        ensures makes { Makes IsDefaultBuilder (nat_le capacity L.LIMIT)
             capacity result }
         ensures state { IfOk result (IsState K.eq L.LIMIT) }
     {
@@ -53,7 +53,7 @@ impl<K: Eq + Hash, V, L: Limit> LimitedHashMap<K, V, DefaultHashBuilder, L> {
     /// assert_eq!(rt; ages.capacity(), 32);
     /// ```
     pub fn vec_with_capacity(alloc: Global, capacity: usize) -> Result<Self, Refusal>
-        ensures makes { Makes ⟦<DefaultHashBuilder as Default>⟧.is_default true
+        ensures makes { Makes IsDefaultBuilder true
             (min capacity L.LIMIT) result }
         ensures state { IfOk result (IsState K.eq L.LIMIT) }
     {

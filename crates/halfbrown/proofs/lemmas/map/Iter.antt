@@ -12,7 +12,7 @@ use Rattle.std.proofs.iter.runs.Sources.{from_front, as_is}
 use Rattle.std.specs.Iterator.{YieldsFirstRef}
 use Rattle.std.specs.Iterator.Runs.{YieldsMutRefsInOrder}
 use Rattle.std.specs.Map.Iter.{TakesFirst, ShowsValuesInOrder, GivesInOrder, LendsFirst, LendsValuesInOrder, deref_pair}
-use Rattle.halfbrown.specs.Iter.{pairs_left, column_left, IterSteps, ShowsPairsInOrder, ShowsPairValuesInOrder, ShowsColumnInOrder}
+use Rattle.halfbrown.specs.Iter.{pairs_left, column_left, IterSteps, ShowsPairsInOrder, ShowsColumnInOrder}
 use Rattle.halfbrown.specs.Iter.{values_mut_left, ValuesMutSteps}
 
 module _ {K V : Type 0} where
@@ -91,9 +91,8 @@ shows_column_in_order T O = from_front (YieldsFirstRef column_left) (λ x. x.now
 
 module _ (K V : Type 0) where
   pub shows_pairs_in_order : ShowsPairsInOrder K V
-  shows_pairs_in_order = from_front IterSteps deref_pair pairs_left (λ s t h. ap length h.0) (λ s x t h. h)
-
-  pub shows_pair_values_in_order : ShowsPairValuesInOrder K V
-  shows_pair_values_in_order =
-      from_front IterSteps (λ x. x.1.now) (λ s. values_of (pairs_left s)) (λ s t h. ap (λ l. length (values_of l)) h.0)
-      (λ s x t h. ap values_of h)
+  shows_pairs_in_order = record {
+    pairs = from_front IterSteps deref_pair pairs_left (λ s t h. ap length h.0) (λ s x t h. h);
+    values = from_front IterSteps (λ x. x.1.now) (λ s. values_of (pairs_left s)) (λ s t h. ap (λ l. length (values_of l)) h.0)
+        (λ s x t h. ap values_of h);
+  }

@@ -1,7 +1,7 @@
 use Rattle.std.proofs.Common.{zip}
 use Rattle.std.proofs.Common.{arith}
 use Rattle.std.proofs.lemmas.Grind.{common_steps}
-use Rattle.halfbrown.proofs.lemmas.map.Iter.{shows_pairs_in_order, shows_pair_values_in_order, zip_columns}
+use Rattle.halfbrown.proofs.lemmas.map.Iter.{shows_pairs_in_order, zip_columns}
 use Rattle.halfbrown.proofs.map.LimitedHashMap.iter.Goals as goal
 
 pub returns-clause-left : goal.returns-clause-left
@@ -9,6 +9,3 @@ returns-clause-left g c = grind (arith, common_steps, zip, zip_columns)
 
 pub returns-clause-runs : goal.returns-clause-runs
 returns-clause-runs g c = shows_pairs_in_order g.row.K.Denot g.row.V.Denot
-
-pub returns-clause-values_run : goal.returns-clause-values_run
-returns-clause-values_run g c = shows_pair_values_in_order g.row.K.Denot g.row.V.Denot
