@@ -32,7 +32,7 @@ RULES = (
      "buckets 1, table/deletion 2, table/probe 1, table/rehash 2, vecmap/replace 1, vecmap/retain 2, vecmap/search 1, vecmap 7, words 4 |  | "
      "lines 2, request 2"),
     ("What compares keys is handed on, and only `compare` calls it.", r"\b(?:matches|is_match)\b",
-     "counting 2, store/change 3, store/find 3, table/deletion 2, table/find 2, table/probe 2, table 6, vecmap/search 10 | "
+     "counting 2, store/change 3, store/find 3, table/deletion 2, table/find 2, table/probe 2, table 6, vecmap/search 8 | "
      "map/find 2, map/inner 2, map/remove 2, raw_entry/search 4 |"),
     ("No hasher is built: a key is hashed by `hash_one`.", r"\.(?:hash|build_hasher)\(|::(?:hash|build_hasher)\b", "||"),
     ("Keys and values are compared in these places; the other comparisons are of numbers, and of bytes in a line.",
@@ -45,11 +45,11 @@ RULES = (
      "buckets 3, counting 3, store/change 1, store/find 1, table/deletion 4, table/find 2, table/probe 5, table/rehash 1, table/shift 1, "
      "table 4, vecmap/search 3, vecmap 1, words 6 | key_hasher 3, map/switch 2, raw_entry 1 |"),
     ("The words of buckets are read by `word_at` alone.", r"\bwords\b",
-     "lib 1, store/memory 3, table/memory 2, words 44 |  |"),
+     "lib 1, store/memory 3, table/memory 2, words 39 |  |"),
     ("Memory is taken, and values are cloned, in these places.",
      r"\b(?:alloc|allocator|push|reserve\w*|extend\w*|append|resize\w*|clone\w*|copy|copied|grow\w*|collect)\b",
      "blocks 11, store/change 3, store/drain 1, store/memory 17, store/switch 5, store 2, table/memory 9, vecmap/slices 2, "
-     "vecmap/memory 17, vecmap 4, words 15 | entry/vacant 1, iter/column 2, iter 4, macros 4, map/clone 7, map/collect 16, "
+     "vecmap/memory 17, vecmap 4, words 11 | entry/vacant 1, iter/column 2, iter 4, macros 4, map/clone 7, map/collect 16, "
      "map/growth 2, map/inner 2, map/insert 3, map/make 12, map/prepare 2, map 3, raw_entry/vacant 1, run 6 | lines 1, main 1, "
      "session 10"),
     ("A refusal is made, handed on or looked at in these places.",

@@ -15,6 +15,12 @@ use Rattle.half_store.specs.Table.{Contents}
 abbrev pub ReturnsAt : {K : Type 0} → (K → Bool → Type 0) → List K → ℕ → Bool → Type 0
 ReturnsAt {K} returns keys index answer = (k : K) → slice_get keys index ≡ Some k → returns k answer
 
+-- this is the index of the first key that the match accepts, or none, where it refuses each
+pub record IsFirstMatch {K : Type 0} (returns : K → Bool → Type 0) (keys : List K) (result : Option ℕ) : Type 0 where
+  pub found : IfSome result (λ index. (index < length keys) × ReturnsAt returns keys index true)
+  pub none_before : IfSome result (λ index. (earlier : ℕ) → earlier < index → ReturnsAt returns keys earlier false)
+  pub absent : IfNone result ((index : ℕ) → index < length keys → ReturnsAt returns keys index false)
+
 -- of the pairs in either form, where `has_hash` says that the pair at an index, with this key, has the searched hash
 module _ {K V : Type 0} (returns : K → Bool → Type 0) (is_vec : Bool) (pairs : List (K × V)) (has_hash : ℕ → K → Type 0) where
   -- the match accepts the key at this index: in a vector it is the first that it accepts, in a table it is one of the hash

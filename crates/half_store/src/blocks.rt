@@ -44,8 +44,8 @@ pub(crate) fn grow_beside<K, V>(keys: &mut Vec<K>, capacity: usize) -> Result<Ve
     Ok(values)
 }
 
-/// Moves all elements into an empty column whose capacity is enough, and frees the old one.
-pub(crate) fn move_to<T>(column: &mut Vec<T>, fresh: Vec<T>)
+/// Moves all elements, in order, into an empty column whose capacity is enough, and frees the old one.
+pub(crate) fn move_to<T>(column: &mut Vec<T>, mut fresh: Vec<T>)
     requires empty { fresh.items ≡ [] }
     requires len { vec_len fresh ≡ 0 }
     requires fits { vec_len column.old ≤ vec_capacity fresh }
@@ -54,28 +54,16 @@ pub(crate) fn move_to<T>(column: &mut Vec<T>, fresh: Vec<T>)
     ensures capacity { vec_capacity column.new ≡ vec_capacity fresh }
 {
     let alloc = *column.allocator();
-    let moved = move_all(replace(column, Vec::new(alloc)), fresh);
-    replace(column, moved).destroy_empty();
-}
-
-// Moves all elements, in order, into an empty column whose capacity is enough.
-fn move_all<T>(from: Vec<T>, mut to: Vec<T>) -> Vec<T>
-    requires empty { to.items ≡ [] }
-    requires len { vec_len to ≡ 0 }
-    requires fits { vec_len from ≤ vec_capacity to }
-    ensures items { result.items ≡ from.items }
-    ensures len { vec_len result ≡ vec_len from }
-    ensures capacity { vec_capacity result ≡ vec_capacity to }
-{
-    let mut left = from.into_iter();
+    let mut left = replace(column, Vec::new(alloc)).into_iter();
     while let Some(item) = left.next() {
-        to.push_reserved(item);
+        fresh.push_reserved(item);
     }
     left.destroy_empty();
-    to
+    replace(column, fresh).destroy_empty();
 }
 
 /// Clones all elements, in order, into an empty column whose capacity is enough.
+#[tactic(auto, using(std::proofs::lemmas::Grind::common_steps, std::proofs::lemmas::List::Elements::all_zip_more))]
 pub(crate) fn clone_all<T: Clone>(from: &[T], mut to: Vec<T>) -> Result<Vec<T>, AllocError>
     requires empty { to.items ≡ [] }
     requires len { vec_len to ≡ 0 }

@@ -1,5 +1,7 @@
 //! Pairs in two forms over the same two columns: a vector, which is searched from first to last, or a table, which has an
 //! index.
+#![tactic(auto, using(crate::proofs::lemmas::store::States::store_steps))]
+
 ghost use Rattle.std.specs.Prelude.{◌≡◌, ◌<◌, []};
 ghost use Rattle.half_store.specs.Columns.{no_pairs};
 ghost use Rattle.half_store.specs.Store.{vector_of, KeepsForm};

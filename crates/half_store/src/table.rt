@@ -3,6 +3,8 @@
 //! A bucket contains an entry index, and a column has the stored hash of each. There are no keys: a search is handed their
 //! column, and a test of a key. Probes go up from the home bucket of a hash, one bucket at a time, and a removal shifts
 //! back what follows it, so no tombstone is left.
+#![tactic(auto, using(crate::proofs::lemmas::table::Find::table_steps))]
+
 ghost use Rattle.std.specs.Prelude.{◌≡◌, ℕ, ◌+◌, ◌^◌, ◌<◌, ◌≤◌, [], ◌∷◌, ◌++◌, length, Some, slice_get, IfOk, OnErr};
 ghost use Rattle.std.specs.Fn.{FnReturnsAt};
 ghost use Rattle.half_store.specs.Calls.{CallableOnHash};

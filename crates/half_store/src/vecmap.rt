@@ -1,4 +1,6 @@
 //! Pairs in two columns, one of keys and one of values: dense, in order, searched from first to last.
+#![tactic(auto, using(crate::proofs::lemmas::vecmap::Columns::columns_steps))]
+
 ghost use Rattle.std.specs.Prelude.{◌≡◌, ◌^◌, ◌<◌, ◌≤◌, [], ◌∷◌, ◌++◌, length, slice_get};
 ghost use Rattle.std.specs.Borrow.{sem};
 ghost use Rattle.std.specs.Map.{keys_of, values_of};

@@ -57,17 +57,6 @@ impl<T> Model for WordVec<T> {
     ghost invariant = { λ v. vec_capacity v.words ≡ length v.words.items };
 }
 
-impl<T> WordVec<T> {
-    /// No words. They take no memory.
-    fn new(alloc: Global) -> WordVec<T>
-        ensures { result ≡ [] }
-    {
-        WordVec {
-            words: Vec::new(alloc),
-        }
-    }
-}
-
 impl<T: Copy> WordVec<T> {
     /// The same word, `count` times.
     fn of(alloc: Global, word: T, count: usize) -> Result<WordVec<T>, AllocError>
@@ -78,13 +67,6 @@ impl<T: Copy> WordVec<T> {
             words.push_reserved(word);
         }
         Ok(WordVec { words })
-    }
-
-    /// For how many words there is memory.
-    fn capacity(&self) -> usize
-        ensures { result ≡ length self.now }
-    {
-        self.words.capacity()
     }
 
     /// The same words once more.
@@ -98,15 +80,6 @@ impl<T: Copy> WordVec<T> {
         } else {
             Err(AllocError)
         }
-    }
-
-    /// Writes this word in place of each.
-    fn fill(&mut self, word: T)
-        requires same { (other : T) → T.is_clone word other → other ≡ word }
-        requires infallible { T.is_infallible word }
-        ensures { self.new ≡ replicate (length self.old) word }
-    {
-        self.words.fill(word);
     }
 }
 
@@ -197,14 +170,6 @@ impl Words for WordArray {
 }
 
 impl WordArray {
-    /// No words. They take no memory.
-    pub(crate) fn new(alloc: Global) -> WordArray
-        ensures words { words_of result ≡ [] }
-        ensures sized { AreWordsFor (most_of result) 0 }
-    {
-        WordArray::FourBytes(WordVec::new(alloc))
-    }
-
     /// The words of this many empty buckets, each wide enough for the pairs that they may hold.
     pub(crate) fn empty(alloc: Global, count: usize) -> Result<WordArray, AllocError>
         requires { IsBucketCount count }
@@ -213,7 +178,8 @@ impl WordArray {
         ensures granted { count ≡ 0 → IsOk result }
     {
         if count == 0 {
-            return Ok(WordArray::new(alloc));
+            let words = Vec::new(alloc);
+            return Ok(WordArray::FourBytes(WordVec { words }));
         }
         if capacity_of(count) <= MOST_IN_FOUR_BYTES {
             Ok(WordArray::FourBytes(WordVec::of(alloc, 0, count)?))
@@ -228,8 +194,8 @@ impl WordArray {
         ensures most { most_of self.new ≡ most_of self.old }
     {
         match self {
-            WordArray::FourBytes(words) => words.fill(0),
-            WordArray::EightBytes(words) => words.fill(0),
+            WordArray::FourBytes(array) => array.words.fill(0),
+            WordArray::EightBytes(array) => array.words.fill(0),
         }
     }
 
@@ -250,8 +216,8 @@ impl WordArray {
         ensures size { result.1 ≡ word_size (most_of self.now) }
     {
         match self {
-            WordArray::FourBytes(words) => (words.capacity(), size_of::<u32>()),
-            WordArray::EightBytes(words) => (words.capacity(), size_of::<usize>()),
+            WordArray::FourBytes(array) => (array.words.capacity(), size_of::<u32>()),
+            WordArray::EightBytes(array) => (array.words.capacity(), size_of::<usize>()),
         }
     }
 }

@@ -34,8 +34,6 @@ impl<K, V> Store<K, V> {
         ensures values { result.1.items ≡ values_of self.pairs }
         ensures small { length self.pairs < 2 ^ 63 }
     {
-        let Store { columns, table } = self;
-        drop(table);
-        columns.into_columns()
+        self.columns.into_columns()
     }
 }

@@ -1,4 +1,6 @@
 //! Backward-shift deletion: after a removal the pairs that follow move back, so that no tombstone is needed.
+#![tactic(auto, using(crate::proofs::lemmas::table::Layout::deletion_steps))]
+
 ghost use Rattle.std.specs.Prelude.{◌≡◌, ℕ, ◌+◌, ◌-◌, ◌^◌, ◌<◌, ◌≤◌, Some, IfOk, OnErr};
 ghost use Rattle.std.specs.Prelude.{length, slice_get, slice_set, slice_index, vec_capacity};
 ghost use Rattle.std.specs.Fn.{FnReturnsAt};
@@ -184,16 +186,6 @@ fn if_less(first: usize, second: usize, lesser: usize, other: usize) -> usize
     lesser * is_less + other * (1 - is_less)
 }
 
-/// The stored hash of the pair that the word of a full bucket leads to.
-#[inline(always)]
-fn hash_of(word: usize, hashes: &[u64]) -> u64
-    requires full { 0 < word }
-    requires within { word ≤ length hashes.now }
-    ensures { result ≡ slice_index hashes.now (word - 1) }
-{
-    hashes[word - 1]
-}
-
 /// Shifts pairs back into a bucket whose pair was removed: goes up to the next empty bucket, and moves each pair into the gap
 /// whose home bucket is not after it. What the gap contains is not read; it is emptied at the end.
 fn backward_shift<B: Words>(buckets: &mut B, hashes: &[u64], removed: usize, tally: &mut Tally)
@@ -213,8 +205,7 @@ fn backward_shift<B: Words>(buckets: &mut B, hashes: &[u64], removed: usize, tal
     let mut distance = 1;
     let mut word = buckets.word_at(bucket, tally);
     while word != 0 {
-        let hash = hash_of(word, hashes);
-        let from_home = probe_distance(home(hash, count), bucket, count);
+        let from_home = probe_distance(home(hashes[word - 1], count), bucket, count);
         // The pair stays where its home bucket is after the gap. Else it moves into the gap, and leaves one.
         let place = if_less(from_home, distance, bucket, gap);
         buckets.set_word(place, word);

@@ -1,5 +1,7 @@
 //! Linear probing: from the home bucket of a hash upwards. A probe reads stored hashes and nothing else, and counts each
 //! bucket that it reads.
+#![tactic(auto, using(crate::proofs::lemmas::table::Probe::probe_steps))]
+
 ghost use Rattle.std.specs.Prelude.{◌≡◌, ℕ, ◌+◌, ◌-◌, ◌<◌, ◌≤◌, ◌==◌, true, false};
 ghost use Rattle.std.specs.Prelude.{Some, length, count_by, slice_get, slice_index, IfOk, IfErr, OnOk, OnErr};
 ghost use Rattle.std.specs.Borrow.{Bor};

@@ -3,7 +3,7 @@ ghost use Rattle.std.specs.Prelude.{◌≡◌, ◌+◌, ◌*◌, ◌<◌, ◌≤
 ghost use Rattle.half_store.specs.Buckets.{EachOnce};
 ghost use Rattle.half_store.specs.Probe.{looked_more, LooksWithin};
 ghost use Rattle.half_store.specs.Reach.{reach};
-ghost use Rattle.half_store.specs.Shift.{moved_word, MovesLast};
+ghost use Rattle.half_store.specs.Shift.{MovesLast};
 ghost use Rattle.half_store.specs.TableLayout.{IsIndexed};
 
 use super::Table;
@@ -67,21 +67,13 @@ fn move_last<B: Words>(buckets: &mut B, index: usize, pairs: usize, tally: &mut 
 {
     for bucket in 0..buckets.count() {
         let word = buckets.word_at(bucket, tally);
-        buckets.set_word(bucket, moved_word(pairs, index, word));
-    }
-}
-
-/// The word of a bucket after `move_last`.
-#[inline(always)]
-fn moved_word(pairs: usize, index: usize, word: usize) -> usize
-    requires { index < pairs }
-    ensures { result ≡ moved_word pairs index word }
-{
-    if word == index + 1 {
-        pairs
-    } else if index < word {
-        word - 1
-    } else {
-        word
+        let moved = if word == index + 1 {
+            pairs
+        } else if index < word {
+            word - 1
+        } else {
+            word
+        };
+        buckets.set_word(bucket, moved);
     }
 }

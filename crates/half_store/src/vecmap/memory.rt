@@ -65,7 +65,6 @@ impl<K, V> Columns<K, V> {
     }
 
     /// Shrinks a greater capacity to this one, which must be enough for the pairs. On error nothing changes.
-    #[tactic(auto, using(crate::proofs::lemmas::vecmap::Columns::opened))]
     pub(crate) fn shrink_to(&mut self, capacity: usize) -> Result<(), AllocError>
         requires { length self.old.pairs ≤ capacity }
         ensures pairs { self.new.pairs ≡ self.old.pairs }

@@ -1,9 +1,9 @@
 //! A search from first to last.
-ghost use Rattle.std.specs.Prelude.{◌≡◌, ℕ, ◌+◌, ◌-◌, ◌<◌, ◌≤◌, true, false, IfSome, IfNone, length};
+ghost use Rattle.std.specs.Prelude.{◌≡◌, ℕ, ◌-◌, ◌<◌, ◌≤◌, true, false, length};
 ghost use Rattle.std.specs.Fn.{FnReturnsAt};
 ghost use Rattle.half_store.specs.Calls.{CallableOnKeys};
-ghost use Rattle.half_store.specs.Search.{ReturnsAt, ComparesInOrder};
-ghost use Rattle.half_store.specs.Work.{compared_more, first_match_cost};
+ghost use Rattle.half_store.specs.Search.{ReturnsAt, IsFirstMatch, ComparesInOrder};
+ghost use Rattle.half_store.specs.Work.{compared_more};
 ghost use Rattle.half_store.specs.declared.vecmap.search.Scan.TheVariants.{ByBlock};
 
 use crate::{Tally, counting};
@@ -29,44 +29,17 @@ pub(crate) fn first_match<K, F: Fn(&K) -> bool>(
     tally: &mut Tally,
 ) -> Option<usize>
     requires { CallableOnKeys (F.pre matches.now) keys.now }
-    ensures found { IfSome result (λ index. (index < length keys.now)
-        × ReturnsAt (FnReturnsAt F.Fn matches.now) keys.now index true) }
-    ensures none_before { IfSome result (λ index. (earlier : ℕ) → earlier < index
-        → ReturnsAt (FnReturnsAt F.Fn matches.now) keys.now earlier false) }
-    ensures absent { IfNone result ((index : ℕ) → index < length keys.now
-        → ReturnsAt (FnReturnsAt F.Fn matches.now) keys.now index false) }
+    ensures first { IsFirstMatch (FnReturnsAt F.Fn matches.now) keys.now result }
     ensures work { ComparesInOrder scan result (length keys.now) tally.old tally.new }
 {
+    // Keys of at most eight bytes are small: a comparison costs less than a branch that is mispredicted. A size is known to fit
+    // only as a multiple, of keys that are there.
     if let Scan::ByBlock = scan
-        && are_small(keys)
+        && !keys.is_empty()
+        && 1 * size_of::<K>() <= 8
     {
         return first_match_by_block(keys, matches, tally);
     }
-    first_match_by_key(keys, matches, tally)
-}
-
-// Whether there are keys of at most eight bytes, so that a comparison costs less than a branch that is mispredicted. A size is
-// known to fit only as a multiple, of keys that are there.
-#[inline(always)]
-fn are_small<K>(keys: &[K]) -> bool {
-    !keys.is_empty() && 1 * size_of::<K>() <= 8
-}
-
-#[inline(always)]
-fn first_match_by_key<K, F: Fn(&K) -> bool>(
-    keys: &[K],
-    matches: &F,
-    tally: &mut Tally,
-) -> Option<usize>
-    requires { CallableOnKeys (F.pre matches.now) keys.now }
-    ensures found { IfSome result (λ index. (index < length keys.now)
-        × ReturnsAt (FnReturnsAt F.Fn matches.now) keys.now index true) }
-    ensures none_before { IfSome result (λ index. (earlier : ℕ) → earlier < index
-        → ReturnsAt (FnReturnsAt F.Fn matches.now) keys.now earlier false) }
-    ensures absent { IfNone result ((index : ℕ) → index < length keys.now
-        → ReturnsAt (FnReturnsAt F.Fn matches.now) keys.now index false) }
-    ensures work { tally.new ≡ compared_more (first_match_cost result (length keys.now)) tally.old }
-{
     for (index, key) in keys.iter().enumerate() {
         if counting::compare(matches, key, tally) {
             return Some(index);
@@ -82,12 +55,7 @@ fn first_match_by_block<K, F: Fn(&K) -> bool>(
     tally: &mut Tally,
 ) -> Option<usize>
     requires { CallableOnKeys (F.pre matches.now) keys.now }
-    ensures found { IfSome result (λ index. (index < length keys.now)
-        × ReturnsAt (FnReturnsAt F.Fn matches.now) keys.now index true) }
-    ensures none_before { IfSome result (λ index. (earlier : ℕ) → earlier < index
-        → ReturnsAt (FnReturnsAt F.Fn matches.now) keys.now earlier false) }
-    ensures absent { IfNone result ((index : ℕ) → index < length keys.now
-        → ReturnsAt (FnReturnsAt F.Fn matches.now) keys.now index false) }
+    ensures first { IsFirstMatch (FnReturnsAt F.Fn matches.now) keys.now result }
     ensures work { ComparesInOrder ByBlock result (length keys.now) tally.old tally.new }
 {
     // Most vectors are one block, and a loop over it would take a quarter longer.

@@ -1,12 +1,12 @@
 -- What a search of the columns or of the index says of the store over them.
-use Rattle.std.proofs.Common.{◌≡◌, ℕ, ◌<◌, Bool, true, false, List, length, Some, Ok, Err, refl, sym, ap, subst, ◌∙◌, arith, true≢false}
+use Rattle.std.proofs.Common.{◌≡◌, ℕ, ◌<◌, Bool, true, false, List, length, None, Some, Ok, Err, refl, sym, ap, subst, ◌∙◌, arith, true≢false}
 use Rattle.std.proofs.lemmas.Map.Entries.{length-keys_of}
 use Rattle.std.proofs.lemmas.Option.{slice_get_within}
 use Rattle.std.specs.List.{slice_get}
 use Rattle.std.specs.Map.{keys_of}
 use Rattle.half_store.specs.declared.store.find.Vacancy.{Vacancy}
 use Rattle.half_store.specs.Columns.{ColumnsState}
-use Rattle.half_store.specs.Search.{ReturnsAt, StoreSearch}
+use Rattle.half_store.specs.Search.{ReturnsAt, IsFirstMatch, StoreSearch}
 use Rattle.half_store.specs.Store.{StoreState, IsTableOver, vector_of, table_of}
 use Rattle.half_store.specs.Table.{TableState}
 use Rattle.half_store.specs.TableSearch.{TableSearch}
@@ -18,24 +18,22 @@ module _ {K V : Type 0} (columns : ColumnsState K V) {keys : List K} (same : key
   read index told k at = told k (ap (λ ks. slice_get ks index) same ∙ at)
 
   module _ {returns : K → Bool → Type 0} {hash : ℕ} {s : StoreState K V} where
-    pub vector_accepts : vector_of columns ≡ s → {index : ℕ} → (index < length keys) × ReturnsAt returns keys index true
-        → ((earlier : ℕ) → earlier < index → ReturnsAt returns keys earlier false) → StoreSearch returns hash s (Ok index)
-    vector_accepts is {index} (within, accepted) first =
+    pub vector_accepts : vector_of columns ≡ s → {index : ℕ} → IsFirstMatch returns keys (Some index) → StoreSearch returns hash s (Ok index)
+    vector_accepts is {index} told =
         subst (λ (s : StoreState K V). StoreSearch returns hash s (Ok index)) is
         (record {
-          within = omega (arith, within, ap length same, length-keys_of columns.pairs);
-          accepted = read index accepted;
-          first = λ form earlier before. read earlier (first earlier before);
+          within = omega (arith, told.found, ap length same, length-keys_of columns.pairs);
+          accepted = read index told.found.1;
+          first = λ form earlier before. read earlier (told.none_before earlier before);
           hashed = λ form. absurd (true≢false form);
         })
 
-    pub vector_refuses : vector_of columns ≡ s → {vacancy : Vacancy} → ((index : ℕ) → index < length keys → ReturnsAt returns keys index false)
-        → StoreSearch returns hash s (Err vacancy)
-    vector_refuses is {vacancy} absent =
+    pub vector_refuses : vector_of columns ≡ s → {vacancy : Vacancy} → IsFirstMatch returns keys None → StoreSearch returns hash s (Err vacancy)
+    vector_refuses is {vacancy} told =
         subst (λ (s : StoreState K V). StoreSearch returns hash s (Err vacancy)) is (
           record {
             refused = λ index k at hashed. read index
-                (absent index (omega (arith, slice_get_within (keys_of columns.pairs) index k at, ap length same))) k at;
+                (told.absent index (omega (arith, slice_get_within (keys_of columns.pairs) index k at, ap length same))) k at;
           },
           λ some form. absurd (true≢false form),
         )

@@ -3,6 +3,8 @@ use Rattle.std.proofs.Common.{◌≡◌, ℕ, zero, suc, Bool, List, [], ◌∷�
 use Rattle.std.proofs.Common.{◌∙◌}
 use Rattle.std.proofs.lemmas.Grind.{common_steps}
 use Rattle.std.proofs.lemmas.Option.{same_Some}
+use Rattle.std.proofs.lemmas.Map.Entries.{length-keys_of}
+use Rattle.half_store.proofs.lemmas.vecmap.Zip.{length-zip}
 use Rattle.std.specs.Borrow.{Bor}
 use Rattle.std.specs.Global.{Box}
 use Rattle.half_store.specs.Columns.{ColumnsState}
@@ -89,3 +91,6 @@ module _ {K V : Type 0} where
   pub replaces_in : {returns : Bor K → V → Option V → Type 0} {index : ℕ} {removed : Option K} {new : List (K × V)} {was s : StoreState K V}
       → was ≡ s → ReplacesValue returns was.is_vec was.pairs index new removed → ReplacesValue returns s.is_vec s.pairs index new removed
   replaces_in {returns} {index} {removed} {new} is = subst (λ (s : StoreState K V). ReplacesValue returns s.is_vec s.pairs index new removed) is
+
+-- what the proofs of `Store` go by
+pub ruleset store_steps = (common_steps, kept_store, kept_value, length-keys_of, length-set_key, length-set_value, length-set_values, length-zip, pairs_of-store)

@@ -16,7 +16,8 @@ use Rattle.half_store.specs.TableSearch.{TableSearch, RemovesFromTable}
 use Rattle.half_store.specs.Work.{Work}
 use Rattle.half_store.proofs.lemmas.table.Buckets.{length-slots_by, slot_of_word, some_bucket}
 use Rattle.half_store.proofs.lemmas.table.Circle.{distance_self}
-use Rattle.half_store.proofs.lemmas.table.Layout.{index-counted, index-vacant, at_home, buckets_seen}
+use Rattle.half_store.proofs.lemmas.capacity.{buckets_of-capacity_of, capacity_for-capacity_of}
+use Rattle.half_store.proofs.lemmas.table.Layout.{index-counted, index-vacant, at_home, buckets_seen, view_lent, count_seen, IsIndexed-as, IsIndexed-empty, IsTable-as}
 use Rattle.half_store.proofs.lemmas.table.Slots.{full_from, full-lt}
 use Rattle.half_store.proofs.lemmas.table.Probe.{reach_at_vacancy, reach_past_pair, reach_short}
 use Rattle.half_store.proofs.lemmas.table.Reach.{reach-none}
@@ -110,6 +111,16 @@ module _ {hashes words : List ℕ} (x : IsIndexed hashes words) (hash : ℕ) whe
         buckets = buckets_seen hashes words x refl;
       }
 
+-- What was told of columns that are lent, in the words of callers.
+module _ {hs ws hashes words : List ℕ} {t : TableState} (view : table_state hs (slots_by hs ws) ≡ t) (h : hashes ≡ hs) (w : ws ≡ words) {hash : ℕ} where
+  pub search_seen : {returns : ℕ → Bool → Type 0} {result : Result (ℕ × ℕ) ℕ} {old new : Work}
+      → TableSearch returns (table_state hashes (slots_by hashes words)) hash result old new → TableSearch returns t hash result old new
+  search_seen {returns} {result} {old} {new} told = subst (λ t. TableSearch returns t hash result old new) (view_lent view h w) told
+
+  pub probe_seen : IsIndexed hs ws → {p : ℕ} (old new : Work) → IsVacancyFor (slots_by hashes words) hash p
+      → new ≡ looked_more old (distance_from_home (slots_by hashes words) hash p + 1) → new ≡ looked_more old (reach t.hashes t.buckets hash)
+  probe_seen x {p} old new vacant cost = probing_cost (IsIndexed-as h (sym w) x) hash (view_lent view h w) p old new vacant cost
+
 -- A search that removes what it finds, in the words of callers.
 module _ (hashes words hashes' words' : List ℕ) {t : TableState} (view : table_state hashes (slots_by hashes words) ≡ t) where
   pub taken_removes : (hash : ℕ) (result : Result (ℕ × ℕ) ℕ) → length words' ≡ length words
@@ -127,3 +138,6 @@ module _ (hashes words hashes' words' : List ℕ) {t : TableState} (view : table
       → OnErr result ((table_state hashes' (slots_by hashes' words') ≡ t) × (new ≡ old))
   taken_none old new (Ok pair) same = tt
   taken_none old new (Err bucket) (kept, also, unread) = ((λ i. table_state (kept i) (slots_by (kept i) (also i))) ∙ view, unread)
+
+-- what the proofs of `Table` go by
+pub ruleset table_steps = (common_steps, IsIndexed-as, buckets_of-capacity_of, buckets_seen, capacity_for-capacity_of, count_seen, index-vacant, view_lent)

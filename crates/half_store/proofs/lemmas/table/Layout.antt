@@ -19,10 +19,12 @@ use Rattle.half_store.proofs.lemmas.table.Buckets.{word_of_slot, zero_of_slot, w
 use Rattle.half_store.proofs.lemmas.table.Buckets.{EachOnce-add, EachOnce-remove, EachOnce-empty, length-remove, remove-at, remove-last}
 use Rattle.half_store.proofs.lemmas.table.Buckets.{remove-other, count_each}
 use Rattle.half_store.specs.Words.{AreWordsFor}
+use Rattle.half_store.proofs.lemmas.table.Mask.{count-le_half}
+use Rattle.half_store.proofs.lemmas.tally.{looked_more-zero}
 use Rattle.half_store.proofs.lemmas.capacity.{four-le_count, buckets_of-capacity_of}
-use Rattle.half_store.proofs.lemmas.table.Circle.{distance_is, distance_self, distance_same}
+use Rattle.half_store.proofs.lemmas.table.Circle.{distance_is, distance_self, distance_same, probe_distance-lt}
 use Rattle.half_store.proofs.lemmas.table.Counts.{count_to, count_to-same, count_to-le, count_to-all, count_by-count_to}
-use Rattle.half_store.proofs.lemmas.table.Deletion.{HasGap-remove}
+use Rattle.half_store.proofs.lemmas.table.Deletion.{HasGap-remove, word_within}
 use Rattle.half_store.proofs.lemmas.table.Probe.{SameCounts, reach_past_pair, reach_at_vacancy}
 use Rattle.half_store.proofs.lemmas.table.Slots.{slot_cases, slot_set, slot_other, full_from, full-lt, home-lt, first_none, passes_stored}
 use Rattle.half_store.proofs.lemmas.table.Slots.{vacancy_for}
@@ -293,3 +295,6 @@ count_seen hashes words view = sym (length-slots_by hashes words) ∙ ap (λ v. 
 pub buckets_seen : (hashes words : List ℕ) {t : TableState} → IsIndexed hashes words → table_state hashes (slots_by hashes words) ≡ t
     → t.buckets ≡ buckets_of (capacity_of t.buckets)
 buckets_seen hashes words x view = grind (arith, common_steps, buckets_of-capacity_of, count_seen)
+
+-- what the proofs of removals go by
+pub ruleset deletion_steps = (common_steps, count-le_half, distance_self, looked_more-zero, nearer, probe_distance-lt, word_within)

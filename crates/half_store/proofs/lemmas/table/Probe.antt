@@ -14,8 +14,12 @@ use Rattle.half_store.proofs.lemmas.table.Counts.{count_to, count_to-same, count
 use Rattle.half_store.proofs.lemmas.table.Counts.{ahead_size}
 use Rattle.half_store.proofs.lemmas.table.Reach.{is_loaded-yes, is_loaded-no, loaded_run-is, reach-some}
 use Rattle.half_store.specs.Work.{Work, one_looked, one_compared}
+use Rattle.half_store.proofs.lemmas.table.Mask.{mask_mod}
+use Rattle.half_store.proofs.lemmas.table.Buckets.{length-slots_by}
+use Rattle.half_store.proofs.lemmas.tally.{looked_more-zero}
 use Rattle.half_store.proofs.lemmas.table.Slots.{Probes, home_distance, Probes-vacancy, Probes-distance, Probes-next, slot_cases, full_from}
 use Rattle.half_store.proofs.lemmas.table.Slots.{home-lt, full-lt, vacancy_for, full_loaded, vacant_unloaded, stored_passes, passes_stored}
+use Rattle.half_store.proofs.lemmas.table.Slots.{Probes-ahead, some_read}
 
 -- the hashes are those that are stored, counted by each test
 abbrev pub SameCounts : List ℕ → List (Option ℕ) → Type 0
@@ -213,3 +217,6 @@ module _ {slots : List (Option ℕ)} {hash : ℕ} {Refused : ℕ → Type 0} {bu
     -- the bucket is empty: each pair of the hash was compared
     pub Searches-missing : now.compared ≡ old.compared + count_by (stored (λ held. held == hash)) slots
     Searches-missing = omega (arith, s.compared, passed-all slots ordered hash bucket (Probes-vacancy s.probe none))
+
+-- what the proofs of probes go by
+pub ruleset probe_steps = (common_steps, Probes-ahead, full_from, home_distance, length-slots_by, looked_more-zero, mask_mod, some_read)

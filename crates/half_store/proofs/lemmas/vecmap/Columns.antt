@@ -1,12 +1,12 @@
 -- What the two columns of a `Columns` are to its list of pairs.
-use Rattle.std.proofs.Common.{◌≡◌, ℕ, List, length, ◌∙◌, arith}
+use Rattle.std.proofs.Common.{◌≡◌, ℕ, ◌<◌, List, length, get_or, Some, sym, ap, ◌∙◌, arith}
 use Rattle.std.proofs.lemmas.Grind.{common_steps}
 use Rattle.std.proofs.lemmas.Map.Made.{keys_of-zip}
 use Rattle.std.proofs.lemmas.Slice.Zip.{seconds-zip}
-use Rattle.std.specs.List.{zip, refill}
+use Rattle.std.specs.List.{zip, slice_get, refill}
 use Rattle.std.specs.declared.vec.Vec.{Vec}
 use Rattle.std.specs.Map.{keys_of, values_of}
-use Rattle.half_store.proofs.lemmas.vecmap.Zip.{length-zip, zip-refill}
+use Rattle.half_store.proofs.lemmas.vecmap.Zip.{length-zip, zip-refill, slice_get-zip, zip_push, zip-remove, zip-swap_remove_at, zip-set_key, zip-set_value, slice_get_at}
 use Rattle.half_store.specs.Columns.{ColumnsState, AreEven, columns_with}
 use Rattle.half_store.specs.PairLists.{set_values}
 
@@ -37,9 +37,19 @@ module _ {K V Z : Type 0} {keys : Vec K Z} {values : Vec V Z} {map : ColumnsStat
       → ◌≡◌ {A = ColumnsState K V} (record { pairs = ps; capacity = capacity }) (columns_with map qs)
   pairs_are {ps} {qs} p same = λ i. record { pairs = p i; capacity = (same ∙ o.capacity) i }
 
+  -- the pair at an index, from what stands there in each column
+  pub pair_read : (i : ℕ) {k : K} {v : V} → i < length map.pairs → k ≡ get_or keys.items i k → v ≡ get_or values.items i v
+      → slice_get map.pairs i ≡ Some (k, v)
+  pair_read i {k} {v} within at_k at_v =
+      ap (λ ps. slice_get ps i) (sym o.pairs) ∙ slice_get-zip keys.items values.items i k v (omega (arith, o.keys_length, within))
+      (omega (arith, o.values_length, within)) at_k at_v
+
 module _ {K V Z : Type 0} where
   -- the map whose values are written, one after the other
   pub written : (keys : Vec K Z) (values : Vec V Z) (map : ColumnsState K V) → seen keys values ≡ map → AreEven keys values → (w : List V)
       → ◌≡◌ {A = ColumnsState K V} (record { pairs = zip keys.items (refill values.len values.items w); capacity = keys.cap })
       (columns_with map (set_values map.pairs w))
   written keys values map view even w = grind (arith, common_steps, opened, pairs_are, zip-refill)
+
+-- what the proofs of `Columns` go by
+pub ruleset columns_steps = (common_steps, opened, pairs_are, written, slice_get-zip, slice_get_at, zip_push, zip-remove, zip-swap_remove_at, zip-set_key, zip-set_value)

@@ -7,19 +7,13 @@ use Rattle.half_store.proofs.store.Store.find.Goals as goal
 
 pub returns-in-Some-first_match-clause-found : goal.returns-in-Some-first_match-clause-found
 returns-in-Some-first_match-clause-found g c =
-    let columns = c.self.inside.columns in let told = c.in-Some-first_match.ensures in
-    vector_accepts columns c.keys.ensures.keys (vector_view columns c.in_default.is c.self.view_is) told.found told.none_before
+    let columns = c.self.inside.columns in
+    vector_accepts columns c.keys.ensures.keys (vector_view columns c.in_default.is c.self.view_is) c.in-Some-first_match.ensures.first
 
 pub returns-in-None-clause-found : goal.returns-in-None-clause-found
 returns-in-None-clause-found g c =
     let columns = c.self.inside.columns in
-    vector_refuses columns c.keys.ensures.keys (vector_view columns c.in_default.is c.self.view_is) c.in-None.ensures.absent
-
-pub find-requires-clause-keys : goal.find-requires-clause-keys
-find-requires-clause-keys g c = grind (arith, common_steps, length-keys_of)
-
-pub find-requires-clause-callable : goal.find-requires-clause-callable
-find-requires-clause-callable g c = grind (arith, common_steps, slice_get)
+    vector_refuses columns c.keys.ensures.keys (vector_view columns c.in_default.is c.self.view_is) c.in-None.ensures.first
 
 pub returns-in-Ok-clause-found : goal.returns-in-Ok-clause-found
 returns-in-Ok-clause-found g c =

@@ -17,9 +17,6 @@ returns-in_default-f-clause-replaces g c =
       removed_is = refl;
     })
 
-pub push-requires : goal.push-requires
-push-requires g c = c.swap_remove-key.ensures.room
-
 pub returns-in_default-clause-replaces : goal.returns-in_default-clause-replaces
 returns-in_default-clause-replaces g c =
     let taken = c.swap_remove-key in
@@ -35,6 +32,3 @@ returns-in_default-clause-replaces g c =
           ∙ ap (λ cs. cs.pairs ++ (taken.result.0, value) ∷ []) taken.ensures.after;
       removed_is = refl;
     })
-
-pub invariant_of-self-2 : goal.invariant_of-self-2
-invariant_of-self-2 g c = grind (arith, common_steps, kept_store, kept_value, length-set_value)

@@ -14,17 +14,17 @@ returns-in_err-index g c =
     let columns = c.self.inside.columns in
     record {
       search = Err (record { hash = 0; bucket = 0 });
-      finds = vector_refuses columns c.keys.ensures.keys (vector_view columns c.in_default.is c.self.view_is) c.in_err-index.ensures.absent;
+      finds = vector_refuses columns c.keys.ensures.keys (vector_view columns c.in_default.is c.self.view_is) c.in_err-index.ensures.first;
       cost = grind (arith, common_steps, length-keys_of);
       takes = grind (arith, common_steps);
     }
 
 pub returns-in_default : goal.returns-in_default
 returns-in_default g c =
-    let columns = c.self.inside.columns in let told = c.in_ok-index.ensures in
+    let columns = c.self.inside.columns in
     record {
       search = Ok c.in_ok-index.index;
-      finds = vector_accepts columns c.keys.ensures.keys (vector_view columns c.in_default.is c.self.view_is) told.found told.none_before;
+      finds = vector_accepts columns c.keys.ensures.keys (vector_view columns c.in_default.is c.self.view_is) c.in_ok-index.ensures.first;
       cost = grind (arith, common_steps, length-keys_of);
       takes = grind (arith, common_steps);
     }

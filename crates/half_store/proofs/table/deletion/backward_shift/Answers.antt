@@ -46,9 +46,6 @@ returns-clause-indexed g c =
       ordered = Shifts-end s (sym l.invariant.read ∙ omega (arith, c.loop-word-test.false));
     }
 
-pub returns-clause-cost : goal.returns-clause-cost
-returns-clause-cost g c = grind (arith, common_steps)
-
 -- the probe distances that are compared have no sign
 unsigned : {count m gap bucket start distance from_home : ℕ} {hashes words : List ℕ} → IsBucketCount count → m ≡ count → m < 2 ^ 64
     → Shifts m hashes words start gap bucket → distance ≡ probe_distance m gap bucket → (home_is : ℕ) → home_is < m
@@ -76,12 +73,6 @@ if_less-distance-requires g c =
     c.loop-word.invariant.apart c.home.result c.home.ensures.bound c.probe_distance-from_home.ensures in
     record { first = small.0; second = small.1 }
 
-pub set_word-requires-clause-fits : goal.set_word-requires-clause-fits
-set_word-requires-clause-fits g c = grind (arith, common_steps, word_within)
-
-pub overflow_add-distance : goal.overflow_add-distance
-overflow_add-distance g c = grind (arith, common_steps, probe_distance-lt)
-
 pub loop-word-smaller : goal.loop-word-smaller
 loop-word-smaller g c =
     let i = c.loop-word.invariant in
@@ -102,7 +93,7 @@ loop-word-preserved g c =
     let some : slice_index words l.bucket ≢ 0 = λ none. c.loop-word-test.true (i.read ∙ none) in
     let word = ap (λ n. slice_index hs (n - 1)) i.read in
     let far = c.probe_distance-from_home.ensures
-    ∙ ap (λ h. probe_distance m h l.bucket) (c.home.ensures.value ∙ ap (home m) (c.hash_of-hash.ensures ∙ word)) in
+    ∙ ap (λ h. probe_distance m h l.bucket) (c.home.ensures.value ∙ ap (home m) word) in
     let v = c.requires.removed.gap.another in
     let a = i.ahead v.0 v.1 in
     let on = one_farther i.shifts a next some e in

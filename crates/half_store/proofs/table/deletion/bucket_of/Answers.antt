@@ -3,18 +3,14 @@ use Rattle.std.proofs.lemmas.Grind.{common_steps}
 use Rattle.half_store.specs.Probe.{looked_more}
 use Rattle.half_store.specs.Reach.{home, probe_distance}
 use Rattle.half_store.proofs.lemmas.table.Buckets.{word-lt, some_bucket}
-use Rattle.half_store.proofs.lemmas.table.Circle.{distance_self, distance_same, next_farther, probe_distance-lt}
-use Rattle.half_store.proofs.lemmas.table.Layout.{nearer}
-use Rattle.half_store.proofs.lemmas.tally.{looked_more-zero, looked_more-one}
+use Rattle.half_store.proofs.lemmas.table.Circle.{distance_same, next_farther, probe_distance-lt}
+use Rattle.half_store.proofs.lemmas.tally.{looked_more-one}
 use Rattle.half_store.proofs.table.deletion.bucket_of.Given.{Over}
 use Rattle.half_store.proofs.table.deletion.bucket_of.Goals as goal
 
 -- the probe begins at the home of the hash
 begins : (hash : ℕ) {count m bucket : ℕ} → count ≡ m → bucket ≡ home count hash → bucket ≡ home m hash
 begins hash e value = value ∙ ap (λ n. home n hash) e
-
-pub loop-bucket-init : goal.loop-bucket-init
-loop-bucket-init g c = grind (arith, common_steps, begins, distance_self, looked_more-zero)
 
 -- what a step of the loop is given
 module _ (g : Over) (c : goal.After-next-bucket g) (target : ℕ)
@@ -56,10 +52,3 @@ loop-bucket-smaller g c =
       farther g c b.0 b.2,
       probe_distance-lt (m g c b.0 b.2) (start g c b.0 b.2) (in_start g c b.0 b.2) b.0 b.1,
     )
-
-pub returns-clause-near : goal.returns-clause-near
-returns-clause-near g c = grind (arith, common_steps, nearer)
-
-pub returns-clause-cost : goal.returns-clause-cost
-returns-clause-cost g c =
-    c.word_at.ensures.counted ∙ looked_more-one c.args.tally.now c.loop-bucket.tally _ c.loop-bucket.invariant.counted

@@ -18,9 +18,6 @@ remove_in-requires-clause-indexed g c =
     (IsIndexed-moved hs index c.requires.within c.requires.indexed
     (subst (λ n. MovesLast n index (g.B.Words.words c.args.buckets.now) (g.B.Words.words c.move_last.new.buckets)) len c.move_last.ensures.moves))
 
-pub returns-clause-hashes : goal.returns-clause-hashes
-returns-clause-hashes g c = grind (arith, common_steps, removed-moved)
-
 pub returns-clause-cost : goal.returns-clause-cost
 returns-clause-cost g c =
     let hs : List ℕ = c.args.hashes.now.items in

@@ -1,15 +1,8 @@
-use Rattle.std.proofs.Common.{subst, arith}
-use Rattle.std.proofs.lemmas.Grind.{common_steps}
+use Rattle.std.proofs.Common.{subst}
 use Rattle.std.specs.List.{AllZip, zip}
 use Rattle.half_store.proofs.lemmas.vecmap.Columns.{opened}
 use Rattle.half_store.proofs.lemmas.vecmap.Zip.{all_zip-zip}
 use Rattle.half_store.proofs.vecmap.Columns.clone_with_capacity.Goals as goal
-
-pub clone_all-requires-clause-fits : goal.clone_all-requires-clause-fits
-clone_all-requires-clause-fits g c = grind (arith, common_steps, opened)
-
-pub clone_all-requires-2-clause-fits : goal.clone_all-requires-2-clause-fits
-clone_all-requires-2-clause-fits g c = grind (arith, common_steps, opened)
 
 pub returns-clause-pairs : goal.returns-clause-pairs
 returns-clause-pairs g c =

@@ -1,7 +1,6 @@
-use Rattle.std.proofs.Common.{◌-◌, ap, ◌∙◌, arith, false}
+use Rattle.std.proofs.Common.{◌-◌, arith, false}
 use Rattle.std.specs.Fn.{FnReturnsAt}
 use Rattle.half_store.specs.Search.{ReturnsAt}
-use Rattle.half_store.specs.Work.{compared_more}
 use Rattle.half_store.proofs.lemmas.counting.{returned_at}
 use Rattle.half_store.proofs.lemmas.vecmap.Search.{from_before, compared_again}
 use Rattle.half_store.proofs.vecmap.search.first_match_between.Goals as goal
@@ -32,13 +31,6 @@ loop-index-preserved g c = record {
       c.loop-index.invariant.work c.if-compare.ensures.counted;
 }
 
-pub returns-clause-from : goal.returns-clause-from
-returns-clause-from g c = omega (arith, c.loop-index.invariant.order, c.loop-index.invariant.from)
-
 pub returns-clause-none_before : goal.returns-clause-none_before
 returns-clause-none_before g c = λ earlier from before.
     c.loop-index.invariant.none_before earlier (omega (arith, from, c.loop-index-test.false)) before
-
-pub returns-clause-work : goal.returns-clause-work
-returns-clause-work g c = c.loop-index.invariant.work
-    ∙ ap (λ n. compared_more n c.args.tally.now) (omega (arith, c.loop-index-test.false, c.loop-index.invariant.order))

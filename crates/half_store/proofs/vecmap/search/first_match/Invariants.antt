@@ -3,7 +3,7 @@ use Rattle.std.proofs.Common.{◌≡◌, ℕ, ◌<◌, false}
 use Rattle.std.specs.Fn.{FnReturnsAt}
 use Rattle.half_store.specs.Search.{ReturnsAt}
 use Rattle.half_store.specs.Work.{compared_more}
-use Rattle.half_store.proofs.vecmap.search.first_match_by_key.Given as goal
+use Rattle.half_store.proofs.vecmap.search.first_match.Given as goal
 
 abbrev pub invariant-loop-index : goal.invariant-loop-index
 invariant-loop-index g l = record {
