@@ -4,9 +4,8 @@ use Rattle.std.proofs.lemmas.Result.{err_from_is_err_and}
 use Rattle.std.specs.Result.{is_ok}
 use Rattle.halfbrown.specs.Growth.{is_full}
 use Rattle.halfbrown.specs.Pairs.{holds}
-use Rattle.halfbrown.proofs.lemmas.map.Costs.{key_costs}
+use Rattle.halfbrown.proofs.lemmas.map.Costs.{key_costs, held_costs, missing_costs, unmade_costs}
 use Rattle.halfbrown.proofs.lemmas.map.Growth.{switched_capacity}
-use Rattle.halfbrown.proofs.lemmas.map.Prepare.{held_costs, missing_costs, unmade_costs}
 use Rattle.halfbrown.proofs.map.LimitedHashMap.prepare.Goals as goal
 
 pub returns-in-Ok-clause-cost : goal.returns-in-Ok-clause-cost

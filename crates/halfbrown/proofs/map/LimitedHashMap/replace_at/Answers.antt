@@ -1,6 +1,5 @@
 use Rattle.std.proofs.Common.{◌<◌, length, ap, arith}
-use Rattle.halfbrown.proofs.lemmas.map.Layout.{state_of}
-use Rattle.halfbrown.proofs.lemmas.map.Replace.{kept_replaced, own_hash, absent_replaced}
+use Rattle.halfbrown.proofs.lemmas.map.Layout.{state_of, kept_replaced, own_hash, absent_replaced}
 use Rattle.halfbrown.proofs.map.LimitedHashMap.replace_at.Goals as goal
 
 pub invariant_of-self : goal.invariant_of-self

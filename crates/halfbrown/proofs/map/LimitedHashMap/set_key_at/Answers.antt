@@ -3,7 +3,7 @@ use Rattle.std.specs.Map.{keys_of}
 use Rattle.halfbrown.specs.Layout.{IsKept}
 use Rattle.halfbrown.specs.Updates.{HasKeyReplaced}
 use Rattle.halfbrown.proofs.lemmas.map.Layout.{kept_key, state_of}
-use Rattle.halfbrown.proofs.lemmas.pairs.Keys.{equal_at, has_key_replaced}
+use Rattle.halfbrown.proofs.lemmas.pairs.Changes.{equal_at, has_key_replaced}
 use Rattle.halfbrown.proofs.map.LimitedHashMap.set_key_at.Goals as goal
 
 pub invariant_of-self : goal.invariant_of-self

@@ -1,5 +1,5 @@
 use Rattle.std.proofs.Common.{refl}
-use Rattle.halfbrown.proofs.lemmas.map.RemoveInOrder.{value_in_order}
+use Rattle.halfbrown.proofs.lemmas.map.Remove.{value_in_order}
 use Rattle.halfbrown.proofs.map.LimitedHashMap.shift_remove_counted.Goals as goal
 
 pub returns-in_err-value-clause-removes : goal.returns-in_err-value-clause-removes

@@ -1,6 +1,6 @@
 use Rattle.std.proofs.Common.{slice_get, sym, ap, ◌∙◌}
 use Rattle.std.specs.Option.{option_map}
-use Rattle.halfbrown.proofs.lemmas.entry.Methods.{value_of-pair}
+use Rattle.halfbrown.proofs.lemmas.pairs.Changes.{value_of-pair}
 use Rattle.halfbrown.proofs.raw_entry.RawEntryBuilder.from_key_counted.Goals as goal
 
 pub returns-in-Ok-clause-reads : goal.returns-in-Ok-clause-reads
