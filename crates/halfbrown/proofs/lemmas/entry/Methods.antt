@@ -27,7 +27,7 @@ use Rattle.halfbrown.proofs.CallerLemmas.{has_put, has_removed}
 use Rattle.half_store.proofs.lemmas.store.States.{length-set_key, length-set_value, kept_value, lost_pair}
 use Rattle.halfbrown.proofs.lemmas.map.Layout.{keys_of-set_value}
 use Rattle.halfbrown.proofs.lemmas.pairs.Changes.{values_of-set_key, key-set_key, swap_remove_at-set_key, key_of-pair, set_value-twice}
-use Rattle.halfbrown.proofs.lemmas.pairs.Changes.{value-set_value, swap_remove_at-set_value, set_value-last, value-last}
+use Rattle.halfbrown.proofs.lemmas.pairs.Changes.{value-set_value, swap_remove_at-set_value, set_value-last, value-last, pair-last}
 use Rattle.halfbrown.proofs.lemmas.pairs.Changes.{length-swap_remove_at}
 use Rattle.std.proofs.Math.ListN.{length-append}
 use Rattle.std.proofs.lemmas.Option.{same_Some}
@@ -37,24 +37,6 @@ use Rattle.std.specs.declared.cmp.PartialEq as eq
 use Rattle.std.specs.declared.hash.Hash as hash
 use Rattle.halfbrown.specs.declared.key_hasher.KeyHasher as hashers
 use Rattle.halfbrown.specs.declared.limit.Limit as limits
-
-module _ {K V S : Type 0} (limit : ℕ) (same : K → K → Bool) (laws : IsEquivalence same) (old m : State K V S) (k : K)
-    (prepared : Prepares limit old (insert_needs limit same old k) m) where
-  put_is : (ps : List (K × V)) (v : V) → put same m.pairs k v ≡ ps → put same old.pairs k v ≡ ps
-  put_is ps v is = ap (λ qs. put same qs k v) (sym prepared.pairs) ∙ is
-
-  has_put_at : (ps : List (K × V)) (v : V) → put same m.pairs k v ≡ ps → HasPut same old.pairs k v ps
-  has_put_at ps v is = subst (HasPut same old.pairs k v) (put_is ps v is) (has_put same laws old.pairs k v)
-
-  puts_at : (ps : List (K × V)) (contents : Contents) (v : V) → put same m.pairs k v ≡ ps
-      → Puts limit same old k v (insert_needs limit same old k) (state m.is_vec ps m.capacity m.builder contents)
-  puts_at ps contents v is = grind (arith, common_steps)
-
-  taken_is : (ps : List (K × V)) → take_out same m.pairs k ≡ ps → take_out same old.pairs k ≡ ps
-  taken_is ps is = ap (λ qs. take_out same qs k) (sym prepared.pairs) ∙ is
-
-  has_removed_at : (ps : List (K × V)) → IsDistinct same (keys_of m.pairs) → take_out same m.pairs k ≡ ps → HasRemoved same old.pairs k ps
-  has_removed_at ps distinct is = grind (arith, common_steps, has_removed, taken_is)
 
 module _ {K V S L H : Type 0} {e : eq.Ghosts K} {h : hash.Ghosts K} {b : hashers.Ghosts S K H} {l : limits.Ghosts L}
     (limit : ℕ) (same : K → K → Bool) (laws : IsEquivalence same) (old : State K V S) where
@@ -67,16 +49,12 @@ module _ {K V S L H : Type 0} {e : eq.Ghosts K} {h : hash.Ghosts K} {b : hashers
     pub found_writes : PutsThroughEntry limit same old k (Occupied o)
     unfolding with_value
     found_writes = record {
-      puts = λ v. puts_at limit same laws old o.map.now k prepared (set_value o.map.now.pairs o.index v) (contents_of o.map.now) v
-          (at.put_is k v);
-      put = λ v. has_put_at limit same laws old o.map.now k prepared (set_value o.map.now.pairs o.index v) v (at.put_is k v);
+      puts = λ v. grind (arith, common_steps, at.put_is k v);
+      put = λ v. grind (arith, common_steps, at.put_is k v, has_put same laws old.pairs k v);
     }
 
     pub found_removes : IsDistinct same (keys_of o.map.now.pairs) → RemovesKey same old.pairs k (Occupied o)
-    found_removes distinct = record {
-      pairs_left = sym (taken_is limit same laws old o.map.now k prepared (swap_remove_at o.map.now.pairs o.index) at.take_is);
-      removed = has_removed_at limit same laws old o.map.now k prepared (swap_remove_at o.map.now.pairs o.index) distinct at.take_is;
-    }
+    found_removes distinct = grind (arith, common_steps, at.take_is, has_removed same laws o.map.now.pairs distinct k)
 
   -- of a key that is not held
   module _ (v : VacantEntry K V S L H e h b l) (prepared : Prepares limit old (insert_needs limit same old v.key) v.map.now)
@@ -87,14 +65,12 @@ module _ {K V S L H : Type 0} {e : eq.Ghosts K} {h : hash.Ghosts K} {b : hashers
     pub missing_writes : PutsThroughEntry limit same old v.key (Vacant v)
     unfolding with_value
     missing_writes = record {
-      puts = λ value. puts_at limit same laws old v.map.now v.key prepared (v.map.now.pairs ++ (v.key, value) ∷ [])
-          (filled v.map.now.is_vec (contents_of v.map.now) v.vacancy) value (absent.put_is v.key value);
-      put = λ value. has_put_at limit same laws old v.map.now v.key prepared (v.map.now.pairs ++ (v.key, value) ∷ []) value
-          (absent.put_is v.key value);
+      puts = λ value. grind (arith, common_steps, absent.put_is v.key value);
+      put = λ value. grind (arith, common_steps, absent.put_is v.key value, has_put same laws old.pairs v.key value);
     }
 
     pub missing_removes : IsDistinct same (keys_of v.map.now.pairs) → RemovesKey same old.pairs v.key (Vacant v)
-    missing_removes distinct = grind (arith, common_steps)
+    missing_removes distinct = grind (arith, common_steps, absent.take_is, has_removed same laws v.map.now.pairs distinct v.key)
 
 module _ {K V S L H : Type 0} {e : eq.Ghosts K} {h : hash.Ghosts K} {b : hashers.Ghosts S K H} {l : limits.Ghosts L}
     (o : OccupiedEntry K V S L H e h b l) where
@@ -169,12 +145,8 @@ module _ {K V : Type 0} where
   pair-set_value : (ps : List (K × V)) (i : ℕ) (k : K) (u v : V) → slice_get ps i ≡ Some (k, u)
       → slice_get (set_value ps i v) i ≡ Some (k, v)
   pair-set_value [] i k u v at = absurd cc
-  pair-set_value (p ∷ ps) zero k u v at = ap (λ (q : K × V). Some (q.0, v)) (same_Some p (k, u) at)
-  pair-set_value (p ∷ ps) (suc i) k u v at = pair-set_value ps i k u v at
+  pair-set_value (p ∷ ps) i k u v at = grind (arith, common_steps, pair-set_value ps)
 
-  pair-last : (ps : List (K × V)) (p : K × V) → slice_get (ps ++ p ∷ []) (length ps) ≡ Some p
-  pair-last [] p = refl
-  pair-last (q ∷ ps) p = pair-last ps p
 
   -- among these pairs the key has this value at this index: what another value, or a removal, would leave is what they would have left before
   record IsKeptAt (is_vec : Bool) (ps : List (K × V)) (i : ℕ) (k : K) (v : V) (qs : List (K × V)) (j : ℕ) : Type 0 where

@@ -26,27 +26,7 @@ use Rattle.halfbrown.specs.Lookup.{IsIndexOf, IsAbsent, KeySearch}
 use Rattle.halfbrown.specs.Match.{IsMatch, HasNoMatch, MatchSearch}
 use Rattle.halfbrown.proofs.lemmas.pairs.Indices.{first_matched, index_of_first, none_at, absent_of_none}
 
-module _ {K : Type 0} (hash : K → ℕ) (h : ℕ) where
-  -- counting stored hashes is counting keys by their hash
-  pub count-map : (ks : List K) → count_by (λ x. x == h) (map hash ks) ≡ count_by (λ q. hash q == h) ks
-  count-map [] = refl
-  count-map (k ∷ ks) = grind (arith, common_steps, count_by, count-map ks)
-
 module _ {K V S : Type 0} (hash : S → K → ℕ) (sought : ℕ) (m : State K V S) (before after : Work) where
-  -- a search in a table by a match on keys: what it costs where it found one
-  module _ (hashes : List ℕ) (buckets : ℕ) (form : m.is_vec ≡ false) (is_map : hashes ≡ map (hash m.builder) (keys_of m.pairs))
-      (is_count : buckets ≡ buckets_of m.capacity)
-      (near : reach hashes buckets sought ≤ length hashes + 1) where
-    -- the candidates are the held keys of the hash
-    counted : count_by (λ x. x == sought) hashes ≡ candidates (hash m.builder) m.pairs sought
-    counted = ap (count_by (λ x. x == sought)) is_map ∙ count-map (hash m.builder) sought (keys_of m.pairs)
-
-    probed : reach hashes buckets sought ≡ probe_length (hash m.builder) false m.capacity m.pairs sought
-    probed = λ i. reach (is_map i) (is_count i) sought
-
-    missing_costs : after ≡ after_missing hashes buckets sought before → IsSearchCost hash sought m None 0 before after
-    missing_costs spent = grind (arith, common_steps)
-
   -- what a search by a match costs, from what the store says of its work
   pub match_costs : (is_vec : Bool) → m.is_vec ≡ is_vec → (scan : Scan) (index : Option ℕ) (hashes : List ℕ)
       → (is_vec ≡ false → hashes ≡ map (hash m.builder) (keys_of m.pairs))

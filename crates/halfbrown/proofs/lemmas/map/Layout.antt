@@ -33,8 +33,7 @@ use Rattle.halfbrown.proofs.CallerLemmas.{has_removed}
 module _ {K V : Type 0} where
   pub keys_of-set_value : (ps : List (K × V)) (i : ℕ) (v : V) → keys_of (set_value ps i v) ≡ keys_of ps
   keys_of-set_value [] i v = refl
-  keys_of-set_value (p ∷ ps) zero v = refl
-  keys_of-set_value (p ∷ ps) (suc i) v = ap (λ l. p.0 ∷ l) (keys_of-set_value ps i v)
+  keys_of-set_value (p ∷ ps) i v = grind (arith, common_steps, keys_of-set_value ps)
 
   module _ (eq : K → K → Bool) (hash : K → ℕ) (limit : ℕ) where
     -- other pairs in the same form, with their hashes

@@ -20,7 +20,7 @@ use Rattle.halfbrown.specs.State.{State, IsState, WithPairs}
 use Rattle.halfbrown.specs.Updates.{HasRemovedBy}
 use Rattle.halfbrown.proofs.CallerLemmas.{has_left, has_all, has_removed_by}
 use Rattle.halfbrown.proofs.lemmas.map.Layout.{kept_taken, state_of, kept_as}
-use Rattle.halfbrown.proofs.lemmas.pairs.Indices.{value_of_entry, index_of_pair, last_taken}
+use Rattle.halfbrown.proofs.lemmas.pairs.Indices.{value_of_entry, index_of_pair, last_taken, some_is_not_none}
 use Rattle.std.proofs.lemmas.Map.Entries.{length-keys_of}
 use Rattle.std.proofs.lemmas.List.Edits.{length-remove}
 use Rattle.std.proofs.lemmas.List.Sorted.{IsPermutation-remove}
@@ -107,10 +107,6 @@ module _ {K V S : Type 0} (limit : ℕ) (eq : K → K → Bool) (old new : State
   last_removed None removes = sym (ap (λ (m : State K V S). m.pairs) removes.unchanged) ∙ sym (append-nil new.pairs)
   last_removed (Some pair) removes = last_taken old.pairs pair (sym removes.gives) ∙ ap (λ ps. ps ++ pair ∷ []) (sym removes.after.pairs)
 
--- there is a pair at each index below their number
-no_pair : {X : Type 0} (xs : List X) (i : ℕ) → i < length xs → None ≡ slice_get xs i → ⊥
-no_pair xs i within none = grind (arith, common_steps, slice_get_cases)
-
 module _ {K V S : Type 0} (limit : ℕ) (eq : K → K → Bool) (laws : IsEquivalence eq) where
   -- a store without the pair at an index
   module _ (hash : K → ℕ) (builder : S) (old new : StoreState K V) (kept : IsKept eq hash limit old) (index : ℕ) (pair : K × V)
@@ -144,7 +140,7 @@ module _ {K V S : Type 0} (limit : ℕ) (eq : K → K → Bool) (laws : IsEquiva
       pub found_in_order : (index : ℕ) (result : Option (K × V)) (new : State K V S) → FindsIndex test old.pairs (Some index)
           → RemovesInOrderAt limit eq old index result new
           → RemovesInOrder limit eq test old (lookup_entry test old.pairs) result new
-      found_in_order index None new found told = absurd (no_pair old.pairs index found.within told.gives)
+      found_in_order index None new found told = absurd (some_is_not_none old.pairs index found.within (sym told.gives))
       found_in_order index (Some pair) new found told =
           let same = remove_found test old.pairs index found.index_is in
           record {

@@ -12,7 +12,7 @@ use Rattle.std.specs.List.Sorted.{IsPermutation}
 use Rattle.half_store.specs.PairLists.{swap_remove_at, set_value, set_key, index_of}
 use Rattle.std.specs.Map.{keys_of, values_of, remove_entry}
 use Rattle.std.specs.Option.{option_map}
-use Rattle.std.proofs.lemmas.Option.{same_Some, slice_get-map}
+use Rattle.std.proofs.lemmas.Option.{same_Some, slice_get_cases, slice_get-map}
 use Rattle.half_store.proofs.lemmas.store.States.{length-set_key}
 use Rattle.halfbrown.specs.Pairs.{value_of, pair_of}
 use Rattle.halfbrown.specs.Updates.{HasKeyReplaced}
@@ -36,7 +36,7 @@ module _ {X : Type 0} where
   length-swap_remove_at xs i some = grind (arith, common_steps)
 
   default_is : (xs : List X) (i : ℕ) (d e : X) → 0 < length xs → swap_remove xs i d ≡ swap_remove xs i e
-  default_is xs i d e some = ap (λ y. take (length xs - 1) (set xs i y)) (get_or_default xs (length xs - 1) d e (omega arith))
+  default_is xs i d e some = grind (arith, common_steps, get_or_default)
 
   -- the element, and then the others as they are left
   pub IsPermutation-swap_remove_at : (xs : List X) (i : ℕ) (x : X) → i < length xs → x ≡ get_or xs i x
@@ -62,31 +62,24 @@ module _ {X : Type 0} where
     IsDistinct-remove ks i within = distinct_left ks _ i within (λ x. IsPermutation-remove ks i x within)
 
 module _ {X : Type 0} where
-  taken_by : (xs : List X) (n i : ℕ) (a d e : X) → n < length xs
-      → take n (set (set xs i a) i (get_or (set xs i a) n d)) ≡ take n (set xs i (get_or xs n e))
-  taken_by xs n i a d e within = grind (arith, common_steps, get_or, get_or-set_other, get_or_default, set, set-set, take, take-set-le)
-
   -- an element that is taken out may be another
   pub swap_remove_at-set : (xs : List X) (i : ℕ) (a : X) → swap_remove_at (set xs i a) i ≡ swap_remove_at xs i
-  swap_remove_at-set xs i a = grind (arith, common_steps, get_or, length-set, set, take, taken_by)
+  swap_remove_at-set xs i a = grind (arith, common_steps, get_or-set_other, get_or_default, length-set, set-set, take-set-le)
 
 module _ {K V : Type 0} where
   set_value-set : (ps : List (K × V)) (i : ℕ) (v : V) (d : K × V) → set_value ps i v ≡ set ps i ((get_or ps i d).0, v)
   set_value-set [] i v d = refl
-  set_value-set (p ∷ ps) zero v d = refl
-  set_value-set (p ∷ ps) (suc i) v d = ap (λ l. p ∷ l) (set_value-set ps i v d)
+  set_value-set (p ∷ ps) i v d = grind (arith, common_steps, set_value-set ps)
 
   -- a pair that is taken out may have another value
   pub swap_remove_at-set_value : (ps : List (K × V)) (i : ℕ) (v : V) → swap_remove_at (set_value ps i v) i ≡ swap_remove_at ps i
   swap_remove_at-set_value [] i v = refl
-  swap_remove_at-set_value (p ∷ ps) i v = ap (λ l. swap_remove_at l i) (set_value-set (p ∷ ps) i v p)
-      ∙ swap_remove_at-set (p ∷ ps) i ((get_or (p ∷ ps) i p).0, v)
+  swap_remove_at-set_value (p ∷ ps) i v = rw (set_value-set (p ∷ ps) i v p) (swap_remove_at-set (p ∷ ps) i _)
 
   -- a value that is written again
   pub set_value-twice : (ps : List (K × V)) (i : ℕ) (v w : V) → set_value (set_value ps i v) i w ≡ set_value ps i w
   set_value-twice [] i v w = refl
-  set_value-twice (p ∷ ps) zero v w = refl
-  set_value-twice (p ∷ ps) (suc i) v w = ap (λ l. p ∷ l) (set_value-twice ps i v w)
+  set_value-twice (p ∷ ps) i v w = grind (arith, common_steps, set_value-twice ps)
 
   -- the value that was written
   pub value-set_value : (ps : List (K × V)) (i : ℕ) (v : V) → i < length ps → slice_get (values_of (set_value ps i v)) i ≡ Some v
@@ -107,22 +100,25 @@ module _ {K V : Type 0} where
   pub value_of-pair : (ps : List (K × V)) (i : ℕ) → slice_get (values_of ps) i ≡ option_map (λ (p : K × V). p.1) (slice_get ps i)
   value_of-pair = slice_get-map (λ p. p.1)
 
+  pub pair-last : (ps : List (K × V)) (p : K × V) → slice_get (ps ++ p ∷ []) (length ps) ≡ Some p
+  pair-last ps p = grind (arith, common_steps, slice_get_cases)
+
   pub value-last : (ps : List (K × V)) (k : K) (v : V) → slice_get (values_of (ps ++ (k, v) ∷ [])) (length ps) ≡ Some v
-  value-last [] k v = refl
-  value-last (p ∷ ps) k v = value-last ps k v
+  value-last ps k v = grind (arith, common_steps, pair-last ps (k, v), value_of-pair (ps ++ (k, v) ∷ []) (length ps))
+
+  pub key-last : (ps : List (K × V)) (k : K) (v : V) → slice_get (keys_of (ps ++ (k, v) ∷ [])) (length ps) ≡ Some k
+  key-last ps k v = grind (arith, common_steps, pair-last ps (k, v), key_of-pair (ps ++ (k, v) ∷ []) (length ps))
 
 module _ {K V : Type 0} where
   -- only this key changes
   pub keys_of-set_key : (ps : List (K × V)) (i : ℕ) (k : K) → keys_of (set_key ps i k) ≡ set (keys_of ps) i k
   keys_of-set_key [] i k = refl
-  keys_of-set_key (p ∷ ps) zero k = refl
-  keys_of-set_key (p ∷ ps) (suc i) k = ap (λ l. p.0 ∷ l) (keys_of-set_key ps i k)
+  keys_of-set_key (p ∷ ps) i k = grind (arith, common_steps, keys_of-set_key ps)
 
   -- the values stay
   pub values_of-set_key : (ps : List (K × V)) (i : ℕ) (k : K) → values_of (set_key ps i k) ≡ values_of ps
   values_of-set_key [] i k = refl
-  values_of-set_key (p ∷ ps) zero k = refl
-  values_of-set_key (p ∷ ps) (suc i) k = ap (λ l. p.1 ∷ l) (values_of-set_key ps i k)
+  values_of-set_key (p ∷ ps) i k = grind (arith, common_steps, values_of-set_key ps)
 
   -- the key that was written
   pub key-set_key : (ps : List (K × V)) (i : ℕ) (k : K) → i < length ps → slice_get (keys_of (set_key ps i k)) i ≡ Some k
@@ -133,21 +129,18 @@ module _ {K V : Type 0} where
   -- the pair at the index is set
   set_key-set : (ps : List (K × V)) (i : ℕ) (k : K) (d : K × V) → set_key ps i k ≡ set ps i (k, (get_or ps i d).1)
   set_key-set [] i k d = refl
-  set_key-set (p ∷ ps) zero k d = refl
-  set_key-set (p ∷ ps) (suc i) k d = ap (λ l. p ∷ l) (set_key-set ps i k d)
+  set_key-set (p ∷ ps) i k d = grind (arith, common_steps, set_key-set ps)
 
   -- a pair that is taken out may have another key
   pub swap_remove_at-set_key : (ps : List (K × V)) (i : ℕ) (k : K) → swap_remove_at (set_key ps i k) i ≡ swap_remove_at ps i
   swap_remove_at-set_key [] i k = refl
-  swap_remove_at-set_key (p ∷ ps) i k = ap (λ l. swap_remove_at l i) (set_key-set (p ∷ ps) i k p)
-      ∙ swap_remove_at-set (p ∷ ps) i (k, (get_or (p ∷ ps) i p).1)
+  swap_remove_at-set_key (p ∷ ps) i k = rw (set_key-set (p ∷ ps) i k p) (swap_remove_at-set (p ∷ ps) i _)
 
 -- an element is replaced by one that f cannot tell from it
 pub map-set_alike : {A B : Type 0} (f : A → B) (xs : List A) (i : ℕ) (old new : A) → slice_get xs i ≡ Some old → f old ≡ f new
     → map f (set xs i new) ≡ map f xs
 map-set_alike f [] i old new at alike = refl
-map-set_alike f (x ∷ xs) zero old new at alike = ap (λ y. y ∷ map f xs) (sym alike ∙ ap f (sym (same_Some x old at)))
-map-set_alike f (x ∷ xs) (suc i) old new at alike = ap (λ l. f x ∷ l) (map-set_alike f xs i old new at alike)
+map-set_alike f (x ∷ xs) i old new at alike = grind (arith, common_steps, map-set_alike f xs)
 
 -- P stays true of each element where it goes over from the old one to the new
 all-set : {A : Type 0} (P : A → Type 0) (xs : List A) (i : ℕ) (old new : A) → slice_get xs i ≡ Some old → (P old → P new)

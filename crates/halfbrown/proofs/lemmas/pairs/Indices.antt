@@ -11,7 +11,7 @@ use Rattle.half_store.specs.PairLists.{index_of, swap_remove_at}
 use Rattle.halfbrown.specs.Pairs.{holds_by}
 use Rattle.halfbrown.specs.Lookup.{IsIndexOf, IsAbsent}
 use Rattle.std.proofs.Math.Seq.{take-suc, take-length}
-use Rattle.std.proofs.lemmas.Option.{get_or_from_slice_get, slice_get-map, slice_get_within}
+use Rattle.std.proofs.lemmas.Option.{get_or_from_slice_get, slice_get_cases, slice_get-map, slice_get_within}
 use Rattle.std.specs.Cmp.{IsEquivalence}
 
 module _ {K : Type 0} (test : K → Bool) where
@@ -132,3 +132,7 @@ module _ {X : Type 0} where
   -- where the last element is taken out, the others stay as they are
   pub last_taken : (xs : List X) (x : X) → slice_get xs (length xs - 1) ≡ Some x → xs ≡ swap_remove_at xs (length xs - 1) ++ x ∷ []
   last_taken xs x at = grind (arith, common_steps, get_or, get_or_from_slice_get, take, take-length, take-set-le, take-suc)
+
+  -- there is an element at each index below their number
+  pub some_is_not_none : (xs : List X) (i : ℕ) → i < length xs → slice_get xs i ≡ None → ⊥
+  some_is_not_none xs i within none = grind (arith, common_steps, slice_get_cases)

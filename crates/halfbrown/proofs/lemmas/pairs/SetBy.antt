@@ -27,17 +27,10 @@ module _ {K : Type 0} (same : K → K → Bool) (laws : IsEquivalence same) (tes
   passing_key [] i first = absurd first
   passing_key (k ∷ ks) i first = (get_or (k ∷ ks) i k, first_passes test (k ∷ ks) i k first)
 
-  module _ {V : Type 0} (ps qs : List (K × V)) (v : V) (k : K) (passes : test k ≡ true) where
-    same_test : same k ≡ test
-    same_test = λ i x. sym (one_class k x passes) i
-
-    -- what is put for a key that passes is set
-    set_of_put : holds_by test ps ≡ true → HasPut same ps k v qs → HasSetBy same test ps v qs
-    set_of_put held put = grind (arith, common_steps, cond, same_test)
-
   -- the value of the key that was found is set
   pub has_set_by : {V : Type 0} (ps : List (K × V)) (i : ℕ) (v : V) → IsIndexOf test ps i → HasSetBy same test ps v (set_value ps i v)
   has_set_by ps i v at =
       let found = passing_key (keys_of ps) i (first_of_index test (keys_of ps) i at.index_is) in
-      set_of_put ps (set_value ps i v) v found.0 found.1 at.held
-      (has_put_by ps (set_value ps i v) found.0 v (sym (at.put_is found.0 v)) found.1)
+      let put = has_put_by ps (set_value ps i v) found.0 v (sym (at.put_is found.0 v)) found.1 in
+      let same_test : same found.0 ≡ test = λ i x. sym (one_class found.0 x found.1) i in
+      grind (arith, common_steps, same_test)

@@ -2,7 +2,7 @@
 use Rattle.std.proofs.Common.{◌≡◌, ℕ, zero, suc, ◌<◌, List, [], ◌∷◌, ◌++◌, length, slice_get, None, Some, IfSome, unwrap_or, refl, sym, ap}
 use Rattle.std.proofs.Common.{subst, ◌∙◌, arith, Bool, true, is_some, false, Option, true≢false}
 use Rattle.std.proofs.lemmas.Map.Entries.{length-keys_of, length-values_of}
-use Rattle.std.proofs.lemmas.Option.{same_Some}
+use Rattle.std.proofs.lemmas.Option.{same_Some, slice_get_cases}
 use Rattle.std.specs.Map.{keys_of, values_of}
 use Rattle.std.specs.Option.{option_map}
 use Rattle.half_store.specs.PairLists.{set_value, swap_remove_at}
@@ -13,7 +13,7 @@ use Rattle.halfbrown.specs.Entry.{entry_key, entry_value, map_of, with_value, Is
 use Rattle.halfbrown.specs.RawEntry.{Occupied, Vacant, found_key, found_pair, found_value, pairs_once_put, PutsThroughRawEntry, PutsEntry}
 use Rattle.halfbrown.specs.RawEntry.{AddsThroughRawEntry, IsRawEntryOf}
 use Rattle.halfbrown.specs.State.{IsState, WithPairs, State}
-use Rattle.halfbrown.proofs.lemmas.pairs.Changes.{key_of-pair, value_of-pair, set_value-last, value-last, set_value-twice}
+use Rattle.halfbrown.proofs.lemmas.pairs.Changes.{key_of-pair, value_of-pair, set_value-last, value-last, key-last, set_value-twice}
 use Rattle.halfbrown.proofs.lemmas.entry.Methods.{swap_remove_at-last}
 use Rattle.std.proofs.lemmas.Grind.{common_steps}
 use Rattle.std.specs.Cmp.{IsEquivalence}
@@ -23,7 +23,7 @@ use Rattle.halfbrown.specs.Match.{IsMatch, ReadsMatch}
 use Rattle.halfbrown.specs.Pairs.{holds}
 use Rattle.halfbrown.specs.Updates.{HasPut, HasRemovedBy}
 use Rattle.halfbrown.proofs.CallerLemmas.{has_put, has_removed_by}
-use Rattle.halfbrown.proofs.lemmas.pairs.Indices.{index_of_pair, absent_of_unheld, first_of_index}
+use Rattle.halfbrown.proofs.lemmas.pairs.Indices.{index_of_pair, absent_of_unheld, first_of_index, some_is_not_none}
 use Rattle.halfbrown.proofs.lemmas.pairs.SetBy.{has_put_by, has_set_by, passes_at}
 use Rattle.std.specs.declared.cmp.PartialEq as eq
 use Rattle.std.specs.declared.hash.Hash as hash
@@ -34,61 +34,39 @@ use Rattle.halfbrown.specs.Entry as entries
 -- the key and the value of a pair that is lent are those of its entry
 pub lent_key : {K V : Type 0} (ps : List (K × V)) (i : ℕ) (k key : K) (v : V) → slice_get ps i ≡ Some (k, v)
     → slice_get (keys_of ps) i ≡ Some key → k ≡ key
-lent_key ps i k key v at is = same_Some k key (sym (ap (option_map (λ (p : _ × _). p.0)) at) ∙ sym (key_of-pair ps i) ∙ is)
+lent_key ps i k key v at is = grind (arith, common_steps, key_of-pair ps i)
 
 pub lent_value : {K V : Type 0} (ps : List (K × V)) (i : ℕ) (k : K) (v value : V) → slice_get ps i ≡ Some (k, v)
     → slice_get (values_of ps) i ≡ Some value → v ≡ value
-lent_value ps i k v value at is = same_Some v value (sym (ap (option_map (λ (p : _ × _). p.1)) at) ∙ sym (value_of-pair ps i) ∙ is)
+lent_value ps i k v value at is = grind (arith, common_steps, value_of-pair ps i)
 
 -- an element within is there
 some_at : {X : Type 0} (xs : List X) (i : ℕ) (d : X) → i < length xs → slice_get xs i ≡ Some (unwrap_or (slice_get xs i) d)
-some_at [] i d within = absurd (omega arith)
-some_at (x ∷ xs) zero d within = refl
-some_at (x ∷ xs) (suc i) d within = some_at xs i d (omega arith)
-
--- and is something
-pub some_is_not_none : {X : Type 0} (xs : List X) (i : ℕ) → i < length xs → slice_get xs i ≡ None → ⊥
-some_is_not_none [] i within none = omega arith
-some_is_not_none (x ∷ xs) zero within none = cc
-some_is_not_none (x ∷ xs) (suc i) within none = some_is_not_none xs i (omega arith) none
+some_at xs i d within = grind (arith, common_steps, slice_get_cases)
 
 pub is_some_within : {X : Type 0} (xs : List X) (i : ℕ) → i < length xs → true ≡ is_some (slice_get xs i)
-is_some_within [] i within = absurd (omega arith)
-is_some_within (x ∷ xs) zero within = refl
-is_some_within (x ∷ xs) (suc i) within = is_some_within xs i (omega arith)
+is_some_within xs i within = grind (arith, common_steps, slice_get_cases)
 
 module _ {K V : Type 0} where
   -- a value that is held already
   set_value-held : (ps : List (K × V)) (i : ℕ) (d : V) → set_value ps i (unwrap_or (slice_get (values_of ps) i) d) ≡ ps
   set_value-held [] i d = refl
-  set_value-held (p ∷ ps) zero d = refl
-  set_value-held (p ∷ ps) (suc i) d = ap (λ l. p ∷ l) (set_value-held ps i d)
+  set_value-held (p ∷ ps) i d = grind (arith, common_steps, set_value-held ps)
 
   -- a pair that is there, or else another, has its key and its value
   pair_or : (ps : List (K × V)) (i : ℕ) (k : K) (v : V)
       → (unwrap_or (slice_get (keys_of ps) i) k, unwrap_or (slice_get (values_of ps) i) v) ≡ unwrap_or (slice_get ps i) (k, v)
-  pair_or [] i k v = refl
-  pair_or (p ∷ ps) zero k v = refl
-  pair_or (p ∷ ps) (suc i) k v = pair_or ps i k v
+  pair_or ps i k v = grind (arith, common_steps, key_of-pair ps i, value_of-pair ps i)
 
   -- what holds of each pair that has its own value holds of one that is there
   pair_there : (P : K × V → Type 0) (ps : List (K × V)) (i : ℕ)
       → ((p : K × V) → unwrap_or (slice_get (values_of ps) i) p.1 ≡ p.1 → P p) → IfSome (slice_get ps i) P
-  pair_there P [] i holds = tt
-  pair_there P (p ∷ ps) zero holds = holds p refl
-  pair_there P (p ∷ ps) (suc i) holds = pair_there P ps i holds
+  pair_there P ps i holds = grind (arith, common_steps, slice_get_cases, value_of-pair ps i)
 
   -- and what holds of its key and its value
   pub pair_is : (P : K × V → Type 0) (ps : List (K × V)) (i : ℕ) (k : K) (v : V) → slice_get (keys_of ps) i ≡ Some k
       → slice_get (values_of ps) i ≡ Some v → P (k, v) → IfSome (slice_get ps i) P
-  pair_is P [] i k v key value holds = tt
-  pair_is P (p ∷ ps) zero k v key value holds = subst P (λ i. (same_Some k p.0 (sym key) i, same_Some v p.1 (sym value) i)) holds
-  pair_is P (p ∷ ps) (suc i) k v key value holds = pair_is P ps i k v key value holds
-
-  -- the key of a pair that was just appended
-  key-last : (ps : List (K × V)) (k : K) (v : V) → slice_get (keys_of (ps ++ (k, v) ∷ [])) (length ps) ≡ Some k
-  key-last [] k v = refl
-  key-last (p ∷ ps) k v = key-last ps k v
+  pair_is P ps i k v key value holds = grind (arith, common_steps, slice_get_cases, key_of-pair ps i, value_of-pair ps i)
 
 module _ {K V S L H : Type 0} {e : eq.Ghosts K} {h : hash.Ghosts K} {b : hashers.Ghosts S K H} {l : limits.Ghosts L}
     (o : OccupiedEntry K V S L H e h b l) where
