@@ -1,5 +1,5 @@
 -- What an entry of a key is, what is written and removed through it, and what it is after a closure had its value.
-use Rattle.std.proofs.Common.{◌≡◌, ℕ, zero, suc, ◌<◌, Bool, List, [], ◌∷◌, ◌++◌, length, slice_get, Some, refl, sym, ap, subst, ◌∙◌, arith}
+use Rattle.std.proofs.Common.{◌≡◌, ℕ, ◌<◌, Bool, List, [], ◌∷◌, ◌++◌, length, slice_get, Some, refl, sym, ap, subst, ◌∙◌, arith}
 use Rattle.std.proofs.Common.{◌-◌, true, false, take, set, Option, None, MatchOption}
 use Rattle.std.proofs.lemmas.Grind.{common_steps}
 use Rattle.std.specs.Borrow.{MutBor, Bor}
@@ -9,20 +9,15 @@ use Rattle.std.specs.List.{IsDistinct}
 use Rattle.std.specs.Map.{keys_of, values_of}
 use Rattle.std.specs.Option.{option_map}
 use Rattle.half_store.specs.PairLists.{set_value, swap_remove_at}
-use Rattle.half_store.specs.Store.{filled}
-use Rattle.half_store.specs.Table.{Contents}
 use Rattle.halfbrown.specs.declared.entry.OccupiedEntry.{OccupiedEntry}
 use Rattle.halfbrown.specs.declared.entry.VacantEntry.{VacantEntry}
 use Rattle.halfbrown.specs.Entry.{Occupied, Vacant, with_value, pairs_with_key, IsEntryOf, PutsThroughEntry, RemovesKey, IsWritten}
 use Rattle.halfbrown.specs.Entry.{HasNewKey}
 use Rattle.halfbrown.specs.EntryLending.{with_entry_value}
 use Rattle.halfbrown.specs.Growth.{insert_needs}
-use Rattle.halfbrown.specs.Insertion.{Puts}
 use Rattle.halfbrown.specs.Lookup.{IsIndexOf, IsAbsent}
-use Rattle.halfbrown.specs.Pairs.{put, take_out}
 use Rattle.halfbrown.specs.Preparation.{Prepares, pushed}
-use Rattle.halfbrown.specs.State.{State, state, contents_of, with_pairs, WithPairs}
-use Rattle.halfbrown.specs.Updates.{HasPut, HasRemoved}
+use Rattle.halfbrown.specs.State.{State, with_pairs, WithPairs}
 use Rattle.halfbrown.proofs.CallerLemmas.{has_put, has_removed}
 use Rattle.half_store.proofs.lemmas.store.States.{length-set_key, length-set_value, kept_value, lost_pair}
 use Rattle.halfbrown.proofs.lemmas.map.Layout.{keys_of-set_value}
@@ -30,7 +25,6 @@ use Rattle.halfbrown.proofs.lemmas.pairs.Changes.{values_of-set_key, key-set_key
 use Rattle.halfbrown.proofs.lemmas.pairs.Changes.{value-set_value, swap_remove_at-set_value, set_value-last, value-last, pair-last}
 use Rattle.halfbrown.proofs.lemmas.pairs.Changes.{length-swap_remove_at}
 use Rattle.std.proofs.Math.ListN.{length-append}
-use Rattle.std.proofs.lemmas.Option.{same_Some}
 use Rattle.half_store.specs.ValueReplacement.{kept_index, kept_pairs, ReplacesValue}
 use Rattle.halfbrown.specs.Replacement.{ReplacesEntry, KeepsPair, LosesPair}
 use Rattle.std.specs.declared.cmp.PartialEq as eq
@@ -146,7 +140,6 @@ module _ {K V : Type 0} where
       → slice_get (set_value ps i v) i ≡ Some (k, v)
   pair-set_value [] i k u v at = absurd cc
   pair-set_value (p ∷ ps) i k u v at = grind (arith, common_steps, pair-set_value ps)
-
 
   -- among these pairs the key has this value at this index: what another value, or a removal, would leave is what they would have left before
   record IsKeptAt (is_vec : Bool) (ps : List (K × V)) (i : ℕ) (k : K) (v : V) (qs : List (K × V)) (j : ℕ) : Type 0 where

@@ -1,6 +1,6 @@
 -- What a search costs.
-use Rattle.std.proofs.Common.{◌≡◌, ℕ, ◌+◌, ◌≤◌, ◌==◌, Bool, true, false, List, [], ◌∷◌, length, map, count_by, Option, None}
-use Rattle.std.proofs.Common.{IfNone, IfSome, refl, ap, ◌∙◌, arith, ◌<◌, get_or, slice_get}
+use Rattle.std.proofs.Common.{◌≡◌, ℕ, ◌+◌, ◌≤◌, Bool, true, false, List, length, map, Option}
+use Rattle.std.proofs.Common.{IfNone, IfSome, arith, ◌<◌, get_or, slice_get}
 use Rattle.std.proofs.lemmas.Grind.{common_steps}
 use Rattle.std.proofs.lemmas.Map.Entries.{length-keys_of}
 use Rattle.std.specs.Map.{keys_of}
@@ -8,7 +8,7 @@ use Rattle.half_store.specs.Reach.{reach}
 use Rattle.half_store.specs.Capacity.{buckets_of}
 use Rattle.half_store.specs.Probe.{IsTableHitCost, after_missing}
 use Rattle.half_store.specs.Work.{Work}
-use Rattle.halfbrown.specs.Costs.{candidates, probe_length, IsSearchCost}
+use Rattle.halfbrown.specs.Costs.{IsSearchCost}
 use Rattle.halfbrown.specs.State.{State}
 use Rattle.std.proofs.Props.{props}
 use Rattle.half_store.specs.Store.{IsVacancy, StoreState}

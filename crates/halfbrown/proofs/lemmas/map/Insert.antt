@@ -1,14 +1,13 @@
 -- Insertions: what was prepared for a pair, and the pair put then.
-use Rattle.std.proofs.Common.{◌≡◌, ℕ, Bool, List, Option, Some, Ok, sym, ap, subst, ◌∙◌, arith}
+use Rattle.std.proofs.Common.{◌≡◌, ℕ, Bool, List, Option, Some, Ok, arith}
 use Rattle.std.proofs.lemmas.Grind.{common_steps}
 use Rattle.std.specs.Cmp.{IsEquivalence}
 use Rattle.std.specs.Map.{keys_of}
 use Rattle.halfbrown.specs.Growth.{insert_needs, new_key_needs}
-use Rattle.halfbrown.specs.Insertion.{Puts, Inserts, InsertsAt, InsertsNewKey}
+use Rattle.halfbrown.specs.Insertion.{Inserts, InsertsAt, InsertsNewKey}
 use Rattle.halfbrown.specs.Pairs.{index_of, put, value_of}
 use Rattle.halfbrown.specs.Preparation.{Prepares}
 use Rattle.halfbrown.specs.State.{State, IsState, WithPairs}
-use Rattle.halfbrown.specs.Updates.{HasPut}
 use Rattle.halfbrown.proofs.CallerLemmas.{has_put}
 
 module _ {K V S : Type 0} (limit : ℕ) (eq : K → K → Bool) (laws : IsEquivalence eq) (old middle new : State K V S) (k : K) (v : V)

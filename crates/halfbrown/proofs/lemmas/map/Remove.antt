@@ -1,11 +1,11 @@
 -- Removals: what the map is without the pair that was found.
 use Rattle.std.specs.Map.{lookup, lookup_entry}
 use Rattle.std.proofs.Common.{arith, ◌≡◌, ℕ, ◌-◌, ◌≤◌, Bool, true, [], ◌∷◌, ◌++◌, length, slice_get, Option, None, Some, option_to_list}
-use Rattle.std.proofs.Common.{refl, sym, ap, subst, ◌∙◌, ◌<◌, List, map, IfNone}
+use Rattle.std.proofs.Common.{refl, sym, ap, subst, ◌∙◌, map, IfNone}
 use Rattle.std.proofs.lemmas.Grind.{common_steps}
 use Rattle.std.specs.Cmp.{IsEquivalence}
 use Rattle.std.proofs.lemmas.List.{append-nil}
-use Rattle.std.proofs.lemmas.Option.{slice_get_past, slice_get_within, slice_get_cases}
+use Rattle.std.proofs.lemmas.Option.{slice_get_past, slice_get_within}
 use Rattle.std.specs.Option.{option_map}
 use Rattle.std.specs.Prelude.{Result, Ok, Err}
 use Rattle.half_store.specs.PairLists.{swap_remove_at}

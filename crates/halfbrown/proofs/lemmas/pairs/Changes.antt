@@ -1,5 +1,5 @@
 -- Lists of pairs of which one has another key, another value, or is gone.
-use Rattle.std.proofs.Common.{◌≡◌, ℕ, zero, suc, ◌+◌, ◌-◌, ◌<◌, Bool, List, [], ◌∷◌, length, map, take, get_or, refl, ap, subst, arith}
+use Rattle.std.proofs.Common.{◌≡◌, ℕ, zero, suc, ◌+◌, ◌<◌, Bool, List, [], ◌∷◌, length, map, take, get_or, refl, ap, subst, arith}
 use Rattle.std.proofs.Common.{◌++◌, set, slice_get, Some, ◌∙◌, true, false, Option, IfSome, sym, None}
 use Rattle.std.proofs.lemmas.Grind.{common_steps}
 use Rattle.std.proofs.Math.ListN.{set, length-map, get_or-map}

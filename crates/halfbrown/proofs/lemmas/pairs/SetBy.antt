@@ -1,11 +1,11 @@
 -- What a put, and a set value, are for the key that passes a test.
 use Rattle.std.specs.Map.{keys_of}
-use Rattle.std.proofs.Common.{arith, ◌≡◌, ℕ, zero, suc, Bool, true, List, [], ◌∷◌, cond, get_or, slice_get, IfSome, sym, ap, subst, ◌∙◌}
+use Rattle.std.proofs.Common.{arith, ◌≡◌, ℕ, zero, suc, Bool, true, List, [], ◌∷◌, get_or, slice_get, IfSome, sym, ap, subst, ◌∙◌}
 use Rattle.std.proofs.lemmas.Grind.{common_steps}
 use Rattle.std.specs.Cmp.{IsEquivalence}
 use Rattle.half_store.specs.PairLists.{set_value}
 use Rattle.halfbrown.specs.Lookup.{IsIndexOf}
-use Rattle.halfbrown.specs.Pairs.{holds_by, put_by}
+use Rattle.halfbrown.specs.Pairs.{put_by}
 use Rattle.halfbrown.specs.Updates.{HasPut, HasSetBy}
 use Rattle.halfbrown.proofs.CallerLemmas.{has_put}
 use Rattle.halfbrown.proofs.lemmas.pairs.Indices.{IsFirst, first_of_index, first_passes}

@@ -1,10 +1,9 @@
 -- What the raw entry of a key is where a search found it and where none is held, and once its pair is written or added.
-use Rattle.std.proofs.Common.{◌≡◌, ℕ, zero, suc, ◌<◌, List, [], ◌∷◌, ◌++◌, length, slice_get, None, Some, IfSome, unwrap_or, refl, sym, ap}
+use Rattle.std.proofs.Common.{◌≡◌, ℕ, ◌<◌, List, [], ◌∷◌, ◌++◌, length, slice_get, None, Some, IfSome, unwrap_or, refl, sym, ap}
 use Rattle.std.proofs.Common.{subst, ◌∙◌, arith, Bool, true, is_some, false, Option, true≢false}
 use Rattle.std.proofs.lemmas.Map.Entries.{length-keys_of, length-values_of}
-use Rattle.std.proofs.lemmas.Option.{same_Some, slice_get_cases}
+use Rattle.std.proofs.lemmas.Option.{slice_get_cases}
 use Rattle.std.specs.Map.{keys_of, values_of}
-use Rattle.std.specs.Option.{option_map}
 use Rattle.half_store.specs.PairLists.{set_value, swap_remove_at}
 use Rattle.halfbrown.specs.declared.entry.OccupiedEntry.{OccupiedEntry}
 use Rattle.halfbrown.specs.declared.raw_entry.RawEntryMut.{RawEntryMut}

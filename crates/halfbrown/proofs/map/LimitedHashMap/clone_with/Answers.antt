@@ -53,6 +53,4 @@ returns-clause-cloned g c =
     })
 
 pub returns-clause-state : goal.returns-clause-state
-returns-clause-state g c =
-    state_of g.K.PartialEq.eq (g.S.KeyHasher.hash c.args.builder) g.L.Limit.LIMIT
-    c.in_ok-store.store c.args.builder (invariant_of-result g c)
+returns-clause-state g c = state_of _ _ _ _ _ (invariant_of-result g c)

@@ -26,6 +26,4 @@ returns-clause-absent g c =
     told.replaces
 
 pub returns-clause-state : goal.returns-clause-state
-returns-clause-state g c =
-    state_of g.K.PartialEq.eq (g.S.KeyHasher.hash c.self.inside.builder) g.L.Limit.LIMIT
-    c.replace_with.new.self c.self.inside.builder (invariant_of-self g c)
+returns-clause-state g c = state_of _ _ _ _ _ (invariant_of-self g c)
