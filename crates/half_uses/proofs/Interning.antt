@@ -9,8 +9,7 @@ use Rattle.std.specs.Map.{keys_of}
 use Rattle.std.specs.Option.{option_map}
 use Rattle.std.specs.String.{string_eq, string_eq_equiv}
 use Rattle.halfbrown.specs.Pairs.{index_of, holds, put}
-use Rattle.halfbrown.proofs.lemmas.pairs.Indices.{first_of_index, first_within, first_passes, absent_of_index}
-use Rattle.halfbrown.proofs.lemmas.pairs.PairIndices.{index_of_pair}
+use Rattle.halfbrown.proofs.lemmas.pairs.Indices.{first_of_index, first_within, first_passes, absent_of_index, index_of_pair}
 use Rattle.halfbrown.specs.Lookup.{IsAbsent}
 use Rattle.half_uses.specs.Interner.{number_of, with_text}
 

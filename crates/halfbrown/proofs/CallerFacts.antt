@@ -1,6 +1,6 @@
 -- What follows of changed lists of pairs, for callers: the set `map_facts` has those that `grind` applies, and `using` takes it.
-use Rattle.std.proofs.Common.{◌≡◌, ℕ, suc, ◌+◌, ◌<◌, ◌≤◌, Bool, true, false, cond, ◌||◌, ◌⊎◌, inl, inr, List, [], ◌∷◌, ◌++◌, length, take}
-use Rattle.std.proofs.Common.{reverse, get_or, slice_get, Option, None, Some, is_some, unwrap_or, count_by, refl, sym, ap, subst, ◌∙◌}
+use Rattle.std.proofs.Common.{◌≡◌, ℕ, suc, ◌+◌, ◌<◌, ◌≤◌, Bool, true, false, cond, ◌⊎◌, List, [], ◌∷◌, ◌++◌, length, take}
+use Rattle.std.proofs.Common.{reverse, get_or, slice_get, Option, Some, is_some, unwrap_or, count_by, refl, sym, ap, subst, ◌∙◌}
 use Rattle.std.proofs.Common.{append-nil, arith}
 use Rattle.std.proofs.lemmas.Grind.{common_steps}
 use Rattle.std.specs.Cmp.{IsEquivalence}
@@ -20,27 +20,20 @@ use Rattle.halfbrown.specs.Pairs.{IsForm, value_of, holds, holds_by, put, set_by
 use Rattle.halfbrown.specs.Updates.{HasPut}
 use Rattle.halfbrown.proofs.CallerLemmas.{value_of_equal, lookup_permuted}
 use Rattle.halfbrown.proofs.lemmas.pairs.Indices.{value_of_entry}
-use Rattle.halfbrown.proofs.lemmas.pairs.SwapRemove.{map-swap_remove_at}
+use Rattle.halfbrown.proofs.lemmas.pairs.Changes.{map-swap_remove_at}
 use Rattle.halfbrown.specs.CallerLoops.{add_key, CountsEach, GroupsEach}
 
 -- ---- whether a key is held, and where
 
 module _ {K V : Type 0} (test : K → Bool) where
-  held_past : (p : K × V) (ps : List (K × V)) (b : Bool) → holds_by test ps ≡ list_any test (keys_of ps)
-      → is_some (cond b (Some p.1) (lookup test ps)) ≡ (b || list_any test (keys_of ps))
-  held_past p ps b more = grind (arith, common_steps)
-
   -- a key that passes is held exactly where any key passes
   pub holds_by-any : (ps : List (K × V)) → holds_by test ps ≡ list_any test (keys_of ps)
   holds_by-any [] = refl
-  holds_by-any (p ∷ ps) = held_past p ps (test p.0) (holds_by-any ps)
-
-  value_by : (o : Option V) → is_some o ≡ true → (v : V) × (o ≡ Some v)
-  value_by o h = grind (arith, common_steps)
+  holds_by-any (p ∷ ps) = grind (arith, common_steps, holds_by-any ps)
 
   -- that value
   pub value_of_held : (ps : List (K × V)) → holds_by test ps ≡ true → (v : V) × (lookup test ps ≡ Some v)
-  value_of_held ps h = value_by (lookup test ps) h
+  value_of_held ps h = grind (arith, common_steps)
 
   -- the first pair whose key passes has this value and stands at this index
   pub record IsPlaced (ps : List (K × V)) (v : V) : Type 0 where
@@ -76,24 +69,15 @@ module _ {K V : Type 0} (test : K → Bool) where
   place_of_value [] v found = absurd cc
   place_of_value (p ∷ ps) v found = placed_by p ps v (place_of_value ps v) (test p.0) refl found
 
-  set_same_by : (p : K × V) (ps : List (K × V)) (v : V) → (lookup test ps ≡ Some v → set_by test ps v ≡ ps) → (b : Bool)
-      → cond b (Some p.1) (lookup test ps) ≡ Some v → cond b ((p.0, v) ∷ ps) (p ∷ set_by test ps v) ≡ p ∷ ps
-  set_same_by p ps v more b found = grind (arith, common_steps)
-
   -- the value that is held, set again, changes nothing
   pub set_same : (ps : List (K × V)) (v : V) → lookup test ps ≡ Some v → set_by test ps v ≡ ps
   set_same [] v found = refl
-  set_same (p ∷ ps) v found = set_same_by p ps v (set_same ps v) (test p.0) found
-
-  keys_taken_by : (ps : List (K × V)) (index : Option ℕ)
-      → keys_of (option_map_or (swap_remove_at ps) index ps) ≡ option_map_or (swap_remove_at (keys_of ps)) index (keys_of ps)
-  keys_taken_by ps None = refl
-  keys_taken_by ps (Some i) = map-swap_remove_at (λ p. p.0) ps i
+  set_same (p ∷ ps) v found = grind (arith, common_steps, set_same ps v)
 
   -- the keys after a removal: the one that passes is gone, and the last is in its place
   pub keys_taken : (ps : List (K × V))
       → keys_of (take_out_by test ps) ≡ option_map_or (swap_remove_at (keys_of ps)) (index_of test (keys_of ps)) (keys_of ps)
-  keys_taken ps = keys_taken_by ps (index_of test (keys_of ps))
+  keys_taken ps = grind (arith, common_steps, map-swap_remove_at (λ (p : K × V). p.0) ps)
 
 module _ {K V : Type 0} (eq : K → K → Bool) where
   -- the value that is held, put again, changes nothing
@@ -108,51 +92,28 @@ module _ {K V : Type 0} (eq : K → K → Bool) where
 -- ---- after a value was set
 
 module _ {K V : Type 0} (eq : K → K → Bool) (laws : IsEquivalence eq) (test : K → Bool) (form : IsForm eq test) where
-  set_by_cases : (p : K × V) (ps : List (K × V)) (v : V) (q : K)
-      → value_of eq (set_by test ps v) q ≡ cond (test q) (option_map (λ _. v) (value_of eq ps q)) (value_of eq ps q)
-      → (b : Bool) → test p.0 ≡ b
-      → value_of eq (cond b ((p.0, v) ∷ ps) (p ∷ set_by test ps v)) q
-      ≡ cond (test q) (option_map (λ _. v) (value_of eq (p ∷ ps) q)) (value_of eq (p ∷ ps) q)
-  set_by_cases p ps v q more b passes = grind (arith, common_steps)
-
-  same_either : (o : Option V) (b : Bool) → o ≡ cond b o o
-  same_either o b = grind (arith, common_steps)
-
   -- a key that the test accepts has the value where it had one, and each other key what it had
   pub lookup_set : (ps : List (K × V)) (v : V) (q : K)
       → value_of eq (set_by test ps v) q ≡ cond (test q) (option_map (λ _. v) (value_of eq ps q)) (value_of eq ps q)
-  lookup_set [] v q = same_either None (test q)
-  lookup_set (p ∷ ps) v q = set_by_cases p ps v q (lookup_set ps v q) (test p.0) refl
+  lookup_set [] v q = grind (arith, common_steps)
+  lookup_set (p ∷ ps) v q = grind (arith, common_steps, form p.0 q, form q p.0, laws.symm q p.0, lookup_set ps v q)
 
 -- ---- a filter, as `retain` leaves
-
-keys_kept : {K V : Type 0} (f : K → Bool) (p : K × V) (ps : List (K × V)) → keys_of (filter (λ p. f p.0) ps) ≡ filter f (keys_of ps)
-    → (b : Bool)
-    → keys_of (cond b (p ∷ filter (λ p. f p.0) ps) (filter (λ p. f p.0) ps)) ≡ cond b (p.0 ∷ filter f (keys_of ps)) (filter f (keys_of ps))
-keys_kept f p ps more b = grind (arith, common_steps)
 
 -- the keys that a test of keys keeps
 pub keys_filter : {K V : Type 0} (f : K → Bool) (ps : List (K × V)) → keys_of (filter (λ p. f p.0) ps) ≡ filter f (keys_of ps)
 keys_filter f [] = refl
-keys_filter f (p ∷ ps) = keys_kept f p ps (keys_filter f ps) (f p.0)
+keys_filter f (p ∷ ps) = grind (arith, common_steps, keys_filter f ps)
 
 module _ {K V : Type 0} (eq : K → K → Bool) (laws : IsEquivalence eq) (f : K × V → Bool) where
-  absent_entry : (o : Option (K × V)) → option_map (λ p. p.1) o ≡ None → option_map (λ p. p.1) (option_filter f o) ≡ None
-  absent_entry o none = grind (arith, common_steps)
-
-  kept_by : (p : K × V) (ps : List (K × V)) (q : K) → IsDistinct eq (keys_of (p ∷ ps))
-      → lookup (eq q) (filter f ps) ≡ option_map (λ p. p.1) (option_filter f (lookup_entry (eq q) ps))
-      → (b c : Bool) → eq q p.0 ≡ b → f p ≡ c
-      → lookup (eq q) (cond c (p ∷ filter f ps) (filter f ps))
-      ≡ option_map (λ p. p.1) (option_filter f (cond b (Some p) (lookup_entry (eq q) ps)))
-  kept_by p ps q distinct more b c same kept = grind (arith, common_steps, absent_entry, cond, lookup-none, none_past_head, value_of_entry)
-
   -- what a key has of the pairs that are kept
   pub lookup_filter : (ps : List (K × V)) (q : K) → IsDistinct eq (keys_of ps)
       → value_of eq (filter f ps) q ≡ option_map (λ p. p.1) (option_filter f (lookup_entry (eq q) ps))
   lookup_filter [] q distinct = refl
   lookup_filter (p ∷ ps) q distinct =
-      kept_by p ps q distinct (lookup_filter ps q (IsDistinct-tail eq p.0 (keys_of ps) distinct)) (eq q p.0) (f p) refl refl
+      let more = lookup_filter ps q (IsDistinct-tail eq p.0 (keys_of ps) distinct) in
+      let past = none_past_head laws q p ps distinct in
+      grind (arith, common_steps, lookup-none, more, past, value_of_entry)
 
 -- ---- for `grind`: what any key has after a put or a removal
 
@@ -163,12 +124,8 @@ FindsAfterPut eq old new k v q = HasPut eq old k v new × (value_of eq new q ≡
     ⊎ ((eq k q ≡ false) × (eq q k ≡ false) × (value_of eq new q ≡ value_of eq old q)))
 
 module _ {K V : Type 0} {eq : K → K → Bool} (laws : IsEquivalence eq) (old new : List (K × V)) where
-  after_put_by : (k : K) (v : V) (q : K) → HasPut eq old k v new → (b : Bool) → eq k q ≡ b → FindsAfterPut eq old new k v q
-  after_put_by k v q put true same = (put, refl, inl (same, laws.symm q k ∙ same, put.equals q same, value_of_equal eq laws old k q same))
-  after_put_by k v q put false apart = (put, refl, inr (apart, laws.symm q k ∙ apart, put.others q apart))
-
   pub after_put : (k : K) (v : V) (q : K) → HasPut eq old k v new → FindsAfterPut eq old new k v q
-  after_put k v q put = after_put_by k v q put (eq k q) refl
+  after_put k v q put = grind (arith, common_steps, laws.symm q k, put.equals q, put.others q, value_of_equal eq laws old k q)
 
 -- the keys after a put
 pub keys_after_put : {K V : Type 0} {eq : K → K → Bool} (old new : List (K × V)) (k : K) (v : V) → HasPut eq old k v new
@@ -190,10 +147,10 @@ module _ {K : Type 0} {eq : K → K → Bool} (laws : IsEquivalence eq) where
   count_push q xs x = fold_push (λ n y. n + cond (eq q y) 1 0) 0 xs x
 
   counts_by : (xs : List K) {old new : List (K × ℕ)} {k : K} {v : ℕ} → HasPut eq old k v new → v ≡ unwrap_or (value_of eq old k) 0 + 1
-      → (q : K) → unwrap_or (value_of eq old q) 0 ≡ count_by (eq q) xs → (b : Bool) → eq k q ≡ b
+      → (q : K) → unwrap_or (value_of eq old q) 0 ≡ count_by (eq q) xs
       → unwrap_or (value_of eq new q) 0 ≡ count_by (eq q) (xs ++ k ∷ [])
-  counts_by xs {old} {new} {k} {v} puts more q before true same = grind (arith, common_steps, count_by, count_push, unwrap_or, value_of_equal)
-  counts_by xs {old} {new} {k} {v} puts more q before false apart = grind (arith, common_steps, count_by, count_push, unwrap_or)
+  counts_by xs {old} {new} {k} {v} puts more q before =
+      grind (arith, common_steps, count_by, count_push, puts.equals q, puts.others q, laws.symm q k, value_of_equal eq laws old k q)
 
   -- a put of one more counts one item more
   pub counted_more : (xs : List K) {old new : List (K × ℕ)} {k : K} {v : ℕ} → CountsEach eq xs old → HasPut eq old k v new
@@ -220,10 +177,10 @@ group_push eq q xs x = grind (arith, common_steps)
 module _ {K X V : Type 0} {eq : K → K → Bool} (laws : IsEquivalence eq) (read : V → List X) where
   groups_by : (xs : List (K × X)) (x : X) {old new : List (K × V)} {k : K} {v : V} → HasPut eq old k v new
       → read v ≡ option_map_or read (value_of eq old k) [] ++ x ∷ []
-      → (q : K) → option_map_or read (value_of eq old q) [] ≡ values_of (filter (λ x. eq q x.0) xs) → (b : Bool) → eq k q ≡ b
+      → (q : K) → option_map_or read (value_of eq old q) [] ≡ values_of (filter (λ x. eq q x.0) xs)
       → option_map_or read (value_of eq new q) [] ≡ values_of (filter (λ x. eq q x.0) (xs ++ (k, x) ∷ []))
-  groups_by xs x {old} {new} {k} {v} puts more q before true same = grind (arith, common_steps, group_push, value_of_equal)
-  groups_by xs x {old} {new} {k} {v} puts more q before false apart = grind (arith, common_steps, append-nil, group_push)
+  groups_by xs x {old} {new} {k} {v} puts more q before =
+      grind (arith, common_steps, append-nil, group_push, puts.equals q, puts.others q, laws.symm q k, value_of_equal eq laws old k q)
 
   unwrapped : (o : Option V) (d : V) → read d ≡ [] → read (unwrap_or o d) ≡ option_map_or read o []
   unwrapped o d empty = grind (arith, common_steps)

@@ -1,11 +1,11 @@
 -- What callers read off the values of a list of pairs after a change: their sum, and the pairs once a value is set by its index.
 -- `using` takes the sets at the end.
-use Rattle.std.proofs.Common.{◌≡◌, ℕ, zero, suc, ◌+◌, ◌-◌, ◌≤◌, Bool, cond, List, [], ◌∷◌, ◌++◌, length, slice_get, get_or, Option, None, Some}
-use Rattle.std.proofs.Common.{unwrap_or, sum, is_some, refl, sym, ap, ◌∙◌, arith}
+use Rattle.std.proofs.Common.{◌≡◌, ℕ, ◌+◌, ◌-◌, ◌≤◌, Bool, cond, List, [], ◌∷◌, ◌++◌, length, slice_get, get_or, Option, None, Some}
+use Rattle.std.proofs.Common.{unwrap_or, sum, refl, sym, ap, ◌∙◌, arith}
 use Rattle.std.proofs.lemmas.Grind.{common_steps}
-use Rattle.std.proofs.lemmas.List.{map_push}
+use Rattle.std.proofs.lemmas.List.{get_or_default, map_push}
 use Rattle.std.proofs.lemmas.List.Sums.{sum_by-cons, fold_push}
-use Rattle.std.proofs.lemmas.Map.Entries.{length-keys_of, sum_by_values_permutation}
+use Rattle.std.proofs.lemmas.Map.Entries.{sum_by_values_permutation}
 use Rattle.std.proofs.lemmas.Option.{slice_get-get_or, slice_get-map}
 use Rattle.std.specs.Cmp.{IsEquivalence}
 use Rattle.std.specs.List.{IsDistinct, sum_by}
@@ -15,25 +15,20 @@ use Rattle.half_store.specs.PairLists.{index_of, set_value, swap_remove_at}
 use Rattle.halfbrown.specs.Pairs.{holds_by, value_of, put, set_by, take_out_by}
 use Rattle.halfbrown.proofs.CallerFacts.{set_same}
 use Rattle.halfbrown.proofs.CallerLemmas.{lookup_put}
-use Rattle.halfbrown.proofs.lemmas.pairs.Indices.{absent_of_index, index_found}
-use Rattle.halfbrown.proofs.lemmas.pairs.PairIndices.{index_of_pair}
-use Rattle.halfbrown.proofs.lemmas.pairs.SwapRemove.{IsPermutation-swap_remove_at}
+use Rattle.half_store.proofs.lemmas.store.States.{length-set_value}
+use Rattle.halfbrown.proofs.lemmas.map.Layout.{keys_of-set_value}
+use Rattle.halfbrown.proofs.lemmas.pairs.Indices.{absent_of_index, index_found, index_of_pair}
+use Rattle.halfbrown.proofs.lemmas.pairs.Changes.{IsPermutation-swap_remove_at}
 
 -- ---- sums
 
 module _ {K V : Type 0} (f : V → ℕ) where
-  set_past : (p : K × V) (ps qs : List (K × V)) (w : V) (found : Option V) (b : Bool)
-      → sum_by f (values_of qs) + unwrap_or (option_map f found) 0 ≡ sum_by f (values_of ps) + cond (is_some found) (f w) 0
-      → sum_by f (values_of (cond b ((p.0, w) ∷ ps) (p ∷ qs))) + unwrap_or (option_map f (cond b (Some p.1) found)) 0
-      ≡ sum_by f (values_of (p ∷ ps)) + cond (is_some (cond b (Some p.1) found)) (f w) 0
-  set_past p ps qs w found b more = grind (arith, common_steps, sum_by-cons)
-
   -- where a value is set, it counts in the place of the old one
   pub sum_set : (test : K → Bool) (ps : List (K × V)) (w : V)
       → sum_by f (values_of (set_by test ps w)) + unwrap_or (option_map f (lookup test ps)) 0
       ≡ sum_by f (values_of ps) + cond (holds_by test ps) (f w) 0
   sum_set test [] w = refl
-  sum_set test (p ∷ ps) w = set_past p ps (set_by test ps w) w (lookup test ps) (test p.0) (sum_set test ps w)
+  sum_set test (p ∷ ps) w = grind (arith, common_steps, sum_by-cons, sum_set test ps w)
 
   sum_push : (ps : List (K × V)) (k : K) (v : V) → sum_by f (values_of (ps ++ (k, v) ∷ [])) ≡ sum_by f (values_of ps) + f v
   sum_push ps k v = ap (sum_by f) (map_push (λ p. p.1) ps (k, v)) ∙ fold_push (λ n x. n + f x) 0 (values_of ps) v
@@ -53,7 +48,7 @@ module _ {K V : Type 0} (f : V → ℕ) where
       let removed = get_or (p ∷ ps) i p in
       let value : lookup test (p ∷ ps) ≡ Some removed.1 =
       found.value ∙ slice_get-map (λ p. p.1) (p ∷ ps) i ∙ ap (option_map (λ p. p.1)) (slice_get-get_or (p ∷ ps) i p found.within) in
-      let same = sum_by_values_permutation f (p ∷ ps) (removed ∷ rest) (IsPermutation-swap_remove_at (p ∷ ps) i p found.within) in
+      let same = sum_by_values_permutation f (p ∷ ps) (removed ∷ rest) (IsPermutation-swap_remove_at (p ∷ ps) i removed found.within (get_or_default (p ∷ ps) i p removed found.within)) in
       rw (found.take_is, value) (omega (arith, same, sum_by-cons f removed.1 (values_of rest)))
 
   -- what is left once a pair is removed
@@ -80,12 +75,10 @@ module _ {K : Type 0} (from to : K → Bool) (ps : List (K × ℕ)) (n : ℕ) {v
 
 module _ {K V : Type 0} where
   pub keys_set_value : (ps : List (K × V)) (i : ℕ) (v : V) → keys_of (set_value ps i v) ≡ keys_of ps
-  keys_set_value [] i v = refl
-  keys_set_value (p ∷ ps) zero v = refl
-  keys_set_value (p ∷ ps) (suc i) v = ap (λ ks. p.0 ∷ ks) (keys_set_value ps i v)
+  keys_set_value = keys_of-set_value
 
   pub length_set_value : (ps : List (K × V)) (i : ℕ) (v : V) → length (set_value ps i v) ≡ length ps
-  length_set_value ps i v = sym (length-keys_of (set_value ps i v)) ∙ ap length (keys_set_value ps i v) ∙ length-keys_of ps
+  length_set_value = length-set_value
 
   -- the key of the pair at the index has the value, and each other key what it had
   pub lookup_set_value : {eq : K → K → Bool} (laws : IsEquivalence eq) (ps : List (K × V)) (i : ℕ) (v : V) (p : K × V) (q : K)

@@ -1,3 +1,2 @@
 -- Lemmas of entries.
 pub mod Methods
-pub mod Replace

@@ -1,5 +1,4 @@
 -- Lemmas of the map.
-pub mod Clone
 pub mod Collect
 pub mod Costs
 pub mod Equality
@@ -8,8 +7,4 @@ pub mod Growth
 pub mod Insert
 pub mod Iter
 pub mod Layout
-pub mod Prepare
 pub mod Remove
-pub mod RemoveInOrder
-pub mod Replace
-pub mod Retain

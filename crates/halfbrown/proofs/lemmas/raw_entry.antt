@@ -1,3 +1,2 @@
 -- Lemmas of raw entries.
-pub mod Builder
 pub mod Methods

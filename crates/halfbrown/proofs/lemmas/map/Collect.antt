@@ -1,6 +1,6 @@
 -- What becomes of items that are put one after another: of which keys the pairs are, and with which values.
-use Rattle.std.proofs.Common.{◌≡◌, Bool, true, false, not, ◌&&◌, cond, List, [], ◌∷◌, ◌++◌, Option, None, Some, reverse, refl, sym, ap, ◌∙◌}
-use Rattle.std.proofs.Common.{ℕ, Result, IsErr, IsErrAnd, IfErr, OnOk, subst, nat_le, ◌+◌, inl, inr, arith, if◌then◌else◌}
+use Rattle.std.proofs.Common.{◌≡◌, Bool, true, false, not, List, [], ◌∷◌, ◌++◌, Option, Some, reverse, refl, sym, ap, ◌∙◌}
+use Rattle.std.proofs.Common.{ℕ, Result, IsErr, IsErrAnd, IfErr, OnOk, subst, nat_le, inl, inr, arith}
 use Rattle.std.proofs.lemmas.Grind.{common_steps}
 use Rattle.std.proofs.lemmas.List.{reverse-append}
 use Rattle.std.specs.Cmp.{IsEquivalence}
@@ -17,24 +17,12 @@ use Rattle.std.specs.Vec.Iter.{into_iter_items, into_iter_steps}
 use Rattle.std.specs.declared.vec.IntoIter.{IntoIter}
 use Rattle.half_store.specs.Work.{Work}
 use Rattle.half_store.specs.declared.refusal.Refusal.{Refusal}
-use Rattle.halfbrown.specs.Costs.{GrewBy, no_cost, add_costs, search_asked, insert_cost}
+use Rattle.halfbrown.specs.Costs.{GrewBy, no_cost, add_costs, insert_cost}
 use Rattle.halfbrown.specs.Growth.{insert_needs, IsRefusal}
 use Rattle.halfbrown.specs.Insertion.{Puts}
 use Rattle.halfbrown.specs.Making.{IsMade}
 use Rattle.halfbrown.specs.State.{State, IsState}
 use Rattle.halfbrown.proofs.lemmas.map.Costs.{costs_assoc, none_more, more_none, spent_both}
-
-or_none : {V : Type 0} (o : Option V) → option_or o None ≡ o
-or_none o = grind (arith, common_steps)
-
-or_past : {V : Type 0} (b : Bool) (v : V) (o other : Option V) → cond b (Some v) (option_or o other) ≡ option_or (cond b (Some v) o) other
-or_past b v o other = grind (arith, common_steps)
-
-or_assoc : {V : Type 0} (o p other : Option V) → option_or (option_or o p) other ≡ option_or o (option_or p other)
-or_assoc o p other = grind (arith, common_steps)
-
-one_of : {V : Type 0} (b : Bool) (v : V) (other : Option V) → option_or (cond b (Some v) None) other ≡ cond b (Some v) other
-one_of b v other = grind (arith, common_steps)
 
 module _ {K V : Type 0} (eq : K → K → Bool) where
   pub keys_put_all : (ps items : List (K × V)) → keys_of (put_all eq ps items) ≡ add_keys eq (keys_of ps) (keys_of items)
@@ -43,28 +31,19 @@ module _ {K V : Type 0} (eq : K → K → Bool) where
 
   value_append : (ps qs : List (K × V)) (k : K) → value_of eq (ps ++ qs) k ≡ option_or (value_of eq ps k) (value_of eq qs k)
   value_append [] qs k = refl
-  value_append (p ∷ ps) qs k = ap (cond (eq k p.0) (Some p.1)) (value_append ps qs k)
-      ∙ or_past (eq k p.0) p.1 (value_of eq ps k) (value_of eq qs k)
+  value_append (p ∷ ps) qs k = grind (arith, common_steps, value_append ps qs k)
 
   module _ (laws : IsEquivalence eq) where
     pub value_put_all : (ps items : List (K × V)) (k : K)
         → value_of eq (put_all eq ps items) k ≡ option_or (last_value_of eq items k) (value_of eq ps k)
     value_put_all ps [] k = refl
-    value_put_all ps (p ∷ items) k = grind (arith, common_steps, lookup_put, one_of, or_assoc, reverse, reverse-append, value_append, value_put_all (put eq ps p.0 p.1) items k)
+    value_put_all ps (p ∷ items) k = grind (arith, common_steps, lookup_put, reverse, reverse-append, value_append, value_put_all (put eq ps p.0 p.1) items k)
 
     -- each key has the value of the last of the items that has its equal
     pub values_of_collected : (items : List (K × V)) (k : K) → value_of eq (collected eq items) k ≡ last_value_of eq items k
-    values_of_collected items k = value_put_all [] items k ∙ or_none (last_value_of eq items k)
+    values_of_collected items k = grind (arith, common_steps, value_put_all [] items k)
 
 -- Items that are inserted one after another.
-
--- an insertion that leaves a vector has hashed nothing
-asked_nothing : (limit : ℕ) (v full : Bool) → v ≡ true → (v && not full) ≡ true
-    → (if full && not true then 0 else ((if full then limit else 0) + search_asked (v && not full))) ≡ 0
-asked_nothing limit v full form stays = grind (arith, common_steps)
-
-and_left : (a b : Bool) → (a && b) ≡ true → a ≡ true
-and_left a b both = grind (arith, common_steps)
 
 -- one call of an iterator more
 pub yields_more : {I X : Type 0} (steps : I → Option X → I → Type 0) (s : I) (xs : List X) (t : I) (x : X) (u : I) → Yields steps s xs t
@@ -166,7 +145,7 @@ module _ {K V S : Type 0} (limit : ℕ) (eq : K → K → Bool) where
     pub inserts_asked : (old new : State K V S) (items : List (K × V)) (inserts : InsertsAll limit eq old items new)
         → new.is_vec ≡ true → (old.is_vec ≡ true) × ((insertions_cost limit eq hash old items new inserts).asked ≡ 0)
     inserts_asked old new [] inserts form = (sym (ap (λ m. m.is_vec) inserts) ∙ form, refl)
-    inserts_asked old new (p ∷ items) inserts form = grind (arith, common_steps, and_left, asked_nothing, not, inserts_asked inserts.0 new items inserts.3 form)
+    inserts_asked old new (p ∷ items) inserts form = grind (arith, common_steps, not, inserts_asked inserts.0 new items inserts.3 form)
 
   -- ---- collections
 

@@ -1,9 +1,19 @@
--- What was spent at one time and at another is spent in all, and what a search for a key spent.
-use Rattle.std.proofs.Common.{◌≡◌, ℕ, Bool, sym, subst, arith, zero-add, add-zero, add_assoc}
+-- What was spent at one time and at another is spent in all: what a search for a key spent, and what a granted insertion.
+use Rattle.std.proofs.Common.{◌≡◌, ℕ, Bool, sym, subst, arith, zero-add, add-zero, add_assoc, ◌+◌, true, false, is_some, ap, ◌∙◌, ◌<◌}
+use Rattle.std.proofs.Common.{length, if◌then◌else◌}
 use Rattle.std.proofs.lemmas.Grind.{common_steps}
-use Rattle.half_store.specs.Work.{Work}
-use Rattle.halfbrown.specs.Costs.{Cost, GrewBy, no_cost, add_costs, IsLookupCost, IsKeySearchCost}
+use Rattle.half_store.specs.Work.{Work, asked_more}
+use Rattle.halfbrown.specs.Costs.{Cost, GrewBy, no_cost, add_costs, IsLookupCost, IsKeySearchCost, switch_asked, capacity_after_switch}
+use Rattle.halfbrown.specs.Costs.{NoHomeIsShared, IsInsertCost, raw_insert_cost}
 use Rattle.halfbrown.specs.State.{State}
+use Rattle.std.specs.Map.{keys_of}
+use Rattle.half_store.specs.PairLists.{index_of}
+use Rattle.half_store.specs.Probe.{looked_more}
+use Rattle.halfbrown.specs.Growth.{is_full, is_vec_after, new_key_needs}
+use Rattle.halfbrown.specs.Pairs.{holds}
+use Rattle.halfbrown.specs.Preparation.{growth_looks, Prepares}
+use Rattle.halfbrown.proofs.lemmas.pairs.Indices.{found_where_held}
+use Rattle.halfbrown.specs.RawEntry.{after_adding}
 
 pub none_more : (more : Cost) → more ≡ add_costs no_cost more
 none_more more = simp zero-add
@@ -25,3 +35,34 @@ spent_both a b before middle after first second = grind (arith, common_steps)
 pub key_costs : {K V S : Type 0} (eq : K → K → Bool) (hash : S → K → ℕ) (m : State K V S) (k : K) (sought : ℕ) (before after : Work)
     → hash m.builder k ≡ sought → IsLookupCost hash sought (eq k) m before after → IsKeySearchCost eq hash m k before after
 key_costs eq hash m k sought before after same costs = subst (λ h. IsLookupCost hash h (eq k) m before after) (sym same) costs
+
+module _ {K V S : Type 0} (limit : ℕ) (eq : K → K → Bool) (hash : S → K → ℕ) (old : State K V S) (k : K)
+    (middle : State K V S) (before between after : Work) (form : middle.is_vec ≡ is_vec_after limit old)
+    (capacity : middle.capacity ≡ capacity_after_switch limit old)
+    (pairs : middle.pairs ≡ old.pairs) (builder : middle.builder ≡ old.builder)
+    (spent : between ≡ asked_more (switch_asked limit old) before) (search : IsKeySearchCost eq hash middle k between after) where
+  pub held_costs : holds eq old.pairs k ≡ true → IsInsertCost limit eq hash old k true before after
+  held_costs held = record {
+    grew = grind (arith, common_steps);
+    looked_once = λ table granted found apart.
+        search.looked_once (form ∙ table)
+        (ap (λ ps. is_some (index_of (eq k) (keys_of ps))) pairs ∙ found_where_held (eq k) old.pairs ∙ found)
+        (subst (λ t. t) (λ i. NoHomeIsShared (hash (sym builder i)) (sym capacity i) (sym pairs i)) apart)
+        ∙ ap (λ w. w.looked + 1) spent;
+  }
+
+  -- where capacity for a new key was refused
+  pub unmade_costs : is_full limit old ≡ false → IsInsertCost limit eq hash old k false before after
+  unmade_costs room = grind (arith, common_steps)
+
+  pub missing_costs : (sought : ℕ) → (middle.is_vec ≡ false → sought ≡ hash middle.builder k) → (final : Work)
+      → final ≡ looked_more after (growth_looks (hash middle.builder) middle sought true) → holds eq old.pairs k ≡ false
+      → IsInsertCost limit eq hash old k true before final
+  missing_costs sought own final probed missing = grind (arith, common_steps)
+
+pub raw_costs : {K V S : Type 0} (limit : ℕ) (eq : K → K → Bool) (hash : S → K → ℕ) (old m : State K V S) (k : K)
+    → Prepares limit old (new_key_needs limit old) m → length m.pairs < m.capacity
+    → (before between searched after : Work) → between ≡ asked_more (switch_asked limit old) before
+    → IsKeySearchCost eq hash m k between searched → after ≡ (if holds eq m.pairs k then searched else after_adding hash m k searched)
+    → GrewBy (raw_insert_cost limit eq hash old k true) before after
+raw_costs limit eq hash old m k prepared left before between searched after spent search is = grind (arith, common_steps)

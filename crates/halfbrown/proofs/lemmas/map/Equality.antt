@@ -1,6 +1,6 @@
 -- When two lists of pairs of distinct keys are equal as maps: they are of one length, and the right holds each pair of the left.
-use Rattle.std.proofs.Common.{◌≡◌, ℕ, ◌≤◌, Bool, true, false, true≢false, cond, List, [], ◌∷◌, length, get_or, slice_get, Option, None, not}
-use Rattle.std.proofs.Common.{Some, is_some, inl, inr, refl, sym, ap, ◌∙◌, arith, suc, ◌&&◌, drop, ◌+◌, subst}
+use Rattle.std.proofs.Common.{◌≡◌, ℕ, ◌≤◌, Bool, true, false, cond, List, [], ◌∷◌, length, get_or, slice_get, Option, None, not}
+use Rattle.std.proofs.Common.{Some, is_some, inl, inr, refl, sym, ap, ◌∙◌, arith, suc, drop, ◌+◌, subst}
 use Rattle.std.proofs.lemmas.Grind.{common_steps}
 use Rattle.std.specs.Bool.{Decides}
 use Rattle.std.specs.Borrow.{Bor}
@@ -39,11 +39,7 @@ module _ {K V : Type 0} (eq : K → K → Bool) where
   -- no held key is equal to one that has no value
   apart_from_none : (k : K) (ps : List (K × V)) → lookup (eq k) ps ≡ None → AllByRecursion (λ q. eq k q ≡ false) (keys_of ps)
   apart_from_none k [] none = tt
-  apart_from_none k (p ∷ ps) none =
-      elim (cases_Bool (eq k p.0)) [
-        | inl same ↦ absurd (true≢false (ap is_some (ap (λ b. cond b (Some p.1) (lookup (eq k) ps)) (sym same) ∙ none)))
-        | inr other ↦ (other, apart_from_none k ps (ap (λ b. cond b (Some p.1) (lookup (eq k) ps)) (sym other) ∙ none))
-      ]
+  apart_from_none k (p ∷ ps) none = grind (arith, common_steps, apart_from_none k ps)
 
 module _ {K V : Type 0} (eq : K → K → Bool) (value_eq : V → V → Bool) (laws : IsEquivalence eq) (left right : List (K × V)) where
   -- each key of one list has a value in the other, so it is at most as long
@@ -129,10 +125,10 @@ rest_from xs i x at =
 module _ {X : Type 0} (test : X → Bool) (xs : List X) (i : ℕ) (x : X) (at : slice_get xs i ≡ Some x) where
   -- the rest passes where its first element does and what follows does
   pub all_on : test x ≡ true → list_all test (drop i xs) ≡ list_all test (drop (i + 1) xs)
-  all_on passes = ap (list_all test) (rest_from xs i x at) ∙ ap (λ b. b && list_all test (drop (i + 1) xs)) passes
+  all_on passes = grind (arith, common_steps, rest_from xs i x at)
 
   pub all_ends : test x ≡ false → list_all test (drop i xs) ≡ false
-  all_ends fails = ap (list_all test) (rest_from xs i x at) ∙ ap (λ b. b && list_all test (drop (i + 1) xs)) fails
+  all_ends fails = grind (arith, common_steps, rest_from xs i x at)
 
 module _ {K V : Type 0} (eq : K → K → Bool) (value_eq : V → V → Bool) (ps : List (K × V)) (k : K) (v : Bor V) where
   -- a pair is held unless its value differs from what a search for its key found
@@ -155,29 +151,18 @@ module _ {K V S : Type 0} (eq : K → K → Bool) (hash : S → K → ℕ) (m : 
 
     module _ (p : K × V) (at : slice_get left i ≡ Some p) (before between : Work) (first : IsKeySearchCost eq hash m p.0 before between)
       where
-        costs_by : (held : Bool) → holds_pair eq value_eq m.pairs p ≡ held → (after : Work)
-            → AreSearchCosts eq hash m (cond held (keys_while_same eq value_eq (drop (i + 1) left) m.pairs) []) between after
-            → AreSearchCosts eq hash m (keys_while_same eq value_eq (drop i left) m.pairs) before after
-        unfolding AreSearchCosts
-        costs_by held is after more =
-            subst (λ ps. AreSearchCosts eq hash m (keys_while_same eq value_eq ps m.pairs) before after) (sym (rest_from left i p at)) (
-              between,
-              first,
-              subst
-                  (λ b. AreSearchCosts eq hash m (cond b (keys_while_same eq value_eq (drop (i + 1) left) m.pairs) []) between after) (sym is)
-                  more,
-            )
-
         -- where the first pair is held, the others follow
         pub costs_on : holds_pair eq value_eq m.pairs p ≡ true → (after : Work)
             → AreSearchCosts eq hash m (keys_while_same eq value_eq (drop (i + 1) left) m.pairs) between after
             → AreSearchCosts eq hash m (keys_while_same eq value_eq (drop i left) m.pairs) before after
-        costs_on held = costs_by true held
+        unfolding AreSearchCosts
+        costs_on held after more = grind (arith, common_steps, rest_from left i p at)
 
         -- where it is not, its search is the last
         pub costs_last : holds_pair eq value_eq m.pairs p ≡ false
             → AreSearchCosts eq hash m (keys_while_same eq value_eq (drop i left) m.pairs) before between
-        costs_last unheld = costs_by false unheld between (costs_none between)
+        unfolding AreSearchCosts
+        costs_last unheld = grind (arith, common_steps, rest_from left i p at)
 
 module _ {K V : Type 0} (eq : K → K → Bool) (value_eq : V → V → Bool) where
   pub none_searched : (left right : List (K × V)) → (length left ≡ length right → ⊥) → [] ≡ searched_keys eq value_eq left right

@@ -1,6 +1,6 @@
 -- What a search costs.
-use Rattle.std.proofs.Common.{◌≡◌, ℕ, ◌+◌, ◌≤◌, ◌==◌, Bool, true, false, List, [], ◌∷◌, length, map, count_by, fold, cond, Option, None}
-use Rattle.std.proofs.Common.{IfNone, IfSome, refl, ap, sym, ◌∙◌, arith, ◌<◌, get_or, slice_get}
+use Rattle.std.proofs.Common.{◌≡◌, ℕ, ◌+◌, ◌≤◌, Bool, true, false, List, length, map, Option}
+use Rattle.std.proofs.Common.{IfNone, IfSome, arith, ◌<◌, get_or, slice_get}
 use Rattle.std.proofs.lemmas.Grind.{common_steps}
 use Rattle.std.proofs.lemmas.Map.Entries.{length-keys_of}
 use Rattle.std.specs.Map.{keys_of}
@@ -8,7 +8,7 @@ use Rattle.half_store.specs.Reach.{reach}
 use Rattle.half_store.specs.Capacity.{buckets_of}
 use Rattle.half_store.specs.Probe.{IsTableHitCost, after_missing}
 use Rattle.half_store.specs.Work.{Work}
-use Rattle.halfbrown.specs.Costs.{candidates, probe_length, IsSearchCost}
+use Rattle.halfbrown.specs.Costs.{IsSearchCost}
 use Rattle.halfbrown.specs.State.{State}
 use Rattle.std.proofs.Props.{props}
 use Rattle.half_store.specs.Store.{IsVacancy, StoreState}
@@ -26,30 +26,7 @@ use Rattle.halfbrown.specs.Lookup.{IsIndexOf, IsAbsent, KeySearch}
 use Rattle.halfbrown.specs.Match.{IsMatch, HasNoMatch, MatchSearch}
 use Rattle.halfbrown.proofs.lemmas.pairs.Indices.{first_matched, index_of_first, none_at, absent_of_none}
 
-module _ {K : Type 0} (hash : K → ℕ) (h : ℕ) where
-  fold-map : (ks : List K) (n : ℕ) → fold (λ a x. a + cond (x == h) 1 0) n (map hash ks) ≡ fold (λ a q. a + cond (hash q == h) 1 0) n ks
-  fold-map [] n = refl
-  fold-map (k ∷ ks) n = fold-map ks (n + cond (hash k == h) 1 0)
-
-  -- counting stored hashes is counting keys by their hash
-  pub count-map : (ks : List K) → count_by (λ x. x == h) (map hash ks) ≡ count_by (λ q. hash q == h) ks
-  count-map ks = fold-map ks 0
-
 module _ {K V S : Type 0} (hash : S → K → ℕ) (sought : ℕ) (m : State K V S) (before after : Work) where
-  -- a search in a table by a match on keys: what it costs where it found one
-  module _ (hashes : List ℕ) (buckets : ℕ) (form : m.is_vec ≡ false) (is_map : hashes ≡ map (hash m.builder) (keys_of m.pairs))
-      (is_count : buckets ≡ buckets_of m.capacity)
-      (near : reach hashes buckets sought ≤ length hashes + 1) where
-    -- the candidates are the held keys of the hash
-    counted : count_by (λ x. x == sought) hashes ≡ candidates (hash m.builder) m.pairs sought
-    counted = ap (count_by (λ x. x == sought)) is_map ∙ count-map (hash m.builder) sought (keys_of m.pairs)
-
-    probed : reach hashes buckets sought ≡ probe_length (hash m.builder) false m.capacity m.pairs sought
-    probed = λ i. reach (is_map i) (is_count i) sought
-
-    missing_costs : after ≡ after_missing hashes buckets sought before → IsSearchCost hash sought m None 0 before after
-    missing_costs spent = grind (arith, common_steps)
-
   -- what a search by a match costs, from what the store says of its work
   pub match_costs : (is_vec : Bool) → m.is_vec ≡ is_vec → (scan : Scan) (index : Option ℕ) (hashes : List ℕ)
       → (is_vec ≡ false → hashes ≡ map (hash m.builder) (keys_of m.pairs))
@@ -60,14 +37,10 @@ module _ {K V S : Type 0} (hash : S → K → ℕ) (sought : ℕ) (m : State K V
   match_costs is_vec form scan index hashes is_map vector found missing near = grind (arith, common_steps)
 
 module _ {K V S : Type 0} (hash : S → K → ℕ) (sought own : ℕ) (m : State K V S) (before after : Work) (index : Option ℕ) where
-  costs_by_form : (is_vec : Bool) → m.is_vec ≡ is_vec → (is_vec ≡ false → sought ≡ own) → IsSearchCost hash sought m index 0 before after
-      → IsSearchCost hash own m index 0 before after
-  costs_by_form is_vec form same costs = grind (arith, common_steps)
-
   -- the costs under one hash are those under another that is the same in a table
   pub costs_for_other : (m.is_vec ≡ false → sought ≡ own) → IsSearchCost hash sought m index 0 before after
       → IsSearchCost hash own m index 0 before after
-  costs_for_other same costs = costs_by_form m.is_vec refl same costs
+  costs_for_other same costs = grind (arith, common_steps)
 
 -- Vacancies for a pair: for which hash they are.
 
@@ -98,18 +71,12 @@ module _ {K V S : Type 0} (test : K → Bool) (returns : K → Bool → Type 0) 
       (λ d. decides (get_or (keys_of m.pairs) index d) true (found.accepted _ (slice_get-get_or (keys_of m.pairs) index d within))))
 
   module _ (own : ℕ) (known : m.is_vec ≡ false → sought ≡ own) (hashed : (k : K) → test k ≡ true → hash m.builder k ≡ own) where
-    refused_by : HasNoMatch returns hash sought m → (j : ℕ) (d : K) → j < length (keys_of m.pairs) → (b : Bool)
-        → test (get_or (keys_of m.pairs) j d) ≡ b → test (get_or (keys_of m.pairs) j d) ≡ false
-    refused_by none j d within false fails = fails
-    refused_by none j d within true passes =
-        sym (decides _ false
-        (none.refused j _ (slice_get-get_or (keys_of m.pairs) j d within) (λ form. hashed _ passes ∙ sym (known form))))
-
     -- where each key of the hash is refused none passes
     absent_of_no_match : HasNoMatch returns hash sought m → IsAbsent test m.pairs
     absent_of_no_match none =
-        absent_of_none test m.pairs
-        (none_at test (keys_of m.pairs) (λ j d within. refused_by none j d within (test (get_or (keys_of m.pairs) j d)) refl))
+        absent_of_none test m.pairs (none_at test (keys_of m.pairs) (λ j d within.
+        let k = get_or (keys_of m.pairs) j d in
+        grind (arith, common_steps, decides k false, hashed k, none.refused j k, slice_get-get_or (keys_of m.pairs) j d within)))
 
     -- a search by the match is one for the key, under its own hash
     pub looks_up : (result : Result ℕ Vacancy) → MatchSearch returns hash sought m result → KeySearch test own m result

@@ -1,35 +1,39 @@
 -- What the fields of a map keep, from call to call.
-use Rattle.std.proofs.Common.{◌≡◌, ◌≢◌, ℕ, zero, suc, ◌<◌, ◌≤◌, Bool, true, false, List, [], ◌∷◌, ◌++◌, length, slice_get, Some, map, sym}
-use Rattle.std.proofs.Common.{refl, ap, subst, ◌∙◌, arith, true≢false}
+use Rattle.std.proofs.Common.{◌≡◌, ℕ, suc, ◌<◌, ◌≤◌, Bool, true, false, List, [], ◌∷◌, ◌++◌, length, slice_get, Some, map, sym}
+use Rattle.std.proofs.Common.{refl, ap, subst, ◌∙◌, arith, true≢false, cond, Option, Result, Ok, Err, IfErr, OnOk}
 use Rattle.std.proofs.lemmas.Grind.{common_steps}
 use Rattle.std.proofs.lemmas.List.{map-append}
 use Rattle.std.proofs.Math.ListN.{length-append}
 use Rattle.std.specs.Cmp.{IsEquivalence}
-use Rattle.std.specs.List.{IsDistinct}
+use Rattle.std.specs.List.{IsDistinct, AllByRecursion, AllZip, Contains}
 use Rattle.std.specs.Map.{keys_of}
 use Rattle.std.proofs.lemmas.Map.Entries.{length-keys_of}
-use Rattle.std.proofs.lemmas.Map.Keys.{IsDistinct-push}
-use Rattle.half_store.proofs.lemmas.store.States.{length-set_key, length-set_value}
+use Rattle.std.proofs.lemmas.Map.Keys.{IsDistinct-push, IsDistinct-head, IsDistinct-tail, IsDistinct-cons}
+use Rattle.half_store.proofs.lemmas.store.States.{length-set_key, length-set_value, kept_value as value_kept, lost_pair}
 use Rattle.half_store.specs.Columns.{no_pairs}
 use Rattle.half_store.specs.PairLists.{set_key, set_value, swap_remove_at}
 use Rattle.half_store.specs.Store.{StoreState, KeepsForm, store_pushed, store_with_pairs, vector_of}
 use Rattle.half_store.specs.declared.store.find.Vacancy.{Vacancy}
 use Rattle.halfbrown.specs.Layout.{IsKept, state_in}
-use Rattle.halfbrown.specs.Lookup.{IsAbsent}
+use Rattle.halfbrown.specs.Lookup.{IsAbsent, IsIndexOf}
 use Rattle.halfbrown.specs.State.{IsState, IsTableCapacity}
-use Rattle.halfbrown.proofs.lemmas.pairs.Keys.{keys_of-set_key, map-set_alike, IsDistinct-set}
-use Rattle.halfbrown.proofs.lemmas.pairs.SwapRemove.{map-swap_remove_at, length-swap_remove_at, IsDistinct-swap_remove_at}
-use Rattle.halfbrown.proofs.lemmas.pairs.Indices.{none_of_index, any_of_none}
+use Rattle.halfbrown.proofs.lemmas.pairs.Changes.{keys_of-set_key, map-set_alike, IsDistinct-set, map-swap_remove_at, length-swap_remove_at}
+use Rattle.halfbrown.proofs.lemmas.pairs.Changes.{IsDistinct-swap_remove_at}
+use Rattle.halfbrown.proofs.lemmas.pairs.Indices.{none_of_index, any_of_none, absent_of_unheld, index_of_pair}
+use Rattle.std.specs.Map.Calls.{RetainsPairs}
+use Rattle.halfbrown.specs.Clone.{ArePairClones}
+use Rattle.std.proofs.lemmas.Option.{same_Some, slice_get-map}
+use Rattle.std.specs.Borrow.{Bor}
+use Rattle.std.specs.Option.{option_map}
+use Rattle.std.specs.Result.{result_err}
+use Rattle.half_store.specs.ValueReplacement.{kept_pairs, ReplacesValue}
+use Rattle.halfbrown.specs.Pairs.{holds}
+use Rattle.halfbrown.proofs.CallerLemmas.{has_removed}
 
 module _ {K V : Type 0} where
-  keys_of-push : (ps : List (K × V)) (k : K) (v : V) → keys_of (ps ++ (k, v) ∷ []) ≡ keys_of ps ++ k ∷ []
-  keys_of-push [] k v = refl
-  keys_of-push (p ∷ ps) k v = ap (λ l. p.0 ∷ l) (keys_of-push ps k v)
-
   pub keys_of-set_value : (ps : List (K × V)) (i : ℕ) (v : V) → keys_of (set_value ps i v) ≡ keys_of ps
   keys_of-set_value [] i v = refl
-  keys_of-set_value (p ∷ ps) zero v = refl
-  keys_of-set_value (p ∷ ps) (suc i) v = ap (λ l. p.0 ∷ l) (keys_of-set_value ps i v)
+  keys_of-set_value (p ∷ ps) i v = grind (arith, common_steps, keys_of-set_value ps)
 
   module _ (eq : K → K → Bool) (hash : K → ℕ) (limit : ℕ) where
     -- other pairs in the same form, with their hashes
@@ -53,7 +57,7 @@ module _ {K V : Type 0} where
     pub kept_pushed : IsEquivalence eq → (s : StoreState K V) (k : K) (v : V) (vacancy : Vacancy) → IsKept eq hash limit s
         → IsAbsent (eq k) s.pairs → length s.pairs < s.capacity
         → (s.is_vec ≡ false → vacancy.hash ≡ hash k) → IsKept eq hash limit (store_pushed s k v vacancy)
-    kept_pushed laws s k v vacancy kept absent room own = grind (arith, common_steps, IsDistinct-push, any_of_none, kept_as, keys_of-push, length-append, map, map-append, none_of_index)
+    kept_pushed laws s k v vacancy kept absent room own = grind (arith, common_steps, IsDistinct-push, any_of_none, kept_as, length-append, map, map-append, none_of_index)
 
     -- a pair has another key, equal to its own and of the same hash
     pub kept_key : IsEquivalence eq → (s : StoreState K V) (i : ℕ) (old new : K) → IsKept eq hash limit s
@@ -72,31 +76,148 @@ module _ {K V : Type 0} where
     pub kept_none : (old new : StoreState K V) → IsKept eq hash limit old → KeepsForm old new → new.pairs ≡ [] → new.hashes ≡ []
         → IsKept eq hash limit new
     unfolding IsDistinct
-    kept_none old new kept keeps none no_hashes =
-        kept_as old new kept keeps (subst (λ ps. IsDistinct eq (keys_of ps)) (sym none) tt) (omega (arith, ap length none))
-        (λ table. no_hashes ∙ ap (λ ps. map hash (keys_of ps)) (sym none))
+    kept_none old new kept keeps none no_hashes = grind (arith, common_steps)
 
     -- a new store
     pub kept_made : (s : StoreState K V) → s.pairs ≡ [] → s.hashes ≡ [] → (s.is_vec ≡ true → s.capacity ≤ limit)
         → (s.is_vec ≡ false → IsTableCapacity s.capacity)
         → (s.is_vec ≡ false → limit < s.capacity) → IsKept eq hash limit s
     unfolding IsDistinct
-    kept_made s none no_hashes within series exceeds = record {
-      distinct = subst (λ ps. IsDistinct eq (keys_of ps)) (sym none) tt;
-      fits = omega (arith, ap length none);
-      hashed = λ table. no_hashes ∙ ap (λ ps. map hash (keys_of ps)) (sym none);
-      within = within;
-      series = series;
-      exceeds = exceeds;
-    }
+    kept_made s none no_hashes within series exceeds = grind (arith, common_steps)
 
     -- a vector without memory
     pub kept_empty : (s : StoreState K V) → s ≡ vector_of no_pairs → IsKept eq hash limit s
-    kept_empty s is =
-        let no_table : s.is_vec ≢ false = λ table. true≢false (sym (ap (λ s. s.is_vec) is) ∙ table) in
-        kept_made s (ap (λ s. s.pairs) is) (ap (λ s. s.hashes) is) (λ vector. omega (arith, ap (λ s. s.capacity) is))
-        (λ table. absurd (no_table table)) (λ table. absurd (no_table table))
+    unfolding IsDistinct
+    kept_empty s is = grind (arith, common_steps)
 
     -- what the fields keep is what holds of the state
     pub state_of : {S : Type 0} (s : StoreState K V) (builder : S) → IsKept eq hash limit s → IsState eq limit (state_in s builder)
     state_of s builder kept = grind (arith, common_steps)
+
+module _ {F K V : Type 0} (T : F → K → V → Bool → V → F → Type 0) where
+  all_retained : (P : K → Type 0) (f : F) (ps kept : List (K × V)) → RetainsPairs T f ps kept → AllByRecursion P (keys_of ps)
+      → AllByRecursion P (keys_of kept)
+  all_retained P f [] kept r all = subst (λ qs. AllByRecursion P (keys_of qs)) (sym r) tt
+  all_retained P f (p ∷ ps) kept r all = grind (arith, common_steps, all_retained P r.2 ps r.3 r.5 all.1)
+
+  -- distinct keys stay distinct
+  pub IsDistinct-retained : (eq : K → K → Bool) (f : F) (ps kept : List (K × V)) → RetainsPairs T f ps kept → IsDistinct eq (keys_of ps)
+      → IsDistinct eq (keys_of kept)
+  IsDistinct-retained eq f [] kept r distinct = subst (λ qs. IsDistinct eq (keys_of qs)) (sym r) distinct
+  IsDistinct-retained eq f (p ∷ ps) kept r distinct =
+      let rest = IsDistinct-retained eq r.2 ps r.3 r.5 (IsDistinct-tail eq p.0 (keys_of ps) distinct) in
+      let apart = all_retained (λ k. eq p.0 k ≡ false) r.2 ps r.3 r.5 (IsDistinct-head eq p.0 (keys_of ps) distinct) in
+      grind (arith, common_steps, IsDistinct-cons eq p.0 (keys_of r.3) apart rest, rest)
+
+-- the keys, of the pairs
+pub keys_zip : {K V : Type 0} (R : K → K → Type 0) (Q : V → V → Type 0) (ps qs : List (K × V)) → ArePairClones R Q ps qs
+    → AllZip R (keys_of ps) (keys_of qs)
+keys_zip R Q [] [] zip = tt
+keys_zip R Q [] (q ∷ qs) zip = absurd zip
+keys_zip R Q (p ∷ ps) [] zip = absurd zip
+keys_zip R Q (p ∷ ps) (q ∷ qs) zip = (zip.0.0, keys_zip R Q ps qs zip.1)
+
+-- what is told of the elements of the first list alone
+pub zip_held : {A B : Type 0} (R Q : A → B → Type 0) (xs : List A) (ys : List B) → ((x : A) (y : B) → Contains xs x → R x y → Q x y)
+    → AllZip R xs ys → AllZip Q xs ys
+zip_held R Q [] [] told zip = tt
+zip_held R Q [] (y ∷ ys) told zip = absurd zip
+zip_held R Q (x ∷ xs) [] told zip = absurd zip
+zip_held R Q (x ∷ xs) (y ∷ ys) told zip =
+    (told x y (0, omega arith, refl) zip.0, zip_held R Q xs ys (λ z w held. told z w (suc held.0, omega (arith, held.1), held.2)) zip.1)
+
+pub map-zip : {A : Type 0} (f g : A → ℕ) (xs ys : List A) → AllZip (λ x y. g y ≡ f x) xs ys → map g ys ≡ map f xs
+map-zip f g [] [] zip = refl
+map-zip f g [] (y ∷ ys) zip = absurd zip
+map-zip f g (x ∷ xs) [] zip = absurd zip
+map-zip f g (x ∷ xs) (y ∷ ys) zip = λ i. zip.0 i ∷ map-zip f g xs ys zip.1 i
+
+module _ {K : Type 0} (eq : K → K → Bool) (laws : IsEquivalence eq) where
+  all_apart : (k l : K) (ks ls : List K) → eq k l ≡ true → AllZip (λ x y. eq x y ≡ true) ks ls → AllByRecursion (λ y. eq k y ≡ false) ks
+      → AllByRecursion (λ y. eq l y ≡ false) ls
+  all_apart k l [] [] same zip all = tt
+  all_apart k l [] (y ∷ ls) same zip all = absurd zip
+  all_apart k l (x ∷ ks) [] same zip all = absurd zip
+  all_apart k l (x ∷ ks) (y ∷ ls) same zip all = grind (arith, common_steps, all_apart k l ks ls same zip.1 all.1)
+
+  -- distinct keys stay distinct where each is replaced by its equal
+  pub IsDistinct-zip : (ks ls : List K) → AllZip (λ x y. eq x y ≡ true) ks ls → IsDistinct eq ks → IsDistinct eq ls
+  unfolding IsDistinct
+  IsDistinct-zip [] [] zip distinct = tt
+  IsDistinct-zip [] (l ∷ ls) zip distinct = absurd zip
+  IsDistinct-zip (k ∷ ks) [] zip distinct = absurd zip
+  IsDistinct-zip (k ∷ ks) (l ∷ ls) zip distinct = (all_apart k l ks ls zip.0 zip.1 distinct.0, IsDistinct-zip ks ls zip.1 distinct.1)
+
+  -- the fields of a clone
+  pub kept_cloned : {V : Type 0} (hash also_hash : K → ℕ) (limit : ℕ) (old new : StoreState K V) → IsKept eq hash limit old
+      → new.is_vec ≡ old.is_vec → length new.pairs ≡ length old.pairs
+      → AllZip (λ x y. eq x y ≡ true) (keys_of old.pairs) (keys_of new.pairs)
+      → (old.is_vec ≡ false → map also_hash (keys_of new.pairs) ≡ map hash (keys_of old.pairs))
+      → new.capacity ≡ cond old.is_vec (length old.pairs) old.capacity → new.hashes ≡ old.hashes → IsKept eq also_hash limit new
+  kept_cloned hash also_hash limit old new kept form len alike hashed capacity hashes =
+      let distinct = IsDistinct-zip (keys_of old.pairs) (keys_of new.pairs) alike kept.distinct in
+      grind (arith, common_steps)
+
+module _ {K V : Type 0} where
+  -- the stored hash of a pair is that of its key
+  pub hash_at : (hash : K → ℕ) (ps : List (K × V)) (i : ℕ) (k : K) (v : V) → slice_get ps i ≡ Some (k, v)
+      → slice_get (map hash (keys_of ps)) i ≡ Some (hash k)
+  hash_at hash ps i k v at = grind (arith, common_steps, slice_get-map hash (keys_of ps) i, slice_get-map (λ (p : K × V). p.0) ps i)
+
+  -- a stored key is at its own index, and where its pair is gone no equal one is held
+  pub own_index : (eq : K → K → Bool) → IsEquivalence eq → (ps : List (K × V)) → IsDistinct eq (keys_of ps) → (i : ℕ) (k : K) (v : V)
+      → slice_get ps i ≡ Some (k, v) → IsIndexOf (eq k) ps i
+  own_index eq laws ps distinct i k v at = index_of_pair eq laws ps i (k, v) distinct at
+
+  pub unheld_after : (eq : K → K → Bool) → IsEquivalence eq → (ps : List (K × V)) → IsDistinct eq (keys_of ps) → (i : ℕ) (k : K) (v : V)
+      → slice_get ps i ≡ Some (k, v) → holds eq (swap_remove_at ps i) k ≡ false
+  unheld_after eq laws ps distinct i k v at =
+      ap (λ qs. holds eq qs k) (sym (own_index eq laws ps distinct i k v at).take_is) ∙ (has_removed eq laws ps distinct k).not_held
+
+module _ {K V : Type 0} (eq : K → K → Bool) (laws : IsEquivalence eq) (hash : K → ℕ) (limit : ℕ)
+    (old new : StoreState K V) (index : ℕ) (kept : IsKept eq hash limit old)
+    (keeps : KeepsForm old new) where
+  -- a pair that goes last
+  moved_distinct : old.is_vec ≡ true → index < length old.pairs → (k : K) (v w : V) → slice_get old.pairs index ≡ Some (k, v)
+      → IsDistinct eq (keys_of (swap_remove_at old.pairs index ++ (k, w) ∷ []))
+  moved_distinct vector within k v w at =
+      let left : StoreState K V = store_with_pairs old (swap_remove_at old.pairs index) in
+      let shorter = length-swap_remove_at old.pairs index (omega (arith, within)) in
+      let taken = kept_taken eq hash limit laws old left index kept (record { form = refl; capacity = refl }) within refl
+      (λ table. absurd (true≢false (sym vector ∙ table))) in
+      (kept_pushed eq hash limit laws left k w (record { hash = hash k; bucket = 0 }) taken
+      (absent_of_unheld (eq k) left.pairs (unheld_after eq laws old.pairs kept.distinct index k v at)) (omega (arith, shorter, kept.fits))
+      (λ table. refl)).distinct
+
+  kept_moved : (is_vec : Bool) → old.is_vec ≡ is_vec → index < length old.pairs → (k : K) (v w : V) → slice_get old.pairs index ≡ Some (k, v)
+      → new.pairs ≡ kept_pairs is_vec old.pairs index k w → new.hashes ≡ old.hashes → IsKept eq hash limit new
+  kept_moved true vector within k v w at is stays =
+      let shorter = length-swap_remove_at old.pairs index (omega (arith, within)) in
+      kept_as eq hash limit old new kept keeps (subst (λ ps. IsDistinct eq (keys_of ps)) (sym is) (moved_distinct vector within k v w at))
+      (omega (arith, ap length is, shorter, length-append (swap_remove_at old.pairs index) ((k, w) ∷ []), kept.fits))
+      (λ table. absurd (true≢false (sym vector ∙ table)))
+  kept_moved false table within k v w at is stays = grind (arith, common_steps, kept_as, keys_of-set_value, length-set_value, map)
+
+  -- the fields once the closure has answered
+  pub kept_replaced : {returns : Bor K → V → Option V → Type 0} → index < length old.pairs → (result : Result ℕ (K × ℕ))
+      → ReplacesValue returns old.is_vec old.pairs index new.pairs (option_map (λ removed. removed.0) (result_err result))
+      → IfErr result (λ _. old.is_vec ≡ false → new.hashes ≡ swap_remove_at old.hashes index) → OnOk result (new.hashes ≡ old.hashes)
+      → IsKept eq hash limit new
+  kept_replaced within (Ok at) r lost stays =
+      let kept = value_kept r in kept_moved old.is_vec refl within r.key r.value kept.0 r.pair kept.2 stays
+  kept_replaced within (Err removed) r lost stays = kept_taken eq hash limit laws old new index kept keeps within (lost_pair r).1 lost
+
+  -- the hash that comes back with a key is its own
+  pub own_hash : {returns : Bor K → V → Option V → Type 0} → (result : Result ℕ (K × ℕ)) → ReplacesValue returns old.is_vec old.pairs index new.pairs (option_map (λ removed. removed.0) (result_err result))
+      → IfErr result (λ removed. old.is_vec ≡ false → slice_get old.hashes index ≡ Some removed.1)
+      → IfErr result (λ removed. new.is_vec ≡ false → removed.1 ≡ hash removed.0)
+  own_hash (Ok i) r at = tt
+  own_hash (Err removed) r at = λ table.
+      let form = sym keeps.form ∙ table in
+      same_Some _ _ (sym (at form) ∙ ap (λ hs. slice_get hs index) (kept.hashed form) ∙ hash_at hash old.pairs index r.key r.value r.pair)
+      ∙ ap hash (lost_pair r).2
+
+  -- no equal key is held any more
+  pub absent_replaced : {returns : Bor K → V → Option V → Type 0} → (result : Result ℕ (K × ℕ)) → ReplacesValue returns old.is_vec old.pairs index new.pairs (option_map (λ removed. removed.0) (result_err result))
+      → IfErr result (λ removed. holds eq new.pairs removed.0 ≡ false)
+  absent_replaced result r = grind (arith, common_steps, lost_pair, unheld_after)

@@ -1,16 +1,18 @@
 -- Where a key stands among pairs of distinct keys, and what that says of reading and changing them.
-use Rattle.std.proofs.Common.{◌≡◌, ℕ, zero, suc, ◌<◌, Bool, true, false, cond, ◌||◌, List, [], ◌∷◌, ◌++◌, length, get_or, slice_get, Option, None}
-use Rattle.std.proofs.Common.{Some, is_some, sym, refl, ap, ◌∙◌, arith, true≢false}
+use Rattle.std.proofs.Common.{◌≡◌, ℕ, zero, suc, ◌<◌, Bool, true, false, List, [], ◌∷◌, ◌++◌, length, get_or, slice_get}
+use Rattle.std.proofs.Common.{None, Some, is_some, sym, refl, ap, ◌∙◌, arith, ◌-◌, take}
 use Rattle.std.proofs.lemmas.Grind.{common_steps}
-use Rattle.std.proofs.lemmas.List.{map-append}
+use Rattle.std.proofs.lemmas.List.{take-set-le}
 use Rattle.std.specs.Option.{option_map}
 use Rattle.std.specs.List.{IsDistinct, list_any}
-use Rattle.std.specs.Map.{keys_of, values_of, lookup, lookup_entry}
-use Rattle.std.proofs.lemmas.Map.Entries.{length-keys_of}
+use Rattle.std.specs.Map.{keys_of, lookup, lookup_entry}
 use Rattle.std.proofs.lemmas.Map.Keys.{apart_from_distinct}
-use Rattle.half_store.specs.PairLists.{index_of, set_value}
-use Rattle.halfbrown.specs.Pairs.{holds_by, set_by}
+use Rattle.half_store.specs.PairLists.{index_of, swap_remove_at}
+use Rattle.halfbrown.specs.Pairs.{holds_by}
 use Rattle.halfbrown.specs.Lookup.{IsIndexOf, IsAbsent}
+use Rattle.std.proofs.Math.Seq.{take-suc, take-length}
+use Rattle.std.proofs.lemmas.Option.{get_or_from_slice_get, slice_get_cases, slice_get-map, slice_get_within}
+use Rattle.std.specs.Cmp.{IsEquivalence}
 
 module _ {K : Type 0} (test : K → Bool) where
   -- the key at the index is the first that passes
@@ -24,37 +26,13 @@ module _ {K : Type 0} (test : K → Bool) where
   NonePasses [] = Unit {0}
   NonePasses (k ∷ ks) = (test k ≡ false) × NonePasses ks
 
-  first_by : (k : K) (ks : List K) (b : Bool) → test k ≡ b → (m : Option ℕ) → index_of test ks ≡ m
-      → ((j : ℕ) → index_of test ks ≡ Some j → IsFirst ks j) → (i : ℕ) → cond b (Some 0) (option_map suc m) ≡ Some i → IsFirst (k ∷ ks) i
-  first_by k ks b passes m at more i e = grind (arith, common_steps)
-
   pub first_of_index : (ks : List K) (i : ℕ) → index_of test ks ≡ Some i → IsFirst ks i
   first_of_index [] i e = absurd cc
-  first_of_index (k ∷ ks) i e = first_by k ks (test k) refl (index_of test ks) refl (first_of_index ks) i e
-
-  none_by : (k : K) (ks : List K) (b : Bool) → test k ≡ b → (m : Option ℕ) → index_of test ks ≡ m
-      → (index_of test ks ≡ None → NonePasses ks) → cond b (Some 0) (option_map suc m) ≡ None → NonePasses (k ∷ ks)
-  none_by k ks b passes m at more e = grind (arith, common_steps)
+  first_of_index (k ∷ ks) i e = grind (arith, common_steps, first_of_index ks)
 
   pub none_of_index : (ks : List K) → index_of test ks ≡ None → NonePasses ks
   none_of_index [] e = tt
-  none_of_index (k ∷ ks) e = none_by k ks (test k) refl (index_of test ks) refl (none_of_index ks) e
-
-  pub index_of-first : (ks : List K) (i : ℕ) → IsFirst ks i → index_of test ks ≡ Some i
-  index_of-first [] i f = absurd f
-  index_of-first (k ∷ ks) zero f = ap (λ b. cond b (Some 0) (option_map suc (index_of test ks))) f
-  index_of-first (k ∷ ks) (suc i) f = ap (λ b. cond b (Some 0) (option_map suc (index_of test ks))) f.0
-      ∙ ap (option_map suc) (index_of-first ks i f.1)
-
-  -- a key that passes behind keys that do not is the first
-  pub index_of-last : (ks : List K) (k : K) → NonePasses ks → test k ≡ true → index_of test (ks ++ k ∷ []) ≡ Some (length ks)
-  index_of-last [] k n passes = ap (λ b. cond b (Some 0) (option_map suc None)) passes
-  index_of-last (l ∷ ks) k n passes = ap (λ b. cond b (Some 0) (option_map suc (index_of test (ks ++ k ∷ [])))) n.0
-      ∙ ap (option_map suc) (index_of-last ks k n.1 passes)
-
-  pub index_of-none : (ks : List K) → NonePasses ks → index_of test ks ≡ None
-  index_of-none [] n = refl
-  index_of-none (k ∷ ks) n = ap (λ b. cond b (Some 0) (option_map suc (index_of test ks))) n.0 ∙ ap (option_map suc) (index_of-none ks n.1)
+  none_of_index (k ∷ ks) e = grind (arith, common_steps, none_of_index ks)
 
   pub first_within : (ks : List K) (i : ℕ) → IsFirst ks i → i < length ks
   first_within [] i f = absurd f
@@ -80,60 +58,26 @@ module _ {K : Type 0} (test : K → Bool) where
 
   pub any_of_none : (ks : List K) → NonePasses ks → list_any test ks ≡ false
   any_of_none [] n = refl
-  any_of_none (k ∷ ks) n = ap (λ b. b || list_any test ks) n.0 ∙ any_of_none ks n.1
-
-  module _ {V : Type 0} where
-    lookup_first : (ps : List (K × V)) (i : ℕ) → IsFirst (keys_of ps) i → lookup test ps ≡ slice_get (values_of ps) i
-    lookup_first [] i f = absurd f
-    lookup_first (p ∷ ps) zero f = ap (λ b. cond b (Some p.1) (lookup test ps)) f
-    lookup_first (p ∷ ps) (suc i) f = ap (λ b. cond b (Some p.1) (lookup test ps)) f.0 ∙ lookup_first ps i f.1
-
-    held_first : (ps : List (K × V)) (i : ℕ) → IsFirst (keys_of ps) i → is_some (lookup test ps) ≡ true
-    held_first [] i f = absurd f
-    held_first (p ∷ ps) zero f = ap (λ b. is_some (cond b (Some p.1) (lookup test ps))) f
-    held_first (p ∷ ps) (suc i) f = ap (λ b. is_some (cond b (Some p.1) (lookup test ps))) f.0 ∙ held_first ps i f.1
-
-    entry_first : (ps : List (K × V)) (i : ℕ) → IsFirst (keys_of ps) i → lookup_entry test ps ≡ slice_get ps i
-    entry_first [] i f = absurd f
-    entry_first (p ∷ ps) zero f = ap (λ b. cond b (Some p) (lookup_entry test ps)) f
-    entry_first (p ∷ ps) (suc i) f = ap (λ b. cond b (Some p) (lookup_entry test ps)) f.0 ∙ entry_first ps i f.1
-
-    lookup_none : (ps : List (K × V)) → NonePasses (keys_of ps) → lookup test ps ≡ None
-    lookup_none [] n = refl
-    lookup_none (p ∷ ps) n = ap (λ b. cond b (Some p.1) (lookup test ps)) n.0 ∙ lookup_none ps n.1
-
-    value_behind : (p : K × V) (ps : List (K × V)) (b : Bool) → option_map (λ q. q.1) (lookup_entry test ps) ≡ lookup test ps
-        → option_map (λ q. q.1) (cond b (Some p) (lookup_entry test ps)) ≡ cond b (Some p.1) (lookup test ps)
-    value_behind p ps b more = grind (arith, common_steps)
-
-    -- the value of the first pair that passes
-    pub value_of_entry : (ps : List (K × V)) → option_map (λ q. q.1) (lookup_entry test ps) ≡ lookup test ps
-    value_of_entry [] = refl
-    value_of_entry (p ∷ ps) = value_behind p ps (test p.0) (value_of_entry ps)
-
-    entry_none : (ps : List (K × V)) → NonePasses (keys_of ps) → lookup_entry test ps ≡ None
-    entry_none [] n = refl
-    entry_none (p ∷ ps) n = ap (λ b. cond b (Some p) (lookup_entry test ps)) n.0 ∙ entry_none ps n.1
+  any_of_none (k ∷ ks) n = grind (arith, common_steps, any_of_none ks n.1)
 
 module _ {K V : Type 0} (test : K → Bool) where
-  set_first : (ps : List (K × V)) (i : ℕ) (v : V) → IsFirst test (keys_of ps) i → set_by test ps v ≡ set_value ps i v
-  set_first [] i v f = absurd f
-  set_first (p ∷ ps) zero v f = ap (λ b. cond b ((p.0, v) ∷ ps) (p ∷ set_by test ps v)) f
-  set_first (p ∷ ps) (suc i) v f = ap (λ b. cond b ((p.0, v) ∷ ps) (p ∷ set_by test ps v)) f.0 ∙ ap (λ l. p ∷ l) (set_first ps i v f.1)
+  -- the value of the first pair that passes
+  pub value_of_entry : (ps : List (K × V)) → option_map (λ q. q.1) (lookup_entry test ps) ≡ lookup test ps
+  value_of_entry [] = refl
+  value_of_entry (p ∷ ps) = grind (arith, common_steps, value_of_entry ps)
 
   pub index_of_first : (ps : List (K × V)) (i : ℕ) → IsFirst test (keys_of ps) i → IsIndexOf test ps i
-  index_of_first ps i f = grind (arith, common_steps, cond, entry_first, first_within, held_first, index_of-first, length-keys_of, lookup_first, set_first)
+  index_of_first [] i f = absurd f
+  index_of_first (p ∷ ps) zero f = grind (arith, common_steps)
+  index_of_first (p ∷ ps) (suc i) f = grind (arith, common_steps, index_of_first ps i f.1)
 
   pub absent_of_none : (ps : List (K × V)) → NonePasses test (keys_of ps) → IsAbsent test ps
-  absent_of_none ps n = grind (arith, common_steps, cond, entry_none, index_of-none, is_some, lookup_none)
-
-  unheld_by : (p : K × V) (ps : List (K × V)) (b : Bool) → test p.0 ≡ b → (is_some (lookup test ps) ≡ false → NonePasses test (keys_of ps))
-      → is_some (cond b (Some p.1) (lookup test ps)) ≡ false → NonePasses test (keys_of (p ∷ ps))
-  unheld_by p ps b passes more h = grind (arith, common_steps)
+  absent_of_none [] n = grind (arith, common_steps)
+  absent_of_none (p ∷ ps) n = grind (arith, common_steps, absent_of_none ps n.1)
 
   none_of_unheld : (ps : List (K × V)) → is_some (lookup test ps) ≡ false → NonePasses test (keys_of ps)
   none_of_unheld [] h = tt
-  none_of_unheld (p ∷ ps) h = unheld_by p ps (test p.0) refl (none_of_unheld ps) h
+  none_of_unheld (p ∷ ps) h = grind (arith, common_steps, none_of_unheld ps)
 
   -- where no key that passes is held
   pub absent_of_unheld : (ps : List (K × V)) → holds_by test ps ≡ false → IsAbsent test ps
@@ -149,32 +93,46 @@ module _ {K V : Type 0} (test : K → Bool) where
   -- a pair behind pairs of which no key passes
   pub index_of-added : (ps : List (K × V)) (k : K) (v : V) → index_of test (keys_of ps) ≡ None → test k ≡ true
       → index_of test (keys_of (ps ++ (k, v) ∷ [])) ≡ Some (length ps)
-  index_of-added ps k v none passes = ap (index_of test) (map-append (λ p. p.0) ps ((k, v) ∷ []))
-      ∙ index_of-last test (keys_of ps) k (none_of_index test (keys_of ps) none) passes ∙ ap (λ n. Some n) (length-keys_of ps)
-
-  found_by : (ps : List (K × V)) (found : Option ℕ) → found ≡ index_of test (keys_of ps) → is_some found ≡ holds_by test ps
-  found_by ps None e = sym (absent_of_index ps e).held
-  found_by ps (Some i) e = sym (index_found ps i e).held
+  index_of-added [] k v none passes = grind (arith, common_steps)
+  index_of-added (p ∷ ps) k v none passes = grind (arith, common_steps, index_of-added ps k v)
 
   -- an index is found exactly where a key that passes is held
   pub found_where_held : (ps : List (K × V)) → is_some (index_of test (keys_of ps)) ≡ holds_by test ps
-  found_where_held ps = found_by ps (index_of test (keys_of ps)) refl
+  found_where_held [] = refl
+  found_where_held (p ∷ ps) = grind (arith, common_steps, found_where_held ps)
 
 module _ {K : Type 0} (test : K → Bool) (eq : K → K → Bool) (one_class : (k other : K) → test k ≡ true → test other ≡ eq k other) where
-  apart : (ks : List K) → IsDistinct eq ks → (i j : ℕ) (d : K) → j < i → i < length ks → test (get_or ks i d) ≡ true → (b : Bool)
-      → test (get_or ks j d) ≡ b → test (get_or ks j d) ≡ false
-  apart ks distinct i j d before within at false e = e
-  apart ks distinct i j d before within at true e =
-      absurd (true≢false (sym (sym (one_class (get_or ks j d) (get_or ks i d) e) ∙ at)
-      ∙ apart_from_distinct eq ks j i d distinct before within))
+  apart : (ks : List K) → IsDistinct eq ks → (i j : ℕ) (d : K) → j < i → i < length ks → test (get_or ks i d) ≡ true
+      → test (get_or ks j d) ≡ false
+  apart ks distinct i j d before within at = grind (arith, common_steps, one_class (get_or ks j d) (get_or ks i d), apart_from_distinct eq ks j i d distinct)
 
   -- an index whose key passes is the first, and the only one
   pub first_of_match : (ks : List K) (i : ℕ) (d : K) → IsDistinct eq ks → i < length ks → test (get_or ks i d) ≡ true → IsFirst test ks i
   first_of_match ks i d distinct within at =
-      first_at test ks i d within at (λ j before. apart ks distinct i j d before within at (test (get_or ks j d)) refl)
+      first_at test ks i d within at (λ j before. apart ks distinct i j d before within at)
 
   -- the same, from what a search among the keys of one hash says of the index that it found
   pub first_matched : (ks : List K) (i : ℕ) → IsDistinct eq ks → i < length ks → ((d : K) → true ≡ test (get_or ks i d))
       → IsFirst test ks i
   first_matched [] i distinct within accepted = absurd (omega arith)
   first_matched (k ∷ ks) i distinct within accepted = first_of_match (k ∷ ks) i k distinct within (sym (accepted k))
+
+module _ {K V : Type 0} (same : K → K → Bool) (laws : IsEquivalence same) where
+  -- where keys are distinct, a pair is at the index of its key
+  pub index_of_pair : (ps : List (K × V)) (i : ℕ) (pair : K × V) → IsDistinct same (keys_of ps) → slice_get ps i ≡ Some pair
+      → IsIndexOf (same pair.0) ps i
+  index_of_pair ps i pair distinct at =
+      let key : slice_get (keys_of ps) i ≡ Some pair.0 = slice_get-map (λ p. p.0) ps i ∙ ap (option_map (λ (p : K × V). p.0)) at in
+      index_of_first (same pair.0) ps i
+      (first_matched (same pair.0) same (λ k other alike. laws.congr pair.0 k other alike) (keys_of ps) i distinct
+      (slice_get_within (keys_of ps) i pair.0 key)
+      (λ d. sym (laws.refl pair.0) ∙ ap (same pair.0) (sym (get_or_from_slice_get (keys_of ps) i pair.0 d key))))
+
+module _ {X : Type 0} where
+  -- where the last element is taken out, the others stay as they are
+  pub last_taken : (xs : List X) (x : X) → slice_get xs (length xs - 1) ≡ Some x → xs ≡ swap_remove_at xs (length xs - 1) ++ x ∷ []
+  last_taken xs x at = grind (arith, common_steps, get_or, get_or_from_slice_get, take, take-length, take-set-le, take-suc)
+
+  -- there is an element at each index below their number
+  pub some_is_not_none : (xs : List X) (i : ℕ) → i < length xs → slice_get xs i ≡ None → ⊥
+  some_is_not_none xs i within none = grind (arith, common_steps, slice_get_cases)

@@ -22,14 +22,3 @@ returns-in-Occupied g c =
       writes = written.writes;
       pairs_left = written.pairs_left;
     })
-
-pub returns-in-Vacant : goal.returns-in-Vacant
-returns-in-Vacant g c = rw c.in-Vacant.is (record {
-  same_map = refl;
-  value = refl;
-  occupied = tt;
-  vacant = λ none. refl;
-  key = refl;
-  writes = λ value. refl;
-  pairs_left = refl;
-})

@@ -1,5 +1,6 @@
-use Rattle.std.proofs.Common.{refl}
-use Rattle.halfbrown.proofs.lemmas.entry.Replace.{keeps_pair, kept_within, loses_pair}
+use Rattle.std.proofs.Common.{arith}
+use Rattle.std.proofs.lemmas.Grind.{common_steps}
+use Rattle.halfbrown.proofs.lemmas.entry.Methods.{keeps_pair, kept_within, loses_pair}
 use Rattle.halfbrown.proofs.lemmas.map.Find.{vacancy_for}
 use Rattle.halfbrown.proofs.entry.OccupiedEntry.replace_entry_with_counted.Goals as goal
 
@@ -7,22 +8,10 @@ pub invariant_of-result : goal.invariant_of-result
 invariant_of-result g c = record { within = kept_within c.args.self.within c.in-Ok.ensures.replaces c.in-Ok.ensures.at }
 
 pub returns-in-Ok-clause-replaced : goal.returns-in-Ok-clause-replaced
-returns-in-Ok-clause-replaced g c = record {
-  replaces = keeps_pair c.args.self _ c.in-Ok.ensures.replaces c.in-Ok.ensures.at c.in-Ok.ensures.after;
-  same_map = refl;
-  state = c.in-Ok.ensures.state;
-}
+returns-in-Ok-clause-replaced g c = grind (arith, common_steps, keeps_pair)
 
 pub invariant_of-result-in-Err : goal.invariant_of-result-in-Err
-invariant_of-result-in-Err g c = record {
-  capacity_left = c.in-Err.ensures.capacity_left;
-  absent = c.in-Err.ensures.absent;
-  vacant = ∣ vacancy_for _ _ _ _ c.in-Err.ensures.hash _ c.vacancy_for-vacancy.ensures.vacant ∣₁;
-}
+invariant_of-result-in-Err g c = grind (arith, common_steps, vacancy_for)
 
 pub returns-in-Err-clause-replaced : goal.returns-in-Err-clause-replaced
-returns-in-Err-clause-replaced g c = record {
-  replaces = loses_pair c.args.self _ c.in-Err.ensures.replaces c.in-Err.ensures.after;
-  same_map = refl;
-  state = c.in-Err.ensures.state;
-}
+returns-in-Err-clause-replaced g c = grind (arith, common_steps, loses_pair)

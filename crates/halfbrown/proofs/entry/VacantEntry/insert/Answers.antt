@@ -3,7 +3,8 @@ use Rattle.std.proofs.lemmas.Grind.{common_steps}
 use Rattle.std.proofs.Math.Logic.{∥∥₁_elim}
 use Rattle.std.proofs.lemmas.Option.{same_Some}
 use Rattle.halfbrown.specs.State.{contents_of}
-use Rattle.halfbrown.proofs.lemmas.entry.Methods.{set_value-last, value-last, vacant_writes}
+use Rattle.halfbrown.proofs.lemmas.entry.Methods.{vacant_writes}
+use Rattle.halfbrown.proofs.lemmas.pairs.Changes.{set_value-last, value-last}
 use Rattle.halfbrown.proofs.lemmas.map.Find.{vacancy-prop}
 use Rattle.halfbrown.proofs.entry.VacantEntry.insert.Goals as goal
 

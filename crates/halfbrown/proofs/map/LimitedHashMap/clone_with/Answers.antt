@@ -5,8 +5,7 @@ use Rattle.std.specs.List.{AllZip}
 use Rattle.std.specs.Map.{keys_of}
 use Rattle.halfbrown.specs.Clone.{ClonesEqualKeys, HashesAlike, IsCloneOf}
 use Rattle.halfbrown.specs.Layout.{state_in}
-use Rattle.halfbrown.proofs.lemmas.map.Clone.{keys_zip, zip_held, map-zip, kept_cloned}
-use Rattle.halfbrown.proofs.lemmas.map.Layout.{state_of}
+use Rattle.halfbrown.proofs.lemmas.map.Layout.{keys_zip, zip_held, map-zip, kept_cloned, state_of}
 use Rattle.halfbrown.proofs.map.LimitedHashMap.clone_with.Goals as goal
 
 pub invariant_of-result : goal.invariant_of-result
@@ -54,6 +53,4 @@ returns-clause-cloned g c =
     })
 
 pub returns-clause-state : goal.returns-clause-state
-returns-clause-state g c =
-    state_of g.K.PartialEq.eq (g.S.KeyHasher.hash c.args.builder) g.L.Limit.LIMIT
-    c.in_ok-store.store c.args.builder (invariant_of-result g c)
+returns-clause-state g c = state_of _ _ _ _ _ (invariant_of-result g c)

@@ -51,9 +51,3 @@ returns-in-Ok-Vacant g c =
         cost = c.in-Ok-Vacant.ensures.cost;
       },
     )
-
-pub invariant_of-result-in-Ok-Vacant : goal.invariant_of-result-in-Ok-Vacant
-invariant_of-result-in-Ok-Vacant g c =
-    let hash = g.S.KeyHasher.hash in
-    let ready = subst (IsReadyFor g.K.PartialEq.eq hash c.prepare.new.self c.args.key) c.in-Ok-Vacant.field-0-is c.in-Ok-Vacant.ensures.ready in
-    record { capacity_left = ready.capacity; absent = ready.absent.held; vacant = ∣ ready.vacant ∣₁ }

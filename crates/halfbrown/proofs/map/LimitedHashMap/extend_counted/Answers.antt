@@ -1,15 +1,12 @@
 use Rattle.halfbrown.specs.FromIter.{Gives}
-use Rattle.std.proofs.Common.{arith, refl}
+use Rattle.std.proofs.Common.{arith}
 use Rattle.std.proofs.lemmas.Grind.{common_steps}
 use Rattle.halfbrown.proofs.lemmas.map.Collect.{extends_of, item_more, item_refused, at_error, yields_more}
 use Rattle.halfbrown.proofs.lemmas.map.Costs.{spent_none}
 use Rattle.halfbrown.proofs.map.LimitedHashMap.extend_counted.Goals as goal
 
 pub loop-key-init : goal.loop-key-init
-loop-key-init g c =
-    let it = c.into_iter-key-iterator.result in
-    let runs = c.requires it c.into_iter-key-iterator.ensures.into_iter_gives in
-    record { can = runs.0; ends = runs.1; so_far = record { inserted = refl; spent = spent_none c.args.tally.now } }
+loop-key-init g c = grind (arith, common_steps, spent_none)
 
 pub loop-key-preserved-in_ok-insert_counted : goal.loop-key-preserved-in_ok-insert_counted
 loop-key-preserved-in_ok-insert_counted g c = grind (arith, common_steps, item_more)
@@ -31,8 +28,7 @@ returns-clause-extended g c =
     )
 
 pub returns-in_err-insert_counted-clause-extended : goal.returns-in_err-insert_counted-clause-extended
-returns-in_err-insert_counted-clause-extended g c =
-    (at_error c.from_residual.result c.in_err-insert_counted.field-0.0.why _ (λ why. Unit {0}) c.from_residual.ensures tt).0
+returns-in_err-insert_counted-clause-extended g c = grind (arith, common_steps, at_error)
 
 pub returns-in_err-insert_counted-clause-refused : goal.returns-in_err-insert_counted-clause-refused
 returns-in_err-insert_counted-clause-refused g c =

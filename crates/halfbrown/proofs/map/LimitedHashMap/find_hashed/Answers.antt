@@ -1,4 +1,6 @@
-use Rattle.std.proofs.Common.{sym, ap, subst, ◌∙◌}
+use Rattle.std.proofs.Common.{arith}
+use Rattle.std.proofs.lemmas.Grind.{common_steps}
+use Rattle.std.proofs.Common.{subst}
 use Rattle.halfbrown.specs.Costs.{IsSearchCost}
 use Rattle.halfbrown.specs.Lookup.{KeySearch}
 use Rattle.std.specs.Result.{result_ok}
@@ -6,16 +8,7 @@ use Rattle.halfbrown.proofs.lemmas.map.Find.{costs_for_other, looks_up, found_is
 use Rattle.halfbrown.proofs.map.LimitedHashMap.find_hashed.Goals as goal
 
 pub returns-clause-found : goal.returns-clause-found
-returns-clause-found g c =
-    let m = c.args.self.now in
-    let test = g.Q.Equivalent.equivalent c.args.key in
-    looks_up test _ (λ k answer returned. returned.says.met ∙ ap test returned.shows) g.K.PartialEq.eq
-    (g.met.Q.Equivalent.stands_for_equals c.args.key)
-    g.S.KeyHasher.hash c.args.hash m c.find_match.ensures.state.distinct
-    (g.S.KeyHasher.hash_writes m.builder (g.Q.Hash.hash_input c.args.key)) c.requires
-    (λ k passes. g.met.S.KeyHasher.hash_is m.builder k
-    ∙ ap (g.S.KeyHasher.hash_writes m.builder) (sym (g.met.Q.Equivalent.hashes_alike c.args.key k passes)))
-    c.find_match.result c.find_match.ensures.found
+returns-clause-found g c = grind (arith, common_steps, looks_up, g.met.Q.Equivalent.hashes_alike, g.met.Q.Equivalent.stands_for_equals, g.met.S.KeyHasher.hash_is)
 
 pub returns-clause-cost : goal.returns-clause-cost
 returns-clause-cost g c =

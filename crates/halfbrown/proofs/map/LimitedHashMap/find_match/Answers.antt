@@ -1,21 +1,15 @@
-use Rattle.std.proofs.Common.{subst, ap, ◌∙◌, length}
-use Rattle.std.specs.Fn.{FnReturnsAt}
+use Rattle.std.proofs.Common.{arith}
+use Rattle.std.proofs.lemmas.Grind.{common_steps}
+use Rattle.std.proofs.Common.{subst}
 use Rattle.std.specs.Result.{result_ok}
-use Rattle.half_store.specs.Search.{ComparesInOrder}
 use Rattle.halfbrown.specs.Costs.{IsSearchCost}
-use Rattle.halfbrown.specs.Match.{MatchSearch}
 use Rattle.halfbrown.specs.Layout.{state_in}
 use Rattle.halfbrown.specs.State.{State}
 use Rattle.halfbrown.proofs.lemmas.map.Find.{match_costs, matches_of}
 use Rattle.halfbrown.proofs.map.LimitedHashMap.find_match.Goals as goal
 
 pub returns-clause-found : goal.returns-clause-found
-returns-clause-found g c =
-    let hashing = g.S.KeyHasher.hash in
-    let returns = FnReturnsAt g.F.Fn c.args.matches.now in
-    subst (λ (m : State g.row.K.Denot g.row.V.Denot g.row.S.Denot). MatchSearch returns hashing c.args.hash m c.find.result) c.self.view_is
-    (matches_of returns hashing c.args.hash c.self.inside.store c.self.inside.builder c.self.invariant.hashed c.find.result
-    c.find.ensures.found)
+returns-clause-found g c = grind (arith, common_steps, matches_of)
 
 pub returns-clause-cost : goal.returns-clause-cost
 returns-clause-cost g c =
@@ -28,8 +22,3 @@ returns-clause-cost g c =
     (λ i. store.is_vec) c.args.scan (result_ok c.find.result) store.hashes
     c.self.invariant.hashed told.cost.vector told.cost.found
     told.cost.missing told.cost.short)
-
-pub returns-clause-in_order : goal.returns-clause-in_order
-returns-clause-in_order g c = λ by_key form.
-    (subst (λ (m : State g.row.K.Denot g.row.V.Denot g.row.S.Denot). ComparesInOrder c.args.scan (result_ok c.find.result) (length m.pairs)
-    c.args.tally.now c.find.new.tally) c.self.view_is (c.find.ensures.cost.vector (ap (λ m. m.is_vec) c.self.view_is ∙ form))).by_key by_key

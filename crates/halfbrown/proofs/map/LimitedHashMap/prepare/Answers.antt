@@ -1,12 +1,9 @@
-use Rattle.std.proofs.Common.{◌≡◌, false, sym, ap, ◌∙◌, arith}
-use Rattle.std.proofs.lemmas.Bool.Decides.{nat_tests}
+use Rattle.std.proofs.lemmas.Grind.{common_steps}
+use Rattle.std.proofs.Common.{sym, ap, ◌∙◌, arith}
 use Rattle.std.proofs.lemmas.Result.{err_from_is_err_and}
-use Rattle.std.specs.Result.{is_ok}
-use Rattle.halfbrown.specs.Growth.{is_full}
 use Rattle.halfbrown.specs.Pairs.{holds}
-use Rattle.halfbrown.proofs.lemmas.map.Costs.{key_costs}
+use Rattle.halfbrown.proofs.lemmas.map.Costs.{key_costs, held_costs, missing_costs, unmade_costs}
 use Rattle.halfbrown.proofs.lemmas.map.Growth.{switched_capacity}
-use Rattle.halfbrown.proofs.lemmas.map.Prepare.{held_costs, missing_costs, unmade_costs}
 use Rattle.halfbrown.proofs.map.LimitedHashMap.prepare.Goals as goal
 
 pub returns-in-Ok-clause-cost : goal.returns-in-Ok-clause-cost
@@ -36,16 +33,4 @@ returns-in_ok-make_capacity_keeping-in-Err-clause-cost g c =
     (ap (λ ps. holds eq ps key) (sym switched.pairs) ∙ missing.found.0.held)
 
 pub returns-in_err-make_capacity_keeping-in-Err-clause-cost : goal.returns-in_err-make_capacity_keeping-in-Err-clause-cost
-returns-in_err-make_capacity_keeping-in-Err-clause-cost g c =
-    let switched = c.in_ok-switch_if_full.ensures.ok in
-    let out = c.from_residual-in_err-make_capacity_keeping-in-Err in
-    let told = c.in_err-make_capacity_keeping-in-Err.ensures in
-    let refused = ap is_ok (err_from_is_err_and out.result out.ensures.1).1 in
-    let room : is_full g.L.Limit.LIMIT c.args.self.now ≡ false = grind (arith, nat_tests, c.in_ok-switch_if_full.ensures.capacity_left, told.refused.0) in
-    let still : c.make_capacity_keeping.new.tally ≡ c.find.new.tally = grind (arith, told.work) in
-    let searched = key_costs g.K.PartialEq.eq g.S.KeyHasher.hash c.switch_if_full.new.self c.args.key.now _ _ _
-    (g.met.S.KeyHasher.hash_is c.switch_if_full.new.self.builder c.args.key.now) c.in-Err.ensures.cost in
-    rw (refused, still) (unmade_costs g.L.Limit.LIMIT g.K.PartialEq.eq
-    g.S.KeyHasher.hash c.args.self.now c.args.key.now
-    c.switch_if_full.new.self c.args.tally.now c.switch_if_full.new.tally c.find.new.tally
-    switched.form (switched_capacity _ _ _ switched) switched.pairs switched.builder c.in_ok-switch_if_full.ensures.work searched room)
+returns-in_err-make_capacity_keeping-in-Err-clause-cost g c = grind (arith, common_steps, err_from_is_err_and, key_costs, unmade_costs, switched_capacity, g.met.S.KeyHasher.hash_is)

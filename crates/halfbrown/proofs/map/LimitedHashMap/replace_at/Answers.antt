@@ -1,6 +1,5 @@
 use Rattle.std.proofs.Common.{◌<◌, length, ap, arith}
-use Rattle.halfbrown.proofs.lemmas.map.Layout.{state_of}
-use Rattle.halfbrown.proofs.lemmas.map.Replace.{kept_replaced, own_hash, absent_replaced}
+use Rattle.halfbrown.proofs.lemmas.map.Layout.{state_of, kept_replaced, own_hash, absent_replaced}
 use Rattle.halfbrown.proofs.map.LimitedHashMap.replace_at.Goals as goal
 
 pub invariant_of-self : goal.invariant_of-self
@@ -27,6 +26,4 @@ returns-clause-absent g c =
     told.replaces
 
 pub returns-clause-state : goal.returns-clause-state
-returns-clause-state g c =
-    state_of g.K.PartialEq.eq (g.S.KeyHasher.hash c.self.inside.builder) g.L.Limit.LIMIT
-    c.replace_with.new.self c.self.inside.builder (invariant_of-self g c)
+returns-clause-state g c = state_of _ _ _ _ _ (invariant_of-self g c)

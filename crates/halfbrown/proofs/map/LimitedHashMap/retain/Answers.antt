@@ -1,7 +1,6 @@
 use Rattle.std.proofs.Common.{arith}
 use Rattle.std.proofs.lemmas.Grind.{common_steps}
-use Rattle.halfbrown.proofs.lemmas.map.Layout.{kept_as, state_of}
-use Rattle.halfbrown.proofs.lemmas.map.Retain.{IsDistinct-retained}
+use Rattle.halfbrown.proofs.lemmas.map.Layout.{kept_as, state_of, IsDistinct-retained}
 use Rattle.halfbrown.proofs.map.LimitedHashMap.retain.Goals as goal
 
 pub invariant_of-self : goal.invariant_of-self

@@ -3,7 +3,7 @@ use Rattle.std.specs.Map.{keys_of}
 use Rattle.halfbrown.specs.Layout.{IsKept}
 use Rattle.halfbrown.specs.Updates.{HasKeyReplaced}
 use Rattle.halfbrown.proofs.lemmas.map.Layout.{kept_key, state_of}
-use Rattle.halfbrown.proofs.lemmas.pairs.Keys.{equal_at, has_key_replaced}
+use Rattle.halfbrown.proofs.lemmas.pairs.Changes.{equal_at, has_key_replaced}
 use Rattle.halfbrown.proofs.map.LimitedHashMap.set_key_at.Goals as goal
 
 pub invariant_of-self : goal.invariant_of-self
@@ -24,9 +24,7 @@ invariant_of-self g c =
     (kept_key eq hash g.L.Limit.LIMIT g.met.K.Eq.laws store c.args.index old key c.self.invariant at same alike)
 
 pub returns-clause-state : goal.returns-clause-state
-returns-clause-state g c =
-    state_of g.K.PartialEq.eq (g.S.KeyHasher.hash c.self.inside.builder) g.L.Limit.LIMIT
-    c.set_key.new.self c.self.inside.builder (invariant_of-self g c)
+returns-clause-state g c = state_of _ _ _ _ _ (invariant_of-self g c)
 
 pub returns-clause-replaced : goal.returns-clause-replaced
 returns-clause-replaced g c =

@@ -1,11 +1,11 @@
+use Rattle.std.proofs.Common.{arith}
+use Rattle.std.proofs.lemmas.Grind.{common_steps}
 use Rattle.std.proofs.Common.{refl}
-use Rattle.halfbrown.proofs.lemmas.map.RemoveInOrder.{value_in_order}
+use Rattle.halfbrown.proofs.lemmas.map.Remove.{value_in_order}
 use Rattle.halfbrown.proofs.map.LimitedHashMap.shift_remove_counted.Goals as goal
 
 pub returns-in_err-value-clause-removes : goal.returns-in_err-value-clause-removes
-returns-in_err-value-clause-removes g c =
-    value_in_order g.L.Limit.LIMIT g.K.PartialEq.eq c.args.self.now (g.Q.Equivalent.equivalent c.args.key) _ _ _
-    c.from_residual.ensures c.in_err-value.ensures.removes
+returns-in_err-value-clause-removes g c = grind (arith, common_steps, value_in_order)
 
 pub returns-clause-removes : goal.returns-clause-removes
 returns-clause-removes g c =

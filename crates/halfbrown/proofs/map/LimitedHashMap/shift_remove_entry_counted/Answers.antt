@@ -1,4 +1,4 @@
-use Rattle.halfbrown.proofs.lemmas.map.RemoveInOrder.{absent_in_order, found_in_order}
+use Rattle.halfbrown.proofs.lemmas.map.Remove.{absent_in_order, found_in_order}
 use Rattle.halfbrown.proofs.map.LimitedHashMap.shift_remove_entry_counted.Goals as goal
 
 pub returns-in_err-index-clause-removes : goal.returns-in_err-index-clause-removes

@@ -1,7 +1,7 @@
 use Rattle.std.proofs.Common.{◌<◌, length, ap, arith}
 use Rattle.std.proofs.lemmas.Grind.{common_steps}
 use Rattle.halfbrown.proofs.lemmas.map.Layout.{kept_taken, state_of}
-use Rattle.halfbrown.proofs.lemmas.entry.Methods.{value_of-pair}
+use Rattle.halfbrown.proofs.lemmas.pairs.Changes.{value_of-pair}
 use Rattle.halfbrown.proofs.map.LimitedHashMap.take_at.Goals as goal
 
 pub invariant_of-self : goal.invariant_of-self

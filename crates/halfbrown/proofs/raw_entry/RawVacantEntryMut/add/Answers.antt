@@ -1,7 +1,6 @@
 use Rattle.std.proofs.Common.{refl}
 use Rattle.halfbrown.proofs.lemmas.map.Find.{vacancy_for}
-use Rattle.halfbrown.proofs.lemmas.raw_entry.Methods.{added_puts}
-use Rattle.halfbrown.proofs.lemmas.raw_entry.Builder.{adds_pair}
+use Rattle.halfbrown.proofs.lemmas.raw_entry.Methods.{added_puts, adds_pair}
 use Rattle.halfbrown.proofs.raw_entry.RawVacantEntryMut.add.Goals as goal
 
 pub returns-clause-adds : goal.returns-clause-adds
