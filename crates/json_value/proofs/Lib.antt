@@ -1,5 +1,6 @@
 pub mod Changing
 pub mod Merging
+pub mod PathFacts
 pub mod Placed
 pub mod Pointer
 pub mod Reading

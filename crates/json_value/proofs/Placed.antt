@@ -45,11 +45,11 @@ module _ (v : Value) (i : ℕ) (y : Value) where
 
 module _ (v : Value) (step : List ℕ) (y : Value) where
   -- where the step and another lead to the same place, both lead to what was put
-  put_same : (x : Value) (other : List ℕ) → place v step ≡ place v other → child v step ≡ Some x → child (put_child v step y) other ≡ Some y
+  pub put_same : (x : Value) (other : List ℕ) → place v step ≡ place v other → child v step ≡ Some x → child (put_child v step y) other ≡ Some y
   put_same x other same some = grind (arith, child_put, get-set)
 
   -- a step to another place leads where it led
-  put_other : (other : List ℕ) → place v step ≢ place v other → child (put_child v step y) other ≡ child v other
+  pub put_other : (other : List ℕ) → place v step ≢ place v other → child (put_child v step y) other ≡ child v other
   put_other other apart = grind (arith, child_put, get-other)
 
 -- what is put is there
@@ -66,7 +66,7 @@ put_at_there v [] b w there = refl
 put_at_there v (c ∷ path) b w there = grind (arith, put_there)
 
 -- other steps lead where they led
-put_steps_other : (v : Value) (steps others : List (List ℕ)) (w : Value) → Part v steps others
+pub put_steps_other : (v : Value) (steps others : List (List ℕ)) (w : Value) → Part v steps others
     → descendant (put_steps v steps w) others ≡ descendant v others
 put_steps_other v [] others w part = absurd part
 put_steps_other v (step ∷ steps) [] w part = absurd part

@@ -1,6 +1,8 @@
 -- A path, a step at a time.
-use Rattle.std.proofs.Common.{◌≡◌, ◌≢◌, ℕ, suc, ◌<◌, ◌≤◌, true, false, List, [], ◌∷◌, ◌++◌, length, get_or, Option, None, Some, option_map, option_and_then, Result, Ok, Err, refl, sym, ap, ◌∙◌, arith, true≢false, eq-eqb, eqb-true, ne_eqb, slice_index, slice_get, ◌==◌, Vec, Global, rules}
+use Rattle.std.proofs.Common.{◌≡◌, ◌≢◌, ℕ, suc, ◌^◌, ◌<◌, ◌≤◌, true, false, List, [], ◌∷◌, ◌++◌, length, get_or, Option, None, Some, option_map, option_and_then, Result, Ok, Err, refl, sym, ap, ◌∙◌, arith, true≢false, eq-eqb, eqb-true, ne_eqb, slice_index, slice_get, ◌==◌, Vec, Global, rules}
 use Rattle.std.proofs.lemmas.Bool.Decides.{nat_tests}
+use Rattle.std.specs.Fmt.{decimal}
+use Rattle.std.proofs.lemmas.Fmt.{decimal-digits_value}
 use Rattle.std.proofs.lemmas.Str.Parse.{IsNumeralModel, numerals_by_value, tells_all_ascii_digits, parse_plain}
 use Rattle.std.proofs.lemmas.List.{get_or_default}
 use Rattle.std.proofs.lemmas.List.Splits.{slice_split_at, slice_split_none}
@@ -72,6 +74,16 @@ module _ {E : Type 0} where
   index_of-parsed (c ∷ step) (Err e) parsed plain alone =
       let signless = λ (e : c ≡ 43). true≢false (sym (eq-eqb c 43 e) ∙ plain) in
       grind (arith, nat_tests, parse_plain own {E = E} 64 (c ∷ step) (Err e) parsed signless)
+
+-- an index has one step that writes it
+pub index_of-decimal : (step : List ℕ) (i : ℕ) → index_of step ≡ Some i → decimal i ≡ step
+unfolding index_of
+index_of-decimal [] i e = absurd cc
+index_of-decimal (c ∷ step) i e =
+    let tests : (all_ascii_digits (c ∷ step) ≡ true) × ((c ≡ 48 → length step ≡ 0) × (digits_value 10 (c ∷ step) < 2 ^ 64)) =
+    grind (arith, nat_tests) in
+    let value : digits_value 10 (c ∷ step) ≡ i = grind (arith, nat_tests) in
+    ap decimal (sym value) ∙ decimal-digits_value own (c ∷ step) tests.0 (omega arith) (λ zero. omega (arith, tests.1.0 zero)) tests.1.1
 
 -- ---- steps
 

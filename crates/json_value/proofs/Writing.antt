@@ -64,6 +64,9 @@ members_nest d (n ∷ ms) m before here = omega (arith, members_nest d ms m (ome
 pub json_of-List : (vs : Vec Value Global) → json_of (list_of vs) ≡ array (items_of (map json_of vs.items))
 json_of-List vs = search (rules, the_lemmas)
 
+pub json_of-Object : (m : Members) → json_of (Object m) ≡ object (members_of (seen m.pairs))
+json_of-Object m = search (rules, the_lemmas)
+
 -- the text of a value reads back as the value
 pub reads_back : (j : Json) (bytes : List ℕ) (ts : List Token) → bytes ≡ print ts → tokens (print ts) ≡ ts → ts ≡ json_tokens j
     → depth j ≤ max_depth → document bytes ≡ Some j
@@ -73,52 +76,29 @@ reads_back j bytes ts written read same shallow =
     (ap (value max_depth) (read ∙ same ∙ sym (append-nil (json_tokens j))) ∙ value-json_tokens j max_depth [] shallow)
 
 module _ (before begun all done : List Token) where
+  between : (first last : Token) (middle : List Token) → begun ≡ before ++ first ∷ [] → all ≡ begun ++ middle → done ≡ all ++ last ∷ []
+      → done ≡ before ++ first ∷ (middle ++ last ∷ [])
+  between first last middle e f g =
+      g ∙ ap (λ ts. ts ++ last ∷ []) (f ∙ ap (λ ts. ts ++ middle) e) ∙ append_assoc (before ++ first ∷ []) middle (last ∷ [])
+      ∙ append_assoc before (first ∷ []) (middle ++ last ∷ [])
+
   pub list_tokens : (vs : Vec Value Global) → begun ≡ before ++ token.begin_array ∷ [] → all ≡ begun ++ flat_map value_tokens vs.items
       → done ≡ all ++ token.end_array ∷ [] → done ≡ before ++ value_tokens (list_of vs)
   list_tokens vs e f g =
-      let first = token.begin_array ∷ [] in
-      let last = token.end_array ∷ [] in
-      let middle = flat_map value_tokens vs.items in
-      g ∙ ap (λ ts. ts ++ last) (f ∙ ap (λ ts. ts ++ middle) e) ∙ append_assoc (before ++ first) middle last
-      ∙ append_assoc before first (middle ++ last) ∙ ap (λ ts. before ++ token.begin_array ∷ ts) (sym (items_written vs.items))
-      ∙ ap (λ j. before ++ json_tokens j) (sym (json_of-List vs))
+      between token.begin_array token.end_array _ e f g
+      ∙ ap (λ ts. before ++ token.begin_array ∷ ts) (sym (items_written vs.items)) ∙ ap (λ j. before ++ json_tokens j) (sym (json_of-List vs))
 
-pub list_nests : (inner d : ℕ) (vs : Vec Value Global) → items_depth (items_of (map json_of vs.items)) ≤ inner → inner < d
-    → depth (json_of (list_of vs)) ≤ d
-list_nests inner d vs e f = subst (λ j. depth j ≤ d) (sym (json_of-List vs)) (omega arith)
+  pub object_tokens : (m : Members) → begun ≡ before ++ token.begin_object ∷ [] → all ≡ begun ++ flat_map member_tokens m.pairs
+      → done ≡ all ++ token.end_object ∷ [] → done ≡ before ++ value_tokens (Object m)
+  object_tokens m e f g =
+      between token.begin_object token.end_object _ e f g
+      ∙ ap (λ ts. before ++ token.begin_object ∷ ts) (sym (members_written m.pairs)) ∙ ap (λ j. before ++ json_tokens j) (sym (json_of-Object m))
 
-module _ (m : Members) where
-  pub json_of-Object : json_of (Object m) ≡ object (members_of (seen m.pairs))
-  json_of-Object = search (rules, the_lemmas)
-
-  pub object_tokens : (before begun all done : List Token) → begun ≡ before ++ token.begin_object ∷ []
-      → all ≡ begun ++ flat_map member_tokens m.pairs → done ≡ all ++ token.end_object ∷ [] → done ≡ before ++ value_tokens (Object m)
-  object_tokens before begun all done e f g =
-      let first = token.begin_object ∷ [] in
-      let last = token.end_object ∷ [] in
-      let middle = flat_map member_tokens m.pairs in
-      g ∙ ap (λ ts. ts ++ last) (f ∙ ap (λ ts. ts ++ middle) e) ∙ append_assoc (before ++ first) middle last
-      ∙ append_assoc before first (middle ++ last) ∙ ap (λ ts. before ++ token.begin_object ∷ ts) (sym (members_written m.pairs))
-      ∙ ap (λ j. before ++ json_tokens j) (sym json_of-Object)
-
-  pub object_nests : (inner d : ℕ) → members_depth (members_of (seen m.pairs)) ≤ inner → inner < d → depth (json_of (Object m)) ≤ d
-  object_nests inner d e f = subst (λ j. depth j ≤ d) (sym json_of-Object) (omega arith)
+-- what can be written is known by its JSON alone
+pub writable_as : (v : Value) (j : Json) (d : ℕ) → json_of v ≡ j → HasNumbers (json_of v) → depth (json_of v) ≤ d → HasNumbers j × (depth j ≤ d)
+writable_as v j d is numbers deep = subst (λ k. HasNumbers k × (depth k ≤ d)) is (numbers, deep)
 
 -- a value within one that can be written can be written, as deep as there is room
-pub list_writable : (vs : Vec Value Global) (v : Value) (d : ℕ) → v ≡ list_of vs → HasNumbers (json_of v) → depth (json_of v) ≤ d
-    → ItemsHaveNumbers (items_of (map json_of vs.items)) × (items_depth (items_of (map json_of vs.items)) < d)
-list_writable vs v d is numbers deep =
-    let seen_as = ap json_of is ∙ json_of-List vs in
-    let deeper : depth (array (items_of (map json_of vs.items))) ≤ d = subst (λ j. depth j ≤ d) seen_as deep in
-    (subst HasNumbers seen_as numbers, omega (arith, deeper))
-
-pub object_writable : (m : Members) (v : Value) (d : ℕ) → v ≡ Object m → HasNumbers (json_of v) → depth (json_of v) ≤ d
-    → MembersHaveNumbers (members_of (seen m.pairs)) × (members_depth (members_of (seen m.pairs)) < d)
-object_writable m v d is numbers deep =
-    let seen_as = ap json_of is ∙ json_of-Object m in
-    let deeper : depth (object (members_of (seen m.pairs))) ≤ d = subst (λ j. depth j ≤ d) seen_as deep in
-    (subst HasNumbers seen_as numbers, omega (arith, deeper))
-
 pub item_writable : (vs : List Value) (i : ℕ) (v : Value) (d : ℕ) → i < length vs → v ≡ get_or vs i v
     → ItemsHaveNumbers (items_of (map json_of vs)) → items_depth (items_of (map json_of vs)) ≤ d
     → HasNumbers (json_of v) × (depth (json_of v) ≤ d)

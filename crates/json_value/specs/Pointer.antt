@@ -1,10 +1,10 @@
 -- Where a path leads: JSON Pointer (RFC 6901). The byte 126 is `~`, 47 is `/`, 48 is `0` and 49 is `1`.
-use Rattle.std.specs.Prelude.{◌≡◌, ◌≢◌, ◌⊎◌, ◌==◌, ◌&&◌, ◌||◌, ◌^◌, ℕ, not, List, [], ◌∷◌, length, Option, None, Some, option_map, option_and_then, nat_lt, slice_get, if◌then◌else◌}
-use Rattle.std.specs.List.{slice_split}
-use Rattle.std.specs.Str.{all_ascii_digits}
+use Rattle.std.specs.Prelude.{◌≡◌, ◌≢◌, ◌⊎◌, ◌==◌, ◌&&◌, ◌||◌, ◌^◌, ℕ, Bool, false, not, List, [], ◌∷◌, length, Option, None, Some, option_map, option_and_then, nat_lt, slice_get, if◌then◌else◌}
+use Rattle.std.specs.List.{list_all, slice_split}
+use Rattle.std.specs.Str.{all_ascii_digits, bytes_eq}
 use Rattle.std.specs.Str.Parse.{digits_value}
 use Rattle.std.specs.Map.{keys_of, values_of}
-use Rattle.std.specs.Option.{option_map_or}
+use Rattle.std.specs.Option.{option_eq, option_map_or}
 use Rattle.std.specs.Vec.{with_item}
 use Rattle.std.specs.declared.alloc.Global.{Global}
 use Rattle.std.specs.declared.string.String.{String}
@@ -99,3 +99,23 @@ PathsPart v [] other = ⊥
 PathsPart v (c ∷ path) [] = ⊥
 PathsPart v (c ∷ path) (d ∷ other) =
     (c ≡ 47) × (d ≡ 47) × Part v (slice_split (λ b. b == 47) path) (slice_split (λ b. b == 47) other)
+
+-- ---- what shows that paths part
+
+-- whether two lists of steps come to different names, before either ends
+abbrev pub steps_part : List (List ℕ) → List (List ℕ) → Bool
+steps_part [] others = false
+steps_part (step ∷ steps) [] = false
+steps_part (step ∷ steps) (other ∷ others) =
+    if bytes_eq step other then steps_part steps others else not (option_eq bytes_eq (name_of step) (name_of other))
+
+-- the same of two paths
+abbrev pub paths_part : List ℕ → List ℕ → Bool
+paths_part [] other = false
+paths_part (c ∷ path) [] = false
+paths_part (c ∷ path) (d ∷ other) =
+    c == 47 && d == 47 && steps_part (slice_split (λ b. b == 47) path) (slice_split (λ b. b == 47) other)
+
+-- whether a name stands for itself as a step: it has neither `/` nor `~`
+abbrev pub is_plain : List ℕ → Bool
+is_plain = list_all (λ c. not (c == 47) && not (c == 126))

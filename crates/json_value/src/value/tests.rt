@@ -1,8 +1,8 @@
 //! Values, in use: callers that are proved, and what no clause says.
-ghost use Rattle.std.specs.Prelude.{◌≡◌, ℕ, List, Some, OnOk, OnErr, OnSome, true};
+ghost use Rattle.std.specs.Prelude.{◌≡◌, ℕ, List, Some, OnOk, OnErr, OnSome, IsTrue, true, codes, ◌++◌, ◌≢◌};
 ghost use Rattle.halfbrown.specs.Pairs.{set_by};
 ghost use Rattle.json_value.specs.Members.{is_named, member, members_of};
-ghost use Rattle.json_value.specs.Pointer.{value_at, PathsPart};
+ghost use Rattle.json_value.specs.Pointer.{is_plain, value_at, PathsPart};
 ghost use Rattle.json_value.specs.declared.value.Value.{Bool};
 
 use super::{Error, Value};
@@ -27,6 +27,30 @@ fn mark(document: &mut Value, path: &str) -> Result<(), Error>
     ensures refused { OnErr result (document.new ≡ document.old) }
 {
     document.set_at(path, Value::Bool(true))?;
+    Ok(())
+}
+
+// Marks the first user. The limits stay.
+#[tactic(auto, using(crate::proofs::PathFacts::path_facts))]
+fn mark_first_user(document: &mut Value) -> Result<(), Error>
+    ensures marked { OnOk result (value_at document.new (codes "/users/0") ≡ Some (Bool true)) }
+    ensures limits { OnOk result (value_at document.new (codes "/limits") ≡ value_at document.old (codes "/limits")) }
+{
+    document.set_at("/users/0", Value::Bool(true))?;
+    Ok(())
+}
+
+// Marks a member. The members of other names stay.
+#[tactic(auto, using(crate::proofs::PathFacts::path_facts))]
+fn mark_member(alloc: Global, document: &mut Value, name: &str) -> Result<(), Error>
+    requires { IsTrue (is_plain name.now) }
+    ensures marked { OnOk result (value_at document.new (codes "/" ++ name.now) ≡ Some (Bool true)) }
+    ensures others { OnOk result ((other : List ℕ) → other ≢ name.now → IsTrue (is_plain other)
+        → value_at document.new (codes "/" ++ other) ≡ value_at document.old (codes "/" ++ other)) }
+{
+    let mut path = String::from_str(alloc, "/")?;
+    path.push_str(name)?;
+    document.set_at(path.as_str(), Value::Bool(true))?;
     Ok(())
 }
 
@@ -181,5 +205,16 @@ fn what_a_path_leads_to_is_set(rt: HostRuntime) -> Result<(), Error> {
     let whole = value.set_at("", Value::Bool(true))?;
     assert_eq!(rt; whole.to_string(alloc)?.as_str(), wanted);
     assert_eq!(rt; value, Value::Bool(true));
+    Ok(())
+}
+
+#[test]
+fn other_paths_lead_where_they_led(rt: HostRuntime) -> Result<(), Error> {
+    let alloc = rt.alloc();
+    let mut value = Value::parse(alloc, r#"{"users":[1,2],"limits":3}"#)?;
+    mark_first_user(&mut value)?;
+    mark_member(alloc, &mut value, "limits")?;
+    let text = value.to_string(alloc)?;
+    assert_eq!(rt; text.as_str(), r#"{"users":[true,2],"limits":true}"#);
     Ok(())
 }

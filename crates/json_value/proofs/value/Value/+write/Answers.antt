@@ -8,8 +8,8 @@ use Rattle.json.specs.Token as token
 use Rattle.json.specs.Tree.{items_depth, members_depth, ItemsHaveNumbers, MembersHaveNumbers}
 use Rattle.json.specs.Value.{items_of}
 use Rattle.json_value.proofs.Reading.{seen}
-use Rattle.json_value.proofs.Writing.{member_tokens, shown, value_tokens, items_nest, members_nest, list_tokens, list_nests, object_tokens}
-use Rattle.json_value.proofs.Writing.{object_nests, list_writable, item_writable, object_writable, member_writable}
+use Rattle.json_value.proofs.Writing.{json_of-List, json_of-Object, member_tokens, shown, value_tokens, items_nest, members_nest}
+use Rattle.json_value.proofs.Writing.{list_tokens, object_tokens, writable_as, item_writable, member_writable}
 use Rattle.json_value.proofs.value.Value.+write.Goals as goal
 use Rattle.json_value.specs.Json.{json_of, members_of}
 
@@ -30,28 +30,24 @@ loop-item-preserved t c =
           (items_nest inner (take l.item-index xs) x l.invariant.2 done.nests),
     )
 
-pub returns-in_ok-end_array-in-List-clause-tokens : goal.returns-in_ok-end_array-in-List-clause-tokens
-returns-in_ok-end_array-in-List-clause-tokens t c =
+pub returns-in_ok-end_array-in-List : goal.returns-in_ok-end_array-in-List
+returns-in_ok-end_array-in-List t c =
     let l = c.loop-item in
     let start = c.begin_array.new.self.tokens in
     let vs = c.in-List.items in
+    let inner = c.in_ok-inner-in-List.inner in
     let xs = c.deref-item-items.result.now in
+    let step : c.args.depth ≡ inner + 1 = search rules in
     let all : take l.item-index xs ≡ vs.items = take_all l.item-index xs (omega arith) ∙ c.deref-item-items.ensures.value in
     let begun : start ≡ c.args.writer.now.tokens ++ token.begin_array ∷ [] = search rules in
     let ended : c.end_array.new.self.tokens ≡ l.writer.tokens ++ token.end_array ∷ [] = search rules in
-    list_tokens _ _ _ _ vs begun (l.invariant.0 ∙ ap (λ ys. start ++ flat_map value_tokens ys) all) ended
-    ∙ ap (λ v. c.args.writer.now.tokens ++ value_tokens v) (sym c.in-List.is)
-
-pub returns-in_ok-end_array-in-List-clause-nests : goal.returns-in_ok-end_array-in-List-clause-nests
-returns-in_ok-end_array-in-List-clause-nests t c =
-    let l = c.loop-item in
-    let vs = c.in-List.items in
-    let inner = c.in_ok-inner-in-List.inner in
-    let xs = c.deref-item-items.result.now in
-    let all : take l.item-index xs ≡ vs.items = take_all l.item-index xs (omega arith) ∙ c.deref-item-items.ensures.value in
-    let nested = subst (λ ys. items_depth (items_of (map json_of ys)) ≤ inner) all l.invariant.2 in
-    let deep = list_nests inner c.args.depth vs nested (search rules) in
-    search rules
+    let nested : items_depth (items_of (map json_of vs.items)) ≤ inner = rw (← all) l.invariant.2 in
+    record {
+      tokens = rw c.in-List.is (list_tokens _ _ _ _ vs begun (l.invariant.0 ∙ ap (λ ys. start ++ flat_map value_tokens ys) all) ended);
+      before = search rules;
+      nests = rw (c.in-List.is, json_of-List vs) (omega (arith, nested, step));
+      refused = search rules;
+    }
 
 pub loop-name-preserved : goal.loop-name-preserved
 loop-name-preserved t c =
@@ -77,30 +73,25 @@ loop-name-preserved t c =
           ∙ ap (λ ms. shown l.yielded ++ ms) (sym c.in-Some.ensures.steps) ∙ l.invariant.5,
     )
 
-pub returns-in_ok-end_object-in-Object-clause-tokens : goal.returns-in_ok-end_object-in-Object-clause-tokens
-returns-in_ok-end_object-in-Object-clause-tokens t c =
+pub returns-in_ok-end_object-in-Object : goal.returns-in_ok-end_object-in-Object
+returns-in_ok-end_object-in-Object t c =
     let l = c.loop-name in
     let start = c.begin_object.new.self.tokens in
     let m = c.in-Object.members in
+    let inner = c.in_ok-inner-in-Object.inner in
+    let step : c.args.depth ≡ inner + 1 = search rules in
     let given : pairs_left c.into_iter-name-iterator.result ≡ m.pairs = search rules in
     let all : shown l.yielded ≡ m.pairs =
     sym (append-nil (shown l.yielded)) ∙ ap (λ ms. shown l.yielded ++ ms) (sym c.in-None.ensures.steps.0) ∙ l.invariant.5 ∙ given in
     let begun : start ≡ c.args.writer.now.tokens ++ token.begin_object ∷ [] = search rules in
     let ended : c.end_object.new.self.tokens ≡ l.writer.tokens ++ token.end_object ∷ [] = search rules in
-    object_tokens m _ _ _ _ begun (l.invariant.2 ∙ ap (λ ms. start ++ flat_map member_tokens ms) all) ended
-    ∙ ap (λ v. c.args.writer.now.tokens ++ value_tokens v) (sym c.in-Object.is)
-
-pub returns-in_ok-end_object-in-Object-clause-nests : goal.returns-in_ok-end_object-in-Object-clause-nests
-returns-in_ok-end_object-in-Object-clause-nests t c =
-    let l = c.loop-name in
-    let m = c.in-Object.members in
-    let inner = c.in_ok-inner-in-Object.inner in
-    let given : pairs_left c.into_iter-name-iterator.result ≡ m.pairs = search rules in
-    let all : shown l.yielded ≡ m.pairs =
-    sym (append-nil (shown l.yielded)) ∙ ap (λ ms. shown l.yielded ++ ms) (sym c.in-None.ensures.steps.0) ∙ l.invariant.5 ∙ given in
-    let nested = subst (λ ms. members_depth (members_of (seen ms)) ≤ inner) all l.invariant.4 in
-    let deep = object_nests m inner c.args.depth nested (search rules) in
-    search rules
+    let nested : members_depth (members_of (seen m.pairs)) ≤ inner = rw (← all) l.invariant.4 in
+    record {
+      tokens = rw c.in-Object.is (object_tokens _ _ _ _ m begun (l.invariant.2 ∙ ap (λ ms. start ++ flat_map member_tokens ms) all) ended);
+      before = search rules;
+      nests = rw (c.in-Object.is, json_of-Object m) (omega (arith, nested, step));
+      refused = search rules;
+    }
 
 pub returns-in_err-write-in-List-clause-refused : goal.returns-in_err-write-in-List-clause-refused
 returns-in_err-write-in-List-clause-refused t c numbers deep =
@@ -108,7 +99,7 @@ returns-in_err-write-in-List-clause-refused t c numbers deep =
     let same = sym c.deref-item-items.ensures.value in
     let inner = c.in_ok-inner-in-List.inner in
     let step : c.args.depth ≡ inner + 1 = search rules in
-    let whole = list_writable c.in-List.items c.args.self.now c.args.depth c.in-List.is numbers deep in
+    let whole = writable_as c.args.self.now _ c.args.depth (ap json_of c.in-List.is ∙ json_of-List c.in-List.items) numbers deep in
     let numbered = subst (λ ys. ItemsHaveNumbers (items_of (map json_of ys))) same whole.0 in
     let room = subst (λ ys. items_depth (items_of (map json_of ys)) ≤ inner) same (omega (arith, whole.1, step)) in
     let its = item_writable xs c.loop-item.item-index c.item-item.result inner (omega arith) c.item-item.is numbered room in
@@ -127,7 +118,7 @@ returns-in_err-write-in-Object-clause-refused t c numbers deep =
     let given : pairs_left c.into_iter-name-iterator.result ≡ m.pairs = search rules in
     let all : shown l.yielded ++ (name, v) ∷ left ≡ m.pairs =
     ap (λ ms. shown l.yielded ++ ms) (sym c.in-Some.ensures.steps) ∙ l.invariant.5 ∙ given in
-    let whole = object_writable m c.args.self.now c.args.depth c.in-Object.is numbers deep in
+    let whole = writable_as c.args.self.now _ c.args.depth (ap json_of c.in-Object.is ∙ json_of-Object m) numbers deep in
     let numbered = subst (λ ms. MembersHaveNumbers (members_of (seen ms))) (sym all) whole.0 in
     let room = subst (λ ms. members_depth (members_of (seen ms)) ≤ inner) (sym all) (omega (arith, whole.1, step)) in
     let its = member_writable (shown l.yielded) left (name, v) inner numbered room in

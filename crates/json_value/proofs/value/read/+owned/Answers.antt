@@ -1,5 +1,5 @@
 use Rattle.std.proofs.Common.{◌≡◌, ◌+◌, [], ◌∷◌, ◌++◌, map, take, sym, ap, ◌∙◌, arith, rules}
-use Rattle.std.proofs.lemmas.List.{map-append, take_all, take_more}
+use Rattle.std.proofs.lemmas.List.{take_all, take_more}
 use Rattle.std.specs.Str.{bytes_eq}
 use Rattle.std.specs.String.{string_bytes, string_eq}
 use Rattle.halfbrown.specs.FromIter.{collected}
@@ -9,21 +9,8 @@ use Rattle.json.specs.Value.{value_view, members_view, items_of}
 use Rattle.json_value.proofs.Reading.{merged_view, seen, seen_put, values_push, put_all_push, items_merged}
 use Rattle.json_value.proofs.Writing.{json_of-List, json_of-Object}
 use Rattle.json_value.proofs.value.read.+owned.Goals as goal
-use Rattle.json_value.specs.Json.{json_of, members_of, merged, merged_values}
+use Rattle.json_value.specs.Json.{members_of, merged, merged_values}
 use Rattle.json.specs.Json.{array, object}
-
-pub loop-item-preserved : goal.loop-item-preserved
-loop-item-preserved t c =
-    let l = c.loop-item in
-    let xs = c.deref-item-items.result.now in
-    let x = c.item-item.result in
-    let more : take (l.item-index + 1) xs ≡ take l.item-index xs ++ x ∷ [] =
-    take_more xs l.item-index x (omega arith) ∙ ap (λ y. take l.item-index xs ++ y ∷ []) (sym c.item-item.is) in
-    let read = c.in_ok-owned-in-Array.field-0 in
-    let pushed : c.push.new.self.items ≡ l.list.items ++ read ∷ [] = search rules in
-    ap (map json_of) pushed ∙ map-append json_of l.list.items (read ∷ [])
-    ∙ (λ i. l.invariant i ++ c.in_ok-owned-in-Array.ensures.ok i ∷ [])
-    ∙ sym (map-append merged_view (take l.item-index xs) (x ∷ [])) ∙ ap (map merged_view) (sym more)
 
 pub loop-name-preserved : goal.loop-name-preserved
 loop-name-preserved t c =
