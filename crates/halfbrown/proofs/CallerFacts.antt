@@ -1,6 +1,6 @@
 -- What follows of changed lists of pairs, for callers: the set `map_facts` has those that `grind` applies, and `using` takes it.
 use Rattle.std.proofs.Common.{◌≡◌, ℕ, suc, ◌+◌, ◌<◌, ◌≤◌, Bool, true, false, cond, ◌⊎◌, List, [], ◌∷◌, ◌++◌, length, take}
-use Rattle.std.proofs.Common.{reverse, get_or, slice_get, Option, Some, is_some, unwrap_or, count_by, refl, sym, ap, subst, ◌∙◌}
+use Rattle.std.proofs.Common.{reverse, get_or, slice_get, Option, Some, unwrap_or, count_by, refl, ap, ◌∙◌}
 use Rattle.std.proofs.Common.{append-nil, arith}
 use Rattle.std.proofs.lemmas.Grind.{common_steps}
 use Rattle.std.specs.Cmp.{IsEquivalence}
@@ -47,22 +47,10 @@ module _ {K V : Type 0} (test : K → Bool) where
       → cond b (Some p.1) (lookup test ps) ≡ Some v → IsPlaced (p ∷ ps) v
   placed_by p ps v more true passes found =
       let same : p.1 ≡ v = cc in
-      record {
-        index = 0;
-        key = p.0;
-        at = ap (λ w. Some (p.0, w)) same;
-        passes = passes;
-        first = ap (λ b. cond b (Some 0) (option_map suc (index_of test (keys_of ps)))) passes;
-      }
+      record { index = 0; key = p.0; at = ap (λ w. Some (p.0, w)) same; passes = passes; first = grind (arith, common_steps) }
   placed_by p ps v more false fails found =
       let m = more found in
-      record {
-        index = suc m.index;
-        key = m.key;
-        at = m.at;
-        passes = m.passes;
-        first = ap (λ b. cond b (Some 0) (option_map suc (index_of test (keys_of ps)))) fails ∙ ap (option_map suc) m.first;
-      }
+      record { index = suc m.index; key = m.key; at = m.at; passes = m.passes; first = grind (arith, common_steps) }
 
   -- where a value is found its pair stands at an index
   pub place_of_value : (ps : List (K × V)) (v : V) → lookup test ps ≡ Some v → IsPlaced ps v
@@ -82,12 +70,11 @@ module _ {K V : Type 0} (test : K → Bool) where
 module _ {K V : Type 0} (eq : K → K → Bool) where
   -- the value that is held, put again, changes nothing
   pub put_value_held : (ps : List (K × V)) (k : K) (v : V) → value_of eq ps k ≡ Some v → put eq ps k v ≡ ps
-  put_value_held ps k v found =
-      ap (λ o. cond (is_some o) (set_by (eq k) ps v) (ps ++ (k, v) ∷ [])) found ∙ set_same (eq k) ps v found
+  put_value_held ps k v found = grind (arith, common_steps, set_same (eq k) ps v found)
 
   -- the pair of a key that is not held is appended
   pub put_new : (ps : List (K × V)) (k : K) (v : V) → holds eq ps k ≡ false → put eq ps k v ≡ ps ++ (k, v) ∷ []
-  put_new ps k v absent = ap (λ b. cond b (set_by (eq k) ps v) (ps ++ (k, v) ∷ [])) absent
+  put_new ps k v absent = grind (arith, common_steps)
 
 -- ---- after a value was set
 
@@ -161,8 +148,7 @@ module _ {K : Type 0} {eq : K → K → Bool} (laws : IsEquivalence eq) where
   pub counted_step : (xs : List K) (i : ℕ) {old new : List (K × ℕ)} {k : K} {v : ℕ} → CountsEach eq (take i xs) old → HasPut eq old k v new
       → i < length xs → k ≡ get_or xs i k → v ≡ unwrap_or (value_of eq old k) 0 + 1 → CountsEach eq (take (i + 1) xs) new
   counted_step xs i {old} {new} {k} {v} before puts within item more =
-      subst (λ ys. CountsEach eq ys new) (ap (λ x. take i xs ++ x ∷ []) item ∙ sym (take_more xs i k within))
-      (counted_more (take i xs) before puts more)
+      grind (arith, common_steps, counted_more (take i xs) before puts more, take_more xs i k within)
 
   -- no count is more than there are items, so that one more fits
   pub count_fits : {xs : List K} {ps : List (K × ℕ)} → CountsEach eq xs ps → (q : K) → unwrap_or (value_of eq ps q) 0 ≤ length xs

@@ -41,16 +41,9 @@ module _ {K V : Type 0} (eq : K → K → Bool) where
   len_put [] k v = refl
   len_put (p ∷ ps) k v = grind (arith, common_steps, len_put ps k v)
 
-  len_taken_by : (ps : List (K × V)) (k : K) (index : Option ℕ) → index ≡ index_of (eq k) (keys_of ps)
-      → length (take_out eq ps k) + cond (holds eq ps k) 1 0 ≡ length ps
-  len_taken_by ps k (Some i) is =
-      let at = index_found (eq k) ps i is in
-      rw (at.held) (ap (λ l. length l + 1) at.take_is ∙ length-swap_remove_at ps i (omega arith))
-  len_taken_by ps k None is = grind (arith, common_steps, absent_of_index)
-
   -- there is one pair fewer where the key was held
   pub len_taken : (ps : List (K × V)) (k : K) → length (take_out eq ps k) + cond (holds eq ps k) 1 0 ≡ length ps
-  len_taken ps k = len_taken_by ps k (index_of (eq k) (keys_of ps)) refl
+  len_taken ps k = grind (arith, common_steps, absent_of_index (eq k) ps, index_found (eq k) ps, length-swap_remove_at)
 
 module _ {K : Type 0} (eq : K → K → Bool) (laws : IsEquivalence eq) where
   -- a form that does not stand for a key stands for none of its equals
@@ -94,13 +87,13 @@ module _ {K V : Type 0} (eq : K → K → Bool) (laws : IsEquivalence eq) where
 
   -- the equals of the key have the value that was put, and each other key has what it had
   pub lookup_put : (ps : List (K × V)) (k : K) (v : V) (q : K) → value_of eq (put eq ps k v) q ≡ cond (eq k q) (Some v) (value_of eq ps q)
-  lookup_put [] k v q = ap (λ b. cond b (Some v) None) (laws.symm q k)
+  lookup_put [] k v q = grind (arith, common_steps, laws.symm q k)
   lookup_put (p ∷ ps) k v q = grind (arith, common_steps, laws.congr k p.0 q, lookup_put ps k v q)
 
   -- a test that accepts no equal of the key finds what it found
   pub put_other : (ps : List (K × V)) (k : K) (v : V) (test : K → Bool) → ((x : K) → eq k x ≡ true → test x ≡ false)
       → lookup test (put eq ps k v) ≡ lookup test ps
-  put_other [] k v test apart = ap (λ b. cond b (Some v) None) (apart k (laws.refl k))
+  put_other [] k v test apart = grind (arith, common_steps, apart k, laws.refl k)
   put_other (p ∷ ps) k v test apart = grind (arith, common_steps, apart p.0, put_other ps k v test apart)
 
   pub value_of_put : (ps : List (K × V)) (k : K) (v : V) → value_of eq (put eq ps k v) k ≡ Some v

@@ -1,5 +1,5 @@
 -- Pairs under what is read of their keys, as texts under their bytes: a look-up, a put, a set value and a removal there.
-use Rattle.std.proofs.Common.{◌≡◌, ℕ, suc, ◌+◌, ◌<◌, ◌≤◌, length, String, arith, take, get_or, unwrap_or, subst, Bool, false, cond, List}
+use Rattle.std.proofs.Common.{◌≡◌, ℕ, ◌+◌, ◌<◌, ◌≤◌, length, String, arith, take, get_or, unwrap_or, subst, Bool, false, cond, List}
 use Rattle.std.proofs.Common.{[], ◌∷◌, ◌++◌, map, Option, Some, refl, sym, ap, ◌∙◌}
 use Rattle.std.proofs.lemmas.Grind.{common_steps}
 use Rattle.std.specs.Bool.{nat_eq}
@@ -9,7 +9,6 @@ use Rattle.std.specs.List.{IsDistinct, AllByRecursion}
 use Rattle.std.specs.Map.{keys_of, lookup}
 use Rattle.std.specs.Str.{bytes_eq}
 use Rattle.std.specs.String.{string_bytes, string_eq}
-use Rattle.std.specs.Option.{option_map}
 use Rattle.std.proofs.lemmas.List.{map-append, take_more}
 use Rattle.std.proofs.Math.ListN.{length-map}
 use denote.Ref.{Bor}
@@ -36,7 +35,7 @@ module _ {K B V : Type 0} (read : K → B) (test : B → Bool) where
 
   index_read : (ps : List (K × V)) → index_of test (keys_of (keyed_by read ps)) ≡ index_of (λ k. test (read k)) (keys_of ps)
   index_read [] = refl
-  index_read (p ∷ ps) = ap (λ o. cond (test (read p.0)) (Some 0) (option_map suc o)) (index_read ps)
+  index_read (p ∷ ps) = grind (arith, common_steps, index_read ps)
 
   pub keyed_by-take_out : (ps : List (K × V)) → keyed_by read (take_out_by (λ k. test (read k)) ps) ≡ take_out_by test (keyed_by read ps)
   keyed_by-take_out ps = grind (arith, common_steps, index_read ps, map-swap_remove_at {A = K × V} {B = B × V} (λ p. (read p.0, p.1)) ps)

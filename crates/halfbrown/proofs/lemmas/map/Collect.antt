@@ -63,8 +63,7 @@ module _ {K V S : Type 0} (limit : ℕ) (eq : K → K → Bool) where
   pub inserts_pairs : (old new : State K V S) (items : List (K × V)) → InsertsAll limit eq old items new
       → new.pairs ≡ put_all eq old.pairs items
   inserts_pairs old new [] inserts = ap (λ m. m.pairs) inserts
-  inserts_pairs old new (p ∷ items) inserts = inserts_pairs inserts.0 new items inserts.3
-      ∙ ap (λ ps. put_all eq ps items) inserts.1.pairs
+  inserts_pairs old new (p ∷ items) inserts = grind (arith, common_steps, inserts_pairs inserts.0 new items inserts.3)
 
   pub inserts_builder : (old new : State K V S) (items : List (K × V)) → InsertsAll limit eq old items new → new.builder ≡ old.builder
   inserts_builder old new [] inserts = ap (λ m. m.builder) inserts

@@ -1,6 +1,6 @@
 -- When two lists of pairs of distinct keys are equal as maps: they are of one length, and the right holds each pair of the left.
-use Rattle.std.proofs.Common.{◌≡◌, ℕ, ◌≤◌, Bool, true, false, cond, List, [], ◌∷◌, length, get_or, slice_get, Option, None, not}
-use Rattle.std.proofs.Common.{Some, is_some, inl, inr, refl, sym, ap, ◌∙◌, arith, suc, drop, ◌+◌, subst}
+use Rattle.std.proofs.Common.{◌≡◌, ℕ, ◌≤◌, Bool, true, false, List, [], ◌∷◌, length, get_or, slice_get, Option, None, not}
+use Rattle.std.proofs.Common.{Some, is_some, refl, sym, ap, ◌∙◌, arith, drop, ◌+◌}
 use Rattle.std.proofs.lemmas.Grind.{common_steps}
 use Rattle.std.specs.Bool.{Decides}
 use Rattle.std.specs.Borrow.{Bor}
@@ -8,8 +8,7 @@ use Rattle.std.specs.Cmp.{IsEquivalence}
 use Rattle.std.specs.HashMap.Eq.{lookup_congr}
 use Rattle.std.specs.List.{AllByRecursion, IsDistinct, list_all}
 use Rattle.std.specs.Map.{keys_of, lookup}
-use Rattle.std.specs.Option.{option_copied, option_eq, option_map_or}
-use Rattle.std.proofs.lemmas.Bool.{cases_Bool}
+use Rattle.std.specs.Option.{option_copied, option_eq}
 use Rattle.std.proofs.lemmas.List.Sums.{AllPass-from_list_all, list_all-from_AllPass}
 use Rattle.std.proofs.lemmas.Map.Entries.{place_from_lookup, lookup_from_place, length-keys_of}
 use Rattle.std.proofs.lemmas.Map.Keys.{IsDistinct-cons}
@@ -24,16 +23,6 @@ use Rattle.std.proofs.Math.Seq.{drop-cons}
 use Rattle.half_store.specs.Work.{Work}
 use Rattle.halfbrown.specs.Costs.{IsKeySearchCost, AreSearchCosts}
 use Rattle.halfbrown.specs.State.{State}
-
-module _ {V : Type 0} (value_eq : V → V → Bool) where
-  some_right : (a b : Option V) → option_eq value_eq a b ≡ true → is_some a ≡ true → is_some b ≡ true
-  some_right a b same some = grind (arith, common_steps)
-
-  some_left : (a b : Option V) → option_eq value_eq a b ≡ true → is_some b ≡ true → is_some a ≡ true
-  some_left a b same some = grind (arith, common_steps)
-
-  some_is_held : (v : V) (b : Option V) → option_eq value_eq (Some v) b ≡ option_map_or (value_eq v) b false
-  some_is_held v b = grind (arith, common_steps)
 
 module _ {K V : Type 0} (eq : K → K → Bool) where
   -- no held key is equal to one that has no value
@@ -50,9 +39,7 @@ module _ {K V : Type 0} (eq : K → K → Bool) (value_eq : V → V → Bool) (l
   module _ (left_distinct : IsDistinct eq (keys_of left)) where
     -- a pair of the left is held on the right exactly where its key has the same value in both
     held_by_value : (i : ℕ) (p : K × V) → slice_get left i ≡ Some p → same_value eq value_eq left right p.0 ≡ holds_pair eq value_eq right p
-    held_by_value i p at =
-        ap (λ v. option_eq value_eq v (value_of eq right p.0)) (lookup_from_place laws left i p.0 p.1 left_distinct at)
-        ∙ some_is_held value_eq p.1 (value_of eq right p.0)
+    held_by_value i p at = grind (arith, common_steps, lookup_from_place laws left i p.0 p.1 left_distinct at)
 
     all_held : same_pairs eq value_eq left right ≡ true → list_all (holds_pair eq value_eq right) left ≡ true
     all_held same =
@@ -70,10 +57,6 @@ module _ {K V : Type 0} (eq : K → K → Bool) (value_eq : V → V → Bool) (l
         ∙ ap (holds_pair eq value_eq right) (sym (get_or_from_slice_get left at.0 p p at.2))
         ∙ AllPass-from_list_all (holds_pair eq value_eq right) left all at.0 p (slice_get_within left at.0 p at.2)
 
-    has_of_held : list_all (holds_pair eq value_eq right) left ≡ true → (k : K) (found : Option V) → value_of eq left k ≡ found
-        → is_some found ≡ true → is_some (value_of eq right k) ≡ true
-    has_of_held all k found is some = grind (arith, common_steps, is_some, same_of_held, some_right)
-
     -- where the lengths agree, the right has no key beside those
     none_of_none : length left ≡ length right → list_all (holds_pair eq value_eq right) left ≡ true → (k : K) → value_of eq left k ≡ None
         → (found : Option V) → value_of eq right k ≡ found → option_eq value_eq None found ≡ true
@@ -82,11 +65,7 @@ module _ {K V : Type 0} (eq : K → K → Bool) (value_eq : V → V → Bool) (l
         let more : List (K × V) = (k, w) ∷ left in
         let distinct : IsDistinct eq (keys_of more) = IsDistinct-cons eq k (keys_of left) (apart_from_none eq k left none) left_distinct in
         let has : (q : K) → is_some (value_of eq more q) ≡ true → is_some (value_of eq right q) ≡ true
-        = λ q some. elim (cases_Bool (eq q k)) [
-          | inl same ↦ ap is_some (lookup_congr eq laws.congr right q k same ∙ is)
-          | inr other ↦ has_of_held all q (value_of eq left q) refl
-              (ap (λ b. is_some (cond b (Some w) (value_of eq left q))) (sym other) ∙ some)
-        ] in
+        = λ q some. grind (arith, common_steps, lookup_congr eq laws.congr right q k, same_of_held all q) in
         absurd (omega (arith, length_most more right distinct has, lengths))
 
     same_by : length left ≡ length right → list_all (holds_pair eq value_eq right) left ≡ true → (k : K) (found : Option V)
@@ -97,8 +76,8 @@ module _ {K V : Type 0} (eq : K → K → Bool) (value_eq : V → V → Bool) (l
       same_lengths : same_pairs eq value_eq left right ≡ true → length left ≡ length right
       same_lengths same =
           let each = (same_pairs-Decides eq value_eq laws left right).0 same in
-          let least = length_most left right left_distinct (λ k. some_right value_eq (value_of eq left k) (value_of eq right k) (each k)) in
-          let most = length_most right left right_distinct (λ k. some_left value_eq (value_of eq left k) (value_of eq right k) (each k)) in
+          let least = length_most left right left_distinct (λ k some. grind (arith, common_steps, each k)) in
+          let most = length_most right left right_distinct (λ k some. grind (arith, common_steps, each k)) in
           omega arith
 
       pub same_pairs-by_pairs :
@@ -118,9 +97,7 @@ module _ {K V : Type 0} (eq : K → K → Bool) (value_eq : V → V → Bool) (l
 
 -- the rest from an index on begins with the element there
 rest_from : {X : Type 0} (xs : List X) (i : ℕ) (x : X) → slice_get xs i ≡ Some x → drop i xs ≡ x ∷ drop (i + 1) xs
-rest_from xs i x at =
-    let next : suc i ≡ i + 1 = omega arith in
-    drop-cons xs i x (slice_get_within xs i x at) ∙ (λ j. get_or_from_slice_get xs i x x at j ∷ drop (next j) xs)
+rest_from xs i x at = grind (arith, common_steps, drop-cons xs i x, get_or_from_slice_get xs i x x at, slice_get_within xs i x at)
 
 module _ {X : Type 0} (test : X → Bool) (xs : List X) (i : ℕ) (x : X) (at : slice_get xs i ≡ Some x) where
   -- the rest passes where its first element does and what follows does
@@ -145,9 +122,8 @@ module _ {K V S : Type 0} (eq : K → K → Bool) (hash : S → K → ℕ) (m : 
   module _ (value_eq : V → V → Bool) (left : List (K × V)) (i : ℕ) where
     -- none is left
     pub costs_done : length left ≤ i → (work : Work) → AreSearchCosts eq hash m (keys_while_same eq value_eq (drop i left) m.pairs) work work
-    costs_done past work =
-        subst (λ ps. AreSearchCosts eq hash m (keys_while_same eq value_eq ps m.pairs) work work) (sym (drop_of_length-le left past))
-        (costs_none work)
+    unfolding AreSearchCosts
+    costs_done past work = grind (arith, common_steps, drop_of_length-le left past)
 
     module _ (p : K × V) (at : slice_get left i ≡ Some p) (before between : Work) (first : IsKeySearchCost eq hash m p.0 before between)
       where

@@ -1,5 +1,4 @@
 use Rattle.std.proofs.Common.{◌<◌, length, sym, ap, subst, arith}
-use Rattle.std.proofs.lemmas.Grind.{common_steps}
 use Rattle.half_store.specs.Store.{IsVacancy}
 use Rattle.halfbrown.specs.Layout.{IsKept}
 use Rattle.halfbrown.specs.Lookup.{IsAbsent}
@@ -28,4 +27,4 @@ invariant_of-self g c =
     (λ table. (vacant table).0))
 
 pub returns-clause-state : goal.returns-clause-state
-returns-clause-state g c = grind (arith, common_steps, invariant_of-self, state_of)
+returns-clause-state g c = state_of _ _ _ _ _ (invariant_of-self g c)

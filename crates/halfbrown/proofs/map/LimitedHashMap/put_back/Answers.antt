@@ -1,6 +1,5 @@
 use Rattle.std.proofs.Common.{◌<◌, sym, subst, ◌∙◌}
 use Rattle.std.proofs.Common.{arith}
-use Rattle.std.proofs.lemmas.Grind.{common_steps}
 use Rattle.halfbrown.specs.State.{IsTableCapacity}
 use Rattle.halfbrown.proofs.lemmas.map.Layout.{kept_made, state_of}
 use Rattle.halfbrown.proofs.map.LimitedHashMap.put_back.Goals as goal
@@ -15,4 +14,4 @@ invariant_of-self g c =
     (λ table. subst (λ n. g.L.Limit.LIMIT < n) (sym told.form.capacity) (c.requires.exceeds (sym told.form.form ∙ table)))
 
 pub returns-clause-state : goal.returns-clause-state
-returns-clause-state g c = grind (arith, common_steps, invariant_of-self, state_of)
+returns-clause-state g c = state_of _ _ _ _ _ (invariant_of-self g c)

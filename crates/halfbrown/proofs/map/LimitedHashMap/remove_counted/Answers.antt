@@ -4,10 +4,7 @@ use Rattle.halfbrown.proofs.map.LimitedHashMap.remove_counted.Goals as goal
 
 pub returns-in_err-value-clause-removes : goal.returns-in_err-value-clause-removes
 returns-in_err-value-clause-removes g c =
-    removed_value g.L.Limit.LIMIT g.K.PartialEq.eq (g.Q.Equivalent.equivalent c.args.key) c.args.self.now _ _ _ c.from_residual.ensures
-    c.in_err-value.ensures.removes
+    removed_value _ _ _ _ _ _ _ c.from_residual.ensures c.in_err-value.ensures.removes
 
 pub returns-clause-removes : goal.returns-clause-removes
-returns-clause-removes g c =
-    removed_value g.L.Limit.LIMIT g.K.PartialEq.eq (g.Q.Equivalent.equivalent c.args.key) c.args.self.now _ _ _ refl
-    c.in_ok-value.ensures.removes
+returns-clause-removes g c = removed_value _ _ _ _ _ _ _ refl c.in_ok-value.ensures.removes

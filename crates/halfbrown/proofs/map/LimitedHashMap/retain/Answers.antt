@@ -7,4 +7,4 @@ pub invariant_of-self : goal.invariant_of-self
 invariant_of-self g c = grind (arith, common_steps, IsDistinct-retained, kept_as)
 
 pub returns-clause-state : goal.returns-clause-state
-returns-clause-state g c = grind (arith, common_steps, invariant_of-self, state_of)
+returns-clause-state g c = state_of _ _ _ _ _ (invariant_of-self g c)

@@ -8,6 +8,4 @@ pub returns-in_err-value-clause-removes : goal.returns-in_err-value-clause-remov
 returns-in_err-value-clause-removes g c = grind (arith, common_steps, value_in_order)
 
 pub returns-clause-removes : goal.returns-clause-removes
-returns-clause-removes g c =
-    value_in_order g.L.Limit.LIMIT g.K.PartialEq.eq c.args.self.now (g.Q.Equivalent.equivalent c.args.key) _ _ _ refl
-    c.in_ok-value.ensures.removes
+returns-clause-removes g c = value_in_order _ _ _ _ _ _ _ refl c.in_ok-value.ensures.removes

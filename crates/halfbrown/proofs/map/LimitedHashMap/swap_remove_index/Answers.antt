@@ -4,9 +4,8 @@ use Rattle.halfbrown.proofs.map.LimitedHashMap.swap_remove_index.Goals as goal
 
 pub returns-then-index-len : goal.returns-then-index-len
 returns-then-index-len g c =
-    removed_at g.L.Limit.LIMIT g.K.PartialEq.eq c.args.self.now c.args.index g.met.K.Eq.laws c.take_at.result c.take_at.new.self
-    c.len.ensures.state c.take_at.ensures.state c.take_at.ensures.taken c.take_at.ensures.after
+    let told = c.take_at.ensures in
+    removed_at _ _ _ _ g.met.K.Eq.laws c.take_at.result _ c.len.ensures.state told.state told.taken told.after
 
 pub returns-else-index-len : goal.returns-else-index-len
-returns-else-index-len g c =
-    none_removed_at g.L.Limit.LIMIT g.K.PartialEq.eq c.args.self.now c.args.index c.len.ensures.state (search rules)
+returns-else-index-len g c = none_removed_at _ _ _ c.args.index c.len.ensures.state (search rules)

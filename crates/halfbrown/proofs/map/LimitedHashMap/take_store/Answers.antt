@@ -2,6 +2,4 @@ use Rattle.halfbrown.proofs.lemmas.map.Layout.{kept_empty}
 use Rattle.halfbrown.proofs.map.LimitedHashMap.take_store.Goals as goal
 
 pub invariant_of-self : goal.invariant_of-self
-invariant_of-self g c =
-    kept_empty g.K.PartialEq.eq (g.S.KeyHasher.hash c.self.inside.builder) g.L.Limit.LIMIT
-    c.drain.new.self c.drain.ensures.after
+invariant_of-self g c = kept_empty _ _ _ c.drain.new.self c.drain.ensures.after

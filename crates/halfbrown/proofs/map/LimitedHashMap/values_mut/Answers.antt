@@ -4,15 +4,11 @@ use Rattle.halfbrown.proofs.lemmas.map.Iter.{values_lend_in_order, kept_written,
 use Rattle.halfbrown.proofs.map.LimitedHashMap.values_mut.Goals as goal
 
 pub invariant_of-self-lent : goal.invariant_of-self-lent
-invariant_of-self-lent g c =
-    kept_written g.K.PartialEq.eq (g.S.KeyHasher.hash c.self.inside.builder) g.L.Limit.LIMIT
-    c.self.inside.store c.self.invariant
+invariant_of-self-lent g c = kept_written _ _ _ _ c.self.invariant
 
 pub returns : goal.returns
 returns g c =
-    let inside = c.self.inside in
-    let lent = lent_values g.K.PartialEq.eq (g.S.KeyHasher.hash inside.builder) g.L.Limit.LIMIT
-    inside.store inside.builder c.args.self.now c.self.view_is c.self.invariant
+    let lent = lent_values _ _ _ c.self.inside.store c.self.inside.builder _ c.self.view_is c.self.invariant
     c.columns_mut-values.ensures.small in (
       (sym c.new.ensures.name, lent.back),
       record {
