@@ -8,8 +8,8 @@
 - USING's imports stand in the crates, its snippets in callers, which are proved, or in examples, and its lemmas in their modules.
 - CALLING has the clauses of its calls as they stand in the sources. `tests/documentation.py --write` quotes them there anew.
 - docs/speed.svg shows the figures of SPEED.
-- The examples in the documentation of the map run, with nothing proved. Those of a page, `//!`, stand before each that follows
-  in the file, and those of the crate's page before all.
+- The examples in the documentation of the map and of the set run, with nothing proved. Those of a page, `//!`, stand before each
+  that follows in the file, and those of the crate's page before all.
 """
 
 import os
@@ -32,7 +32,10 @@ LINK = re.compile(r"\[[^\]]*\]\(((?!\w+://)[^)\s]+)\)")
 PATH = re.compile(r"[\w.-]+/[\w./-]*|[\w-]+\.(?:antt|c|edits|md|py|rt|sh|svg|txt)")
 IMPORT = re.compile(r"^ *(?:ghost )?use (Rattle[\w.]*)\.\{(.*)\};?\n", re.M)
 CALLERS = ("half_tests/src/callers/*.rt", "half_uses/s*/*.*", "json_value/src/*.rt", "half_tests/proofs/*/*/*/*.antt")
-USES = "use halfbrown::{run::run, *}; use std::hash::{BuildHasher, RandomState}; use std::test::Fail;"
+USES = {  # The crates whose examples run, and what their tests import.
+    "halfbrown": "use halfbrown::{run::run, *}; use std::hash::{BuildHasher, RandomState}; use std::test::Fail;",
+    "half_set": "use half_set::*; use std::test::Fail;",
+}
 
 
 def texts(*patterns):
@@ -133,9 +136,9 @@ def callers(page):
         yield part, packed(part[max(part.find("///"), 0):]) in code
 
 
-def tests_of(path, before):
+def tests_of(path, tests, before):
     """The examples of a file as tests, each on its own lines, and what stands before the last."""
-    text, tests = path.read_text(), USES
+    text = path.read_text()
     for it in re.finditer(r"^ *//([/!]) ```\n(.*?)(?:^ *//\1 ```|\Z)", text, re.M | re.S):
         line = text.count("\n", 0, it.start())
         code = re.sub("^ *//[/!] ?", "", it[2], flags=re.M)
@@ -145,13 +148,16 @@ def tests_of(path, before):
     return tests, before
 
 
-def examples(sources):
-    before = tests_of(sources / "lib.rt", "")[1]
-    files = {"src_" + "_".join(it.relative_to(sources).parts)[:-3]: tests_of(it, before)[0] for it in sources.rglob("*.rt")}
+def examples():
+    files = {}
+    for name, uses in USES.items():
+        sources = TOP / f"crates/{name}/src"
+        before = tests_of(sources / "lib.rt", "", "")[1]
+        files |= {"_".join([name, *it.relative_to(sources).parts])[:-3]: tests_of(it, uses, before)[0] for it in sources.rglob("*.rt")}
     with tempfile.TemporaryDirectory() as folder:
         crate = pathlib.Path(folder, "crates/examples")
         shutil.copytree(TOP / "crates", crate.parent, ignore=shutil.ignore_patterns("proofs", "out"))
-        (crate.parent.parent / "crates.txt").write_text((TOP / "crates.txt").read_text() + "examples: halfbrown\n")
+        (crate.parent.parent / "crates.txt").write_text((TOP / "crates.txt").read_text() + f"examples: {' '.join(USES)}\n")
         (crate / "src").mkdir(parents=True)
         files["lib"] = "#![tactic(auto)]\n" + "".join(f"#[cfg(test)]\nmod {name};\n" for name in files)
         for name, tests in files.items():
@@ -175,7 +181,7 @@ claims += [it for page in (CALLING, TOP / "docs/USING.md") for it in imports(pag
 claims += callers(CALLING.read_text())
 drawn = picture.picture(*picture.figures((TOP / "docs/SPEED.md").read_text()))
 claims.append(("the picture of SPEED", drawn == (TOP / "docs/speed.svg").read_text()))
-claims += examples(TOP / "crates/halfbrown/src")
+claims += examples()
 failed = [what for what, stands in claims if not stands]
 print(*failed, f"{len(claims) - len(failed)} passed, {len(failed)} failed", sep="\n")
 sys.exit(bool(failed))

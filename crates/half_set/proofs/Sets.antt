@@ -12,7 +12,7 @@ use Rattle.std.specs.Fn.{Mut, CalledAt}
 use Rattle.std.specs.List.{FoldsTo, items_where_true, list_any}
 use Rattle.std.specs.List.Retain.{IsFiltered}
 use Rattle.std.specs.Map.{keys_of, remove_entry}
-use Rattle.std.specs.Map.Calls.{RetainsPairs, SomeCallAtPair}
+use Rattle.std.specs.Map.Calls.{CallableOnEachPair, RetainsPairs, SomeCallAtPair}
 use Rattle.std.specs.Map.Iter.{TakesFirst, ShowsInOrder, deref}
 use Rattle.std.specs.Option.{option_eq}
 use Rattle.std.specs.Set.{is_member, remove_key, IsUnion}
@@ -85,11 +85,16 @@ module _ {T : Type 0} {eq : T → T → Bool} (laws : IsEquivalence eq) where
 -- calls of a test of pairs are calls of a test of values, g, which is part of it
 module _ {S F T : Type 0} (g : Mut F (Bor T × Unit {0}) Bool) (part : S → F) (R : S → T → Unit {0} → Bool → Unit {0} → S → Type 0)
     (calls : (s : S) (x : T) (v : Unit {0}) (b : Bool) (w : Unit {0}) (t : S) → R s x v b w t → CalledAt g (part s) x b (part t)) where
-  pub callable_still : (ps : List (T × Unit {0})) (s t : S) → FoldsTo (SomeCallAtPair R) s ps t → always_mut g (part s) → always_mut g (part t)
+  callable_still : (ps : List (T × Unit {0})) (s t : S) → FoldsTo (SomeCallAtPair R) s ps t → always_mut g (part s) → always_mut g (part t)
   callable_still [] s t none always = subst (λ z. always_mut g (part z)) none always
   callable_still (p ∷ ps) s t called always =
       callable_still ps called.0 t called.2
       (mut_next g _ _ _ _ _ (calls s p.0 p.1 called.1.0 called.1.1 called.0 called.1.2).called refl always)
+
+  -- so what may always be called may be called at each pair
+  pub callable_each : (Q : S → T → Unit {0} → Type 0) → ((s : S) (x : T) (v : Unit {0}) → always_mut g (part s) → Q s x v)
+      → (s : S) (ps : List (T × Unit {0})) → always_mut g (part s) → CallableOnEachPair R Q s ps
+  callable_each Q takes s ps always = record { at = λ before after t x v e called. takes t x v (callable_still before s t called always) }
 
   pub retains_values : (s : S) (ps kept : List (T × Unit {0})) → RetainsPairs R s ps kept
       → IsFiltered (CalledAt g) (part s) (keys_of ps) (keys_of kept)

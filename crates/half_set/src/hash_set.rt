@@ -24,7 +24,14 @@ use std::alloc::Global;
 use std::hash::Hash;
 use std::marker::Model;
 
-/// A set. Up to 32 values are searched by `==`, and nothing is hashed. Contracts see it as the list of its values.
+/// A set. Up to 32 values stand in a vector, which is searched by `==`, and nothing is hashed. More are in a hash table, where a
+/// search hashes the value once. Contracts see a set as the list of its values, in order.
+///
+/// ```
+/// let mut names = HashSet::<String>::new(alloc);
+/// names.insert(String::from_str(alloc, "Ada")?)?;
+/// assert!(rt; names.contains("Ada"));
+/// ```
 #[derive(Drop)]
 pub struct HashSet<T: Eq + Hash> {
     map: HashMap<T, ()>,
@@ -37,7 +44,12 @@ impl<T: Eq + Hash> Model for HashSet<T> {
 }
 
 impl<T: Eq + Hash> HashSet<T> {
-    /// No values. It takes no memory.
+    /// Returns a set of no values. It takes no memory.
+    ///
+    /// ```
+    /// let set = HashSet::<u64>::new(alloc);
+    /// assert!(rt; set.is_empty());
+    /// ```
     pub fn new(alloc: Global) -> HashSet<T>
         ensures { result ≡ [] }
     {
@@ -46,7 +58,11 @@ impl<T: Eq + Hash> HashSet<T> {
         }
     }
 
-    /// How many values there are.
+    /// Returns the number of values.
+    ///
+    /// ```
+    /// assert_eq!(rt; seen.len(), 2);
+    /// ```
     pub fn len(&self) -> usize
         ensures len { result ≡ length self.now }
         ensures distinct { IsDistinct T.eq self.now }
@@ -54,21 +70,36 @@ impl<T: Eq + Hash> HashSet<T> {
         self.map.len()
     }
 
-    /// Whether there is no value.
+    /// Returns whether there is no value.
+    ///
+    /// ```
+    /// assert!(rt; !seen.is_empty());
+    /// ```
     pub fn is_empty(&self) -> bool
         ensures { IsTrue result ↔ (self.now ≡ []) }
     {
         self.map.is_empty()
     }
 
-    /// Whether an equal value is in the set. It costs one search, as do `insert` and the removals.
+    /// Returns whether an equal value is in the set. It costs one search.
+    ///
+    /// ```
+    /// assert!(rt; seen.contains(&1));
+    /// assert!(rt; !seen.contains(&3));
+    /// ```
     pub fn contains<Q: Equivalent<T>>(&self, value: Q) -> bool
         ensures { result ≡ list_any (Q.equivalent value) self.now }
     {
         self.map.contains_key(value)
     }
 
-    /// The values, in order.
+    /// Returns the values, in order. Iteration hashes nothing and compares no values.
+    ///
+    /// ```
+    /// for value in seen.iter() {
+    ///     assert!(rt; *value < 3);
+    /// }
+    /// ```
     pub fn iter(&self) -> Keys<'_, T, ()>
         ensures left { column_left result ≡ self.now }
         ensures small { length self.now < 2 ^ 63 }
@@ -77,7 +108,13 @@ impl<T: Eq + Hash> HashSet<T> {
         self.map.keys()
     }
 
-    /// The values of this set, and then those that the other has beside them, in order.
+    /// Returns the values of this set, and then those that the other has beside them, each in order. It costs one search in this
+    /// set for each value of the other.
+    ///
+    /// ```
+    /// let all = seen.union(&others).copied().collect::<Vec<u64>>(alloc)?;
+    /// assert_eq!(rt; all.as_slice(), [1, 2, 3].as_slice());
+    /// ```
     pub fn union<'a>(&'a self, other: &'a HashSet<T>) -> Union<'a, T>
         ensures left { result ≡ self.now ++ filter (λ value. not (is_member T.eq self.now value)) other.now }
         ensures runs { ShowsInOrder (deref {X = T}) }
@@ -88,7 +125,13 @@ impl<T: Eq + Hash> HashSet<T> {
         }
     }
 
-    /// The values that the other set has too, in order.
+    /// Returns the values that the other set has too, in the order of this one. It costs one search in the other for each value.
+    ///
+    /// ```
+    /// let mut both = seen.intersection(&others);
+    /// assert_eq!(rt; both.next(), Some(&2));
+    /// assert_eq!(rt; both.next(), None);
+    /// ```
     pub fn intersection<'a>(&'a self, other: &'a HashSet<T>) -> Selected<'a, T>
         ensures left { result ≡ filter (is_member T.eq other.now) self.now }
         ensures small { length result < 2 ^ 63 }
@@ -101,7 +144,11 @@ impl<T: Eq + Hash> HashSet<T> {
         }
     }
 
-    /// The values that the other set lacks, in order.
+    /// Returns the values that the other set lacks, in order. It costs one search in the other for each value.
+    ///
+    /// ```
+    /// assert_eq!(rt; seen.difference(&others).count(), 1); // the value 1
+    /// ```
     pub fn difference<'a>(&'a self, other: &'a HashSet<T>) -> Selected<'a, T>
         ensures left { result ≡ filter (λ value. not (is_member T.eq other.now value)) self.now }
         ensures small { length result < 2 ^ 63 }
@@ -114,7 +161,14 @@ impl<T: Eq + Hash> HashSet<T> {
         }
     }
 
-    /// Whether each value of this set is in the other.
+    /// Returns whether each value of this set is in the other. It costs one search in the other for each value, up to the first
+    /// that is not there.
+    ///
+    /// ```
+    /// let one = HashSet::<u64>::from_iter(alloc, [2])?;
+    /// assert!(rt; one.is_subset(&seen));
+    /// assert!(rt; !seen.is_subset(&others));
+    /// ```
     pub fn is_subset(&self, other: &HashSet<T>) -> bool
         ensures { IsTrue result ↔ All (λ value. IsTrue (is_member T.eq other.now value)) self.now }
     {
@@ -123,7 +177,16 @@ impl<T: Eq + Hash> HashSet<T> {
 }
 
 impl<T: Eq + Hash + Drop> HashSet<T> {
-    /// Of equal items the first, in order. The items must end. Fails as `insert` does.
+    /// Returns a set of these items: of equal ones the first, in order.
+    ///
+    /// The items must end. Fails as `insert` does, and then drops what was collected and the remaining items. It costs one search
+    /// for each item, and the growth of the set.
+    ///
+    /// ```
+    /// let set = HashSet::<u64>::from_iter(alloc, [3, 1, 3, 2])?;
+    /// assert_eq!(rt; set.len(), 3);
+    /// assert_eq!(rt; set.iter().next(), Some(&3));
+    /// ```
     pub fn from_iter<I: IntoIterator<Item = T>>(
         alloc: Global,
         items: I,
@@ -141,7 +204,17 @@ impl<T: Eq + Hash + Drop> HashSet<T> {
         Ok(set)
     }
 
-    /// Inserts a value, and returns whether it is new. Where an equal one is in the set nothing changes, nor does it on error.
+    /// Inserts a value, and returns whether it is new. A new value comes last. Where an equal one is in the set, that one stays,
+    /// and the given value is dropped.
+    ///
+    /// Fails only where memory is needed: for a new value where no capacity is left, or to make a full vector a table. Then
+    /// nothing changes, and the given value is dropped. It costs one search, and that switch hashes each value once.
+    ///
+    /// ```
+    /// assert!(rt; seen.insert(3)?);
+    /// assert!(rt; !seen.insert(3)?);
+    /// assert_eq!(rt; seen.len(), 3);
+    /// ```
     pub fn insert(&mut self, value: T) -> Result<bool, Refusal>
         ensures is_new { IfOk result (λ is_new. is_new ≡ not (is_member T.eq self.old value)) }
         ensures after { OnOk result (self.new ≡ add_key T.eq self.old value) }
@@ -151,7 +224,15 @@ impl<T: Eq + Hash + Drop> HashSet<T> {
         Ok(self.map.insert(value, ())?.is_none())
     }
 
-    /// Inserts each item, in order. The items must end. On error those before the refused one have been inserted.
+    /// Inserts each item, in order.
+    ///
+    /// The items must end. Fails as `insert` does, and then the items before the refused one stay, and the remaining ones are
+    /// dropped. It costs one search for each item, and the growth of the set.
+    ///
+    /// ```
+    /// seen.extend([2, 3, 4])?;
+    /// assert_eq!(rt; seen.len(), 4);
+    /// ```
     pub fn extend<I: IntoIterator<Item = T>>(&mut self, items: I) -> Result<(), Refusal>
         requires { IsFiniteIterable I.into_iter_gives I.IntoIter.can_next
             I.IntoIter.remaining items }
@@ -169,7 +250,13 @@ impl<T: Eq + Hash + Drop> HashSet<T> {
         Ok(())
     }
 
-    /// Removes the value that equals this one, and returns whether there was one. The last value takes its place.
+    /// Removes the value that equals this one, and returns whether there was one. The last value takes its place. It costs one
+    /// search.
+    ///
+    /// ```
+    /// assert!(rt; seen.remove(&1));
+    /// assert!(rt; !seen.remove(&1));
+    /// ```
     pub fn remove<Q: Equivalent<T>>(&mut self, value: Q) -> bool
         ensures after { self.new ≡ take_out_value (Q.equivalent value) self.old }
         ensures removes { RemovesValue T.eq (Q.equivalent value) self.old result self.new }
@@ -177,8 +264,13 @@ impl<T: Eq + Hash + Drop> HashSet<T> {
         self.map.remove(value).is_some()
     }
 
-    /// Removes the value that equals this one, and returns whether there was one. The others keep their order, which takes a step
-    /// for each of them.
+    /// Removes the value that equals this one, and returns whether there was one. The others keep their order. It costs one
+    /// search, and then a step for each of the others.
+    ///
+    /// ```
+    /// assert!(rt; seen.shift_remove(&1));
+    /// assert_eq!(rt; seen.iter().next(), Some(&2));
+    /// ```
     pub fn shift_remove<Q: Equivalent<T>>(&mut self, value: Q) -> bool
         ensures after { self.new ≡ remove_key (Q.equivalent value) self.old }
         ensures removes { RemovesValue T.eq (Q.equivalent value) self.old result self.new }
@@ -186,14 +278,25 @@ impl<T: Eq + Hash + Drop> HashSet<T> {
         self.map.shift_remove(value).is_some()
     }
 
-    /// Removes all values.
+    /// Removes all values. The memory stays, for values to come.
+    ///
+    /// ```
+    /// seen.clear();
+    /// assert!(rt; seen.is_empty());
+    /// ```
     pub fn clear(&mut self)
         ensures { self.new ≡ [] }
     {
         self.map.clear();
     }
 
-    /// Keeps the values that `keep` accepts, in their order. It is called once at each, from first to last.
+    /// Keeps the values that `keep` accepts, in their order. It is called once at each, from first to last. Nothing is hashed or
+    /// compared, and no memory is taken.
+    ///
+    /// ```
+    /// seen.retain(|value| *value > 1);
+    /// assert_eq!(rt; seen.len(), 1);
+    /// ```
     pub fn retain<F: FnMut(&T) -> bool>(&mut self, mut keep: F)
         requires { F.IsAlwaysCallable keep }
         ensures { IsFiltered (CalledAt F.FnMut) keep self.old self.new }
@@ -207,7 +310,14 @@ impl<T: Eq + Hash> PartialEq for HashSet<T> {
 
     ghost laws = { partial_equiv_from_equiv (same_values_equiv T.eq T.Eq.laws) };
 
-    /// Whether both sets have the same values, in any order.
+    /// Returns whether both sets have the same values, in any order. Where they have not as many it costs nothing, and else at
+    /// most one search in the other for each value.
+    ///
+    /// ```
+    /// let same = HashSet::<u64>::from_iter(alloc, [2, 1])?;
+    /// assert!(rt; seen == same);
+    /// assert!(rt; seen != others);
+    /// ```
     fn eq(&self, other: &Self) -> bool
         ensures same { result ≡ same_values T.eq self.now other.now }
         ensures members { IsTrue result ↔ ((value : T) → is_member T.eq self.now value ≡ is_member T.eq other.now value) }
@@ -227,7 +337,15 @@ impl<T: Eq + Hash + Drop> IntoIterator for HashSet<T> {
 
     ghost into_iter_gives = { λ set it. (it ≡ set) × (length set < 2 ^ 63) × GivesInOrder T };
 
-    /// The values, by value, in order.
+    /// Returns the values, by value, in order.
+    ///
+    /// ```
+    /// let mut sum = 0;
+    /// for value in seen {
+    ///     sum += value;
+    /// }
+    /// assert_eq!(rt; sum, 3);
+    /// ```
     fn into_iter(self) -> IntoIter<T> {
         let HashSet { map } = self;
         IntoIter {
