@@ -7,6 +7,7 @@ use Rattle.std.specs.Cmp.{IsEquivalence}
 use Rattle.std.specs.Cmp.Lexicographic.{pointwise, nat_list_eq_equiv}
 use Rattle.std.specs.List.{IsDistinct, AllByRecursion}
 use Rattle.std.specs.Map.{keys_of, lookup}
+use Rattle.std.specs.Option.{option_map}
 use Rattle.std.specs.Str.{bytes_eq}
 use Rattle.std.specs.String.{string_bytes, string_eq}
 use Rattle.std.proofs.lemmas.List.{map-append, take_more}
@@ -21,7 +22,7 @@ use Rattle.halfbrown.specs.Updates.{HasPut, HasRemoved}
 use Rattle.halfbrown.proofs.CallerLemmas.{has_put, has_removed}
 use Rattle.halfbrown.proofs.lemmas.pairs.Changes.{map-swap_remove_at}
 use Rattle.halfbrown.specs.CallerLoops.{CountsEach, keyed_by}
-use Rattle.halfbrown.proofs.CallerFacts.{count_fits, counted_more}
+use Rattle.halfbrown.proofs.CallerFacts.{count_fits, counted_more, lookup_set}
 
 module _ {K B V : Type 0} (read : K → B) (test : B → Bool) where
   -- what a test of what is read finds
@@ -112,6 +113,15 @@ has_removed_text {old = old} {new = new} text distinct removes =
     (has_removed bytes_eq nat_list_eq_equiv (keyed_by string_bytes old.pairs) (keyed_by-distinct string_bytes bytes_eq old.pairs distinct)
     text)
 
+-- what every text has once this value is written to a held one
+pub lookup_set_text : {V Y : Type 0} (text : List ℕ) (ps : List (String Y × V)) (v : V) (other : List ℕ)
+    → value_of bytes_eq (keyed_by string_bytes (set_by (λ k. bytes_eq text (string_bytes k)) ps v)) other
+    ≡ cond (bytes_eq text other) (option_map (λ _. v) (value_of bytes_eq (keyed_by string_bytes ps) other))
+    (value_of bytes_eq (keyed_by string_bytes ps) other)
+lookup_set_text text ps v other =
+    ap (λ qs. value_of bytes_eq qs other) (keyed_by-set string_bytes (bytes_eq text) ps v)
+    ∙ lookup_set bytes_eq nat_list_eq_equiv (bytes_eq text) (nat_list_eq_equiv.congr text) (keyed_by string_bytes ps) v other
+
 -- what a put leaves where the keys are texts that are lent
 pub has_put_str : {V S : Type 0} {limit : ℕ} {old new : State (Bor (List ℕ)) V S} {k : Bor (List ℕ)} {v : V} {needs : Option ℕ}
     → Puts limit (λ x y. pointwise nat_eq x.now y.now) old k v needs new
@@ -149,4 +159,4 @@ pub count_str_fits : {A : Type 0} (of : A → List ℕ) (xs : List A) (ps : List
 count_str_fits = count_read_fits (λ k. k.now) nat_list_eq_equiv
 
 -- for functions over texts
-pub ruleset text_facts = (lookup-keyed_by, has_put_text, others_text, has_removed_text)
+pub ruleset text_facts = (lookup-keyed_by, lookup_set_text, has_put_text, others_text, has_removed_text)

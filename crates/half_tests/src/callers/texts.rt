@@ -1,5 +1,5 @@
 //! What callers say of texts: for every text, by its bytes, what a map of owned keys has.
-ghost use Rattle.std.specs.Prelude.{◌≡◌, ℕ, List, false, IfOk, OnOk, Some, None, if◌then◌else◌};
+ghost use Rattle.std.specs.Prelude.{◌≡◌, ℕ, List, true, false, IfOk, OnOk, Some, None, if◌then◌else◌};
 ghost use Rattle.std.specs.Str.{bytes_eq};
 ghost use Rattle.std.specs.String.{string_bytes};
 ghost use Rattle.halfbrown.specs.CallerLoops.{keyed_by};
@@ -33,6 +33,22 @@ pub fn store_copied(
 {
     ages.insert(String::from_str(alloc, name)?, age)?;
     Ok(())
+}
+
+/// Writes an age to a name that is held, and returns whether it is. Every other text has the age that it had.
+#[tactic(auto, using(halfbrown::proofs::TextFacts::text_facts))]
+pub fn correct_named(ages: &mut HashMap<String, u32>, name: &str, age: u32) -> bool
+    ensures written { result ≡ true
+        → value_of bytes_eq (keyed_by string_bytes ages.new.pairs) name.now ≡ Some age }
+    ensures others { (other : List ℕ) → bytes_eq name.now other ≡ false
+        → value_of bytes_eq (keyed_by string_bytes ages.new.pairs) other
+        ≡ value_of bytes_eq (keyed_by string_bytes ages.old.pairs) other }
+{
+    let Some(held) = ages.get_mut(name) else {
+        return false;
+    };
+    *held = age;
+    true
 }
 
 /// Removes the age of a name that is lent, and returns how many pairs are gone.
