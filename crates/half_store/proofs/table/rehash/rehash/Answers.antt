@@ -2,7 +2,7 @@ use Rattle.std.proofs.Common.{◌≡◌, ◌+◌, ◌<◌, ◌∙◌, suc, lengt
 use Rattle.std.proofs.lemmas.Grind.{common_steps}
 use Rattle.std.proofs.lemmas.List.{length-take, length-set, take_more}
 use Rattle.half_store.specs.Capacity.{capacity_of}
-use Rattle.half_store.proofs.lemmas.table.Layout.{index-vacant, IsIndexed-empty, IsIndexed-add, IsIndexed-as}
+use Rattle.half_store.proofs.lemmas.table.Layout.{IsIndexed-empty, IsIndexed-add, IsIndexed-as}
 use Rattle.half_store.proofs.table.rehash.rehash.Goals as goal
 
 pub loop-index-init : goal.loop-index-init
