@@ -5,4 +5,3 @@ pub mod store
 pub mod table
 pub mod tally
 pub mod vecmap
-pub mod words

@@ -6,10 +6,6 @@ use Rattle.std.specs.Prelude.{◌≡◌, ℕ, zero, suc, ◌+◌, ◌-◌, ◌*�
 abbrev pub generous_capacity : ℕ → ℕ → ℕ → ℕ
 generous_capacity limit capacity needed = min (max (max (2 * capacity) 8) needed) limit
 
--- the fewest buckets of a table that has any
-abbrev pub least_buckets : ℕ
-least_buckets = 4
-
 -- the load factor is three quarters: the capacity is 0, 3, 6, 12, 24, .. for 0, 4, 8, 16, 32, .. buckets
 abbrev pub capacity_of : ℕ → ℕ
 capacity_of buckets = buckets - buckets / 4
@@ -22,9 +18,9 @@ buckets_of capacity = capacity + capacity / 3
 abbrev pub IsBucketCount : ℕ → Type 0
 IsBucketCount buckets = (buckets ≡ 0) ⊎ ((k : ℕ) × (2 ≤ k) × (buckets ≡ 2 ^ k))
 
--- the bucket count that comes after this one
+-- the bucket count that comes after this one; a table that has buckets has at least 4
 abbrev pub more_buckets : ℕ → ℕ
-more_buckets buckets = if buckets == 0 then least_buckets else 2 * buckets
+more_buckets buckets = if buckets == 0 then 4 else 2 * buckets
 
 -- as many buckets where their capacity is more than `pairs`, else the next count
 abbrev pub buckets_for_more : ℕ → ℕ → ℕ

@@ -1,5 +1,5 @@
 //! Pairs in two columns, one of keys and one of values: dense, in order, searched from first to last.
-#![tactic(auto, using(crate::proofs::lemmas::vecmap::Columns::columns_steps))]
+#![tactic(auto, using(crate::proofs::lemmas::vecmap::Columns::opened))]
 
 ghost use Rattle.std.specs.Prelude.{◌≡◌, ◌^◌, ◌<◌, ◌≤◌, [], ◌∷◌, ◌++◌, length, slice_get};
 ghost use Rattle.std.specs.Borrow.{sem};
@@ -79,6 +79,7 @@ impl<K, V> Columns<K, V> {
     }
 
     /// Its key and its value.
+    #[tactic(auto, using(crate::proofs::lemmas::vecmap::Columns::columns_steps))]
     #[inline(always)]
     pub fn pair_at(&self, index: usize) -> (&K, &V)
         requires { index < length self.now.pairs }
@@ -88,6 +89,7 @@ impl<K, V> Columns<K, V> {
     }
 
     /// The key and the value of the pair at this index, the value to be written.
+    #[tactic(auto, using(crate::proofs::lemmas::vecmap::Columns::columns_steps))]
     #[inline(always)]
     pub fn pair_at_mut(&mut self, index: usize) -> (&K, &mut V)
         requires { index < length self.old.pairs }
@@ -98,6 +100,7 @@ impl<K, V> Columns<K, V> {
     }
 
     /// Replaces the key of the pair at this index, and returns the old one.
+    #[tactic(auto, using(crate::proofs::lemmas::vecmap::Columns::columns_steps))]
     #[inline(always)]
     pub fn replace_key(&mut self, index: usize, key: K) -> K
         requires { index < length self.old.pairs }
@@ -108,6 +111,7 @@ impl<K, V> Columns<K, V> {
     }
 
     /// Appends a pair. The capacity must be enough for it.
+    #[tactic(auto, using(crate::proofs::lemmas::vecmap::Columns::columns_steps))]
     #[inline(always)]
     pub fn push(&mut self, key: K, value: V)
         requires { length self.old.pairs < self.old.capacity }
@@ -118,6 +122,7 @@ impl<K, V> Columns<K, V> {
     }
 
     /// Removes the pair at this index. The last pair takes its index.
+    #[tactic(auto, using(crate::proofs::lemmas::vecmap::Columns::columns_steps))]
     #[inline(always)]
     pub fn swap_remove(&mut self, index: usize) -> (K, V)
         requires { index < length self.old.pairs }

@@ -122,7 +122,3 @@ capacity_for-capacity_of m count =
         | inr ge ↦ ge
       ];
     })
-
--- no table in which this many pairs fit has less capacity than the least
-pub capacity_for-least : (n m : ℕ) → IsBucketCount m → n ≤ capacity_of m → capacity_for n ≤ capacity_of m
-capacity_for-least n m count fits = let least = (buckets_for-least n).least m count fits in omega arith

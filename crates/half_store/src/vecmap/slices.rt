@@ -34,6 +34,7 @@ impl<K, V> Columns<K, V> {
     }
 
     /// The keys and the values, in order, the values to be written.
+    #[tactic(auto, using(crate::proofs::lemmas::vecmap::Columns::columns_steps))]
     #[inline(always)]
     pub fn columns_mut(&mut self) -> (&[K], &mut [V])
         ensures* writes_back { sem 𝓛 (ColumnsLendValues K.row V.row self.entry result.1) }

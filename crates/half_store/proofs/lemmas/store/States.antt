@@ -49,12 +49,7 @@ module _ {K V : Type 0} where
   pairs_of-store columns None = refl
   pairs_of-store columns (Some t) = refl
 
-  -- with the same index the form stays, and with the same capacity of the columns all capacities do
-  pub keeps_form : (index : Option (Box TableState)) (old new : ColumnsState K V) {s : StoreState K V} → store_of old index ≡ s
-      → new.capacity ≡ old.capacity → KeepsForm s (store_of new index)
-  keeps_form index old new view capacity = grind (arith, common_steps)
-
-  -- and of a table that has another index with as many buckets
+  -- the form stays where a table has another index with as many buckets, and the capacity of the columns stays
   pub table_keeps_form : (old new : ColumnsState K V) {t : Box TableState} {after : TableState} {index : Option (Box TableState)} {s : StoreState K V}
       → index ≡ Some t → store_of old index ≡ s → after.buckets ≡ t.value.buckets → new.capacity ≡ old.capacity
       → KeepsForm s (table_of new after)

@@ -4,8 +4,7 @@ use Rattle.std.proofs.Common.{List, [], ◌∷◌, length, set, slice_index, rep
 use Rattle.std.proofs.lemmas.Grind.{common_steps}
 use Rattle.std.specs.List.{All, slice_get}
 use Rattle.std.proofs.lemmas.Bool.{cases_lt, cases_eq, cases_Bool, eq-eqb, ne_eqb}
-use Rattle.std.proofs.lemmas.List.{length-map, length-set, map-set, get_or-set_same, get_or-set_other, get_or_past, ext_get_or, same_lists}
-use Rattle.std.proofs.lemmas.List.{length-replicate, get_or-replicate}
+use Rattle.std.proofs.lemmas.List.{length-map, length-set, map-set, get_or-set_same, get_or-set_other, get_or_past, ext_get_or}
 use Rattle.std.proofs.lemmas.List.Elements.{All-from_get_or, All-set, All-replicate}
 use Rattle.std.proofs.lemmas.List.Sums.{sum_by-cons, sum_by-set, get_or-le-sum_by}
 use Rattle.std.proofs.lemmas.Option.{slice_get-get_or}
@@ -223,9 +222,6 @@ module _ {last : ℕ} {words : List ℕ} (each : EachOnce (suc last) words) (ind
         ]);
     once = λ i l. omega (arith, count-remove (is_index i) (not_index i), each.once i (omega arith), other_index i last (omega arith));
   }
-
-pub EachOnce-none : (words : List ℕ) → EachOnce 0 words → words ≡ replicate (length words) 0
-EachOnce-none words each = grind (arith, common_steps, get_or-replicate, length-replicate, replicate, same_lists)
 
 pub EachOnce-empty : (count : ℕ) → EachOnce 0 (replicate count 0)
 EachOnce-empty count = record { within = All-replicate (λ word. word ≤ 0) count 0 (omega arith); once = λ index l. absurd (omega arith) }

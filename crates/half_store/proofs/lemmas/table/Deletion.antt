@@ -113,6 +113,16 @@ module _ {m : ℕ} {hashes words : List ℕ} {start gap bucket : ℕ} (s : Shift
     in_home : home m hash < m
     in_home = home-lt m hash (omega (arith, s.bucket_in))
 
+    -- the home lies after the gap, or not
+    home_side : (probe_distance m (home m hash) bucket < probe_distance m gap bucket → Before m hash bucket gap)
+        × (probe_distance m gap bucket ≤ probe_distance m (home m hash) bucket
+        → probe_distance m (home m hash) gap ≤ probe_distance m (home m hash) bucket)
+    home_side =
+        let a = distance_is m (home m hash) bucket in_home in
+        let b = distance_is m gap bucket s.gap_in in
+        let c = distance_is m (home m hash) gap in_home in
+        (λ stays. omega arith, λ moves. omega arith)
+
     -- the empty bucket is ahead of a full one too
     farther : probe_distance m start bucket < probe_distance m start vacant
     farther = grind (arith, common_steps, distance_same, full_from, is)
@@ -142,14 +152,7 @@ module _ {m : ℕ} {hashes words : List ℕ} {start gap bucket : ℕ} (s : Shift
             | inl same ↦
                 let here : q ≡ bucket = distance_same m start s.start_in q bucket (within q h at_q) s.bucket_in same in
                 let hash_is : hash ≡ h = same_Some hash h (sym is ∙ ap (slot_at slots) (sym here) ∙ at_q) in
-                let ok : Before m hash bucket gap =
-                omega (
-                  arith,
-                  distance_is m (home m hash) bucket in_home,
-                  distance_is m gap bucket s.gap_in,
-                  distance_is m (home m hash) gap in_home,
-                ) in
-                subst (λ k. Before m k q gap) hash_is (subst (λ p. Before m hash p gap) (sym here) ok)
+                subst (λ k. Before m k q gap) hash_is (subst (λ p. Before m hash p gap) (sym here) (home_side.0 stays))
           ];
     }
 
@@ -204,13 +207,7 @@ module _ {m : ℕ} {hashes words : List ℕ} {start gap bucket : ℕ} (s : Shift
                 | inl at ↦
                     let hash_is : hash ≡ h = same_Some hash h (sym to ∙ ap (slot_at slots') (sym at) ∙ at_q) in
                     let before = s.others bucket w hash is in_w old ng in
-                    let ok : Before m hash gap w =
-                    omega (
-                      arith,
-                      distance_is m (home m hash) bucket in_home,
-                      distance_is m gap bucket s.gap_in,
-                      distance_is m (home m hash) gap in_home,
-                    ) in
+                    let ok : Before m hash gap w = omega (arith, home_side.1 moves, before) in
                     subst (λ k. Before m k q w) hash_is (subst (λ p. Before m hash p w) (sym at) ok)
               ];
           passed = λ q h at_q after close. absurd (omega (arith, one_farther));

@@ -2,17 +2,17 @@
 use Rattle.std.proofs.Common.{◌≡◌, ℕ, ◌+◌, ◌-◌, ◌<◌, ◌≤◌, Bool, true, false, refl, sym, ap, ◌∙◌, subst, arith, List, length, slice_index}
 use Rattle.std.proofs.Common.{Option, Some, count_by, ◌==◌}
 use Rattle.std.proofs.lemmas.Grind.{common_steps}
-use Rattle.std.specs.List.{slice_get, swap_remove}
+use Rattle.std.specs.List.{slice_get}
 use Rattle.std.specs.Prelude.{Result, Ok, Err, IfOk, IfErr, OnOk, OnErr}
 use Rattle.std.proofs.lemmas.List.Sums.{count_by-le-length}
 use Rattle.std.proofs.lemmas.Option.{slice_get_within, get_or_from_slice_get}
 use Rattle.half_store.specs.Buckets.{slots_by}
 use Rattle.half_store.specs.Reach.{probe_distance, reach}
-use Rattle.half_store.specs.Probe.{after_missing, looked_more, LooksWithin, removal_reads}
+use Rattle.half_store.specs.Probe.{after_missing, looked_more}
 use Rattle.half_store.specs.Slots.{slot_at, stored, IsVacancyFor, EndsAtPair, distance_from_home}
 use Rattle.half_store.specs.Table.{TableState, table_state}
 use Rattle.half_store.specs.TableLayout.{IsIndexed}
-use Rattle.half_store.specs.TableSearch.{TableSearch, RemovesFromTable}
+use Rattle.half_store.specs.TableSearch.{TableSearch}
 use Rattle.half_store.specs.Work.{Work}
 use Rattle.half_store.proofs.lemmas.table.Buckets.{length-slots_by, slot_of_word, some_bucket}
 use Rattle.half_store.proofs.lemmas.table.Circle.{distance_self}
@@ -29,13 +29,6 @@ module _ {hashes words : List ℕ} (x : IsIndexed hashes words) (hash : ℕ) whe
 
   abbrev held : ℕ
   held = count_by (stored (λ h. h == hash)) slots
-
-  -- an insertion probe
-  pub probing_cost : {t : TableState} → table_state hashes slots ≡ t → (p : ℕ) (old new : Work) → IsVacancyFor slots hash p
-      → new ≡ looked_more old (distance_from_home slots hash p + 1) → new ≡ looked_more old (reach t.hashes t.buckets hash)
-  probing_cost view p old new w e =
-      subst (λ (t : TableState). new ≡ looked_more old (reach t.hashes t.buckets hash)) view
-      (e ∙ ap (looked_more old) (sym (reach_at_vacancy slots x.ordered hashes (index-counted x) hash p w)))
 
   -- the entry index at a bucket of this hash has this hash
   index_at : (p : ℕ) → slot_at slots p ≡ Some hash → slice_get hashes (slice_index words p - 1) ≡ Some hash
@@ -119,25 +112,10 @@ module _ {hs ws hashes words : List ℕ} {t : TableState} (view : table_state hs
 
   pub probe_seen : IsIndexed hs ws → {p : ℕ} (old new : Work) → IsVacancyFor (slots_by hashes words) hash p
       → new ≡ looked_more old (distance_from_home (slots_by hashes words) hash p + 1) → new ≡ looked_more old (reach t.hashes t.buckets hash)
-  probe_seen x {p} old new vacant cost = probing_cost (IsIndexed-as h (sym w) x) hash (view_lent view h w) p old new vacant cost
-
--- A search that removes what it finds, in the words of callers.
-module _ (hashes words hashes' words' : List ℕ) {t : TableState} (view : table_state hashes (slots_by hashes words) ≡ t) where
-  pub taken_removes : (hash : ℕ) (result : Result (ℕ × ℕ) ℕ) → length words' ≡ length words
-      → IfOk result (λ pair. slice_get t.hashes pair.0 ≡ Some hash) → IfOk result (λ pair. hashes' ≡ swap_remove hashes pair.0 0)
-      → IfOk result (λ pair. RemovesFromTable t pair.0 (table_state hashes' (slots_by hashes' words')) hash)
-  taken_removes hash result len found left = grind (arith, common_steps)
-
-  pub taken_cost : (old new : Work) (result : Result (ℕ × ℕ) ℕ)
-      → IfOk result (λ pair. LooksWithin (removal_reads hashes (length words) pair.0) old new)
-      → IfOk result (λ pair. LooksWithin (removal_reads t.hashes t.buckets pair.0) old new)
-  taken_cost old new result cost = grind (arith, common_steps)
-
-  pub taken_none : (old new : Work) (result : Result (ℕ × ℕ) ℕ)
-      → OnErr result ((hashes' ≡ hashes) × (words' ≡ words) × (new ≡ old))
-      → OnErr result ((table_state hashes' (slots_by hashes' words') ≡ t) × (new ≡ old))
-  taken_none old new (Ok pair) same = tt
-  taken_none old new (Err bucket) (kept, also, unread) = ((λ i. table_state (kept i) (slots_by (kept i) (also i))) ∙ view, unread)
+  probe_seen x {p} old new vacant cost =
+      let lent = IsIndexed-as h (sym w) x in
+      subst (λ (t : TableState). new ≡ looked_more old (reach t.hashes t.buckets hash)) (view_lent view h w)
+      (cost ∙ ap (looked_more old) (sym (reach_at_vacancy (slots_by hashes words) lent.ordered hashes (index-counted lent) hash p vacant)))
 
 -- what the proofs of `Table` go by
 pub ruleset table_steps = (common_steps, IsIndexed-as, buckets_of-capacity_of, buckets_seen, capacity_for-capacity_of, count_seen, index-vacant, view_lent)

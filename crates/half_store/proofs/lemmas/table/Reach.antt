@@ -1,22 +1,10 @@
 -- How far a probe goes, said of loads alone.
-use Rattle.std.proofs.Common.{◌≡◌, ℕ, zero, suc, ◌-◌, ◌<◌, ◌≤◌, Bool, true, false, leb, ◌||◌, inl, inr, refl, ap, subst, arith, List}
-use Rattle.std.proofs.lemmas.Bool.{cases_eq, le-leb, lt-leb, ne_eqb, false≢true}
+use Rattle.std.proofs.Common.{◌≡◌, ℕ, zero, suc, ◌-◌, ◌<◌, ◌≤◌, true, false, leb, inl, inr, refl, ap, subst, arith, List}
+use Rattle.std.proofs.lemmas.Bool.{cases_eq, le-leb, lt-leb, ne_eqb, or_from, or_left, or_right}
 use Rattle.half_store.specs.Reach.{home, bucket_after, load, loaded_within, is_loaded, loaded_run, reach, IsLoaded}
 use Rattle.half_store.proofs.lemmas.table.Circle.{bucket_after-zero, after_next, bucket_after-lt}
 
 module _ (hashes : List ℕ) (m : ℕ) where
-  or_right : (a b : Bool) → b ≡ true → (a || b) ≡ true
-  or_right true b e = refl
-  or_right false b e = e
-
-  or_left : (a b : Bool) → a ≡ true → (a || b) ≡ true
-  or_left true b e = refl
-  or_left false b e = absurd (false≢true e)
-
-  or_neither : (a b : Bool) → a ≡ false → b ≡ false → (a || b) ≡ false
-  or_neither true b e f = e
-  or_neither false b e f = f
-
   pub loaded_within-yes : (last size most : ℕ) → 1 ≤ size → size ≤ most → size ≤ load hashes m last size
       → loaded_within hashes m last most ≡ true
   unfolding loaded_within
@@ -34,7 +22,7 @@ module _ (hashes : List ℕ) (m : ℕ) where
   unfolding loaded_within
   loaded_within-no last zero h = refl
   loaded_within-no last (suc most) h =
-      or_neither (leb (suc most) (load hashes m last (suc most))) (loaded_within hashes m last most)
+      or_from (leb (suc most) (load hashes m last (suc most))) (loaded_within hashes m last most)
       (lt-leb _ _ (h (suc most) (omega arith) (omega arith))) (loaded_within-no last most (λ size one small. h size one (omega arith)))
 
   pub is_loaded-yes : (last : ℕ) → IsLoaded hashes m last → is_loaded hashes m last ≡ true

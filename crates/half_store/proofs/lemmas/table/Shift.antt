@@ -1,14 +1,14 @@
 -- A pair that becomes the last one: the buckets contain what they did, and then it is removed.
 use Rattle.std.proofs.Common.{◌≡◌, ℕ, zero, suc, ◌+◌, ◌-◌, ◌<◌, ◌≤◌, ◌==◌, nat_lt, if◌then◌else◌, inl, inr, refl, sym, ap, ◌∙◌, subst, arith}
-use Rattle.std.proofs.Common.{List, [], ◌∷◌, ◌++◌, length, set, take, get_or, slice_index, Some, IsPermutation, ◌*◌}
+use Rattle.std.proofs.Common.{List, [], ◌∷◌, ◌++◌, length, slice_index, Some, IsPermutation, ◌*◌}
 use Rattle.std.proofs.lemmas.Bool.{cases_lt, cases_eq}
 use Rattle.std.proofs.lemmas.Bool.Decides.{nat_tests}
-use Rattle.std.proofs.lemmas.List.{length_push, get_or_append_left, get_or_push, get_or_default, set-get_or, take_at}
+use Rattle.std.proofs.lemmas.List.{length_push, get_or_append_left, get_or_push, get_or_default}
 use Rattle.std.proofs.lemmas.List.Edits.{length-remove, get_or-remove_below, get_or-remove_above}
 use Rattle.std.proofs.lemmas.List.Elements.{All-from_get_or}
 use Rattle.std.proofs.lemmas.List.Sorted.{IsPermutation-append_comm, IsPermutation-remove, IsPermutation-trans}
 use Rattle.std.proofs.lemmas.Option.{slice_get-get_or}
-use Rattle.std.specs.List.{remove, swap_remove}
+use Rattle.std.specs.List.{remove}
 use Rattle.half_store.specs.Buckets.{slot_by, slots_by, EachOnce}
 use Rattle.half_store.specs.Capacity.{capacity_of, IsBucketCount}
 use Rattle.half_store.specs.Probe.{removal_reads}
@@ -72,21 +72,13 @@ module _ (hashes : List ℕ) (index : ℕ) (within : index < length hashes) wher
     last-moved : (at : ℕ) → at ≡ last → slice_index moved at ≡ slice_index hashes index
     last-moved at e = get_or_push (remove hashes index) _ 0 at (omega (arith, length-remove hashes index within))
 
-    -- then the last one is removed
-    pub removed-moved : swap_remove moved last 0 ≡ remove hashes index
-    removed-moved =
-        let n : last ≡ length moved - 1 = omega (arith, length-moved) in
-        ap (λ at. take (length moved - 1) (set moved at (get_or moved (length moved - 1) 0))) n
-        ∙ ap (take (length moved - 1)) (set-get_or moved (length moved - 1) 0)
-        ∙ take_at (remove hashes index) _ (length moved - 1) (omega (arith, length-moved, length-remove hashes index within))
-
     same_elements : IsPermutation hashes moved
     same_elements =
         IsPermutation-trans hashes _ moved (IsPermutation-remove hashes index (slice_index hashes index) within
         (get_or_default hashes index 0 (slice_index hashes index) within))
         (IsPermutation-append_comm (slice_index hashes index ∷ []) (remove hashes index))
 
-    -- which reads no more than two unsuccessful probes
+    -- to remove the last one then reads no more than two unsuccessful probes
     pub reads-moved : (m : ℕ) → removal_reads moved m last ≤ 2 * reach hashes m (slice_index hashes index)
     reads-moved m = omega (
       arith,

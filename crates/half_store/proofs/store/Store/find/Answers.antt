@@ -1,6 +1,3 @@
-use Rattle.std.proofs.Common.{slice_get, arith}
-use Rattle.std.proofs.lemmas.Grind.{common_steps}
-use Rattle.std.proofs.lemmas.Map.Entries.{length-keys_of}
 use Rattle.half_store.proofs.lemmas.store.Searches.{vector_accepts, vector_refuses, table_accepts, table_refuses}
 use Rattle.half_store.proofs.lemmas.store.States.{vector_view, table_view, table_over}
 use Rattle.half_store.proofs.store.Store.find.Goals as goal

@@ -1,6 +1,5 @@
-use Rattle.std.proofs.Common.{◌∷◌, ◌++◌, [], None, Some, refl, ap, ◌∙◌, arith}
-use Rattle.std.proofs.lemmas.Grind.{common_steps}
-use Rattle.half_store.proofs.lemmas.store.States.{kept_store, kept_value, length-set_value, pairs_of-store, replaces_in, vector_view}
+use Rattle.std.proofs.Common.{◌∷◌, ◌++◌, [], None, Some, refl, ap, ◌∙◌}
+use Rattle.half_store.proofs.lemmas.store.States.{pairs_of-store, replaces_in, vector_view}
 use Rattle.half_store.proofs.store.Store.replace_with.Goals as goal
 
 pub returns-in_default-f-clause-replaces : goal.returns-in_default-f-clause-replaces

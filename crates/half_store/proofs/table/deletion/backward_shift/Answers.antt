@@ -1,5 +1,4 @@
 use Rattle.std.proofs.Common.{◌≡◌, ◌≢◌, ◌-◌, ◌^◌, ◌<◌, ◌≤◌, ◌∙◌, ℕ, List, inl, inr, length, set, slice_index, refl, sym, ap, subst, arith}
-use Rattle.std.proofs.lemmas.Grind.{common_steps}
 use Rattle.std.proofs.lemmas.Bool.{cases_lt}
 use Rattle.std.proofs.lemmas.List.{length-set, set-get_or}
 use Rattle.half_store.specs.Capacity.{capacity_of, IsBucketCount}
@@ -8,7 +7,7 @@ use Rattle.half_store.specs.Reach.{home, probe_distance}
 use Rattle.half_store.specs.TableLayout.{IsIndexed}
 use Rattle.half_store.specs.Work.{Work}
 use Rattle.half_store.proofs.lemmas.table.Circle.{probe_distance-lt}
-use Rattle.half_store.proofs.lemmas.table.Deletion.{Shifts, Ahead, Shifts-start, Ahead-start, word_within, gap_distance, first_distance, one_farther}
+use Rattle.half_store.proofs.lemmas.table.Deletion.{Shifts, Ahead, Shifts-start, Ahead-start, gap_distance, first_distance, one_farther}
 use Rattle.half_store.proofs.lemmas.table.Deletion.{fewer_ahead, Shifts-end, Shifts-stay, Ahead-stay, Shifts-move, Ahead-move}
 use Rattle.half_store.proofs.lemmas.table.Mask.{count-le_half}
 use Rattle.half_store.proofs.lemmas.tally.{looked_more-zero, looked_more-one}

@@ -8,6 +8,9 @@ use Rattle.half_store.proofs.table.rehash.rehash.Goals as goal
 pub loop-index-init : goal.loop-index-init
 loop-index-init g c = grind (arith, common_steps, IsIndexed-empty)
 
+pub first_empty-bucket-requires-clause-vacant : goal.first_empty-bucket-requires-clause-vacant
+first_empty-bucket-requires-clause-vacant g c = grind (arith, common_steps, index-vacant)
+
 pub loop-index-preserved : goal.loop-index-preserved
 loop-index-preserved g c =
     let l = c.loop-index in

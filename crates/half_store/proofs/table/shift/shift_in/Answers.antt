@@ -4,7 +4,7 @@ use Rattle.std.proofs.lemmas.List.{get_or_default}
 use Rattle.half_store.specs.Probe.{LooksWithin, removal_reads}
 use Rattle.half_store.specs.Shift.{MovesLast}
 use Rattle.half_store.specs.TableLayout.{IsIndexed}
-use Rattle.half_store.proofs.lemmas.table.Shift.{IsIndexed-moved, reads-moved, removed-moved}
+use Rattle.half_store.proofs.lemmas.table.Shift.{IsIndexed-moved, reads-moved}
 use Rattle.half_store.proofs.table.shift.shift_in.Goals as goal
 
 pub remove_in-requires-clause-indexed : goal.remove_in-requires-clause-indexed
