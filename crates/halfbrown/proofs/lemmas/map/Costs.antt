@@ -1,13 +1,11 @@
 -- What was spent at one time and at another is spent in all: what a search for a key spent, and what a granted insertion.
-use Rattle.std.proofs.Common.{◌≡◌, ℕ, Bool, sym, subst, arith, zero-add, add-zero, add_assoc, ◌+◌, true, false, is_some, ap, ◌∙◌, ◌<◌}
+use Rattle.std.proofs.Common.{◌≡◌, ℕ, Bool, sym, subst, arith, zero-add, add-zero, add_assoc, true, false, ◌<◌}
 use Rattle.std.proofs.Common.{length, if◌then◌else◌}
 use Rattle.std.proofs.lemmas.Grind.{common_steps}
 use Rattle.half_store.specs.Work.{Work, asked_more}
 use Rattle.halfbrown.specs.Costs.{Cost, GrewBy, no_cost, add_costs, IsLookupCost, IsKeySearchCost, switch_asked, capacity_after_switch}
-use Rattle.halfbrown.specs.Costs.{NoHomeIsShared, IsInsertCost, raw_insert_cost}
+use Rattle.halfbrown.specs.Costs.{IsInsertCost, raw_insert_cost}
 use Rattle.halfbrown.specs.State.{State}
-use Rattle.std.specs.Map.{keys_of}
-use Rattle.half_store.specs.PairLists.{index_of}
 use Rattle.half_store.specs.Probe.{looked_more}
 use Rattle.halfbrown.specs.Growth.{is_full, is_vec_after, new_key_needs}
 use Rattle.halfbrown.specs.Pairs.{holds}
@@ -42,14 +40,7 @@ module _ {K V S : Type 0} (limit : ℕ) (eq : K → K → Bool) (hash : S → K 
     (pairs : middle.pairs ≡ old.pairs) (builder : middle.builder ≡ old.builder)
     (spent : between ≡ asked_more (switch_asked limit old) before) (search : IsKeySearchCost eq hash middle k between after) where
   pub held_costs : holds eq old.pairs k ≡ true → IsInsertCost limit eq hash old k true before after
-  held_costs held = record {
-    grew = grind (arith, common_steps);
-    looked_once = λ table granted found apart.
-        search.looked_once (form ∙ table)
-        (ap (λ ps. is_some (index_of (eq k) (keys_of ps))) pairs ∙ found_where_held (eq k) old.pairs ∙ found)
-        (subst (λ t. t) (λ i. NoHomeIsShared (hash (sym builder i)) (sym capacity i) (sym pairs i)) apart)
-        ∙ ap (λ w. w.looked + 1) spent;
-  }
+  held_costs held = grind (arith, common_steps, found_where_held (eq k) old.pairs)
 
   -- where capacity for a new key was refused
   pub unmade_costs : is_full limit old ≡ false → IsInsertCost limit eq hash old k false before after

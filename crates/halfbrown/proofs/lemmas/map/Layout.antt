@@ -22,7 +22,7 @@ use Rattle.halfbrown.proofs.lemmas.pairs.Changes.{IsDistinct-swap_remove_at}
 use Rattle.halfbrown.proofs.lemmas.pairs.Indices.{none_of_index, any_of_none, absent_of_unheld, index_of_pair}
 use Rattle.std.specs.Map.Calls.{RetainsPairs}
 use Rattle.halfbrown.specs.Clone.{ArePairClones}
-use Rattle.std.proofs.lemmas.Option.{same_Some, slice_get-map}
+use Rattle.std.proofs.lemmas.Option.{slice_get-map}
 use Rattle.std.specs.Borrow.{Bor}
 use Rattle.std.specs.Option.{option_map}
 use Rattle.std.specs.Result.{result_err}
@@ -172,7 +172,7 @@ module _ {K V : Type 0} where
   pub unheld_after : (eq : K → K → Bool) → IsEquivalence eq → (ps : List (K × V)) → IsDistinct eq (keys_of ps) → (i : ℕ) (k : K) (v : V)
       → slice_get ps i ≡ Some (k, v) → holds eq (swap_remove_at ps i) k ≡ false
   unheld_after eq laws ps distinct i k v at =
-      ap (λ qs. holds eq qs k) (sym (own_index eq laws ps distinct i k v at).take_is) ∙ (has_removed eq laws ps distinct k).not_held
+      grind (arith, common_steps, own_index eq laws ps distinct i k v at, has_removed eq laws ps distinct k)
 
 module _ {K V : Type 0} (eq : K → K → Bool) (laws : IsEquivalence eq) (hash : K → ℕ) (limit : ℕ)
     (old new : StoreState K V) (index : ℕ) (kept : IsKept eq hash limit old)
@@ -212,10 +212,7 @@ module _ {K V : Type 0} (eq : K → K → Bool) (laws : IsEquivalence eq) (hash 
       → IfErr result (λ removed. old.is_vec ≡ false → slice_get old.hashes index ≡ Some removed.1)
       → IfErr result (λ removed. new.is_vec ≡ false → removed.1 ≡ hash removed.0)
   own_hash (Ok i) r at = tt
-  own_hash (Err removed) r at = λ table.
-      let form = sym keeps.form ∙ table in
-      same_Some _ _ (sym (at form) ∙ ap (λ hs. slice_get hs index) (kept.hashed form) ∙ hash_at hash old.pairs index r.key r.value r.pair)
-      ∙ ap hash (lost_pair r).2
+  own_hash (Err removed) r at = grind (arith, common_steps, hash_at hash old.pairs index r.key r.value r.pair, lost_pair r)
 
   -- no equal key is held any more
   pub absent_replaced : {returns : Bor K → V → Option V → Type 0} → (result : Result ℕ (K × ℕ)) → ReplacesValue returns old.is_vec old.pairs index new.pairs (option_map (λ removed. removed.0) (result_err result))

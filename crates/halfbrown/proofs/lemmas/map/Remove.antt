@@ -1,7 +1,7 @@
 -- Removals: what the map is without the pair that was found.
 use Rattle.std.specs.Map.{lookup, lookup_entry}
-use Rattle.std.proofs.Common.{arith, ◌≡◌, ℕ, ◌-◌, ◌≤◌, Bool, true, [], ◌∷◌, ◌++◌, length, slice_get, Option, None, Some, option_to_list}
-use Rattle.std.proofs.Common.{refl, sym, ap, subst, ◌∙◌, map, IfNone}
+use Rattle.std.proofs.Common.{arith, ◌≡◌, ℕ, ◌-◌, ◌≤◌, Bool, true, ◌++◌, length, slice_get, Option, None, Some, option_to_list}
+use Rattle.std.proofs.Common.{refl, sym, subst, ◌∙◌, map}
 use Rattle.std.proofs.lemmas.Grind.{common_steps}
 use Rattle.std.specs.Cmp.{IsEquivalence}
 use Rattle.std.proofs.lemmas.List.{append-nil}
@@ -104,8 +104,8 @@ module _ {K V S : Type 0} (limit : ℕ) (eq : K → K → Bool) (old new : State
   -- the last pair is taken out, and the others stay as they are
   pub last_removed : (result : Option (K × V)) → RemovesAt limit eq old (length old.pairs - 1) result new
       → old.pairs ≡ new.pairs ++ option_to_list result
-  last_removed None removes = sym (ap (λ (m : State K V S). m.pairs) removes.unchanged) ∙ sym (append-nil new.pairs)
-  last_removed (Some pair) removes = last_taken old.pairs pair (sym removes.gives) ∙ ap (λ ps. ps ++ pair ∷ []) (sym removes.after.pairs)
+  last_removed None removes = grind (arith, common_steps, append-nil)
+  last_removed (Some pair) removes = grind (arith, common_steps, last_taken old.pairs pair)
 
 module _ {K V S : Type 0} (limit : ℕ) (eq : K → K → Bool) (laws : IsEquivalence eq) where
   -- a store without the pair at an index
@@ -143,15 +143,9 @@ module _ {K V S : Type 0} (limit : ℕ) (eq : K → K → Bool) (laws : IsEquiva
       found_in_order index None new found told = absurd (some_is_not_none old.pairs index found.within (sym told.gives))
       found_in_order index (Some pair) new found told =
           let same = remove_found test old.pairs index found.index_is in
-          record {
-            gives = told.gives ∙ sym found.pair;
-            after = subst (λ ps. WithPairs old ps new) (sym same) told.after;
-            removed = subst (HasRemovedBy eq test old.pairs) (sym told.after.pairs)
-                (has_left eq laws test one_class old.pairs before.distinct index found (remove old.pairs index)
-                (λ p. IsPermutation-remove old.pairs index p found.within));
-            unchanged = tt;
-            state = told.state;
-          }
+          let removed = has_left eq laws test one_class old.pairs before.distinct index found (remove old.pairs index)
+          (λ p. IsPermutation-remove old.pairs index p found.within) in
+          grind (arith, common_steps)
 
       -- a search that found none
       pub absent_in_order : (result : Option (K × V)) → result ≡ None → FindsIndex test old.pairs None
@@ -160,20 +154,9 @@ module _ {K V S : Type 0} (limit : ℕ) (eq : K → K → Bool) (laws : IsEquiva
           let same = remove_absent test old.pairs absent.index in
           grind (arith, common_steps, has_all eq laws test one_class old.pairs before.distinct absent, same)
 
--- what holds where there is no pair holds where there is no value
-none_of : {K V : Type 0} (P : Type 0) (pair : Option (K × V)) → IfNone pair P → IfNone (option_map (λ p. p.1) pair) P
-none_of P None same = same
-none_of P (Some p) same = tt
-
 -- the same removal, of which the value is returned
 module _ {K V S : Type 0} (limit : ℕ) (eq : K → K → Bool) (old : State K V S) (test : K → Bool) where
   pub value_in_order : (pair : Option (K × V)) (value : Option V) (new : State K V S) → value ≡ option_map (λ p. p.1) pair
       → RemovesInOrder limit eq test old (lookup_entry test old.pairs) pair new
       → RemovesInOrder limit eq test old (lookup test old.pairs) value new
-  value_in_order pair value new is told = record {
-    gives = is ∙ ap (option_map (λ (p : K × V). p.1)) told.gives ∙ value_of_entry test old.pairs;
-    after = told.after;
-    removed = told.removed;
-    unchanged = subst (λ v. IfNone v (new ≡ old)) (sym is) (none_of (new ≡ old) pair told.unchanged);
-    state = told.state;
-  }
+  value_in_order pair value new is told = grind (arith, common_steps, value_of_entry)

@@ -74,13 +74,7 @@ module _ {K V S : Type 0} (limit : ℕ) (eq : K → K → Bool) where
         let first = step_pays_two limit eq hash s lead.1 parts.0 in
         let rest = steps_pay_two s.after new steps lead.3 parts.1 in
         let same = ap (λ m. m.is_vec) lead.0 in
-        record {
-          vector = λ e.
-              let later = rest.vector e in
-              let now = first.vector later.0 in
-              (sym same ∙ now.0, omega (arith, later.1, now.1));
-          all = omega (arith, first.all, rest.all, ap (switch_left limit) same);
-        }
+        grind (arith, common_steps)
 
     pub run_pays_two : (old new : State K V S) (commands : List (Command K V)) (replies : List (Reply K V))
         (run : Runs limit eq old commands replies new) → shrinks commands ≡ false
