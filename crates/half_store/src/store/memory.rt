@@ -89,6 +89,7 @@ impl<K, V> Store<K, V> {
     ///
     /// Where it is not enough yet, a table gets the least of its series that is, and a vector grows as `Columns::grow` says.
     #[inline(never)]
+    #[tactic(auto)]
     pub fn reserve(&mut self, additional: usize, limit: usize) -> Result<(), Refusal>
         ensures pairs { self.new.pairs ≡ self.old.pairs }
         ensures form { self.new.is_vec ≡ self.old.is_vec }

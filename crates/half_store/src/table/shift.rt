@@ -57,6 +57,7 @@ fn shift_in<B: Words>(buckets: &mut B, hashes: &mut Vec<u64>, index: usize, tall
 }
 
 /// Makes the pair at this entry index the last one, as far as the buckets go: each pair behind it gets the index before its own.
+#[tactic(auto)]
 fn move_last<B: Words>(buckets: &mut B, index: usize, pairs: usize, tally: &mut Tally)
     requires within { index < pairs }
     requires each { EachOnce pairs (B.words buckets.old) }
