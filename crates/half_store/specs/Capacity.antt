@@ -39,7 +39,7 @@ capacity_for pairs = capacity_of (buckets_for pairs)
 abbrev pub least_capacity : Bool → ℕ → ℕ
 least_capacity is_vec pairs = if is_vec then pairs else capacity_for pairs
 
--- whether the form is the vector after `shrink_to_fit`: it was, or the limit allows the pairs. This is the one call that goes back
+-- whether the form is the vector after `shrink_to_fit`: it was one, or the limit allows the pairs. This is the one call that goes back
 abbrev pub vec_shrunk : ℕ → Bool → ℕ → Bool
 vec_shrunk limit is_vec pairs = is_vec || nat_le pairs limit
 

@@ -37,12 +37,12 @@ module _ {K V S L H : Type 0} {e : eq.Ghosts K} {h : hash.Ghosts K} {b : hashers
   abbrev pub DrainSteps : Drain K V S L (StoreState K V) H e h b l p → Option (K × V) → Drain K V S L (StoreState K V) H e h b l p → Type 0
   DrainSteps s r t = MatchOption r ((rest s ≡ []) × (t ≡ s)) (λ x. (rest s ≡ x ∷ rest t) × Keeps s t)
 
-  -- each state that calls of `next` lead to keeps what the first keeps
+  -- each state that calls of `next` lead to from s borrows the same map, in the same form and capacity
   abbrev pub KeepsAlong : Drain K V S L (StoreState K V) H e h b l p → Type 0
   KeepsAlong s = (ps : List (K × V)) (t : Drain K V S L (StoreState K V) H e h b l p) → Yields DrainSteps s ps t → Keeps s t
 
-  -- it borrows the map of this ghost name, each call of `next` gives the next pair, and each state that such calls lead to keeps what the
-  -- first keeps
+  -- s borrows the map of this ghost name, calls of `next` give the next pairs, and each state that they lead to borrows the same map, in the
+  -- same form and capacity
   pub record StepsThroughPairs (name : GName) (s : Drain K V S L (StoreState K V) H e h b l p) : Type 0 where
     pub same_map : lender s ≡ name
     pub pairs : YieldsInOrder DrainSteps rest

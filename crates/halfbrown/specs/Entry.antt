@@ -122,7 +122,8 @@ pub record HandsBackKey {K : Type 0} (k : K) (needs : Option ℕ) (refused : Ref
   pub why : IsRefusal needs refused.why
   pub key : refused.key ≡ k
 
--- what `entry` returns for k: where it is granted the entry of k, in the map that is ready for its pair; where it is refused the key and the reason
+-- what `entry` returns for k: where it is granted the entry of k, in the map that has switched and has capacity
+-- for its pair; where it is refused the key and the reason
 module _ {K V S L H : Type 0} {e : eq.Ghosts K} {h : hash.Ghosts K} {b : hashers.Ghosts S K H} {l : limits.Ghosts L} where
   pub record MakesEntry (limit : ℕ) (same : K → K → Bool) (m : MutBor (State K V S)) (k : K) (result : Result (Entry K V S L H e h b l) (RefusedKey K)) : Type 0 where
     pub same_map : IfOk result (λ entry. (map_ref entry).ghost_name ≡ m.ghost_name)

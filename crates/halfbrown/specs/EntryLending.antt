@@ -36,11 +36,11 @@ module _ (K V S L H : RattleType) {e : eq.Ghosts K.Denot} {h : hash.Ghosts K.Den
   abbrev pub EntryLends : Entry K.Denot V.Denot S.Denot L.Denot H.Denot e h b l → MutBor V.Denot → Fml
   EntryLends entry r = follows (the_row K V S L H e h b l) V (map_ref entry).ghost_name r.ghost_name (with_value entry)
 
-  -- where no entry was made the map is as it was
+  -- where no entry was made the map is as it was, and else it ends as the entry's map does
   abbrev pub RestsIfRefused : {E : Type 0} → MutBor (State K.Denot V.Denot S.Denot) → Result (Entry K.Denot V.Denot S.Denot L.Denot H.Denot e h b l) E → Fml
   RestsIfRefused m r = RestsIfErr (the_row K V S L H e h b l) m (λ entry. (map_ref entry).ghost_name) r (λ n. n ≡ m.now)
 
-  -- where there is no entry the map is as it was
+  -- where there is no entry the map is as it was, and else it ends as the entry's map does
   abbrev pub RestsIfNoEntry : MutBor (State K.Denot V.Denot S.Denot) → Option (OccupiedEntry K.Denot V.Denot S.Denot L.Denot H.Denot e h b l) → Fml
   RestsIfNoEntry m r = RestsIfNone (the_row K V S L H e h b l) m (λ o. o.map.ghost_name) r (λ n. n ≡ m.now)
 

@@ -121,7 +121,7 @@ module _ {K V S C I : Type 0} (into : C → I → Type 0) (steps : I → Option 
     pub insertion : IsRefusedInsertion limit eq (Gives steps iterator) old why new
 
   module _ (left : I → Count) (is_default : S → Type 0) where
-    -- a map of all that the iterator gave, made with capacity for its size hint
+    -- a map of all that the iterator gave, made with capacity for a number of pairs that is no more than it may give
     pub record IsCollectionOf (items : C) (m : State K V S) : Type 0 where
       pub iterator : I
       pub is_made : into items iterator

@@ -18,7 +18,7 @@ HasCapacityAfter limit old needs new =
     MatchOption needs (new.capacity ≡ old.capacity)
     (λ n. MatchBool new.is_vec (new.capacity ≡ generous_capacity limit old.capacity n) (new.capacity ≡ capacity_for n))
 
--- the capacity that a reservation for this many pairs in all needs, where there is less
+-- the capacity that a reservation for this many pairs in all needs, or none where there is enough
 abbrev pub reserve_needs : {K V S : Type 0} → ℕ → State K V S → ℕ → Option ℕ
 reserve_needs limit m total = let most = allowed limit m.is_vec total in if nat_lt m.capacity most then Some most else None
 
@@ -26,7 +26,7 @@ reserve_needs limit m total = let most = allowed limit m.is_vec total in if nat_
 abbrev pub making_needs : ℕ → Option ℕ
 making_needs needed = if needed == 0 then None else Some needed
 
--- the capacity of a new map that was made for this many pairs
+-- a new map has exactly the least capacity of its form for this many pairs
 abbrev pub HasCapacityMade : {K V S : Type 0} → ℕ → State K V S → Type 0
 HasCapacityMade needed m = m.capacity ≡ least_capacity m.is_vec needed
 
@@ -60,7 +60,7 @@ abbrev pub IsGrantable : Option ℕ → Type 0
 IsGrantable needs = IfSome needs (λ n. n ≤ 2 ^ 60)
 
 module _ {K V S : Type 0} (limit : ℕ) where
-  -- a granted call that needed this much capacity and changes no pair: the form is this now
+  -- a granted call that needed this much capacity and changes no pair: the map is a vector exactly where `is_vec` says so
   pub record Grants (is_vec : Bool) (old : State K V S) (needs : Option ℕ) (new : State K V S) : Type 0 where
     pub pairs : new.pairs ≡ old.pairs
     pub form : new.is_vec ≡ is_vec
@@ -80,11 +80,11 @@ module _ {K V S : Type 0} (limit : ℕ) where
     pub capacity : new.capacity ≡ shrunk_capacity limit old.is_vec (length old.pairs)
     pub builder : new.builder ≡ old.builder
 
-  -- giving capacity back needs memory: there are pairs, and they fit less
+  -- giving capacity back needs memory: there are pairs, and a smaller capacity is enough for them
   pub record NeedsToShrink (old : State K V S) : Type 0 where
     pub some : 0 < shrunk_capacity limit old.is_vec (length old.pairs)
     pub less : shrunk_capacity limit old.is_vec (length old.pairs) < old.capacity
 
-  -- after `shrink_to_fit` capacity is given back, or, where that needs memory, all is as before
+  -- after `shrink_to_fit` capacity is given back, or, where that needs memory, which may be refused, all is as before
   abbrev pub Shrinks : State K V S → State K V S → Type 0
   Shrinks old new = IsShrunk old new ⊎ (NeedsToShrink old × (new ≡ old))

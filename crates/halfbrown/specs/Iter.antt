@@ -41,7 +41,8 @@ module _ {K V : Type 0} where
   ValuesMutSteps s r t = slice.iter_mut_steps s.values r t.values
 
 module _ (K V : Type 0) where
-  -- each run of an `Iter` shows the pairs that it had left, in order, and so their values
+  -- calls of `next` of an `Iter` give the first of the pairs that it had left, in order, all of them once it returned none, and so their
+  -- values
   pub record ShowsPairsInOrder : Type 0 where
     pub pairs : EveryRun (IterSteps {K = K} {V = V}) (λ p. ItemsMapTo p deref_pair (pairs_left p.from))
     pub values : EveryRun (IterSteps {K = K} {V = V}) (λ p. ItemsMapTo p (λ x. x.1.now) (values_of (pairs_left p.from)))
@@ -50,6 +51,6 @@ module _ (K V : Type 0) where
 abbrev pub column_left : {T O : Type 0} → Column T O → List T
 column_left s = slice.iter_rest s.items
 
--- each run of a `Column` shows what it had left, in order
+-- calls of `next` of a `Column` give the first of what it had left, in order, and all of it once it returned none
 abbrev pub ShowsColumnInOrder : (T O : Type 0) → Type 0
 ShowsColumnInOrder T O = YieldsRefsInOrder (YieldsFirstRef column_left) (column_left {T = T} {O = O})

@@ -46,7 +46,7 @@ state_code k v s = coded_via (coded× coded_bool (coded× (coded_list (coded× k
       contents = (e i).1.1.1.1;
     })
 
--- one of the capacities that a table may have: 0, 3, 6, 12, 24, ..
+-- a number of the series 0, 3, 6, 12, 24, ..; a map's table never has 0
 abbrev pub IsTableCapacity : ℕ → Type 0
 IsTableCapacity capacity = capacity ≡ capacity_for capacity
 

@@ -5,14 +5,14 @@ use Rattle.std.specs.Option.{option_map}
 use Rattle.halfbrown.specs.Pairs.{value_of, pair_of, holds, holds_by, set_values}
 use Rattle.halfbrown.specs.State.{State, IsState, with_pairs}
 
--- after these values are written into the pairs: each pair has its key, and where there is one for each pair, its value of them; there
--- are as many pairs
+-- after these values are written into the pairs: there are as many pairs, with the same keys, and where there are as many values as pairs,
+-- these are their values
 pub record HasValues {K V : Type 0} (old : List (K × V)) (vs : List V) (new : List (K × V)) : Type 0 where
   pub keys : keys_of new ≡ keys_of old
   pub values : length vs ≡ length old → values_of new ≡ vs
   pub len : length new ≡ length old
 
--- whatever values are written into the pairs of a map: each pair has its key, and no two keys are equal
+-- whatever values are written into the pairs of a map: it has as many pairs, fewer than 2^63, with the same keys, and stays an `IsState`
 pub record KeepsKeys {K V S : Type 0} (limit : ℕ) (eq : K → K → Bool) (old : State K V S) : Type 0 where
   pub small : length old.pairs < 2 ^ 63
   pub written : (vs : List V) → HasValues old.pairs vs (set_values old.pairs vs)

@@ -1,6 +1,6 @@
 //! Making the entry of a key, or of the pair at an index.
 //!
-//! A clause `unchanged` says that the map stays as it is where no entry is made.
+//! A clause `unchanged` says that the map stays as it is where no entry is made, and else ends as the entry leaves it.
 ghost use Rattle.std.specs.Prelude.{◌<◌, ◌↔◌, IfSome, IsSome, is_ok, length};
 ghost use Rattle.std.specs.Borrow.{sem};
 ghost use Rattle.halfbrown.specs.Costs.{IsInsertCost};

@@ -13,8 +13,8 @@ impl<K: Eq + Hash, V, S: KeyHasher<K>, L: Limit> LimitedHashMap<K, V, S, L> {
     /// since the insertion after that switches, and allocates. The capacity never falls. Nothing is hashed.
     ///
     /// Where the capacity is not enough yet, a table gets the least of its series that is. A vector gets twice what it
-    /// had, but at least eight and what is needed, and at most the limit. Fails with `Size` for more than 2^60 pairs in
-    /// all, and with `Memory` where memory is refused. On error nothing changes.
+    /// had, but at least eight and what is needed, and at most the limit. Fails with `Size` where capacity for more than
+    /// 2^60 pairs is needed, and with `Memory` where memory is refused. On error nothing changes.
     ///
     /// ```
     /// ages.reserve(20)?; // the next twenty insertions need no more memory

@@ -1,6 +1,7 @@
 //! Iteration over the pairs, the keys and the values, from first to last.
 //!
-//! A clause `writes_back` says what the map is once the borrow that the call returns has ended.
+//! A clause `writes_back` says what the map is once the borrow that the call returns has ended. What stands in it before
+//! `self.entry` names types, and can be passed over.
 ghost use Rattle.std.specs.Prelude.{◌≡◌, ◌^◌, ◌<◌, length};
 ghost use Rattle.std.specs.Borrow.{sem};
 ghost use Rattle.std.specs.Iterator.Runs.{YieldsMutRefsInOrder};
@@ -68,7 +69,8 @@ impl<K: Eq + Hash, V, S: KeyHasher<K>, L: Limit> LimitedHashMap<K, V, S, L> {
         Values::new(self.columns().values())
     }
 
-    /// The pairs, each as `(&K, &mut V)`, in order. The keys cannot be written.
+    /// Returns the pairs, each as `(&K, &mut V)`, in order. The keys cannot be written. After a loop over them a proof
+    /// knows only the keys; `values_slice_mut` tells it the values.
     ///
     /// ```
     /// for (id, age) in ages.iter_mut() {
@@ -111,7 +113,7 @@ impl<K: Eq + Hash, V, S: KeyHasher<K>, L: Limit> LimitedHashMap<K, V, S, L> {
     }
 
     /// Returns the values, in order, as a slice to be written. What a proof knows of the slice at the end, it knows of
-    /// the map. After a loop over `values_mut` it knows only the keys.
+    /// the map. After a loop over `iter_mut` or `values_mut` it knows only the keys.
     ///
     /// ```
     /// ages.values_slice_mut().fill(0);
