@@ -11,4 +11,3 @@ pub use Rattle.halfbrown.specs.Growth
 pub use Rattle.halfbrown.specs.Pairs
 pub use Rattle.halfbrown.specs.Run
 pub use Rattle.halfbrown.specs.State
-pub use Rattle.halfbrown.specs.Step

@@ -1,5 +1,5 @@
 //! What holds of equality. These functions do nothing: the laws are their contracts.
-ghost use Rattle.halfbrown.specs.EqualityLaws.{ReflexiveLaw, SymmetricLaw, TransitiveLaw};
+ghost use Rattle.halfbrown.specs.Equality.{ReflexiveLaw, SymmetricLaw, TransitiveLaw};
 ghost use Rattle.half_laws.specs.ComparisonLaws.{ValuesLaw, PairsLaw, OrderLaw, ComparisonLaw};
 
 use halfbrown::KeyHasher;

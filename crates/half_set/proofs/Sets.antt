@@ -17,8 +17,7 @@ use Rattle.std.specs.Map.Iter.{TakesFirst, ShowsInOrder, deref}
 use Rattle.std.specs.Option.{option_eq}
 use Rattle.std.specs.Set.{is_member, remove_key, IsUnion}
 use Rattle.halfbrown.specs.CallerLoops.{add_key, add_keys}
-use Rattle.halfbrown.specs.Equality.{same_value}
-use Rattle.halfbrown.specs.EqualityLaws.{same_pairs-Decides}
+use Rattle.halfbrown.specs.Equality.{same_value, same_pairs-Decides}
 use Rattle.halfbrown.specs.Growth.{IsRefusal, insert_needs}
 use Rattle.halfbrown.specs.Refusal.{refusal_of}
 use Rattle.halfbrown.specs.State.{State}

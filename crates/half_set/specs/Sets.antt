@@ -5,8 +5,7 @@ use Rattle.std.specs.Cmp.Derive.{point_per}
 use Rattle.std.specs.List.{list_any}
 use Rattle.std.specs.Option.{option_map_or}
 use Rattle.std.specs.Set.{is_member}
-use Rattle.halfbrown.specs.Equality.{same_pairs}
-use Rattle.halfbrown.specs.EqualityLaws.{reflexive, symmetric, transitive}
+use Rattle.halfbrown.specs.Equality.{same_pairs, reflexive, symmetric, transitive}
 use Rattle.halfbrown.specs.Pairs.{index_of, swap_remove_at}
 
 -- each value with nothing, as a set has it

@@ -15,13 +15,9 @@ IsBacked columns None = Unit {0}
 IsBacked columns (Some t) = capacity_of t.value.buckets ≡ columns
 
 module _ {K V Z : Type 0} (keys : VecDeque K Z) (values : VecDeque V Z) where
-  -- the pairs that are still to come, with the capacity of the columns
-  abbrev pub queued : ColumnsState K V
-  queued = record { pairs = zip keys.items values.items; capacity = deque_capacity keys }
-
-  -- the same in the form that the store had
+  -- the pairs that are still to come, in the form that the store had, with the capacity of the columns
   abbrev pub drained_of : Option (Box TableState) → StoreState K V
-  drained_of table = store_of queued table
+  drained_of table = store_of (record { pairs = zip keys.items values.items; capacity = deque_capacity keys }) table
 
   -- the two queues are of one length and one capacity
   pub record IsDrained (table : Option (Box TableState)) : Type 0 where

@@ -1,27 +1,21 @@
-pub mod Arrays
-pub mod Buckets
-pub mod Calls
 pub mod Capacity
 pub mod Columns
-pub mod ColumnsLending
 pub mod Drained
 pub mod Hash
 pub mod PairLists
-pub mod Probe
 pub mod Reach
 pub mod Refusal
 pub mod Search
-pub mod Shift
 pub mod Slots
 pub mod Store
 pub mod StoreLending
 pub mod StoreRemoval
 pub mod Table
-pub mod TableLayout
-pub mod TableSearch
 pub mod ValueReplacement
 pub mod Words
 pub mod Work
 pub mod formers
--- What the files in `formers` have in common, those of the map too.
+-- What the files in `formers` have in common, those of the map too, and what its equality has in common with that of std's.
 pub use Rattle.std_collections.specs.Layout.Former
+pub use Rattle.std_collections.specs.Layout.HashMap
+pub use Rattle.std_collections.specs.formers.hash_map.HashMap as HashMapFormer

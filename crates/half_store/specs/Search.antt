@@ -1,15 +1,16 @@
--- What a search by a match on keys finds.
-use Rattle.std.specs.Prelude.{◌≡◌, ℕ, ◌+◌, ◌<◌, ◌≤◌, Bool, true, false, List, length, slice_get, Option, Some, IfSome, IfNone, Result, Ok, Err}
+-- What a search by a match on keys finds; the keys at which it may call the match, and those at which it was called.
+use Rattle.std.specs.Prelude.{◌≡◌, ℕ, ◌+◌, ◌<◌, ◌≤◌, Bool, true, false, List, length, slice_get, Option, Some, IfSome, IfNone, Result, Ok, Err, ◌-◌, slice_index}
 use Rattle.std.specs.Map.{keys_of}
 use Rattle.half_store.specs.Capacity.{buckets_of}
-use Rattle.half_store.specs.Probe.{IsTableHitCost, after_missing}
+use Rattle.half_store.specs.Work.{IsTableHitCost, after_missing, Work, first_match_cost}
 use Rattle.half_store.specs.Reach.{reach}
-use Rattle.half_store.specs.Work.{Work, first_match_cost}
 use Rattle.half_store.specs.declared.store.find.Vacancy.{Vacancy}
 use Rattle.half_store.specs.declared.vecmap.search.Scan.{Scan}
 use Rattle.half_store.specs.declared.vecmap.search.Scan.TheVariants.{ByKey}
 use Rattle.half_store.specs.Store.{StoreState, IsVacancy}
 use Rattle.half_store.specs.Table.{Contents}
+use Rattle.std.specs.Borrow.{Bor}
+use Rattle.half_store.specs.Slots.{slots_by, slot_at}
 
 -- the match returned this of the key at this index
 abbrev pub ReturnsAt : {K : Type 0} → (K → Bool → Type 0) → List K → ℕ → Bool → Type 0
@@ -59,3 +60,23 @@ pub record IsStoreSearchCost {K V : Type 0} (s : StoreState K V) (hash : ℕ) (s
   pub found : s.is_vec ≡ false → IfSome index (λ _. IsTableHitCost s.hashes (buckets_of s.capacity) hash before after)
   pub missing : s.is_vec ≡ false → IfNone index (after ≡ after_missing s.hashes (buckets_of s.capacity) hash before)
   pub short : s.is_vec ≡ false → reach s.hashes (buckets_of s.capacity) hash ≤ length s.hashes + 1
+
+-- each of these keys
+abbrev pub CallableOnKeys : {K : Type 0} → (Bor K → Type 0) → List K → Type 0
+CallableOnKeys {K} callable keys = (key : Bor K) (index : ℕ) → slice_get keys index ≡ Some key.now → callable key
+
+-- each whose stored hash is this one
+abbrev pub CallableOnHash : {K : Type 0} → (Bor K → Type 0) → List ℕ → ℕ → List K → Type 0
+CallableOnHash {K} callable hashes hash keys =
+    (key : Bor K) (index : ℕ) → slice_get hashes index ≡ Some hash → slice_get keys index ≡ Some key.now → callable key
+
+-- each that a bucket of this hash leads to
+abbrev pub CallableInBuckets : {K : Type 0} → (Bor K → Type 0) → List ℕ → List ℕ → ℕ → List K → Type 0
+CallableInBuckets {K} callable hashes words hash keys =
+    (key : Bor K) (bucket : ℕ) → slot_at (slots_by hashes words) bucket ≡ Some hash → slice_get keys (slice_index words bucket - 1) ≡ Some key.now
+    → callable key
+
+-- the test refused each of those
+abbrev pub RefusedInBuckets : {K : Type 0} → (K → Bool → Type 0) → List ℕ → List ℕ → ℕ → List K → Type 0
+RefusedInBuckets returns hashes words hash keys =
+    (bucket : ℕ) → slot_at (slots_by hashes words) bucket ≡ Some hash → ReturnsAt returns keys (slice_index words bucket - 1) false

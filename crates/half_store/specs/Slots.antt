@@ -1,7 +1,25 @@
--- What the buckets contain: a stored hash in each full bucket.
-use Rattle.std.specs.Prelude.{◌≡◌, ◌≢◌, ℕ, ◌+◌, ◌-◌, ◌<◌, ◌==◌, Bool, false, List, length, count_by, Option, Some, None, slice_index, slice_index_or}
-use Rattle.half_store.specs.Buckets.{slots_by}
+-- What stands in a bucket: a word, which is 0 or the entry index of its pair and one more, and the hash stored for it.
+use Rattle.std.specs.Prelude.{◌≡◌, ◌≢◌, ℕ, ◌+◌, ◌-◌, ◌<◌, ◌==◌, Bool, false, List, length, count_by, Option, Some, None, slice_index, slice_index_or, zero, suc, ◌≤◌, map}
 use Rattle.half_store.specs.Reach.{home, probe_distance}
+use Rattle.std.specs.List.{All, slice_get}
+
+-- the hash stored for a word, by the stored hashes of the entry indices
+abbrev pub slot_by : List ℕ → ℕ → Option ℕ
+slot_by hashes zero = None
+slot_by hashes (suc index) = slice_get hashes index
+
+-- the hash stored for each bucket
+abbrev pub slots_by : List ℕ → List ℕ → List (Option ℕ)
+slots_by hashes words = map (slot_by hashes) words
+
+-- each bucket is empty, or its entry index has a stored hash
+abbrev pub WithinHashes : List ℕ → List ℕ → Type 0
+WithinHashes hashes words = All (λ word. word ≤ length hashes) words
+
+-- each entry index below this number stands in exactly one bucket, and no other in any
+pub record EachOnce (number : ℕ) (words : List ℕ) : Type 0 where
+  pub within : All (λ word. word ≤ number) words
+  pub once : (index : ℕ) → index < number → count_by (λ word. word == suc index) words ≡ 1
 
 -- the hash stored in a bucket, or none where it is empty
 abbrev pub slot_at : List (Option ℕ) → ℕ → Option ℕ

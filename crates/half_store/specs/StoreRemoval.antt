@@ -1,16 +1,16 @@
--- What a removal does to a store, and to the buckets before it shifts pairs back.
-use Rattle.std.specs.Prelude.{◌≡◌, ℕ, ◌+◌, ◌-◌, ◌<◌, Bool, false, List, length, slice_get, slice_index, slice_set, Option, Some, None, Result, Ok, Err}
+-- What a removal does to a store, in order or by the last pair, and to the buckets before pairs are shifted back.
+use Rattle.std.specs.Prelude.{◌≡◌, ℕ, ◌+◌, ◌-◌, ◌<◌, Bool, false, List, length, slice_get, slice_index, slice_set, Option, Some, None, Result, Ok, Err, suc, ◌==◌, nat_lt, if◌then◌else◌}
 use Rattle.std.specs.Result.{result_ok}
 use Rattle.half_store.specs.declared.store.find.Vacancy.{Vacancy}
 use Rattle.half_store.specs.declared.vecmap.search.Scan.TheVariants.{ByKey}
 use Rattle.half_store.specs.PairLists.{swap_remove_at}
-use Rattle.half_store.specs.Probe.{LooksWithin, probe_reads}
-use Rattle.half_store.specs.Buckets.{slots_by}
+use Rattle.half_store.specs.Work.{LooksWithin, probe_reads, Work}
+use Rattle.half_store.specs.Slots.{slots_by}
 use Rattle.half_store.specs.Reach.{reach, probe_distance}
 use Rattle.half_store.specs.Search.{StoreSearch, IsStoreSearchCost}
 use Rattle.half_store.specs.Store.{StoreState, KeepsForm}
-use Rattle.half_store.specs.TableLayout.{IsVacantBeside}
-use Rattle.half_store.specs.Work.{Work}
+use Rattle.half_store.specs.Table.{IsVacantBeside}
+use Rattle.std.specs.List.{remove}
 
 -- the bucket of the last pair, which a probe for its hash finds, leads to this entry index
 pub record Renames (hashes old : List ℕ) (index : ℕ) (new : List ℕ) (before after : Work) : Type 0 where
@@ -46,3 +46,19 @@ module _ {K V : Type 0} (old new : StoreState K V) where
     pub finds : StoreSearch returns hash old search
     pub cost : IsStoreSearchCost old hash ByKey (result_ok search) before after
     pub takes : TakesFound search result
+
+-- the word of a bucket once the pair at this index is the last of `pairs`, and each pair behind it has the index before its own
+abbrev pub moved_word : ℕ → ℕ → ℕ → ℕ
+moved_word pairs index word = if word == suc index then pairs else (if nat_lt index word then word - 1 else word)
+
+-- each bucket has that word
+pub record MovesLast (pairs index : ℕ) (old new : List ℕ) : Type 0 where
+  pub len : length new ≡ length old
+  pub words : (bucket : ℕ) → slice_index new bucket ≡ moved_word pairs index (slice_index old bucket)
+
+-- the pair at this index is gone, and each pair behind it has the index before its own
+pub record ShiftRemoves {K V : Type 0} (old new : StoreState K V) (index : ℕ) (pair : K × V) : Type 0 where
+  pub removed : slice_get old.pairs index ≡ Some pair
+  pub pairs : new.pairs ≡ remove old.pairs index
+  pub hashes : old.is_vec ≡ false → new.hashes ≡ remove old.hashes index
+  pub form : KeepsForm old new

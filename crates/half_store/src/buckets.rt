@@ -1,7 +1,6 @@
 //! What a probe reads: buckets, each empty or with the entry index of a pair, whose hash is stored.
 ghost use Rattle.std.specs.Prelude.{◌≡◌, ℕ, ◌-◌, ◌<◌, List, length, slice_index, option_map, IfSome};
-ghost use Rattle.half_store.specs.Slots.{slot_at};
-ghost use Rattle.half_store.specs.Buckets.{slots_by, WithinHashes};
+ghost use Rattle.half_store.specs.Slots.{slot_at, slots_by, WithinHashes};
 ghost use Rattle.half_store.specs.Work.{one_looked};
 
 use crate::Tally;

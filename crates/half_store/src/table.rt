@@ -7,13 +7,11 @@
 
 ghost use Rattle.std.specs.Prelude.{◌≡◌, ℕ, ◌+◌, ◌^◌, ◌<◌, ◌≤◌, [], ◌∷◌, ◌++◌, length, Some, slice_get, IfOk, OnErr};
 ghost use Rattle.std.specs.Fn.{FnReturnsAt};
-ghost use Rattle.half_store.specs.Calls.{CallableOnHash};
+ghost use Rattle.half_store.specs.Search.{CallableOnHash, ReturnsAt};
 ghost use Rattle.half_store.specs.Reach.{reach};
 ghost use Rattle.half_store.specs.Capacity.{capacity_of, IsBucketCount, capacity_for, buckets_of};
-ghost use Rattle.half_store.specs.Probe.{looked_more, LooksWithin, removal_reads};
-ghost use Rattle.half_store.specs.Search.{ReturnsAt};
-ghost use Rattle.half_store.specs.Table.{table_contents, with_hash_in, IsVacancyIn};
-ghost use Rattle.half_store.specs.TableSearch.{TableSearch, RemovesFromTable};
+ghost use Rattle.half_store.specs.Work.{looked_more, LooksWithin, removal_reads};
+ghost use Rattle.half_store.specs.Table.{table_contents, with_hash_in, IsVacancyIn, TableSearch, RemovesFromTable};
 
 mod deletion;
 mod find;
@@ -47,9 +45,8 @@ pub struct Table {
 
 impl Model for Table {
     ghost use Rattle.std.specs.Prelude.{vec_capacity};
-    ghost use Rattle.half_store.specs.Buckets.{slots_by};
-    ghost use Rattle.half_store.specs.Table.{TableState, table_state, table_state_code};
-    ghost use Rattle.half_store.specs.TableLayout.{IsTable};
+    ghost use Rattle.half_store.specs.Slots.{slots_by};
+    ghost use Rattle.half_store.specs.Table.{TableState, table_state, table_state_code, IsTable};
     ghost use Rattle.half_store.specs.Words.{words_of, most_of};
 
     ghost Value = { TableState };
@@ -63,9 +60,8 @@ impl Model for Table {
 }
 
 impl Table {
-    ghost use Rattle.half_store.specs.Buckets.{slots_by};
-    ghost use Rattle.half_store.specs.Table.{table_state};
-    ghost use Rattle.half_store.specs.TableLayout.{IsIndexed};
+    ghost use Rattle.half_store.specs.Slots.{slots_by};
+    ghost use Rattle.half_store.specs.Table.{table_state, IsIndexed};
     ghost use Rattle.half_store.specs.Words.{words_of};
 
     /// How many pairs it holds.

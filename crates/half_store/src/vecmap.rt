@@ -38,7 +38,7 @@ impl<K, V> Model for Columns<K, V> {
 }
 
 impl<K, V> Columns<K, V> {
-    ghost use Rattle.half_store.specs.ColumnsLending.{ColumnsLendValue};
+    ghost use Rattle.half_store.specs.StoreLending.{ColumnsLendValue};
 
     /// No pairs, and no memory taken.
     pub fn new(alloc: Global) -> Columns<K, V>

@@ -15,7 +15,7 @@ use Rattle.half_store.specs.PairLists.{index_of}
 use Rattle.half_store.specs.Work.{Work}
 use Rattle.halfbrown.specs.Costs.{IsKeySearchCost, IsInsertCost, Cost, GrewBy, GrewWithin, exactly, between, add_ranges, key_search_cost}
 use Rattle.halfbrown.specs.Costs.{insert_cost, NoHomeIsShared, search_cost}
-use Rattle.halfbrown.specs.Match.{ReadsMatch, IsMatchCost}
+use Rattle.halfbrown.specs.Lookup.{ReadsMatch, IsMatchCost}
 use Rattle.halfbrown.specs.Pairs.{holds}
 use Rattle.halfbrown.proofs.lemmas.pairs.Indices.{found_where_held}
 use Rattle.halfbrown.specs.State.{State, state, contents_of}

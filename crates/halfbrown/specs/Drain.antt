@@ -23,10 +23,6 @@ module _ {K V S L H : Type 0} {e : eq.Ghosts K} {h : hash.Ghosts K} {b : hashers
   abbrev pub rest : Drain K V S L (StoreState K V) H e h b l p → List (K × V)
   rest d = d.pairs.pairs
 
-  -- the ghost name of the reference to the map
-  abbrev pub lender : Drain K V S L (StoreState K V) H e h b l p → GName
-  lender d = d.map.ghost_name
-
   -- old and new borrow the same map, and leave it in the same form, with the same capacity and builder
   pub record Keeps (old new : Drain K V S L (StoreState K V) H e h b l p) : Type 0 where
     pub map : new.map ≡ old.map
@@ -44,6 +40,6 @@ module _ {K V S L H : Type 0} {e : eq.Ghosts K} {h : hash.Ghosts K} {b : hashers
   -- s borrows the map of this ghost name, calls of `next` give the next pairs, and each state that they lead to borrows the same map, in the
   -- same form and capacity
   pub record StepsThroughPairs (name : GName) (s : Drain K V S L (StoreState K V) H e h b l p) : Type 0 where
-    pub same_map : lender s ≡ name
+    pub same_map : s.map.ghost_name ≡ name
     pub pairs : YieldsInOrder DrainSteps rest
     pub keeps : KeepsAlong s

@@ -1,7 +1,7 @@
--- What contracts see of an entry: its key and value, and what the map is once they are written or taken out.
+-- What contracts see of an entry: its key and value, and what the map is once they are written, lent or taken out.
 pub use Rattle.halfbrown.specs.declared.entry.Entry.TheVariants.{Occupied, Vacant}
-use Rattle.std.specs.Prelude.{◌≡◌, ℕ, Bool, true, false, List, slice_get, Option, None, Some, IfSome, Result, IfOk, IfErr}
-use Rattle.std.specs.Borrow.{MutBor}
+use Rattle.std.specs.Prelude.{◌≡◌, ℕ, Bool, true, false, List, slice_get, Option, None, Some, IfSome, Result, IfOk, IfErr, zero, suc, ◌<◌, [], ◌∷◌, length, ⊤}
+use Rattle.std.specs.Borrow.{MutBor, Fml, RattleType, follows, follows_so, RestsIfErr, RestsIfNone}
 use Rattle.std.specs.Map.{keys_of, values_of}
 use Rattle.std.specs.Option.{option_map}
 use Rattle.std.specs.declared.cmp.PartialEq as eq
@@ -13,11 +13,26 @@ use Rattle.halfbrown.specs.declared.entry.OccupiedEntry.{OccupiedEntry}
 use Rattle.halfbrown.specs.declared.limit.Limit as limits
 use Rattle.halfbrown.specs.declared.refused.RefusedKey.{RefusedKey}
 use Rattle.halfbrown.specs.Growth.{insert_needs, IsRefusal}
-use Rattle.halfbrown.specs.Insertion.{Puts}
+use Rattle.halfbrown.specs.Insertion.{Puts, Prepares, pushed}
 use Rattle.halfbrown.specs.Pairs.{value_of, pair_of, holds, take_out}
-use Rattle.halfbrown.specs.Preparation.{Prepares, pushed}
 use Rattle.halfbrown.specs.State.{State, IsState, WithPairs, with_pairs}
 use Rattle.halfbrown.specs.Updates.{HasPut, HasRemoved}
+use Rattle.std.proofs.Common.{refl, sym, ap, subst}
+use mathlib.Core.Option.{none}
+use mir.Syntax.{named}
+use Rattle.halfbrown.specs.contracts.map.LimitedHashMap.{the_row}
+use Rattle.halfbrown.specs.contracts.entry.OccupiedEntry as occupied
+
+-- a refused entry that needed this much capacity: the key comes back with the reason
+pub record HandsBackKey {K : Type 0} (k : K) (needs : Option ℕ) (refused : RefusedKey K) : Type 0 where
+  pub why : IsRefusal needs refused.why
+  pub key : refused.key ≡ k
+
+-- written values leave the length
+pub length-set_value : {K V : Type 0} (pairs : List (K × V)) (index : ℕ) (value : V) → length (set_value pairs index value) ≡ length pairs
+length-set_value [] index value = refl
+length-set_value (p ∷ pairs) zero value = refl
+length-set_value (p ∷ pairs) (suc index) value = ap suc (length-set_value pairs index value)
 
 module _ {K V S L H : Type 0} {e : eq.Ghosts K} {h : hash.Ghosts K} {b : hashers.Ghosts S K H} {l : limits.Ghosts L} where
   -- the reference to the map
@@ -86,8 +101,6 @@ module _ {K V S L H : Type 0} {e : eq.Ghosts K} {h : hash.Ghosts K} {b : hashers
     pub writes : (v : V) → with_value written v ≡ with_value entry v
     pub pairs_left : pairs_without written ≡ pairs_without entry
 
--- what calls on an entry make of it
-module _ {K V S L H : Type 0} {e : eq.Ghosts K} {h : hash.Ghosts K} {b : hashers.Ghosts S K H} {l : limits.Ghosts L} where
   -- a call on the value where the key is held, and no call else: the entry is the same one, and has the value that was left
   pub record ModifiesEntry (modifies : Option V → Option V → Type 0) (entry modified : Entry K V S L H e h b l) : Type 0 where
     pub same_map : (map_ref modified).ghost_name ≡ (map_ref entry).ghost_name
@@ -117,14 +130,8 @@ module _ {K V S L H : Type 0} {e : eq.Ghosts K} {h : hash.Ghosts K} {b : hashers
     pub value : entry_value (Occupied rekeyed) ≡ entry_value (Occupied entry)
     pub pairs_left : pairs_without (Occupied rekeyed) ≡ pairs_without (Occupied entry)
 
--- a refused entry that needed this much capacity: the key comes back with the reason
-pub record HandsBackKey {K : Type 0} (k : K) (needs : Option ℕ) (refused : RefusedKey K) : Type 0 where
-  pub why : IsRefusal needs refused.why
-  pub key : refused.key ≡ k
-
--- what `entry` returns for k: where it is granted the entry of k, in the map that has switched and has capacity
--- for its pair; where it is refused the key and the reason
-module _ {K V S L H : Type 0} {e : eq.Ghosts K} {h : hash.Ghosts K} {b : hashers.Ghosts S K H} {l : limits.Ghosts L} where
+  -- what `entry` returns for k: where it is granted the entry of k, in the map that has switched and has capacity for its pair; where it is
+  -- refused the key and the reason
   pub record MakesEntry (limit : ℕ) (same : K → K → Bool) (m : MutBor (State K V S)) (k : K) (result : Result (Entry K V S L H e h b l) (RefusedKey K)) : Type 0 where
     pub same_map : IfOk result (λ entry. (map_ref entry).ghost_name ≡ m.ghost_name)
     pub ok : IfOk result (λ entry. Prepares limit m.now (insert_needs limit same m.now k) (map_of entry))
@@ -133,3 +140,34 @@ module _ {K V S L H : Type 0} {e : eq.Ghosts K} {h : hash.Ghosts K} {b : hashers
     pub removes : IfOk result (RemovesKey same m.now.pairs k)
     pub returned : IfErr result (HandsBackKey k (insert_needs limit same m.now k))
     pub state : IfOk result (λ entry. IsState same limit (map_of entry))
+
+  pub still_within : (o : OccupiedEntry K V S L H e h b l) (value : V) → o.index < length (with_value (Occupied o) value).pairs
+  unfolding with_value
+  still_within o value = subst (λ n. o.index < n) (sym (length-set_value o.map.now.pairs o.index value)) o.within
+
+  -- the entry, once this value is written
+  abbrev pub with_entry_value : OccupiedEntry K V S L H e h b l → V → OccupiedEntry K V S L H e h b l
+  with_entry_value o value = record { map = record o.map { now = with_value (Occupied o) value }; index = o.index; within = still_within o value }
+
+module _ (K V S L H : RattleType) {e : eq.Ghosts K.Denot} {h : hash.Ghosts K.Denot} {b : hashers.Ghosts S.Denot K.Denot H.Denot} {l : limits.Ghosts L.Denot} where
+  -- the map has the last value written through the reference, for the entry's key
+  abbrev pub EntryLends : Entry K.Denot V.Denot S.Denot L.Denot H.Denot e h b l → MutBor V.Denot → Fml
+  EntryLends entry r = follows (the_row K V S L H e h b l) V (map_ref entry).ghost_name r.ghost_name (with_value entry)
+
+  -- where no entry was made the map is as it was, and else it ends as the entry's map does
+  abbrev pub RestsIfRefused : {E : Type 0} → MutBor (State K.Denot V.Denot S.Denot) → Result (Entry K.Denot V.Denot S.Denot L.Denot H.Denot e h b l) E → Fml
+  RestsIfRefused m r = RestsIfErr (the_row K V S L H e h b l) m (λ entry. (map_ref entry).ghost_name) r (λ n. n ≡ m.now)
+
+  -- where there is no entry the map is as it was, and else it ends as the entry's map does
+  abbrev pub RestsIfNoEntry : MutBor (State K.Denot V.Denot S.Denot) → Option (OccupiedEntry K.Denot V.Denot S.Denot L.Denot H.Denot e h b l) → Fml
+  RestsIfNoEntry m r = RestsIfNone (the_row K V S L H e h b l) m (λ o. o.map.ghost_name) r (λ n. n ≡ m.now)
+
+  -- the entry has the last value written through the reference
+  abbrev pub OccupiedLends : MutBor (OccupiedEntry K.Denot V.Denot S.Denot L.Denot H.Denot e h b l) → MutBor V.Denot → Fml
+  OccupiedLends o r = follows (occupied.the_row (record { mir = named 1; lft = [] }) K V S L H e h b l) V o.ghost_name r.ghost_name (with_entry_value o.now)
+
+  -- the entry stays as it is
+  abbrev pub OccupiedRests : MutBor (OccupiedEntry K.Denot V.Denot S.Denot L.Denot H.Denot e h b l) → Fml
+  OccupiedRests o =
+      let row = occupied.the_row (record { mir = named 1; lft = [] }) K V S L H e h b l in
+      follows_so row row o.ghost_name none (λ x n. ⊤) (λ n. n ≡ o.now)

@@ -1,18 +1,26 @@
--- When two lists of pairs are equal as maps, and which keys are searched for to find out.
-use Rattle.std.specs.Prelude.{◌==◌, Bool, false, ◌&&◌, List, [], ◌∷◌, length, if◌then◌else◌}
-use Rattle.std.specs.List.{list_all}
-use Rattle.std.specs.Map.{keys_of}
+-- When two lists of pairs are equal as maps, the laws of that, and which keys are searched for to find out.
+use Rattle.std.specs.Prelude.{◌≡◌, ◌==◌, Bool, true, false, List, [], ◌∷◌, length, IsTrue, refl, if◌then◌else◌}
+use Rattle.std.specs.Bool.{Decides}
+use Rattle.std.specs.Cmp.{IsEquivalence, IsPartialEquivalence, equiv, partial_equiv_from_equiv}
+use Rattle.std.specs.HashMap.{hash_map_eq}
+use Rattle.half_store.specs.HashMap.{HashMap, hash_map}
+use Rattle.std.specs.HashMap.Eq.{lookup_congr, get_from_hash_map_eq, hash_map_eq_from_get, hash_map_eq_refl, hash_map_eq_symm, hash_map_eq_trans}
 use Rattle.std.specs.Option.{option_eq, option_map_or}
 use Rattle.halfbrown.specs.Pairs.{value_of}
+use Rattle.halfbrown.specs.State.{State}
+
+-- std's map with these entries
+abbrev as_map : {K V : Type 0} → List (K × V) → HashMap K V (Unit {0})
+as_map pairs = hash_map pairs tt 0
 
 module _ {K V : Type 0} (eq : K → K → Bool) (value_eq : V → V → Bool) where
   -- whether the key has equal values in both lists, or is held in neither
   abbrev pub same_value : List (K × V) → List (K × V) → K → Bool
   same_value left right k = option_eq value_eq (value_of eq left k) (value_of eq right k)
 
-  -- whether each key of either list has equal values in both
-  unfoldable pub same_pairs : List (K × V) → List (K × V) → Bool
-  same_pairs left right = list_all (same_value left right) (keys_of left) && list_all (same_value left right) (keys_of right)
+  -- whether each key of either list has equal values in both: what `==` of std's `HashMap`s with these entries returns
+  abbrev pub same_pairs : List (K × V) → List (K × V) → Bool
+  same_pairs left right = hash_map_eq eq value_eq (as_map left) (as_map right)
 
   -- whether an equal key is held with an equal value
   abbrev pub holds_pair : List (K × V) → K × V → Bool
@@ -26,3 +34,46 @@ module _ {K V : Type 0} (eq : K → K → Bool) (value_eq : V → V → Bool) wh
   -- the keys that a comparison searches for in the right list, in order: none where the lengths differ
   abbrev pub searched_keys : List (K × V) → List (K × V) → List K
   searched_keys left right = if length left == length right then keys_while_same left right else []
+
+  -- a list is equal to itself, where each value is
+  abbrev pub ReflexiveLaw : Type 0
+  ReflexiveLaw = ((v : V) → IsTrue (value_eq v v)) → (pairs : List (K × V)) → IsTrue (same_pairs pairs pairs)
+
+  -- the sides do not matter
+  abbrev pub SymmetricLaw : Type 0
+  SymmetricLaw = (left right : List (K × V)) → same_pairs left right ≡ same_pairs right left
+
+  -- two lists that are equal to a third are equal
+  abbrev pub TransitiveLaw : Type 0
+  TransitiveLaw = (left middle right : List (K × V)) → IsTrue (same_pairs left middle) → IsTrue (same_pairs middle right) → IsTrue (same_pairs left right)
+
+module _ {K V : Type 0} (eq : K → K → Bool) (value_eq : V → V → Bool) (keys : IsEquivalence eq) where
+  -- an equal key has the same values
+  pub equal_has_same : (left right : List (K × V)) (k q : K) → eq k q ≡ true → same_value eq value_eq left right k ≡ same_value eq value_eq left right q
+  equal_has_same left right k q same = λ i. option_eq value_eq (lookup_congr eq keys.congr left k q same i) (lookup_congr eq keys.congr right k q same i)
+
+  pub same_pairs-Decides : (left right : List (K × V)) → Decides (same_pairs eq value_eq left right) ((k : K) → same_value eq value_eq left right k ≡ true)
+  same_pairs-Decides left right =
+      (get_from_hash_map_eq eq value_eq keys (as_map left) (as_map right), hash_map_eq_from_get eq value_eq (as_map left) (as_map right))
+
+  pub reflexive : ReflexiveLaw eq value_eq
+  reflexive each pairs = hash_map_eq_refl eq value_eq each (as_map pairs)
+
+  pub symmetric : IsPartialEquivalence value_eq → SymmetricLaw eq value_eq
+  symmetric values left right = hash_map_eq_symm eq value_eq values.symm (as_map left) (as_map right)
+
+  pub transitive : IsPartialEquivalence value_eq → TransitiveLaw eq value_eq
+  transitive values left middle right = hash_map_eq_trans eq value_eq keys values.trans (as_map left) (as_map middle) (as_map right)
+
+  -- whether two maps hold the same pairs
+  abbrev pub same_maps : {S : Type 0} → State K V S → State K V S → Bool
+  same_maps a b = same_pairs eq value_eq a.pairs b.pairs
+
+  pub same_maps_per : {S : Type 0} → IsPartialEquivalence value_eq → IsPartialEquivalence (same_maps {S = S})
+  same_maps_per values = record {
+    symm = λ a b. symmetric values a.pairs b.pairs;
+    trans = λ a b c. transitive values a.pairs b.pairs c.pairs;
+  }
+
+  pub same_maps_equiv : {S : Type 0} → IsEquivalence value_eq → IsEquivalence (same_maps {S = S})
+  same_maps_equiv values = equiv (same_maps_per (partial_equiv_from_equiv values)) (λ a. reflexive values.refl a.pairs)

@@ -2,7 +2,7 @@
 use Rattle.std.specs.Prelude.{◌≡◌, ℕ, ◌+◌, ◌^◌, ◌<◌, ◌≤◌, ◌⊎◌, Bool, not, ◌&&◌, ◌==◌, nat_lt, length, Option, None, Some, IfNone, IfSome, MatchBool, MatchOption, if◌then◌else◌}
 use Rattle.half_store.specs.declared.refusal.Refusal.{Refusal}
 use Rattle.half_store.specs.Refusal.{refusal_of}
-use Rattle.half_store.specs.Capacity.{capacity_for, generous_capacity, least_capacity, vec_shrunk, shrunk_capacity}
+use Rattle.half_store.specs.Capacity.{capacity_for, generous_capacity, vec_shrunk, shrunk_capacity}
 use Rattle.half_store.specs.Store.{allowed}
 use Rattle.halfbrown.specs.State.{State}
 use Rattle.halfbrown.specs.Pairs.{holds}
@@ -26,9 +26,13 @@ reserve_needs limit m total = let most = allowed limit m.is_vec total in if nat_
 abbrev pub making_needs : ℕ → Option ℕ
 making_needs needed = if needed == 0 then None else Some needed
 
--- a new map has exactly the least capacity of its form for this many pairs
-abbrev pub HasCapacityMade : {K V S : Type 0} → ℕ → State K V S → Type 0
-HasCapacityMade needed m = m.capacity ≡ least_capacity m.is_vec needed
+-- a call that needs this much capacity was refused for this reason; one that needs none is never refused
+abbrev pub IsRefusal : Option ℕ → Refusal → Type 0
+IsRefusal needs why = IfNone needs ⊥ × IfSome needs (λ n. why ≡ refusal_of n)
+
+-- a call that needs this much may be granted: no more than 2^60 pairs
+abbrev pub IsGrantable : Option ℕ → Type 0
+IsGrantable needs = IfSome needs (λ n. n ≤ 2 ^ 60)
 
 module _ {K V S : Type 0} (limit : ℕ) where
   -- a vector that holds as many pairs as the limit allows
@@ -51,15 +55,6 @@ module _ {K V S : Type 0} (limit : ℕ) where
   abbrev pub insert_needs : (K → K → Bool) → State K V S → K → Option ℕ
   insert_needs eq m k = if is_full m then Some (limit + 1) else (if holds eq m.pairs k then None else addition_needs m)
 
--- a call that needs this much capacity was refused for this reason; one that needs none is never refused
-abbrev pub IsRefusal : Option ℕ → Refusal → Type 0
-IsRefusal needs why = IfNone needs ⊥ × IfSome needs (λ n. why ≡ refusal_of n)
-
--- a call that needs this much may be granted: no more than 2^60 pairs
-abbrev pub IsGrantable : Option ℕ → Type 0
-IsGrantable needs = IfSome needs (λ n. n ≤ 2 ^ 60)
-
-module _ {K V S : Type 0} (limit : ℕ) where
   -- a granted call that needed this much capacity and changes no pair: the map is a vector exactly where `is_vec` says so
   pub record Grants (is_vec : Bool) (old : State K V S) (needs : Option ℕ) (new : State K V S) : Type 0 where
     pub pairs : new.pairs ≡ old.pairs

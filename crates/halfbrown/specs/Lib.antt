@@ -3,9 +3,7 @@ pub mod Clone
 pub mod Costs
 pub mod Drain
 pub mod Entry
-pub mod EntryLending
 pub mod Equality
-pub mod EqualityLaws
 pub mod FromIter
 pub mod Growth
 pub mod Insertion
@@ -14,24 +12,19 @@ pub mod Layout
 pub mod Lending
 pub mod Lookup
 pub mod Making
-pub mod Match
 pub mod Pairs
-pub mod Preparation
 pub mod RawEntry
-pub mod RawSearch
 pub mod Refusal
 pub mod Removal
-pub mod RemovalInOrder
 pub mod Replacement
 pub mod Run
 pub mod State
-pub mod Step
 pub mod Updates
 pub mod formers
 -- What callers need of the store's words, so that they list this crate alone.
 pub use Rattle.half_store.specs.Capacity
 pub use Rattle.half_store.specs.Hash
-pub use Rattle.half_store.specs.Probe
+pub use Rattle.half_store.specs.Work
 pub use Rattle.half_store.specs.Reach
 pub use Rattle.half_store.specs.ValueReplacement
 pub use Rattle.half_store.specs.Search

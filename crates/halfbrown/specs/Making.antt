@@ -5,7 +5,8 @@ use Rattle.std.specs.Hash.FoldHasher.{initial}
 use Rattle.std.specs.declared.hash.BuildHasherDefault.{BuildHasherDefault}
 use Rattle.std.specs.declared.hash.FoldHasher.{FoldHasher}
 use Rattle.half_store.specs.declared.refusal.Refusal.{Refusal}
-use Rattle.halfbrown.specs.Growth.{making_needs, HasCapacityMade, IsGrantable, IsRefusal}
+use Rattle.half_store.specs.Capacity.{least_capacity}
+use Rattle.halfbrown.specs.Growth.{making_needs, IsGrantable, IsRefusal}
 use Rattle.halfbrown.specs.State.{State}
 
 -- the builder that a map has where its maker names none: `DefaultHashBuilder::new()`
@@ -21,11 +22,11 @@ module _ {K V S : Type 0} (is_builder : S → Type 0) where
     pub builder : is_builder m.builder
 
   module _ (is_vec : Bool) (needed : ℕ) where
-    -- an empty map of this form, with capacity for this many pairs; `is_builder` holds of its builder
+    -- an empty map of this form, with exactly its least capacity for this many pairs; `is_builder` holds of its builder
     pub record IsMade (m : State K V S) : Type 0 where
       pub form : m.is_vec ≡ is_vec
       pub pairs : m.pairs ≡ []
-      pub capacity : HasCapacityMade needed m
+      pub capacity : m.capacity ≡ least_capacity m.is_vec needed
       pub builder : is_builder m.builder
       pub grantable : IsGrantable (making_needs needed)
 

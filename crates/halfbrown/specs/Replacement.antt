@@ -4,9 +4,8 @@ use Rattle.std.specs.Borrow.{Bor}
 use Rattle.std.specs.declared.cmp.PartialEq as eq
 use Rattle.std.specs.declared.hash.Hash as hash
 use Rattle.halfbrown.specs.declared.key_hasher.KeyHasher as hashers
-use Rattle.half_store.specs.Probe.{looked_more}
+use Rattle.half_store.specs.Work.{looked_more, Work}
 use Rattle.half_store.specs.ValueReplacement.{Answers}
-use Rattle.half_store.specs.Work.{Work}
 use Rattle.halfbrown.specs.declared.entry.Entry.{Entry}
 use Rattle.halfbrown.specs.declared.limit.Limit as limits
 use Rattle.halfbrown.specs.Costs.{probe_length}

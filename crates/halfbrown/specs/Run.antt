@@ -1,13 +1,111 @@
--- Whole runs: lists of steps.
-use Rattle.std.specs.Prelude.{◌≡◌, ℕ, Bool, not, if◌then◌else◌, List, [], ◌∷◌, map}
+-- What one command replies and does; and whole runs, lists of such steps.
+use Rattle.std.specs.Prelude.{◌≡◌, ℕ, Bool, not, if◌then◌else◌, List, [], ◌∷◌, map, ◌+◌, true, false, ◌&&◌, length, Option, None, Some, is_some, unwrap_or, MatchBool}
 use Rattle.std.specs.List.{list_any}
 use Rattle.halfbrown.specs.declared.run.Command.{Command}
-use Rattle.halfbrown.specs.declared.run.Command.TheVariants.{Insert, InsertNew, EntryOrInsert, RawOrInsert, Get, Remove}
+use Rattle.halfbrown.specs.declared.run.Command.TheVariants.{Insert, InsertNew, EntryOrInsert, RawOrInsert, Get, Remove, Clear, Reserve, Shrink, IsVec, Len}
 use Rattle.halfbrown.specs.declared.run.Reply.{Reply}
-use Rattle.halfbrown.specs.State.{State, IsState}
-use Rattle.halfbrown.specs.Step.{Step, IsValidStep, is_refused, is_shrink}
+use Rattle.halfbrown.specs.State.{State, IsState, WithPairs}
 use Rattle.halfbrown.specs.Costs.{Cost, no_cost, add_costs, key_search_cost, insert_cost, raw_insert_cost, new_key_cost}
-use Rattle.halfbrown.specs.Pairs.{holds}
+use Rattle.halfbrown.specs.Pairs.{holds, value_of, pair_of, take_out}
+use Rattle.half_store.specs.declared.refusal.Refusal.{Refusal}
+use Rattle.halfbrown.specs.declared.run.Reply.TheVariants.{Was, Added, Present, Value, Found, Removed, Done, Form, Length, Refused}
+use Rattle.halfbrown.specs.Growth.{is_full, insert_needs, new_key_needs, reserve_needs, IsRefusal, Reserves, Shrinks}
+use Rattle.halfbrown.specs.Insertion.{Puts}
+
+-- the value of k where it is held, else v: putting it changes no pair that is held
+abbrev pub value_or : {K V : Type 0} → (K → K → Bool) → List (K × V) → K → V → V
+value_or eq pairs k v = unwrap_or (value_of eq pairs k) v
+
+-- the reply to a granted command: the form after it and the pairs before it, in order, decide it
+abbrev pub granted_reply : {K V : Type 0} → (K → K → Bool) → Bool → List (K × V) → Command K V → Reply K V
+granted_reply eq is_vec pairs (Insert k v) = Was (value_of eq pairs k)
+granted_reply eq is_vec pairs (InsertNew k v) = if holds eq pairs k then Present k v else Added
+granted_reply eq is_vec pairs (EntryOrInsert k v) = Value (value_or eq pairs k v)
+granted_reply eq is_vec pairs (RawOrInsert k v) = Value (value_or eq pairs k v)
+granted_reply eq is_vec pairs (Get k) = Found (value_of eq pairs k)
+granted_reply eq is_vec pairs (Remove k) = Removed (pair_of eq pairs k)
+granted_reply eq is_vec pairs Clear = Done
+granted_reply eq is_vec pairs (Reserve additional) = Done
+granted_reply eq is_vec pairs Shrink = Form is_vec
+granted_reply eq is_vec pairs IsVec = Form is_vec
+granted_reply eq is_vec pairs Len = Length (length pairs)
+
+module _ {K V S : Type 0} (limit : ℕ) (eq : K → K → Bool) where
+  -- the capacity that the command needs, where it needs more
+  abbrev pub command_needs : State K V S → Command K V → Option ℕ
+  command_needs m (Insert k v) = insert_needs limit eq m k
+  command_needs m (InsertNew k v) = if holds eq m.pairs k then None else new_key_needs limit m
+  command_needs m (EntryOrInsert k v) = insert_needs limit eq m k
+  command_needs m (RawOrInsert k v) = new_key_needs limit m
+  command_needs m (Reserve additional) = reserve_needs limit m (length m.pairs + additional)
+  command_needs m command = None
+
+  -- what a granted command leaves
+  abbrev pub Leaves : State K V S → Command K V → State K V S → Type 0
+  Leaves old (Insert k v) new = Puts limit eq old k v (insert_needs limit eq old k) new
+  Leaves old (InsertNew k v) new = MatchBool (holds eq old.pairs k) (new ≡ old) (Puts limit eq old k v (new_key_needs limit old) new)
+  Leaves old (EntryOrInsert k v) new = Puts limit eq old k (value_or eq old.pairs k v) (insert_needs limit eq old k) new
+  Leaves old (RawOrInsert k v) new = Puts limit eq old k (value_or eq old.pairs k v) (new_key_needs limit old) new
+  Leaves old (Remove k) new = WithPairs old (take_out eq old.pairs k) new
+  Leaves old Clear new = WithPairs old [] new
+  Leaves old (Reserve additional) new = Reserves limit old additional new
+  Leaves old Shrink new = Shrinks limit old new
+  Leaves old command new = new ≡ old
+
+  -- from old, the command may have this reply and leave new: a refused command comes back, with the reason, and has changed nothing
+  abbrev pub Executes : State K V S → Command K V → Reply K V → State K V S → Type 0
+  Executes old command (Refused back why) new = (back ≡ command) × IsRefusal (command_needs old command) why × (new ≡ old)
+  Executes old command reply new = (reply ≡ granted_reply eq new.is_vec old.pairs command) × Leaves old command new
+
+-- the reason, where the reply is a refusal
+abbrev pub refusal_in : {K V : Type 0} → Reply K V → Option Refusal
+refusal_in (Refused command why) = Some why
+refusal_in reply = None
+
+-- whether the reply is a refusal
+abbrev pub is_refused : {K V : Type 0} → Reply K V → Bool
+is_refused reply = is_some (refusal_in reply)
+
+-- whether the reply says that a pair was put
+abbrev pub says_put : {K V : Type 0} → Reply K V → Bool
+says_put (Was before) = true
+says_put Added = true
+says_put (Value value) = true
+says_put reply = false
+
+-- whether the reply is that the form is the vector
+abbrev pub says_vec : {K V : Type 0} → Reply K V → Bool
+says_vec (Form is_vec) = is_vec
+says_vec reply = false
+
+-- whether the command is `Shrink`
+abbrev pub is_shrink : {K V : Type 0} → Command K V → Bool
+is_shrink Shrink = true
+is_shrink command = false
+
+-- one command of a run: the map before it, the command, its reply, and the map after it
+pub record Step (K V S : Type 0) : Type 0 where
+  pub before : State K V S
+  pub command : Command K V
+  pub reply : Reply K V
+  pub after : State K V S
+
+module _ {K V S : Type 0} (limit : ℕ) where
+  -- the step is one that its command may take
+  abbrev pub IsValidStep : (K → K → Bool) → Step K V S → Type 0
+  IsValidStep eq s = Executes limit eq s.before s.command s.reply s.after
+
+  -- whether the step put a pair into a full vector, and so made it a table
+  abbrev pub switches : Step K V S → Bool
+  switches s = says_put s.reply && is_full limit s.before
+
+  -- whether the step made a table a vector: it is a `Shrink`, and says so
+  abbrev pub goes_back : Step K V S → Bool
+  goes_back s = is_shrink s.command && not s.before.is_vec && says_vec s.reply
+
+  -- whether the form is the vector after a step that changed it; none where the step did not
+  abbrev pub form_changed : Step K V S → Option Bool
+  form_changed s = if switches s then Some false else if goes_back s then Some true else None
 
 -- whether `Shrink` is among the commands
 abbrev pub shrinks : {K V : Type 0} → List (Command K V) → Bool

@@ -1,9 +1,7 @@
 //! Whole runs: a list of commands, done one after another, with a reply to each.
 ghost use Rattle.std.specs.Prelude.{◌≡◌, ◌+◌, ◌*◌, ◌≤◌, true, false, [], length, vec_capacity, IsOk, IfOk, IfErr, OnErr};
 ghost use Rattle.halfbrown.specs.Costs.{GrewBy};
-ghost use Rattle.halfbrown.specs.Run.{Runs, cost_of, shrinks};
-ghost use Rattle.halfbrown.specs.Run.{command_cost};
-ghost use Rattle.halfbrown.specs.Step.{Executes, is_refused};
+ghost use Rattle.halfbrown.specs.Run.{Runs, cost_of, shrinks, command_cost, Executes, is_refused};
 
 use crate::{KeyHasher, Limit, LimitedHashMap, Refused};
 use half_store::{Refusal, Tally, uncounted};

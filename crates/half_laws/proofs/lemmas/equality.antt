@@ -10,8 +10,7 @@ use Rattle.std.specs.Option.{option_eq}
 use Rattle.std.proofs.lemmas.Bool.{and_parts}
 use Rattle.std.proofs.lemmas.List.Sums.{count_by-le-length}
 use Rattle.std.proofs.lemmas.Map.Entries.{length-keys_of}
-use Rattle.halfbrown.specs.Equality.{same_pairs, holds_pair, keys_while_same, searched_keys}
-use Rattle.halfbrown.specs.EqualityLaws.{same_pairs-Decides}
+use Rattle.halfbrown.specs.Equality.{same_pairs, holds_pair, keys_while_same, searched_keys, same_pairs-Decides}
 use Rattle.half_laws.specs.ComparisonLaws.{OrderLaw, PairsLaw, ComparisonLaw}
 use Rattle.halfbrown.proofs.lemmas.map.Equality.{same_pairs-by_pairs, all_searched, none_searched}
 use Rattle.halfbrown.specs.Pairs.{value_of}

@@ -2,9 +2,8 @@
 use Rattle.std.proofs.Common.{◌≡◌, ℕ, ◌-◌, ◌<◌, ◌≤◌, Bool, List, Some, length, get_or, slice_get, slice_index, sym, ap, ◌∙◌, arith}
 use Rattle.std.proofs.lemmas.Grind.{common_steps}
 use Rattle.std.proofs.lemmas.Option.{get_or_from_slice_get, slice_get-get_or, slice_get_within}
-use Rattle.half_store.specs.Buckets.{slots_by}
+use Rattle.half_store.specs.Slots.{slots_by, slot_at}
 use Rattle.half_store.specs.Search.{ReturnsAt}
-use Rattle.half_store.specs.Slots.{slot_at}
 use Rattle.half_store.proofs.lemmas.table.Buckets.{word_of_slot}
 
 -- the match returned it at this index

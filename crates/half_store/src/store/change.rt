@@ -6,7 +6,7 @@ ghost use Rattle.std.specs.Map.{keys_of};
 ghost use Rattle.std.specs.Map.Calls.{CalledAtPair, TakesPair, CallableOnEachPair, RetainsPairs};
 ghost use Rattle.std.specs.Option.{option_map};
 ghost use Rattle.std.specs.Result.{result_err};
-ghost use Rattle.half_store.specs.Calls.{CallableOnKeys};
+ghost use Rattle.half_store.specs.Search.{CallableOnKeys};
 ghost use Rattle.half_store.specs.PairLists.{swap_remove_at};
 ghost use Rattle.half_store.specs.StoreRemoval.{SwapRemoves, Takes};
 ghost use Rattle.half_store.specs.ValueReplacement.{kept_index, ReplacesValue};

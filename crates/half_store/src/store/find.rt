@@ -3,11 +3,10 @@ ghost use Rattle.std.specs.Prelude.{◌≡◌, ◌<◌, length, if◌then◌else
 ghost use Rattle.std.specs.Fn.{FnReturnsAt};
 ghost use Rattle.std.specs.Map.{keys_of};
 ghost use Rattle.std.specs.Result.{result_ok};
-ghost use Rattle.half_store.specs.Calls.{CallableOnKeys};
+ghost use Rattle.half_store.specs.Search.{CallableOnKeys, StoreSearch, IsStoreSearchCost};
 ghost use Rattle.half_store.specs.Capacity.{buckets_of};
-ghost use Rattle.half_store.specs.Probe.{looked_more};
+ghost use Rattle.half_store.specs.Work.{looked_more};
 ghost use Rattle.half_store.specs.Reach.{reach};
-ghost use Rattle.half_store.specs.Search.{StoreSearch, IsStoreSearchCost};
 ghost use Rattle.half_store.specs.Store.{IsVacancy};
 
 use super::Store;

@@ -1,6 +1,6 @@
 //! Removal that keeps the order.
 ghost use Rattle.std.specs.Prelude.{◌<◌, length};
-ghost use Rattle.half_store.specs.Shift.{ShiftRemoves};
+ghost use Rattle.half_store.specs.StoreRemoval.{ShiftRemoves};
 
 use super::Store;
 

@@ -5,16 +5,13 @@ ghost use Rattle.std.specs.Prelude.{◌≡◌, ℕ, ◌+◌, ◌-◌, ◌^◌, �
 ghost use Rattle.std.specs.Prelude.{length, slice_get, slice_set, slice_index, vec_capacity};
 ghost use Rattle.std.specs.Fn.{FnReturnsAt};
 ghost use Rattle.std.specs.List.{swap_remove};
-ghost use Rattle.half_store.specs.Buckets.{slots_by};
-ghost use Rattle.half_store.specs.Calls.{CallableOnHash};
+ghost use Rattle.half_store.specs.Slots.{slots_by};
+ghost use Rattle.half_store.specs.Search.{CallableOnHash, ReturnsAt};
 ghost use Rattle.half_store.specs.Capacity.{IsBucketCount};
-ghost use Rattle.half_store.specs.Probe.{looked_more, LooksWithin, reads_left, removal_reads};
+ghost use Rattle.half_store.specs.Work.{looked_more, LooksWithin, reads_left, removal_reads};
 ghost use Rattle.half_store.specs.Reach.{home, probe_distance, IsNearer};
 ghost use Rattle.half_store.specs.StoreRemoval.{Renames, ShiftsUpTo};
-ghost use Rattle.half_store.specs.Search.{ReturnsAt};
-ghost use Rattle.half_store.specs.Table.{table_state};
-ghost use Rattle.half_store.specs.TableLayout.{IsIndexed, IsIndexedButFor};
-ghost use Rattle.half_store.specs.TableSearch.{TableSearch};
+ghost use Rattle.half_store.specs.Table.{table_state, IsIndexed, IsIndexedButFor, TableSearch};
 
 use super::find::find_in;
 use super::probe::{home, next};

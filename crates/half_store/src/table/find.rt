@@ -1,12 +1,9 @@
 //! The search of a table, over buckets of either size.
 ghost use Rattle.std.specs.Prelude.{◌≡◌, ℕ, ◌+◌, ◌≤◌, Some, length, slice_get, slice_index, IfOk};
 ghost use Rattle.std.specs.Fn.{FnReturnsAt};
-ghost use Rattle.half_store.specs.Buckets.{slots_by};
-ghost use Rattle.half_store.specs.Calls.{CallableOnHash};
-ghost use Rattle.half_store.specs.Search.{ReturnsAt};
-ghost use Rattle.half_store.specs.Table.{table_state};
-ghost use Rattle.half_store.specs.TableLayout.{IsIndexed};
-ghost use Rattle.half_store.specs.TableSearch.{TableSearch};
+ghost use Rattle.half_store.specs.Slots.{slots_by};
+ghost use Rattle.half_store.specs.Search.{CallableOnHash, ReturnsAt};
+ghost use Rattle.half_store.specs.Table.{table_state, IsIndexed, TableSearch};
 
 use super::probe::search;
 use crate::Tally;

@@ -7,12 +7,11 @@ ghost use Rattle.std.specs.Prelude.{Some, length, count_by, slice_get, slice_ind
 ghost use Rattle.std.specs.Borrow.{Bor};
 ghost use Rattle.std.specs.Fn.{FnReturnsAt};
 ghost use Rattle.half_store.specs.Reach.{home, bucket_after};
-ghost use Rattle.half_store.specs.Buckets.{slots_by, WithinHashes};
-ghost use Rattle.half_store.specs.Calls.{CallableInBuckets, RefusedInBuckets};
+ghost use Rattle.half_store.specs.Slots.{slots_by, WithinHashes, reads_to, stored_count, IsVacancyFor, EndsAtPair};
+ghost use Rattle.half_store.specs.Slots.{SomeVacant, ProbeInvariant};
+ghost use Rattle.half_store.specs.Search.{CallableInBuckets, RefusedInBuckets, ReturnsAt};
 ghost use Rattle.half_store.specs.Capacity.{IsBucketCount};
-ghost use Rattle.half_store.specs.Probe.{looked_more};
-ghost use Rattle.half_store.specs.Search.{ReturnsAt};
-ghost use Rattle.half_store.specs.Slots.{reads_to, stored_count, IsVacancyFor, EndsAtPair, SomeVacant, ProbeInvariant};
+ghost use Rattle.half_store.specs.Work.{looked_more};
 
 use crate::Tally;
 use crate::buckets::Buckets;

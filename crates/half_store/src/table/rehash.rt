@@ -1,7 +1,7 @@
 //! Probing all pairs anew, by their stored hashes, when the number of buckets changes.
 ghost use Rattle.std.specs.Prelude.{◌≡◌, ◌≤◌, length, replicate};
 ghost use Rattle.half_store.specs.Capacity.{capacity_of, IsBucketCount};
-ghost use Rattle.half_store.specs.TableLayout.{IsIndexed};
+ghost use Rattle.half_store.specs.Table.{IsIndexed};
 
 use super::probe::first_empty;
 use crate::buckets::HashedBuckets;

@@ -1,10 +1,10 @@
 //! Removal that keeps the order: a pass over the buckets makes the pair the last one, and then it is removed as any other.
 ghost use Rattle.std.specs.Prelude.{◌≡◌, ◌+◌, ◌*◌, ◌<◌, ◌≤◌, length, remove, slice_index, vec_capacity};
-ghost use Rattle.half_store.specs.Buckets.{EachOnce};
-ghost use Rattle.half_store.specs.Probe.{looked_more, LooksWithin};
+ghost use Rattle.half_store.specs.Slots.{EachOnce};
+ghost use Rattle.half_store.specs.Work.{looked_more, LooksWithin};
 ghost use Rattle.half_store.specs.Reach.{reach};
-ghost use Rattle.half_store.specs.Shift.{MovesLast};
-ghost use Rattle.half_store.specs.TableLayout.{IsIndexed};
+ghost use Rattle.half_store.specs.StoreRemoval.{MovesLast};
+ghost use Rattle.half_store.specs.Table.{IsIndexed};
 
 use super::Table;
 use super::deletion::remove_in;

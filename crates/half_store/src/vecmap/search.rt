@@ -1,8 +1,7 @@
 //! A search from first to last.
 ghost use Rattle.std.specs.Prelude.{◌≡◌, ℕ, ◌-◌, ◌<◌, ◌≤◌, true, false, length};
 ghost use Rattle.std.specs.Fn.{FnReturnsAt};
-ghost use Rattle.half_store.specs.Calls.{CallableOnKeys};
-ghost use Rattle.half_store.specs.Search.{ReturnsAt, IsFirstMatch, ComparesInOrder};
+ghost use Rattle.half_store.specs.Search.{CallableOnKeys, ReturnsAt, IsFirstMatch, ComparesInOrder};
 ghost use Rattle.half_store.specs.Work.{compared_more};
 ghost use Rattle.half_store.specs.declared.vecmap.search.Scan.TheVariants.{ByBlock};
 

@@ -8,7 +8,7 @@ use super::Columns;
 use std::alloc::Global;
 
 impl<K, V> Columns<K, V> {
-    ghost use Rattle.half_store.specs.ColumnsLending.{ColumnsLendValues};
+    ghost use Rattle.half_store.specs.StoreLending.{ColumnsLendValues};
 
     // Where its memory is from.
     pub(crate) fn allocator(&self) -> Global {

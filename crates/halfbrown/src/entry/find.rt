@@ -4,8 +4,7 @@
 ghost use Rattle.std.specs.Prelude.{◌<◌, ◌↔◌, IfSome, IsSome, is_ok, length};
 ghost use Rattle.std.specs.Borrow.{sem};
 ghost use Rattle.halfbrown.specs.Costs.{IsInsertCost};
-ghost use Rattle.halfbrown.specs.Entry.{IsEntryAt, MakesEntry};
-ghost use Rattle.halfbrown.specs.EntryLending.{RestsIfNoEntry, RestsIfRefused};
+ghost use Rattle.halfbrown.specs.Entry.{IsEntryAt, MakesEntry, RestsIfNoEntry, RestsIfRefused};
 
 use super::{Entry, OccupiedEntry, VacantEntry};
 use crate::map::prepare::Place;

@@ -6,7 +6,7 @@ ghost use Rattle.std.specs.Borrow.{sem, MutBor};
 ghost use Rattle.std.specs.Map.Calls.{ModifiesValue};
 ghost use Rattle.std.specs.Option.{UnwrapsOrElse};
 ghost use Rattle.halfbrown.specs.Entry.{is_occupied, map_of, entry_key, entry_pair, entry_value, ModifiesEntry};
-ghost use Rattle.halfbrown.specs.EntryLending.{EntryLends};
+ghost use Rattle.halfbrown.specs.Entry.{EntryLends};
 
 use super::Entry;
 use crate::{KeyHasher, Limit};

@@ -8,9 +8,8 @@
 ghost use Rattle.std.specs.Prelude.{◌≡◌, ◌<◌, true, Some, IfSome, length, slice_get};
 ghost use Rattle.std.specs.Borrow.{sem};
 ghost use Rattle.half_store.specs.PairLists.{swap_remove_at};
-ghost use Rattle.halfbrown.specs.Entry.{Occupied, entry_key, entry_pair, entry_value, map_of, pairs_without};
-ghost use Rattle.halfbrown.specs.Entry.{IsWritten, HasNewKey};
-ghost use Rattle.halfbrown.specs.EntryLending.{EntryLends, OccupiedLends, OccupiedRests, with_entry_value};
+ghost use Rattle.halfbrown.specs.Entry.{Occupied, entry_key, entry_pair, entry_value, map_of, pairs_without, IsWritten};
+ghost use Rattle.halfbrown.specs.Entry.{HasNewKey, EntryLends, OccupiedLends, OccupiedRests, with_entry_value};
 ghost use Rattle.halfbrown.specs.State.{IsState, WithPairs};
 ghost use Rattle.halfbrown.specs.Updates.{HasKeyReplaced};
 

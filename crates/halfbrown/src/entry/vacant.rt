@@ -7,8 +7,7 @@
 //! A clause `writes_back` says what the map is once the borrow that the call returns has ended.
 ghost use Rattle.std.specs.Prelude.{◌≡◌, Some, length};
 ghost use Rattle.std.specs.Borrow.{sem};
-ghost use Rattle.halfbrown.specs.Entry.{Vacant, entry_key, map_of};
-ghost use Rattle.halfbrown.specs.EntryLending.{EntryLends};
+ghost use Rattle.halfbrown.specs.Entry.{Vacant, entry_key, map_of, EntryLends};
 
 use super::VacantEntry;
 use crate::{KeyHasher, Limit};

@@ -2,8 +2,8 @@
 ghost use Rattle.std.specs.Prelude.{◌≡◌};
 ghost use Rattle.std.specs.List.{list_all};
 ghost use Rattle.halfbrown.specs.Costs.{AreSearchCosts};
-ghost use Rattle.halfbrown.specs.Equality.{same_pairs, holds_pair, keys_while_same, searched_keys};
-ghost use Rattle.halfbrown.specs.EqualityLaws.{same_maps_per, same_maps_equiv};
+ghost use Rattle.halfbrown.specs.Equality.{same_pairs, holds_pair, keys_while_same, searched_keys, same_maps_per};
+ghost use Rattle.halfbrown.specs.Equality.{same_maps_equiv};
 
 use super::LimitedHashMap;
 use crate::{KeyHasher, Limit};

@@ -1,12 +1,11 @@
 //! What an insertion does before it writes: the switch, the search, and capacity for one pair more.
 ghost use Rattle.std.specs.Prelude.{◌≡◌, ◌<◌, false, length, OnOk, OnErr, IfOk, IfErr, is_ok, if◌then◌else◌};
-ghost use Rattle.half_store.specs.Probe.{looked_more};
+ghost use Rattle.half_store.specs.Work.{looked_more, asked_more};
 ghost use Rattle.half_store.specs.Store.{IsVacancy};
-ghost use Rattle.half_store.specs.Work.{asked_more};
 ghost use Rattle.halfbrown.specs.Costs.{switch_asked, new_key_cost, GrewBy, IsInsertCost};
 ghost use Rattle.halfbrown.specs.Growth.{is_full, addition_needs, insert_needs, new_key_needs, IsRefusal};
 ghost use Rattle.halfbrown.specs.Pairs.{holds};
-ghost use Rattle.halfbrown.specs.Preparation.{IsReadyFor, HasVacancyFor, Prepares, growth_looks};
+ghost use Rattle.halfbrown.specs.Insertion.{IsReadyFor, HasVacancyFor, Prepares, growth_looks};
 ghost use Rattle.halfbrown.specs.State.{IsState, contents_of};
 
 use super::LimitedHashMap;

@@ -1,7 +1,7 @@
 //! Removal that keeps the order of the pairs.
 ghost use Rattle.std.specs.Map.{lookup, lookup_entry};
 ghost use Rattle.halfbrown.specs.Costs.{IsLookupCost};
-ghost use Rattle.halfbrown.specs.RemovalInOrder.{RemovesInOrder, RemovesInOrderAt};
+ghost use Rattle.halfbrown.specs.Removal.{RemovesInOrder, RemovesInOrderAt};
 
 use super::LimitedHashMap;
 use crate::{Equivalent, KeyHasher, Limit};

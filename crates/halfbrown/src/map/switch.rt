@@ -5,7 +5,7 @@ ghost use Rattle.half_store.specs.Capacity.{capacity_of};
 ghost use Rattle.half_store.specs.Work.{asked_more};
 ghost use Rattle.halfbrown.specs.Costs.{search_asked, switch_asked};
 ghost use Rattle.halfbrown.specs.Growth.{is_full, switch_needs, IsRefusal};
-ghost use Rattle.halfbrown.specs.Preparation.{Prepares};
+ghost use Rattle.halfbrown.specs.Insertion.{Prepares};
 ghost use Rattle.halfbrown.specs.State.{IsState};
 
 use super::LimitedHashMap;

@@ -7,12 +7,12 @@ ghost use Rattle.std.specs.Fn.{FnReturnsAt};
 ghost use Rattle.std.specs.Map.{keys_of};
 ghost use Rattle.std.specs.Map.Iter.{deref_pair};
 ghost use Rattle.std.specs.Option.{option_map};
-ghost use Rattle.half_store.specs.Calls.{CallableOnKeys};
+ghost use Rattle.half_store.specs.Search.{CallableOnKeys};
 ghost use Rattle.half_store.specs.Work.{asked_more};
 ghost use Rattle.halfbrown.specs.Costs.{IsLookupCost, IsHashedLookupCost, switch_asked};
-ghost use Rattle.halfbrown.specs.Match.{ReadsMatch, IsMatchCost};
-ghost use Rattle.halfbrown.specs.RawEntry.{found_pair};
-ghost use Rattle.halfbrown.specs.RawSearch.{map_in, ready_map, MakesReady, RestsIfUnready, ReadsPair, EntersByKey, EntersByMatch};
+ghost use Rattle.halfbrown.specs.Lookup.{ReadsMatch, IsMatchCost};
+ghost use Rattle.halfbrown.specs.RawEntry.{found_pair, map_in, ready_map, MakesReady, RestsIfUnready, ReadsPair};
+ghost use Rattle.halfbrown.specs.RawEntry.{EntersByKey, EntersByMatch};
 
 use super::{Prepared, RawEntryBuilder, RawEntryBuilderMut, RawEntryMut, RawVacantEntryMut};
 use crate::{Equivalent, KeyHasher, Limit, LimitedHashMap, OccupiedEntry};

@@ -1,4 +1,4 @@
-use Rattle.halfbrown.specs.EqualityLaws.{reflexive, symmetric, transitive, same_pairs-Decides}
+use Rattle.halfbrown.specs.Equality.{reflexive, symmetric, transitive, same_pairs-Decides}
 use Rattle.half_laws.proofs.lemmas.equality.{order_law, pairs_law}
 use Rattle.half_laws.proofs.equality.equality_of_maps.Goals as goal
 

@@ -12,7 +12,7 @@ use Rattle.halfbrown.specs.Growth.{addition_needs, new_key_needs, insert_needs, 
 use Rattle.halfbrown.specs.Insertion.{Puts}
 use Rattle.halfbrown.specs.Pairs.{holds}
 use Rattle.halfbrown.specs.State.{State}
-use Rattle.halfbrown.specs.Step.{Step, Executes, IsValidStep, Leaves, is_shrink}
+use Rattle.halfbrown.specs.Run.{Step, Executes, IsValidStep, Leaves, is_shrink}
 use Rattle.halfbrown.proofs.CallerLemmas.{len_taken}
 use Rattle.half_laws.specs.RunLaws.{is_reserve}
 

@@ -1,18 +1,16 @@
 -- The laws of form and of hashes, by induction over the steps.
-use Rattle.std.proofs.Common.{◌≡◌, ◌∙◌, ℕ, ◌+◌, ◌*◌, ◌≤◌, Bool, true, false, not, ◌&&◌, ◌||◌, ◌==◌, List, [], ◌∷◌, length, fold, count_by}
-use Rattle.std.proofs.Common.{cond, Option, None, Some, unwrap_or, ap, refl, arith, if◌then◌else◌}
+use Rattle.std.proofs.Common.{◌≡◌, ◌∙◌, ℕ, ◌+◌, ◌*◌, ◌≤◌, Bool, true, false, not, ◌&&◌, ◌||◌, ◌==◌, List, [], ◌∷◌, length, fold, count_by, cond}
+use Rattle.std.proofs.Common.{Option, None, Some, unwrap_or, ap, refl, arith, if◌then◌else◌}
 use Rattle.std.proofs.lemmas.Grind.{common_steps}
 use Rattle.std.specs.List.{list_any}
 use Rattle.std.specs.Option.{option_or}
 use Rattle.std.proofs.lemmas.List.Sums.{sum_by-cons}
-use Rattle.halfbrown.specs.Run.{Lead, shrinks, commands_of, cost_of}
+use Rattle.halfbrown.specs.Run.{Lead, shrinks, commands_of, cost_of, Step, says_put, is_shrink, switches, goes_back, form_changed}
 use Rattle.halfbrown.specs.State.{State}
-use Rattle.halfbrown.specs.Step.{Step, says_put, is_shrink, switches, goes_back, form_changed}
 use Rattle.halfbrown.proofs.lemmas.map.Growth.{form_stays}
 use Rattle.halfbrown.proofs.lemmas.run.Runs.{neither, steps_pay_two, table_stays}
 use Rattle.halfbrown.proofs.lemmas.run.Steps.{form_of_step, form_unshrunk, asked_of_step, most_asked, switch_left_most}
-use Rattle.half_laws.specs.RunLaws.{FormLaw, SwitchLaw, TableLaw, OneSwitchLaw, UnswitchedLaw, NothingHashedLaw, HashesLaw}
-use Rattle.half_laws.specs.RunLaws.{AmortizedHashesLaw}
+use Rattle.half_laws.specs.RunLaws.{FormLaw, SwitchLaw, TableLaw, OneSwitchLaw, UnswitchedLaw, NothingHashedLaw, HashesLaw, AmortizedHashesLaw}
 
 -- the last change counts
 last_of_both : (last earlier : Option Bool) (first : Bool)

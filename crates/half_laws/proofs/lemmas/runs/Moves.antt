@@ -1,6 +1,6 @@
 -- How many pairs a run moves: each step pays two, and what a map has paid and not used is its credit.
-use Rattle.std.proofs.Common.{◌≡◌, ◌∙◌, ℕ, suc, ◌+◌, ◌-◌, ◌*◌, ◌≤◌, nat_lt, ◌==◌, inl, inr, Bool, true, false, true≢false, not, ◌&&◌, cond}
-use Rattle.std.proofs.Common.{List, [], ◌∷◌, length, sum_by, Option, Some, ap, sym, refl, subst, arith, if◌then◌else◌}
+use Rattle.std.proofs.Common.{◌≡◌, ◌∙◌, ℕ, suc, ◌+◌, ◌-◌, ◌*◌, ◌≤◌, nat_lt, ◌==◌, inl, inr, Bool, true, false, true≢false, not, ◌&&◌, cond, List}
+use Rattle.std.proofs.Common.{[], ◌∷◌, length, sum_by, Option, Some, ap, sym, refl, subst, arith, if◌then◌else◌}
 use Rattle.std.proofs.lemmas.Grind.{common_steps}
 use Rattle.std.proofs.lemmas.Bool.{cases_lt, eq-eqb, le-ltb, MatchBool-at_false}
 use Rattle.std.proofs.lemmas.List.Sums.{sum_by-cons}
@@ -8,9 +8,8 @@ use Rattle.half_store.specs.Capacity.{IsBucketCount, capacity_of, more_buckets, 
 use Rattle.half_store.proofs.lemmas.capacity.{more_buckets-some, buckets_for-least, buckets_for-grown, quarter}
 use Rattle.halfbrown.specs.Growth.{is_full, HasCapacityAfter}
 use Rattle.halfbrown.specs.Pairs.{put}
-use Rattle.halfbrown.specs.Run.{Lead, shrinks, commands_of}
+use Rattle.halfbrown.specs.Run.{Lead, shrinks, commands_of, Step, IsValidStep, is_shrink}
 use Rattle.halfbrown.specs.State.{State, IsState, IsTableCapacity}
-use Rattle.halfbrown.specs.Step.{Step, IsValidStep, is_shrink}
 use Rattle.halfbrown.proofs.CallerLemmas.{len_put}
 use Rattle.halfbrown.proofs.lemmas.map.Growth.{full_len, form_stays, and_false}
 use Rattle.halfbrown.proofs.lemmas.run.Runs.{neither}

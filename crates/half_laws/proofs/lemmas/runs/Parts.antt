@@ -3,9 +3,8 @@ use Rattle.std.proofs.Common.{◌≡◌, ◌∙◌, ℕ, Bool, List, [], ◌∷�
 use Rattle.std.proofs.lemmas.List.{map-append}
 use Rattle.halfbrown.specs.declared.run.Command.{Command}
 use Rattle.halfbrown.specs.Costs.{add_costs}
-use Rattle.halfbrown.specs.Run.{Lead, commands_of, replies_of, cost_of}
+use Rattle.halfbrown.specs.Run.{Lead, commands_of, replies_of, cost_of, Step}
 use Rattle.halfbrown.specs.State.{State}
-use Rattle.halfbrown.specs.Step.{Step}
 use Rattle.halfbrown.proofs.lemmas.run.Runs.{lead_on, cost_of-append}
 use Rattle.half_laws.specs.RunLaws.{SplitLaw, JoinLaw}
 

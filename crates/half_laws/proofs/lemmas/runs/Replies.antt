@@ -1,6 +1,5 @@
 -- What decides the replies: form and pairs before a command, the command, and the refusal decide its reply, and form and pairs after it.
-use Rattle.std.proofs.Common.{◌≡◌, ◌∙◌, ℕ, Bool, not, ◌&&◌, List, [], ◌∷◌, Option, None, Some, unwrap_or, arith, ap, sym, refl}
-use Rattle.std.proofs.Common.{if◌then◌else◌}
+use Rattle.std.proofs.Common.{◌≡◌, ◌∙◌, ℕ, Bool, not, ◌&&◌, List, [], ◌∷◌, Option, None, Some, unwrap_or, arith, ap, sym, refl, if◌then◌else◌}
 use Rattle.std.proofs.lemmas.Grind.{common_steps}
 use Rattle.half_store.specs.declared.refusal.Refusal.{Refusal}
 use Rattle.halfbrown.specs.declared.run.Command.{Command}
@@ -9,7 +8,7 @@ use Rattle.halfbrown.specs.declared.run.Reply.{Reply}
 use Rattle.halfbrown.specs.declared.run.Reply.TheVariants.{Refused}
 use Rattle.halfbrown.specs.Pairs.{holds, put, take_out}
 use Rattle.halfbrown.specs.State.{State}
-use Rattle.halfbrown.specs.Step.{Step, Executes, IsValidStep, Leaves, value_or, granted_reply, refusal_in, says_vec, is_shrink}
+use Rattle.halfbrown.specs.Run.{Step, Executes, IsValidStep, Leaves, value_or, granted_reply, refusal_in, says_vec, is_shrink}
 use Rattle.halfbrown.proofs.lemmas.run.Steps.{form_of_step}
 use Rattle.half_laws.specs.RunLaws.{IsAlike, RepliesLaw, outcomes_of}
 

@@ -8,8 +8,7 @@ use Rattle.half_store.specs.declared.store.find.Vacancy.{Vacancy}
 use Rattle.half_store.specs.Columns.{ColumnsState}
 use Rattle.half_store.specs.Search.{ReturnsAt, IsFirstMatch, StoreSearch}
 use Rattle.half_store.specs.Store.{StoreState, IsTableOver, vector_of, table_of}
-use Rattle.half_store.specs.Table.{TableState}
-use Rattle.half_store.specs.TableSearch.{TableSearch}
+use Rattle.half_store.specs.Table.{TableState, TableSearch}
 use Rattle.half_store.specs.Work.{Work}
 
 module _ {K V : Type 0} (columns : ColumnsState K V) {keys : List K} (same : keys ≡ keys_of columns.pairs) where

@@ -9,8 +9,7 @@ use Rattle.std.proofs.lemmas.List.Elements.{All-from_get_or, All-set, All-replic
 use Rattle.std.proofs.lemmas.List.Sums.{sum_by-cons, sum_by-set, get_or-le-sum_by}
 use Rattle.std.proofs.lemmas.Option.{slice_get-get_or}
 use borrow.Author.Tests.{eqb-true}
-use Rattle.half_store.specs.Buckets.{slot_by, slots_by, WithinHashes, EachOnce}
-use Rattle.half_store.specs.Slots.{slot_at}
+use Rattle.half_store.specs.Slots.{slot_by, slots_by, WithinHashes, EachOnce, slot_at}
 use Rattle.half_store.proofs.lemmas.table.Counts.{tick, tick_yes, tick_no, count_to, count_to-none, count_by-count_to}
 use Rattle.half_store.proofs.lemmas.table.Slots.{some≢none}
 use Rattle.std.proofs.Math.ListN as lists

@@ -5,10 +5,9 @@ use Rattle.std.proofs.lemmas.Grind.{common_steps}
 use Rattle.std.proofs.lemmas.Bool.{cases_eq}
 use Rattle.std.proofs.lemmas.List.{length-set, set-set}
 use Rattle.std.proofs.lemmas.Option.{same_Some}
-use Rattle.half_store.specs.Buckets.{slot_by, slots_by, EachOnce}
+use Rattle.half_store.specs.Slots.{slot_by, slots_by, EachOnce, slot_at, SomeVacant, ProbeInvariant}
 use Rattle.half_store.specs.Reach.{home, probe_distance, bucket_after}
-use Rattle.half_store.specs.Slots.{slot_at, SomeVacant, ProbeInvariant}
-use Rattle.half_store.specs.TableLayout.{HasGap, IsIndexedButFor, IsVacantBeside}
+use Rattle.half_store.specs.Table.{HasGap, IsIndexedButFor, IsVacantBeside}
 use Rattle.half_store.proofs.lemmas.table.Buckets.{length-slots_by, slot_by-at, slot_of_word, slot_of_zero, word_set, word_other, within-at}
 use Rattle.half_store.proofs.lemmas.table.Buckets.{EachOnce-move}
 use Rattle.half_store.proofs.lemmas.table.Circle.{distance_is, after_is, next_farther, probe_distance-lt, distance_same}

@@ -2,18 +2,14 @@
 use Rattle.std.proofs.Common.{◌≡◌, ℕ, ◌+◌, ◌-◌, ◌<◌, ◌≤◌, Bool, true, false, refl, sym, ap, ◌∙◌, subst, arith, List, length, slice_index}
 use Rattle.std.proofs.Common.{Option, Some, count_by, ◌==◌}
 use Rattle.std.proofs.lemmas.Grind.{common_steps}
-use Rattle.std.specs.List.{slice_get}
+use Rattle.std.specs.List.{slice_get, swap_remove}
 use Rattle.std.specs.Prelude.{Result, Ok, Err, IfOk, IfErr, OnOk, OnErr}
 use Rattle.std.proofs.lemmas.List.Sums.{count_by-le-length}
 use Rattle.std.proofs.lemmas.Option.{slice_get_within, get_or_from_slice_get}
-use Rattle.half_store.specs.Buckets.{slots_by}
+use Rattle.half_store.specs.Slots.{slots_by, slot_at, stored, IsVacancyFor, EndsAtPair, distance_from_home}
 use Rattle.half_store.specs.Reach.{probe_distance, reach}
-use Rattle.half_store.specs.Probe.{after_missing, looked_more}
-use Rattle.half_store.specs.Slots.{slot_at, stored, IsVacancyFor, EndsAtPair, distance_from_home}
-use Rattle.half_store.specs.Table.{TableState, table_state}
-use Rattle.half_store.specs.TableLayout.{IsIndexed}
-use Rattle.half_store.specs.TableSearch.{TableSearch}
-use Rattle.half_store.specs.Work.{Work}
+use Rattle.half_store.specs.Work.{after_missing, looked_more, LooksWithin, removal_reads, Work}
+use Rattle.half_store.specs.Table.{TableState, table_state, IsIndexed, TableSearch, RemovesFromTable}
 use Rattle.half_store.proofs.lemmas.table.Buckets.{length-slots_by, slot_of_word, some_bucket}
 use Rattle.half_store.proofs.lemmas.table.Circle.{distance_self}
 use Rattle.half_store.proofs.lemmas.capacity.{buckets_of-capacity_of, capacity_for-capacity_of}
@@ -116,6 +112,24 @@ module _ {hs ws hashes words : List ℕ} {t : TableState} (view : table_state hs
       let lent = IsIndexed-as h (sym w) x in
       subst (λ (t : TableState). new ≡ looked_more old (reach t.hashes t.buckets hash)) (view_lent view h w)
       (cost ∙ ap (looked_more old) (sym (reach_at_vacancy (slots_by hashes words) lent.ordered hashes (index-counted lent) hash p vacant)))
+
+-- A search that removes what it finds, in the words of callers.
+module _ (hashes words hashes' words' : List ℕ) {t : TableState} (view : table_state hashes (slots_by hashes words) ≡ t) where
+  pub taken_removes : (hash : ℕ) (result : Result (ℕ × ℕ) ℕ) → length words' ≡ length words
+      → IfOk result (λ pair. slice_get t.hashes pair.0 ≡ Some hash) → IfOk result (λ pair. hashes' ≡ swap_remove hashes pair.0 0)
+      → IfOk result (λ pair. RemovesFromTable t pair.0 (table_state hashes' (slots_by hashes' words')) hash)
+  taken_removes hash result len found left = grind (arith, common_steps)
+
+  pub taken_cost : (old new : Work) (result : Result (ℕ × ℕ) ℕ)
+      → IfOk result (λ pair. LooksWithin (removal_reads hashes (length words) pair.0) old new)
+      → IfOk result (λ pair. LooksWithin (removal_reads t.hashes t.buckets pair.0) old new)
+  taken_cost old new result cost = grind (arith, common_steps)
+
+  pub taken_none : (old new : Work) (result : Result (ℕ × ℕ) ℕ)
+      → OnErr result ((hashes' ≡ hashes) × (words' ≡ words) × (new ≡ old))
+      → OnErr result ((table_state hashes' (slots_by hashes' words') ≡ t) × (new ≡ old))
+  taken_none old new (Ok pair) same = tt
+  taken_none old new (Err bucket) (kept, also, unread) = ((λ i. table_state (kept i) (slots_by (kept i) (also i))) ∙ view, unread)
 
 -- what the proofs of `Table` go by
 pub ruleset table_steps = (common_steps, IsIndexed-as, buckets_of-capacity_of, buckets_seen, capacity_for-capacity_of, count_seen, index-vacant, view_lent)

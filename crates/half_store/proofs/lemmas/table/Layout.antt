@@ -8,12 +8,10 @@ use Rattle.std.proofs.lemmas.List.{length-set, length_push, length-replicate, ge
 use Rattle.std.proofs.lemmas.List.{get_or-replicate, get_or_past}
 use Rattle.std.proofs.lemmas.List.Sums.{count_by-le-length}
 use Rattle.std.proofs.lemmas.Option.{same_Some, slice_get-get_or, slice_get_within, get_or_from_slice_get}
-use Rattle.half_store.specs.Buckets.{slot_by, slots_by, EachOnce}
+use Rattle.half_store.specs.Slots.{slot_by, slots_by, EachOnce, slot_at, stored, IsVacancyFor, SomeVacant, ProbeInvariant}
 use Rattle.half_store.specs.Capacity.{capacity_of, buckets_of, IsBucketCount}
 use Rattle.half_store.specs.Reach.{home, probe_distance, reach, IsNearer, HomesApart}
-use Rattle.half_store.specs.Slots.{slot_at, stored, IsVacancyFor, SomeVacant, ProbeInvariant}
-use Rattle.half_store.specs.Table.{TableState, table_state}
-use Rattle.half_store.specs.TableLayout.{HasGap, IsIndexed, IsIndexedButFor, IsTable, IsVacantBeside}
+use Rattle.half_store.specs.Table.{TableState, table_state, HasGap, IsIndexed, IsIndexedButFor, IsTable, IsVacantBeside}
 use Rattle.half_store.proofs.lemmas.table.Buckets.{length-slots_by, slot_by-at, slots_by-set, slots_by-same, slot_of_word, slot_of_zero}
 use Rattle.half_store.proofs.lemmas.table.Buckets.{word_of_slot, zero_of_slot, word_set, word_other, word-lt, within-at, same_bucket}
 use Rattle.half_store.proofs.lemmas.table.Buckets.{EachOnce-add, EachOnce-remove, EachOnce-empty, length-remove, remove-at, remove-last}

@@ -9,13 +9,12 @@ use Rattle.std.proofs.lemmas.List.Elements.{All-from_get_or}
 use Rattle.std.proofs.lemmas.List.Sorted.{IsPermutation-append_comm, IsPermutation-remove, IsPermutation-trans}
 use Rattle.std.proofs.lemmas.Option.{slice_get-get_or}
 use Rattle.std.specs.List.{remove}
-use Rattle.half_store.specs.Buckets.{slot_by, slots_by, EachOnce}
+use Rattle.half_store.specs.Slots.{slot_by, slots_by, EachOnce, ProbeInvariant}
 use Rattle.half_store.specs.Capacity.{capacity_of, IsBucketCount}
-use Rattle.half_store.specs.Probe.{removal_reads}
+use Rattle.half_store.specs.Work.{removal_reads}
 use Rattle.half_store.specs.Reach.{reach}
-use Rattle.half_store.specs.Shift.{moved_word, MovesLast}
-use Rattle.half_store.specs.Slots.{ProbeInvariant}
-use Rattle.half_store.specs.TableLayout.{IsIndexed}
+use Rattle.half_store.specs.StoreRemoval.{moved_word, MovesLast}
+use Rattle.half_store.specs.Table.{IsIndexed}
 use Rattle.half_store.proofs.lemmas.table.Buckets.{slots_by-same, within-at}
 use Rattle.half_store.proofs.lemmas.table.Counts.{count_to, count_to-same, count_by-count_to}
 use Rattle.half_store.proofs.lemmas.table.History.{reach-permutation}

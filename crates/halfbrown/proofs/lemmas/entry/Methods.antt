@@ -11,12 +11,10 @@ use Rattle.std.specs.Option.{option_map}
 use Rattle.half_store.specs.PairLists.{set_value, swap_remove_at}
 use Rattle.halfbrown.specs.declared.entry.OccupiedEntry.{OccupiedEntry}
 use Rattle.halfbrown.specs.declared.entry.VacantEntry.{VacantEntry}
-use Rattle.halfbrown.specs.Entry.{Occupied, Vacant, with_value, pairs_with_key, IsEntryOf, PutsThroughEntry, RemovesKey, IsWritten}
-use Rattle.halfbrown.specs.Entry.{HasNewKey}
-use Rattle.halfbrown.specs.EntryLending.{with_entry_value}
+use Rattle.halfbrown.specs.Entry.{Occupied, Vacant, with_value, pairs_with_key, IsEntryOf, PutsThroughEntry, RemovesKey, IsWritten, HasNewKey, with_entry_value}
 use Rattle.halfbrown.specs.Growth.{insert_needs}
 use Rattle.halfbrown.specs.Lookup.{IsIndexOf, IsAbsent}
-use Rattle.halfbrown.specs.Preparation.{Prepares, pushed}
+use Rattle.halfbrown.specs.Insertion.{Prepares, pushed}
 use Rattle.halfbrown.specs.State.{State, with_pairs, WithPairs}
 use Rattle.halfbrown.proofs.CallerLemmas.{has_put, has_removed}
 use Rattle.half_store.proofs.lemmas.store.States.{length-set_key, length-set_value, kept_value, lost_pair}

@@ -2,14 +2,13 @@
 use Rattle.std.proofs.Common.{◌≡◌, ℕ, Bool, sym, subst, arith, zero-add, add-zero, add_assoc, true, false, ◌<◌}
 use Rattle.std.proofs.Common.{length, if◌then◌else◌}
 use Rattle.std.proofs.lemmas.Grind.{common_steps}
-use Rattle.half_store.specs.Work.{Work, asked_more}
+use Rattle.half_store.specs.Work.{Work, asked_more, looked_more}
 use Rattle.halfbrown.specs.Costs.{Cost, GrewBy, no_cost, add_costs, IsLookupCost, IsKeySearchCost, switch_asked, capacity_after_switch}
 use Rattle.halfbrown.specs.Costs.{IsInsertCost, raw_insert_cost}
 use Rattle.halfbrown.specs.State.{State}
-use Rattle.half_store.specs.Probe.{looked_more}
 use Rattle.halfbrown.specs.Growth.{is_full, is_vec_after, new_key_needs}
 use Rattle.halfbrown.specs.Pairs.{holds}
-use Rattle.halfbrown.specs.Preparation.{growth_looks, Prepares}
+use Rattle.halfbrown.specs.Insertion.{growth_looks, Prepares}
 use Rattle.halfbrown.proofs.lemmas.pairs.Indices.{found_where_held}
 use Rattle.halfbrown.specs.RawEntry.{after_adding}
 

@@ -15,8 +15,7 @@ use Rattle.std.proofs.lemmas.Map.Keys.{IsDistinct-cons}
 use Rattle.std.proofs.lemmas.Map.Made.{is_some-lookup}
 use Rattle.std.proofs.lemmas.Map.Steps.{length-le_from_keys}
 use Rattle.std.proofs.lemmas.Option.{slice_get-get_or, slice_get_within, get_or_from_slice_get}
-use Rattle.halfbrown.specs.Equality.{same_value, same_pairs, holds_pair, keys_while_same, searched_keys}
-use Rattle.halfbrown.specs.EqualityLaws.{equal_has_same, same_pairs-Decides}
+use Rattle.halfbrown.specs.Equality.{same_value, same_pairs, holds_pair, keys_while_same, searched_keys, equal_has_same, same_pairs-Decides}
 use Rattle.halfbrown.specs.Pairs.{value_of}
 use Rattle.std.proofs.Math.ListN.{drop_of_length-le}
 use Rattle.std.proofs.Math.Seq.{drop-cons}

@@ -6,8 +6,7 @@ use Rattle.std.proofs.lemmas.Map.Entries.{length-keys_of}
 use Rattle.std.specs.Map.{keys_of}
 use Rattle.half_store.specs.Reach.{reach}
 use Rattle.half_store.specs.Capacity.{buckets_of}
-use Rattle.half_store.specs.Probe.{IsTableHitCost, after_missing}
-use Rattle.half_store.specs.Work.{Work}
+use Rattle.half_store.specs.Work.{IsTableHitCost, after_missing, Work}
 use Rattle.halfbrown.specs.Costs.{IsSearchCost}
 use Rattle.halfbrown.specs.State.{State}
 use Rattle.std.proofs.Props.{props}
@@ -22,8 +21,7 @@ use Rattle.std.specs.Result.{result_ok}
 use Rattle.half_store.specs.PairLists.{index_of}
 use Rattle.half_store.specs.Search.{StoreSearch, ComparesInOrder}
 use Rattle.halfbrown.specs.Layout.{state_in}
-use Rattle.halfbrown.specs.Lookup.{IsIndexOf, IsAbsent, KeySearch}
-use Rattle.halfbrown.specs.Match.{IsMatch, HasNoMatch, MatchSearch}
+use Rattle.halfbrown.specs.Lookup.{IsIndexOf, IsAbsent, KeySearch, IsMatch, HasNoMatch, MatchSearch}
 use Rattle.halfbrown.proofs.lemmas.pairs.Indices.{first_matched, index_of_first, none_at, absent_of_none}
 
 module _ {K V S : Type 0} (hash : S → K → ℕ) (sought : ℕ) (m : State K V S) (before after : Work) where

@@ -6,7 +6,7 @@ use Rattle.std.specs.Prelude.{Some, None, if◌then◌else◌}
 use Rattle.half_store.specs.Capacity.{capacity_for}
 use Rattle.halfbrown.specs.Costs.{capacity_after_switch}
 use Rattle.halfbrown.specs.Growth.{is_full, switch_needs, Grants}
-use Rattle.halfbrown.specs.Preparation.{Prepares}
+use Rattle.halfbrown.specs.Insertion.{Prepares}
 use Rattle.halfbrown.specs.State.{State}
 
 pub and_false : (b : Bool) → (b && false) ≡ false

@@ -9,13 +9,13 @@ use Rattle.std.proofs.lemmas.Option.{slice_get_past, slice_get_within}
 use Rattle.std.specs.Option.{option_map}
 use Rattle.std.specs.Prelude.{Result, Ok, Err}
 use Rattle.half_store.specs.PairLists.{swap_remove_at}
-use Rattle.half_store.specs.StoreRemoval.{TakesFound}
+use Rattle.half_store.specs.StoreRemoval.{TakesFound, ShiftRemoves}
 use Rattle.half_store.specs.Store.{StoreState}
 use Rattle.half_store.specs.declared.store.find.Vacancy.{Vacancy}
 use Rattle.halfbrown.specs.Layout.{IsKept, state_in}
 use Rattle.halfbrown.specs.Lookup.{KeySearch, FindsIndex}
 use Rattle.halfbrown.specs.Pairs.{take_out_by}
-use Rattle.halfbrown.specs.Removal.{Removes, RemovesAt}
+use Rattle.halfbrown.specs.Removal.{Removes, RemovesAt, RemovesInOrder, RemovesInOrderAt}
 use Rattle.halfbrown.specs.State.{State, IsState, WithPairs}
 use Rattle.halfbrown.specs.Updates.{HasRemovedBy}
 use Rattle.halfbrown.proofs.CallerLemmas.{has_left, has_all, has_removed_by}
@@ -25,8 +25,6 @@ use Rattle.std.proofs.lemmas.Map.Entries.{length-keys_of}
 use Rattle.std.proofs.lemmas.List.Edits.{length-remove}
 use Rattle.std.proofs.lemmas.List.Sorted.{IsPermutation-remove}
 use Rattle.std.specs.List.{remove}
-use Rattle.half_store.specs.Shift.{ShiftRemoves}
-use Rattle.halfbrown.specs.RemovalInOrder.{RemovesInOrder, RemovesInOrderAt}
 use Rattle.halfbrown.proofs.lemmas.pairs.Changes.{map-remove, IsDistinct-remove, remove_absent, remove_found}
 
 module _ {K V S : Type 0} (limit : ℕ) (eq : K → K → Bool) (test : K → Bool) (old new : State K V S) where

@@ -17,8 +17,7 @@ use Rattle.halfbrown.proofs.lemmas.entry.Methods.{swap_remove_at-last}
 use Rattle.std.proofs.lemmas.Grind.{common_steps}
 use Rattle.std.specs.Cmp.{IsEquivalence}
 use Rattle.std.specs.List.{IsDistinct}
-use Rattle.halfbrown.specs.Lookup.{IsIndexOf, IsAbsent}
-use Rattle.halfbrown.specs.Match.{IsMatch, ReadsMatch}
+use Rattle.halfbrown.specs.Lookup.{IsIndexOf, IsAbsent, IsMatch, ReadsMatch}
 use Rattle.halfbrown.specs.Pairs.{holds}
 use Rattle.halfbrown.specs.Updates.{HasPut, HasRemovedBy}
 use Rattle.halfbrown.proofs.CallerLemmas.{has_put, has_removed_by}

@@ -6,9 +6,8 @@ use Rattle.half_store.specs.Work.{Work}
 use Rattle.halfbrown.specs.declared.run.Command.{Command}
 use Rattle.halfbrown.specs.declared.run.Reply.{Reply}
 use Rattle.halfbrown.specs.State.{State, IsState}
-use Rattle.halfbrown.specs.Step.{Step, IsValidStep, is_shrink}
+use Rattle.halfbrown.specs.Run.{Step, IsValidStep, is_shrink, Lead, Runs, shrinks, commands_of, replies_of, step_cost, cost_of}
 use Rattle.halfbrown.specs.Costs.{GrewBy, add_costs}
-use Rattle.halfbrown.specs.Run.{Lead, Runs, shrinks, commands_of, replies_of, step_cost, cost_of}
 use Rattle.halfbrown.proofs.lemmas.map.Costs.{none_more, more_none, costs_assoc, spent_none, spent_both}
 use Rattle.halfbrown.proofs.lemmas.run.Steps.{PaysTwo, switch_left, step_pays_two}
 

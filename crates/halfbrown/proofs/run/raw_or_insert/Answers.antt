@@ -1,6 +1,5 @@
 use Rattle.std.proofs.Common.{cond, ◌∙◌}
-use Rattle.halfbrown.specs.RawEntry.{after_adding}
-use Rattle.halfbrown.specs.RawSearch.{ready_map}
+use Rattle.halfbrown.specs.RawEntry.{after_adding, ready_map}
 use Rattle.halfbrown.proofs.lemmas.map.Costs.{key_costs, raw_costs}
 use Rattle.halfbrown.proofs.run.raw_or_insert.Goals as goal
 

@@ -1,12 +1,10 @@
 -- `LimitedHashMap` as a type that may contain the type that contains it, by its values.
-use Rattle.std.specs.Prelude.{◌≡◌, ◌≤◌, ℕ, Bool, true, ◌&&◌, List, [], ◌∷◌, length, map, Option, None, Some}
+use Rattle.std.specs.Prelude.{◌≡◌, ◌≤◌, ℕ, Bool, true, List, [], ◌∷◌, length, map, Option}
 use Rattle.std.specs.declared.cmp.PartialEq as eq
 use Rattle.std.specs.declared.hash.Hash as hash
 use Rattle.halfbrown.specs.declared.key_hasher.KeyHasher as hashers
-use Rattle.std.specs.List.{IsDistinct, IsDistinct-prop, list_all}
+use Rattle.std.specs.List.{IsDistinct, IsDistinct-prop}
 use Rattle.std.specs.Map.{keys_of, values_of}
-use Rattle.std.specs.Option.{option_eq, option_map}
-use Rattle.std.proofs.lemmas.Map.Made.{lookup-map_values}
 use Rattle.half_store.specs.Former.{entry, on_value, entries_puts, entries_recoded, keys_on_values, values_listed}
 use mathlib.Core.Former.{Former, children, const, list, pair, this, via}
 use mathlib.Core.Path.{refl, sym, ap, subst, ◌∙◌}
@@ -24,7 +22,8 @@ use denote.Param.Weighed.{Weighed, most}
 use Rattle.half_store.specs.Store.{StoreState}
 use Rattle.half_store.specs.Table.{Contents, contents_code, no_contents}
 use Rattle.half_store.specs.formers.store.Store as store
-use Rattle.halfbrown.specs.Equality.{same_pairs, same_value}
+use Rattle.half_store.specs.HashMapFormer.{entries_eq-map}
+use Rattle.halfbrown.specs.Equality.{same_pairs}
 use Rattle.halfbrown.specs.Layout.{IsKept}
 use Rattle.halfbrown.specs.State.{State, state, contents_of}
 use Rattle.halfbrown.specs.declared.limit.Limit as limits
@@ -56,10 +55,7 @@ fields K S L T = via (pair (store.the_former this K) (const S)) (λ X. Inside K 
     (λ X v. record { store = v.0; builder = v.1; limit = record {} }) (λ X u. refl) (λ X v. refl)
 
 module _ {K X : Type 0} (same : K → K → Bool) (hashed : K → ℕ) (limit : ℕ) (s : StoreState K X) where
-  abbrev Kept : Type 0
-  Kept = IsKept same hashed limit s
-
-  Kept-prop : IsProp Kept
+  Kept-prop : IsProp (IsKept same hashed limit s)
   Kept-prop p q = λ i. record {
     distinct = IsDistinct-prop same (keys_of s.pairs) p.distinct q.distinct i;
     fits = le_prop p.fits q.fits i;
@@ -73,23 +69,20 @@ module _ {K X : Type 0} (same : K → K → Bool) (hashed : K → ℕ) (limit : 
     abbrev KeptMapped : Type 0
     KeptMapped = IsKept same hashed limit ((store.the_former this K).map X Y h s)
 
-    abbrev Fits : ℕ → Type 0
-    Fits n = n ≤ s.capacity
-
-    goes : Kept → KeptMapped
+    goes : IsKept same hashed limit s → KeptMapped
     goes p = record {
       distinct = subst (IsDistinct same) (sym (keys_on_values h s.pairs)) p.distinct;
-      fits = subst Fits (sym (length-map s.pairs (on_value h))) p.fits;
+      fits = subst (λ n. n ≤ s.capacity) (sym (length-map s.pairs (on_value h))) p.fits;
       hashed = λ e. p.hashed e ∙ ap (map hashed) (sym (keys_on_values h s.pairs));
       within = p.within;
       series = p.series;
       exceeds = p.exceeds;
     }
 
-    comes : KeptMapped → Kept
+    comes : KeptMapped → IsKept same hashed limit s
     comes p = record {
       distinct = subst (IsDistinct same) (keys_on_values h s.pairs) p.distinct;
-      fits = subst Fits (length-map s.pairs (on_value h)) p.fits;
+      fits = subst (λ n. n ≤ s.capacity) (length-map s.pairs (on_value h)) p.fits;
       hashed = λ e. p.hashed e ∙ ap (map hashed) (keys_on_values h s.pairs);
       within = p.within;
       series = p.series;
@@ -120,38 +113,10 @@ module _ (K S L T : RattleType) (G : eq.Ghosts K.Denot) (H : hash.Ghosts K.Denot
       let rest = code.code (m.capacity, (m.builder, contents_of m)) in
       ap (λ x. gcons (coded_bool.code m.is_vec) (gcons x rest)) (entries_recoded K R R' h e m.pairs)
 
-module _ {K X Y : Type 0} (h : X → Y) (same : K → K → Bool) (value_eq : Y → Y → Bool) where
-  option_eq-map : (p q : Option X) → option_eq value_eq (option_map h p) (option_map h q) ≡ option_eq (λ a b. value_eq (h a) (h b)) p q
-  option_eq-map None None = refl
-  option_eq-map None (Some y) = refl
-  option_eq-map (Some x) None = refl
-  option_eq-map (Some x) (Some y) = refl
-
-  module _ (ps qs : List (K × X)) where
-    abbrev same_mapped : K → Bool
-    same_mapped = same_value same value_eq (map (on_value h) ps) (map (on_value h) qs)
-
-    abbrev same_unmapped : K → Bool
-    same_unmapped = same_value same (λ a b. value_eq (h a) (h b)) ps qs
-
-    all_same : (ks : List K) → list_all same_mapped ks ≡ list_all same_unmapped ks
-    all_same [] = refl
-    all_same (k ∷ ks) =
-        let here = (λ j. option_eq value_eq (lookup-map_values h (same k) ps j) (lookup-map_values h (same k) qs j)) ∙ option_eq-map _ _ in
-        λ i. here i && all_same ks i
-
-    keys_same : (rs : List (K × X)) → list_all same_mapped (keys_of (map (on_value h) rs)) ≡ list_all same_unmapped (keys_of rs)
-    keys_same rs = ap (list_all same_mapped) (keys_on_values h rs) ∙ all_same (keys_of rs)
-
-    pub same_pairs-map : same_pairs same value_eq (map (on_value h) ps) (map (on_value h) qs)
-        ≡ same_pairs same (λ a b. value_eq (h a) (h b)) ps qs
-    unfolding same_pairs
-    same_pairs-map = λ i. keys_same ps i && keys_same qs i
-
-pub ruleset naturals = (same_pairs-map, refl)
+pub ruleset naturals = (entries_eq-map, refl)
 
 pub the_eq_natural : (K S L T X Y : Type 0) (h : X → Y) (G : eq.Ghosts K) (H : hash.Ghosts K) (V : eq.Ghosts Y) (B : hashers.Ghosts S K T)
     (Z : limits.Ghosts L) (m n : State K X S)
     → same_pairs G.eq V.eq ((the_former this K S L T).map X Y h m).pairs ((the_former this K S L T).map X Y h n).pairs
     ≡ same_pairs G.eq (λ a b. V.eq (h a) (h b)) m.pairs n.pairs
-the_eq_natural K S L T X Y h G H V B Z m n = same_pairs-map h G.eq V.eq m.pairs n.pairs
+the_eq_natural K S L T X Y h G H V B Z m n = entries_eq-map G.eq (λ p q. V.eq p.1 q.1) (on_value h) m.pairs n.pairs (λ p. refl)

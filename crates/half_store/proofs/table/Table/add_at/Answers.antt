@@ -1,8 +1,7 @@
 use Rattle.std.proofs.Common.{◌≡◌, ◌+◌, ◌<◌, ◌∙◌, [], suc, length, set, Some, sym, ap, subst, arith}
 use Rattle.std.proofs.lemmas.List.{length-set}
-use Rattle.half_store.specs.Buckets.{slots_by}
+use Rattle.half_store.specs.Slots.{slots_by, IsVacancyFor}
 use Rattle.half_store.specs.Capacity.{capacity_of}
-use Rattle.half_store.specs.Slots.{IsVacancyFor}
 use Rattle.half_store.specs.Table.{slots_of, table_contents, table_state}
 use Rattle.half_store.specs.Words.{words_of, AreWordsFor}
 use Rattle.half_store.proofs.lemmas.table.Layout.{IsIndexed-add, IsTable-as, count_seen, slots-add}

@@ -1,7 +1,7 @@
 use Rattle.std.proofs.Common.{◌≡◌, ℕ, List, length, replicate, arith}
 use Rattle.std.proofs.lemmas.Grind.{common_steps}
 use Rattle.std.proofs.lemmas.List.{get_or-replicate, length-replicate, same_lists}
-use Rattle.half_store.specs.Buckets.{EachOnce}
+use Rattle.half_store.specs.Slots.{EachOnce}
 use Rattle.half_store.proofs.table.Table.move_to.Goals as goal
 
 all_empty : (words : List ℕ) → EachOnce 0 words → words ≡ replicate (length words) 0

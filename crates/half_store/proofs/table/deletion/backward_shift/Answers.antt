@@ -2,10 +2,9 @@ use Rattle.std.proofs.Common.{◌≡◌, ◌≢◌, ◌-◌, ◌^◌, ◌<◌, �
 use Rattle.std.proofs.lemmas.Bool.{cases_lt}
 use Rattle.std.proofs.lemmas.List.{length-set, set-get_or}
 use Rattle.half_store.specs.Capacity.{capacity_of, IsBucketCount}
-use Rattle.half_store.specs.Probe.{looked_more}
+use Rattle.half_store.specs.Work.{looked_more, Work}
 use Rattle.half_store.specs.Reach.{home, probe_distance}
-use Rattle.half_store.specs.TableLayout.{IsIndexed}
-use Rattle.half_store.specs.Work.{Work}
+use Rattle.half_store.specs.Table.{IsIndexed}
 use Rattle.half_store.proofs.lemmas.table.Circle.{probe_distance-lt}
 use Rattle.half_store.proofs.lemmas.table.Deletion.{Shifts, Ahead, Shifts-start, Ahead-start, gap_distance, first_distance, one_farther}
 use Rattle.half_store.proofs.lemmas.table.Deletion.{fewer_ahead, Shifts-end, Shifts-stay, Ahead-stay, Shifts-move, Ahead-move}

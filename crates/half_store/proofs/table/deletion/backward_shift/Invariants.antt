@@ -1,8 +1,8 @@
 use Rattle.std.proofs.Common.{◌≡◌, ℕ, ◌-◌, set, slice_index}
-use Rattle.half_store.specs.Buckets.{slots_by}
-use Rattle.half_store.specs.Probe.{looked_more}
+use Rattle.half_store.specs.Slots.{slots_by}
+use Rattle.half_store.specs.Work.{looked_more}
 use Rattle.half_store.specs.Reach.{probe_distance}
-use Rattle.half_store.specs.TableLayout.{IsVacantBeside}
+use Rattle.half_store.specs.Table.{IsVacantBeside}
 use Rattle.half_store.proofs.lemmas.table.Deletion.{Shifts, Ahead}
 use Rattle.half_store.proofs.table.deletion.backward_shift.Given as goal
 

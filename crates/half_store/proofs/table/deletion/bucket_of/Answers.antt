@@ -1,6 +1,6 @@
 use Rattle.std.proofs.Common.{◌≡◌, ◌∙◌, ℕ, suc, ◌+◌, ◌<◌, length, slice_index, sym, ap, arith}
 use Rattle.std.proofs.lemmas.Grind.{common_steps}
-use Rattle.half_store.specs.Probe.{looked_more}
+use Rattle.half_store.specs.Work.{looked_more}
 use Rattle.half_store.specs.Reach.{home, probe_distance}
 use Rattle.half_store.proofs.lemmas.table.Buckets.{word-lt, some_bucket}
 use Rattle.half_store.proofs.lemmas.table.Circle.{distance_same, next_farther, probe_distance-lt}

@@ -1,5 +1,5 @@
 use Rattle.std.proofs.Common.{◌≡◌, ℕ, suc, ◌-◌, ◌<◌, ◌≤◌, length, slice_index}
-use Rattle.half_store.specs.Probe.{looked_more}
+use Rattle.half_store.specs.Work.{looked_more}
 use Rattle.half_store.specs.Reach.{home, probe_distance}
 use Rattle.half_store.proofs.table.deletion.bucket_of.Given as goal
 

@@ -3,10 +3,10 @@ use Rattle.std.proofs.lemmas.Grind.{common_steps}
 use Rattle.std.specs.List.{swap_remove}
 use Rattle.std.proofs.lemmas.List.{get_or_default, length-set}
 use Rattle.std.proofs.lemmas.Option.{slice_get-get_or}
-use Rattle.half_store.specs.Buckets.{slots_by}
+use Rattle.half_store.specs.Slots.{slots_by}
 use Rattle.half_store.specs.Reach.{probe_distance}
 use Rattle.half_store.specs.StoreRemoval.{Renames}
-use Rattle.half_store.specs.TableLayout.{IsIndexedButFor, IsVacantBeside}
+use Rattle.half_store.specs.Table.{IsIndexedButFor, IsVacantBeside}
 use Rattle.half_store.proofs.lemmas.table.Layout.{IsIndexed-remove, vacant-remove}
 use Rattle.half_store.proofs.table.deletion.remove_at.Goals as goal
 

@@ -1,8 +1,12 @@
-use Rattle.std.proofs.Common.{◌∙◌, sym}
+use Rattle.std.proofs.Common.{◌∙◌, sym, arith}
 use Rattle.std.specs.Fn.{FnReturnsAt}
 use Rattle.half_store.specs.Search.{ReturnsAt}
+use Rattle.half_store.proofs.lemmas.table.Layout.{index-vacant}
 use Rattle.half_store.proofs.lemmas.table.Find.{finds_none, finds}
 use Rattle.half_store.proofs.table.find.find_in.Goals as goal
+
+pub search-requires-clause-vacant : goal.search-requires-clause-vacant
+search-requires-clause-vacant g c = index-vacant c.requires.indexed (omega (arith, c.count.ensures, c.if-count-eq0.false))
 
 pub returns-then-count-eq0-clause-finds : goal.returns-then-count-eq0-clause-finds
 returns-then-count-eq0-clause-finds g c =

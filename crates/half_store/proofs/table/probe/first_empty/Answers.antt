@@ -1,5 +1,5 @@
 use Rattle.std.proofs.Common.{sym, ap, ◌∙◌}
-use Rattle.half_store.specs.Probe.{looked_more}
+use Rattle.half_store.specs.Work.{looked_more}
 use Rattle.half_store.specs.Reach.{bucket_after}
 use Rattle.half_store.proofs.lemmas.table.Buckets.{length-slots_by}
 use Rattle.half_store.proofs.lemmas.table.Slots.{some_read, Probes-distance, Probes-next}

@@ -1,7 +1,6 @@
 use Rattle.std.proofs.Common.{◌≡◌, ◌-◌, length}
-use Rattle.half_store.specs.Buckets.{slots_by}
-use Rattle.half_store.specs.Probe.{looked_more}
-use Rattle.half_store.specs.Slots.{distance_from_home}
+use Rattle.half_store.specs.Slots.{slots_by, distance_from_home}
+use Rattle.half_store.specs.Work.{looked_more}
 use Rattle.half_store.proofs.lemmas.table.Slots.{Probes}
 use Rattle.half_store.proofs.table.probe.first_empty.Given as goal
 

@@ -1,11 +1,13 @@
 use Rattle.std.proofs.Common.{◌-◌, false, slice_index, Some, sym, ap, subst, ◌∙◌, arith}
+use Rattle.std.proofs.lemmas.Grind.{common_steps}
 use Rattle.std.specs.Fn.{FnReturnsAt}
-use Rattle.half_store.specs.Buckets.{slots_by}
+use Rattle.half_store.specs.Slots.{slots_by}
 use Rattle.half_store.specs.Reach.{home, bucket_after}
 use Rattle.half_store.specs.Search.{ReturnsAt}
 use Rattle.half_store.specs.Work.{Work, one_compared}
-use Rattle.half_store.proofs.lemmas.counting.{returned_at, key_in_bucket}
+use Rattle.half_store.proofs.lemmas.counting.{returned_at, key_in_bucket, key_within}
 use Rattle.half_store.proofs.lemmas.table.Buckets.{length-slots_by}
+use Rattle.half_store.proofs.lemmas.table.Slots.{full_from, Probes-ahead}
 use Rattle.half_store.proofs.lemmas.table.Probe.{Searches-start, Searches-skip, Searches-refused, Searches-found, Searches-missing}
 use Rattle.half_store.proofs.table.probe.search.Goals.{else-held-hash-via-then-held-hash+else-compare, else-held-hash-via-else-held-hash}
 use Rattle.half_store.proofs.table.probe.search.Goals as goal
@@ -18,6 +20,9 @@ loop-index-init g c =
     (λ bucket. ReturnsAt (FnReturnsAt g.F.Fn c.args.matches.now) c.args.keys.now
     (slice_index (g.P.Buckets.words c.args.buckets.now) bucket - 1) false)
     c.home-bucket.result c.args.tally.now (omega arith) (c.home-bucket.ensures.value ∙ ap (λ m. home m c.args.hash) same)
+
+pub bounds-keys-index : goal.bounds-keys-index
+bounds-keys-index g c = grind (arith, common_steps, key_within)
 
 pub compare-requires : goal.compare-requires
 compare-requires g c =
@@ -47,6 +52,9 @@ returns-in-None-clause-compared_most g c =
     let e = ap (λ (w : Work). w.compared) c.in-None.ensures.counted in
     omega arith
 
+pub returns-then-compare-clause-found : goal.returns-then-compare-clause-found
+returns-then-compare-clause-found g c = grind (arith, common_steps)
+
 pub returns-then-compare-clause-compared_most : goal.returns-then-compare-clause-compared_most
 returns-then-compare-clause-compared_most g c =
     let few = Searches-found c.loop-index.invariant (sym c.in-Some.ensures.hash ∙ ap Some c.if-held-hash.true) in
@@ -71,3 +79,6 @@ loop-index-preserved g c =
           (sym c.in-Some.ensures.hash)
           w.if-held-hash.false (w.tally-is ∙ c.in-Some.ensures.counted)
     ]
+
+pub loop-index-smaller : goal.loop-index-smaller
+loop-index-smaller g c = grind (arith, common_steps, Probes-ahead, full_from, length-slots_by)

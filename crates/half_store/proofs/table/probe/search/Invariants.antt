@@ -1,8 +1,7 @@
 use Rattle.std.proofs.Common.{◌-◌, false, length, slice_index}
 use Rattle.std.specs.Fn.{FnReturnsAt}
-use Rattle.half_store.specs.Buckets.{slots_by}
+use Rattle.half_store.specs.Slots.{slots_by, distance_from_home}
 use Rattle.half_store.specs.Search.{ReturnsAt}
-use Rattle.half_store.specs.Slots.{distance_from_home}
 use Rattle.half_store.proofs.lemmas.table.Probe.{EntersByKey}
 use Rattle.half_store.proofs.table.probe.search.Given as goal
 

@@ -1,5 +1,5 @@
 use Rattle.std.proofs.Common.{◌≡◌, length, take}
-use Rattle.half_store.specs.TableLayout.{IsIndexed}
+use Rattle.half_store.specs.Table.{IsIndexed}
 use Rattle.half_store.proofs.table.rehash.rehash.Given as goal
 
 -- the first pairs have their buckets

@@ -1,6 +1,6 @@
 use Rattle.std.proofs.Common.{◌≡◌, ℕ, ◌<◌, ◌≤◌, length, slice_index}
-use Rattle.half_store.specs.Probe.{looked_more}
-use Rattle.half_store.specs.Shift.{moved_word}
+use Rattle.half_store.specs.Work.{looked_more}
+use Rattle.half_store.specs.StoreRemoval.{moved_word}
 use Rattle.half_store.proofs.table.shift.move_last.Given as goal
 
 -- the buckets before this one have their new words, and the others their old ones

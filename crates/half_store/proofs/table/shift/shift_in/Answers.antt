@@ -1,9 +1,9 @@
 use Rattle.std.proofs.Common.{◌≡◌, ℕ, suc, [], ◌∷◌, ◌++◌, List, length, sym, ap, subst, ◌∙◌, arith}
 use Rattle.std.proofs.lemmas.Grind.{common_steps}
 use Rattle.std.proofs.lemmas.List.{get_or_default}
-use Rattle.half_store.specs.Probe.{LooksWithin, removal_reads}
-use Rattle.half_store.specs.Shift.{MovesLast}
-use Rattle.half_store.specs.TableLayout.{IsIndexed}
+use Rattle.half_store.specs.Work.{LooksWithin, removal_reads}
+use Rattle.half_store.specs.StoreRemoval.{MovesLast}
+use Rattle.half_store.specs.Table.{IsIndexed}
 use Rattle.half_store.proofs.lemmas.table.Shift.{IsIndexed-moved, reads-moved}
 use Rattle.half_store.proofs.table.shift.shift_in.Goals as goal
 

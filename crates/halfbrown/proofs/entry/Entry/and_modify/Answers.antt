@@ -1,7 +1,6 @@
 use Rattle.std.proofs.Common.{◌≡◌, IfSome, Option, refl, sym, subst, ◌∙◌}
 use Rattle.std.specs.Map.Calls.{MayWrite, ModifiesValue}
-use Rattle.halfbrown.specs.Entry.{Occupied, map_of, with_value, ModifiesEntry}
-use Rattle.halfbrown.specs.EntryLending.{with_entry_value}
+use Rattle.halfbrown.specs.Entry.{Occupied, map_of, with_value, ModifiesEntry, with_entry_value}
 use Rattle.halfbrown.proofs.entry.Entry.and_modify.Goals as goal
 
 pub returns-in-Occupied : goal.returns-in-Occupied

@@ -1,5 +1,5 @@
 use Rattle.std.proofs.Common.{arith}
-use Rattle.halfbrown.specs.EntryLending.{with_entry_value}
+use Rattle.halfbrown.specs.Entry.{with_entry_value}
 use Rattle.halfbrown.proofs.lemmas.entry.Methods.{written_as}
 use Rattle.halfbrown.proofs.entry.OccupiedEntry.insert.Goals as goal
 

@@ -1,5 +1,5 @@
 use Rattle.std.proofs.Common.{refl, subst}
-use Rattle.halfbrown.specs.Preparation.{IsReadyFor}
+use Rattle.halfbrown.specs.Insertion.{IsReadyFor}
 use Rattle.halfbrown.proofs.lemmas.entry.Methods.{found_entry, found_writes, found_removes, missing_entry, missing_writes, missing_removes}
 use Rattle.halfbrown.proofs.map.LimitedHashMap.entry_counted.Goals as goal
 

@@ -1,5 +1,5 @@
 use Rattle.std.proofs.Common.{None, Some, sym, subst, ◌∙◌}
-use Rattle.halfbrown.specs.Preparation.{IsReadyFor}
+use Rattle.halfbrown.specs.Insertion.{IsReadyFor}
 use Rattle.halfbrown.proofs.lemmas.map.Insert.{inserted}
 use Rattle.halfbrown.proofs.map.LimitedHashMap.insert_counted.Goals as goal
 

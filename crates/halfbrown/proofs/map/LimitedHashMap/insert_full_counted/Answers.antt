@@ -1,6 +1,6 @@
 use Rattle.std.proofs.Common.{None, Some, ap, sym, subst, ◌∙◌}
 use Rattle.half_store.specs.PairLists.{index_of}
-use Rattle.halfbrown.specs.Preparation.{IsReadyFor}
+use Rattle.halfbrown.specs.Insertion.{IsReadyFor}
 use Rattle.halfbrown.proofs.lemmas.map.Insert.{inserted_at}
 use Rattle.halfbrown.proofs.lemmas.map.Layout.{keys_of-set_value}
 use Rattle.halfbrown.proofs.lemmas.pairs.Indices.{index_of-added}

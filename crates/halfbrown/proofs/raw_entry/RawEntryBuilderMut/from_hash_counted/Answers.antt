@@ -1,7 +1,7 @@
 use Rattle.std.proofs.Common.{sym, ap, arith}
 use Rattle.std.proofs.lemmas.Grind.{common_steps}
 use Rattle.std.specs.Fn.{FnReturnsAt}
-use Rattle.halfbrown.specs.RawSearch.{ready_ref, ready_map}
+use Rattle.halfbrown.specs.RawEntry.{ready_ref, ready_map}
 use Rattle.halfbrown.proofs.lemmas.raw_entry.Methods.{found_by_match, found_match, is_some_within}
 use Rattle.halfbrown.proofs.raw_entry.RawEntryBuilderMut.from_hash_counted.Goals as goal
 

@@ -1,5 +1,5 @@
 use Rattle.std.proofs.Common.{sym, ap}
-use Rattle.halfbrown.specs.RawSearch.{ready_ref, ready_map}
+use Rattle.halfbrown.specs.RawEntry.{ready_ref, ready_map}
 use Rattle.halfbrown.proofs.lemmas.raw_entry.Methods.{found_entry, missing_entry}
 use Rattle.halfbrown.proofs.raw_entry.RawEntryBuilderMut.from_key_counted.Goals as goal
 
