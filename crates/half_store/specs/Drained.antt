@@ -5,7 +5,6 @@ use Rattle.std.specs.List.{zip}
 use Rattle.std.specs.VecDeque.{deque_capacity}
 use Rattle.std.specs.declared.collections.VecDeque.{VecDeque}
 use Rattle.half_store.specs.Capacity.{capacity_of}
-use Rattle.half_store.specs.Columns.{ColumnsState}
 use Rattle.half_store.specs.Store.{StoreState, store_of}
 use Rattle.half_store.specs.Table.{TableState}
 

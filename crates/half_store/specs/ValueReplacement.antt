@@ -1,7 +1,7 @@
 -- What becomes of a pair whose value is handed to a closure.
 use Rattle.std.specs.Prelude.{◌≡◌, ℕ, ◌-◌, Bool, List, [], ◌∷◌, ◌++◌, length, slice_get, Option, None, Some, is_none, if◌then◌else◌}
 use Rattle.std.specs.Borrow.{Bor}
-use Rattle.half_store.specs.PairLists.{set_value, swap_remove_at}
+use Rattle.half_store.specs.PairLists.{set_value_at, swap_remove_at}
 
 -- where a pair is once its value was replaced: in a vector it goes last, and the last pair takes its index, in a table it stays
 module _ {K V : Type 0} (is_vec : Bool) (pairs : List (K × V)) (index : ℕ) where
@@ -10,7 +10,7 @@ module _ {K V : Type 0} (is_vec : Bool) (pairs : List (K × V)) (index : ℕ) wh
 
   -- the pairs then, where it has this key and this value
   abbrev pub kept_pairs : K → V → List (K × V)
-  kept_pairs key value = if is_vec then swap_remove_at pairs index ++ (key, value) ∷ [] else set_value pairs index value
+  kept_pairs key value = if is_vec then swap_remove_at pairs index ++ (key, value) ∷ [] else set_value_at pairs index value
 
   -- the same where a value is left, and else the pairs without it
   abbrev pub with_answer : K → Option V → List (K × V)

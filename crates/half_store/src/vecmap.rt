@@ -5,7 +5,7 @@ ghost use Rattle.std.specs.Prelude.{◌≡◌, ◌^◌, ◌<◌, ◌≤◌, [], 
 ghost use Rattle.std.specs.Borrow.{sem};
 ghost use Rattle.std.specs.Map.{keys_of, values_of};
 ghost use Rattle.half_store.specs.Columns.{no_pairs, columns_with};
-ghost use Rattle.half_store.specs.PairLists.{set_key, swap_remove_at};
+ghost use Rattle.half_store.specs.PairLists.{set_key_at, swap_remove_at};
 
 mod memory;
 mod replace;
@@ -105,7 +105,7 @@ impl<K, V> Columns<K, V> {
     pub fn replace_key(&mut self, index: usize, key: K) -> K
         requires { index < length self.old.pairs }
         ensures old { slice_get (keys_of self.old.pairs) index ≡ Some result }
-        ensures after { self.new ≡ columns_with self.old (set_key self.old.pairs index key) }
+        ensures after { self.new ≡ columns_with self.old (set_key_at self.old.pairs index key) }
     {
         replace(&mut self.keys[index], key)
     }

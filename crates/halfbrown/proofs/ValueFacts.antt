@@ -11,12 +11,11 @@ use Rattle.std.specs.Cmp.{IsEquivalence}
 use Rattle.std.specs.List.{IsDistinct, sum_by}
 use Rattle.std.specs.Map.{keys_of, values_of, lookup}
 use Rattle.std.specs.Option.{option_map}
-use Rattle.half_store.specs.PairLists.{index_of, set_value, swap_remove_at}
+use Rattle.half_store.specs.PairLists.{index_of, set_value_at, swap_remove_at, length-set_value_at}
 use Rattle.halfbrown.specs.Pairs.{holds_by, value_of, put, set_by, take_out_by}
 use Rattle.halfbrown.proofs.CallerFacts.{set_same}
 use Rattle.halfbrown.proofs.CallerLemmas.{lookup_put}
-use Rattle.half_store.proofs.lemmas.store.States.{length-set_value}
-use Rattle.halfbrown.proofs.lemmas.map.Layout.{keys_of-set_value}
+use Rattle.halfbrown.proofs.lemmas.map.Layout.{keys_of-set_value_at}
 use Rattle.halfbrown.proofs.lemmas.pairs.Indices.{absent_of_index, index_found, index_of_pair}
 use Rattle.halfbrown.proofs.lemmas.pairs.Changes.{IsPermutation-swap_remove_at}
 
@@ -74,20 +73,20 @@ module _ {K : Type 0} (from to : K → Bool) (ps : List (K × ℕ)) (n : ℕ) {v
 -- ---- a value that is set by its index
 
 module _ {K V : Type 0} where
-  pub keys_set_value : (ps : List (K × V)) (i : ℕ) (v : V) → keys_of (set_value ps i v) ≡ keys_of ps
-  keys_set_value = keys_of-set_value
+  pub keys_set_value_at : (ps : List (K × V)) (i : ℕ) (v : V) → keys_of (set_value_at ps i v) ≡ keys_of ps
+  keys_set_value_at = keys_of-set_value_at
 
-  pub length_set_value : (ps : List (K × V)) (i : ℕ) (v : V) → length (set_value ps i v) ≡ length ps
-  length_set_value = length-set_value
+  pub length_set_value_at : (ps : List (K × V)) (i : ℕ) (v : V) → length (set_value_at ps i v) ≡ length ps
+  length_set_value_at = length-set_value_at
 
   -- the key of the pair at the index has the value, and each other key what it had
-  pub lookup_set_value : {eq : K → K → Bool} (laws : IsEquivalence eq) (ps : List (K × V)) (i : ℕ) (v : V) (p : K × V) (q : K)
+  pub lookup_set_value_at : {eq : K → K → Bool} (laws : IsEquivalence eq) (ps : List (K × V)) (i : ℕ) (v : V) (p : K × V) (q : K)
       → IsDistinct eq (keys_of ps) → slice_get ps i ≡ Some p
-      → value_of eq (set_value ps i v) q ≡ cond (eq p.0 q) (Some v) (value_of eq ps q)
-  lookup_set_value {eq} laws ps i v p q distinct at =
+      → value_of eq (set_value_at ps i v) q ≡ cond (eq p.0 q) (Some v) (value_of eq ps q)
+  lookup_set_value_at {eq} laws ps i v p q distinct at =
       let found = index_of_pair eq laws ps i p distinct at in
       ap (λ l. value_of eq l q) (sym (found.put_is p.0 v)) ∙ lookup_put eq laws ps p.0 v q
 
 pub ruleset value_facts = (sum_set, sum_put, total_taken, moved_within, set_same)
 
-pub ruleset index_facts = (keys_set_value, length_set_value, lookup_set_value)
+pub ruleset index_facts = (keys_set_value_at, length_set_value_at, lookup_set_value_at)

@@ -1,13 +1,13 @@
 -- What contracts see of an entry: its key and value, and what the map is once they are written, lent or taken out.
 pub use Rattle.halfbrown.specs.declared.entry.Entry.TheVariants.{Occupied, Vacant}
-use Rattle.std.specs.Prelude.{◌≡◌, ℕ, Bool, true, false, List, slice_get, Option, None, Some, IfSome, Result, IfOk, IfErr, zero, suc, ◌<◌, [], ◌∷◌, length, ⊤}
+use Rattle.std.specs.Prelude.{◌≡◌, ℕ, Bool, true, false, List, slice_get, Option, None, Some, IfSome, Result, IfOk, IfErr, ◌<◌, [], length, ⊤}
 use Rattle.std.specs.Borrow.{MutBor, Fml, RattleType, follows, follows_so, RestsIfErr, RestsIfNone}
 use Rattle.std.specs.Map.{keys_of, values_of}
 use Rattle.std.specs.Option.{option_map}
 use Rattle.std.specs.declared.cmp.PartialEq as eq
 use Rattle.std.specs.declared.hash.Hash as hash
 use Rattle.halfbrown.specs.declared.key_hasher.KeyHasher as hashers
-use Rattle.half_store.specs.PairLists.{set_key, set_value, swap_remove_at}
+use Rattle.half_store.specs.PairLists.{set_key_at, set_value_at, length-set_value_at, swap_remove_at}
 use Rattle.halfbrown.specs.declared.entry.Entry.{Entry}
 use Rattle.halfbrown.specs.declared.entry.OccupiedEntry.{OccupiedEntry}
 use Rattle.halfbrown.specs.declared.limit.Limit as limits
@@ -17,7 +17,7 @@ use Rattle.halfbrown.specs.Insertion.{Puts, Prepares, pushed}
 use Rattle.halfbrown.specs.Pairs.{value_of, pair_of, holds, take_out}
 use Rattle.halfbrown.specs.State.{State, IsState, WithPairs, with_pairs}
 use Rattle.halfbrown.specs.Updates.{HasPut, HasRemoved}
-use Rattle.std.proofs.Common.{refl, sym, ap, subst}
+use Rattle.std.proofs.Common.{sym, subst}
 use mathlib.Core.Option.{none}
 use mir.Syntax.{named}
 use Rattle.halfbrown.specs.contracts.map.LimitedHashMap.{the_row}
@@ -27,12 +27,6 @@ use Rattle.halfbrown.specs.contracts.entry.OccupiedEntry as occupied
 pub record HandsBackKey {K : Type 0} (k : K) (needs : Option ℕ) (refused : RefusedKey K) : Type 0 where
   pub why : IsRefusal needs refused.why
   pub key : refused.key ≡ k
-
--- written values leave the length
-pub length-set_value : {K V : Type 0} (pairs : List (K × V)) (index : ℕ) (value : V) → length (set_value pairs index value) ≡ length pairs
-length-set_value [] index value = refl
-length-set_value (p ∷ pairs) zero value = refl
-length-set_value (p ∷ pairs) (suc index) value = ap suc (length-set_value pairs index value)
 
 module _ {K V S L H : Type 0} {e : eq.Ghosts K} {h : hash.Ghosts K} {b : hashers.Ghosts S K H} {l : limits.Ghosts L} where
   -- the reference to the map
@@ -66,7 +60,7 @@ module _ {K V S L H : Type 0} {e : eq.Ghosts K} {h : hash.Ghosts K} {b : hashers
 
   -- the map once the key has this value
   unfoldable pub with_value : Entry K V S L H e h b l → V → State K V S
-  with_value (Occupied o) value = with_pairs o.map.now (set_value o.map.now.pairs o.index value)
+  with_value (Occupied o) value = with_pairs o.map.now (set_value_at o.map.now.pairs o.index value)
   with_value (Vacant v) value = pushed v.map.now v.key value v.vacancy
 
   -- the pairs once that of the key is taken out
@@ -116,11 +110,11 @@ module _ {K V S L H : Type 0} {e : eq.Ghosts K} {h : hash.Ghosts K} {b : hashers
     pub same_map : (map_ref (Occupied entry)).ghost_name ≡ m.ghost_name
     pub map : map_of (Occupied entry) ≡ m.now
     pub pair : entry_pair (Occupied entry) ≡ slice_get m.now.pairs index
-    pub writes : (value : V) → with_value (Occupied entry) value ≡ with_pairs m.now (set_value m.now.pairs index value)
+    pub writes : (value : V) → with_value (Occupied entry) value ≡ with_pairs m.now (set_value_at m.now.pairs index value)
 
   -- the pairs once the pair has this key
   abbrev pub pairs_with_key : OccupiedEntry K V S L H e h b l → K → List (K × V)
-  pairs_with_key o key = set_key o.map.now.pairs o.index key
+  pairs_with_key o key = set_key_at o.map.now.pairs o.index key
 
   -- the entry is the same one, and its pair has this key
   pub record HasNewKey (entry : OccupiedEntry K V S L H e h b l) (key : K) (rekeyed : OccupiedEntry K V S L H e h b l) : Type 0 where
@@ -143,7 +137,7 @@ module _ {K V S L H : Type 0} {e : eq.Ghosts K} {h : hash.Ghosts K} {b : hashers
 
   pub still_within : (o : OccupiedEntry K V S L H e h b l) (value : V) → o.index < length (with_value (Occupied o) value).pairs
   unfolding with_value
-  still_within o value = subst (λ n. o.index < n) (sym (length-set_value o.map.now.pairs o.index value)) o.within
+  still_within o value = subst (λ n. o.index < n) (sym (length-set_value_at o.map.now.pairs o.index value)) o.within
 
   -- the entry, once this value is written
   abbrev pub with_entry_value : OccupiedEntry K V S L H e h b l → V → OccupiedEntry K V S L H e h b l

@@ -4,7 +4,7 @@ use Rattle.std.specs.Borrow.{Fml, GName, RattleType, MutBor, Array, Lends, Lends
 use Rattle.std.specs.HashMap.Lent.{HashMembers}
 use mathlib.Core.Option.{none}
 use Rattle.halfbrown.specs.declared.key_hasher.KeyHasher as hashers
-use Rattle.half_store.specs.PairLists.{set_value, set_values}
+use Rattle.half_store.specs.PairLists.{set_value_at, set_values}
 use Rattle.halfbrown.specs.declared.limit.Limit as limits
 use Rattle.halfbrown.specs.Pairs.{set_by}
 use Rattle.halfbrown.specs.State.{State, with_pairs}
@@ -18,11 +18,11 @@ module _ (K V S L H : RattleType) (key : HashMembers K.Denot) (build : hashers.G
   module _ (m : MutBor (State K.Denot V.Denot S.Denot)) where
     -- the pair at this index has the last value written through the reference
     abbrev pub LendsValueAt : ℕ → MutBor V.Denot → Fml
-    LendsValueAt index r = Lends map_row V m r (λ w. with_pairs m.now (set_value m.now.pairs index w))
+    LendsValueAt index r = Lends map_row V m r (λ w. with_pairs m.now (set_value_at m.now.pairs index w))
 
     -- the same, and where there is no pair at this index the map stays as it is
     abbrev pub LendsValueIfAt : ℕ → Option (MutBor V.Denot) → Fml
-    LendsValueIfAt index r = LendsIf map_row V m r (λ w. with_pairs m.now (set_value m.now.pairs index w)) m.now
+    LendsValueIfAt index r = LendsIf map_row V m r (λ w. with_pairs m.now (set_value_at m.now.pairs index w)) m.now
 
     -- the pair whose key passes the test has the last value written through the reference, and where none is held the map stays as it is
     abbrev pub LendsValueBy : (K.Denot → Bool) → Option (MutBor V.Denot) → Fml

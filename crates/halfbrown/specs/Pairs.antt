@@ -2,7 +2,7 @@
 use Rattle.std.specs.Prelude.{◌≡◌, Bool, true, List, [], ◌∷◌, ◌++◌, Option, is_some, if◌then◌else◌}
 use Rattle.std.specs.Option.{option_map_or}
 use Rattle.std.specs.Map.{keys_of, lookup, lookup_entry}
-pub use Rattle.half_store.specs.PairLists.{index_of, set_key, set_value, set_values, swap_remove_at}
+pub use Rattle.half_store.specs.PairLists.{index_of, set_key_at, set_value_at, set_values, swap_remove_at}
 
 -- the test of a lawful form of a key, as that of a text among keys that are strings: it accepts the equals of a key that it accepts, and no
 -- other

@@ -7,7 +7,7 @@ use Rattle.std.specs.Fn.{Once}
 use Rattle.std.specs.declared.cmp.PartialEq as eq
 use Rattle.std.specs.declared.hash.Hash as hash
 use Rattle.halfbrown.specs.declared.key_hasher.KeyHasher as hashers
-use Rattle.half_store.specs.PairLists.{set_value}
+use Rattle.half_store.specs.PairLists.{set_value_at}
 use Rattle.half_store.specs.Work.{looked_more, Work, asked_more}
 use Rattle.halfbrown.specs.declared.entry.OccupiedEntry.{OccupiedEntry}
 use Rattle.halfbrown.specs.declared.limit.Limit as limits
@@ -82,7 +82,7 @@ module _ {K V S L H : Type 0} {e : eq.Ghosts K} {h : hash.Ghosts K} {b : hashers
 
   -- the pairs once the pair that was found has this value, or, where none was, this pair is appended
   abbrev pub pairs_once_put : RawEntryMut K V S L H e h b l → K → V → List (K × V)
-  pairs_once_put (Occupied o) key value = set_value o.map.now.pairs o.index value
+  pairs_once_put (Occupied o) key value = set_value_at o.map.now.pairs o.index value
   pairs_once_put (Vacant v) key value = v.map.now.pairs ++ (key, value) ∷ []
 
   -- the entry is that of the key which passes the test, in this map: what it has, and what the map is once it is written or taken out

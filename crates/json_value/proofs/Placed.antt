@@ -7,8 +7,8 @@ use Rattle.std.specs.List.{slice_split}
 use Rattle.std.specs.Map.{values_of}
 use Rattle.std.specs.declared.alloc.Global.{Global}
 use Rattle.std.specs.declared.string.String.{String}
-use Rattle.halfbrown.proofs.lemmas.map.Layout.{keys_of-set_value}
-use Rattle.halfbrown.specs.Pairs.{index_of as first_index, set_value}
+use Rattle.halfbrown.proofs.lemmas.map.Layout.{keys_of-set_value_at}
+use Rattle.halfbrown.specs.Pairs.{index_of as first_index, set_value_at}
 use Rattle.json_value.specs.Members.{is_named}
 use Rattle.json_value.specs.Pointer.{child, children, descendant, member_place, name_of, place, put_at, put_child, put_steps}
 use Rattle.json_value.specs.Pointer.{Part, PathsPart, value_at, with_child}
@@ -20,7 +20,7 @@ none≢some x e = cc
 get-set : {X : Type 0} (xs : List X) (i : ℕ) (x y : X) → slice_get xs i ≡ Some x → slice_get (slice_set xs i y) i ≡ Some y
 get-set xs i x y at = grind (arith, common_steps, gets)
 
-values_set : {K V : Type 0} (ps : List (K × V)) (i : ℕ) (w : V) → values_of (set_value ps i w) ≡ slice_set (values_of ps) i w
+values_set : {K V : Type 0} (ps : List (K × V)) (i : ℕ) (w : V) → values_of (set_value_at ps i w) ≡ slice_set (values_of ps) i w
 values_set [] i w = refl
 values_set (p ∷ ps) zero w = refl
 values_set (p ∷ ps) (suc i) w = ap (λ vs. p.1 ∷ vs) (values_set ps i w)
@@ -28,8 +28,8 @@ values_set (p ∷ ps) (suc i) w = ap (λ vs. p.1 ∷ vs) (values_set ps i w)
 get-other : {X : Type 0} (xs : List X) (i j : ℕ) (y : X) → j ≢ i → slice_get (slice_set xs i y) j ≡ slice_get xs j
 get-other xs i j y apart = grind (arith, common_steps, gets)
 
-place_kept : (ps : List (String Global × Value)) (i : ℕ) (y : Value) (step : List ℕ) → member_place (set_value ps i y) step ≡ member_place ps step
-place_kept ps i y step = ap (λ ks. option_and_then (λ name. first_index (is_named name) ks) (name_of step)) (keys_of-set_value ps i y)
+place_kept : (ps : List (String Global × Value)) (i : ℕ) (y : Value) (step : List ℕ) → member_place (set_value_at ps i y) step ≡ member_place ps step
+place_kept ps i y step = ap (λ ks. option_and_then (λ name. first_index (is_named name) ks) (name_of step)) (keys_of-set_value_at ps i y)
 
 module _ (v : Value) (i : ℕ) (y : Value) where
   children_put : children (with_child v i y) ≡ slice_set (children v) i y

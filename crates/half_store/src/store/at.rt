@@ -2,7 +2,7 @@
 ghost use Rattle.std.specs.Prelude.{◌≡◌, ◌<◌, Some, length, slice_get};
 ghost use Rattle.std.specs.Borrow.{sem};
 ghost use Rattle.std.specs.Map.{keys_of};
-ghost use Rattle.half_store.specs.PairLists.{set_key};
+ghost use Rattle.half_store.specs.PairLists.{set_key_at};
 ghost use Rattle.half_store.specs.Store.{store_with_pairs};
 
 use super::Store;
@@ -25,7 +25,7 @@ impl<K, V> Store<K, V> {
     pub fn set_key(&mut self, index: usize, key: K) -> K
         requires { index < length self.old.pairs }
         ensures old { slice_get (keys_of self.old.pairs) index ≡ Some result }
-        ensures after { self.new ≡ store_with_pairs self.old (set_key self.old.pairs index key) }
+        ensures after { self.new ≡ store_with_pairs self.old (set_key_at self.old.pairs index key) }
     {
         self.columns.replace_key(index, key)
     }

@@ -2,7 +2,7 @@
 //! the index that was found, and values that are set by an index that is given, or found.
 ghost use Rattle.std.specs.Prelude.{◌≡◌, ◌<◌, ◌++◌, ℕ, false, true, length, option_to_list, slice_get, Some, IfSome, if◌then◌else◌};
 ghost use Rattle.std.specs.Map.{keys_of};
-ghost use Rattle.halfbrown.specs.Pairs.{value_of, pair_of, holds, set_by, set_value, take_out};
+ghost use Rattle.halfbrown.specs.Pairs.{value_of, pair_of, holds, set_by, set_value_at, take_out};
 
 use halfbrown::{Limit, LimitedHashMap};
 use std::hash::{BuildHasher, Hash};
@@ -37,7 +37,7 @@ pub fn set_at<K: Eq + Hash, S: BuildHasher, L: Limit>(
     index: usize,
     value: u64,
 )
-    ensures set { index < length map.old.pairs → map.new.pairs ≡ set_value map.old.pairs index value }
+    ensures set { index < length map.old.pairs → map.new.pairs ≡ set_value_at map.old.pairs index value }
     ensures keys { keys_of map.new.pairs ≡ keys_of map.old.pairs }
     ensures len { length map.new.pairs ≡ length map.old.pairs }
     ensures values { (pair : K × ℕ) → slice_get map.old.pairs index ≡ Some pair → (key : K) → value_of K.eq map.new.pairs key

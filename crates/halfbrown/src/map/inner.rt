@@ -7,7 +7,7 @@ ghost use Rattle.std.specs.Fn.{FnReturnsAt};
 ghost use Rattle.std.specs.Map.{keys_of, values_of};
 ghost use Rattle.std.specs.Option.{option_map};
 ghost use Rattle.std.specs.Result.{result_ok, result_err};
-ghost use Rattle.half_store.specs.PairLists.{set_key, set_value, swap_remove_at};
+ghost use Rattle.half_store.specs.PairLists.{set_key_at, set_value_at, swap_remove_at};
 ghost use Rattle.half_store.specs.Work.{looked_more, first_match_cost};
 ghost use Rattle.half_store.specs.Search.{CallableOnKeys};
 ghost use Rattle.half_store.specs.Store.{IsVacancy};
@@ -56,7 +56,7 @@ impl<K: Eq + Hash, V, S: KeyHasher<K>, L: Limit> LimitedHashMap<K, V, S, L> {
         requires equal { IfSome (slice_get (keys_of self.old.pairs) index)
             (λ k. K.eq key k ≡ true) }
         ensures old { slice_get (keys_of self.old.pairs) index ≡ Some result }
-        ensures after { WithPairs self.old (set_key self.old.pairs index key) self.new }
+        ensures after { WithPairs self.old (set_key_at self.old.pairs index key) self.new }
         ensures replaced { HasKeyReplaced K.eq self.old.pairs key self.new.pairs }
         ensures state { IsState K.eq L.LIMIT self.new }
     {
@@ -111,7 +111,7 @@ impl<K: Eq + Hash, V, S: KeyHasher<K>, L: Limit> LimitedHashMap<K, V, S, L> {
     pub(crate) fn set_at(&mut self, index: usize, value: V) -> V
         requires { index < length self.old.pairs }
         ensures old { slice_get (values_of self.old.pairs) index ≡ Some result }
-        ensures after { WithPairs self.old (set_value self.old.pairs index value) self.new }
+        ensures after { WithPairs self.old (set_value_at self.old.pairs index value) self.new }
         ensures state { IsState K.eq L.LIMIT self.new }
     {
         let (_, held) = self.store.pair_at_mut(index);

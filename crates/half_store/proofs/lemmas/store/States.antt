@@ -8,21 +8,16 @@ use Rattle.half_store.proofs.lemmas.vecmap.Zip.{length-zip}
 use Rattle.std.specs.Borrow.{Bor}
 use Rattle.std.specs.Global.{Box}
 use Rattle.half_store.specs.Columns.{ColumnsState}
-use Rattle.half_store.specs.PairLists.{set_key, set_value, set_values, swap_remove_at}
+use Rattle.half_store.specs.PairLists.{set_key_at, set_value_at, set_values, swap_remove_at, length-set_value_at}
 use Rattle.half_store.specs.ValueReplacement.{kept_pairs, with_answer, ReplacesValue}
 use Rattle.half_store.specs.Store.{StoreState, IsStore, IsTableOver, KeepsForm, vector_of, table_of, store_of}
 use Rattle.half_store.specs.Table.{TableState}
 
 module _ {K V : Type 0} where
-  pub length-set_value : (ps : List (K × V)) (i : ℕ) (v : V) → length (set_value ps i v) ≡ length ps
-  length-set_value [] i v = refl
-  length-set_value (p ∷ ps) zero v = refl
-  length-set_value (p ∷ ps) (suc i) v = ap suc (length-set_value ps i v)
-
-  pub length-set_key : (ps : List (K × V)) (i : ℕ) (k : K) → length (set_key ps i k) ≡ length ps
-  length-set_key [] i k = refl
-  length-set_key (p ∷ ps) zero k = refl
-  length-set_key (p ∷ ps) (suc i) k = ap suc (length-set_key ps i k)
+  pub length-set_key_at : (ps : List (K × V)) (i : ℕ) (k : K) → length (set_key_at ps i k) ≡ length ps
+  length-set_key_at [] i k = refl
+  length-set_key_at (p ∷ ps) zero k = refl
+  length-set_key_at (p ∷ ps) (suc i) k = ap suc (length-set_key_at ps i k)
 
   pub length-set_values : (ps : List (K × V)) (vs : List V) → length (set_values ps vs) ≡ length ps
   length-set_values [] vs = refl
@@ -88,4 +83,4 @@ module _ {K V : Type 0} where
   replaces_in {returns} {index} {removed} {new} is = subst (λ (s : StoreState K V). ReplacesValue returns s.is_vec s.pairs index new removed) is
 
 -- what the proofs of `Store` go by
-pub ruleset store_steps = (common_steps, kept_store, kept_value, length-keys_of, length-set_key, length-set_value, length-set_values, length-zip, pairs_of-store)
+pub ruleset store_steps = (common_steps, kept_store, kept_value, length-keys_of, length-set_key_at, length-set_value_at, length-set_values, length-zip, pairs_of-store)

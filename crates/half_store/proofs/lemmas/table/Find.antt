@@ -13,7 +13,7 @@ use Rattle.half_store.specs.Table.{TableState, table_state, IsIndexed, TableSear
 use Rattle.half_store.proofs.lemmas.table.Buckets.{length-slots_by, slot_of_word, some_bucket}
 use Rattle.half_store.proofs.lemmas.table.Circle.{distance_self}
 use Rattle.half_store.proofs.lemmas.capacity.{buckets_of-capacity_of, capacity_for-capacity_of}
-use Rattle.half_store.proofs.lemmas.table.Layout.{index-counted, index-vacant, at_home, buckets_seen, view_lent, count_seen, IsIndexed-as, IsIndexed-empty, IsTable-as}
+use Rattle.half_store.proofs.lemmas.table.Layout.{index-counted, index-vacant, at_home, buckets_seen, view_lent, count_seen, IsIndexed-as}
 use Rattle.half_store.proofs.lemmas.table.Slots.{full_from, full-lt}
 use Rattle.half_store.proofs.lemmas.table.Probe.{reach_at_vacancy, reach_past_pair, reach_short}
 use Rattle.half_store.proofs.lemmas.table.Reach.{reach-none}

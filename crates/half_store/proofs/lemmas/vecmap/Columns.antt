@@ -6,7 +6,7 @@ use Rattle.std.proofs.lemmas.Slice.Zip.{seconds-zip}
 use Rattle.std.specs.List.{zip, slice_get, refill}
 use Rattle.std.specs.declared.vec.Vec.{Vec}
 use Rattle.std.specs.Map.{keys_of, values_of}
-use Rattle.half_store.proofs.lemmas.vecmap.Zip.{length-zip, zip-refill, slice_get-zip, zip_push, zip-swap_remove_at, zip-set_key, zip-set_value, slice_get_at}
+use Rattle.half_store.proofs.lemmas.vecmap.Zip.{length-zip, zip-refill, slice_get-zip, zip_push, zip-swap_remove_at, zip-set_key_at, zip-set_value_at, slice_get_at}
 use Rattle.half_store.specs.Columns.{ColumnsState, AreEven, columns_with}
 use Rattle.half_store.specs.PairLists.{set_values}
 
@@ -52,4 +52,4 @@ module _ {K V Z : Type 0} where
   written keys values map view even w = grind (arith, common_steps, opened, pairs_are, zip-refill)
 
 -- what the proofs of `Columns` go by
-pub ruleset columns_steps = (common_steps, opened, pairs_are, written, slice_get-zip, slice_get_at, zip_push, zip-swap_remove_at, zip-set_key, zip-set_value)
+pub ruleset columns_steps = (common_steps, opened, pairs_are, written, slice_get-zip, slice_get_at, zip_push, zip-swap_remove_at, zip-set_key_at, zip-set_value_at)

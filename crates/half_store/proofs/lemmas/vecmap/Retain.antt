@@ -5,9 +5,8 @@ use Rattle.std.proofs.lemmas.Grind.{common_steps}
 use Rattle.std.proofs.lemmas.List.{append-nil, append_assoc, drop_all, drop-set-lt, set-get_or}
 use Rattle.std.specs.List.{swap, zip}
 use Rattle.std.specs.Map.Calls.{CallableOnEachPair, RetainsPairs}
-use Rattle.half_store.specs.PairLists.{set_value}
+use Rattle.half_store.specs.PairLists.{set_value_at, length-set_value_at}
 use Rattle.half_store.proofs.lemmas.vecmap.Zip.{get_or-zip, zip-set}
-use Rattle.half_store.proofs.lemmas.store.States.{length-set_value}
 
 module _ {X : Type 0} where
   pub drop-begins : (xs : List X) (i : ℕ) (x : X) → i < length xs → x ≡ get_or xs i x → drop i xs ≡ x ∷ drop (i + 1) xs
@@ -47,25 +46,25 @@ pub map-swap : {X Y : Type 0} (f : X → Y) (xs : List X) (i j : ℕ) → map f 
 map-swap f xs i j = grind (arith, common_steps, get_or, map, map-get_or, map-set, set)
 
 module _ {K V : Type 0} where
-  drop-suc : (ps : List (K × V)) (i : ℕ) (v : V) → drop (suc i) (set_value ps i v) ≡ drop (suc i) ps
+  drop-suc : (ps : List (K × V)) (i : ℕ) (v : V) → drop (suc i) (set_value_at ps i v) ≡ drop (suc i) ps
   drop-suc [] i v = refl
   drop-suc (p ∷ ps) zero v = refl
   drop-suc (p ∷ ps) (suc i) v = drop-suc ps i v
 
-  drop-set_value : (ps : List (K × V)) (i : ℕ) (v : V) → drop (i + 1) (set_value ps i v) ≡ drop (i + 1) ps
-  drop-set_value ps i v = grind (arith, common_steps, drop, drop-suc)
+  drop-set_value_at : (ps : List (K × V)) (i : ℕ) (v : V) → drop (i + 1) (set_value_at ps i v) ≡ drop (i + 1) ps
+  drop-set_value_at ps i v = grind (arith, common_steps, drop, drop-suc)
 
-  take-set_value : (ps : List (K × V)) (n i : ℕ) (v : V) → n ≤ i → take n (set_value ps i v) ≡ take n ps
-  take-set_value ps zero i v le = refl
-  take-set_value [] (suc n) i v le = refl
-  take-set_value (p ∷ ps) (suc n) zero v le = absurd (omega arith)
-  take-set_value (p ∷ ps) (suc n) (suc i) v le = ap (λ l. p ∷ l) (take-set_value ps n i v (omega arith))
+  take-set_value_at : (ps : List (K × V)) (n i : ℕ) (v : V) → n ≤ i → take n (set_value_at ps i v) ≡ take n ps
+  take-set_value_at ps zero i v le = refl
+  take-set_value_at [] (suc n) i v le = refl
+  take-set_value_at (p ∷ ps) (suc n) zero v le = absurd (omega arith)
+  take-set_value_at (p ∷ ps) (suc n) (suc i) v le = ap (λ l. p ∷ l) (take-set_value_at ps n i v (omega arith))
 
-  get_or-set_value : (ps : List (K × V)) (i : ℕ) (p : K × V) (v : V) → i < length ps → p ≡ get_or ps i p
-      → ◌≡◌ {A = K × V} (p.0, v) (get_or (set_value ps i v) i (p.0, v))
-  get_or-set_value [] i p v within read = absurd (omega arith)
-  get_or-set_value (q ∷ ps) zero p v within read = λ j. ((read j).0, v)
-  get_or-set_value (q ∷ ps) (suc i) p v within read = get_or-set_value ps i p v (omega arith) read
+  get_or-set_value_at : (ps : List (K × V)) (i : ℕ) (p : K × V) (v : V) → i < length ps → p ≡ get_or ps i p
+      → ◌≡◌ {A = K × V} (p.0, v) (get_or (set_value_at ps i v) i (p.0, v))
+  get_or-set_value_at [] i p v within read = absurd (omega arith)
+  get_or-set_value_at (q ∷ ps) zero p v within read = λ j. ((read j).0, v)
+  get_or-set_value_at (q ∷ ps) (suc i) p v within read = get_or-set_value_at ps i p v (omega arith) read
 
   -- a swap in each column is one in the list of pairs
   pub zip-swap : (ks : List K) (vs : List V) (i j : ℕ) → length vs ≡ length ks → zip (swap ks i j) (swap vs i j) ≡ swap (zip ks vs) i j
@@ -101,19 +100,19 @@ module _ {F K V : Type 0} (T : F → K → V → Bool → V → F → Type 0) (Q
       }
 
       module _ (le : n ≤ i) (w : V) (f' : F) (ps' : List (K × V)) where
-        pub Sifting-rejected : T f p.0 p.1 false w f' → ps' ≡ set_value ps i w → Sifting f₀ ps₀ f' ps' n (i + 1)
+        pub Sifting-rejected : T f p.0 p.1 false w f' → ps' ≡ set_value_at ps i w → Sifting f₀ ps₀ f' ps' n (i + 1)
         Sifting-rejected called is =
-            step false w f' called ps' n (ap (drop (i + 1)) is ∙ drop-set_value ps i w)
-            (λ kept. ap (λ l. l ++ kept) (sym (ap (take n) is ∙ take-set_value ps n i w le)))
+            step false w f' called ps' n (ap (drop (i + 1)) is ∙ drop-set_value_at ps i w)
+            (λ kept. ap (λ l. l ++ kept) (sym (ap (take n) is ∙ take-set_value_at ps n i w le)))
 
-        pub Sifting-accepted : T f p.0 p.1 true w f' → ps' ≡ swap (set_value ps i w) n i → Sifting f₀ ps₀ f' ps' (n + 1) (i + 1)
+        pub Sifting-accepted : T f p.0 p.1 true w f' → ps' ≡ swap (set_value_at ps i w) n i → Sifting f₀ ps₀ f' ps' (n + 1) (i + 1)
         Sifting-accepted called is =
-            let qs : List (K × V) = set_value ps i w in
+            let qs : List (K × V) = set_value_at ps i w in
             let first : take (n + 1) ps' ≡ take n ps ++ (p.0, w) ∷ [] =
             ap (take (n + 1)) is
-            ∙ take-swap qs n i (p.0, w) le (omega (arith, length-set_value ps i w)) (get_or-set_value ps i p w within read)
-            ∙ ap (λ l. l ++ (p.0, w) ∷ []) (take-set_value ps n i w le) in
-            step true w f' called ps' (n + 1) (ap (drop (i + 1)) is ∙ drop-swap qs n i le ∙ drop-set_value ps i w)
+            ∙ take-swap qs n i (p.0, w) le (omega (arith, length-set_value_at ps i w)) (get_or-set_value_at ps i p w within read)
+            ∙ ap (λ l. l ++ (p.0, w) ∷ []) (take-set_value_at ps n i w le) in
+            step true w f' called ps' (n + 1) (ap (drop (i + 1)) is ∙ drop-swap qs n i le ∙ drop-set_value_at ps i w)
             (λ kept. sym (ap (λ l. l ++ kept) first ∙ append_assoc (take n ps) ((p.0, w) ∷ []) kept))
 
     -- all pairs were asked of

@@ -4,7 +4,7 @@ use Rattle.std.proofs.lemmas.Grind.{common_steps}
 use Rattle.std.proofs.Math.ListN.{set}
 use Rattle.std.proofs.lemmas.List.{take_all}
 use Rattle.std.specs.List.{AllZip, zip, slice_get, remove, swap_remove, refill}
-use Rattle.half_store.specs.PairLists.{set_key, set_value, set_values, swap_remove_at}
+use Rattle.half_store.specs.PairLists.{set_key_at, set_value_at, set_values, swap_remove_at}
 
 pub get_or_within : {X : Type 0} (xs : List X) (i : ℕ) (d e : X) → i < length xs → get_or xs i d ≡ get_or xs i e
 get_or_within [] i d e within = absurd (omega arith)
@@ -37,21 +37,21 @@ module _ {K V : Type 0} where
   slice_get-zip (x ∷ ks) (y ∷ vs) zero k v in_keys in_values at_k at_v = λ j. Some (sym at_k j, sym at_v j)
   slice_get-zip (x ∷ ks) (y ∷ vs) (suc i) k v in_keys in_values at_k at_v = slice_get-zip ks vs i k v (omega arith) (omega arith) at_k at_v
 
-  pub zip-set_value : (ks : List K) (vs : List V) (i : ℕ) (v : V) → zip ks (set vs i v) ≡ set_value (zip ks vs) i v
-  zip-set_value [] vs i v = refl
-  zip-set_value (k ∷ ks) [] i v = refl
-  zip-set_value (k ∷ ks) (w ∷ vs) zero v = refl
-  zip-set_value (k ∷ ks) (w ∷ vs) (suc i) v = ap (λ l. (k, w) ∷ l) (zip-set_value ks vs i v)
+  pub zip-set_value_at : (ks : List K) (vs : List V) (i : ℕ) (v : V) → zip ks (set vs i v) ≡ set_value_at (zip ks vs) i v
+  zip-set_value_at [] vs i v = refl
+  zip-set_value_at (k ∷ ks) [] i v = refl
+  zip-set_value_at (k ∷ ks) (w ∷ vs) zero v = refl
+  zip-set_value_at (k ∷ ks) (w ∷ vs) (suc i) v = ap (λ l. (k, w) ∷ l) (zip-set_value_at ks vs i v)
 
   zip-nil : (ks : List K) → ◌≡◌ {A = List (K × V)} (zip ks []) []
   zip-nil [] = refl
   zip-nil (k ∷ ks) = refl
 
-  pub zip-set_key : (ks : List K) (vs : List V) (i : ℕ) (k : K) → zip (set ks i k) vs ≡ set_key (zip ks vs) i k
-  zip-set_key [] vs i k = refl
-  zip-set_key (x ∷ ks) [] i k = zip-nil (set (x ∷ ks) i k)
-  zip-set_key (x ∷ ks) (v ∷ vs) zero k = refl
-  zip-set_key (x ∷ ks) (v ∷ vs) (suc i) k = ap (λ l. (x, v) ∷ l) (zip-set_key ks vs i k)
+  pub zip-set_key_at : (ks : List K) (vs : List V) (i : ℕ) (k : K) → zip (set ks i k) vs ≡ set_key_at (zip ks vs) i k
+  zip-set_key_at [] vs i k = refl
+  zip-set_key_at (x ∷ ks) [] i k = zip-nil (set (x ∷ ks) i k)
+  zip-set_key_at (x ∷ ks) (v ∷ vs) zero k = refl
+  zip-set_key_at (x ∷ ks) (v ∷ vs) (suc i) k = ap (λ l. (x, v) ∷ l) (zip-set_key_at ks vs i k)
 
   -- values that are written, one after the other
   pub zip-refill : (ks : List K) (vs ws : List V) → length vs ≡ length ks → zip ks (refill (length vs) vs ws) ≡ set_values (zip ks vs) ws

@@ -8,7 +8,7 @@ use Rattle.std.specs.Cmp.{IsEquivalence}
 use Rattle.std.specs.List.{IsDistinct}
 use Rattle.std.specs.Map.{keys_of, values_of}
 use Rattle.std.specs.Option.{option_map}
-use Rattle.half_store.specs.PairLists.{set_value, swap_remove_at}
+use Rattle.half_store.specs.PairLists.{set_value_at, swap_remove_at, length-set_value_at}
 use Rattle.halfbrown.specs.declared.entry.OccupiedEntry.{OccupiedEntry}
 use Rattle.halfbrown.specs.declared.entry.VacantEntry.{VacantEntry}
 use Rattle.halfbrown.specs.Entry.{Occupied, Vacant, with_value, pairs_with_key, IsEntryOf, PutsThroughEntry, RemovesKey, IsWritten, HasNewKey, with_entry_value}
@@ -17,10 +17,10 @@ use Rattle.halfbrown.specs.Lookup.{IsIndexOf, IsAbsent}
 use Rattle.halfbrown.specs.Insertion.{Prepares, pushed}
 use Rattle.halfbrown.specs.State.{State, with_pairs, WithPairs}
 use Rattle.halfbrown.proofs.CallerLemmas.{has_put, has_removed}
-use Rattle.half_store.proofs.lemmas.store.States.{length-set_key, length-set_value, kept_value, lost_pair}
-use Rattle.halfbrown.proofs.lemmas.map.Layout.{keys_of-set_value}
-use Rattle.halfbrown.proofs.lemmas.pairs.Changes.{values_of-set_key, key-set_key, swap_remove_at-set_key, key_of-pair, set_value-twice}
-use Rattle.halfbrown.proofs.lemmas.pairs.Changes.{value-set_value, swap_remove_at-set_value, set_value-last, value-last, pair-last}
+use Rattle.half_store.proofs.lemmas.store.States.{length-set_key_at, kept_value, lost_pair}
+use Rattle.halfbrown.proofs.lemmas.map.Layout.{keys_of-set_value_at}
+use Rattle.halfbrown.proofs.lemmas.pairs.Changes.{values_of-set_key_at, key-set_key_at, swap_remove_at-set_key_at, key_of-pair, set_value_at-twice}
+use Rattle.halfbrown.proofs.lemmas.pairs.Changes.{value-set_value_at, swap_remove_at-set_value_at, set_value_at-last, value-last, pair-last}
 use Rattle.halfbrown.proofs.lemmas.pairs.Changes.{length-swap_remove_at}
 use Rattle.std.proofs.Math.ListN.{length-append}
 use Rattle.half_store.specs.ValueReplacement.{kept_index, kept_pairs, ReplacesValue}
@@ -67,26 +67,26 @@ module _ {K V S L H : Type 0} {e : eq.Ghosts K} {h : hash.Ghosts K} {b : hashers
 module _ {K V S L H : Type 0} {e : eq.Ghosts K} {h : hash.Ghosts K} {b : hashers.Ghosts S K H} {l : limits.Ghosts L}
     (o : OccupiedEntry K V S L H e h b l) where
   -- the map with this value
-  pub occupied_writes : (value : V) → with_pairs o.map.now (set_value o.map.now.pairs o.index value) ≡ with_value (Occupied o) value
+  pub occupied_writes : (value : V) → with_pairs o.map.now (set_value_at o.map.now.pairs o.index value) ≡ with_value (Occupied o) value
   unfolding with_value
   occupied_writes value = refl
 
   -- the entry with this value, however it was shown that its index is within
-  pub lent_entry : (value : V) (within : o.index < length (set_value o.map.now.pairs o.index value))
+  pub lent_entry : (value : V) (within : o.index < length (set_value_at o.map.now.pairs o.index value))
       → record {
-        map = record o.map { now = with_pairs o.map.now (set_value o.map.now.pairs o.index value) };
+        map = record o.map { now = with_pairs o.map.now (set_value_at o.map.now.pairs o.index value) };
         index = o.index;
         within = within;
       } ≡ with_entry_value o value
   unfolding with_value
   lent_entry value within =
       λ i. record {
-        map = record o.map { now = with_pairs o.map.now (set_value o.map.now.pairs o.index value) };
+        map = record o.map { now = with_pairs o.map.now (set_value_at o.map.now.pairs o.index value) };
         index = o.index;
         within = le_prop within (with_entry_value o value).within i;
       }
 
-  pub lent_within : (value : V) → o.index < length (set_value o.map.now.pairs o.index value)
+  pub lent_within : (value : V) → o.index < length (set_value_at o.map.now.pairs o.index value)
   unfolding with_value
   lent_within value = (with_entry_value o value).within
 
@@ -97,11 +97,11 @@ module _ {K V S L H : Type 0} {e : eq.Ghosts K} {h : hash.Ghosts K} {b : hashers
   unfolding with_value
   written_as value left within is = record {
     same_map = refl;
-    map = ap (λ v. with_pairs o.map.now (set_value o.map.now.pairs o.index v)) is;
-    value_is = value-set_value o.map.now.pairs o.index left o.within ∙ ap Some is;
-    key = ap (λ ks. slice_get ks o.index) (keys_of-set_value o.map.now.pairs o.index left);
-    writes = λ v. ap (with_pairs o.map.now) (set_value-twice o.map.now.pairs o.index left v);
-    pairs_left = swap_remove_at-set_value o.map.now.pairs o.index left;
+    map = ap (λ v. with_pairs o.map.now (set_value_at o.map.now.pairs o.index v)) is;
+    value_is = value-set_value_at o.map.now.pairs o.index left o.within ∙ ap Some is;
+    key = ap (λ ks. slice_get ks o.index) (keys_of-set_value_at o.map.now.pairs o.index left);
+    writes = λ v. ap (with_pairs o.map.now) (set_value_at-twice o.map.now.pairs o.index left v);
+    pairs_left = swap_remove_at-set_value_at o.map.now.pairs o.index left;
   }
 
   -- the entry with this value is the same one, written
@@ -110,13 +110,13 @@ module _ {K V S L H : Type 0} {e : eq.Ghosts K} {h : hash.Ghosts K} {b : hashers
 
   -- the index is within where the map has the pairs with another key
   pub rekeyed_within : (key : K) (m : State K V S) → WithPairs o.map.now (pairs_with_key o key) m → o.index < length m.pairs
-  rekeyed_within key m after = omega (arith, ap length after.pairs, length-set_key o.map.now.pairs o.index key, o.within)
+  rekeyed_within key m after = omega (arith, ap length after.pairs, length-set_key_at o.map.now.pairs o.index key, o.within)
 
   -- the entry where its map has the pairs with another key
   pub rekeyed_entry : (key : K) (map : MutBor (State K V S)) (within : o.index < length map.now.pairs) → map.ghost_name ≡ o.map.ghost_name
       → WithPairs o.map.now (pairs_with_key o key) map.now
       → HasNewKey o key (record { map = map; index = o.index; within = within })
-  rekeyed_entry key map within same after = grind (arith, common_steps, key-set_key, slice_get, swap_remove_at-set_key, values_of-set_key)
+  rekeyed_entry key map within same after = grind (arith, common_steps, key-set_key_at, slice_get, swap_remove_at-set_key_at, values_of-set_key_at)
 
 module _ {K V S L H : Type 0} {e : eq.Ghosts K} {h : hash.Ghosts K} {b : hashers.Ghosts S K H} {l : limits.Ghosts L}
     (v : VacantEntry K V S L H e h b l) where
@@ -134,17 +134,17 @@ swap_remove_at-last [] x = front_of [] x x (length (x ∷ []) - 1) (omega arith)
 swap_remove_at-last (y ∷ ys) x = front_of (y ∷ ys) x _ (length (y ∷ ys ++ x ∷ []) - 1) (omega (arith, length-append ys (x ∷ [])))
 
 module _ {K V : Type 0} where
-  pair-set_value : (ps : List (K × V)) (i : ℕ) (k : K) (u v : V) → slice_get ps i ≡ Some (k, u)
-      → slice_get (set_value ps i v) i ≡ Some (k, v)
-  pair-set_value [] i k u v at = absurd cc
-  pair-set_value (p ∷ ps) i k u v at = grind (arith, common_steps, pair-set_value ps)
+  pair-set_value_at : (ps : List (K × V)) (i : ℕ) (k : K) (u v : V) → slice_get ps i ≡ Some (k, u)
+      → slice_get (set_value_at ps i v) i ≡ Some (k, v)
+  pair-set_value_at [] i k u v at = absurd cc
+  pair-set_value_at (p ∷ ps) i k u v at = grind (arith, common_steps, pair-set_value_at ps)
 
   -- among these pairs the key has this value at this index: what another value, or a removal, would leave is what they would have left before
   record IsKeptAt (is_vec : Bool) (ps : List (K × V)) (i : ℕ) (k : K) (v : V) (qs : List (K × V)) (j : ℕ) : Type 0 where
     within : j < length qs
     pair : slice_get qs j ≡ Some (k, v)
     value : slice_get (values_of qs) j ≡ Some v
-    writes : (u : V) → set_value qs j u ≡ kept_pairs is_vec ps i k u
+    writes : (u : V) → set_value_at qs j u ≡ kept_pairs is_vec ps i k u
     left : swap_remove_at qs j ≡ swap_remove_at ps i
 
   kept_at : (is_vec : Bool) (ps : List (K × V)) (i : ℕ) (k : K) (u v : V) → slice_get ps i ≡ Some (k, u) → i < length ps
@@ -157,15 +157,15 @@ module _ {K V : Type 0} where
         within = omega (arith, end, length-append front ((k, v) ∷ []));
         pair = ap (slice_get all) end ∙ pair-last front (k, v);
         value = ap (slice_get (values_of all)) end ∙ value-last front k v;
-        writes = λ w. ap (λ j. set_value all j w) end ∙ set_value-last front k v w;
+        writes = λ w. ap (λ j. set_value_at all j w) end ∙ set_value_at-last front k v w;
         left = ap (swap_remove_at all) end ∙ swap_remove_at-last front (k, v);
       }
   kept_at false ps i k u v at within = record {
-    within = omega (arith, within, length-set_value ps i v);
-    pair = pair-set_value ps i k u v at;
-    value = value-set_value ps i v within;
-    writes = set_value-twice ps i v;
-    left = swap_remove_at-set_value ps i v;
+    within = omega (arith, within, length-set_value_at ps i v);
+    pair = pair-set_value_at ps i k u v at;
+    value = value-set_value_at ps i v within;
+    writes = set_value_at-twice ps i v;
+    left = swap_remove_at-set_value_at ps i v;
   }
 
   module _ {returns : Bor K → V → Option V → Type 0} {is_vec : Bool} {ps qs : List (K × V)} {i j : ℕ} (within : i < length ps)

@@ -9,15 +9,15 @@ use Rattle.std.specs.List.{IsDistinct, AllByRecursion, AllZip, Contains}
 use Rattle.std.specs.Map.{keys_of}
 use Rattle.std.proofs.lemmas.Map.Entries.{length-keys_of}
 use Rattle.std.proofs.lemmas.Map.Keys.{IsDistinct-push, IsDistinct-head, IsDistinct-tail, IsDistinct-cons}
-use Rattle.half_store.proofs.lemmas.store.States.{length-set_key, length-set_value, kept_value as value_kept, lost_pair}
+use Rattle.half_store.proofs.lemmas.store.States.{length-set_key_at, kept_value as value_kept, lost_pair}
 use Rattle.half_store.specs.Columns.{no_pairs}
-use Rattle.half_store.specs.PairLists.{set_key, set_value, swap_remove_at}
+use Rattle.half_store.specs.PairLists.{set_key_at, set_value_at, swap_remove_at, length-set_value_at}
 use Rattle.half_store.specs.Store.{StoreState, KeepsForm, store_pushed, store_with_pairs, vector_of}
 use Rattle.half_store.specs.declared.store.find.Vacancy.{Vacancy}
 use Rattle.halfbrown.specs.Layout.{IsKept, state_in}
 use Rattle.halfbrown.specs.Lookup.{IsAbsent, IsIndexOf}
 use Rattle.halfbrown.specs.State.{IsState, IsTableCapacity}
-use Rattle.halfbrown.proofs.lemmas.pairs.Changes.{keys_of-set_key, map-set_alike, IsDistinct-set, map-swap_remove_at, length-swap_remove_at}
+use Rattle.halfbrown.proofs.lemmas.pairs.Changes.{keys_of-set_key_at, map-set_alike, IsDistinct-set, map-swap_remove_at, length-swap_remove_at}
 use Rattle.halfbrown.proofs.lemmas.pairs.Changes.{IsDistinct-swap_remove_at}
 use Rattle.halfbrown.proofs.lemmas.pairs.Indices.{none_of_index, any_of_none, absent_of_unheld, index_of_pair}
 use Rattle.std.specs.Map.Calls.{RetainsPairs}
@@ -31,9 +31,9 @@ use Rattle.halfbrown.specs.Pairs.{holds}
 use Rattle.halfbrown.proofs.CallerLemmas.{has_removed}
 
 module _ {K V : Type 0} where
-  pub keys_of-set_value : (ps : List (K × V)) (i : ℕ) (v : V) → keys_of (set_value ps i v) ≡ keys_of ps
-  keys_of-set_value [] i v = refl
-  keys_of-set_value (p ∷ ps) i v = grind (arith, common_steps, keys_of-set_value ps)
+  pub keys_of-set_value_at : (ps : List (K × V)) (i : ℕ) (v : V) → keys_of (set_value_at ps i v) ≡ keys_of ps
+  keys_of-set_value_at [] i v = refl
+  keys_of-set_value_at (p ∷ ps) i v = grind (arith, common_steps, keys_of-set_value_at ps)
 
   module _ (eq : K → K → Bool) (hash : K → ℕ) (limit : ℕ) where
     -- other pairs in the same form, with their hashes
@@ -49,9 +49,9 @@ module _ {K V : Type 0} where
 
     -- a pair has another value
     pub kept_value : (s : StoreState K V) (i : ℕ) (v : V) → IsKept eq hash limit s
-        → IsKept eq hash limit (store_with_pairs s (set_value s.pairs i v))
+        → IsKept eq hash limit (store_with_pairs s (set_value_at s.pairs i v))
     kept_value s i v kept =
-        kept_keys s (set_value s.pairs i v) kept (keys_of-set_value s.pairs i v) (length-set_value s.pairs i v)
+        kept_keys s (set_value_at s.pairs i v) kept (keys_of-set_value_at s.pairs i v) (length-set_value_at s.pairs i v)
 
     -- one more pair, whose key is not held
     pub kept_pushed : IsEquivalence eq → (s : StoreState K V) (k : K) (v : V) (vacancy : Vacancy) → IsKept eq hash limit s
@@ -62,8 +62,8 @@ module _ {K V : Type 0} where
     -- a pair has another key, equal to its own and of the same hash
     pub kept_key : IsEquivalence eq → (s : StoreState K V) (i : ℕ) (old new : K) → IsKept eq hash limit s
         → slice_get (keys_of s.pairs) i ≡ Some old → eq old new ≡ true → hash old ≡ hash new
-        → IsKept eq hash limit (store_with_pairs s (set_key s.pairs i new))
-    kept_key laws s i old new kept at same alike = grind (arith, common_steps, IsDistinct-set, kept_as, keys_of-set_key, length-set_key, map, map-set_alike)
+        → IsKept eq hash limit (store_with_pairs s (set_key_at s.pairs i new))
+    kept_key laws s i old new kept at same alike = grind (arith, common_steps, IsDistinct-set, kept_as, keys_of-set_key_at, length-set_key_at, map, map-set_alike)
 
     -- a pair is gone, the last one at its index
     pub kept_taken : IsEquivalence eq → (old new : StoreState K V) (i : ℕ) → IsKept eq hash limit old → KeepsForm old new
@@ -196,7 +196,7 @@ module _ {K V : Type 0} (eq : K → K → Bool) (laws : IsEquivalence eq) (hash 
       kept_as eq hash limit old new kept keeps (subst (λ ps. IsDistinct eq (keys_of ps)) (sym is) (moved_distinct vector within k v w at))
       (omega (arith, ap length is, shorter, length-append (swap_remove_at old.pairs index) ((k, w) ∷ []), kept.fits))
       (λ table. absurd (true≢false (sym vector ∙ table)))
-  kept_moved false table within k v w at is stays = grind (arith, common_steps, kept_as, keys_of-set_value, length-set_value, map)
+  kept_moved false table within k v w at is stays = grind (arith, common_steps, kept_as, keys_of-set_value_at, length-set_value_at, map)
 
   -- the fields once the closure has answered
   pub kept_replaced : {returns : Bor K → V → Option V → Type 0} → index < length old.pairs → (result : Result ℕ (K × ℕ))

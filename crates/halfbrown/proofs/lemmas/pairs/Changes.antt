@@ -9,11 +9,11 @@ use Rattle.std.proofs.lemmas.Map.Keys.{IsDistinct-IsPermutation, IsDistinct-tail
 use Rattle.std.specs.Cmp.{IsEquivalence}
 use Rattle.std.specs.List.{IsDistinct, swap_remove, AllByRecursion, remove}
 use Rattle.std.specs.List.Sorted.{IsPermutation}
-use Rattle.half_store.specs.PairLists.{swap_remove_at, set_value, set_key, index_of}
+use Rattle.half_store.specs.PairLists.{swap_remove_at, set_value_at, set_key_at, index_of}
 use Rattle.std.specs.Map.{keys_of, values_of, remove_entry}
 use Rattle.std.specs.Option.{option_map}
 use Rattle.std.proofs.lemmas.Option.{same_Some, slice_get_cases, slice_get-map}
-use Rattle.half_store.proofs.lemmas.store.States.{length-set_key}
+use Rattle.half_store.proofs.lemmas.store.States.{length-set_key_at}
 use Rattle.halfbrown.specs.Pairs.{value_of, pair_of}
 use Rattle.halfbrown.specs.Updates.{HasKeyReplaced}
 use Rattle.halfbrown.proofs.lemmas.pairs.Indices.{IsFirst, first_of_index}
@@ -67,30 +67,30 @@ module _ {X : Type 0} where
   swap_remove_at-set xs i a = grind (arith, common_steps, get_or-set_other, get_or_default, length-set, set-set, take-set-le)
 
 module _ {K V : Type 0} where
-  set_value-set : (ps : List (K × V)) (i : ℕ) (v : V) (d : K × V) → set_value ps i v ≡ set ps i ((get_or ps i d).0, v)
-  set_value-set [] i v d = refl
-  set_value-set (p ∷ ps) i v d = grind (arith, common_steps, set_value-set ps)
+  set_value_at-set : (ps : List (K × V)) (i : ℕ) (v : V) (d : K × V) → set_value_at ps i v ≡ set ps i ((get_or ps i d).0, v)
+  set_value_at-set [] i v d = refl
+  set_value_at-set (p ∷ ps) i v d = grind (arith, common_steps, set_value_at-set ps)
 
   -- a pair that is taken out may have another value
-  pub swap_remove_at-set_value : (ps : List (K × V)) (i : ℕ) (v : V) → swap_remove_at (set_value ps i v) i ≡ swap_remove_at ps i
-  swap_remove_at-set_value [] i v = refl
-  swap_remove_at-set_value (p ∷ ps) i v = rw (set_value-set (p ∷ ps) i v p) (swap_remove_at-set (p ∷ ps) i _)
+  pub swap_remove_at-set_value_at : (ps : List (K × V)) (i : ℕ) (v : V) → swap_remove_at (set_value_at ps i v) i ≡ swap_remove_at ps i
+  swap_remove_at-set_value_at [] i v = refl
+  swap_remove_at-set_value_at (p ∷ ps) i v = rw (set_value_at-set (p ∷ ps) i v p) (swap_remove_at-set (p ∷ ps) i _)
 
   -- a value that is written again
-  pub set_value-twice : (ps : List (K × V)) (i : ℕ) (v w : V) → set_value (set_value ps i v) i w ≡ set_value ps i w
-  set_value-twice [] i v w = refl
-  set_value-twice (p ∷ ps) i v w = grind (arith, common_steps, set_value-twice ps)
+  pub set_value_at-twice : (ps : List (K × V)) (i : ℕ) (v w : V) → set_value_at (set_value_at ps i v) i w ≡ set_value_at ps i w
+  set_value_at-twice [] i v w = refl
+  set_value_at-twice (p ∷ ps) i v w = grind (arith, common_steps, set_value_at-twice ps)
 
   -- the value that was written
-  pub value-set_value : (ps : List (K × V)) (i : ℕ) (v : V) → i < length ps → slice_get (values_of (set_value ps i v)) i ≡ Some v
-  value-set_value [] i v within = absurd (omega arith)
-  value-set_value (p ∷ ps) zero v within = refl
-  value-set_value (p ∷ ps) (suc i) v within = value-set_value ps i v (omega arith)
+  pub value-set_value_at : (ps : List (K × V)) (i : ℕ) (v : V) → i < length ps → slice_get (values_of (set_value_at ps i v)) i ≡ Some v
+  value-set_value_at [] i v within = absurd (omega arith)
+  value-set_value_at (p ∷ ps) zero v within = refl
+  value-set_value_at (p ∷ ps) (suc i) v within = value-set_value_at ps i v (omega arith)
 
   -- the pair that was just appended
-  pub set_value-last : (ps : List (K × V)) (k : K) (v w : V) → set_value (ps ++ (k, v) ∷ []) (length ps) w ≡ ps ++ (k, w) ∷ []
-  set_value-last [] k v w = refl
-  set_value-last (p ∷ ps) k v w = ap (λ l. p ∷ l) (set_value-last ps k v w)
+  pub set_value_at-last : (ps : List (K × V)) (k : K) (v w : V) → set_value_at (ps ++ (k, v) ∷ []) (length ps) w ≡ ps ++ (k, w) ∷ []
+  set_value_at-last [] k v w = refl
+  set_value_at-last (p ∷ ps) k v w = ap (λ l. p ∷ l) (set_value_at-last ps k v w)
 
   -- the key of a pair
   pub key_of-pair : (ps : List (K × V)) (i : ℕ) → slice_get (keys_of ps) i ≡ option_map (λ (p : K × V). p.0) (slice_get ps i)
@@ -111,30 +111,30 @@ module _ {K V : Type 0} where
 
 module _ {K V : Type 0} where
   -- only this key changes
-  pub keys_of-set_key : (ps : List (K × V)) (i : ℕ) (k : K) → keys_of (set_key ps i k) ≡ set (keys_of ps) i k
-  keys_of-set_key [] i k = refl
-  keys_of-set_key (p ∷ ps) i k = grind (arith, common_steps, keys_of-set_key ps)
+  pub keys_of-set_key_at : (ps : List (K × V)) (i : ℕ) (k : K) → keys_of (set_key_at ps i k) ≡ set (keys_of ps) i k
+  keys_of-set_key_at [] i k = refl
+  keys_of-set_key_at (p ∷ ps) i k = grind (arith, common_steps, keys_of-set_key_at ps)
 
   -- the values stay
-  pub values_of-set_key : (ps : List (K × V)) (i : ℕ) (k : K) → values_of (set_key ps i k) ≡ values_of ps
-  values_of-set_key [] i k = refl
-  values_of-set_key (p ∷ ps) i k = grind (arith, common_steps, values_of-set_key ps)
+  pub values_of-set_key_at : (ps : List (K × V)) (i : ℕ) (k : K) → values_of (set_key_at ps i k) ≡ values_of ps
+  values_of-set_key_at [] i k = refl
+  values_of-set_key_at (p ∷ ps) i k = grind (arith, common_steps, values_of-set_key_at ps)
 
   -- the key that was written
-  pub key-set_key : (ps : List (K × V)) (i : ℕ) (k : K) → i < length ps → slice_get (keys_of (set_key ps i k)) i ≡ Some k
-  key-set_key [] i k within = absurd (omega arith)
-  key-set_key (p ∷ ps) zero k within = refl
-  key-set_key (p ∷ ps) (suc i) k within = key-set_key ps i k (omega arith)
+  pub key-set_key_at : (ps : List (K × V)) (i : ℕ) (k : K) → i < length ps → slice_get (keys_of (set_key_at ps i k)) i ≡ Some k
+  key-set_key_at [] i k within = absurd (omega arith)
+  key-set_key_at (p ∷ ps) zero k within = refl
+  key-set_key_at (p ∷ ps) (suc i) k within = key-set_key_at ps i k (omega arith)
 
   -- the pair at the index is set
-  set_key-set : (ps : List (K × V)) (i : ℕ) (k : K) (d : K × V) → set_key ps i k ≡ set ps i (k, (get_or ps i d).1)
-  set_key-set [] i k d = refl
-  set_key-set (p ∷ ps) i k d = grind (arith, common_steps, set_key-set ps)
+  set_key_at-set : (ps : List (K × V)) (i : ℕ) (k : K) (d : K × V) → set_key_at ps i k ≡ set ps i (k, (get_or ps i d).1)
+  set_key_at-set [] i k d = refl
+  set_key_at-set (p ∷ ps) i k d = grind (arith, common_steps, set_key_at-set ps)
 
   -- a pair that is taken out may have another key
-  pub swap_remove_at-set_key : (ps : List (K × V)) (i : ℕ) (k : K) → swap_remove_at (set_key ps i k) i ≡ swap_remove_at ps i
-  swap_remove_at-set_key [] i k = refl
-  swap_remove_at-set_key (p ∷ ps) i k = rw (set_key-set (p ∷ ps) i k p) (swap_remove_at-set (p ∷ ps) i _)
+  pub swap_remove_at-set_key_at : (ps : List (K × V)) (i : ℕ) (k : K) → swap_remove_at (set_key_at ps i k) i ≡ swap_remove_at ps i
+  swap_remove_at-set_key_at [] i k = refl
+  swap_remove_at-set_key_at (p ∷ ps) i k = rw (set_key_at-set (p ∷ ps) i k p) (swap_remove_at-set (p ∷ ps) i _)
 
 -- an element is replaced by one that f cannot tell from it
 pub map-set_alike : {A B : Type 0} (f : A → B) (xs : List A) (i : ℕ) (old new : A) → slice_get xs i ≡ Some old → f old ≡ f new
@@ -185,22 +185,22 @@ module _ {K : Type 0} (eq : K → K → Bool) (laws : IsEquivalence eq) (old new
 
 module _ {K V : Type 0} (eq : K → K → Bool) (laws : IsEquivalence eq) (old new : K) (same : eq old new ≡ true) where
   -- each key keeps its value
-  value_of-set_key : (ps : List (K × V)) (i : ℕ) → slice_get (keys_of ps) i ≡ Some old → (q : K)
-      → value_of eq (set_key ps i new) q ≡ value_of eq ps q
-  value_of-set_key [] i at q = refl
-  value_of-set_key (p ∷ ps) zero at q = grind (arith, common_steps, alike, same_Some)
-  value_of-set_key (p ∷ ps) (suc i) at q = grind (arith, common_steps, value_of-set_key ps i at q)
+  value_of-set_key_at : (ps : List (K × V)) (i : ℕ) → slice_get (keys_of ps) i ≡ Some old → (q : K)
+      → value_of eq (set_key_at ps i new) q ≡ value_of eq ps q
+  value_of-set_key_at [] i at q = refl
+  value_of-set_key_at (p ∷ ps) zero at q = grind (arith, common_steps, alike, same_Some)
+  value_of-set_key_at (p ∷ ps) (suc i) at q = grind (arith, common_steps, value_of-set_key_at ps i at q)
 
   -- each other key keeps its pair
-  pair_of-set_key : (ps : List (K × V)) (i : ℕ) → slice_get (keys_of ps) i ≡ Some old → (q : K) → eq new q ≡ false
-      → pair_of eq (set_key ps i new) q ≡ pair_of eq ps q
-  pair_of-set_key [] i at q other = refl
-  pair_of-set_key (p ∷ ps) zero at q other = grind (arith, common_steps, alike, same_Some)
-  pair_of-set_key (p ∷ ps) (suc i) at q other = grind (arith, common_steps, pair_of-set_key ps i at q other)
+  pair_of-set_key_at : (ps : List (K × V)) (i : ℕ) → slice_get (keys_of ps) i ≡ Some old → (q : K) → eq new q ≡ false
+      → pair_of eq (set_key_at ps i new) q ≡ pair_of eq ps q
+  pair_of-set_key_at [] i at q other = refl
+  pair_of-set_key_at (p ∷ ps) zero at q other = grind (arith, common_steps, alike, same_Some)
+  pair_of-set_key_at (p ∷ ps) (suc i) at q other = grind (arith, common_steps, pair_of-set_key_at ps i at q other)
 
   -- the pair of the key is the key itself with the value that was there
   pair_of-set_key_same : (ps : List (K × V)) (i : ℕ) → slice_get (keys_of ps) i ≡ Some old → IsDistinct eq (keys_of ps)
-      → pair_of eq (set_key ps i new) new ≡ option_map (λ v. (new, v)) (value_of eq ps new)
+      → pair_of eq (set_key_at ps i new) new ≡ option_map (λ v. (new, v)) (value_of eq ps new)
   unfolding IsDistinct
   pair_of-set_key_same [] i at distinct = cc
   pair_of-set_key_same (p ∷ ps) zero at distinct = grind (arith, common_steps, alike eq laws old new same new, laws.refl new, same_Some p.0 old at)
@@ -210,13 +210,13 @@ module _ {K V : Type 0} (eq : K → K → Bool) (laws : IsEquivalence eq) (old n
 
   -- what callers read off the pairs
   pub has_key_replaced : (ps : List (K × V)) (i : ℕ) → slice_get (keys_of ps) i ≡ Some old → IsDistinct eq (keys_of ps)
-      → HasKeyReplaced eq ps new (set_key ps i new)
+      → HasKeyReplaced eq ps new (set_key_at ps i new)
   has_key_replaced ps i at distinct = record {
     pair = pair_of-set_key_same ps i at distinct;
-    values = value_of-set_key ps i at;
-    others = pair_of-set_key ps i at;
-    len = length-set_key ps i new;
-    order = values_of-set_key ps i new;
+    values = value_of-set_key_at ps i at;
+    others = pair_of-set_key_at ps i at;
+    len = length-set_key_at ps i new;
+    order = values_of-set_key_at ps i new;
   }
 
 pub map-remove : {A B : Type 0} (f : A → B) (xs : List A) (i : ℕ) → map f (remove xs i) ≡ remove (map f xs) i

@@ -3,7 +3,7 @@ use Rattle.std.specs.Map.{keys_of}
 use Rattle.std.proofs.Common.{arith, ◌≡◌, ℕ, zero, suc, Bool, true, List, [], ◌∷◌, get_or, slice_get, IfSome, sym, ap, subst, ◌∙◌}
 use Rattle.std.proofs.lemmas.Grind.{common_steps}
 use Rattle.std.specs.Cmp.{IsEquivalence}
-use Rattle.half_store.specs.PairLists.{set_value}
+use Rattle.half_store.specs.PairLists.{set_value_at}
 use Rattle.halfbrown.specs.Lookup.{IsIndexOf}
 use Rattle.halfbrown.specs.Pairs.{put_by}
 use Rattle.halfbrown.specs.Updates.{HasPut, HasSetBy}
@@ -28,9 +28,9 @@ module _ {K : Type 0} (same : K → K → Bool) (laws : IsEquivalence same) (tes
   passing_key (k ∷ ks) i first = (get_or (k ∷ ks) i k, first_passes test (k ∷ ks) i k first)
 
   -- the value of the key that was found is set
-  pub has_set_by : {V : Type 0} (ps : List (K × V)) (i : ℕ) (v : V) → IsIndexOf test ps i → HasSetBy same test ps v (set_value ps i v)
+  pub has_set_by : {V : Type 0} (ps : List (K × V)) (i : ℕ) (v : V) → IsIndexOf test ps i → HasSetBy same test ps v (set_value_at ps i v)
   has_set_by ps i v at =
       let found = passing_key (keys_of ps) i (first_of_index test (keys_of ps) i at.index_is) in
-      let put = has_put_by ps (set_value ps i v) found.0 v (sym (at.put_is found.0 v)) found.1 in
+      let put = has_put_by ps (set_value_at ps i v) found.0 v (sym (at.put_is found.0 v)) found.1 in
       let same_test : same found.0 ≡ test = λ i x. sym (one_class found.0 x found.1) i in
       grind (arith, common_steps, same_test)

@@ -4,7 +4,7 @@ use Rattle.std.proofs.Common.{subst, ◌∙◌, arith, Bool, true, is_some, fals
 use Rattle.std.proofs.lemmas.Map.Entries.{length-keys_of, length-values_of}
 use Rattle.std.proofs.lemmas.Option.{slice_get_cases}
 use Rattle.std.specs.Map.{keys_of, values_of}
-use Rattle.half_store.specs.PairLists.{set_value, swap_remove_at}
+use Rattle.half_store.specs.PairLists.{set_value_at, swap_remove_at}
 use Rattle.halfbrown.specs.declared.entry.OccupiedEntry.{OccupiedEntry}
 use Rattle.halfbrown.specs.declared.raw_entry.RawEntryMut.{RawEntryMut}
 use Rattle.halfbrown.specs.declared.raw_entry.RawVacantEntryMut.{RawVacantEntryMut}
@@ -12,7 +12,7 @@ use Rattle.halfbrown.specs.Entry.{entry_key, entry_value, map_of, with_value, Is
 use Rattle.halfbrown.specs.RawEntry.{Occupied, Vacant, found_key, found_pair, found_value, pairs_once_put, PutsThroughRawEntry, PutsEntry}
 use Rattle.halfbrown.specs.RawEntry.{AddsThroughRawEntry, IsRawEntryOf}
 use Rattle.halfbrown.specs.State.{IsState, WithPairs, State}
-use Rattle.halfbrown.proofs.lemmas.pairs.Changes.{key_of-pair, value_of-pair, set_value-last, value-last, key-last, set_value-twice}
+use Rattle.halfbrown.proofs.lemmas.pairs.Changes.{key_of-pair, value_of-pair, set_value_at-last, value-last, key-last, set_value_at-twice}
 use Rattle.halfbrown.proofs.lemmas.entry.Methods.{swap_remove_at-last}
 use Rattle.std.proofs.lemmas.Grind.{common_steps}
 use Rattle.std.specs.Cmp.{IsEquivalence}
@@ -47,9 +47,9 @@ is_some_within xs i within = grind (arith, common_steps, slice_get_cases)
 
 module _ {K V : Type 0} where
   -- a value that is held already
-  set_value-held : (ps : List (K × V)) (i : ℕ) (d : V) → set_value ps i (unwrap_or (slice_get (values_of ps) i) d) ≡ ps
-  set_value-held [] i d = refl
-  set_value-held (p ∷ ps) i d = grind (arith, common_steps, set_value-held ps)
+  set_value_at-held : (ps : List (K × V)) (i : ℕ) (d : V) → set_value_at ps i (unwrap_or (slice_get (values_of ps) i) d) ≡ ps
+  set_value_at-held [] i d = refl
+  set_value_at-held (p ∷ ps) i d = grind (arith, common_steps, set_value_at-held ps)
 
   -- a pair that is there, or else another, has its key and its value
   pair_or : (ps : List (K × V)) (i : ℕ) (k : K) (v : V)
@@ -80,9 +80,9 @@ module _ {K V S L H : Type 0} {e : eq.Ghosts K} {h : hash.Ghosts K} {b : hashers
 
   -- a value that is written again
   pub held_twice : (key : K) (value again : V)
-      → set_value (with_value (entries.Occupied o) value).pairs o.index again ≡ pairs_once_put (Occupied o) key again
+      → set_value_at (with_value (entries.Occupied o) value).pairs o.index again ≡ pairs_once_put (Occupied o) key again
   unfolding with_value
-  held_twice key value again = set_value-twice o.map.now.pairs o.index value again
+  held_twice key value again = set_value_at-twice o.map.now.pairs o.index value again
 
   -- the pair has a key
   key_there : (key : K) → entry_key (entries.Occupied o) ≡ Some (unwrap_or (entry_key (entries.Occupied o)) key)
@@ -93,10 +93,10 @@ module _ {K V S L H : Type 0} {e : eq.Ghosts K} {h : hash.Ghosts K} {b : hashers
       → IsWritten (entries.Occupied o) value (entries.Occupied written) → PutsThroughRawEntry (Occupied o) key value written
   written_puts key value written is = record {
     same_map = is.same_map;
-    map = subst (WithPairs o.map.now (set_value o.map.now.pairs o.index value)) (sym is.map) (held_with_pairs key value);
+    map = subst (WithPairs o.map.now (set_value_at o.map.now.pairs o.index value)) (sym is.map) (held_with_pairs key value);
     key_is = is.key ∙ key_there key;
     value_is = is.value_is;
-    writes = λ v. subst (WithPairs o.map.now (set_value o.map.now.pairs o.index v)) (sym (is.writes v)) (held_with_pairs key v);
+    writes = λ v. subst (WithPairs o.map.now (set_value_at o.map.now.pairs o.index v)) (sym (is.writes v)) (held_with_pairs key v);
     pairs_left = is.pairs_left;
   }
 
@@ -114,7 +114,7 @@ module _ {K V S L H : Type 0} {e : eq.Ghosts K} {h : hash.Ghosts K} {b : hashers
         key_is = (λ i. slice_get (keys_of (after.pairs i)) (last i)) ∙ key-last ps key value;
         value_is = (λ i. slice_get (values_of (after.pairs i)) (last i)) ∙ value-last ps key value;
         writes = λ u. record {
-          pairs = (λ i. set_value (after.pairs i) (last i) u) ∙ set_value-last ps key value u;
+          pairs = (λ i. set_value_at (after.pairs i) (last i) u) ∙ set_value_at-last ps key value u;
           form = after.form;
           capacity = after.capacity;
           builder = after.builder;
@@ -131,7 +131,7 @@ module _ {K V S L H : Type 0} {e : eq.Ghosts K} {h : hash.Ghosts K} {b : hashers
     held_puts_at o key value within = record {
       same_map = refl;
       map = record {
-        pairs = sym (set_value-held o.map.now.pairs o.index value);
+        pairs = sym (set_value_at-held o.map.now.pairs o.index value);
         form = refl;
         capacity = refl;
         builder = refl;
@@ -182,7 +182,7 @@ module _ {K : Type 0} (same : K → K → Bool) (laws : IsEquivalence same) (tes
       value = sym at.value;
       equal = passes_at same laws test one_class (keys_of o.map.now.pairs) o.index (first_of_index test (keys_of o.map.now.pairs) o.index at.index_is);
       puts = λ k v. sym (at.put_is k v);
-      put = λ k v. has_put_by same laws test one_class o.map.now.pairs (set_value o.map.now.pairs o.index v) k v (sym (at.put_is k v));
+      put = λ k v. has_put_by same laws test one_class o.map.now.pairs (set_value_at o.map.now.pairs o.index v) k v (sym (at.put_is k v));
       writes = λ occupied v. record { pairs = sym (at.set_is v); form = refl; capacity = refl; builder = refl };
       written = λ occupied v. has_set_by same laws test one_class o.map.now.pairs o.index v at;
       takes = sym at.take_is;

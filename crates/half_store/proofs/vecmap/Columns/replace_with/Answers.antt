@@ -2,8 +2,8 @@ use Rattle.std.proofs.Common.{◌≡◌, ◌-◌, ◌<◌, ◌∷◌, ◌++◌, 
 use Rattle.std.specs.List.{zip, SwappedAt}
 use Rattle.half_store.proofs.lemmas.vecmap.Columns.{columns_steps, opened, pair_read}
 use Rattle.half_store.proofs.lemmas.vecmap.Replace.{restored}
-use Rattle.half_store.proofs.lemmas.vecmap.Zip.{zip-swap_remove_at, zip-set_value, get_or_within}
-use Rattle.half_store.specs.PairLists.{set_value, swap_remove_at}
+use Rattle.half_store.proofs.lemmas.vecmap.Zip.{zip-swap_remove_at, zip-set_value_at, get_or_within}
+use Rattle.half_store.specs.PairLists.{set_value_at, swap_remove_at}
 use Rattle.half_store.proofs.vecmap.Columns.replace_with.Goals as goal
 
 pub f-requires : goal.f-requires
@@ -31,7 +31,7 @@ returns-in-Some-clause-replaces g c =
       pairs = ap (zip c.self.inside.keys.items)
           (restored values c.push_reserved.new.self.items c.swap.new.self.items index taken.result c.in-Some.value
           (omega (arith, o.values_length, c.requires.within)) pushed swapped long)
-          ∙ zip-set_value c.self.inside.keys.items values index c.in-Some.value ∙ ap (λ ps. set_value ps index c.in-Some.value) o.pairs;
+          ∙ zip-set_value_at c.self.inside.keys.items values index c.in-Some.value ∙ ap (λ ps. set_value_at ps index c.in-Some.value) o.pairs;
       removed_is = refl;
     }
 

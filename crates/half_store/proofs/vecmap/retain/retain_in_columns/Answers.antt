@@ -5,8 +5,8 @@ use Rattle.std.specs.Map.Calls.{CalledAtPair, TakesPair}
 use Rattle.std.proofs.lemmas.List.{take-map, length-map, length-set}
 use Rattle.half_store.proofs.lemmas.vecmap.Retain.{Sifting, Sifting-asks, Sifting-rejected, Sifting-accepted, Sifting-ends, map-swap}
 use Rattle.half_store.proofs.lemmas.vecmap.Retain.{zip-swap, swap-self}
-use Rattle.half_store.specs.PairLists.{set_value}
-use Rattle.half_store.proofs.lemmas.vecmap.Zip.{length-zip, zip-take, get_or-zip, zip-set_value}
+use Rattle.half_store.specs.PairLists.{set_value_at}
+use Rattle.half_store.proofs.lemmas.vecmap.Zip.{length-zip, zip-take, get_or-zip, zip-set_value_at}
 use Rattle.half_store.proofs.vecmap.retain.retain_in_columns.Goals.{then-f, then-index-hashes, else-index-hashes, else-f}
 use Rattle.half_store.proofs.vecmap.retain.retain_in_columns.Goals as goal
 
@@ -44,9 +44,9 @@ loop-index-preserved g c =
           subst (λ b. CalledAtPair g.F.FnMut l.f k v b w c.f.new.self) kept.if-f.true called in
           let keys : c.if-f.keys ≡ swap l.keys l.kept l.index = kept.keys-is ∙ kept.swap.ensures.after in
           let values : c.if-f.values ≡ swap (set l.values l.index w) l.kept l.index = kept.values-is ∙ kept.swap-then-f.ensures.after in
-          let pairs : zip c.if-f.keys c.if-f.values ≡ swap (set_value (zip l.keys l.values) l.index w) l.kept l.index =
+          let pairs : zip c.if-f.keys c.if-f.values ≡ swap (set_value_at (zip l.keys l.values) l.index w) l.kept l.index =
           (λ j. zip (keys j) (values j)) ∙ zip-swap l.keys (set l.values l.index w) l.kept l.index (length-set l.values l.index w ∙ even)
-          ∙ ap (λ ps. swap ps l.kept l.index) (zip-set_value l.keys l.values l.index w) in
+          ∙ ap (λ ps. swap ps l.kept l.index) (zip-set_value_at l.keys l.values l.index w) in
           let sifted : Sifting (CalledAtPair g.F.FnMut) (TakesPair g.F.FnMut) c.args.f (zip c.args.keys.now c.args.values.now) c.f.new.self
           (zip c.if-f.keys c.if-f.values) c.if-f.kept (l.index + 1) =
           subst (λ n. Sifting (CalledAtPair g.F.FnMut) (TakesPair g.F.FnMut) c.args.f (zip c.args.keys.now c.args.values.now) c.f.new.self
@@ -83,8 +83,8 @@ loop-index-preserved g c =
       | else-f left ↦
           let rejected : CalledAtPair g.F.FnMut l.f k v false w c.f.new.self =
           subst (λ b. CalledAtPair g.F.FnMut l.f k v b w c.f.new.self) left.if-f.false called in
-          let pairs : zip c.if-f.keys c.if-f.values ≡ set_value (zip l.keys l.values) l.index w =
-          (λ j. zip (left.keys-is j) (left.values-is j)) ∙ zip-set_value l.keys l.values l.index w in
+          let pairs : zip c.if-f.keys c.if-f.values ≡ set_value_at (zip l.keys l.values) l.index w =
+          (λ j. zip (left.keys-is j) (left.values-is j)) ∙ zip-set_value_at l.keys l.values l.index w in
           let sifted : Sifting (CalledAtPair g.F.FnMut) (TakesPair g.F.FnMut) c.args.f (zip c.args.keys.now c.args.values.now) c.f.new.self
           (zip c.if-f.keys c.if-f.values) c.if-f.kept (l.index + 1) =
           subst (λ n. Sifting (CalledAtPair g.F.FnMut) (TakesPair g.F.FnMut) c.args.f (zip c.args.keys.now c.args.values.now) c.f.new.self

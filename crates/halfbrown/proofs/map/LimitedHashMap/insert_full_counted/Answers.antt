@@ -2,7 +2,7 @@ use Rattle.std.proofs.Common.{None, Some, ap, sym, subst, ◌∙◌}
 use Rattle.half_store.specs.PairLists.{index_of}
 use Rattle.halfbrown.specs.Insertion.{IsReadyFor}
 use Rattle.halfbrown.proofs.lemmas.map.Insert.{inserted_at}
-use Rattle.halfbrown.proofs.lemmas.map.Layout.{keys_of-set_value}
+use Rattle.halfbrown.proofs.lemmas.map.Layout.{keys_of-set_value_at}
 use Rattle.halfbrown.proofs.lemmas.pairs.Indices.{index_of-added}
 use Rattle.halfbrown.proofs.map.LimitedHashMap.insert_full_counted.Goals as goal
 
@@ -16,7 +16,7 @@ returns-in-Ok-Held-clause-inserts g c =
     inserted_at g.L.Limit.LIMIT eq g.met.K.Eq.laws c.args.self.now middle c.set_at.new.self key c.args.value _
     c.set_at.ensures.after (ready.put_is key c.args.value)
     found.ok c.in-Ok-Held.index (Some c.set_at.result) (sym c.set_at.ensures.old ∙ sym ready.value)
-    (ap (index_of (eq key)) (keys_of-set_value middle.pairs c.in-Ok-Held.index c.args.value) ∙ ready.index_is) c.set_at.ensures.state
+    (ap (index_of (eq key)) (keys_of-set_value_at middle.pairs c.in-Ok-Held.index c.args.value) ∙ ready.index_is) c.set_at.ensures.state
 
 pub returns-in-Ok-Vacant-clause-inserts : goal.returns-in-Ok-Vacant-clause-inserts
 returns-in-Ok-Vacant-clause-inserts g c =
