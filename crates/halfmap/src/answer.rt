@@ -11,7 +11,7 @@ use std::fmt;
 pub(crate) type Numbers = SizedHashMap<u64, u64, DefaultHashBuilder, 5>;
 
 /// One line of output. It is written as the line, without its end.
-#[derive(Clone, Copy, Debug, PartialEq, Eq)]
+#[derive(Drop)]
 pub(crate) enum Answer {
     /// The key is not held, or was not before.
     Absent,

@@ -9,7 +9,6 @@ use std::str;
 const MOST_DIGITS: usize = 20;
 
 /// What a line asks of the map.
-#[derive(Clone, Copy, Debug, PartialEq, Eq)]
 pub(crate) enum Request {
     /// `i K V`: give key K the value V.
     Insert(u64, u64),
