@@ -9,7 +9,7 @@ set_values [] vs = []
 set_values (p ∷ ps) [] = p ∷ ps
 set_values (p ∷ ps) (v ∷ vs) = (p.0, v) ∷ set_values ps vs
 
--- the element at this index is gone, and the last one is in its place
+-- the element at this index, which is below the length, is gone, and the last one is in its place
 abbrev pub swap_remove_at : {X : Type 0} → List X → ℕ → List X
 swap_remove_at [] index = []
 swap_remove_at (x ∷ xs) index = swap_remove (x ∷ xs) index x

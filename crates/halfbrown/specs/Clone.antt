@@ -16,7 +16,7 @@ ArePairClones key_clone value_clone old new = AllZip (λ p q. key_clone p.0 q.0 
 abbrev pub ClonesEqualKeys : {K V S : Type 0} → (K → K → Bool) → (K → K → Type 0) → State K V S → Type 0
 ClonesEqualKeys {K} eq key_clone m = (k copy : K) → Contains (keys_of m.pairs) k → key_clone k copy → eq k copy ≡ true
 
--- where hashes are stored, this builder hashes each held key as that of the map does
+-- in a table, this builder hashes each held key as the map's builder does
 abbrev pub HashesAlike : {K V S : Type 0} → (S → K → ℕ) → State K V S → S → Type 0
 HashesAlike {K} hash m builder = (k : K) → m.is_vec ≡ false → Contains (keys_of m.pairs) k → hash builder k ≡ hash m.builder k
 

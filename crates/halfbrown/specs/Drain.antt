@@ -37,8 +37,8 @@ module _ {K V S L H : Type 0} {e : eq.Ghosts K} {h : hash.Ghosts K} {b : hashers
   abbrev pub KeepsAlong : Drain K V S L (StoreState K V) H e h b l p → Type 0
   KeepsAlong s = (ps : List (K × V)) (t : Drain K V S L (StoreState K V) H e h b l p) → Yields DrainSteps s ps t → Keeps s t
 
-  -- s borrows the map of this ghost name, calls of `next` give the next pairs, and each state that they lead to borrows the same map, in the
-  -- same form and capacity
+  -- s borrows the map of this ghost name; calls of `next` of any `Drain` give the first of the pairs that it had left, in order; and each state
+  -- that they lead to from s borrows the same map, in the same form and capacity
   pub record StepsThroughPairs (name : GName) (s : Drain K V S L (StoreState K V) H e h b l p) : Type 0 where
     pub same_map : s.map.ghost_name ≡ name
     pub pairs : YieldsInOrder DrainSteps rest

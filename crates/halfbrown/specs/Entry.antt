@@ -95,7 +95,7 @@ module _ {K V S L H : Type 0} {e : eq.Ghosts K} {h : hash.Ghosts K} {b : hashers
     pub writes : (v : V) → with_value written v ≡ with_value entry v
     pub pairs_left : pairs_without written ≡ pairs_without entry
 
-  -- a call on the value where the key is held, and no call else: the entry is the same one, and has the value that was left
+  -- a call on the value where the key is held, and none where it is not: the entry is the same one, and has the value that was left
   pub record ModifiesEntry (modifies : Option V → Option V → Type 0) (entry modified : Entry K V S L H e h b l) : Type 0 where
     pub same_map : (map_ref modified).ghost_name ≡ (map_ref entry).ghost_name
     pub value : modifies (entry_value entry) (entry_value modified)

@@ -51,7 +51,7 @@ module _ {K V S : Type 0} (limit : ℕ) (eq : K → K → Bool) where
     pub builder : new.builder ≡ old.builder
     pub inserted : InsertsAll old items new
 
-  -- `given` holds of these items: all but the last were inserted, and the insertion of the last was refused
+  -- there are items of which `given` holds: all but the last were inserted, and the insertion of the last was refused
   pub record IsRefusedInsertion (given : List (K × V) → Type 0) (old : State K V S) (why : Refusal) (new : State K V S) : Type 0 where
     pub before : List (K × V)
     pub key : K
@@ -114,14 +114,14 @@ module _ {K V S C I : Type 0} (into : C → I → Type 0) (steps : I → Option 
     pub drained : Drains steps iterator gave
     pub extends : Extends limit eq old gave new
 
-  -- the last item that the iterator gave was refused, and those before it are inserted
+  -- the last item that was taken from the iterator was refused, and those before it are inserted
   pub record IsRefusedExtension (items : C) (old new : State K V S) (why : Refusal) : Type 0 where
     pub iterator : I
     pub is_made : into items iterator
     pub insertion : IsRefusedInsertion limit eq (Gives steps iterator) old why new
 
   module _ (left : I → Count) (is_default : S → Type 0) where
-    -- a map of all that the iterator gave, made with capacity for a number of pairs that is no more than it may give
+    -- a map of all that the iterator gave, made with capacity for some number of pairs that is no more than it may give
     pub record IsCollectionOf (items : C) (m : State K V S) : Type 0 where
       pub iterator : I
       pub is_made : into items iterator

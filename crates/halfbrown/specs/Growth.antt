@@ -1,4 +1,5 @@
--- Where a call needs more capacity, how much, and what the capacity is afterwards.
+-- Where a call needs more capacity, how much, and what the capacity is afterwards. A call is granted where it returns `Ok`, and refused where
+-- it returns `Err`. A switching call, an insertion or `entry`, makes a full vector a table first, also where the key is held.
 use Rattle.std.specs.Prelude.{◌≡◌, ℕ, ◌+◌, ◌^◌, ◌<◌, ◌≤◌, ◌⊎◌, Bool, not, ◌&&◌, ◌==◌, nat_lt, length, Option, None, Some, IfNone, IfSome, MatchBool, MatchOption, if◌then◌else◌}
 use Rattle.half_store.specs.declared.refusal.Refusal.{Refusal}
 use Rattle.half_store.specs.Refusal.{refusal_of}
@@ -7,7 +8,7 @@ use Rattle.half_store.specs.Store.{allowed}
 use Rattle.halfbrown.specs.State.{State}
 use Rattle.halfbrown.specs.Pairs.{holds}
 
--- the capacity that one pair more needs, where there is none left
+-- the capacity that one pair more needs, where no capacity is left for it; else none
 abbrev pub addition_needs : {K V S : Type 0} → State K V S → Option ℕ
 addition_needs m = if nat_lt (length m.pairs) m.capacity then None else Some (length m.pairs + 1)
 
@@ -35,7 +36,7 @@ abbrev pub IsGrantable : Option ℕ → Type 0
 IsGrantable needs = IfSome needs (λ n. n ≤ 2 ^ 60)
 
 module _ {K V S : Type 0} (limit : ℕ) where
-  -- a vector that holds as many pairs as the limit allows
+  -- a vector that holds as many pairs as the limit, whatever its capacity
   abbrev pub is_full : State K V S → Bool
   is_full m = m.is_vec && (length m.pairs == limit)
 
@@ -63,7 +64,7 @@ module _ {K V S : Type 0} (limit : ℕ) where
     pub grantable : IsGrantable needs
     pub builder : new.builder ≡ old.builder
 
-  -- a granted reservation for this many pairs more: the capacity is enough for them, in a vector for no more in all than the limit
+  -- a granted reservation for this many pairs more: the capacity is enough for them; in a vector for no more pairs in all than the limit
   pub record Reserves (old : State K V S) (additional : ℕ) (new : State K V S) : Type 0 where
     pub granted : Grants old.is_vec old (reserve_needs limit old (length old.pairs + additional)) new
     pub enough : allowed limit old.is_vec (length old.pairs + additional) ≤ new.capacity
@@ -80,6 +81,6 @@ module _ {K V S : Type 0} (limit : ℕ) where
     pub some : 0 < shrunk_capacity limit old.is_vec (length old.pairs)
     pub less : shrunk_capacity limit old.is_vec (length old.pairs) < old.capacity
 
-  -- after `shrink_to_fit` capacity is given back, or, where that needs memory, which may be refused, all is as before
+  -- after `shrink_to_fit` capacity is given back; or, only where that needs memory, which may be refused, all may be as before
   abbrev pub Shrinks : State K V S → State K V S → Type 0
   Shrinks old new = IsShrunk old new ⊎ (NeedsToShrink old × (new ≡ old))

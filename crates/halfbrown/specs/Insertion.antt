@@ -21,7 +21,6 @@ without_index (Err why) = Err why
 
 module _ {K V S : Type 0} where
   -- a granted insertion of (k, v) that needed this much capacity: the pair is put, and a full vector has become a table
-  -- (k and v stand in its type, so that lemmas can read them there)
   pub record Puts (limit : ℕ) (eq : K → K → Bool) (old : State K V S) (k : K) (v : V) (needs : Option ℕ) (new : State K V S) : Type 0 where
     pub pairs : new.pairs ≡ put eq old.pairs k v
     pub form : new.is_vec ≡ is_vec_after limit old

@@ -41,8 +41,8 @@ module _ {K V : Type 0} where
   ValuesMutSteps s r t = slice.iter_mut_steps s.values r t.values
 
 module _ (K V : Type 0) where
-  -- calls of `next` of an `Iter` give the first of the pairs that it had left, in order, all of them once it returned none, and so their
-  -- values
+  -- calls of `next` of any `Iter` give the first of the pairs that it had left, in order; once it returned none, all of them. The same holds
+  -- of their values
   pub record ShowsPairsInOrder : Type 0 where
     pub pairs : EveryRun (IterSteps {K = K} {V = V}) (λ p. ItemsMapTo p deref_pair (pairs_left p.from))
     pub values : EveryRun (IterSteps {K = K} {V = V}) (λ p. ItemsMapTo p (λ x. x.1.now) (values_of (pairs_left p.from)))

@@ -28,8 +28,8 @@ module _ (K V S L H : RattleType) (key : HashMembers K.Denot) (build : hashers.G
     abbrev pub LendsValueBy : (K.Denot → Bool) → Option (MutBor V.Denot) → Fml
     LendsValueBy test r = LendsIf map_row V m r (λ w. with_pairs m.now (set_by test m.now.pairs w)) m.now
 
-    -- once the loan of this name ends, the pairs have the values that were written through it, and the keys that they had; of a slice a proof
-    -- knows these values, of an iterator it does not
+    -- once the loan of this name ends, the pairs have the values that were written through it, and the keys that they had; a proof knows
+    -- these values where a slice was lent, and not where an iterator was
     abbrev pub LendsValues : GName → Fml
     LendsValues name = follows map_row (Array V 0) m.ghost_name name (λ vs. with_pairs m.now (set_values m.now.pairs vs))
 

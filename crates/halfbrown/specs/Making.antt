@@ -9,7 +9,7 @@ use Rattle.half_store.specs.Capacity.{least_capacity}
 use Rattle.halfbrown.specs.Growth.{making_needs, IsGrantable, IsRefusal}
 use Rattle.halfbrown.specs.State.{State}
 
--- the builder that a map has where its maker names none: `DefaultHashBuilder::new()`
+-- the builder that a map has where the call that makes it is given none: `DefaultHashBuilder::new()`
 abbrev pub IsDefaultBuilder : BuildHasherDefault FoldHasher → Type 0
 IsDefaultBuilder builder = initial_hasher builder ≡ initial
 
@@ -22,7 +22,7 @@ module _ {K V S : Type 0} (is_builder : S → Type 0) where
     pub builder : is_builder m.builder
 
   module _ (is_vec : Bool) (needed : ℕ) where
-    -- an empty map of this form, with exactly its least capacity for this many pairs; `is_builder` holds of its builder
+    -- an empty map of this form, with exactly the least capacity of its form for this many pairs; `is_builder` holds of its builder
     pub record IsMade (m : State K V S) : Type 0 where
       pub form : m.is_vec ≡ is_vec
       pub pairs : m.pairs ≡ []

@@ -1,11 +1,10 @@
--- Reading and changing a list of pairs of distinct keys, of the key that passes a test, and of the key that equals k.
+-- Lists of pairs with distinct keys: reading and changing the pair whose key passes a test, or equals k.
 use Rattle.std.specs.Prelude.{◌≡◌, Bool, true, List, [], ◌∷◌, ◌++◌, Option, is_some, if◌then◌else◌}
 use Rattle.std.specs.Option.{option_map_or}
 use Rattle.std.specs.Map.{keys_of, lookup, lookup_entry}
 pub use Rattle.half_store.specs.PairLists.{index_of, set_key_at, set_value_at, set_values, swap_remove_at}
 
--- the test of a lawful form of a key, as that of a text among keys that are strings: it accepts the equals of a key that it accepts, and no
--- other
+-- the test of a lawful form of a key, as that of a text among keys that are strings: once it accepts a key, it accepts exactly its equals
 abbrev pub IsForm : {K : Type 0} → (K → K → Bool) → (K → Bool) → Type 0
 IsForm {K} eq form = (k other : K) → form k ≡ true → form other ≡ eq k other
 

@@ -28,7 +28,7 @@ module _ {K V S : Type 0} where
   abbrev pub with_pairs : State K V S → List (K × V) → State K V S
   with_pairs m ps = record m { pairs = ps }
 
-  -- new is old with these pairs: form, capacity and builder are the same
+  -- new is old with these pairs: form, capacity and builder are the same; what the buckets contain is not said
   pub record WithPairs (old : State K V S) (ps : List (K × V)) (new : State K V S) : Type 0 where
     pub pairs : new.pairs ≡ ps
     pub form : new.is_vec ≡ old.is_vec
@@ -50,7 +50,7 @@ state_code k v s = coded_via (coded× coded_bool (coded× (coded_list (coded× k
 abbrev pub IsTableCapacity : ℕ → Type 0
 IsTableCapacity capacity = capacity ≡ capacity_for capacity
 
--- what holds of every map: no two held keys are equal, the pairs fit the capacity, a vector's capacity is at most the limit, and a
+-- what holds of every map: no two held keys are equal, the pairs fit in the capacity, a vector's capacity is at most the limit, and a
 -- table's is more than the limit and one of the series
 pub record IsState {K V S : Type 0} (eq : K → K → Bool) (limit : ℕ) (m : State K V S) : Type 0 where
   pub distinct : IsDistinct eq (keys_of m.pairs)

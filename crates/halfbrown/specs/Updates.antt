@@ -12,7 +12,7 @@ pub record HasValues {K V : Type 0} (old : List (K × V)) (vs : List V) (new : L
   pub values : length vs ≡ length old → values_of new ≡ vs
   pub len : length new ≡ length old
 
--- whatever values are written into the pairs of a map: it has as many pairs, fewer than 2^63, with the same keys, and stays an `IsState`
+-- whatever values are written into the pairs of a map: it has as many pairs, fewer than 2^63, with the same keys, and `IsState` still holds
 pub record KeepsKeys {K V S : Type 0} (limit : ℕ) (eq : K → K → Bool) (old : State K V S) : Type 0 where
   pub small : length old.pairs < 2 ^ 63
   pub written : (vs : List V) → HasValues old.pairs vs (set_values old.pairs vs)

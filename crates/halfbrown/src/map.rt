@@ -160,7 +160,7 @@ impl<K: Eq + Hash, V, S: KeyHasher<K>, L: Limit> LimitedHashMap<K, V, S, L> {
         &self.builder
     }
 
-    /// Returns how many pairs fit before more memory is needed. In a vector this is at most the limit.
+    /// Returns how many pairs fit in all before more memory is needed. In a vector this is at most the limit.
     ///
     /// ```
     /// let ages = HashMap::<u64, u32>::with_capacity(alloc, 4)?;

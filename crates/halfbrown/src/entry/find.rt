@@ -1,6 +1,7 @@
 //! Making the entry of a key, or of the pair at an index.
 //!
-//! A clause `unchanged` says that the map stays as it is where no entry is made, and else ends as the entry leaves it.
+//! A clause `unchanged` says that the map stays as it is where no entry is made, and else ends as the entry leaves it. What
+//! stands in it before `self.entry` names types, and can be passed over; `self.entry` is the map when the call began.
 ghost use Rattle.std.specs.Prelude.{◌<◌, ◌↔◌, IfSome, IsSome, is_ok, length};
 ghost use Rattle.std.specs.Borrow.{sem};
 ghost use Rattle.halfbrown.specs.Costs.{IsInsertCost};
@@ -14,7 +15,8 @@ use std::hash::Hash;
 
 impl<K: Eq + Hash, V, S: KeyHasher<K>, L: Limit> LimitedHashMap<K, V, S, L> {
     /// Returns the entry of a key, through which its pair is read, written, removed or added without another search.
-    /// Where an equal key is held, the given key is dropped. A full vector becomes a table first, in both cases.
+    /// Where an equal key is held, the given key is dropped. A vector that holds as many pairs as the limit becomes a
+    /// table first, in both cases.
     ///
     /// Fails only where more capacity is needed: for the switch, or for a new key where none is left. Then nothing
     /// changes, and the error has the key. No call on the entry fails.

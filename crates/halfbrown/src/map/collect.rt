@@ -21,9 +21,9 @@ impl<K: Eq + Hash + Drop, V: Drop, S: KeyHasher<K> + Default + Drop, L: Limit> L
 > {
     /// Returns a map of these items, with the default of the builder's type.
     ///
-    /// It is made with capacity for the items' lower size hint, so it is a table where that is more than the limit. The
-    /// clauses do not say which hint that is.
-    /// Then each item is inserted, in order: of equal keys the first stays, with the last value.
+    /// It is made with capacity for the items' lower size hint, so it is a table where that is more than the limit. Then
+    /// each item is inserted, in order: of equal keys the first stays, with the last value. The clauses do not say which
+    /// hint that is.
     ///
     /// The items must end. Fails as `with_capacity` and `insert` do, and then drops what was collected and the
     /// remaining items.

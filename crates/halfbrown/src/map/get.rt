@@ -21,7 +21,7 @@ use std::ops::Index;
 impl<K: Eq + Hash, V, S: KeyHasher<K>, L: Limit> LimitedHashMap<K, V, S, L> {
     ghost use Rattle.halfbrown.specs.Lending.{LendsValueBy};
 
-    /// Returns the value of the held key that equals this one. It costs one search.
+    /// Returns the value of the held key that equals this one, or `None`. It costs one search.
     ///
     /// ```
     /// assert_eq!(rt; ages.get(&1), Some(&36));
@@ -76,7 +76,7 @@ impl<K: Eq + Hash, V, S: KeyHasher<K>, L: Limit> LimitedHashMap<K, V, S, L> {
         Some(self.columns().pair_at(index))
     }
 
-    /// Returns the value of the held key that equals this one, to be written. It costs one search.
+    /// Returns the value of the held key that equals this one, to be written, or `None`. It costs one search.
     ///
     /// ```
     /// if let Some(age) = ages.get_mut(&1) {
@@ -160,7 +160,7 @@ impl<K: Eq + Hash, V, S: KeyHasher<K>, L: Limit, Q: Equivalent<K>> Index<Q>
 
     ghost index_gives = { λ m key v. lookup (Q.equivalent key) m.pairs ≡ Some v };
 
-    /// Returns the value of the held key that equals this one, which must be held. It costs one search.
+    /// Returns the value of the held key that equals this one. A key that equals it must be held. It costs one search.
     ///
     /// ```
     /// let age = if ages.contains_key(&1) { ages[&1] } else { 0 };

@@ -10,11 +10,12 @@ use std::hash::Hash;
 
 impl<K: Eq + Hash, V, S: KeyHasher<K>, L: Limit> LimitedHashMap<K, V, S, L> {
     /// Makes the capacity enough for this many more pairs. A vector gets capacity for no more pairs than the limit,
-    /// since the insertion after that switches, and allocates. The capacity never falls. Nothing is hashed.
+    /// since an insertion beyond that makes a table, which needs memory anyway. The capacity never falls. Nothing is
+    /// hashed.
     ///
-    /// Where the capacity is not enough yet, a table gets the least of its series that is. A vector gets twice what it
-    /// had, but at least eight and what is needed, and at most the limit. Fails with `Size` where capacity for more than
-    /// 2^60 pairs is needed, and with `Memory` where memory is refused. On error nothing changes.
+    /// Where the capacity is not enough yet, a table gets the least of its series that is enough. A vector gets twice
+    /// what it had, but at least eight and what is needed, and at most the limit. Fails with `Size` where capacity for
+    /// more than 2^60 pairs is needed, and with `Memory` where memory is refused. On error nothing changes.
     ///
     /// ```
     /// ages.reserve(20)?; // the next twenty insertions need no more memory
@@ -31,8 +32,8 @@ impl<K: Eq + Hash, V, S: KeyHasher<K>, L: Limit> LimitedHashMap<K, V, S, L> {
         self.store.reserve(additional, L::LIMIT)
     }
 
-    /// Makes a table that holds no more pairs than the limit a vector again, and shrinks the capacity to the least that
-    /// the pairs fit. For a table that is the least of its series. The pairs keep their order. Nothing is hashed or
+    /// Turns a table that holds no more pairs than the limit back into a vector, and shrinks the capacity to the least
+    /// that the pairs fit in. For a table that is the least of its series. The pairs keep their order. Nothing is hashed or
     /// compared.
     ///
     /// Smaller columns and a smaller table need memory. Where that is refused nothing changes: a table stays one. A map

@@ -14,7 +14,7 @@ impl<K: Eq + Hash, V, S: KeyHasher<K>, L: Limit> LimitedHashMap<K, V, S, L> {
     /// Gives the key this value, and returns its old one.
     ///
     /// Where an equal key is held, that key stays at its index, and the given key is dropped. Else the pair is added at
-    /// the end. A full vector becomes a table first, in both cases.
+    /// the end. A vector that holds as many pairs as the limit becomes a table first, in both cases.
     ///
     /// Fails only where more capacity is needed: for the switch, or for a new key where none is left. Then nothing
     /// changes, and the error has the pair.

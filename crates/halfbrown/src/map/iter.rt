@@ -70,7 +70,7 @@ impl<K: Eq + Hash, V, S: KeyHasher<K>, L: Limit> LimitedHashMap<K, V, S, L> {
     }
 
     /// Returns the pairs, each as `(&K, &mut V)`, in order. The keys cannot be written. After a loop over them a proof
-    /// knows only the keys; `values_slice_mut` tells it the values.
+    /// knows only the keys; after one over `values_slice_mut` it knows the values too.
     ///
     /// ```
     /// for (id, age) in ages.iter_mut() {

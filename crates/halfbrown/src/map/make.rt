@@ -28,8 +28,8 @@ impl<K: Eq + Hash, V, L: Limit> LimitedHashMap<K, V, DefaultHashBuilder, L> {
     /// them, else a table. `with_capacity_and_hasher` takes another builder.
     ///
     /// A vector has exactly this capacity, and a table the least of 3, 6, 12, 24 and so on that is enough. It fails
-    /// with `Size` for more than 2^60 pairs, and with `Memory` where memory is refused. For no pairs it takes none, and
-    /// never fails.
+    /// with `Size` for more than 2^60 pairs, and with `Memory` where memory is refused. For no pairs it takes no memory,
+    /// and never fails.
     ///
     /// ```
     /// let small = HashMap::<u64, u32>::with_capacity(alloc, 32)?;

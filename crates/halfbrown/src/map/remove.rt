@@ -11,8 +11,8 @@ use half_store::{Tally, uncounted};
 use std::hash::Hash;
 
 impl<K: Eq + Hash, V, S: KeyHasher<K>, L: Limit> LimitedHashMap<K, V, S, L> {
-    /// Removes the pair of the held key that equals this one, and returns its value. The last pair takes its index. It costs
-    /// one search.
+    /// Removes the pair of the held key that equals this one, and returns its value, or `None` where there is none. The
+    /// last pair takes its index. Form, capacity and builder stay. It costs one search.
     ///
     /// ```
     /// assert_eq!(rt; ages.remove(&1), Some(36));
