@@ -24,6 +24,7 @@ pub trait Limit {
 /// let few = LimitedHashMap::<u64, u32, DefaultHashBuilder, AtMost<8>>::with_capacity(alloc, 9)?;
 /// assert!(rt; few.is_map());
 /// ```
+#[derive(Clone, Copy, Debug, PartialEq, Eq)]
 pub struct AtMost<const N: usize>;
 
 impl<const N: usize> Limit for AtMost<N> {
