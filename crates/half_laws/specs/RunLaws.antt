@@ -8,7 +8,7 @@ use Rattle.halfbrown.specs.declared.run.Command.{Command}
 use Rattle.halfbrown.specs.declared.run.Command.TheVariants.{Reserve}
 use Rattle.halfbrown.specs.declared.run.Reply.{Reply}
 use Rattle.halfbrown.specs.Costs.{Cost, add_costs}
-use Rattle.half_store.specs.Words.{bytes}
+use Rattle.half_store.specs.Arrays.{bytes}
 use Rattle.halfbrown.specs.Run.{Lead, RunsAtCost, shrinks, commands_of, replies_of, cost_of, Step, refusal_in, says_vec, is_shrink, switches, form_changed}
 use Rattle.halfbrown.specs.State.{State, IsState}
 

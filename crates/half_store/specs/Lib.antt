@@ -1,3 +1,4 @@
+pub mod Arrays
 pub mod Capacity
 pub mod Columns
 pub mod Drained

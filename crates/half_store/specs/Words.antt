@@ -1,9 +1,7 @@
--- The words that stand in buckets, and the bytes of them and of all arrays of a store.
-use Rattle.std.specs.Prelude.{◌≡◌, ℕ, ◌-◌, ◌^◌, ◌≤◌, nat_lt, if◌then◌else◌, List, ◌+◌, ◌*◌, Bool}
+-- The words that stand in buckets, and how large they may be.
+use Rattle.std.specs.Prelude.{◌≡◌, ℕ, ◌-◌, ◌^◌, ◌≤◌, nat_lt, if◌then◌else◌, List}
 use Rattle.half_store.specs.declared.words.WordArray.{WordArray}
 use Rattle.half_store.specs.declared.words.WordArray.TheVariants.{FourBytes, EightBytes}
-use Rattle.half_store.specs.declared.store.memory.Arrays.{Arrays}
-use Rattle.half_store.specs.Capacity.{buckets_of}
 
 -- the greatest word of four bytes; and of eight bytes, that of the most pairs that a table has memory for
 abbrev pub most_of_four : ℕ
@@ -30,19 +28,3 @@ word_size most = if nat_lt most (2 ^ 32) then 4 else 8
 pub record AreWordsFor (most capacity : ℕ) : Type 0 where
   pub fits : capacity ≤ most
   pub size : word_size most ≡ word_size capacity
-
--- the arrays of this form and this capacity: a table also has a hash for each pair and a word for each bucket, and itself stands in a
--- block of 56 bytes
-abbrev pub arrays_of : Bool → ℕ → Arrays
-arrays_of is_vec capacity =
-    let held : ℕ = if is_vec then 0 else capacity in
-    let block : ℕ = if is_vec then 0 else 56 in
-    record { keys = capacity; values = capacity; hashes = held; words = buckets_of held; word_size = word_size held; table = block }
-
--- the bytes of all of them, where a key has `key` of them, a value `value`, and a hash eight
-abbrev pub bytes_of : ℕ → ℕ → Arrays → ℕ
-bytes_of key value a = key * a.keys + value * a.values + 8 * a.hashes + a.word_size * a.words + a.table
-
--- the bytes of the arrays of a store or map of this form and this capacity
-abbrev pub bytes : ℕ → ℕ → Bool → ℕ → ℕ
-bytes key value is_vec capacity = bytes_of key value (arrays_of is_vec capacity)

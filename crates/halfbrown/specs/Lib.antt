@@ -24,7 +24,6 @@ pub mod formers
 -- What callers need of the store's words, so that they list this crate alone.
 pub use Rattle.half_store.specs.Capacity
 pub use Rattle.half_store.specs.Hash
-pub use Rattle.half_store.specs.Work
 pub use Rattle.half_store.specs.Reach
 pub use Rattle.half_store.specs.ValueReplacement
 pub use Rattle.half_store.specs.Search

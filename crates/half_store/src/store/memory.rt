@@ -3,7 +3,7 @@ ghost use Rattle.std.specs.Prelude.{◌≡◌, ℕ, ◌^◌, ◌<◌, ◌≤◌,
 ghost use Rattle.std.specs.Prelude.{length, nat_le, IsOk, IfOk, OnOk, OnErr, IfErr, if◌then◌else◌};
 ghost use Rattle.std.specs.List.{AllZip};
 ghost use Rattle.half_store.specs.Capacity.{capacity_for, least_capacity, vec_shrunk, shrunk_capacity};
-ghost use Rattle.half_store.specs.Words.{arrays_of, bytes_of, bytes};
+ghost use Rattle.half_store.specs.Arrays.{arrays_of, bytes_of, bytes};
 ghost use Rattle.half_store.specs.Refusal.{refusal_of};
 ghost use Rattle.half_store.specs.Store.{reserved, reserved_capacity};
 

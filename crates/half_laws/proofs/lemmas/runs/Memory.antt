@@ -5,7 +5,8 @@ use Rattle.std.proofs.lemmas.Grind.{common_steps}
 use Rattle.std.specs.Prelude.{MatchBool}
 use Rattle.half_store.specs.Capacity.{IsBucketCount, capacity_of, buckets_of, buckets_for_more, buckets_for, capacity_for, generous_capacity}
 use Rattle.half_store.specs.Capacity.{least_capacity, vec_shrunk}
-use Rattle.half_store.specs.Words.{bytes, word_size}
+use Rattle.half_store.specs.Arrays.{bytes}
+use Rattle.half_store.specs.Words.{word_size}
 use Rattle.half_store.proofs.lemmas.capacity.{buckets_for-least}
 use Rattle.halfbrown.specs.Growth.{is_full, HasCapacityAfter, IsShrunk}
 use Rattle.halfbrown.specs.Run.{Lead, commands_of, Step, IsValidStep}
