@@ -21,7 +21,7 @@ RULES = (
      r"|derive\([^)]*(?:Clone|Copy|Default).*(?=\s+pub struct (?:Tally|Count)\b)", "tally 21 |  |"),
     ("Nothing has a second name.", r"\bas (?!u\d|usize|BuildHasher>)", "| iter 1 |"),
     ("What is not counted: the buckets that growth and the switch fill, what a removal reads beside its search, `from_array`.",
-     r"\buncounted\b", "store/change 1, table/rehash 1, tally 1 | map/collect 1, map/switch 1 |"),
+     r"\buncounted\b", "store/change 3, store/shift 1, table/rehash 1, tally 1 | map/collect 1, map/switch 1 |"),
     ("A counted form is a method, except for `from_iter_counted` and `run_counted`.",
      r"fn \w+_counted\b(?:<.*?>)?\((?!\s*&?(?:mut )?self\b)", "| map/collect 1, run 1 |"),
     ("The libraries make no plain call: these are calls of entries and tables, of std's traits and of the program.",

@@ -1,8 +1,12 @@
 -- What contracts see of a store.
-use Rattle.std.specs.Prelude.{◌≡◌, ℕ, ◌+◌, Bool, true, false, List, [], ◌∷◌, ◌++◌, length, min, Option, None, Some, if◌then◌else◌}
+use Rattle.std.specs.Prelude.{◌≡◌, ℕ, ◌+◌, ◌^◌, ◌<◌, ◌≤◌, Bool, true, false, List, [], ◌∷◌, ◌++◌, length, min, Option, None, Some, if◌then◌else◌}
+use Rattle.std.specs.Prelude.{Result, OnOk, OnErr, IfErr}
+use Rattle.std.specs.declared.alloc.AllocError.{AllocError}
 use Rattle.std.specs.Global.{Box}
 use Rattle.half_store.specs.declared.store.find.Vacancy.{Vacancy}
-use Rattle.half_store.specs.Capacity.{capacity_of, capacity_for, generous_capacity}
+use Rattle.half_store.specs.declared.refusal.Refusal.{Refusal}
+use Rattle.half_store.specs.Capacity.{capacity_of, capacity_for, generous_capacity, vec_shrunk, shrunk_capacity}
+use Rattle.half_store.specs.Refusal.{refusal_of}
 use Rattle.half_store.specs.Columns.{ColumnsState}
 use Rattle.half_store.specs.Table.{TableState, Contents, table_contents, no_contents, contents_code, with_hash_in, IsVacancyIn}
 use base.Stored.{Coded, coded×, coded_list, coded_ℕ, coded_bool, coded_via}
@@ -62,6 +66,35 @@ module _ {K V : Type 0} (limit : ℕ) where
   abbrev pub reserved_capacity : StoreState K V → ℕ → ℕ
   reserved_capacity s additional =
       if s.is_vec then generous_capacity limit s.capacity (reserved s additional) else capacity_for (reserved s additional)
+
+module _ {K V : Type 0} (limit : ℕ) (old new : StoreState K V) where
+  -- a reservation for this many pairs more: where it is granted the capacity is enough for them, and where it is refused nothing changes
+  pub record StoreReserves (additional : ℕ) (result : Result (Unit {0}) Refusal) : Type 0 where
+    pub pairs : new.pairs ≡ old.pairs
+    pub form : new.is_vec ≡ old.is_vec
+    pub hashes : new.hashes ≡ old.hashes
+    pub enough : OnOk result (reserved limit old additional ≤ new.capacity)
+    pub unneeded : OnOk result (reserved limit old additional ≤ old.capacity → new ≡ old)
+    pub grown : OnOk result (old.capacity < reserved limit old additional → new.capacity ≡ reserved_capacity limit old additional)
+    pub more : old.capacity ≤ new.capacity
+    pub series : new.is_vec ≡ false → new.capacity ≡ capacity_for new.capacity
+    pub granted : OnOk result (old.capacity < reserved limit old additional → reserved limit old additional ≤ 2 ^ 60)
+    pub needed : OnErr result (old.capacity < reserved limit old additional)
+    pub refused : IfErr result (λ why. why ≡ refusal_of (reserved limit old additional))
+    pub err : OnErr result (new ≡ old)
+
+  -- capacity is given back to the least that the pairs fit, and the table where the limit allows them; where memory is refused, which only
+  -- a smaller capacity for some pairs needs, nothing changes
+  pub record StoreShrinks (result : Result (Unit {0}) AllocError) : Type 0 where
+    pub pairs : new.pairs ≡ old.pairs
+    pub form : OnOk result (new.is_vec ≡ vec_shrunk limit old.is_vec (length old.pairs))
+    pub capacity : OnOk result (new.capacity ≡ shrunk_capacity limit old.is_vec (length old.pairs))
+    pub hashes : new.is_vec ≡ false → new.hashes ≡ old.hashes
+    pub series : OnOk result (new.is_vec ≡ false → new.capacity ≡ capacity_for new.capacity)
+    pub fits : OnOk result (length old.pairs ≤ new.capacity)
+    pub err : OnErr result (new ≡ old)
+    pub some : OnErr result (0 < shrunk_capacity limit old.is_vec (length old.pairs))
+    pub less : OnErr result (shrunk_capacity limit old.is_vec (length old.pairs) < old.capacity)
 
 -- a pair of this hash may be added here: in a table at the empty bucket where an insertion probe for it ends; a vector looks at neither
 abbrev pub IsVacancy : Bool → Contents → ℕ → Vacancy → Type 0

@@ -21,10 +21,10 @@ mod rehash;
 mod retain;
 mod shift;
 
+use crate::Tally;
 use crate::buckets::HashedBuckets;
 use crate::capacity::capacity_of;
 use crate::words::{WordArray, Words};
-use crate::{Tally, uncounted};
 use deletion::{remove_in, take_in};
 use find::find_in;
 use probe::first_empty;
@@ -175,18 +175,10 @@ impl Table {
         self.add_at(hash, bucket);
     }
 
-    /// Removes the pair at this entry index, and returns its stored hash. The last pair takes its index.
-    #[inline(always)]
-    pub fn remove(&mut self, index: usize) -> u64
-        requires { index < length self.old.hashes }
-        ensures { RemovesFromTable self.old index self.new result }
-    {
-        uncounted!(self.remove_counted(index))
-    }
-
-    /// `remove`. It reads fewer buckets than two unsuccessful probes: for the hash of the pair, and for that of the last one.
+    /// Removes the pair at this entry index, and returns its stored hash. The last pair takes its index. It reads fewer buckets
+    /// than two unsuccessful probes: for the hash of the pair, and for that of the last one.
     #[inline]
-    pub fn remove_counted(&mut self, index: usize, tally: &mut Tally) -> u64
+    pub fn remove(&mut self, index: usize, tally: &mut Tally) -> u64
         requires { index < length self.old.hashes }
         ensures removes { RemovesFromTable self.old index self.new result }
         ensures cost { LooksWithin (removal_reads self.old.hashes self.old.buckets index)
@@ -199,7 +191,7 @@ impl Table {
     }
 
     /// Searches as `find` does, and removes the pair that it finds, in the bucket where the probe ended. The last pair takes its
-    /// index. What the removal reads beside the search is counted apart, and is within the bound of `remove_counted`.
+    /// index. What the removal reads beside the search is counted apart, and is within the bound of `remove`.
     #[inline(always)]
     pub fn take<K, F: Fn(&K) -> bool>(
         &mut self,

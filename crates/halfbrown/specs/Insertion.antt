@@ -1,5 +1,5 @@
 -- What an insertion does or hands back, and the capacity for one pair more that it makes first.
-use Rattle.std.specs.Prelude.{◌≡◌, ℕ, Bool, Option, Some, Result, Ok, Err, OnOk, IfOk, IfErr, ◌+◌, ◌<◌, nat_lt, [], ◌∷◌, ◌++◌, length, if◌then◌else◌}
+use Rattle.std.specs.Prelude.{◌≡◌, ℕ, Bool, Option, Some, Result, Ok, Err, OnOk, OnErr, IfOk, IfErr, ◌+◌, ◌<◌, nat_lt, [], ◌∷◌, ◌++◌, length, if◌then◌else◌}
 use Rattle.std.specs.Map.{keys_of}
 use Rattle.halfbrown.specs.declared.refused.Refused.{Refused}
 use Rattle.halfbrown.specs.Growth.{is_vec_after, insert_needs, new_key_needs, IsRefusal, IsGrantable, HasCapacityAfter, Grants}
@@ -8,6 +8,7 @@ use Rattle.halfbrown.specs.State.{State, IsState, state, contents_of}
 use Rattle.halfbrown.specs.Updates.{HasPut}
 use Rattle.half_store.specs.Capacity.{capacity_for}
 use Rattle.half_store.specs.Store.{IsVacancy, filled}
+use Rattle.half_store.specs.declared.refusal.Refusal.{Refusal}
 use Rattle.half_store.specs.declared.store.find.Vacancy.{Vacancy}
 use Rattle.halfbrown.specs.declared.map.prepare.Place.{Place}
 use Rattle.halfbrown.specs.declared.map.prepare.Place.TheVariants.{Held, Vacant}
@@ -70,6 +71,14 @@ module _ {K V S : Type 0} where
   -- table
   abbrev pub Prepares : ℕ → State K V S → Option ℕ → State K V S → Type 0
   Prepares limit old = Grants limit (is_vec_after limit old) old
+
+  -- a call that makes capacity for an insertion, and needs this much for it: where it is granted the map is prepared, and where it is refused
+  -- nothing has changed
+  pub record PreparesOrRefuses {T : Type 0} (limit : ℕ) (eq : K → K → Bool) (old : State K V S) (needs : Option ℕ) (result : Result T Refusal) (new : State K V S) : Type 0 where
+    pub ok : OnOk result (Prepares limit old needs new)
+    pub refused : IfErr result (IsRefusal needs)
+    pub err : OnErr result (new ≡ old)
+    pub state : IsState eq limit new
 
   module _ (eq : K → K → Bool) (hash : S → K → ℕ) where
     -- k is not held, and a pair of it may be added here: the capacity is enough for it

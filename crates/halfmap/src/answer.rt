@@ -34,13 +34,13 @@ impl fmt::Display for Answer {
 
     fn fmt<W: fmt::Write>(&self, f: &mut fmt::Formatter<W>) -> fmt::Result {
         match *self {
-            Answer::Absent => write!(f, "none"),
+            Answer::Absent => f.write_str("none"),
             Answer::Was(value) => write!(f, "was {value}"),
-            Answer::NoRoom => write!(f, "no room"),
+            Answer::NoRoom => f.write_str("no room"),
             Answer::Value(value) => write!(f, "{value}"),
             Answer::Vector(len) => write!(f, "vec {len}"),
             Answer::Table(len) => write!(f, "map {len}"),
-            Answer::BadLine => write!(f, "bad line"),
+            Answer::BadLine => f.write_str("bad line"),
         }
     }
 }

@@ -15,7 +15,7 @@ use std::io;
 use std::io::{BufReader, BufWriter, Read, Write};
 
 /// The work ended before the input did: a read, a write or the memory for a buffer failed.
-#[derive(Clone, Copy, Debug, PartialEq, Eq)]
+#[derive(Debug, PartialEq, Eq, Drop)]
 pub struct Stopped;
 
 impl From<io::Error> for Stopped {

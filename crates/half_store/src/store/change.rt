@@ -38,7 +38,7 @@ impl<K, V> Store<K, V> {
         ensures { SwapRemoves self.old self.new index result }
     {
         if let Some(table) = &mut self.table {
-            table.remove(index);
+            uncounted!(table.remove(index));
         }
         self.columns.swap_remove(index)
     }
@@ -97,10 +97,10 @@ impl<K, V> Store<K, V> {
             self.columns.push(key, value);
             return Ok(last);
         };
-        match self.columns.replace_with(index, f) {
-            Some(key) => Err((key, table.remove(index))),
-            None => Ok(index),
-        }
+        let Some(key) = self.columns.replace_with(index, f) else {
+            return Ok(index);
+        };
+        Err((key, uncounted!(table.remove(index))))
     }
 
     /// Calls `f` at each pair, in order, and keeps those that it accepts, in their order, with the values that it left.

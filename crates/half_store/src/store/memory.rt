@@ -2,10 +2,10 @@
 ghost use Rattle.std.specs.Prelude.{◌≡◌, ℕ, ◌^◌, ◌<◌, ◌≤◌, true, false, []};
 ghost use Rattle.std.specs.Prelude.{length, nat_le, IsOk, IfOk, OnOk, OnErr, IfErr, if◌then◌else◌};
 ghost use Rattle.std.specs.List.{AllZip};
-ghost use Rattle.half_store.specs.Capacity.{capacity_for, least_capacity, vec_shrunk, shrunk_capacity};
+ghost use Rattle.half_store.specs.Capacity.{capacity_for, least_capacity};
 ghost use Rattle.half_store.specs.Arrays.{arrays_of, bytes_of, bytes};
 ghost use Rattle.half_store.specs.Refusal.{refusal_of};
-ghost use Rattle.half_store.specs.Store.{reserved, reserved_capacity};
+ghost use Rattle.half_store.specs.Store.{StoreReserves, StoreShrinks};
 
 use super::Store;
 use crate::capacity::{buckets_for, capacity_of};
@@ -91,23 +91,7 @@ impl<K, V> Store<K, V> {
     #[inline(never)]
     #[tactic(auto)]
     pub fn reserve(&mut self, additional: usize, limit: usize) -> Result<(), Refusal>
-        ensures pairs { self.new.pairs ≡ self.old.pairs }
-        ensures form { self.new.is_vec ≡ self.old.is_vec }
-        ensures hashes { self.new.hashes ≡ self.old.hashes }
-        ensures enough { OnOk result (reserved limit self.old additional ≤ self.new.capacity) }
-        ensures unneeded { OnOk result (reserved limit self.old additional ≤ self.old.capacity
-            → self.new ≡ self.old) }
-        ensures grown { OnOk result (self.old.capacity < reserved limit self.old additional
-            → self.new.capacity ≡ reserved_capacity limit self.old additional) }
-        ensures more { self.old.capacity ≤ self.new.capacity }
-        ensures series { self.new.is_vec ≡ false
-            → self.new.capacity ≡ capacity_for self.new.capacity }
-        ensures granted { OnOk result (self.old.capacity < reserved limit self.old additional
-            → reserved limit self.old additional ≤ 2 ^ 60) }
-        ensures needed { OnErr result (self.old.capacity < reserved limit self.old additional) }
-        ensures refused { IfErr result
-            (λ why. why ≡ refusal_of (reserved limit self.old additional)) }
-        ensures err { OnErr result (self.new ≡ self.old) }
+        ensures reserves { StoreReserves limit self.old self.new additional result }
     {
         let len = self.columns.len();
         let Some(table) = &mut self.table else {
@@ -127,20 +111,7 @@ impl<K, V> Store<K, V> {
     /// Makes a table of no more pairs than the limit a vector, and shrinks the capacity to the least that the pairs fit. On
     /// error nothing changes.
     pub fn shrink_to_fit(&mut self, limit: usize) -> Result<(), AllocError>
-        ensures pairs { self.new.pairs ≡ self.old.pairs }
-        ensures form { OnOk result (self.new.is_vec
-            ≡ vec_shrunk limit self.old.is_vec (length self.old.pairs)) }
-        ensures capacity { OnOk result (self.new.capacity
-            ≡ shrunk_capacity limit self.old.is_vec (length self.old.pairs)) }
-        ensures hashes { self.new.is_vec ≡ false → self.new.hashes ≡ self.old.hashes }
-        ensures series { OnOk result (self.new.is_vec ≡ false
-            → self.new.capacity ≡ capacity_for self.new.capacity) }
-        ensures fits { OnOk result (length self.old.pairs ≤ self.new.capacity) }
-        ensures err { OnErr result (self.new ≡ self.old) }
-        ensures some { OnErr result
-            (0 < shrunk_capacity limit self.old.is_vec (length self.old.pairs)) }
-        ensures less { OnErr result (shrunk_capacity limit self.old.is_vec (length self.old.pairs)
-            < self.old.capacity) }
+        ensures shrinks { StoreShrinks limit self.old self.new result }
     {
         let len = self.columns.len();
         let Some(table) = &mut self.table else {

@@ -3,6 +3,7 @@ ghost use Rattle.std.specs.Prelude.{◌<◌, length};
 ghost use Rattle.half_store.specs.StoreRemoval.{ShiftRemoves};
 
 use super::Store;
+use crate::uncounted;
 
 impl<K, V> Store<K, V> {
     /// Removes the pair at this index. Each pair behind it gets the index before its own.
@@ -11,7 +12,7 @@ impl<K, V> Store<K, V> {
         ensures { ShiftRemoves self.old self.new index result }
     {
         if let Some(table) = &mut self.table {
-            table.shift_remove(index);
+            uncounted!(table.shift_remove(index));
         }
         self.columns.shift_remove(index)
     }

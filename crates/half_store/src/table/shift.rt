@@ -8,21 +8,13 @@ ghost use Rattle.half_store.specs.Table.{IsIndexed};
 
 use super::Table;
 use super::deletion::remove_in;
+use crate::Tally;
 use crate::words::{WordArray, Words};
-use crate::{Tally, uncounted};
 
 impl Table {
-    /// Removes the pair at this entry index. Each pair behind it gets the index before its own.
-    pub fn shift_remove(&mut self, index: usize)
-        requires { index < length self.old.hashes }
-        ensures hashes { self.new.hashes ≡ remove self.old.hashes index }
-        ensures buckets { self.new.buckets ≡ self.old.buckets }
-    {
-        uncounted!(self.shift_remove_counted(index))
-    }
-
-    /// `shift_remove`. It reads each bucket once, and then at most as many as two unsuccessful probes for the hash of the pair.
-    pub fn shift_remove_counted(&mut self, index: usize, tally: &mut Tally)
+    /// Removes the pair at this entry index. Each pair behind it gets the index before its own. It reads each bucket once, and
+    /// then at most as many as two unsuccessful probes for the hash of the pair.
+    pub fn shift_remove(&mut self, index: usize, tally: &mut Tally)
         requires { index < length self.old.hashes }
         ensures hashes { self.new.hashes ≡ remove self.old.hashes index }
         ensures buckets { self.new.buckets ≡ self.old.buckets }

@@ -1,12 +1,12 @@
 //! What an insertion does before it writes: the switch, the search, and capacity for one pair more.
-ghost use Rattle.std.specs.Prelude.{◌≡◌, ◌<◌, false, length, OnOk, OnErr, IfOk, IfErr, is_ok, if◌then◌else◌};
+ghost use Rattle.std.specs.Prelude.{◌≡◌, ◌<◌, false, length, OnOk, IfOk, is_ok, if◌then◌else◌};
 ghost use Rattle.half_store.specs.Work.{looked_more, asked_more};
 ghost use Rattle.half_store.specs.Store.{IsVacancy};
 ghost use Rattle.halfbrown.specs.Costs.{switch_asked, new_key_cost, GrewBy, IsInsertCost};
-ghost use Rattle.halfbrown.specs.Growth.{is_full, addition_needs, insert_needs, new_key_needs, IsRefusal};
+ghost use Rattle.halfbrown.specs.Growth.{is_full, addition_needs, insert_needs, new_key_needs};
 ghost use Rattle.halfbrown.specs.Pairs.{holds};
-ghost use Rattle.halfbrown.specs.Insertion.{IsReadyFor, HasVacancyFor, Prepares, growth_looks};
-ghost use Rattle.halfbrown.specs.State.{IsState, contents_of};
+ghost use Rattle.halfbrown.specs.Insertion.{IsReadyFor, HasVacancyFor, PreparesOrRefuses, growth_looks};
+ghost use Rattle.halfbrown.specs.State.{contents_of};
 
 use super::LimitedHashMap;
 use crate::{KeyHasher, Limit};
@@ -25,14 +25,11 @@ impl<K: Eq + Hash, V, S: KeyHasher<K>, L: Limit> LimitedHashMap<K, V, S, L> {
     /// Switches a full map and searches for a key; where it is not held, makes capacity for its pair.
     #[inline(always)]
     pub(crate) fn prepare(&mut self, key: &K, tally: &mut Tally) -> Result<Place, Refusal>
-        ensures ok { OnOk result
-            (Prepares L.LIMIT self.old (insert_needs L.LIMIT K.eq self.old key.now) self.new) }
+        ensures prepares { PreparesOrRefuses L.LIMIT K.eq self.old
+            (insert_needs L.LIMIT K.eq self.old key.now) result self.new }
         ensures ready { IfOk result (IsReadyFor K.eq S.hash self.new key.now) }
-        ensures refused { IfErr result (IsRefusal (insert_needs L.LIMIT K.eq self.old key.now)) }
-        ensures err { OnErr result (self.new ≡ self.old) }
         ensures cost { IsInsertCost L.LIMIT K.eq S.hash self.old key.now (is_ok result)
             tally.old tally.new }
-        ensures state { IsState K.eq L.LIMIT self.new }
     {
         self.switch_if_full(tally)?;
         match self.find(key, tally) {
@@ -46,14 +43,11 @@ impl<K: Eq + Hash, V, S: KeyHasher<K>, L: Limit> LimitedHashMap<K, V, S, L> {
     #[inline(always)]
     pub(crate) fn prepare_new(&mut self, key: &K, tally: &mut Tally) -> Result<Vacancy, Refusal>
         requires { holds K.eq self.old.pairs key.now ≡ false }
-        ensures ok { OnOk result
-            (Prepares L.LIMIT self.old (new_key_needs L.LIMIT self.old) self.new) }
+        ensures prepares { PreparesOrRefuses L.LIMIT K.eq self.old
+            (new_key_needs L.LIMIT self.old) result self.new }
         ensures ready { IfOk result (HasVacancyFor K.eq S.hash self.new key.now) }
-        ensures refused { IfErr result (IsRefusal (new_key_needs L.LIMIT self.old)) }
-        ensures err { OnErr result (self.new ≡ self.old) }
         ensures cost { GrewBy (new_key_cost L.LIMIT K.eq S.hash self.old key.now (is_ok result))
             tally.old tally.new }
-        ensures state { IsState K.eq L.LIMIT self.new }
     {
         self.switch_if_full(tally)?;
         let hash = self.hash_in_table(key, tally);
@@ -64,14 +58,11 @@ impl<K: Eq + Hash, V, S: KeyHasher<K>, L: Limit> LimitedHashMap<K, V, S, L> {
     /// Switches a full map and makes capacity for one pair more, whatever its key. Nothing is searched.
     #[inline(always)]
     pub(crate) fn make_room(&mut self, tally: &mut Tally) -> Result<(), Refusal>
-        ensures ok { OnOk result
-            (Prepares L.LIMIT self.old (new_key_needs L.LIMIT self.old) self.new) }
+        ensures prepares { PreparesOrRefuses L.LIMIT K.eq self.old
+            (new_key_needs L.LIMIT self.old) result self.new }
         ensures capacity { OnOk result (length self.new.pairs < self.new.capacity) }
-        ensures refused { IfErr result (IsRefusal (new_key_needs L.LIMIT self.old)) }
-        ensures err { OnErr result (self.new ≡ self.old) }
         ensures work { tally.new ≡ (if is_ok result
             then asked_more (switch_asked L.LIMIT self.old) tally.old else tally.old) }
-        ensures state { IsState K.eq L.LIMIT self.new }
     {
         self.switch_if_full(tally)?;
         self.make_capacity()
@@ -81,11 +72,9 @@ impl<K: Eq + Hash, V, S: KeyHasher<K>, L: Limit> LimitedHashMap<K, V, S, L> {
     #[inline(always)]
     fn make_capacity(&mut self) -> Result<(), Refusal>
         requires not_full { is_full L.LIMIT self.old ≡ false }
-        ensures ok { OnOk result (Prepares L.LIMIT self.old (addition_needs self.old) self.new) }
+        ensures prepares { PreparesOrRefuses L.LIMIT K.eq self.old
+            (addition_needs self.old) result self.new }
         ensures capacity { OnOk result (length self.new.pairs < self.new.capacity) }
-        ensures refused { IfErr result (IsRefusal (addition_needs self.old)) }
-        ensures err { OnErr result (self.new ≡ self.old) }
-        ensures state { IsState K.eq L.LIMIT self.new }
     {
         if self.len() < self.capacity() {
             return Ok(());
@@ -103,15 +92,13 @@ impl<K: Eq + Hash, V, S: KeyHasher<K>, L: Limit> LimitedHashMap<K, V, S, L> {
         requires not_full { is_full L.LIMIT self.old ≡ false }
         requires vacant { 0 < self.old.capacity
             → IsVacancy self.old.is_vec (contents_of self.old) vacancy.hash vacancy }
-        ensures ok { OnOk result (Prepares L.LIMIT self.old (addition_needs self.old) self.new) }
+        ensures prepares { PreparesOrRefuses L.LIMIT K.eq self.old
+            (addition_needs self.old) result self.new }
         ensures capacity { OnOk result (length self.new.pairs < self.new.capacity) }
         ensures vacant { IfOk result
             (IsVacancy self.new.is_vec (contents_of self.new) vacancy.hash) }
-        ensures refused { IfErr result (IsRefusal (addition_needs self.old)) }
-        ensures err { OnErr result (self.new ≡ self.old) }
         ensures work { tally.new ≡ looked_more tally.old
             (growth_looks (S.hash self.old.builder) self.old vacancy.hash (is_ok result)) }
-        ensures state { IsState K.eq L.LIMIT self.new }
     {
         if self.len() < self.capacity() {
             return Ok(vacancy);

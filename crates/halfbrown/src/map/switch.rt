@@ -1,12 +1,11 @@
 //! What depends on the form of a map: the switch of a full vector, and the hash of a key. Nothing else asks for the form.
 ghost use Rattle.std.specs.Prelude.{◌≡◌, ◌≤◌, ◌<◌, true, false, [], length, map};
-ghost use Rattle.std.specs.Prelude.{OnOk, OnErr, IfErr, is_ok, if◌then◌else◌};
+ghost use Rattle.std.specs.Prelude.{OnOk, is_ok, if◌then◌else◌};
 ghost use Rattle.half_store.specs.Capacity.{capacity_of};
 ghost use Rattle.half_store.specs.Work.{asked_more};
 ghost use Rattle.halfbrown.specs.Costs.{search_asked, switch_asked};
-ghost use Rattle.halfbrown.specs.Growth.{is_full, switch_needs, IsRefusal};
-ghost use Rattle.halfbrown.specs.Insertion.{Prepares};
-ghost use Rattle.halfbrown.specs.State.{IsState};
+ghost use Rattle.halfbrown.specs.Growth.{is_full, switch_needs};
+ghost use Rattle.halfbrown.specs.Insertion.{PreparesOrRefuses};
 
 use super::LimitedHashMap;
 use crate::{KeyHasher, Limit};
@@ -17,17 +16,14 @@ impl<K: Eq + Hash, V, S: KeyHasher<K>, L: Limit> LimitedHashMap<K, V, S, L> {
     /// Makes a full vector a table. It gets capacity for all pairs and one more first, and only then hashes the keys.
     #[inline(always)]
     pub(crate) fn switch_if_full(&mut self, tally: &mut Tally) -> Result<(), Refusal>
-        ensures ok { OnOk result
-            (Prepares L.LIMIT self.old (switch_needs L.LIMIT self.old) self.new) }
+        ensures prepares { PreparesOrRefuses L.LIMIT K.eq self.old
+            (switch_needs L.LIMIT self.old) result self.new }
         ensures same { is_full L.LIMIT self.old ≡ false → self.new ≡ self.old }
         ensures not_full { OnOk result (is_full L.LIMIT self.new ≡ false) }
         ensures capacity_left { OnOk result (is_full L.LIMIT self.old ≡ true
             → length self.new.pairs < self.new.capacity) }
-        ensures err { OnErr result (self.new ≡ self.old) }
-        ensures refused { IfErr result (IsRefusal (switch_needs L.LIMIT self.old)) }
         ensures work { tally.new ≡ (if is_ok result
             then asked_more (switch_asked L.LIMIT self.old) tally.old else tally.old) }
-        ensures state { IsState K.eq L.LIMIT self.new }
     {
         if !self.store.is_vec() || self.columns().len() < L::LIMIT {
             return Ok(());
@@ -39,14 +35,11 @@ impl<K: Eq + Hash, V, S: KeyHasher<K>, L: Limit> LimitedHashMap<K, V, S, L> {
     #[inline(never)]
     fn switch(&mut self, tally: &mut Tally) -> Result<(), Refusal>
         requires { is_full L.LIMIT self.old ≡ true }
-        ensures ok { OnOk result
-            (Prepares L.LIMIT self.old (switch_needs L.LIMIT self.old) self.new) }
+        ensures prepares { PreparesOrRefuses L.LIMIT K.eq self.old
+            (switch_needs L.LIMIT self.old) result self.new }
         ensures capacity_left { OnOk result (length self.new.pairs < self.new.capacity) }
-        ensures err { OnErr result (self.new ≡ self.old) }
-        ensures refused { IfErr result (IsRefusal (switch_needs L.LIMIT self.old)) }
         ensures work { tally.new ≡ (if is_ok result
             then asked_more (switch_asked L.LIMIT self.old) tally.old else tally.old) }
-        ensures state { IsState K.eq L.LIMIT self.new }
     {
         let needed = L::LIMIT.saturating_add(1);
         let mut table = self.store.new_table(needed)?;

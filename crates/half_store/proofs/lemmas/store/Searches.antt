@@ -1,20 +1,42 @@
 -- What a search of the columns or of the index says of the store over them.
-use Rattle.std.proofs.Common.{◌≡◌, ℕ, Bool, List, length, None, Some, Ok, Err, refl, sym, ap, subst, ◌∙◌, arith, true≢false}
+use Rattle.std.proofs.Common.{◌≡◌, ℕ, ◌+◌, ◌≤◌, Option, Bool, List, length, None, Some, Ok, Err, refl, sym, ap, subst, ◌∙◌, arith, true≢false}
 use Rattle.std.proofs.lemmas.Map.Entries.{length-keys_of}
 use Rattle.std.proofs.lemmas.Option.{slice_get_within}
 use Rattle.std.specs.List.{slice_get}
 use Rattle.std.specs.Map.{keys_of}
 use Rattle.half_store.specs.declared.store.find.Vacancy.{Vacancy}
+use Rattle.half_store.specs.declared.vecmap.search.Scan.{Scan}
 use Rattle.half_store.specs.Columns.{ColumnsState}
-use Rattle.half_store.specs.Search.{ReturnsAt, IsFirstMatch, StoreSearch}
+use Rattle.half_store.specs.Reach.{reach}
+use Rattle.half_store.specs.Search.{ReturnsAt, IsFirstMatch, StoreSearch, ComparesInOrder, IsStoreSearchCost}
 use Rattle.half_store.specs.Store.{StoreState, IsTableOver, vector_of, table_of}
 use Rattle.half_store.specs.Table.{TableState, TableSearch}
-use Rattle.half_store.specs.Work.{Work}
+use Rattle.half_store.specs.Work.{Work, IsTableHitCost, after_missing}
 
 module _ {K V : Type 0} (columns : ColumnsState K V) {keys : List K} (same : keys ≡ keys_of columns.pairs) where
   -- a key of the columns is the one that was read
   read : {P : K → Type 0} (index : ℕ) → ((k : K) → slice_get keys index ≡ Some k → P k) → (k : K) → slice_get (keys_of columns.pairs) index ≡ Some k → P k
   read index told k at = told k (ap (λ ks. slice_get ks index) same ∙ at)
+
+  -- it is a key of the pairs
+  pub held : {ps : List (K × V)} → columns.pairs ≡ ps → {k : K} (index : ℕ) → slice_get keys index ≡ Some k → slice_get (keys_of ps) index ≡ Some k
+  held is index at = ap (λ ps. slice_get (keys_of ps) index) (sym is) ∙ ap (λ ks. slice_get ks index) (sym same) ∙ at
+
+  -- a table has no more hashes than there are keys
+  pub hashed_within : {t : TableState} → IsTableOver columns t → length t.hashes ≤ length keys
+  hashed_within kept = omega (arith, kept.len, ap length same, length-keys_of columns.pairs)
+
+  -- what a search of a vector costs
+  pub vector_cost : {s : StoreState K V} → vector_of columns ≡ s → {hash : ℕ} {scan : Scan} {found : Option ℕ} {old new : Work}
+      → ComparesInOrder scan found (length keys) old new → IsStoreSearchCost s hash scan found old new
+  vector_cost is {hash} {scan} {found} {old} {new} work =
+      subst (λ (s : StoreState K V). IsStoreSearchCost s hash scan found old new) is
+      (record {
+        vector = λ form. subst (λ n. ComparesInOrder scan found n old new) (ap length same ∙ length-keys_of columns.pairs) work;
+        found = λ form. absurd (true≢false form);
+        missing = λ form. absurd (true≢false form);
+        short = λ form. absurd (true≢false form);
+      })
 
   module _ {returns : K → Bool → Type 0} {hash : ℕ} {s : StoreState K V} where
     pub vector_accepts : vector_of columns ≡ s → {index : ℕ} → IsFirstMatch returns keys (Some index) → StoreSearch returns hash s (Ok index)
@@ -56,3 +78,26 @@ module _ {K V : Type 0} (columns : ColumnsState K V) {keys : List K} (same : key
             record { refused = λ index k at own. read index (found.refused index (own refl)) k at },
             λ some form. (refl, found.vacancy (omega (arith, some))),
           )
+
+      -- what a search of a table costs, where it finds a pair and where it finds none
+      pub table_accepts_cost : {index bucket : ℕ} {scan : Scan} → TableSearch (ReturnsAt returns keys) t hash (Ok (index, bucket)) old new
+          → IsStoreSearchCost s hash scan (Some index) old new
+      table_accepts_cost {index} {bucket} {scan} e =
+          subst (λ (s : StoreState K V). IsStoreSearchCost s hash scan (Some index) old new) is
+          (record {
+            vector = λ form. absurd (true≢false (sym form));
+            found = λ form. subst (λ b. IsTableHitCost t.hashes b hash old new) e.buckets e.found_cost;
+            missing = λ form. tt;
+            short = λ form. subst (λ b. reach t.hashes b hash ≤ length t.hashes + 1) e.buckets e.short;
+          })
+
+      pub table_refuses_cost : {bucket : ℕ} {scan : Scan} → TableSearch (ReturnsAt returns keys) t hash (Err bucket) old new
+          → IsStoreSearchCost s hash scan None old new
+      table_refuses_cost {bucket} {scan} e =
+          subst (λ (s : StoreState K V). IsStoreSearchCost s hash scan None old new) is
+          (record {
+            vector = λ form. absurd (true≢false (sym form));
+            found = λ form. tt;
+            missing = λ form. subst (λ b. new ≡ after_missing t.hashes b hash old) e.buckets e.missing_cost;
+            short = λ form. subst (λ b. reach t.hashes b hash ≤ length t.hashes + 1) e.buckets e.short;
+          })

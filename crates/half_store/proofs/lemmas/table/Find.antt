@@ -1,5 +1,5 @@
 -- What a search of a table finds, and what a probe costs.
-use Rattle.std.proofs.Common.{◌≡◌, ℕ, ◌+◌, ◌-◌, ◌<◌, ◌≤◌, Bool, true, false, refl, sym, ap, ◌∙◌, subst, arith, List, length, slice_index}
+use Rattle.std.proofs.Common.{◌≡◌, ◌≢◌, ℕ, ◌+◌, ◌-◌, ◌<◌, ◌≤◌, Bool, true, false, refl, sym, ap, ◌∙◌, subst, arith, List, length, slice_index}
 use Rattle.std.proofs.Common.{Option, Some, count_by, ◌==◌}
 use Rattle.std.proofs.lemmas.Grind.{common_steps}
 use Rattle.std.specs.List.{slice_get, swap_remove}
@@ -10,7 +10,7 @@ use Rattle.half_store.specs.Slots.{slots_by, slot_at, stored, IsVacancyFor, Ends
 use Rattle.half_store.specs.Reach.{probe_distance, reach}
 use Rattle.half_store.specs.Work.{after_missing, looked_more, LooksWithin, removal_reads, Work}
 use Rattle.half_store.specs.Table.{TableState, table_state, IsIndexed, TableSearch, RemovesFromTable}
-use Rattle.half_store.proofs.lemmas.table.Buckets.{length-slots_by, slot_of_word, some_bucket}
+use Rattle.half_store.proofs.lemmas.table.Buckets.{length-slots_by, slot_of_word, slot_of_zero, some_bucket}
 use Rattle.half_store.proofs.lemmas.table.Circle.{distance_self}
 use Rattle.half_store.proofs.lemmas.capacity.{buckets_of-capacity_of, capacity_for-capacity_of}
 use Rattle.half_store.proofs.lemmas.table.Layout.{index-counted, index-vacant, at_home, buckets_seen, view_lent, count_seen, IsIndexed-as}
@@ -27,7 +27,7 @@ module _ {hashes words : List ℕ} (x : IsIndexed hashes words) (hash : ℕ) whe
   held = count_by (stored (λ h. h == hash)) slots
 
   -- the entry index at a bucket of this hash has this hash
-  index_at : (p : ℕ) → slot_at slots p ≡ Some hash → slice_get hashes (slice_index words p - 1) ≡ Some hash
+  pub index_at : (p : ℕ) → slot_at slots p ≡ Some hash → slice_get hashes (slice_index words p - 1) ≡ Some hash
   index_at p is = grind (arith, common_steps)
 
   -- what holds of what stands in each bucket of this hash holds of each entry index of this hash
@@ -47,6 +47,14 @@ module _ {hashes words : List ℕ} (x : IsIndexed hashes words) (hash : ℕ) whe
   pub finds_none : (returns : ℕ → Bool → Type 0) (w : Work) → length words ≡ 0
       → TableSearch returns (table_state hashes slots) hash (Err 0) w w
   finds_none returns w none = grind (arith, common_steps, buckets_seen, count_by-le-length, length-slots_by, reach-none, same_work, short, slice_get_within)
+
+  -- the word of the bucket where a search ends leads to its pair
+  pub word_found : (result : Result (ℕ × ℕ) ℕ) (old new : ℕ) → IfOk result (λ found. EndsAtPair hashes words hash found.0 found.1 old new)
+      → IfOk result (λ pair. slice_index words pair.1 ≡ pair.0 + 1)
+  word_found (Ok (index, p)) old new ends =
+      let some : slice_index words p ≢ 0 = λ none. full_from _ hash ends.found.found (slot_of_zero hashes words p none) in
+      omega (arith, ends.entry, some)
+  word_found (Err bucket) old new ends = tt
 
   -- what a search says of the slots, where there are some, is what callers see
   pub finds : (returns : ℕ → Bool → Type 0) (result : Result (ℕ × ℕ) ℕ) (old new : Work)

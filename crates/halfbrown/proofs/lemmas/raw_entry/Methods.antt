@@ -38,6 +38,11 @@ pub lent_value : {K V : Type 0} (ps : List (K × V)) (i : ℕ) (k : K) (v value 
     → slice_get (values_of ps) i ≡ Some value → v ≡ value
 lent_value ps i k v value at is = grind (arith, common_steps, value_of-pair ps i)
 
+-- what holds of the value that is there
+pub if_some : {X : Type 0} {P : X → Type 0} (o : Option X) → ((x : X) → o ≡ Some x → P x) → IfSome o P
+if_some None holds = tt
+if_some (Some x) holds = holds x refl
+
 -- an element within is there
 some_at : {X : Type 0} (xs : List X) (i : ℕ) (d : X) → i < length xs → slice_get xs i ≡ Some (unwrap_or (slice_get xs i) d)
 some_at xs i d within = grind (arith, common_steps, slice_get_cases)

@@ -1,4 +1,4 @@
-use Rattle.std.proofs.Common.{◌≡◌, [], sym, subst, arith}
+use Rattle.std.proofs.Common.{◌≡◌, [], refl, rules, sym, subst, arith}
 use Rattle.std.proofs.lemmas.Grind.{common_steps}
 use Rattle.std.proofs.lemmas.List.{nil_from_length}
 use Rattle.std.specs.Vec.Iter.{into_iter_items}
@@ -77,3 +77,16 @@ returns-clause-hashes g c none =
     let pays =
     run_pays_two g.L.Limit.LIMIT g.K.PartialEq.eq g.S.KeyHasher.hash _ _ _ _ run.0 none in
     omega (arith, run.1.asked, pays.all, switch_left_most g.L.Limit.LIMIT c.args.map.now.is_vec)
+
+pub returns-in_default : goal.returns-in_default
+returns-in_default g c = record {
+  run = tt;
+  empty = search rules;
+  memory = tt;
+  stays_a_table = λ _ table. table;
+  nothing_hashed = λ _ _. refl;
+  hashes = λ _. omega arith;
+  returned = refl;
+  err = refl;
+  no_work = refl;
+}

@@ -2,16 +2,29 @@ use Rattle.std.proofs.Common.{◌∙◌, sym, arith}
 use Rattle.std.specs.Fn.{FnReturnsAt}
 use Rattle.half_store.specs.Search.{ReturnsAt}
 use Rattle.half_store.proofs.lemmas.table.Layout.{index-vacant}
-use Rattle.half_store.proofs.lemmas.table.Find.{finds_none, finds}
+use Rattle.half_store.proofs.lemmas.table.Find.{finds_none, finds, index_at, word_found}
 use Rattle.half_store.proofs.table.find.find_in.Goals as goal
 
-pub search-requires-clause-vacant : goal.search-requires-clause-vacant
-search-requires-clause-vacant g c = index-vacant c.requires.indexed (omega (arith, c.count.ensures, c.if-count-eq0.false))
+pub search-requires : goal.search-requires
+search-requires g c =
+    let x = c.requires.indexed in
+    record {
+      whole = x.each.within;
+      count = x.count;
+      vacant = index-vacant x (omega (arith, c.count.ensures, c.if-count-eq0.false));
+      ordered = x.ordered;
+      keys = c.requires.keys;
+      callable = λ key bucket is at. c.requires.callable key _ (index_at x _ bucket is) at;
+    }
 
 pub returns-then-count-eq0-clause-finds : goal.returns-then-count-eq0-clause-finds
 returns-then-count-eq0-clause-finds g c =
     finds_none c.requires.indexed c.args.hash (ReturnsAt (FnReturnsAt g.F.Fn c.args.matches.now) c.args.keys.now) c.args.tally.now
     (sym c.count.ensures ∙ c.if-count-eq0.true)
+
+pub returns-clause-word : goal.returns-clause-word
+returns-clause-word g c =
+    word_found c.requires.indexed c.args.hash c.search.result c.args.tally.now.looked c.search.new.tally.looked c.search.ensures.found
 
 pub returns-clause-finds : goal.returns-clause-finds
 returns-clause-finds g c =

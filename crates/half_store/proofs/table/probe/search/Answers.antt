@@ -12,6 +12,24 @@ use Rattle.half_store.proofs.lemmas.table.Probe.{Searches-start, Searches-skip, 
 use Rattle.half_store.proofs.table.probe.search.Goals.{else-held-hash-via-then-held-hash+else-compare, else-held-hash-via-else-held-hash}
 use Rattle.half_store.proofs.table.probe.search.Goals as goal
 
+pub home-bucket-requires : goal.home-bucket-requires
+home-bucket-requires g c = record {
+  count = rw c.count-count.ensures c.requires.count;
+  some = omega (arith, c.requires.vacant.1, c.count-count.ensures, length-slots_by);
+}
+
+pub read-requires : goal.read-requires
+read-requires g c = record {
+  whole = c.requires.whole;
+  within = omega (arith, c.loop-index.invariant.probe.inside, length-slots_by);
+}
+
+pub next-bucket-requires : goal.next-bucket-requires
+next-bucket-requires g c = record {
+  count = rw c.count-count.ensures c.requires.count;
+  within = omega (arith, c.loop-index.invariant.probe.inside, c.count-count.ensures, length-slots_by);
+}
+
 pub loop-index-init : goal.loop-index-init
 loop-index-init g c =
     let same = c.count-count.ensures

@@ -1,4 +1,4 @@
-use Rattle.std.proofs.Common.{subst}
+use Rattle.std.proofs.Common.{length, subst, ap, arith}
 use Rattle.std.specs.List.{AllZip, zip}
 use Rattle.half_store.proofs.lemmas.vecmap.Columns.{opened}
 use Rattle.half_store.proofs.lemmas.vecmap.Zip.{all_zip-zip}
@@ -15,3 +15,8 @@ returns-clause-pairs g c =
     (all_zip-zip C D c.self.inside.keys.items ks c.self.inside.values.items vs
     (subst (λ xs. AllZip C xs ks) c.as_slice.ensures.value c.in_ok-keys-2.ensures.items)
     (subst (λ xs. AllZip D xs vs) c.as_slice-2.ensures.value c.in_ok-values-2.ensures.items))
+
+pub clone_all-requires-clause-fits : goal.clone_all-requires-clause-fits
+clone_all-requires-clause-fits g c =
+    let o = opened c.self.inside.keys c.self.inside.values c.args.self.now c.self.view_is c.self.invariant in
+    omega (arith, ap length c.as_slice.ensures.value, o.keys_length, c.requires, c.in_ok-keys.ensures.capacity)

@@ -12,7 +12,7 @@ returns-in-Ok-Held-clause-inserts g c =
     c.in-Ok-Held.field-0-is found.ready in
     inserted g.L.Limit.LIMIT eq g.met.K.Eq.laws c.args.self.now c.prepare.new.self c.set_at.new.self key c.args.value _
     c.set_at.ensures.after (ready.put_is key c.args.value)
-    found.ok (Some c.set_at.result) (sym c.set_at.ensures.old ∙ sym ready.value) c.set_at.ensures.state
+    found.prepares.ok (Some c.set_at.result) (sym c.set_at.ensures.old ∙ sym ready.value) c.set_at.ensures.state
 
 pub returns-in-Ok-Vacant-clause-inserts : goal.returns-in-Ok-Vacant-clause-inserts
 returns-in-Ok-Vacant-clause-inserts g c =
@@ -23,4 +23,4 @@ returns-in-Ok-Vacant-clause-inserts g c =
     c.in-Ok-Vacant.field-0-is missing.ready in
     inserted g.L.Limit.LIMIT eq g.met.K.Eq.laws c.args.self.now c.prepare.new.self c.push.new.self key c.args.value _ c.push.ensures.after
     (ready.absent.put_is key c.args.value)
-    missing.ok None (sym ready.absent.value) c.push.ensures.state
+    missing.prepares.ok None (sym ready.absent.value) c.push.ensures.state

@@ -15,7 +15,7 @@ returns-in-Ok-Held-clause-inserts g c =
     let ready = subst (IsReadyFor eq g.S.KeyHasher.hash middle key) c.in-Ok-Held.field-0-is found.ready in
     inserted_at g.L.Limit.LIMIT eq g.met.K.Eq.laws c.args.self.now middle c.set_at.new.self key c.args.value _
     c.set_at.ensures.after (ready.put_is key c.args.value)
-    found.ok c.in-Ok-Held.index (Some c.set_at.result) (sym c.set_at.ensures.old ∙ sym ready.value)
+    found.prepares.ok c.in-Ok-Held.index (Some c.set_at.result) (sym c.set_at.ensures.old ∙ sym ready.value)
     (ap (index_of (eq key)) (keys_of-set_value_at middle.pairs c.in-Ok-Held.index c.args.value) ∙ ready.index_is) c.set_at.ensures.state
 
 pub returns-in-Ok-Vacant-clause-inserts : goal.returns-in-Ok-Vacant-clause-inserts
@@ -27,6 +27,6 @@ returns-in-Ok-Vacant-clause-inserts g c =
     let ready = subst (IsReadyFor eq g.S.KeyHasher.hash middle key) c.in-Ok-Vacant.field-0-is missing.ready in
     inserted_at g.L.Limit.LIMIT eq g.met.K.Eq.laws c.args.self.now middle c.push.new.self key c.args.value _ c.push.ensures.after
     (ready.absent.put_is key c.args.value)
-    missing.ok c.len-index.result None (sym ready.absent.value)
+    missing.prepares.ok c.len-index.result None (sym ready.absent.value)
     (index_of-added (eq key) middle.pairs key c.args.value ready.absent.index (g.met.K.Eq.laws.refl key) ∙ ap (λ n. Some n) (sym c.len-index.ensures.len))
     c.push.ensures.state

@@ -9,7 +9,7 @@ use Rattle.halfbrown.proofs.map.LimitedHashMap.prepare.Goals as goal
 pub returns-in-Ok-clause-cost : goal.returns-in-Ok-clause-cost
 returns-in-Ok-clause-cost g c =
     let eq = g.K.PartialEq.eq in
-    let switched = c.in_ok-switch_if_full.ensures.ok in
+    let switched = c.in_ok-switch_if_full.ensures.prepares.ok in
     let searched = key_costs eq g.S.KeyHasher.hash c.switch_if_full.new.self c.args.key.now _ _ _
     (g.met.S.KeyHasher.hash_is c.switch_if_full.new.self.builder c.args.key.now) c.in-Ok.ensures.cost in
     held_costs g.L.Limit.LIMIT eq g.S.KeyHasher.hash c.args.self.now c.args.key.now
@@ -21,7 +21,7 @@ pub returns-in_ok-make_capacity_keeping-in-Err-clause-cost : goal.returns-in_ok-
 returns-in_ok-make_capacity_keeping-in-Err-clause-cost g c =
     let eq = g.K.PartialEq.eq in
     let key = c.args.key.now in
-    let switched = c.in_ok-switch_if_full.ensures.ok in
+    let switched = c.in_ok-switch_if_full.ensures.prepares.ok in
     let missing = c.in-Err.ensures in
     let law = g.met.S.KeyHasher.hash_is c.switch_if_full.new.self.builder key in
     let searched = key_costs eq g.S.KeyHasher.hash c.switch_if_full.new.self key _ _ _ law missing.cost in

@@ -16,12 +16,12 @@ returns-clause-ready g c =
     let now = c.make_capacity.new.self in
     record {
       absent = absent_of_unheld (eq key) now.pairs
-          (ap (λ ps. holds eq ps key) (prepared.ok.pairs ∙ c.in_ok-switch_if_full.ensures.ok.pairs) ∙ c.requires);
+          (ap (λ ps. holds eq ps key) (prepared.prepares.ok.pairs ∙ c.in_ok-switch_if_full.ensures.prepares.ok.pairs) ∙ c.requires);
       capacity = prepared.capacity;
       vacant = vacancy_for now.is_vec (contents_of now) c.hash_in_table-hash.result (hash now.builder key)
           (λ form.
           c.hash_in_table-hash.ensures.hash
-          (form_stays opened.is_vec _ c.in_ok-switch_if_full.ensures.not_full ∙ sym prepared.ok.form ∙ form)
-          ∙ sym (g.met.S.KeyHasher.hash_is opened.builder key) ∙ ap (λ s. hash s key) (sym prepared.ok.builder))
+          (form_stays opened.is_vec _ c.in_ok-switch_if_full.ensures.not_full ∙ sym prepared.prepares.ok.form ∙ form)
+          ∙ sym (g.met.S.KeyHasher.hash_is opened.builder key) ∙ ap (λ s. hash s key) (sym prepared.prepares.ok.builder))
           c.vacancy_for.result c.vacancy_for.ensures.vacant;
     }

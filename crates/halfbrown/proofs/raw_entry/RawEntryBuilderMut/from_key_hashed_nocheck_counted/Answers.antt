@@ -22,3 +22,12 @@ returns-in-Err-clause-searches g c = record {
       (ap ready_map c.self-1.given.1) c.in-Err.ensures.state.distinct c.in-Err.ensures.found.0;
   state = c.in-Err.ensures.state;
 }
+
+pub returns-in-Ok-clause-cost : goal.returns-in-Ok-clause-cost
+returns-in-Ok-clause-cost g c = rw c.self-1.given.1 c.in-Ok.ensures.cost
+
+pub returns-in-Err-clause-cost : goal.returns-in-Err-clause-cost
+returns-in-Err-clause-cost g c = rw c.self-1.given.1 c.in-Err.ensures.cost
+
+pub find_hashed-requires : goal.find_hashed-requires
+find_hashed-requires g c = λ table. rw c.self-1.given.1 at c.requires

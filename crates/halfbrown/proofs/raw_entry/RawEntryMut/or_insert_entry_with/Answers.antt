@@ -1,22 +1,33 @@
-use Rattle.std.proofs.Common.{arith}
-use Rattle.std.proofs.lemmas.Grind.{common_steps}
-use Rattle.halfbrown.proofs.lemmas.raw_entry.Methods.{held_puts_pair, pair_is}
+use Rattle.std.proofs.Common.{◌≡◌, false, slice_get, refl, ap, subst}
+use Rattle.halfbrown.proofs.lemmas.raw_entry.Methods.{held_puts_pair, if_some, pair_is}
+use Rattle.halfbrown.specs.Pairs.{holds}
+use Rattle.halfbrown.specs.RawEntry.{is_found, raw_map}
 use Rattle.halfbrown.proofs.raw_entry.RawEntryMut.or_insert_entry_with.Goals as goal
 
-pub returns-in-Occupied-clause-puts : goal.returns-in-Occupied-clause-puts
-returns-in-Occupied-clause-puts g c = held_puts_pair _ _ c.args.self c.in-Occupied.entry c.in-Occupied.is _ c.len.ensures.state
+pub insert_entry_counted-requires : goal.insert_entry_counted-requires
+insert_entry_counted-requires g c =
+    subst (λ entry. holds g.K.PartialEq.eq (raw_map entry).pairs c.default-key.result.0 ≡ false) c.in-Vacant.is
+    (c.requires.absent (ap is_found c.in-Vacant.is) _ c.default-key.ensures)
 
-pub returns-clause-puts : goal.returns-clause-puts
-returns-clause-puts g c = grind (arith, common_steps, pair_is)
+pub returns-in-Occupied : goal.returns-in-Occupied
+returns-in-Occupied g c =
+    let o = c.in-Occupied.entry in
+    record {
+      puts = held_puts_pair _ _ c.args.self o c.in-Occupied.is _ c.len.ensures.state;
+      pair = if_some (slice_get o.map.now.pairs o.index) (λ pair is. rw c.in-Occupied.is (rw is refl));
+      cost = if_some (slice_get o.map.now.pairs o.index) (λ pair is. rw c.in-Occupied.is refl);
+    }
 
-pub returns-clause-pair : goal.returns-clause-pair
-returns-clause-pair g c =
-    let entry = c.insert_entry_counted.result in
-    let puts = c.insert_entry_counted.ensures.adds.puts in
-    pair_is _ entry.map.now.pairs entry.index c.default-key.result.0 c.default-key.result.1 puts.key_is puts.value_is (rw c.in-Vacant.is c.default-key.ensures)
-
-pub returns-clause-cost : goal.returns-clause-cost
-returns-clause-cost g c =
-    let entry = c.insert_entry_counted.result in
-    let puts = c.insert_entry_counted.ensures.adds.puts in
-    pair_is _ entry.map.now.pairs entry.index c.default-key.result.0 c.default-key.result.1 puts.key_is puts.value_is (rw c.in-Vacant.is c.insert_entry_counted.ensures.cost)
+pub returns : goal.returns
+returns g c =
+    let pairs = c.insert_entry_counted.result.map.now.pairs in
+    let index = c.insert_entry_counted.result.index in
+    let adds = c.insert_entry_counted.ensures.adds in
+    let key = c.default-key.result.0 in
+    let value = c.default-key.result.1 in
+    record {
+      puts = pair_is _ pairs index key value adds.puts.key_is adds.puts.value_is
+          (rw c.in-Vacant.is (record { puts = adds.puts; state = adds.state }));
+      pair = pair_is _ pairs index key value adds.puts.key_is adds.puts.value_is (rw c.in-Vacant.is c.default-key.ensures);
+      cost = pair_is _ pairs index key value adds.puts.key_is adds.puts.value_is (rw c.in-Vacant.is c.insert_entry_counted.ensures.cost);
+    }

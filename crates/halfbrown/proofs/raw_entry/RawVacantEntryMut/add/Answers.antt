@@ -1,16 +1,30 @@
-use Rattle.std.proofs.Common.{refl}
+use Rattle.std.proofs.Common.{[], ◌∷◌, length, refl, ap, arith}
+use Rattle.std.proofs.Math.ListN.{length-append}
 use Rattle.halfbrown.proofs.lemmas.map.Find.{vacancy_for}
 use Rattle.halfbrown.proofs.lemmas.raw_entry.Methods.{added_puts, adds_pair}
 use Rattle.halfbrown.proofs.raw_entry.RawVacantEntryMut.add.Goals as goal
 
-pub returns-clause-adds : goal.returns-clause-adds
-returns-clause-adds g c =
-    let puts = added_puts c.args.self c.args.key c.args.value _ refl c.len-index.ensures.len c.push.ensures.after in
-    record {
-      puts = puts;
-      adds = adds_pair g.K.PartialEq.eq g.met.K.Eq.laws c.args.self c.args.key c.args.value _ c.requires.absent puts;
-      state = c.push.ensures.state;
-    }
-
 pub push-requires-clause-vacant : goal.push-requires-clause-vacant
 push-requires-clause-vacant g c = vacancy_for _ _ _ _ c.requires.hash _ c.vacancy_for-vacancy.ensures.vacant
+
+pub invariant_of-result : goal.invariant_of-result
+invariant_of-result g c = record {
+  within = omega (
+    arith,
+    c.len-index.ensures.len,
+    ap length c.push.ensures.after.pairs,
+    length-append c.args.self.map.now.pairs ((c.args.key, c.args.value) ∷ []),
+  );
+}
+
+pub returns : goal.returns
+returns g c =
+    let puts = added_puts c.args.self c.args.key c.args.value _ refl c.len-index.ensures.len c.push.ensures.after in
+    record {
+      adds = record {
+        puts = puts;
+        adds = adds_pair g.K.PartialEq.eq g.met.K.Eq.laws c.args.self c.args.key c.args.value _ c.requires.absent puts;
+        state = c.push.ensures.state;
+      };
+      cost = c.vacancy_for-vacancy.ensures.work;
+    }
