@@ -121,7 +121,8 @@ fn remove(table: &mut Table, index: usize, hash: u64) -> Result<(), Fail> {
     if index >= table.len() {
         return Err(Fail::new("no pair has this entry index"));
     }
-    assert_same_at(index, table.remove(index), hash, "its hash")
+    let removed = table.remove(index, &mut Tally::new());
+    assert_same_at(index, removed, hash, "its hash")
 }
 
 // A search that accepts this entry index.
