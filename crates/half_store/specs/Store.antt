@@ -1,11 +1,12 @@
 -- What contracts see of a store.
-use Rattle.std.specs.Prelude.{◌≡◌, ℕ, ◌+◌, ◌^◌, ◌<◌, ◌≤◌, Bool, true, false, List, [], ◌∷◌, ◌++◌, length, min, Option, None, Some, if◌then◌else◌}
-use Rattle.std.specs.Prelude.{Result, OnOk, OnErr, IfErr}
+use Rattle.std.specs.Prelude.{◌≡◌, ℕ, ◌+◌, ◌^◌, ◌<◌, ◌≤◌, Bool, true, false, List, [], ◌∷◌, ◌++◌, length, min, max, nat_le, Option, None, Some, if◌then◌else◌}
+use Rattle.std.specs.Prelude.{Result, IsOk, OnOk, OnErr, IfOk, IfErr}
+use Rattle.std.specs.List.{AllZip}
 use Rattle.std.specs.declared.alloc.AllocError.{AllocError}
 use Rattle.std.specs.Global.{Box}
 use Rattle.half_store.specs.declared.store.find.Vacancy.{Vacancy}
 use Rattle.half_store.specs.declared.refusal.Refusal.{Refusal}
-use Rattle.half_store.specs.Capacity.{capacity_of, capacity_for, generous_capacity, vec_shrunk, shrunk_capacity}
+use Rattle.half_store.specs.Capacity.{capacity_of, capacity_for, generous_capacity, least_capacity, vec_shrunk, shrunk_capacity}
 use Rattle.half_store.specs.Refusal.{refusal_of}
 use Rattle.half_store.specs.Columns.{ColumnsState}
 use Rattle.half_store.specs.Table.{TableState, Contents, table_contents, no_contents, contents_code, with_hash_in, IsVacancyIn}
@@ -44,6 +45,13 @@ module _ {K V : Type 0} where
   IsStore columns None = Unit {0}
   IsStore columns (Some t) = IsTableOver columns t.value
 
+  -- clones of the pairs in the same form, with the same stored hashes; a table has the same capacity, and a vector none to spare
+  pub record IsStoreClone (key_clone : K → K → Type 0) (value_clone : V → V → Type 0) (old new : StoreState K V) : Type 0 where
+    pub form : new.is_vec ≡ old.is_vec
+    pub pairs : AllZip (λ p q. key_clone p.0 q.0 × value_clone p.1 q.1) old.pairs new.pairs
+    pub capacity : new.capacity ≡ (if old.is_vec then length old.pairs else old.capacity)
+    pub hashes : new.hashes ≡ old.hashes
+
   -- the form and the capacity stay
   pub record KeepsForm (old new : StoreState K V) : Type 0 where
     pub form : new.is_vec ≡ old.is_vec
@@ -66,6 +74,37 @@ module _ {K V : Type 0} (limit : ℕ) where
   abbrev pub reserved_capacity : StoreState K V → ℕ → ℕ
   reserved_capacity s additional =
       if s.is_vec then generous_capacity limit s.capacity (reserved s additional) else capacity_for (reserved s additional)
+
+module _ {K V : Type 0} (limit needed : ℕ) where
+  -- a store with no pairs and the least capacity of its form for this many: a vector where the limit allows them, else a table
+  pub record IsMadeFor (s : StoreState K V) : Type 0 where
+    pub form : s.is_vec ≡ nat_le needed limit
+    pub pairs : s.pairs ≡ []
+    pub hashes : s.hashes ≡ []
+    pub capacity : s.capacity ≡ least_capacity s.is_vec needed
+    pub within : s.is_vec ≡ true → s.capacity ≤ limit
+    pub series : s.is_vec ≡ false → s.capacity ≡ capacity_for s.capacity
+    pub exceeds : s.is_vec ≡ false → limit < s.capacity
+
+  -- such a store, or the reason why its memory was refused; for no pairs it takes none, and is not refused
+  pub record MakesStore (result : Result (StoreState K V) Refusal) : Type 0 where
+    pub made : IfOk result IsMadeFor
+    pub granted : OnOk result (needed ≤ 2 ^ 60)
+    pub refused : IfErr result (λ why. why ≡ refusal_of needed)
+    pub none : needed ≡ 0 → IsOk result
+
+-- an empty table with capacity for this many pairs, and the columns of a vector with the same capacity; on error nothing changes
+pub record MakesTable {K V : Type 0} (old new : StoreState K V) (needed : ℕ) (result : Result (Box TableState) Refusal) : Type 0 where
+  pub form : new.is_vec ≡ true
+  pub pairs : new.pairs ≡ old.pairs
+  pub hashes : IfOk result (λ t. t.value.hashes ≡ [])
+  pub capacity : IfOk result (λ t. capacity_of t.value.buckets ≡ capacity_for needed)
+  pub enough : OnOk result (needed ≤ capacity_for needed)
+  pub series : OnOk result (capacity_for needed ≡ capacity_for (capacity_for needed))
+  pub columns : OnOk result (new.capacity ≡ max old.capacity (capacity_for needed))
+  pub granted : OnOk result (needed ≤ 2 ^ 60)
+  pub refused : IfErr result (λ why. why ≡ refusal_of needed)
+  pub err : OnErr result (new ≡ old)
 
 module _ {K V : Type 0} (limit : ℕ) (old new : StoreState K V) where
   -- a reservation for this many pairs more: where it is granted the capacity is enough for them, and where it is refused nothing changes

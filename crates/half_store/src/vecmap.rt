@@ -3,7 +3,7 @@
 
 ghost use Rattle.std.specs.Prelude.{◌≡◌, ◌^◌, ◌<◌, ◌≤◌, [], ◌∷◌, ◌++◌, length, slice_get};
 ghost use Rattle.std.specs.Borrow.{sem};
-ghost use Rattle.std.specs.Map.{keys_of, values_of};
+ghost use Rattle.std.specs.Map.{keys_of};
 ghost use Rattle.half_store.specs.Columns.{no_pairs, columns_with};
 ghost use Rattle.half_store.specs.PairLists.{set_key_at, swap_remove_at};
 
@@ -60,25 +60,7 @@ impl<K, V> Columns<K, V> {
         self.keys.len()
     }
 
-    /// The key of the pair at this index.
-    #[inline(always)]
-    pub fn key_at(&self, index: usize) -> &K
-        requires { index < length self.now.pairs }
-        ensures { slice_get (keys_of self.now.pairs) index ≡ Some result.now }
-    {
-        &self.keys()[index]
-    }
-
-    /// Its value.
-    #[inline(always)]
-    pub fn value_at(&self, index: usize) -> &V
-        requires { index < length self.now.pairs }
-        ensures { slice_get (values_of self.now.pairs) index ≡ Some result.now }
-    {
-        &self.values()[index]
-    }
-
-    /// Its key and its value.
+    /// The key and the value of the pair at this index.
     #[tactic(auto, using(crate::proofs::lemmas::vecmap::Columns::columns_steps))]
     #[inline(always)]
     pub fn pair_at(&self, index: usize) -> (&K, &V)

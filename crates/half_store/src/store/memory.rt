@@ -1,11 +1,7 @@
 //! The capacity of a store: making it, and giving it back. All memory is had before anything changes.
-ghost use Rattle.std.specs.Prelude.{◌≡◌, ℕ, ◌^◌, ◌<◌, ◌≤◌, true, false, []};
-ghost use Rattle.std.specs.Prelude.{length, nat_le, IsOk, IfOk, OnOk, OnErr, IfErr, if◌then◌else◌};
-ghost use Rattle.std.specs.List.{AllZip};
-ghost use Rattle.half_store.specs.Capacity.{capacity_for, least_capacity};
+ghost use Rattle.std.specs.Prelude.{◌≡◌, ℕ, IfOk, IfErr};
 ghost use Rattle.half_store.specs.Arrays.{arrays_of, bytes_of, bytes};
-ghost use Rattle.half_store.specs.Refusal.{refusal_of};
-ghost use Rattle.half_store.specs.Store.{StoreReserves, StoreShrinks};
+ghost use Rattle.half_store.specs.Store.{IsStoreClone, MakesStore, StoreReserves, StoreShrinks};
 
 use super::Store;
 use crate::capacity::{buckets_for, capacity_of};
@@ -37,17 +33,7 @@ impl<K, V> Store<K, V> {
         capacity: usize,
         limit: usize,
     ) -> Result<Store<K, V>, Refusal>
-        ensures form { IfOk result (λ s. s.is_vec ≡ nat_le capacity limit) }
-        ensures pairs { IfOk result (λ s. s.pairs ≡ []) }
-        ensures hashes { IfOk result (λ s. s.hashes ≡ []) }
-        ensures capacity { IfOk result (λ s. s.capacity ≡ least_capacity s.is_vec capacity) }
-        ensures within { IfOk result (λ s. s.is_vec ≡ true → s.capacity ≤ limit) }
-        ensures series { IfOk result (λ s. s.is_vec ≡ false
-            → s.capacity ≡ capacity_for s.capacity) }
-        ensures exceeds { IfOk result (λ s. s.is_vec ≡ false → limit < s.capacity) }
-        ensures granted { OnOk result (capacity ≤ 2 ^ 60) }
-        ensures refused { IfErr result (λ why. why ≡ refusal_of capacity) }
-        ensures none { capacity ≡ 0 → IsOk result }
+        ensures makes { MakesStore limit capacity result }
     {
         check_size(capacity)?;
         if capacity <= limit {
@@ -137,12 +123,7 @@ impl<K, V> Store<K, V> {
     where
         K: Clone,
         V: Clone,
-        ensures form { IfOk result (λ s. s.is_vec ≡ self.now.is_vec) }
-        ensures pairs { IfOk result (λ s. AllZip (λ p q. K.is_clone p.0 q.0 × V.is_clone p.1 q.1)
-            self.now.pairs s.pairs) }
-        ensures capacity { IfOk result (λ s. s.capacity
-            ≡ (if self.now.is_vec then length self.now.pairs else self.now.capacity)) }
-        ensures hashes { IfOk result (λ s. s.hashes ≡ self.now.hashes) }
+        ensures cloned { IfOk result (IsStoreClone K.is_clone V.is_clone self.now) }
         ensures refused { IfErr result (λ why. why ≡ Refusal.Memory) }
     {
         let Some(table) = &self.table else {

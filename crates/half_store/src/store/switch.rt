@@ -1,8 +1,7 @@
 //! The change of form: a vector gets a table.
-ghost use Rattle.std.specs.Prelude.{◌≡◌, ◌^◌, ◌≤◌, true, [], length, max, IfOk, OnOk, OnErr, IfErr};
-ghost use Rattle.half_store.specs.Capacity.{capacity_of, capacity_for};
-ghost use Rattle.half_store.specs.Refusal.{refusal_of};
-ghost use Rattle.half_store.specs.Store.{table_of};
+ghost use Rattle.std.specs.Prelude.{◌≡◌, true, length};
+ghost use Rattle.half_store.specs.Capacity.{capacity_of};
+ghost use Rattle.half_store.specs.Store.{MakesTable, table_of};
 
 use super::Store;
 use crate::{Refusal, Table};
@@ -12,17 +11,7 @@ impl<K, V> Store<K, V> {
     /// has all its memory. On error nothing changes.
     pub fn new_table(&mut self, needed: usize) -> Result<Box<Table>, Refusal>
         requires { self.old.is_vec ≡ true }
-        ensures form { self.new.is_vec ≡ true }
-        ensures pairs { self.new.pairs ≡ self.old.pairs }
-        ensures hashes { IfOk result (λ t. t.value.hashes ≡ []) }
-        ensures capacity { IfOk result (λ t. capacity_of t.value.buckets ≡ capacity_for needed) }
-        ensures enough { OnOk result (needed ≤ capacity_for needed) }
-        ensures series { OnOk result (capacity_for needed ≡ capacity_for (capacity_for needed)) }
-        ensures columns { OnOk result (self.new.capacity
-            ≡ max self.old.capacity (capacity_for needed)) }
-        ensures granted { OnOk result (needed ≤ 2 ^ 60) }
-        ensures refused { IfErr result (λ why. why ≡ refusal_of needed) }
-        ensures err { OnErr result (self.new ≡ self.old) }
+        ensures makes { MakesTable self.old self.new needed result }
     {
         let alloc = self.columns.allocator();
         let table = Box::new(alloc, Table::with_capacity(alloc, needed)?)?;

@@ -1,8 +1,8 @@
 //! The capacity of the two columns: making it, and giving it back. All memory is had before anything changes.
-ghost use Rattle.std.specs.Prelude.{◌≡◌, ◌^◌, ◌<◌, ◌≤◌, min, max, [], length, IsOk, IfOk, OnOk, OnErr, IfErr};
+ghost use Rattle.std.specs.Prelude.{◌≡◌, ◌<◌, ◌≤◌, min, [], length, IsOk, IfOk, OnOk, OnErr};
 ghost use Rattle.std.specs.List.{AllZip};
-ghost use Rattle.half_store.specs.Capacity.{capacity_of, capacity_for, generous_capacity};
-ghost use Rattle.half_store.specs.Refusal.{refusal_of};
+ghost use Rattle.half_store.specs.Capacity.{capacity_of, capacity_for};
+ghost use Rattle.half_store.specs.Columns.{ColumnsGrow};
 
 use super::Columns;
 use crate::blocks::{clone_all, grow_beside, move_to};
@@ -123,17 +123,7 @@ impl<K, V> Columns<K, V> {
     #[inline(never)]
     pub(crate) fn grow(&mut self, needed: usize, limit: usize) -> Result<(), Refusal>
         requires { needed ≤ limit }
-        ensures pairs { self.new.pairs ≡ self.old.pairs }
-        ensures ok { OnOk result (needed ≤ self.new.capacity) }
-        ensures grown { OnOk result (self.old.capacity < needed
-            → self.new.capacity ≡ generous_capacity limit self.old.capacity needed) }
-        ensures keeps_capacity { self.old.capacity ≤ self.new.capacity }
-        ensures within_limit { self.new.capacity ≤ max self.old.capacity limit }
-        ensures unneeded { needed ≤ self.old.capacity → self.new ≡ self.old }
-        ensures err { OnErr result (self.new ≡ self.old) }
-        ensures needed { OnErr result (self.old.capacity < needed) }
-        ensures size { IfErr result (λ why. why ≡ refusal_of needed) }
-        ensures within_size { OnOk result (self.old.capacity < needed → needed ≤ 2 ^ 60) }
+        ensures grows { ColumnsGrow limit self.old self.new needed result }
     {
         let capacity = self.capacity();
         if needed <= capacity {

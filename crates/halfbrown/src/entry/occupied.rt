@@ -27,7 +27,7 @@ impl<'a, K: Eq + Hash, V, S: KeyHasher<K>, L: Limit> OccupiedEntry<'a, K, V, S, 
     pub fn key(&self) -> &K
         ensures { entry_key (Occupied self.now) ≡ Some result.now }
     {
-        self.map.columns().key_at(self.index)
+        self.get_key_value().0
     }
 
     /// Returns the stored key. It cannot be written, since its hash may not change: `insert_key` replaces it by an equal
@@ -81,7 +81,7 @@ impl<'a, K: Eq + Hash, V, S: KeyHasher<K>, L: Limit> OccupiedEntry<'a, K, V, S, 
     pub fn get(&self) -> &V
         ensures { entry_value (Occupied self.now) ≡ Some result.now }
     {
-        self.map.columns().value_at(self.index)
+        self.get_key_value().1
     }
 
     /// Returns the value, to be written.
@@ -98,8 +98,7 @@ impl<'a, K: Eq + Hash, V, S: KeyHasher<K>, L: Limit> OccupiedEntry<'a, K, V, S, 
         ensures written { (w : V)
             → IsWritten (Occupied self.old) w (Occupied (with_entry_value self.old w)) }
     {
-        let index = self.index;
-        self.map.value_at_mut(index)
+        self.get_key_value_mut().1
     }
 
     /// Returns the value, to be written for as long as the map is borrowed.
@@ -115,8 +114,9 @@ impl<'a, K: Eq + Hash, V, S: KeyHasher<K>, L: Limit> OccupiedEntry<'a, K, V, S, 
             (EntryLends K.row V.row S.row L.row S.Hasher.row (Occupied self.entry) result) }
         ensures value { entry_value (Occupied self.entry) ≡ Some result.now }
     {
+        let index = self.index;
         let map = self.map;
-        map.value_at_mut(self.index)
+        map.pair_at_mut(index).1
     }
 
     /// Returns the stored key and the value.

@@ -73,6 +73,6 @@ impl<'a, K: Eq + Hash, V, S: KeyHasher<K>, L: Limit> VacantEntry<'a, K, V, S, L>
         let VacantEntry { map, key, vacancy } = self;
         let index = map.len();
         map.push(key, value, vacancy);
-        map.value_at_mut(index)
+        map.pair_at_mut(index).1
     }
 }

@@ -44,7 +44,7 @@ impl<K: Eq + Hash, V, S: KeyHasher<K>, L: Limit> LimitedHashMap<K, V, S, L> {
         ensures state { IsState K.eq L.LIMIT self.now }
     {
         let index = self.find(key, tally).ok()?;
-        Some(self.columns().value_at(index))
+        Some(self.columns().pair_at(index).1)
     }
 
     /// Returns the stored key that equals this one, and its value. It costs one search.
@@ -108,7 +108,7 @@ impl<K: Eq + Hash, V, S: KeyHasher<K>, L: Limit> LimitedHashMap<K, V, S, L> {
         ensures state { IsState K.eq L.LIMIT self.old }
     {
         match self.find(key, tally) {
-            Ok(index) => Some(self.value_at_mut(index)),
+            Ok(index) => Some(self.pair_at_mut(index).1),
             Err(_) => None,
         }
     }
@@ -146,7 +146,7 @@ impl<K: Eq + Hash, V, S: KeyHasher<K>, L: Limit> LimitedHashMap<K, V, S, L> {
             (Q.equivalent key) self.now tally.old tally.new }
     {
         match self.find(key, tally) {
-            Ok(index) => self.columns().value_at(index),
+            Ok(index) => self.columns().pair_at(index).1,
             Err(_) => unreachable!(),
         }
     }

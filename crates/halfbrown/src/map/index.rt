@@ -57,7 +57,7 @@ impl<K: Eq + Hash, V, S: KeyHasher<K>, L: Limit> LimitedHashMap<K, V, S, L> {
         ensures state { IsState K.eq L.LIMIT self.old }
     {
         if index < self.len() {
-            Some(self.value_at_mut(index))
+            Some(self.pair_at_mut(index).1)
         } else {
             None
         }

@@ -45,6 +45,7 @@ impl<K: Eq + Hash, V, S: KeyHasher<K>, L: Limit> LimitedHashMap<K, V, S, L> {
         ensures* writes_back { sem 𝓛 (LendsValueAt K.row V.row S.row L.row S.Hasher.row K.Hash
             S.KeyHasher L.Limit self.entry index result.1) }
         ensures pair { slice_get self.old.pairs index ≡ Some (result.0.now, result.1.now) }
+        ensures value { slice_get (values_of self.old.pairs) index ≡ Some result.1.now }
     {
         self.store.pair_at_mut(index)
     }
@@ -92,18 +93,6 @@ impl<K: Eq + Hash, V, S: KeyHasher<K>, L: Limit> LimitedHashMap<K, V, S, L> {
             (S.hash self.now.builder) self.now.is_vec self.now.capacity self.now.pairs hash) }
     {
         self.store.vacancy_for(hash, tally)
-    }
-
-    /// The value of the pair at this index, to be written.
-    #[inline(always)]
-    pub(crate) fn value_at_mut(&mut self, index: usize) -> &mut V
-        requires { index < length self.old.pairs }
-        ensures* writes_back { sem 𝓛 (LendsValueAt K.row V.row S.row L.row S.Hasher.row K.Hash
-            S.KeyHasher L.Limit self.entry index result) }
-        ensures value { slice_get (values_of self.old.pairs) index ≡ Some result.now }
-    {
-        let (_, value) = self.store.pair_at_mut(index);
-        value
     }
 
     /// Replaces the value of the pair at this index, and returns the old one.

@@ -21,7 +21,7 @@ invariant_of-result g c =
     let also_hash = hash_all after in
     let old = c.self.inside.store in
     let new = c.in_ok-store.store in
-    let cloned = c.in_ok-store.ensures in
+    let cloned = c.in_ok-store.ensures.cloned in
     let held = keys_zip C D old.pairs new.pairs cloned.pairs in
     let equal = subst (ClonesEqualKeys eq C) (sym c.self.view_is) c.requires.keys in
     let hashes_alike = subst (λ m. HashesAlike hash_all m after) (sym c.self.view_is) c.requires.builder in
@@ -42,7 +42,7 @@ returns-clause-cloned g c =
     let D = g.V.Clone.is_clone in
     let old = c.self.inside.store in
     let new = c.in_ok-store.store in
-    let cloned = c.in_ok-store.ensures in
+    let cloned = c.in_ok-store.ensures.cloned in
     let made = state_in new c.args.builder in
     subst (λ m. IsCloneOf C D (λ b it. it ≡ c.args.builder) m made) c.self.view_is (record {
       form = cloned.form;
