@@ -2,7 +2,7 @@
 //! index.
 #![tactic(auto, using(crate::proofs::lemmas::store::States::store_steps))]
 
-ghost use Rattle.std.specs.Prelude.{◌≡◌, ◌<◌, []};
+ghost use Rattle.std.specs.Prelude.{◌≡◌, ◌<◌, [], length, nat_lt};
 ghost use Rattle.half_store.specs.Columns.{no_pairs};
 ghost use Rattle.half_store.specs.Store.{vector_of, KeepsForm};
 
@@ -64,6 +64,14 @@ impl<K, V> Store<K, V> {
         ensures { result ≡ self.now.capacity }
     {
         self.columns.capacity()
+    }
+
+    /// Whether one pair more fits.
+    #[inline(always)]
+    pub fn has_room(&self) -> bool
+        ensures { result ≡ nat_lt (length self.now.pairs) self.now.capacity }
+    {
+        self.columns.len() < self.columns.capacity()
     }
 
     /// Removes all pairs. The form and the capacity stay.

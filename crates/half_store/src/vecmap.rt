@@ -3,7 +3,7 @@
 
 ghost use Rattle.std.specs.Prelude.{◌≡◌, ◌^◌, ◌<◌, ◌≤◌, [], ◌∷◌, ◌++◌, length, slice_get};
 ghost use Rattle.std.specs.Borrow.{sem};
-ghost use Rattle.std.specs.Map.{keys_of};
+ghost use Rattle.std.specs.Map.{keys_of, values_of};
 ghost use Rattle.half_store.specs.Columns.{no_pairs, columns_with};
 ghost use Rattle.half_store.specs.PairLists.{set_key_at, swap_remove_at};
 
@@ -65,7 +65,8 @@ impl<K, V> Columns<K, V> {
     #[inline(always)]
     pub fn pair_at(&self, index: usize) -> (&K, &V)
         requires { index < length self.now.pairs }
-        ensures { slice_get self.now.pairs index ≡ Some (result.0.now, result.1.now) }
+        ensures pair { slice_get self.now.pairs index ≡ Some (result.0.now, result.1.now) }
+        ensures value { slice_get (values_of self.now.pairs) index ≡ Some result.1.now }
     {
         (&self.keys[index], &self.values[index])
     }

@@ -19,7 +19,12 @@ impl<K: Eq + Hash, V, S: KeyHasher<K>, L: Limit> LimitedHashMap<K, V, S, L> {
             (Q.equivalent key) self.now tally.old tally.new }
         ensures state { IsState K.eq L.LIMIT self.now }
     {
-        let hash = self.hash_in_table(&key, tally);
+        // `hash_in_table` written out, so that this proof, for which thirty others wait, waits for one alone.
+        let hash = if self.store.is_vec() {
+            0
+        } else {
+            self.builder.hash_key(&key, tally)
+        };
         self.find_hashed(hash, key, tally)
     }
 
@@ -42,6 +47,6 @@ impl<K: Eq + Hash, V, S: KeyHasher<K>, L: Limit> LimitedHashMap<K, V, S, L> {
         let matches = move |held: &K| -> bool
             ensures { result ≡ Q.equivalent key held.now }
         { key.equivalent(held) };
-        self.find_match(hash, &matches, Scan::ByBlock, tally)
+        self.store.find(hash, &matches, Scan::ByBlock, tally)
     }
 }

@@ -76,7 +76,7 @@ impl<K: Eq + Hash, V, S: KeyHasher<K>, L: Limit> LimitedHashMap<K, V, S, L> {
             (addition_needs self.old) result self.new }
         ensures capacity { OnOk result (length self.new.pairs < self.new.capacity) }
     {
-        if self.len() < self.capacity() {
+        if self.store.has_room() {
             return Ok(());
         }
         self.reserve(1)
@@ -100,7 +100,7 @@ impl<K: Eq + Hash, V, S: KeyHasher<K>, L: Limit> LimitedHashMap<K, V, S, L> {
         ensures work { tally.new ≡ looked_more tally.old
             (growth_looks (S.hash self.old.builder) self.old vacancy.hash (is_ok result)) }
     {
-        if self.len() < self.capacity() {
+        if self.store.has_room() {
             return Ok(vacancy);
         }
         self.reserve(1)?;

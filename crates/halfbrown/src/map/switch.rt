@@ -25,7 +25,7 @@ impl<K: Eq + Hash, V, S: KeyHasher<K>, L: Limit> LimitedHashMap<K, V, S, L> {
         ensures work { tally.new ≡ (if is_ok result
             then asked_more (switch_asked L.LIMIT self.old) tally.old else tally.old) }
     {
-        if !self.store.is_vec() || self.columns().len() < L::LIMIT {
+        if !self.store.is_vec() || self.store.columns().len() < L::LIMIT {
             return Ok(());
         }
         self.switch(tally)

@@ -1,23 +1,40 @@
-use Rattle.std.proofs.Common.{arith}
-use Rattle.std.proofs.lemmas.Grind.{common_steps}
-use Rattle.std.proofs.Common.{subst}
-use Rattle.halfbrown.specs.Costs.{IsSearchCost}
-use Rattle.halfbrown.specs.Lookup.{KeySearch}
+use Rattle.std.proofs.Common.{◌≡◌, false, sym, ap, subst, ◌∙◌}
 use Rattle.std.specs.Result.{result_ok}
-use Rattle.halfbrown.proofs.lemmas.map.Find.{costs_for_other, looks_up, found_is_index}
+use Rattle.half_store.specs.declared.vecmap.search.Scan.TheVariants.{ByBlock}
+use Rattle.halfbrown.specs.Costs.{IsHashedLookupCost, IsSearchCost}
+use Rattle.halfbrown.specs.Layout.{state_in}
+use Rattle.halfbrown.specs.Lookup.{KeySearch}
+use Rattle.halfbrown.specs.State.{State, IsState}
+use Rattle.halfbrown.proofs.lemmas.map.Find.{costs_for_other, found_is_index, looks_up, match_costs, matches_of}
+use Rattle.halfbrown.proofs.lemmas.map.Layout.{state_of}
 use Rattle.halfbrown.proofs.map.LimitedHashMap.find_hashed.Goals as goal
 
-pub returns-clause-found : goal.returns-clause-found
-returns-clause-found g c = grind (arith, common_steps, looks_up, g.met.Q.Equivalent.hashes_alike, g.met.Q.Equivalent.stands_for_equals, g.met.S.KeyHasher.hash_is)
-
-pub returns-clause-cost : goal.returns-clause-cost
-returns-clause-cost g c =
-    let m = c.args.self.now in
+pub returns : goal.returns
+returns g c =
+    let store = c.self.inside.store in
+    let builder = c.self.inside.builder in
+    let was : State g.row.K.Denot g.row.V.Denot g.row.S.Denot = state_in store builder in
     let test = g.Q.Equivalent.equivalent c.args.key in
     let hashing = g.S.KeyHasher.hash in
-    let own = g.S.KeyHasher.hash_writes m.builder (g.Q.Hash.hash_input c.args.key) in
-    let found : KeySearch test own m c.find_match.result = returns-clause-found g c in
-    subst (λ index. IsSearchCost hashing own m index 0 c.args.tally.now c.find_match.new.tally)
-    (found_is_index test own m c.find_match.result found)
-    (costs_for_other hashing c.args.hash own m c.args.tally.now c.find_match.new.tally (result_ok c.find_match.result) c.requires
-    c.find_match.ensures.cost)
+    let own = g.S.KeyHasher.hash_writes builder (g.Q.Hash.hash_input c.args.key) in
+    let told = c.find.ensures in
+    let known : was.is_vec ≡ false → c.args.hash ≡ own =
+    λ table. c.requires (ap (λ m. m.is_vec) (sym c.self.view_is) ∙ table)
+    ∙ ap (λ s. g.S.KeyHasher.hash_writes s (g.Q.Hash.hash_input c.args.key)) (ap (λ m. m.builder) (sym c.self.view_is)) in
+    let found : KeySearch test own was c.find.result = looks_up test _ (λ k answer returned. returned.says.met ∙ ap test returned.shows)
+    g.K.PartialEq.eq (g.met.Q.Equivalent.stands_for_equals c.args.key) hashing c.args.hash was c.self.invariant.distinct own known
+    (λ k passes. g.met.S.KeyHasher.hash_is builder k
+    ∙ ap (g.S.KeyHasher.hash_writes builder) (sym (g.met.Q.Equivalent.hashes_alike c.args.key k passes)))
+    c.find.result (matches_of _ hashing c.args.hash store builder c.self.invariant.hashed c.find.result told.found) in
+    let spent = match_costs hashing c.args.hash was c.args.tally.now c.find.new.tally store.is_vec (λ i. store.is_vec)
+    ByBlock (result_ok c.find.result) store.hashes c.self.invariant.hashed told.cost.vector told.cost.found told.cost.missing told.cost.short in
+    record {
+      found = subst (λ (m : State g.row.K.Denot g.row.V.Denot g.row.S.Denot). KeySearch test
+          (g.S.KeyHasher.hash_writes m.builder (g.Q.Hash.hash_input c.args.key)) m c.find.result) c.self.view_is found;
+      cost = subst (λ (m : State g.row.K.Denot g.row.V.Denot g.row.S.Denot). IsHashedLookupCost hashing
+          (g.S.KeyHasher.hash_writes m.builder (g.Q.Hash.hash_input c.args.key)) test m c.args.tally.now c.find.new.tally) c.self.view_is
+          (subst (λ index. IsSearchCost hashing own was index 0 c.args.tally.now c.find.new.tally)
+          (found_is_index test own was c.find.result found)
+          (costs_for_other hashing c.args.hash own was c.args.tally.now c.find.new.tally (result_ok c.find.result) known spent));
+      state = subst (IsState g.K.PartialEq.eq g.L.Limit.LIMIT) c.self.view_is (state_of _ _ _ _ _ c.self.invariant);
+    }
