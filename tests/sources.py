@@ -26,10 +26,10 @@ RULES = (
      r"fn \w+_counted\b(?:<.*?>)?\((?!\s*&?(?:mut )?self\b)", "| map/collect 1, run 1 |"),
     ("The libraries make no plain call: these are calls of entries and tables, of std's traits and of the program.",
      r"(?<!fn )\b(?:PLAIN)(?:::<[^()]*>)?\(|::(?:PLAIN)\b(?!\()",
-     "store/change 2, store/shift 2, table/shift 1, vecmap/shift 2 | entry/debug 1, entry/methods 6, entry/occupied 2, "
+     "store/change 2, store/shift 2, table/shift 1, vecmap/shift 2 | entry/debug 1, entry/methods 6, entry/occupied 4, "
      "map/collect 2, map/debug 1, map/equality 1, map/shift_remove 1, raw_entry/debug 1, raw_entry/methods 1, run 3 | answer 3"),
     ("Slices are indexed, and no map.", r"[\w\])]\[",
-     "buckets 1, table/deletion 2, table/probe 1, table/rehash 2, vecmap/replace 1, vecmap/retain 2, vecmap/search 1, vecmap 7, words 4 |  | "
+     "buckets 1, table/deletion 2, table/probe 1, table/rehash 2, vecmap/replace 1, vecmap/retain 2, vecmap/search 1, vecmap 5, words 4 |  | "
      "lines 2, request 2"),
     ("What compares keys is handed on, and only `compare` calls it.", r"\b(?:matches|is_match)\b",
      "counting 2, store/change 3, store/find 3, table/deletion 2, table/find 2, table/probe 2, table 6, vecmap/search 8 | "
@@ -43,7 +43,7 @@ RULES = (
     ("Counted work is done in these places.",
      r"\b(?:hash_one|hash_key|compare|word_at|read|search|first_match|first_empty|find_in)\b",
      "buckets 3, counting 3, store/change 1, store/find 1, table/deletion 4, table/find 2, table/probe 5, table/rehash 1, table/shift 1, "
-     "table 4, vecmap/search 3, vecmap 1, words 6 | key_hasher 3, map/switch 2, raw_entry 1 |"),
+     "table 4, vecmap/search 3, vecmap 1, words 6 | key_hasher 3, map/find 1, map/switch 2, raw_entry 1 |"),
     ("The words of buckets are read by `word_at` alone.", r"\bwords\b",
      "lib 1, store/memory 3, table/memory 2, words 39 |  |"),
     ("Memory is taken, and values are cloned, in these places.",

@@ -1,8 +1,7 @@
 -- The rules for growth: how many buckets a table has, how many pairs it may hold, and how far a vector grows.
 use Rattle.std.specs.Prelude.{◌≡◌, ℕ, zero, suc, ◌+◌, ◌-◌, ◌*◌, ◌/◌, ◌^◌, ◌≤◌, ◌⊎◌, Bool, ◌||◌, ◌==◌, min, max, nat_lt, nat_le, if◌then◌else◌}
 
--- the capacity that a vector grows to where it has less than is needed: twice what it was, at least eight and what is needed, and at most
--- the limit
+-- the capacity that a vector grows to where more is needed: twice what it was, at least eight and what is needed, at most the limit
 abbrev pub generous_capacity : ℕ → ℕ → ℕ → ℕ
 generous_capacity limit capacity needed = min (max (max (2 * capacity) 8) needed) limit
 

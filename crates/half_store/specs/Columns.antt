@@ -1,5 +1,5 @@
 -- What contracts see of two columns, one of keys and one of values.
-use Rattle.std.specs.Prelude.{◌≡◌, ℕ, ◌^◌, ◌<◌, ◌≤◌, max, List, [], length, Result, OnOk, OnErr, IfErr, vec_capacity}
+use Rattle.std.specs.Prelude.{◌≡◌, ℕ, ◌^◌, ◌<◌, ◌≤◌, List, [], length, Result, OnOk, OnErr, IfErr, vec_capacity}
 use Rattle.std.specs.List.{zip}
 use Rattle.std.specs.declared.vec.Vec.{Vec}
 use Rattle.half_store.specs.Capacity.{generous_capacity}
@@ -40,7 +40,6 @@ pub record ColumnsGrow {K V : Type 0} (limit : ℕ) (old new : ColumnsState K V)
   pub enough : OnOk result (total ≤ new.capacity)
   pub grown : OnOk result (old.capacity < total → new.capacity ≡ generous_capacity limit old.capacity total)
   pub more : old.capacity ≤ new.capacity
-  pub within_limit : new.capacity ≤ max old.capacity limit
   pub unneeded : total ≤ old.capacity → new ≡ old
   pub granted : OnOk result (old.capacity < total → total ≤ 2 ^ 60)
   pub needed : OnErr result (old.capacity < total)

@@ -12,8 +12,7 @@ use Rattle.half_store.specs.Columns.{ColumnsState}
 use Rattle.half_store.specs.Table.{TableState, Contents, table_contents, no_contents, contents_code, with_hash_in, IsVacancyIn}
 use base.Stored.{Coded, coded×, coded_list, coded_ℕ, coded_bool, coded_via}
 
--- the form, the pairs in order, and for how many there is memory; the stored hashes by entry index and what the buckets contain, of
--- which a vector has none
+-- the form, the pairs in order, the capacity, and, in a table alone, the stored hashes by entry index and what the buckets contain
 pub record StoreState (K V : Type 0) : Type 0 where
   pub is_vec : Bool
   pub pairs : List (K × V)
@@ -82,7 +81,6 @@ module _ {K V : Type 0} (limit needed : ℕ) where
     pub pairs : s.pairs ≡ []
     pub hashes : s.hashes ≡ []
     pub capacity : s.capacity ≡ least_capacity s.is_vec needed
-    pub within : s.is_vec ≡ true → s.capacity ≤ limit
     pub series : s.is_vec ≡ false → s.capacity ≡ capacity_for s.capacity
     pub exceeds : s.is_vec ≡ false → limit < s.capacity
 
@@ -122,8 +120,7 @@ module _ {K V : Type 0} (limit : ℕ) (old new : StoreState K V) where
     pub refused : IfErr result (λ why. why ≡ refusal_of (reserved limit old additional))
     pub err : OnErr result (new ≡ old)
 
-  -- capacity is given back to the least that the pairs fit, and the table where the limit allows them; where memory is refused, which only
-  -- a smaller capacity for some pairs needs, nothing changes
+  -- capacity, and a table that is not needed, are given back; only a smaller capacity for some pairs may be refused: then nothing changes
   pub record StoreShrinks (result : Result (Unit {0}) AllocError) : Type 0 where
     pub pairs : new.pairs ≡ old.pairs
     pub form : OnOk result (new.is_vec ≡ vec_shrunk limit old.is_vec (length old.pairs))

@@ -12,18 +12,6 @@ pub record Work : Type 0 where
 abbrev pub no_work : Work
 no_work = record { asked = 0; compared = 0; looked = 0 }
 
--- one more hash was computed
-abbrev pub one_asked : Work → Work
-one_asked w = record w { asked = w.asked + 1 }
-
--- two keys were compared once more
-abbrev pub one_compared : Work → Work
-one_compared w = record w { compared = w.compared + 1 }
-
--- a bucket was read once more
-abbrev pub one_looked : Work → Work
-one_looked w = record w { looked = w.looked + 1 }
-
 -- n more comparisons of keys
 abbrev pub compared_more : ℕ → Work → Work
 compared_more n w = record w { compared = w.compared + n }

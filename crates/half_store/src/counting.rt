@@ -3,7 +3,7 @@
 ghost use Rattle.std.specs.Prelude.{◌≡◌};
 ghost use Rattle.std.specs.Fn.{FnReturnsAt};
 ghost use Rattle.half_store.specs.Hash.{hash_by};
-ghost use Rattle.half_store.specs.Work.{one_asked, one_compared};
+ghost use Rattle.half_store.specs.Work.{asked_more, compared_more};
 
 use crate::Tally;
 use std::hash::{BuildHasher, Hash};
@@ -13,7 +13,7 @@ use std::hash::{BuildHasher, Hash};
 pub fn hash_one<K: Hash, S: BuildHasher>(builder: &S, key: &K, tally: &mut Tally) -> u64
     ensures hash { result
         ≡ hash_by S.BuildHasher S.Hasher.Hasher builder.now (K.hash_input key.now) }
-    ensures counted { tally.new ≡ one_asked tally.old }
+    ensures counted { tally.new ≡ asked_more 1 tally.old }
 {
     tally.add_asked();
     builder.hash_one(key)
@@ -24,7 +24,7 @@ pub fn hash_one<K: Hash, S: BuildHasher>(builder: &S, key: &K, tally: &mut Tally
 pub fn compare<K, F: Fn(&K) -> bool>(matches: &F, key: &K, tally: &mut Tally) -> bool
     requires { F.pre matches.now key }
     ensures answer { FnReturnsAt F.Fn matches.now key.now result }
-    ensures counted { tally.new ≡ one_compared tally.old }
+    ensures counted { tally.new ≡ compared_more 1 tally.old }
 {
     tally.add_compared();
     matches(key)

@@ -1,7 +1,7 @@
 //! The account of the work that look-ups and insertions do.
 ghost use Rattle.std.specs.Prelude.{◌≡◌, ℕ, ◌+◌};
 ghost use Rattle.std.specs.Borrow.{ftrue};
-ghost use Rattle.half_store.specs.Work.{Work, no_work, one_asked, one_compared, one_looked};
+ghost use Rattle.half_store.specs.Work.{Work, no_work, asked_more, compared_more, looked_more};
 
 use std::marker::Model;
 
@@ -55,7 +55,7 @@ impl Tally {
     // One more key was hashed.
     #[inline(always)]
     pub(crate) fn add_asked(&mut self)
-        ensures { self.new ≡ one_asked self.old }
+        ensures { self.new ≡ asked_more 1 self.old }
     {
         let next = self.asked.plus_one();
         self.asked = next;
@@ -64,7 +64,7 @@ impl Tally {
     // Two more keys were compared.
     #[inline(always)]
     pub(crate) fn add_compared(&mut self)
-        ensures { self.new ≡ one_compared self.old }
+        ensures { self.new ≡ compared_more 1 self.old }
     {
         let next = self.compared.plus_one();
         self.compared = next;
@@ -73,7 +73,7 @@ impl Tally {
     // One more bucket was read.
     #[inline(always)]
     pub(crate) fn add_looked(&mut self)
-        ensures { self.new ≡ one_looked self.old }
+        ensures { self.new ≡ looked_more self.old 1 }
     {
         let next = self.looked.plus_one();
         self.looked = next;

@@ -5,7 +5,7 @@
 ghost use Rattle.std.specs.Prelude.{◌≡◌, ℕ, ◌<◌, ◌≤◌, List, [], length, replicate, slice_index, slice_set, IfOk, IsOk};
 ghost use Rattle.half_store.specs.Capacity.{capacity_of, IsBucketCount};
 ghost use Rattle.half_store.specs.Words.{words_of, most_of, most_of_four, most_of_eight, word_size, AreWordsFor};
-ghost use Rattle.half_store.specs.Work.{one_looked};
+ghost use Rattle.half_store.specs.Work.{looked_more};
 
 use crate::Tally;
 use crate::capacity::capacity_of;
@@ -28,7 +28,7 @@ pub trait Words {
     fn word_at(&self, bucket: usize, tally: &mut Tally) -> usize
         requires { bucket < length (words self.now) }
         ensures value { result ≡ slice_index (words self.now) bucket }
-        ensures counted { tally.new ≡ one_looked tally.old };
+        ensures counted { tally.new ≡ looked_more tally.old 1 };
 
     /// Writes the word of this bucket.
     fn set_word(&mut self, bucket: usize, word: usize)

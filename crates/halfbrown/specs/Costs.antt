@@ -111,17 +111,13 @@ pub record IsSearchCost {K V S : Type 0} (hash : S → K → ℕ) (sought : ℕ)
 -- what one search in the map by a form of a key cost, by the tally before it and after: the form has the searched hash, and stands for the keys
 -- that pass the test
 module _ {K V S : Type 0} (hash : S → K → ℕ) (sought : ℕ) (test : K → Bool) (m : State K V S) where
-  -- where the builder was asked for `asked` hashes
-  abbrev pub IsLookupCostAsking : ℕ → Work → Work → Type 0
-  IsLookupCostAsking asked before after = IsSearchCost hash sought m (index_of test (keys_of m.pairs)) asked before after
-
   -- where the search hashed it, as it does in a table
   abbrev pub IsLookupCost : Work → Work → Type 0
-  IsLookupCost before after = IsLookupCostAsking (search_asked m.is_vec) before after
+  IsLookupCost before after = IsSearchCost hash sought m (index_of test (keys_of m.pairs)) (search_asked m.is_vec) before after
 
   -- where its hash was handed in: the builder is not asked
   abbrev pub IsHashedLookupCost : Work → Work → Type 0
-  IsHashedLookupCost before after = IsLookupCostAsking 0 before after
+  IsHashedLookupCost before after = IsSearchCost hash sought m (index_of test (keys_of m.pairs)) 0 before after
 
 -- the buckets that an insertion probe of a new key k reads, where the capacity is enough for it
 abbrev pub insertion_looks : {K V S : Type 0} → (S → K → ℕ) → State K V S → K → ℕ

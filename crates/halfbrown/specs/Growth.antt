@@ -12,8 +12,7 @@ use Rattle.halfbrown.specs.Pairs.{holds}
 abbrev pub addition_needs : {K V S : Type 0} → State K V S → Option ℕ
 addition_needs m = if nat_lt (length m.pairs) m.capacity then None else Some (length m.pairs + 1)
 
--- the capacity after a granted call: where it needs no more, the same; else a table has the least of the series that is enough, and a
--- vector what it grows to
+-- the capacity after a granted call: the same where it needs no more; else a table's least that is enough, or what a vector grows to
 abbrev pub HasCapacityAfter : {K V S : Type 0} → ℕ → State K V S → Option ℕ → State K V S → Type 0
 HasCapacityAfter limit old needs new =
     MatchOption needs (new.capacity ≡ old.capacity)

@@ -67,13 +67,11 @@ module _ {K V S : Type 0} where
   growth_looks hash m h granted =
       if nat_lt (length m.pairs) m.capacity then 0 else (if granted then probe_length hash m.is_vec (capacity_for (length m.pairs + 1)) m.pairs h else 0)
 
-  -- a granted call that makes capacity for an insertion, and needed this much capacity for it: the same pairs, and a full vector has become a
-  -- table
+  -- a granted call that makes capacity for an insertion, which needed this much: the same pairs, and a full vector is a table now
   abbrev pub Prepares : ℕ → State K V S → Option ℕ → State K V S → Type 0
   Prepares limit old = Grants limit (is_vec_after limit old) old
 
-  -- a call that makes capacity for an insertion, and needs this much for it: where it is granted the map is prepared, and where it is refused
-  -- nothing has changed
+  -- a call that makes capacity for an insertion, which needs this much: it is granted, or it is refused and nothing has changed
   pub record PreparesOrRefuses {T : Type 0} (limit : ℕ) (eq : K → K → Bool) (old : State K V S) (needs : Option ℕ) (result : Result T Refusal) (new : State K V S) : Type 0 where
     pub ok : OnOk result (Prepares limit old needs new)
     pub refused : IfErr result (IsRefusal needs)

@@ -3,7 +3,7 @@ ghost use Rattle.std.specs.Prelude.{◌≡◌, ℕ};
 ghost use Rattle.std.proofs.Common.{refl};
 ghost use Rattle.std.specs.Hash.{HashWrites};
 ghost use Rattle.half_store.specs.Hash.{hash_by};
-ghost use Rattle.half_store.specs.Work.{one_asked};
+ghost use Rattle.half_store.specs.Work.{asked_more};
 
 use half_store::{Tally, counting};
 use std::hash::{BuildHasher, Hash};
@@ -34,7 +34,7 @@ pub trait KeyHasher<K: Hash> {
     /// Returns what `hash_one` returns for a key, or for a form of one, and counts the hash.
     fn hash_key<Q: Hash>(&self, key: &Q, tally: &mut Tally) -> u64
         ensures hash { result ≡ hash_writes self.now (Q.hash_input key.now) }
-        ensures counted { tally.new ≡ one_asked tally.old };
+        ensures counted { tally.new ≡ asked_more 1 tally.old };
 
     // A key's hash is that of what it writes.
     ghost hash_is: { (s : Self) (k : K) → hash s k ≡ hash_writes s (K.hash_input k) };

@@ -1,4 +1,4 @@
-//! What depends on the form of a map: the switch of a full vector, and the hash of a key. Nothing else asks for the form.
+//! What depends on the form of a map: the switch of a full vector, and the hash of a key. Beside `find` nothing else asks for it.
 ghost use Rattle.std.specs.Prelude.{◌≡◌, ◌≤◌, ◌<◌, true, false, [], length, map};
 ghost use Rattle.std.specs.Prelude.{OnOk, is_ok, if◌then◌else◌};
 ghost use Rattle.half_store.specs.Capacity.{capacity_of};

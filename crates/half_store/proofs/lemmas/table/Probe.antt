@@ -13,7 +13,7 @@ use Rattle.half_store.proofs.lemmas.table.Circle.{bucket_after-probe_distance, d
 use Rattle.half_store.proofs.lemmas.table.Counts.{count_to, count_to-same, count_to-le, count_to_more, count_to-none, count_by-count_to}
 use Rattle.half_store.proofs.lemmas.table.Counts.{ahead_size}
 use Rattle.half_store.proofs.lemmas.table.Reach.{is_loaded-yes, is_loaded-no, loaded_run-is, reach-some}
-use Rattle.half_store.specs.Work.{Work, one_looked, one_compared}
+use Rattle.half_store.specs.Work.{Work, looked_more, compared_more}
 use Rattle.half_store.proofs.lemmas.table.Mask.{mask_mod}
 use Rattle.half_store.proofs.lemmas.table.Buckets.{length-slots_by}
 use Rattle.half_store.proofs.lemmas.tally.{looked_more-zero}
@@ -194,12 +194,12 @@ module _ {slots : List (Option ℕ)} {hash : ℕ} {Refused : ℕ → Type 0} {bu
         }
 
     -- the bucket holds another hash
-    pub Searches-skip : (held : ℕ) → slot_at slots bucket ≡ Some held → held ≢ hash → new ≡ one_looked now
+    pub Searches-skip : (held : ℕ) → slot_at slots bucket ≡ Some held → held ≢ hash → new ≡ looked_more now 1
         → EntersByKey slots hash Refused next old new
     Searches-skip held is other work = grind (arith, common_steps, full_from, goes_on, ne_eqb, passed-skip, same_Some, start_in)
 
     -- the bucket holds a pair of the hash, which was refused
-    pub Searches-refused : slot_at slots bucket ≡ Some hash → Refused bucket → new ≡ one_compared (one_looked now)
+    pub Searches-refused : slot_at slots bucket ≡ Some hash → Refused bucket → new ≡ compared_more 1 (looked_more now 1)
         → EntersByKey slots hash Refused next old new
     Searches-refused is no_match work = grind (arith, common_steps, full_from, goes_on, passed-one, start_in)
 

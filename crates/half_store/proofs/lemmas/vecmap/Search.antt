@@ -2,7 +2,7 @@
 use Rattle.std.proofs.Common.{◌≡◌, ℕ, ◌+◌, ◌-◌, ◌<◌, ◌≤◌, subst, ⊎_elim, eq-or-lt_of_le, arith}
 use Rattle.std.proofs.lemmas.Bool.{cases_lt}
 use Rattle.std.proofs.lemmas.Grind.{common_steps}
-use Rattle.half_store.specs.Work.{Work, one_compared, compared_more}
+use Rattle.half_store.specs.Work.{Work, compared_more}
 
 -- what holds from an index on, and of the one before it, holds from that one on
 pub from_before : (P : ℕ → Type 0) (index end : ℕ) → 0 < index → ((k : ℕ) → index ≤ k → k < end → P k) → P (index - 1)
@@ -10,7 +10,7 @@ pub from_before : (P : ℕ → Type 0) (index end : ℕ) → 0 < index → ((k :
 from_before P index end some all here k from within =
     ⊎_elim (λ is. subst P is here) (λ more. all k (omega (arith, more)) within) (eq-or-lt_of_le from)
 
-pub compared_again : (n m : ℕ) (w between after : Work) → m ≡ n + 1 → between ≡ compared_more n w → after ≡ one_compared between
+pub compared_again : (n m : ℕ) (w between after : Work) → m ≡ n + 1 → between ≡ compared_more n w → after ≡ compared_more 1 between
     → after ≡ compared_more m w
 compared_again n m w between after more before one = grind (arith, common_steps)
 

@@ -4,7 +4,7 @@ use Rattle.std.specs.Fn.{FnReturnsAt}
 use Rattle.half_store.specs.Slots.{slots_by}
 use Rattle.half_store.specs.Reach.{home, bucket_after}
 use Rattle.half_store.specs.Search.{ReturnsAt}
-use Rattle.half_store.specs.Work.{Work, one_compared}
+use Rattle.half_store.specs.Work.{Work, compared_more}
 use Rattle.half_store.proofs.lemmas.counting.{returned_at, key_in_bucket, key_within}
 use Rattle.half_store.proofs.lemmas.table.Buckets.{length-slots_by}
 use Rattle.half_store.proofs.lemmas.table.Slots.{full_from, Probes-ahead}
@@ -76,7 +76,7 @@ returns-then-compare-clause-found g c = grind (arith, common_steps)
 pub returns-then-compare-clause-compared_most : goal.returns-then-compare-clause-compared_most
 returns-then-compare-clause-compared_most g c =
     let few = Searches-found c.loop-index.invariant (sym c.in-Some.ensures.hash ∙ ap Some c.if-held-hash.true) in
-    let e = ap (λ (w : Work). w.compared) (c.compare.ensures.counted ∙ ap one_compared c.in-Some.ensures.counted) in
+    let e = ap (λ (w : Work). w.compared) (c.compare.ensures.counted ∙ ap (compared_more 1) c.in-Some.ensures.counted) in
     omega arith
 
 pub loop-index-preserved : goal.loop-index-preserved
@@ -91,7 +91,7 @@ loop-index-preserved g c =
           (subst (λ n. ReturnsAt (FnReturnsAt g.F.Fn c.args.matches.now) c.args.keys.now n false) c.in-Some.ensures.index
           (returned_at (FnReturnsAt g.F.Fn c.args.matches.now) c.args.keys.now c.in-Some.index w.index-keys-index.result _
           w.index-keys-index.is w.if-compare.ensures.answer))
-          (w.tally-is ∙ w.compare.ensures.counted ∙ ap one_compared c.in-Some.ensures.counted)
+          (w.tally-is ∙ w.compare.ensures.counted ∙ ap (compared_more 1) c.in-Some.ensures.counted)
       | else-held-hash-via-else-held-hash w ↦
           Searches-skip c.loop-index.invariant c.requires.vacant c.next-bucket.result c.else-held-hash.tally next c.in-Some.held
           (sym c.in-Some.ensures.hash)

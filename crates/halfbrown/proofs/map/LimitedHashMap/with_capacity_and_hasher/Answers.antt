@@ -7,7 +7,7 @@ pub invariant_of-result : goal.invariant_of-result
 invariant_of-result g c =
     let made = c.in_ok-with_capacity.ensures.makes.made in
     kept_made g.K.PartialEq.eq (g.S.KeyHasher.hash c.args.builder) g.L.Limit.LIMIT
-    c.in_ok-with_capacity.field-0 made.pairs made.hashes (λ vector. omega (arith, made.within vector, c.LIMIT.ensures)) made.series (λ table. omega (arith, made.exceeds table, c.LIMIT.ensures))
+    c.in_ok-with_capacity.field-0 made.pairs made.hashes (λ vector. grind (arith, common_steps, c.LIMIT.ensures)) made.series (λ table. omega (arith, made.exceeds table, c.LIMIT.ensures))
 
 pub returns-clause-state : goal.returns-clause-state
 returns-clause-state g c = grind (arith, common_steps, invariant_of-result, state_of)

@@ -1,4 +1,4 @@
-use Rattle.std.proofs.Common.{sym, ap}
+use Rattle.std.proofs.Common.{sym, ap, ◌∙◌}
 use Rattle.halfbrown.specs.RawEntry.{ready_ref, ready_map}
 use Rattle.halfbrown.proofs.lemmas.raw_entry.Methods.{found_entry, missing_entry}
 use Rattle.halfbrown.proofs.raw_entry.RawEntryBuilderMut.from_key_hashed_nocheck_counted.Goals as goal
@@ -30,4 +30,5 @@ pub returns-in-Err-clause-cost : goal.returns-in-Err-clause-cost
 returns-in-Err-clause-cost g c = rw c.self-1.given.1 c.in-Err.ensures.cost
 
 pub find_hashed-requires : goal.find_hashed-requires
-find_hashed-requires g c = λ table. rw c.self-1.given.1 at c.requires
+find_hashed-requires g c =
+    λ table. c.requires ∙ ap (λ r. g.S.KeyHasher.hash_writes (ready_map r).builder (g.Q.Hash.hash_input c.args.key)) c.self-1.given.1
