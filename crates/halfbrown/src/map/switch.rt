@@ -1,4 +1,5 @@
-//! What depends on the form of a map: the switch of a full vector, and the hash of a key. Beside `find` nothing else asks for it.
+//! What depends on the form of a map: the switch of a full vector, and the hash of a key. Beside them `find` alone asks for the
+//! form.
 ghost use Rattle.std.specs.Prelude.{◌≡◌, ◌≤◌, ◌<◌, true, false, [], length, map};
 ghost use Rattle.std.specs.Prelude.{OnOk, is_ok, if◌then◌else◌};
 ghost use Rattle.half_store.specs.Capacity.{capacity_of};
