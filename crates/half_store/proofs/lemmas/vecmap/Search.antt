@@ -1,8 +1,10 @@
 -- A search that goes down from the end.
-use Rattle.std.proofs.Common.{◌≡◌, ℕ, ◌+◌, ◌-◌, ◌<◌, ◌≤◌, subst, ⊎_elim, eq-or-lt_of_le, arith}
+use Rattle.std.proofs.Common.{◌≡◌, ◌∙◌, ap, Option, ℕ, ◌+◌, ◌-◌, ◌<◌, ◌≤◌, subst, ⊎_elim, eq-or-lt_of_le, arith}
 use Rattle.std.proofs.lemmas.Bool.{cases_lt}
 use Rattle.std.proofs.lemmas.Grind.{common_steps}
-use Rattle.half_store.specs.Work.{Work, compared_more}
+use Rattle.half_store.specs.Work.{Work, compared_more, first_match_cost}
+use Rattle.half_store.specs.Search.{ComparesInOrder}
+use Rattle.half_store.specs.declared.vecmap.search.Scan.{Scan}
 
 -- what holds from an index on, and of the one before it, holds from that one on
 pub from_before : (P : ℕ → Type 0) (index end : ℕ) → 0 < index → ((k : ℕ) → index ≤ k → k < end → P k) → P (index - 1)
@@ -22,3 +24,16 @@ below_and_from P index end below from k within = ⊎_elim (λ less. below k less
 pub compared_all : (start more : ℕ) (w between after : Work) → between ≡ compared_more start w
     → after ≡ compared_more (start + more - start) between → after ≡ compared_more (start + more) w
 compared_all start more w between after before then = grind (arith, common_steps)
+
+-- each key up to where the search ended was compared once
+pub in_order : {scan : Scan} {found : Option ℕ} {n len : ℕ} {w after : Work} → after ≡ compared_more n w → n ≡ first_match_cost found len
+    → n ≤ len → ComparesInOrder scan found len w after
+in_order {w = w} work cost within =
+    let compared = ap (λ (v : Work). v.compared) work in
+    record {
+      asked = ap (λ v. v.asked) work;
+      least = omega (arith, compared, cost);
+      most = omega (arith, compared, within);
+      by_key = λ _. compared ∙ ap (λ n. w.compared + n) cost;
+      looked = ap (λ v. v.looked) work;
+    }

@@ -1,12 +1,13 @@
 use Rattle.std.proofs.Common.{◌≡◌, ◌≢◌, ◌-◌, ◌^◌, ◌<◌, ◌≤◌, ◌∙◌, ℕ, List, inl, inr, length, set, slice_index, refl, sym, ap, subst, arith}
 use Rattle.std.proofs.lemmas.Bool.{cases_lt}
+use Rattle.std.proofs.lemmas.Grind.{common_steps}
 use Rattle.std.proofs.lemmas.List.{length-set, set-get_or}
 use Rattle.half_store.specs.Capacity.{capacity_of, IsBucketCount}
 use Rattle.half_store.specs.Work.{looked_more, Work}
 use Rattle.half_store.specs.Reach.{home, probe_distance}
 use Rattle.half_store.specs.Table.{IsIndexed}
 use Rattle.half_store.proofs.lemmas.table.Circle.{probe_distance-lt}
-use Rattle.half_store.proofs.lemmas.table.Deletion.{Shifts, Ahead, Shifts-start, Ahead-start, gap_distance, first_distance, one_farther}
+use Rattle.half_store.proofs.lemmas.table.Deletion.{Shifts, Ahead, Shifts-start, Ahead-start, word_within, gap_distance, first_distance, one_farther}
 use Rattle.half_store.proofs.lemmas.table.Deletion.{fewer_ahead, Shifts-end, Shifts-stay, Ahead-stay, Shifts-move, Ahead-move}
 use Rattle.half_store.proofs.lemmas.table.Mask.{count-le_half}
 use Rattle.half_store.proofs.lemmas.tally.{looked_more-zero, looked_more-one}
@@ -44,6 +45,9 @@ returns-clause-indexed g c =
       ordered = Shifts-end s (sym l.invariant.read ∙ omega (arith, c.loop-word-test.false));
     }
 
+pub returns-clause-cost : goal.returns-clause-cost
+returns-clause-cost g c = grind (arith, common_steps)
+
 -- the probe distances that are compared have no sign
 unsigned : {count m gap bucket start distance from_home : ℕ} {hashes words : List ℕ} → IsBucketCount count → m ≡ count → m < 2 ^ 64
     → Shifts m hashes words start gap bucket → distance ≡ probe_distance m gap bucket → (home_is : ℕ) → home_is < m
@@ -70,6 +74,12 @@ if_less-distance-requires g c =
     let small = unsigned c.requires.count c.count-count.ensures c.count-count.type_inv c.loop-word.invariant.shifts
     c.loop-word.invariant.apart c.home.result c.home.ensures.bound c.probe_distance-from_home.ensures in
     record { first = small.0; second = small.1 }
+
+pub set_word-requires-clause-fits : goal.set_word-requires-clause-fits
+set_word-requires-clause-fits g c = grind (arith, common_steps, word_within)
+
+pub overflow_add-distance : goal.overflow_add-distance
+overflow_add-distance g c = grind (arith, common_steps, probe_distance-lt)
 
 pub loop-word-smaller : goal.loop-word-smaller
 loop-word-smaller g c =

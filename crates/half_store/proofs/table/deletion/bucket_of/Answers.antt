@@ -4,6 +4,7 @@ use Rattle.half_store.specs.Work.{looked_more}
 use Rattle.half_store.specs.Reach.{home, probe_distance}
 use Rattle.half_store.proofs.lemmas.table.Buckets.{word-lt, some_bucket}
 use Rattle.half_store.proofs.lemmas.table.Circle.{distance_same, next_farther, probe_distance-lt}
+use Rattle.half_store.proofs.lemmas.table.Layout.{deletion_steps}
 use Rattle.half_store.proofs.lemmas.tally.{looked_more-one}
 use Rattle.half_store.proofs.table.deletion.bucket_of.Given.{Over}
 use Rattle.half_store.proofs.table.deletion.bucket_of.Goals as goal
@@ -33,6 +34,9 @@ module _ (g : Over) (c : goal.After-next-bucket g) (target : ℕ)
   one_on : probe_distance m start c.next-bucket.result ≡ probe_distance m start c.loop-bucket.bucket + 1
   one_on = grind (arith, common_steps, farther, in_start, in_target, next_farther)
 
+pub loop-bucket-init : goal.loop-bucket-init
+loop-bucket-init g c = grind (arith, deletion_steps)
+
 pub loop-bucket-preserved : goal.loop-bucket-preserved
 loop-bucket-preserved g c =
     let b = some_bucket c.requires.indexed.each c.args.index c.requires.within in
@@ -52,3 +56,6 @@ loop-bucket-smaller g c =
       farther g c b.0 b.2,
       probe_distance-lt (m g c b.0 b.2) (start g c b.0 b.2) (in_start g c b.0 b.2) b.0 b.1,
     )
+
+pub returns-clause-near : goal.returns-clause-near
+returns-clause-near g c = grind (arith, deletion_steps)

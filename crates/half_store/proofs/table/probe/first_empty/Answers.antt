@@ -1,10 +1,14 @@
-use Rattle.std.proofs.Common.{sym, ap, ◌∙◌}
+use Rattle.std.proofs.Common.{sym, ap, ◌∙◌, arith}
+use Rattle.std.proofs.lemmas.Grind.{common_steps}
 use Rattle.half_store.specs.Work.{looked_more}
 use Rattle.half_store.specs.Reach.{bucket_after}
 use Rattle.half_store.proofs.lemmas.table.Buckets.{length-slots_by}
-use Rattle.half_store.proofs.lemmas.table.Slots.{some_read, Probes-distance, Probes-next}
-use Rattle.half_store.proofs.lemmas.tally.{looked_more-one}
+use Rattle.half_store.proofs.lemmas.table.Slots.{some_read, home_distance, Probes-distance, Probes-next, Probes-ahead}
+use Rattle.half_store.proofs.lemmas.tally.{looked_more-zero, looked_more-one}
 use Rattle.half_store.proofs.table.probe.first_empty.Goals as goal
+
+pub loop-bucket-init : goal.loop-bucket-init
+loop-bucket-init g c = grind (arith, common_steps, home_distance, length-slots_by, looked_more-zero)
 
 pub loop-bucket-preserved : goal.loop-bucket-preserved
 loop-bucket-preserved g c =
@@ -18,3 +22,6 @@ loop-bucket-preserved g c =
       counted = c.read.ensures.counted ∙ looked_more-one c.args.tally.now c.loop-bucket.tally _ c.loop-bucket.invariant.counted
           ∙ ap (looked_more c.args.tally.now) (sym (Probes-distance probe c.requires.vacant c.next-bucket.result full e));
     }
+
+pub loop-bucket-smaller : goal.loop-bucket-smaller
+loop-bucket-smaller g c = grind (arith, common_steps, Probes-ahead, length-slots_by, some_read)

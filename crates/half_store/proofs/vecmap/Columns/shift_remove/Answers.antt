@@ -1,8 +1,11 @@
-use Rattle.std.proofs.Common.{ap, ◌∙◌}
+use Rattle.std.proofs.Common.{ap, ◌∙◌, arith}
 use Rattle.std.specs.List.{zip, remove}
-use Rattle.half_store.proofs.lemmas.vecmap.Columns.{opened, pairs_are, pair_read}
+use Rattle.half_store.proofs.lemmas.vecmap.Columns.{opened, pairs_are, pair_read, columns_steps}
 use Rattle.half_store.proofs.lemmas.vecmap.Zip.{zip-remove}
 use Rattle.half_store.proofs.vecmap.Columns.shift_remove.Goals as goal
+
+pub remove-requires : goal.remove-requires
+remove-requires g c = grind (arith, columns_steps)
 
 pub returns : goal.returns
 returns g c =

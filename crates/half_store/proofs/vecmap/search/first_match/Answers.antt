@@ -1,7 +1,15 @@
-use Rattle.std.proofs.Common.{below_more, arith, rules}
+use Rattle.std.proofs.Common.{◌+◌, below_more, arith, refl, ap, ◌∙◌}
 use Rattle.std.specs.Fn.{FnReturnsAt}
+use Rattle.half_store.specs.Work.{compared_more}
 use Rattle.half_store.proofs.lemmas.counting.{returned_at}
+use Rattle.half_store.proofs.lemmas.vecmap.Search.{compared_again, in_order}
 use Rattle.half_store.proofs.vecmap.search.first_match.Goals as goal
+
+pub returns-clause-first : goal.returns-clause-first
+returns-clause-first g c = c.first_match_by_block.ensures.first
+
+pub returns-clause-work : goal.returns-clause-work
+returns-clause-work g c = rw c.in-ByBlock.is c.first_match_by_block.ensures.work
 
 pub returns-then-compare-clause-first : goal.returns-then-compare-clause-first
 returns-then-compare-clause-first g c = record {
@@ -14,12 +22,18 @@ returns-then-compare-clause-first g c = record {
   absent = tt;
 }
 
+pub returns-then-compare-clause-work : goal.returns-then-compare-clause-work
+returns-then-compare-clause-work g c =
+    in_order (compared_again c.loop-index.index (c.loop-index.index + 1) c.args.tally.now c.loop-index.tally _ refl
+    c.loop-index.invariant.work c.if-compare.ensures.counted) refl (omega (arith, c.loop-index-test.true))
+
 pub loop-index-preserved : goal.loop-index-preserved
 loop-index-preserved g c = record {
   none_so_far = below_more _ _ c.loop-index.invariant.none_so_far
       (returned_at (FnReturnsAt g.F.Fn c.args.matches.now) c.args.keys.now c.loop-index.index c.index-keys-index.result _
       c.index-keys-index.is c.if-compare.ensures.answer);
-  work = search rules;
+  work = compared_again c.loop-index.index (c.loop-index.index + 1) c.args.tally.now c.loop-index.tally _ refl
+      c.loop-index.invariant.work c.if-compare.ensures.counted;
 }
 
 pub returns-2-clause-first : goal.returns-2-clause-first
@@ -28,3 +42,6 @@ returns-2-clause-first g c = record {
   none_before = tt;
   absent = λ index within. c.loop-index.invariant.none_so_far index (omega (arith, within, c.loop-index-test.false));
 }
+
+pub returns-2-clause-work : goal.returns-2-clause-work
+returns-2-clause-work g c = in_order (c.loop-index.invariant.work ∙ ap (λ n. compared_more n c.args.tally.now) (omega arith)) refl (omega arith)
