@@ -55,8 +55,8 @@ RULES = (
     ("A refusal is made, handed on or looked at in these places.",
      r"\bErr\b|\bRefusal::\w|\bAllocError\b(?!>)|\bStopped\b(?!>)|\bNoRoom\b|\b(?:check_size|ok_or\w*)\(",
      "blocks 2, refusal 13, store/change 3, store/find 3, store/memory 3, table/find 1, table/memory 1, "
-     "table/probe 1, vecmap/memory 3, words 2 | entry/find 2, entry/replace 1, map/collect 8, map/get 2, map/insert 6, map/prepare 1, "
-     "raw_entry/search 7, refused 4, run 6 | answer 4, lines 5, main 2, session 11"),
+     "table/probe 1, vecmap/memory 3, words 2 | entry/find 2, entry/replace 1, map/collect 8, map/get 3, map/insert 6, map/prepare 1, "
+     "raw_entry/search 8, refused 4, run 6 | answer 4, lines 5, main 2, session 11"),
     ("Where no clause says when a call fails, these words do: memory was refused, two counts differ, or u64 ends.",
      r"if words\.capacity\(\) == words\.len\(\) \{\s*Ok\(WordVec \{ words \}\)\s*\} else \{\s*Err\(AllocError\)"
      r"|let Ok\((?:mut )?\w+\) = Vec::\w+\(alloc, [\w.()]+\) else \{\s*return Err\("

@@ -179,23 +179,11 @@ module _ {K V : Type 0} (eq : K → K → Bool) (laws : IsEquivalence eq) where
     pub lookup_taken : (q : K) → value_of eq (take_out eq ps k) q ≡ cond (eq k q) None (value_of eq ps q)
     lookup_taken q = grind (arith, common_steps, has_removed.equals q, has_removed.others q)
 
-    pub value_of_taken : value_of eq (take_out eq ps k) k ≡ None
-    value_of_taken = has_removed.no_value
-
-    pub held_taken : holds eq (take_out eq ps k) k ≡ false
-    held_taken = has_removed.not_held
-
-    pub equal_of_taken : (q : K) → eq k q ≡ true → value_of eq (take_out eq ps k) q ≡ None
-    equal_of_taken = has_removed.equals
-
-    pub other_of_taken : (q : K) → eq k q ≡ false → value_of eq (take_out eq ps k) q ≡ value_of eq ps q
-    other_of_taken = has_removed.others
-
     form_found : (test : K → Bool) → IsForm eq test → ((q : K) → eq k q ≡ true → test q ≡ false) → (q : K) → test q ≡ true
         → lookup test (take_out eq ps k) ≡ lookup test ps
     form_found test form apart q passes =
         let same : test ≡ eq q = λ i x. form q x passes i in
-        rw same (other_of_taken q (grind (arith, common_steps, apart q)))
+        rw same (has_removed.others q (grind (arith, common_steps, apart q)))
 
     -- a form that stands for no equal of the key finds what it found
     pub form_taken : (test : K → Bool) → IsForm eq test → ((q : K) → eq k q ≡ true → test q ≡ false)

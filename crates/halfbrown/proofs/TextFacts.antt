@@ -2,9 +2,8 @@
 use Rattle.std.proofs.Common.{◌≡◌, ℕ, ◌+◌, ◌<◌, ◌≤◌, length, String, arith, take, get_or, unwrap_or, subst, Bool, false, cond, List}
 use Rattle.std.proofs.Common.{[], ◌∷◌, ◌++◌, map, Option, Some, refl, sym, ap, ◌∙◌}
 use Rattle.std.proofs.lemmas.Grind.{common_steps}
-use Rattle.std.specs.Bool.{nat_eq}
 use Rattle.std.specs.Cmp.{IsEquivalence}
-use Rattle.std.specs.Cmp.Lexicographic.{pointwise, nat_list_eq_equiv}
+use Rattle.std.specs.Cmp.Lexicographic.{nat_list_eq_equiv}
 use Rattle.std.specs.List.{IsDistinct, AllByRecursion}
 use Rattle.std.specs.Map.{keys_of, lookup}
 use Rattle.std.specs.Option.{option_map}
@@ -12,7 +11,6 @@ use Rattle.std.specs.Str.{bytes_eq}
 use Rattle.std.specs.String.{string_bytes, string_eq}
 use Rattle.std.proofs.lemmas.List.{map-append, take_more}
 use Rattle.std.proofs.Math.ListN.{length-map}
-use denote.Ref.{Bor}
 use Rattle.half_store.specs.PairLists.{index_of}
 use Rattle.halfbrown.specs.Pairs.{value_of, put, set_by, take_out_by}
 use Rattle.halfbrown.specs.Insertion.{Puts}
@@ -62,7 +60,7 @@ module _ {K B V : Type 0} (read : K → B) (same : B → B → Bool) where
 
 module _ {K B : Type 0} (read : K → B) {same : B → B → Bool} (laws : IsEquivalence same) where
   -- what a put leaves for what is read of every key
-  has_put_read : {V S : Type 0} {limit : ℕ} {old new : State K V S} {k : K} {v : V} {needs : Option ℕ}
+  pub has_put_read : {V S : Type 0} {limit : ℕ} {old new : State K V S} {k : K} {v : V} {needs : Option ℕ}
       → Puts limit (λ x y. same (read x) (read y)) old k v needs new
       → HasPut same (keyed_by read old.pairs) (read k) v (keyed_by read new.pairs)
   has_put_read {old = old} {new = new} {k = k} {v = v} puts =
@@ -70,7 +68,7 @@ module _ {K B : Type 0} (read : K → B) {same : B → B → Bool} (laws : IsEqu
       (sym (ap (keyed_by read) puts.pairs ∙ keyed_by-put read same old.pairs k v)) (has_put same laws (keyed_by read old.pairs) (read k) v)
 
   -- the step of a loop over a slice that counts what is read of keys, which `of` reads of the items
-  counted_read_step : {A S : Type 0} {limit : ℕ} (of : A → B) (xs : List A) (i : ℕ) (d : A) {old new : State K ℕ S} {k : K} {v : ℕ}
+  pub counted_read_step : {A S : Type 0} {limit : ℕ} (of : A → B) (xs : List A) (i : ℕ) (d : A) {old new : State K ℕ S} {k : K} {v : ℕ}
       {needs : Option ℕ} → CountsEach same (map of (take i xs)) (keyed_by read old.pairs)
       → Puts limit (λ x y. same (read x) (read y)) old k v needs new → i < length xs → read k ≡ of (get_or xs i d)
       → v ≡ unwrap_or (lookup (λ x. same (read k) (read x)) old.pairs) 0 + 1
@@ -83,7 +81,7 @@ module _ {K B : Type 0} (read : K → B) {same : B → B → Bool} (laws : IsEqu
       ∙ sym (ap (map of) (take_more xs i d within) ∙ map-append of (take i xs) (get_or xs i d ∷ []))) counted
 
   -- no count is more than there are items
-  count_read_fits : {A : Type 0} (of : A → B) (xs : List A) (ps : List (K × ℕ)) → CountsEach same (map of xs) (keyed_by read ps)
+  pub count_read_fits : {A : Type 0} (of : A → B) (xs : List A) (ps : List (K × ℕ)) → CountsEach same (map of xs) (keyed_by read ps)
       → (k : K) → unwrap_or (lookup (λ x. same (read k) (read x)) ps) 0 ≤ length xs
   count_read_fits of xs ps counted k =
       let most = count_fits laws counted (read k) in
@@ -122,12 +120,6 @@ lookup_set_text text ps v other =
     ap (λ qs. value_of bytes_eq qs other) (keyed_by-set string_bytes (bytes_eq text) ps v)
     ∙ lookup_set bytes_eq nat_list_eq_equiv (bytes_eq text) (nat_list_eq_equiv.congr text) (keyed_by string_bytes ps) v other
 
--- what a put leaves where the keys are texts that are lent
-pub has_put_str : {V S : Type 0} {limit : ℕ} {old new : State (Bor (List ℕ)) V S} {k : Bor (List ℕ)} {v : V} {needs : Option ℕ}
-    → Puts limit (λ x y. pointwise nat_eq x.now y.now) old k v needs new
-    → HasPut bytes_eq (keyed_by (λ k. k.now) old.pairs) k.now v (keyed_by (λ k. k.now) new.pairs)
-has_put_str = has_put_read (λ k. k.now) nat_list_eq_equiv
-
 -- the step of a loop over a slice that counts texts, which `of` reads of the items
 pub counted_text_step :
     {A Y S : Type 0} {limit : ℕ} (of : A → List ℕ) (xs : List A) (i : ℕ) (d : A) {old new : State (String Y) ℕ S} {k : String Y} {v : ℕ}
@@ -141,22 +133,6 @@ pub count_text_fits : {A Y : Type 0} (of : A → List ℕ) (xs : List A) (ps : L
     → CountsEach bytes_eq (map of xs) (keyed_by string_bytes ps)
     → (k : String Y) → unwrap_or (value_of string_eq ps k) 0 ≤ length xs
 count_text_fits = count_read_fits string_bytes nat_list_eq_equiv
-
--- the same where the keys are texts that are lent
-pub counted_str_step :
-    {A S : Type 0} {limit : ℕ} (of : A → List ℕ) (xs : List A) (i : ℕ) (d : A) {old new : State (Bor (List ℕ)) ℕ S} {k : Bor (List ℕ)}
-    {v : ℕ}
-    {needs : Option ℕ} → CountsEach bytes_eq (map of (take i xs)) (keyed_by (λ k. k.now) old.pairs)
-    → Puts limit (λ x y. pointwise nat_eq x.now y.now) old k v needs new → i < length xs → k.now ≡ of (get_or xs i d)
-    → v ≡ unwrap_or (value_of (λ x y. pointwise nat_eq x.now y.now) old.pairs k) 0 + 1
-    → CountsEach bytes_eq (map of (take (i + 1) xs)) (keyed_by (λ k. k.now) new.pairs)
-counted_str_step = counted_read_step (λ k. k.now) nat_list_eq_equiv
-
--- nor here
-pub count_str_fits : {A : Type 0} (of : A → List ℕ) (xs : List A) (ps : List (Bor (List ℕ) × ℕ))
-    → CountsEach bytes_eq (map of xs) (keyed_by (λ k. k.now) ps)
-    → (k : Bor (List ℕ)) → unwrap_or (value_of (λ x y. pointwise nat_eq x.now y.now) ps k) 0 ≤ length xs
-count_str_fits = count_read_fits (λ k. k.now) nat_list_eq_equiv
 
 -- for functions over texts
 pub ruleset text_facts = (lookup-keyed_by, lookup_set_text, has_put_text, others_text, has_removed_text)

@@ -22,8 +22,7 @@ module _ {K : Type 0} (eq : K → K → Bool) where
   abbrev pub first_of_each : List K → List K
   first_of_each xs = add_keys [] xs
 
-  -- the pairs count these items: the value of each is how often it stands among them, and the keys are the items in order of their first
-  -- occurrence
+  -- the pairs count these items: the value of each is how often it stands among them, and the keys are in order of first occurrence
   pub record CountsEach (xs : List K) (pairs : List (K × ℕ)) : Type 0 where
     pub counts : (q : K) → unwrap_or (value_of eq pairs q) 0 ≡ count_by (eq q) xs
     pub keys : keys_of pairs ≡ first_of_each xs

@@ -78,8 +78,7 @@ module _ {K V S : Type 0} (limit : ℕ) (eq : K → K → Bool) where
       pub reached : State K V S
       pub insertion : IsRefusedInsertion given made why reached
 
-    -- why items were not collected: the capacity to begin with was refused, or the insertion of one of the items; `given` holds of the items up
-    -- to it
+    -- why items were not collected: the first capacity was refused, or the insertion of an item; `given` holds of the items up to it
     abbrev pub IsRefusedCollection : (List (K × V) → Type 0) → Refusal → Type 0
     IsRefusedCollection given why = IsRefusal (making_needs needed) why ⊎ IsRefusedItem given why
 

@@ -5,8 +5,9 @@ use Rattle.halfbrown.specs.declared.run.Command.{Command}
 use Rattle.halfbrown.specs.declared.run.Command.TheVariants.{Insert, InsertNew, EntryOrInsert, RawOrInsert, Get, Remove, Clear, Reserve, Shrink, IsVec, Len}
 use Rattle.halfbrown.specs.declared.run.Reply.{Reply}
 use Rattle.halfbrown.specs.State.{State, IsState, WithPairs}
-use Rattle.halfbrown.specs.Costs.{Cost, no_cost, add_costs, key_search_cost, insert_cost, raw_insert_cost, new_key_cost}
+use Rattle.halfbrown.specs.Costs.{Cost, no_cost, add_costs, GrewBy, key_search_cost, insert_cost, raw_insert_cost, new_key_cost}
 use Rattle.halfbrown.specs.Pairs.{holds, value_of, pair_of, take_out}
+use Rattle.half_store.specs.Work.{Work}
 use Rattle.half_store.specs.declared.refusal.Refusal.{Refusal}
 use Rattle.halfbrown.specs.declared.run.Reply.TheVariants.{Was, Added, Present, Value, Found, Removed, Done, Form, Length, Refused}
 use Rattle.halfbrown.specs.Growth.{is_full, insert_needs, new_key_needs, reserve_needs, IsRefusal, Reserves, Shrinks}
@@ -121,8 +122,7 @@ module _ {K V S : Type 0} where
   replies_of steps = map (λ s. s.reply) steps
 
 module _ {K V S : Type 0} (limit : ℕ) (eq : K → K → Bool) where
-  -- the steps lead from old to new: each begins where the one before it ended, is one that its command may take, and leaves what holds of
-  -- every map
+  -- the steps lead from old to new: each begins where the last ended, is one its command may take, and leaves what holds of every map
   abbrev pub Lead : State K V S → List (Step K V S) → State K V S → Type 0
   Lead old [] new = new ≡ old
   Lead old (s ∷ steps) new = (s.before ≡ old) × IsValidStep limit eq s × IsState eq limit s.after × Lead s.after steps new
@@ -145,6 +145,11 @@ module _ {K V S : Type 0} (limit : ℕ) (eq : K → K → Bool) where
     command_cost m (Get k) refused = key_search_cost eq hash m k
     command_cost m (Remove k) refused = key_search_cost eq hash m k
     command_cost m command refused = no_cost
+
+    -- from old, the command may have this reply and leave new, and the work grew by what it costs
+    pub record ExecutesAtCost (old : State K V S) (command : Command K V) (reply : Reply K V) (new : State K V S) (before after : Work) : Type 0 where
+      pub step : Executes limit eq old command reply new
+      pub cost : GrewBy (command_cost old command (is_refused reply)) before after
 
     -- what a step costs
     abbrev pub step_cost : Step K V S → Cost

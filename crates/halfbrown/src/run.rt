@@ -1,7 +1,7 @@
 //! Whole runs: a list of commands, done one after another, with a reply to each.
 ghost use Rattle.std.specs.Prelude.{◌≡◌, ◌+◌, ◌*◌, ◌≤◌, true, false, [], length, vec_capacity, IsOk, IfOk, IfErr, OnErr};
 ghost use Rattle.halfbrown.specs.Costs.{GrewBy};
-ghost use Rattle.halfbrown.specs.Run.{Runs, cost_of, shrinks, command_cost, Executes, is_refused};
+ghost use Rattle.halfbrown.specs.Run.{Runs, cost_of, shrinks, Executes, ExecutesAtCost};
 
 use crate::{KeyHasher, Limit, LimitedHashMap, Refused};
 use half_store::{Refusal, Tally, uncounted};
@@ -134,9 +134,7 @@ fn step<K: Eq + Hash + Drop, V: Copy, S: KeyHasher<K>, L: Limit>(
     command: Command<K, V>,
     tally: &mut Tally,
 ) -> Reply<K, V>
-    ensures step { Executes L.LIMIT K.eq map.old command result map.new }
-    ensures cost { GrewBy (command_cost L.LIMIT K.eq S.hash map.old command (is_refused result))
-        tally.old tally.new }
+    ensures { ExecutesAtCost L.LIMIT K.eq S.hash map.old command result map.new tally.old tally.new }
 {
     match command {
         Command::Insert(key, value) => insert(map, key, value, tally),
@@ -166,9 +164,8 @@ fn insert<K: Eq + Hash + Drop, V, S: KeyHasher<K>, L: Limit>(
     value: V,
     tally: &mut Tally,
 ) -> Reply<K, V>
-    ensures step { Executes L.LIMIT K.eq map.old (Command.Insert key value) result map.new }
-    ensures cost { GrewBy (command_cost L.LIMIT K.eq S.hash map.old
-        (Command.Insert key value) (is_refused result)) tally.old tally.new }
+    ensures { ExecutesAtCost L.LIMIT K.eq S.hash map.old (Command.Insert key value) result map.new
+        tally.old tally.new }
 {
     match map.insert_counted(key, value, tally) {
         Ok(old) => Reply::Was(old),
@@ -183,9 +180,8 @@ fn insert_new<K: Eq + Hash + Drop, V: Copy, S: KeyHasher<K>, L: Limit>(
     value: V,
     tally: &mut Tally,
 ) -> Reply<K, V>
-    ensures step { Executes L.LIMIT K.eq map.old (Command.InsertNew key value) result map.new }
-    ensures cost { GrewBy (command_cost L.LIMIT K.eq S.hash map.old
-        (Command.InsertNew key value) (is_refused result)) tally.old tally.new }
+    ensures { ExecutesAtCost L.LIMIT K.eq S.hash map.old (Command.InsertNew key value) result map.new
+        tally.old tally.new }
 {
     if map.contains_key_counted(&key, tally) {
         return Reply::Present(key, value);
@@ -203,9 +199,8 @@ fn entry_or_insert<K: Eq + Hash + Drop, V: Copy, S: KeyHasher<K>, L: Limit>(
     value: V,
     tally: &mut Tally,
 ) -> Reply<K, V>
-    ensures step { Executes L.LIMIT K.eq map.old (Command.EntryOrInsert key value) result map.new }
-    ensures cost { GrewBy (command_cost L.LIMIT K.eq S.hash map.old
-        (Command.EntryOrInsert key value) (is_refused result)) tally.old tally.new }
+    ensures { ExecutesAtCost L.LIMIT K.eq S.hash map.old (Command.EntryOrInsert key value) result map.new
+        tally.old tally.new }
 {
     match map.entry_counted(key, tally) {
         Ok(entry) => Reply::Value(*entry.or_insert(value)),
@@ -220,9 +215,8 @@ fn raw_or_insert<K: Eq + Hash + Drop, V: Copy, S: KeyHasher<K>, L: Limit>(
     value: V,
     tally: &mut Tally,
 ) -> Reply<K, V>
-    ensures step { Executes L.LIMIT K.eq map.old (Command.RawOrInsert key value) result map.new }
-    ensures cost { GrewBy (command_cost L.LIMIT K.eq S.hash map.old
-        (Command.RawOrInsert key value) (is_refused result)) tally.old tally.new }
+    ensures { ExecutesAtCost L.LIMIT K.eq S.hash map.old (Command.RawOrInsert key value) result map.new
+        tally.old tally.new }
 {
     match map.raw_entry_mut_counted(tally) {
         Ok(entries) => {

@@ -128,7 +128,7 @@ impl<'a, K: Eq + Hash, V, S: KeyHasher<K>, L: Limit> OccupiedEntry<'a, K, V, S, 
     pub fn get_key_value(&self) -> (&K, &V)
         ensures { entry_pair (Occupied self.now) ≡ Some (result.0.now, result.1.now) }
     {
-        self.map.columns().pair_at(self.index)
+        self.map.pair_at(self.index)
     }
 
     /// Returns the stored key, and the value to be written.

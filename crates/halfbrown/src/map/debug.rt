@@ -15,7 +15,7 @@ impl<K: Eq + Hash + Debug, V: Debug, S: KeyHasher<K>, L: Limit> Debug
     fn fmt<W: Write>(&self, f: &mut Formatter<W>) -> Result {
         let mut out = f.debug_map();
         for index in 0..self.len() {
-            let (key, value) = self.columns().pair_at(index);
+            let (key, value) = self.pair_at(index);
             out.entry(key, value);
         }
         out.finish()

@@ -61,7 +61,7 @@ impl<K: Eq + Hash, V: PartialEq, S: KeyHasher<K>, L: Limit> LimitedHashMap<K, V,
             (keys_while_same K.eq V.eq self.now.pairs other.now.pairs) tally.old tally.new }
     {
         for index in 0..self.len() {
-            let (key, value) = self.columns().pair_at(index);
+            let (key, value) = self.pair_at(index);
             if Some(value) != other.get_counted(key, tally) {
                 return false;
             }

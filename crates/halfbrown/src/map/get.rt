@@ -43,8 +43,10 @@ impl<K: Eq + Hash, V, S: KeyHasher<K>, L: Limit> LimitedHashMap<K, V, S, L> {
             (Q.equivalent key) self.now tally.old tally.new }
         ensures state { IsState K.eq L.LIMIT self.now }
     {
-        let index = self.find(key, tally).ok()?;
-        Some(self.columns().pair_at(index).1)
+        match self.find(key, tally) {
+            Ok(index) => Some(self.pair_at(index).1),
+            Err(_) => None,
+        }
     }
 
     /// Returns the stored key that equals this one, and its value. It costs one search.
@@ -72,8 +74,10 @@ impl<K: Eq + Hash, V, S: KeyHasher<K>, L: Limit> LimitedHashMap<K, V, S, L> {
             (Q.equivalent key) self.now tally.old tally.new }
         ensures state { IsState K.eq L.LIMIT self.now }
     {
-        let index = self.find(key, tally).ok()?;
-        Some(self.columns().pair_at(index))
+        match self.find(key, tally) {
+            Ok(index) => Some(self.pair_at(index)),
+            Err(_) => None,
+        }
     }
 
     /// Returns the value of the held key that equals this one, to be written, or `None`. It costs one search.
@@ -145,9 +149,9 @@ impl<K: Eq + Hash, V, S: KeyHasher<K>, L: Limit> LimitedHashMap<K, V, S, L> {
         ensures cost { IsLookupCost S.hash (S.hash_writes self.now.builder (Q.hash_input key))
             (Q.equivalent key) self.now tally.old tally.new }
     {
-        match self.find(key, tally) {
-            Ok(index) => self.columns().pair_at(index).1,
-            Err(_) => unreachable!(),
+        match self.get_counted(key, tally) {
+            Some(value) => value,
+            None => unreachable!(),
         }
     }
 }

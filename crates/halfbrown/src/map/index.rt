@@ -33,7 +33,7 @@ impl<K: Eq + Hash, V, S: KeyHasher<K>, L: Limit> LimitedHashMap<K, V, S, L> {
         ensures held { IsSome result ↔ (index < length self.now.pairs) }
     {
         if index < self.len() {
-            Some(self.columns().pair_at(index))
+            Some(self.pair_at(index))
         } else {
             None
         }

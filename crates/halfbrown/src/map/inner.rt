@@ -38,7 +38,17 @@ impl<K: Eq + Hash, V, S: KeyHasher<K>, L: Limit> LimitedHashMap<K, V, S, L> {
         self.store.columns()
     }
 
-    /// The stored key of the pair at this index, and its value, to be written.
+    /// The stored key of the pair at this index, and its value.
+    #[inline(always)]
+    pub(crate) fn pair_at(&self, index: usize) -> (&K, &V)
+        requires { index < length self.now.pairs }
+        ensures pair { slice_get self.now.pairs index ≡ Some (result.0.now, result.1.now) }
+        ensures value { slice_get (values_of self.now.pairs) index ≡ Some result.1.now }
+    {
+        self.store.columns().pair_at(index)
+    }
+
+    /// The same, the value to be written.
     #[inline(always)]
     pub(crate) fn pair_at_mut(&mut self, index: usize) -> (&K, &mut V)
         requires { index < length self.old.pairs }

@@ -95,7 +95,7 @@ impl<'a, K: Eq + Hash, V, S: KeyHasher<K>, L: Limit> RawEntryBuilder<'a, K, V, S
             (Q.hash_input key)) (Q.equivalent key) (map_in self.entry) tally.old tally.new }
     {
         match self.map.find(key, tally) {
-            Ok(index) => Some(self.map.columns().pair_at(index)),
+            Ok(index) => Some(self.map.pair_at(index)),
             Err(_) => None,
         }
     }
@@ -132,7 +132,7 @@ impl<'a, K: Eq + Hash, V, S: KeyHasher<K>, L: Limit> RawEntryBuilder<'a, K, V, S
             (Q.hash_input key)) (Q.equivalent key) (map_in self.entry) tally.old tally.new }
     {
         match self.map.find_hashed(hash, key, tally) {
-            Ok(index) => Some(self.map.columns().pair_at(index)),
+            Ok(index) => Some(self.map.pair_at(index)),
             Err(_) => None,
         }
     }
@@ -169,11 +169,10 @@ impl<'a, K: Eq + Hash, V, S: KeyHasher<K>, L: Limit> RawEntryBuilder<'a, K, V, S
         ensures cost { IsMatchCost S.hash hash (map_in self.entry) (option_map deref_pair result)
             tally.old tally.new }
     {
-        let index = self
-            .map
-            .find_match(hash, &is_match, Scan::ByKey, tally)
-            .ok()?;
-        Some(self.map.columns().pair_at(index))
+        match self.map.find_match(hash, &is_match, Scan::ByKey, tally) {
+            Ok(index) => Some(self.map.pair_at(index)),
+            Err(_) => None,
+        }
     }
 }
 

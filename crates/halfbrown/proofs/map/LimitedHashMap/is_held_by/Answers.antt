@@ -1,4 +1,4 @@
-use Rattle.std.proofs.Common.{not, slice_get, sym, ap, ◌∙◌, arith}
+use Rattle.std.proofs.Common.{not, slice_get, ap, ◌∙◌, arith}
 use Rattle.std.proofs.lemmas.Grind.{common_steps}
 use Rattle.halfbrown.specs.Equality.{holds_pair}
 use Rattle.halfbrown.proofs.lemmas.map.Costs.{key_costs}
@@ -19,7 +19,7 @@ returns-then-ne-clause-cost g c =
     c.loop-index.invariant.cost c.get_counted.new.tally
     (costs_last g.K.PartialEq.eq hash c.args.other.now g.V.PartialEq.eq c.args.self.now.pairs c.loop-index.index
     (c.pair_at.result.0.now, c.pair_at.result.1.now)
-    (ap (λ ps. slice_get ps c.loop-index.index) (sym c.columns.ensures.pairs) ∙ c.pair_at.ensures.pair)
+    c.pair_at.ensures.pair
     c.loop-index.tally c.get_counted.new.tally searched unheld)
 
 pub loop-index-preserved : goal.loop-index-preserved
@@ -34,11 +34,11 @@ loop-index-preserved g c =
     record {
       held = c.loop-index.invariant.held
           ∙ all_on test c.args.self.now.pairs c.loop-index.index (c.pair_at.result.0.now, c.pair_at.result.1.now)
-          (ap (λ ps. slice_get ps c.loop-index.index) (sym c.columns.ensures.pairs) ∙ c.pair_at.ensures.pair) held;
+          c.pair_at.ensures.pair held;
       cost = λ after more. c.loop-index.invariant.cost after
           (costs_on g.K.PartialEq.eq hash c.args.other.now g.V.PartialEq.eq c.args.self.now.pairs c.loop-index.index
           (c.pair_at.result.0.now, c.pair_at.result.1.now)
-          (ap (λ ps. slice_get ps c.loop-index.index) (sym c.columns.ensures.pairs) ∙ c.pair_at.ensures.pair)
+          c.pair_at.ensures.pair
           c.loop-index.tally c.get_counted.new.tally searched held after more);
     }
 
