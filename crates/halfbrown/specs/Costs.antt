@@ -88,7 +88,7 @@ module _ {K V : Type 0} (hash : K → ℕ) where
         if is_vec then between (first_match_cost found (length pairs)) (length pairs)
         else (if is_some found then between 1 (candidates pairs sought) else exactly (candidates pairs sought))
 
-    -- the buckets it reads: none in a vector; in a table exactly an unsuccessful probe where it found none, else at least one and fewer
+    -- its buckets: none in a vector; in a table exactly an unsuccessful probe where it found none, else at least one and fewer than that
     abbrev pub search_looks : Bool → ℕ → List (K × V) → Range
     search_looks is_vec capacity pairs =
         let probe = probe_length is_vec capacity pairs sought in
@@ -99,7 +99,7 @@ module _ {K V : Type 0} (hash : K → ℕ) where
     search_cost asked is_vec capacity pairs =
         record { asked = asked; compared = search_compares is_vec pairs; looked = search_looks is_vec capacity pairs }
 
--- what one search in the map cost, by the tally before it and after: it found this index, or none, and asked for `asked` hashes
+-- what a search under this hash cost, by the tally before it and after: it found this index, or none, and asked for `asked` hashes
 pub record IsSearchCost {K V S : Type 0} (hash : S → K → ℕ) (sought : ℕ) (m : State K V S) (found : Option ℕ) (asked : ℕ) (before after : Work) : Type 0 where
   pub grew : GrewBy (search_cost (hash m.builder) sought found asked m.is_vec m.capacity m.pairs) before after
   pub looked_once : m.is_vec ≡ false → is_some found ≡ true → NoHomeIsShared (hash m.builder) m.capacity m.pairs
