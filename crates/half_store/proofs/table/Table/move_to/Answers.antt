@@ -1,7 +1,9 @@
-use Rattle.std.proofs.Common.{◌≡◌, ℕ, List, length, replicate, arith}
+use Rattle.std.proofs.Common.{◌≡◌, ◌∙◌, ℕ, List, length, replicate, arith}
 use Rattle.std.proofs.lemmas.Grind.{common_steps}
 use Rattle.std.proofs.lemmas.List.{get_or-replicate, length-replicate, same_lists}
 use Rattle.half_store.specs.Slots.{EachOnce}
+use Rattle.half_store.proofs.lemmas.table.Buckets.{length-slots_by}
+use Rattle.half_store.proofs.lemmas.table.Layout.{count_seen}
 use Rattle.half_store.proofs.table.Table.move_to.Goals as goal
 
 all_empty : (words : List ℕ) → EachOnce 0 words → words ≡ replicate (length words) 0
@@ -9,3 +11,6 @@ all_empty words each = grind (arith, common_steps, get_or-replicate, length-repl
 
 pub rehash-requires-clause-empty : goal.rehash-requires-clause-empty
 rehash-requires-clause-empty c = grind (arith, common_steps, all_empty)
+
+pub returns-clause-buckets : goal.returns-clause-buckets
+returns-clause-buckets c = length-slots_by _ _ ∙ c.rehash.ensures.len ∙ count_seen _ _ c.fresh.view_is
