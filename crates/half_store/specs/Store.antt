@@ -60,7 +60,7 @@ module _ {K V : Type 0} where
   abbrev pub store_with_pairs : StoreState K V → List (K × V) → StoreState K V
   store_with_pairs s ps = record s { pairs = ps }
 
--- of `capacity` pairs as many as a form may hold: in a vector no more than the limit, in a table all
+-- of this many pairs as many as a form may hold: in a vector no more than the limit, in a table all
 abbrev pub allowed : ℕ → Bool → ℕ → ℕ
 allowed limit is_vec capacity = if is_vec then min capacity limit else capacity
 

@@ -23,7 +23,7 @@ module _ {K V S L H : Type 0} {e : eq.Ghosts K} {h : hash.Ghosts K} {b : hashers
   abbrev pub rest : Drain K V S L (StoreState K V) H e h b l p → List (K × V)
   rest d = d.pairs.pairs
 
-  -- old and new borrow the same map, and leave it in the same form, with the same capacity and builder
+  -- old and new borrow the same map, with its builder, and leave it in the same form, with the same capacity
   pub record Keeps (old new : Drain K V S L (StoreState K V) H e h b l p) : Type 0 where
     pub map : new.map ≡ old.map
     pub form : new.pairs.is_vec ≡ old.pairs.is_vec

@@ -124,8 +124,8 @@ module _ {K V S L H : Type 0} {e : eq.Ghosts K} {h : hash.Ghosts K} {b : hashers
     pub value : entry_value (Occupied rekeyed) ≡ entry_value (Occupied entry)
     pub pairs_left : pairs_without (Occupied rekeyed) ≡ pairs_without (Occupied entry)
 
-  -- what `entry` returns for k: where it is granted the entry of k, in the map that has switched and has capacity for its pair; where it is
-  -- refused the key and the reason
+  -- what `entry` returns for k: where it is granted the entry of k, in the map that is ready for its pair (a full vector is a table now);
+  -- where it is refused the key and the reason
   pub record MakesEntry (limit : ℕ) (same : K → K → Bool) (m : MutBor (State K V S)) (k : K) (result : Result (Entry K V S L H e h b l) (RefusedKey K)) : Type 0 where
     pub same_map : IfOk result (λ entry. (map_ref entry).ghost_name ≡ m.ghost_name)
     pub ok : IfOk result (λ entry. Prepares limit m.now (insert_needs limit same m.now k) (map_of entry))

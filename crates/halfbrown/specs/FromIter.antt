@@ -51,7 +51,7 @@ module _ {K V S : Type 0} (limit : ℕ) (eq : K → K → Bool) where
     pub builder : new.builder ≡ old.builder
     pub inserted : InsertsAll old items new
 
-  -- there are items of which `given` holds: all but the last were inserted, and the insertion of the last was refused
+  -- there are items of which `given` holds: all but the last were inserted, which made `new`, and there the last was refused
   pub record IsRefusedInsertion (given : List (K × V) → Type 0) (old : State K V S) (why : Refusal) (new : State K V S) : Type 0 where
     pub before : List (K × V)
     pub key : K

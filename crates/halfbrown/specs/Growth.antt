@@ -30,7 +30,7 @@ making_needs needed = if needed == 0 then None else Some needed
 abbrev pub IsRefusal : Option ℕ → Refusal → Type 0
 IsRefusal needs why = IfNone needs ⊥ × IfSome needs (λ n. why ≡ refusal_of n)
 
--- a call that needs this much may be granted: no more than 2^60 pairs
+-- what a granted call needed: capacity for no more than 2^60 pairs
 abbrev pub IsGrantable : Option ℕ → Type 0
 IsGrantable needs = IfSome needs (λ n. n ≤ 2 ^ 60)
 

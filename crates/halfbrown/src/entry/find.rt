@@ -1,7 +1,7 @@
 //! Making the entry of a key, or of the pair at an index.
 //!
-//! A clause `unchanged` says that the map stays as it is where no entry is made, and else ends as the entry leaves it. What
-//! stands in it before `self.entry` names types, and can be passed over; `self.entry` is the map when the call began.
+//! A clause `unchanged` says that the map stays as it is where no entry is made, and else ends as the entry leaves it.
+//! What stands between its first word and `self.entry`, the map when the call began, only names types.
 ghost use Rattle.std.specs.Prelude.{◌<◌, ◌↔◌, IfSome, IsSome, is_ok, length};
 ghost use Rattle.std.specs.Borrow.{sem};
 ghost use Rattle.halfbrown.specs.Costs.{IsInsertCost};

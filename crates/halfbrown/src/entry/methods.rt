@@ -1,7 +1,7 @@
 //! The calls of an entry.
 //!
-//! A clause `writes_back` says what the map is once the borrow that the call returns has ended. What stands in it before
-//! `self.entry` names types, and can be passed over; `self.entry` is the entry when the call began.
+//! A clause `writes_back` says what the map is once the borrow that the call returns has ended. What stands between its
+//! first word and `self.entry` names types, and can be passed over; `self.entry` is the entry when the call began.
 ghost use Rattle.std.specs.Prelude.{◌≡◌, true, false, None, Some, length, slice_get, unwrap_or};
 ghost use Rattle.std.specs.Borrow.{sem, MutBor};
 ghost use Rattle.std.specs.Map.Calls.{ModifiesValue};

@@ -23,10 +23,10 @@ impl<K: Eq + Hash + Drop, V: Drop, S: KeyHasher<K> + Default + Drop, L: Limit> L
     ///
     /// It is made with capacity for the items' lower size hint, so it is a table where that is more than the limit. Then
     /// each item is inserted, in order: of equal keys the first stays, with the last value. The clauses do not say which
-    /// hint that is.
+    /// hint that is, and so neither the form nor the capacity.
     ///
-    /// The items must end. Fails as `with_capacity` and `insert` do, and then drops what was collected and the
-    /// remaining items.
+    /// The items must end. Fails where `with_capacity` or `insert` would, and then drops what was collected, the
+    /// refused pair and the remaining items.
     ///
     /// ```
     /// let ages = HashMap::<u64, u32>::from_iter(alloc, [(1, 36), (2, 41), (1, 37)])?;
@@ -120,8 +120,8 @@ impl<K: Eq + Hash + Drop, V: Drop, S: KeyHasher<K> + Default + Drop, L: Limit> L
 impl<K: Eq + Hash + Drop, V: Drop, S: KeyHasher<K>, L: Limit> LimitedHashMap<K, V, S, L> {
     /// Inserts each item, in order. New keys come last; a held key stays where it is, with the last value.
     ///
-    /// The items must end. Fails as `insert` does, and then the items before the refused one stay, and the remaining
-    /// items are dropped.
+    /// The items must end. Fails where `insert` would, and then the items before the refused one stay, and it and the
+    /// remaining items are dropped.
     ///
     /// ```
     /// ages.extend([(2, 42), (3, 5)])?;
