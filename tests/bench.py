@@ -121,8 +121,6 @@ def print_times(rounds, words):
 def aligned(program, output):
     """Links a program anew, with each function at a multiple of 64 bytes. Elsewhere the same code takes up to 1.2 times as long."""
     kit = pathlib.Path(shutil.which("rt")).resolve().parent.parent
-    if not shutil.which("objcopy"):
-        sys.exit("objcopy: not found; it is one of the binutils")
     subprocess.run(["objcopy", "-w", "--set-section-alignment", ".text.*=64", f"{program}.o", f"{output}.o"], check=True)
     link = [kit / "bin/rattle-link", "--target", "x86_64-unknown-linux-gnu", "--toolchain", kit / "toolchain", "-o", output]
     subprocess.run([*link, f"{output}.o", *(kit / "c" / it for it in ("libos_c.a", "liblibc_c.a"))], check=True)
@@ -134,6 +132,8 @@ def print_against(other, rounds, words, folder):
     other = pathlib.Path(other).resolve() / "crates/half_bench/out/half_bench"
     if not other.exists():
         sys.exit(f"{other}: not built")
+    if not shutil.which("objcopy"):
+        sys.exit("objcopy: not found; it is one of the binutils")
     programs = [aligned(build("half_bench"), folder / "ours"), aligned(other, folder / "theirs")]
     # Both run on one processor, so that neither has a better one, and take turns, also in which goes first.
     os.sched_setaffinity(0, {max(os.sched_getaffinity(0))})
