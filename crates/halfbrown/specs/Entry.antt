@@ -69,22 +69,22 @@ module _ {K V S L H : Type 0} {e : eq.Ghosts K} {h : hash.Ghosts K} {b : hashers
   pairs_without (Vacant v) = v.map.now.pairs
 
   -- the entry is that of k among these pairs
-  pub record IsEntryOf (same : K → K → Bool) (pairs : List (K × V)) (k : K) (entry : Entry K V S L H e h b l) : Type 0 where
-    pub occupied : is_occupied entry ≡ holds same pairs k
-    pub pair : entry_pair entry ≡ pair_of same pairs k
-    pub value : entry_value entry ≡ value_of same pairs k
-    pub stored_key : is_occupied entry ≡ true → entry_key entry ≡ option_map (λ p. p.0) (pair_of same pairs k)
+  pub record IsEntryOf (eq : K → K → Bool) (pairs : List (K × V)) (k : K) (entry : Entry K V S L H e h b l) : Type 0 where
+    pub occupied : is_occupied entry ≡ holds eq pairs k
+    pub pair : entry_pair entry ≡ pair_of eq pairs k
+    pub value : entry_value entry ≡ value_of eq pairs k
+    pub stored_key : is_occupied entry ≡ true → entry_key entry ≡ option_map (λ p. p.0) (pair_of eq pairs k)
     pub new_key : is_occupied entry ≡ false → entry_key entry ≡ Some k
 
   -- whatever value is written through the entry, the map is the old one with that value put for k, as by an insertion
-  pub record PutsThroughEntry (limit : ℕ) (same : K → K → Bool) (old : State K V S) (k : K) (entry : Entry K V S L H e h b l) : Type 0 where
-    pub puts : (value : V) → Puts limit same old k value (insert_needs limit same old k) (with_value entry value)
-    pub put : (value : V) → HasPut same old.pairs k value (with_value entry value).pairs
+  pub record PutsThroughEntry (limit : ℕ) (eq : K → K → Bool) (old : State K V S) (k : K) (entry : Entry K V S L H e h b l) : Type 0 where
+    pub puts : (value : V) → Puts limit eq old k value (insert_needs limit eq old k) (with_value entry value)
+    pub put : (value : V) → HasPut eq old.pairs k value (with_value entry value).pairs
 
   -- a removal through the entry takes the pair of k out of these pairs
-  pub record RemovesKey (same : K → K → Bool) (pairs : List (K × V)) (k : K) (entry : Entry K V S L H e h b l) : Type 0 where
-    pub pairs_left : pairs_without entry ≡ take_out same pairs k
-    pub removed : HasRemoved same pairs k (pairs_without entry)
+  pub record RemovesKey (eq : K → K → Bool) (pairs : List (K × V)) (k : K) (entry : Entry K V S L H e h b l) : Type 0 where
+    pub pairs_left : pairs_without entry ≡ take_out eq pairs k
+    pub removed : HasRemoved eq pairs k (pairs_without entry)
 
   -- the entry is the same one, and this value has been written
   pub record IsWritten (entry : Entry K V S L H e h b l) (value : V) (written : Entry K V S L H e h b l) : Type 0 where
@@ -126,14 +126,14 @@ module _ {K V S L H : Type 0} {e : eq.Ghosts K} {h : hash.Ghosts K} {b : hashers
 
   -- what `entry` returns for k: where it is granted the entry of k, in the map that is ready for its pair (a full vector is a table now);
   -- where it is refused the key and the reason
-  pub record MakesEntry (limit : ℕ) (same : K → K → Bool) (m : MutBor (State K V S)) (k : K) (result : Result (Entry K V S L H e h b l) (RefusedKey K)) : Type 0 where
+  pub record MakesEntry (limit : ℕ) (eq : K → K → Bool) (m : MutBor (State K V S)) (k : K) (result : Result (Entry K V S L H e h b l) (RefusedKey K)) : Type 0 where
     pub same_map : IfOk result (λ entry. (map_ref entry).ghost_name ≡ m.ghost_name)
-    pub ok : IfOk result (λ entry. Prepares limit m.now (insert_needs limit same m.now k) (map_of entry))
-    pub entry : IfOk result (IsEntryOf same m.now.pairs k)
-    pub writes : IfOk result (PutsThroughEntry limit same m.now k)
-    pub removes : IfOk result (RemovesKey same m.now.pairs k)
-    pub returned : IfErr result (HandsBackKey k (insert_needs limit same m.now k))
-    pub state : IfOk result (λ entry. IsState same limit (map_of entry))
+    pub ok : IfOk result (λ entry. Prepares limit m.now (insert_needs limit eq m.now k) (map_of entry))
+    pub entry : IfOk result (IsEntryOf eq m.now.pairs k)
+    pub writes : IfOk result (PutsThroughEntry limit eq m.now k)
+    pub removes : IfOk result (RemovesKey eq m.now.pairs k)
+    pub returned : IfErr result (HandsBackKey k (insert_needs limit eq m.now k))
+    pub state : IfOk result (λ entry. IsState eq limit (map_of entry))
 
   pub still_within : (o : OccupiedEntry K V S L H e h b l) (value : V) → o.index < length (with_value (Occupied o) value).pairs
   unfolding with_value

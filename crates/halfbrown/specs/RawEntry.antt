@@ -86,18 +86,18 @@ module _ {K V S L H : Type 0} {e : eq.Ghosts K} {h : hash.Ghosts K} {b : hashers
   pairs_once_put (Vacant v) key value = v.map.now.pairs ++ (key, value) ∷ []
 
   -- the entry is that of the key which passes the test, in this map: what it has, and what the map is once it is written or taken out
-  pub record IsRawEntryOf (same : K → K → Bool) (test : K → Bool) (m : State K V S) (entry : RawEntryMut K V S L H e h b l) : Type 0 where
+  pub record IsRawEntryOf (eq : K → K → Bool) (test : K → Bool) (m : State K V S) (entry : RawEntryMut K V S L H e h b l) : Type 0 where
     pub map : raw_map entry ≡ m
     pub occupied : is_found entry ≡ holds_by test m.pairs
     pub pair : found_pair entry ≡ lookup_entry test m.pairs
     pub value : found_value entry ≡ lookup test m.pairs
     pub equal : IfSome (found_key entry) (λ k. test k ≡ true)
     pub puts : (k : K) (v : V) → pairs_once_put entry k v ≡ put_by test m.pairs k v
-    pub put : (k : K) (v : V) → test k ≡ true → HasPut same m.pairs k v (pairs_once_put entry k v)
+    pub put : (k : K) (v : V) → test k ≡ true → HasPut eq m.pairs k v (pairs_once_put entry k v)
     pub writes : is_found entry ≡ true → (v : V) → WithPairs m (set_by test m.pairs v) (with_found entry v)
-    pub written : is_found entry ≡ true → (v : V) → HasSetBy same test m.pairs v (with_found entry v).pairs
+    pub written : is_found entry ≡ true → (v : V) → HasSetBy eq test m.pairs v (with_found entry v).pairs
     pub takes : without_found entry ≡ take_out_by test m.pairs
-    pub removed : HasRemovedBy same test m.pairs (without_found entry)
+    pub removed : HasRemovedBy eq test m.pairs (without_found entry)
 
   -- the pair that was found has this value, or, where none was, the pair of this key is added; the result is its entry
   pub record PutsThroughRawEntry (entry : RawEntryMut K V S L H e h b l) (key : K) (value : V) (result : OccupiedEntry K V S L H e h b l) : Type 0 where
@@ -109,20 +109,20 @@ module _ {K V S L H : Type 0} {e : eq.Ghosts K} {h : hash.Ghosts K} {b : hashers
     pub pairs_left : entries.pairs_without (entries.Occupied result) ≡ without_found entry
 
   -- the pair of this key, which was not held, is added with this value, and has what is written to it
-  pub record AddsThroughRawEntry (same : K → K → Bool) (pairs : List (K × V)) (key : K) (value : V) (result : OccupiedEntry K V S L H e h b l) : Type 0 where
-    pub put : HasPut same pairs key value (entries.map_of (entries.Occupied result)).pairs
-    pub written : (v : V) → HasPut same pairs key v (entries.with_value (entries.Occupied result) v).pairs
+  pub record AddsThroughRawEntry (eq : K → K → Bool) (pairs : List (K × V)) (key : K) (value : V) (result : OccupiedEntry K V S L H e h b l) : Type 0 where
+    pub put : HasPut eq pairs key value (entries.map_of (entries.Occupied result)).pairs
+    pub written : (v : V) → HasPut eq pairs key v (entries.with_value (entries.Occupied result) v).pairs
 
   -- the pair is put, as `PutsThroughRawEntry` says, into a map that is whole
-  pub record PutsEntry (limit : ℕ) (same : K → K → Bool) (entry : RawEntryMut K V S L H e h b l) (key : K) (value : V) (result : OccupiedEntry K V S L H e h b l) : Type 0 where
+  pub record PutsEntry (limit : ℕ) (eq : K → K → Bool) (entry : RawEntryMut K V S L H e h b l) (key : K) (value : V) (result : OccupiedEntry K V S L H e h b l) : Type 0 where
     pub puts : PutsThroughRawEntry entry key value result
-    pub state : IsState same limit (entries.map_of (entries.Occupied result))
+    pub state : IsState eq limit (entries.map_of (entries.Occupied result))
 
   -- the pair of this key, which was not held, is put and added
-  pub record AddsEntry (limit : ℕ) (same : K → K → Bool) (entry : RawEntryMut K V S L H e h b l) (key : K) (value : V) (result : OccupiedEntry K V S L H e h b l) : Type 0 where
+  pub record AddsEntry (limit : ℕ) (eq : K → K → Bool) (entry : RawEntryMut K V S L H e h b l) (key : K) (value : V) (result : OccupiedEntry K V S L H e h b l) : Type 0 where
     pub puts : PutsThroughRawEntry entry key value result
-    pub adds : AddsThroughRawEntry same (raw_map entry).pairs key value result
-    pub state : IsState same limit (entries.map_of (entries.Occupied result))
+    pub adds : AddsThroughRawEntry eq (raw_map entry).pairs key value result
+    pub state : IsState eq limit (entries.map_of (entries.Occupied result))
 
 -- this key and this value are lent
 pub record LendsPair {K V : Type 0} (k : K) (v : V) (lent : Bor K × MutBor V) : Type 0 where
@@ -159,28 +159,28 @@ pub record ReadsPair {K V S : Type 0} (test : K → Bool) (m : State K V S) (len
   pub pair : option_map deref_pair lent ≡ lookup_entry test m.pairs
   pub value : option_map (λ pair. pair.1.now) lent ≡ lookup test m.pairs
 
-module _ {K V S L H : Type 0} {e : eq.Ghosts K} {h : hash.Ghosts K} {b : hashers.Ghosts S K H} {l : limits.Ghosts L} (limit : ℕ) (same : K → K → Bool) where
+module _ {K V S L H : Type 0} {e : eq.Ghosts K} {h : hash.Ghosts K} {b : hashers.Ghosts S K H} {l : limits.Ghosts L} (limit : ℕ) (eq : K → K → Bool) where
   -- what `raw_entry_mut` returns: where it is granted the same map, ready for one pair more; where it is refused the reason
   pub record MakesReady (m : MutBor (State K V S)) (result : Result (RawEntryBuilderMut K V S L H e h b l) Refusal) : Type 0 where
     pub same_map : IfOk result (λ ready. (ready_ref ready).ghost_name ≡ m.ghost_name)
     pub ok : IfOk result (λ ready. Prepares limit m.now (new_key_needs limit m.now) (ready_map ready))
     pub capacity : IfOk result (λ ready. length (ready_map ready).pairs < (ready_map ready).capacity)
     pub refused : IfErr result (IsRefusal (new_key_needs limit m.now))
-    pub state : IfOk result (λ ready. IsState same limit (ready_map ready))
+    pub state : IfOk result (λ ready. IsState eq limit (ready_map ready))
 
   -- the entry is that of the key which passes the test, in the map that was ready
   pub record EntersByKey (test : K → Bool) (ready : RawEntryBuilderMut K V S L H e h b l) (entry : RawEntryMut K V S L H e h b l) : Type 0 where
     pub same_map : (raw_ref entry).ghost_name ≡ (ready_ref ready).ghost_name
-    pub finds : IsRawEntryOf same test (ready_map ready) entry
-    pub state : IsState same limit (raw_map entry)
+    pub finds : IsRawEntryOf eq test (ready_map ready) entry
+    pub state : IsState eq limit (raw_map entry)
 
   -- the entry is that of a pair which the match accepts, under this hash, in the map that was ready
   pub record EntersByMatch (returns : K → Bool → Type 0) (hash_of : S → K → ℕ) (sought : ℕ) (ready : RawEntryBuilderMut K V S L H e h b l) (result : RawEntryMut K V S L H e h b l) : Type 0 where
     pub same_map : (raw_ref result).ghost_name ≡ (ready_ref ready).ghost_name
     pub map : raw_map result ≡ ready_map ready
     pub found : ReadsMatch returns hash_of sought (ready_map ready) (found_pair result)
-    pub entry : IfSome (found_pair result) (λ pair. IsRawEntryOf same (same pair.0) (ready_map ready) result)
-    pub state : IsState same limit (raw_map result)
+    pub entry : IfSome (found_pair result) (λ pair. IsRawEntryOf eq (eq pair.0) (ready_map ready) result)
+    pub state : IsState eq limit (raw_map result)
 
 module _ (K V S L H : RattleType) {e : eq.Ghosts K.Denot} {h : hash.Ghosts K.Denot} {b : hashers.Ghosts S.Denot K.Denot H.Denot} {l : limits.Ghosts L.Denot} where
   -- where the capacity was refused the map is as it was

@@ -8,11 +8,12 @@ use Rattle.std.specs.List.{remove}
 use Rattle.std.specs.Map.{remove_entry}
 
 -- a removal of the pair whose key passes the test: it returns `held`, the value or the pair of that key, and the last pair takes the free
--- index; where no such key is held it returns none, and pairs, form, capacity and builder stay
+-- index; or no such key is held, and nothing changes
 pub record Removes {K V S R : Type 0} (limit : ℕ) (eq : K → K → Bool) (test : K → Bool) (old : State K V S) (held result : Option R) (new : State K V S) : Type 0 where
   pub gives : result ≡ held
   pub after : WithPairs old (take_out_by test old.pairs) new
   pub removed : HasRemovedBy eq test old.pairs new.pairs
+  pub unchanged : IfNone result (new ≡ old)
   pub state : IsState eq limit new
 
 -- a removal of the pair at this index returns it, and the last pair takes its index: no key equal to its own is held then; or there is

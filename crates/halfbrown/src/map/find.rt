@@ -36,7 +36,7 @@ impl<K: Eq + Hash, V, S: KeyHasher<K>, L: Limit> LimitedHashMap<K, V, S, L> {
         key: Q,
         tally: &mut Tally,
     ) -> Result<usize, Vacancy>
-        requires { self.now.is_vec ≡ false
+        requires known { self.now.is_vec ≡ false
             → hash ≡ S.hash_writes self.now.builder (Q.hash_input key) }
         ensures found { KeySearch (Q.equivalent key)
             (S.hash_writes self.now.builder (Q.hash_input key)) self.now result }

@@ -121,7 +121,7 @@ impl<K: Eq + Hash, V, S: KeyHasher<K>, L: Limit> LimitedHashMap<K, V, S, L> {
         key: Q,
         tally: &mut Tally,
     ) -> Option<(K, V)>
-        requires { self.old.is_vec ≡ false
+        requires known { self.old.is_vec ≡ false
             → hash ≡ S.hash_writes self.old.builder (Q.hash_input key) }
         ensures removes { Removes L.LIMIT K.eq (Q.equivalent key) self.old
             (lookup_entry (Q.equivalent key) self.old.pairs) result self.new }

@@ -7,7 +7,7 @@ use Rattle.std.specs.Cmp.{IsEquivalence}
 use Rattle.std.proofs.lemmas.List.{append-nil}
 use Rattle.std.proofs.lemmas.Option.{slice_get_past, slice_get_within}
 use Rattle.std.specs.Option.{option_map}
-use Rattle.std.specs.Prelude.{Result, Ok, Err}
+use Rattle.std.specs.Prelude.{Result, Ok, Err, IfNone}
 use Rattle.half_store.specs.PairLists.{swap_remove_at}
 use Rattle.half_store.specs.StoreRemoval.{TakesFound, ShiftRemoves}
 use Rattle.half_store.specs.Store.{StoreState}
@@ -31,15 +31,16 @@ module _ {K V S : Type 0} (limit : ℕ) (eq : K → K → Bool) (test : K → Bo
   -- the pairs without the one whose key passes
   pub removed_as : {R : Type 0} → IsEquivalence eq → ((k other : K) → test k ≡ true → test other ≡ eq k other) → IsState eq limit old
       → IsState eq limit new
-      → WithPairs old (take_out_by test old.pairs) new → (held result : Option R) → result ≡ held
+      → WithPairs old (take_out_by test old.pairs) new → (held result : Option R) → result ≡ held → IfNone result (new ≡ old)
       → Removes limit eq test old held result new
-  removed_as laws one_class before now after held result gives = grind (arith, common_steps, has_removed_by)
+  removed_as laws one_class before now after held result gives unchanged = grind (arith, common_steps, has_removed_by)
 
   -- the same removal, of which the value is returned
   pub removed_value : (pair : Option (K × V)) (value : Option V) → value ≡ option_map (λ p. p.1) pair
       → Removes limit eq test old (lookup_entry test old.pairs) pair new
       → Removes limit eq test old (lookup test old.pairs) value new
-  removed_value pair value is removes = grind (arith, common_steps, value_of_entry)
+  removed_value None value is removes = grind (arith, common_steps, value_of_entry)
+  removed_value (Some pair) value is removes = grind (arith, common_steps, value_of_entry test old.pairs, removes.gives)
 
 -- a store without the pair that a search of it found
 module _ {K V S : Type 0} (limit : ℕ) (eq : K → K → Bool) (laws : IsEquivalence eq) (hash : K → ℕ) (builder : S) (old new : StoreState K V)
@@ -72,7 +73,7 @@ module _ {K V S : Type 0} (limit : ℕ) (eq : K → K → Bool) (laws : IsEquiva
         capacity = taken.form.capacity;
         builder = refl;
       })
-      _ _ (sym taken.removed ∙ sym found.pair)
+      _ _ (sym taken.removed ∙ sym found.pair) tt
   removes_found test own one_class (Ok index) None taken found = absurd taken
   removes_found test own one_class (Err vacancy) (Some pair) taken found = absurd taken
   removes_found test own one_class (Err vacancy) None same found = grind (arith, common_steps, removed_as, was_state)

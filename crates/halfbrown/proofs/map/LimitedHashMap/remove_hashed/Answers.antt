@@ -29,7 +29,7 @@ returns g c =
     let own = g.S.KeyHasher.hash_writes builder (g.Q.Hash.hash_input c.args.key) in
     let told = c.take.ensures in
     let known : was.is_vec ≡ false → c.args.hash ≡ own =
-    λ table. c.requires (ap (λ m. m.is_vec) (sym c.self.view_is) ∙ table)
+    λ table. c.requires.known (ap (λ m. m.is_vec) (sym c.self.view_is) ∙ table)
     ∙ ap (λ s. g.S.KeyHasher.hash_writes s (g.Q.Hash.hash_input c.args.key)) (ap (λ m. m.builder) (sym c.self.view_is)) in
     let found : KeySearch test own was told.search = looks_up test _ (λ k answer returned. returned.says.met ∙ ap test returned.shows)
     g.K.PartialEq.eq (g.met.Q.Equivalent.stands_for_equals c.args.key) hashing c.args.hash was c.self.invariant.distinct own known

@@ -31,4 +31,4 @@ returns-in-Err-clause-cost g c = rw c.self-1.given.1 c.in-Err.ensures.cost
 
 pub find_hashed-requires : goal.find_hashed-requires
 find_hashed-requires g c =
-    λ table. c.requires ∙ ap (λ r. g.S.KeyHasher.hash_writes (ready_map r).builder (g.Q.Hash.hash_input c.args.key)) c.self-1.given.1
+    record { known = λ table. c.requires ∙ ap (λ r. g.S.KeyHasher.hash_writes (ready_map r).builder (g.Q.Hash.hash_input c.args.key)) c.self-1.given.1 }
