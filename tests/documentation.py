@@ -114,7 +114,7 @@ def quoted(call):
     for clause in clauses:
         word, is_starred, name, said = re.match(r"(\w+)(\*?) ?(\w*) ?{ (.*) }", clause).groups()
         if not is_starred and name not in LEFT_OUT:
-            said = re.sub(r"\bself\b(\.new)?(?:\.(?:now|old|entry)\b)?", lambda it: "S'" if it[1] else "S", said)
+            said = re.sub(r"\bself\b(\.new)?(?:\.(?:now|old|entry)\b)?", lambda it: "self'" if it[1] else "self", said)
             yield f"  {word}{' ' * bool(name)}{name}: {said}"
 
 
