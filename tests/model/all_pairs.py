@@ -84,10 +84,15 @@ def drop(maps):
     maps.a = maps.a.anew()
 
 
-def into_iter(maps):
-    taken = maps.a.pairs
-    drop(maps)
-    return list_of(taken)
+def take_all(shown):
+    """A call that takes `a`, and gives this of each pair."""
+
+    def answer(maps):
+        taken = maps.a.pairs
+        drop(maps)
+        return list_of(map(shown, taken))
+
+    return answer
 
 
 def clone(maps):
@@ -134,7 +139,9 @@ OF_A_CALLS = {
 }
 BOTH_CALLS = {
     "pairs": lambda maps: " ".join(f"{name} {it.rule} {it} {list_of(it.pairs)}" for name, it in zip("ab", (maps.a, maps.b))),
-    "into_iter": into_iter,
+    "into_iter": take_all(lambda pair: pair),
+    "into_keys": take_all(lambda pair: pair.key),
+    "into_values": take_all(lambda pair: pair.value),
     "drop": drop,
     "clone": clone,
     "swap": swap,

@@ -15,7 +15,7 @@ COLUMNS = (*STATES, MEMORY, SIZE)
 ASKED, STOOD_FOR, MET = "asked", "by @ID", "met"
 COMPARING = ("same", "eq", "same_as LIMIT RULE", "same_from LIMIT RULE")
 AT_AN_INDEX = ("first", "last", "pop", "swap_remove_index N", "shift_remove_index N", "get_index N", "get_index_mut N V")
-AT_AN_INDEX += ("get_index_entry N V",)
+AT_AN_INDEX += ("get_index_entry N V", "first_mut V", "last_mut V")
 MAKING = ("from_iter ITEMS", "from_iter_hint SIZE ITEMS", "from_array ITEMS", "collect ITEMS")
 # What a search by blocks of small keys finds in a vector: a key of the first block, a later one, or none.
 SMALL_KEYS = ("small keys, held", "small keys, held past 16", "small keys, new")

@@ -75,9 +75,15 @@ def error_of(call, shown, before=""):
 
 
 insert = by(Map.entry, lambda a, pair, value: pair.write(value), lambda a, *pair: a.append(*pair) and "none")
+insert_full = by(
+    Map.entry,
+    lambda a, pair, value: f"{index_of(a, pair)} {pair.write(value)}",
+    lambda a, *pair: f"{index_of(a, a.append(*pair))} none",
+)
 
 BASIC_CALLS = {
     "insert KEY V": insert,
+    "insert_full KEY V": insert_full,
     "insert_nocheck KEY V": insert_nocheck,
     "get QUERY": by(Map.find, lambda a, pair: pair.value, "none"),
     "get_mut QUERY V": by(Map.find, lambda a, pair, value: pair.write(value), "none"),
@@ -94,6 +100,8 @@ BASIC_CALLS = {
     **dict.fromkeys(("get_index_mut N V", "get_index_entry N V"), at_index(lambda a, pair, value: pair.write(value))),
     "first": lambda a: a.pairs[0] if a.pairs else "none",
     "last": lambda a: a.pairs[-1] if a.pairs else "none",
+    "first_mut V": lambda a, value: a.pairs[0].write(value) if a.pairs else "none",
+    "last_mut V": lambda a, value: a.pairs[-1].write(value) if a.pairs else "none",
     "pop": lambda a: a.pairs.pop() if a.pairs else "none",
     "swap_remove_index N": at_index(Map.take_out),
     "shift_remove_index N": at_index(Map.shift_out),

@@ -121,9 +121,13 @@ where
                 "raw" => Some(self.print_raw_entry(self.key(key)?)),
                 _ => None,
             },
-            [limit, rule] => match call {
-                "same_as" => self.print_same(limit, rule, false),
-                "same_from" => self.print_same(limit, rule, true),
+            [first, second] => match call {
+                "insert_full" => {
+                    let (key, value) = self.pair(first, second)?;
+                    Some(self.print_insert_full(key, value))
+                }
+                "same_as" => self.print_same(first, second, false),
+                "same_from" => self.print_same(first, second, true),
                 _ => None,
             },
             _ => None,
@@ -162,6 +166,14 @@ where
 
     fn answer_one(&mut self, call: &str, operand: &str) -> Option<Answer> {
         Some(match call {
+            "first_mut" => {
+                let value = self.value(number(operand)?);
+                self.first_mut(value)
+            }
+            "last_mut" => {
+                let value = self.value(number(operand)?);
+                self.last_mut(value)
+            }
             "get_index" => self.get_index(count(operand)?),
             "swap_remove_index" => self.swap_remove_index(count(operand)?),
             "shift_remove_index" => self.shift_remove_index(count(operand)?),

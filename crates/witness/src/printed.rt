@@ -1,7 +1,9 @@
 //! Lists of what a map holds, and what the library prints of it.
 
 use crate::answer::{print_gap, refused};
-use crate::iterator_items::{of_item, of_owned_pair, of_pair, print_items};
+use crate::iterator_items::{
+    of_item, of_owned_key, of_owned_pair, of_owned_value, of_pair, print_items,
+};
 use crate::key_traits::{Named, Number};
 use crate::player::Player;
 use halfbrown::{Limit, RefusedKey};
@@ -23,6 +25,8 @@ impl<
             "keys" => self.print_keys(),
             "values" => self.print_values(),
             "into_iter" => self.print_taken(),
+            "into_keys" => self.print_taken_keys(),
+            "into_values" => self.print_taken_values(),
             "debug" => self.print_debug(),
             "debug_pretty" => self.print_debug_pretty(),
             "debug_iter" => self.print_debug_iter(),
@@ -51,6 +55,24 @@ impl<
             &mut self.take().into_iter(),
             usize::MAX,
             of_owned_pair,
+        )
+    }
+
+    fn print_taken_keys(&mut self) -> io::Result<()> {
+        print_items(
+            self.rt,
+            &mut self.take().into_keys(),
+            usize::MAX,
+            of_owned_key,
+        )
+    }
+
+    fn print_taken_values(&mut self) -> io::Result<()> {
+        print_items(
+            self.rt,
+            &mut self.take().into_values(),
+            usize::MAX,
+            of_owned_value,
         )
     }
 

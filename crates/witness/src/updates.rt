@@ -8,6 +8,7 @@ use crate::key_traits::{Named, Number};
 use crate::player::Player;
 use halfbrown::{Limit, LimitedHashMap, Refused};
 use std::hash::{BuildHasher, Hash};
+use std::io;
 
 impl<R: Print, K: Eq + Hash + Named + Drop, V: Number + Drop, S: BuildHasher, L: Limit> Player<
     '_,
@@ -20,9 +21,16 @@ impl<R: Print, K: Eq + Hash + Named + Drop, V: Number + Drop, S: BuildHasher, L:
     /// `insert`.
     pub(crate) fn insert(&mut self, key: K, value: V) -> Answer {
         match self.open().insert(key, value) {
-            Ok(Some(old)) => said("was").value(&old),
-            Ok(None) => said("none"),
+            Ok(old) => was(old),
             Err(back) => handed_back(&back),
+        }
+    }
+
+    /// Prints the index that `insert_full` returns, and then what `insert` answers.
+    pub(crate) fn print_insert_full(&mut self, key: K, value: V) -> io::Result<()> {
+        match self.open().insert_full(key, value) {
+            Ok((index, old)) => print!(self.rt; "{index} {}", was(old)),
+            Err(back) => print!(self.rt; "{}", handed_back(&back)),
         }
     }
 
@@ -49,6 +57,16 @@ impl<R: Print, K: Eq + Hash + Named + Drop, V: Number + Drop, S: BuildHasher, L:
         of_pair(self.open().last())
     }
 
+    /// Writes a value by `first_mut`.
+    pub(crate) fn first_mut(&mut self, value: V) -> Answer {
+        written(self.open().first_mut(), value)
+    }
+
+    /// Writes a value by `last_mut`.
+    pub(crate) fn last_mut(&mut self, value: V) -> Answer {
+        written(self.open().last_mut(), value)
+    }
+
     /// `pop`.
     pub(crate) fn pop(&mut self) -> Answer {
         of_removed(self.open().pop())
@@ -61,10 +79,7 @@ impl<R: Print, K: Eq + Hash + Named + Drop, V: Number + Drop, S: BuildHasher, L:
 
     /// Writes a value by `get_index_mut`.
     pub(crate) fn get_index_mut(&mut self, index: usize, value: V) -> Answer {
-        match self.open().get_index_mut(index) {
-            Some(held) => said("was").value(&std::mem::replace(held, value)),
-            None => said("none"),
-        }
+        written(self.open().get_index_mut(index), value)
     }
 
     /// Writes a value by `insert` of the entry at an index.
@@ -83,6 +98,22 @@ impl<R: Print, K: Eq + Hash + Named + Drop, V: Number + Drop, S: BuildHasher, L:
     /// `shift_remove_index`.
     pub(crate) fn shift_remove_index(&mut self, index: usize) -> Answer {
         of_removed(self.open().shift_remove_index(index))
+    }
+}
+
+// The value that was there, or none.
+fn was<V: Number + Drop>(old: Option<V>) -> Answer {
+    match old {
+        Some(old) => said("was").value(&old),
+        None => said("none"),
+    }
+}
+
+// Writes a value where one is lent.
+fn written<V: Number + Drop>(held: Option<&mut V>, value: V) -> Answer {
+    match held {
+        Some(held) => was(Some(std::mem::replace(held, value))),
+        None => said("none"),
     }
 }
 
