@@ -9,7 +9,7 @@ cd "$(dirname "$0")/../crates" || exit 1
 began=$(date +@%s.%N)
 jobs=$(nproc)
 [ "$jobs" -le 4 ] || jobs=4
-# On four processors it took four and a half to eight minutes, of 12 to 20 processor minutes; with one job 15, crate by crate.
+# On four processors it took 4.5 to 8 minutes, of 12 to 20 processor minutes; with one job 15, crate by crate.
 minutes=$((6 + 10 / jobs))
 [ "${1-}" != minutes ] || exec echo "$minutes"
 log=$(mktemp) || exit 1
