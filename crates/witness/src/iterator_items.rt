@@ -52,12 +52,8 @@ pub(crate) fn of_owned_pair<K: Named + Drop, V: Number + Drop>(pair: (K, V)) -> 
     said("").pair(&key, &value)
 }
 
-pub(crate) fn of_owned_key<K: Named + Drop>(key: K) -> Answer {
-    said("").key(&key)
-}
-
-pub(crate) fn of_owned_value<V: Number + Drop>(value: V) -> Answer {
-    said("").value(&value)
+pub(crate) fn of_owned_item<T: Item + Drop>(item: T) -> Answer {
+    item.answer()
 }
 
 pub(crate) fn of_item<T: Item>(item: &T) -> Answer {

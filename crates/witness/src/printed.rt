@@ -1,9 +1,7 @@
 //! Lists of what a map holds, and what the library prints of it.
 
 use crate::answer::{print_gap, refused};
-use crate::iterator_items::{
-    of_item, of_owned_key, of_owned_pair, of_owned_value, of_pair, print_items,
-};
+use crate::iterator_items::{of_item, of_owned_item, of_owned_pair, of_pair, print_items};
 use crate::key_traits::{Named, Number};
 use crate::player::Player;
 use halfbrown::{Limit, RefusedKey};
@@ -63,7 +61,7 @@ impl<
             self.rt,
             &mut self.take().into_keys(),
             usize::MAX,
-            of_owned_key,
+            of_owned_item,
         )
     }
 
@@ -72,7 +70,7 @@ impl<
             self.rt,
             &mut self.take().into_values(),
             usize::MAX,
-            of_owned_value,
+            of_owned_item,
         )
     }
 

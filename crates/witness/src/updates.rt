@@ -26,7 +26,7 @@ impl<R: Print, K: Eq + Hash + Named + Drop, V: Number + Drop, S: BuildHasher, L:
         }
     }
 
-    /// Prints the index that `insert_full` returns, and then what `insert` answers.
+    /// Prints the index that `insert_full` returns, and then what `insert` answers; a refusal alone.
     pub(crate) fn print_insert_full(&mut self, key: K, value: V) -> io::Result<()> {
         match self.open().insert_full(key, value) {
             Ok((index, old)) => print!(self.rt; "{index} {}", was(old)),
