@@ -177,15 +177,16 @@ def memory_rows(program):
 
 
 def reads_rows(program):
-    """The buckets that a miss reads on average, and an insertion since the table was empty: by proof, and as measured."""
+    """The buckets that a miss reads on average, an insertion since the table was empty, and a hit: by proof, and as measured."""
     commands = [[program, "reads", keys, str(FULL)] for keys in KEYS]
     found = [subprocess.run(it, capture_output=True, text=True, check=True).stdout.splitlines() for it in commands]
     for lines in zip(*found):
         held, *_ = numbers = [int(word) for line in lines for word in line.split()]
         free = BUCKETS / (BUCKETS - held)
-        misses = [(1 + free**2) / 2, *(reads / FULL for reads in numbers[1::3])]
-        insertions = [(1 + free) / 2, *(reads / held for reads in numbers[2::3])]
-        yield [f"{held / BUCKETS:.3f}", *(f"{mean:.2f}" for mean in misses + insertions)]
+        misses = [(1 + free**2) / 2, *(reads / FULL for reads in numbers[1::4])]
+        insertions = [(1 + free) / 2, *(reads / held for reads in numbers[2::4])]
+        hits = [(1 + free) / 2, *(reads / held for reads in numbers[3::4])]
+        yield [f"{held / BUCKETS:.3f}", *(f"{mean:.2f}" for mean in misses + insertions + hits)]
 
 
 def processor_seconds(command, path):
@@ -241,7 +242,7 @@ def print_others(rounds, words, path):
         print_table(["keys", "pairs a map", "maps", *MAPS], memory_rows(build("half_bench")))
     if "reads" in words:
         print(f"\nBuckets that a probe reads on average, in a table of {BUCKETS:,}:\n")
-        heads = [f"{what}, {how}" for what in ("a miss", "an insertion") for how in ("at most", *KEYS)]
+        heads = [f"{what}, {how}" for what in ("a miss", "an insertion", "a hit") for how in ("at most", *KEYS)]
         print_table(["load", *heads], reads_rows(build("half_bench")))
     if "halfmap" in words:
         print(f"\nhalfmap, by the median of {rounds} rounds:\n")

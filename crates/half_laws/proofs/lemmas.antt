@@ -2,6 +2,7 @@
 pub mod crowding
 pub mod equality
 pub mod means
+pub mod hits
 pub mod probes
 pub mod runs
 pub mod searches

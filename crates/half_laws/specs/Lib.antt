@@ -1,4 +1,5 @@
 pub mod ComparisonLaws
+pub mod HitLaws
 pub mod MapLaws
 pub mod MeanLaws
 pub mod ProbeLaws

@@ -22,8 +22,8 @@ pub fn form_without_shrink<K: Eq + Hash, V, S: KeyHasher<K>, L: Limit>()
     ensures nothing_hashed { NothingHashedLaw V S L.LIMIT K.eq S.hash }
 {}
 
-/// The replies of a run are decided by the form, the pairs in order and the refusals: capacity, builder, hashes and
-/// history decide nothing.
+/// The replies of a run are decided by the form, the pairs in order, the refusals and the form that each `Shrink` left:
+/// capacity, builder, hashes and history decide nothing.
 pub fn replies_of_a_run<K: Eq + Hash, V, S: KeyHasher<K>, L: Limit>()
     ensures { RepliesLaw V S L.LIMIT K.eq }
 {}

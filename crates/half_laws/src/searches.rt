@@ -1,6 +1,7 @@
 //! What holds of every search of a map. These functions do nothing: the laws are their contracts.
 ghost use Rattle.half_laws.specs.MapLaws.{HistoryLaw, InsertionHistoryLaw, CommandCostLaw, CommandHashesLaw, CommandBucketsLaw};
 ghost use Rattle.half_laws.specs.MapLaws.{CrowdedSearchLaw, CrowdedInsertionLaw, CrowdedGrowthLaw, CrowdedUncheckedLaw, CrowdedProbeLaw};
+ghost use Rattle.half_laws.specs.HitLaws.{HitLaw, HitTotalLaw, HitHistoryLaw, FillingOrderLaw, HalfFullHitLaw, CapacityHitLaw};
 ghost use Rattle.half_laws.specs.MeanLaws.{MissLaw, MissTotalLaw, HalfFullMissLaw, CapacityMissLaw};
 
 use halfbrown::{KeyHasher, Limit};
@@ -38,4 +39,23 @@ pub fn mean_of_a_miss<K: Eq + Hash, V, S: KeyHasher<K>>()
     ensures total { MissTotalLaw }
     ensures half_full { HalfFullMissLaw 5 2 }
     ensures within_capacity { CapacityMissLaw 17 2 }
+{}
+
+/// A search in a table that finds its key reads as many buckets each time, by any form of the key. The searches for all held
+/// keys, one each, read together exactly as many as the insertions of the pairs into an empty table of the same capacity, in
+/// any order. So they read as many in two maps of the same capacity and builder that hold the same pairs in any order, whatever
+/// was inserted and removed before.
+pub fn hits_without_history<K: Eq + Hash, V, S: KeyHasher<K>, L: Limit>()
+    ensures hit { HitLaw V S.hash }
+    ensures total { HitTotalLaw V S.hash }
+    ensures order { FillingOrderLaw }
+    ensures history { HitHistoryLaw V L.LIMIT K.eq S.hash }
+{}
+
+/// How many buckets a search that finds its key reads on average, over all held keys, where all lists of their hashes are
+/// equally likely: at most 1.5 in a table that is half full, and 2.5 in any table. By `hits_without_history` it is what
+/// insertions read that fill the table; `mean_of_a_filling` of `half_mean` has the bound at other loads.
+pub fn mean_of_a_hit()
+    ensures half_full { HalfFullHitLaw 3 2 }
+    ensures within_capacity { CapacityHitLaw 5 2 }
 {}

@@ -5,11 +5,8 @@
 use Rattle.std.specs.Prelude.{◌≡◌, ℕ, zero, suc, ◌+◌, ◌-◌, ◌*◌, ◌^◌, ◌<◌, ◌≤◌, List, [], ◌∷◌, length}
 use Rattle.half_store.specs.Capacity.{IsBucketCount, capacity_of}
 use Rattle.half_store.specs.Reach.{reach}
-
--- the sum over all numbers below `count`
-abbrev pub sum_below : (count : ℕ) → (ℕ → ℕ) → ℕ
-sum_below zero f = 0
-sum_below (suc count) f = f count + sum_below count f
+pub use Rattle.half_store.specs.Reach.{filling_reach}
+pub use Rattle.half_store.specs.Work.{sum_below}
 
 -- the sum over all lists of `size` numbers below `count`
 abbrev pub sum_lists : (count size : ℕ) → (List ℕ → ℕ) → ℕ
@@ -25,12 +22,7 @@ total_reach hashes buckets held = sum_lists hashes held (λ list. sum_below hash
 abbrev pub reach_cases : (hashes held : ℕ) → ℕ
 reach_cases hashes held = hashes ^ (held + 1)
 
--- the buckets that the probes read that insert the hashes of a list into an empty table, the last one first
-abbrev pub filling_reach : (buckets : ℕ) → List ℕ → ℕ
-filling_reach buckets [] = 0
-filling_reach buckets (hash ∷ before) = reach before buckets hash + filling_reach buckets before
-
--- the buckets that they read in all cases: each list of `held` hashes below `hashes`, and each insertion of it
+-- the buckets that the insertions read in all cases: each list of `held` hashes below `hashes`, and each insertion of it
 unfoldable pub total_filling : (hashes buckets held : ℕ) → ℕ
 total_filling hashes buckets held = sum_lists hashes held (λ list. filling_reach buckets list)
 
@@ -103,6 +95,11 @@ CapacityMeanLaw over under = (bits buckets held : ℕ) → 0 < buckets → IsBuc
 abbrev pub MeanFillingLaw : Type 0
 MeanFillingLaw = (share buckets held : ℕ) → held < buckets
     → MeanFillingIsAtMost (share * buckets) buckets held (buckets + (buckets - held)) (2 * (buckets - held))
+
+-- up to the half of a table it is at most `over / under`
+abbrev pub HalfFullFillingLaw : (over under : ℕ) → Type 0
+HalfFullFillingLaw over under = (share buckets held : ℕ) → 0 < buckets → held + held ≤ buckets
+    → MeanFillingIsAtMost (share * buckets) buckets held over under
 
 -- up to the capacity of a table it is at most `over / under`, for hashes of `bits` bits
 abbrev pub CapacityFillingLaw : (over under : ℕ) → Type 0

@@ -4,7 +4,7 @@
 
 ghost use Rattle.std.specs.Prelude.{◌≡◌, ◌+◌};
 ghost use Rattle.half_mean.specs.Mean.{total_reach, total_filling, knuth_sum, MeanCasesLaw, ExactMeanLaw, KnuthRecursionLaw};
-ghost use Rattle.half_mean.specs.Mean.{HomesMeanLaw, MeanReachLaw, HalfFullMeanLaw, CapacityMeanLaw, MeanFillingLaw};
+ghost use Rattle.half_mean.specs.Mean.{HomesMeanLaw, MeanReachLaw, HalfFullMeanLaw, CapacityMeanLaw, MeanFillingLaw, HalfFullFillingLaw};
 ghost use Rattle.half_mean.specs.Mean.{CapacityFillingLaw, IsLeastOver};
 
 /// There are `hashes ^ held` lists of `held` hashes below `hashes`. A mean is the total over all cases by their number: for
@@ -27,18 +27,20 @@ pub fn mean_of_a_probe()
 {}
 
 /// Where all lists of hashes are equally likely, the insertions that put `n` pairs into an empty table of `m` buckets read
-/// at most `(1 + m / (m - n)) / 2` buckets each on average: 2.5 up to the capacity.
+/// at most `(1 + m / (m - n)) / 2` buckets each on average: 1.5 up to half of the buckets, and 2.5 up to the capacity.
 pub fn mean_of_a_filling()
     ensures bound { MeanFillingLaw }
+    ensures half_full { HalfFullFillingLaw 3 2 }
     ensures within_capacity { CapacityFillingLaw 5 2 }
 {}
 
-/// 2.5 and 8.5 are the least of all halves that hold. Tables of 16 and 512 buckets break smaller ones, and the filling of one
-/// of 64.
+/// These are the least of all halves that hold: 2.5 and 8.5 of a probe, and 1.5 and 2.5 of a filling. Probes of tables of 16
+/// and 512 buckets break smaller ones, and fillings of 4 and 64.
 pub fn bounds_are_least()
     ensures half_full { IsLeastOver HalfFullMeanLaw 5 2 }
     ensures within_capacity { IsLeastOver CapacityMeanLaw 17 2 }
     ensures filling { IsLeastOver CapacityFillingLaw 5 2 }
+    ensures half_filling { IsLeastOver HalfFullFillingLaw 3 2 }
 {}
 
 /// The totals of small tables, added up one by one: all probes of the tables of 4 buckets with 2 and 3 pairs, and of 8 with

@@ -1,7 +1,7 @@
 -- The home bucket of a hash, and how many buckets an unsuccessful probe from there reads.
 --
 -- All of it is said over the held hashes and the number of buckets alone: nothing here knows what a bucket contains.
-use Rattle.std.specs.Prelude.{◌≢◌, ℕ, zero, suc, ◌+◌, ◌-◌, ◌%◌, ◌<◌, ◌≤◌, Bool, false, ◌==◌, ◌||◌, nat_lt, nat_le, if◌then◌else◌, List, count_by, AllPairs}
+use Rattle.std.specs.Prelude.{◌≢◌, ℕ, zero, suc, ◌+◌, ◌-◌, ◌%◌, ◌<◌, ◌≤◌, Bool, false, ◌==◌, ◌||◌, nat_lt, nat_le, if◌then◌else◌, List, [], ◌∷◌, count_by, AllPairs}
 
 -- the home bucket of a hash: where each probe for it begins
 abbrev pub home : ℕ → ℕ → ℕ
@@ -49,3 +49,8 @@ module _ (hashes : List ℕ) (buckets : ℕ) where
   -- no two of the hashes have the same home bucket
   abbrev pub HomesApart : Type 0
   HomesApart = AllPairs (λ one other. home buckets one ≢ home buckets other) hashes
+
+-- the buckets that the insertions read in all that put these hashes into an empty table, the last one first
+abbrev pub filling_reach : (buckets : ℕ) → List ℕ → ℕ
+filling_reach buckets [] = 0
+filling_reach buckets (hash ∷ before) = reach before buckets hash + filling_reach buckets before

@@ -3,12 +3,12 @@ use Rattle.std.specs.Prelude.{◌≡◌, ℕ, ◌+◌, ◌<◌, ◌≤◌, Bool,
 use Rattle.std.specs.Map.{keys_of}
 use Rattle.half_store.specs.Capacity.{buckets_of}
 use Rattle.half_store.specs.Work.{IsTableHitCost, after_missing, Work, first_match_cost}
-use Rattle.half_store.specs.Reach.{reach}
+use Rattle.half_store.specs.Reach.{reach, filling_reach}
 use Rattle.half_store.specs.declared.store.find.Vacancy.{Vacancy}
 use Rattle.half_store.specs.declared.vecmap.search.Scan.{Scan}
 use Rattle.half_store.specs.declared.vecmap.search.Scan.TheVariants.{ByKey}
 use Rattle.half_store.specs.Store.{StoreState, IsVacancy}
-use Rattle.half_store.specs.Table.{Contents}
+use Rattle.half_store.specs.Table.{Contents, hit_reads, all_hit_reads}
 use Rattle.std.specs.Borrow.{Bor}
 use Rattle.half_store.specs.Slots.{slots_by, slot_at}
 
@@ -58,6 +58,8 @@ pub record ComparesInOrder (scan : Scan) (found : Option ℕ) (len : ℕ) (befor
 pub record IsStoreSearchCost {K V : Type 0} (s : StoreState K V) (hash : ℕ) (scan : Scan) (index : Option ℕ) (before after : Work) : Type 0 where
   pub vector : s.is_vec ≡ true → ComparesInOrder scan index (length s.pairs) before after
   pub found : s.is_vec ≡ false → IfSome index (λ _. IsTableHitCost s.hashes (buckets_of s.capacity) hash before after)
+  pub hit : s.is_vec ≡ false → IfSome index (λ at. after.looked ≡ before.looked + hit_reads s.contents at)
+  pub hits : s.is_vec ≡ false → all_hit_reads (length s.hashes) s.contents ≡ filling_reach (buckets_of s.capacity) s.hashes
   pub missing : s.is_vec ≡ false → IfNone index (after ≡ after_missing s.hashes (buckets_of s.capacity) hash before)
   pub short : s.is_vec ≡ false → reach s.hashes (buckets_of s.capacity) hash ≤ length s.hashes + 1
 

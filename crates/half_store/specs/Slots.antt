@@ -1,7 +1,7 @@
 -- What stands in a bucket: a word, which is 0 or the entry index of its pair and one more, and the hash stored for it.
 use Rattle.std.specs.Prelude.{◌≡◌, ◌≢◌, ℕ, ◌+◌, ◌-◌, ◌<◌, ◌==◌, Bool, false, List, length, count_by, Option, Some, None, slice_index, slice_index_or, zero, suc, ◌≤◌, map}
 use Rattle.half_store.specs.Reach.{home, probe_distance}
-use Rattle.std.specs.List.{All, slice_get}
+use Rattle.std.specs.List.{All, slice_get, position_or_len}
 
 -- the hash stored for a word, by the stored hashes of the entry indices
 abbrev pub slot_by : List ℕ → ℕ → Option ℕ
@@ -20,6 +20,10 @@ WithinHashes hashes words = All (λ word. word ≤ length hashes) words
 pub record EachOnce (number : ℕ) (words : List ℕ) : Type 0 where
   pub within : All (λ word. word ≤ number) words
   pub once : (index : ℕ) → index < number → count_by (λ word. word == suc index) words ≡ 1
+
+-- the bucket of this entry index
+abbrev pub bucket_of : List ℕ → ℕ → ℕ
+bucket_of words index = position_or_len (λ word. word == suc index) words
 
 -- the hash stored in a bucket, or none where it is empty
 abbrev pub slot_at : List (Option ℕ) → ℕ → Option ℕ

@@ -1,53 +1,62 @@
 -- The value of a table, how its fields make it, what a search of it finds and costs, and what a removal does.
-use Rattle.std.specs.Prelude.{ℕ, List, [], length, Option, Some, slice_set, ◌≡◌, ◌≢◌, ◌<◌, ◌≤◌, None, ◌+◌, Bool, true, false, slice_get, Result, IfOk, IfErr, OnErr}
-use Rattle.std.specs.Coded.{Coded, coded×, coded_list, coded_option, coded_ℕ}
+use Rattle.std.specs.Prelude.{ℕ, suc, List, [], ◌∷◌, ◌++◌, length, Option, Some, slice_set, slice_index, ◌≡◌, ◌≢◌, ◌<◌, ◌≤◌, None, ◌+◌, Bool, true, false, slice_get, Result, IfOk, IfErr, OnErr}
+use Rattle.std.specs.Coded.{Coded, coded×, coded_list, coded_ℕ}
 use base.Stored.{coded_via}
-use Rattle.half_store.specs.Slots.{IsVacancyFor, slot_at, distance_from_home, ProbeInvariant, IsFoundAt, slots_by, EachOnce}
+use Rattle.half_store.specs.Slots.{IsVacancyFor, slot_at, distance_from_home, ProbeInvariant, IsFoundAt, slots_by, EachOnce, bucket_of}
 use Rattle.half_store.specs.Capacity.{capacity_of, IsBucketCount, buckets_of}
 use Rattle.half_store.specs.Words.{AreWordsFor}
 use Rattle.std.specs.List.{swap_remove}
-use Rattle.half_store.specs.Work.{after_missing, IsTableHitCost, Work}
-use Rattle.half_store.specs.Reach.{reach}
+use Rattle.half_store.specs.Work.{after_missing, IsTableHitCost, Work, probe_reads, sum_below}
+use Rattle.half_store.specs.Reach.{reach, filling_reach}
 
--- what callers see: the stored hashes by entry index, and how many buckets there are; which bucket contains what is private
+-- what callers see: the stored hashes by entry index, and how many buckets there are; the words of the buckets are private
 pub record TableState : Type 0 where
   pub hashes : List ℕ
   pub buckets : ℕ
-  slots : List (Option ℕ)
+  words : List ℕ
 
 -- what each bucket contains
 abbrev pub slots_of : TableState → List (Option ℕ)
-slots_of t = t.slots
+slots_of t = slots_by t.hashes t.words
 
 -- what the buckets contain, for callers that keep such a fact and hand it back: nobody else can read it
 pub record Contents : Type 0 where
-  slots : List (Option ℕ)
+  hashes : List ℕ
+  words : List ℕ
 
 abbrev pub table_contents : TableState → Contents
-table_contents t = record { slots = t.slots }
+table_contents t = record { hashes = t.hashes; words = t.words }
 
 -- no buckets
 abbrev pub no_contents : Contents
-no_contents = record { slots = [] }
+no_contents = record { hashes = []; words = [] }
 
 -- an insertion probe for the hash ends at this bucket
 abbrev pub IsVacancyIn : Contents → ℕ → ℕ → Type 0
-IsVacancyIn c hash bucket = IsVacancyFor c.slots hash bucket
+IsVacancyIn c hash bucket = IsVacancyFor (slots_by c.hashes c.words) hash bucket
 
--- the same once the hash is stored in this bucket
+-- the same once a pair of the hash is added in this bucket
 abbrev pub with_hash_in : Contents → ℕ → ℕ → Contents
-with_hash_in c hash bucket = record { slots = slice_set c.slots bucket (Some hash) }
+with_hash_in c hash bucket = record { hashes = c.hashes ++ hash ∷ []; words = slice_set c.words bucket (suc (length c.hashes)) }
+
+-- how many buckets a search reads that finds the pair of this entry index: from the home of its hash up to and with its bucket
+unfoldable pub hit_reads : Contents → ℕ → ℕ
+hit_reads c index = probe_reads (length c.words) (slice_index c.hashes index) (bucket_of c.words index)
+
+-- how many the searches for the first `pairs` entry indices read, one each
+unfoldable pub all_hit_reads : ℕ → Contents → ℕ
+all_hit_reads pairs c = sum_below pairs (λ index. hit_reads c index)
 
 abbrev pub contents_code : Coded Contents
-contents_code = coded_via (coded_list (coded_option coded_ℕ)) (λ c. c.slots) (λ a b e i. record { slots = e i })
+contents_code = coded_via (coded× (coded_list coded_ℕ) (coded_list coded_ℕ)) (λ c. (c.hashes, c.words)) (λ a b e i. record { hashes = (e i).0; words = (e i).1 })
 
-abbrev pub table_state : List ℕ → List (Option ℕ) → TableState
-table_state hashes slots = record { hashes = hashes; buckets = length slots; slots = slots }
+abbrev pub table_state : List ℕ → List ℕ → TableState
+table_state hashes words = record { hashes = hashes; buckets = length words; words = words }
 
 abbrev pub table_state_code : Coded TableState
 table_state_code =
-    coded_via (coded× (coded_list coded_ℕ) (coded× coded_ℕ (coded_list (coded_option coded_ℕ)))) (λ t. (t.hashes, (t.buckets, t.slots)))
-    (λ a b e i. record { hashes = (e i).0; buckets = (e i).1.0; slots = (e i).1.1 })
+    coded_via (coded× (coded_list coded_ℕ) (coded× coded_ℕ (coded_list coded_ℕ))) (λ t. (t.hashes, (t.buckets, t.words)))
+    (λ a b e i. record { hashes = (e i).0; buckets = (e i).1.0; words = (e i).1.1 })
 
 -- the buckets lead to the stored hashes: each pair has one bucket, which a probe from its home meets before any empty one
 pub record IsIndexed (hashes words : List ℕ) : Type 0 where
@@ -91,6 +100,8 @@ pub record TableSearch (returns : ℕ → Bool → Type 0) (t : TableState) (has
   pub vacancy : IfErr result (λ bucket. 0 < t.buckets → IsVacancyIn (table_contents t) hash bucket)
   pub missing_cost : OnErr result (new ≡ after_missing t.hashes t.buckets hash old)
   pub found_cost : IfOk result (λ pair. IsTableHitCost t.hashes t.buckets hash old new)
+  pub hit : IfOk result (λ pair. new.looked ≡ old.looked + hit_reads (table_contents t) pair.0)
+  pub hits : all_hit_reads (length t.hashes) (table_contents t) ≡ filling_reach t.buckets t.hashes
   pub short : reach t.hashes t.buckets hash ≤ length t.hashes + 1
   pub buckets : t.buckets ≡ buckets_of (capacity_of t.buckets)
 

@@ -1,5 +1,5 @@
 -- What is counted, and what a probe of a table adds to it.
-use Rattle.std.specs.Prelude.{ℕ, ◌+◌, Option, None, Some, ◌≡◌, ◌-◌, ◌≤◌, ◌==◌, List, length, slice_index, count_by}
+use Rattle.std.specs.Prelude.{ℕ, zero, suc, ◌+◌, Option, None, Some, ◌≡◌, ◌-◌, ◌≤◌, ◌==◌, List, length, slice_index, count_by}
 use Rattle.half_store.specs.Reach.{home, probe_distance, reach, HomesApart}
 
 -- how often a hash was computed, keys were compared, and buckets were read
@@ -52,6 +52,11 @@ pub record IsTableHitCost (hashes : List ℕ) (buckets hash : ℕ) (old new : Wo
   pub looked_some : old.looked + 1 ≤ new.looked
   pub looked_most : new.looked + 1 ≤ old.looked + reach hashes buckets hash
   pub looked_once : HomesApart hashes buckets → new.looked ≡ old.looked + 1
+
+-- the sum over all numbers below `count`
+abbrev pub sum_below : (count : ℕ) → (ℕ → ℕ) → ℕ
+sum_below zero f = 0
+sum_below (suc count) f = f count + sum_below count f
 
 -- how many buckets a probe for this hash reads up to and with this bucket
 abbrev pub probe_reads : ℕ → ℕ → ℕ → ℕ

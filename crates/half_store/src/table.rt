@@ -45,7 +45,6 @@ pub struct Table {
 
 impl Model for Table {
     ghost use Rattle.std.specs.Prelude.{vec_capacity};
-    ghost use Rattle.half_store.specs.Slots.{slots_by};
     ghost use Rattle.half_store.specs.Table.{TableState, table_state, table_state_code, IsTable};
     ghost use Rattle.half_store.specs.Words.{words_of, most_of};
 
@@ -53,14 +52,13 @@ impl Model for Table {
 
     ghost coded = { table_state_code };
 
-    ghost view = { λ t. table_state t.hashes.items (slots_by t.hashes.items (words_of t.buckets)) };
+    ghost view = { λ t. table_state t.hashes.items (words_of t.buckets) };
 
     ghost invariant = { λ t. IsTable t.hashes.items (words_of t.buckets) (most_of t.buckets)
         (vec_capacity t.hashes) };
 }
 
 impl Table {
-    ghost use Rattle.half_store.specs.Slots.{slots_by};
     ghost use Rattle.half_store.specs.Table.{table_state, IsIndexed};
     ghost use Rattle.half_store.specs.Words.{words_of};
 
@@ -249,8 +247,7 @@ impl Table {
     #[inline(always)]
     pub fn hashed_buckets(&self) -> HashedBuckets<'_, WordArray>
         ensures indexed { IsIndexed result.hashes.now (words_of result.buckets.now) }
-        ensures shown { table_state result.hashes.now
-            (slots_by result.hashes.now (words_of result.buckets.now)) ≡ self.now }
+        ensures shown { table_state result.hashes.now (words_of result.buckets.now) ≡ self.now }
     {
         HashedBuckets {
             buckets: &self.buckets,

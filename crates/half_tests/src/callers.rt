@@ -17,4 +17,5 @@ pub mod limits;
 pub mod raw_entries;
 pub mod retained;
 pub mod texts;
+pub mod threads;
 pub mod worked;

@@ -1,9 +1,10 @@
 -- What the calls cost: how often a key is hashed, how many keys are compared, and how many buckets are read.
-use Rattle.std.specs.Prelude.{◌≡◌, ℕ, ◌+◌, ◌-◌, ◌≤◌, Bool, true, false, not, ◌&&◌, List, [], ◌∷◌, length, map, count_by, Option, is_some, ◌==◌, nat_lt, if◌then◌else◌}
+use Rattle.std.specs.Prelude.{◌≡◌, ℕ, ◌+◌, ◌-◌, ◌≤◌, Bool, true, false, not, ◌&&◌, List, [], ◌∷◌, length, map, count_by, Option, IfSome, is_some, ◌==◌, nat_lt, if◌then◌else◌}
 use Rattle.std.specs.Map.{keys_of}
 use Rattle.half_store.specs.PairLists.{index_of}
-use Rattle.half_store.specs.Reach.{reach, HomesApart}
+use Rattle.half_store.specs.Reach.{reach, filling_reach, HomesApart}
 use Rattle.half_store.specs.Capacity.{buckets_of, capacity_for}
+use Rattle.half_store.specs.Table.{hit_reads, all_hit_reads}
 use Rattle.half_store.specs.Work.{Work, first_match_cost}
 use Rattle.halfbrown.specs.State.{State, state, contents_of}
 use Rattle.halfbrown.specs.Pairs.{holds}
@@ -99,11 +100,25 @@ module _ {K V : Type 0} (hash : K → ℕ) where
     search_cost asked is_vec capacity pairs =
         record { asked = asked; compared = search_compares is_vec pairs; looked = search_looks is_vec capacity pairs }
 
+-- how many buckets of a table a search reads that finds the pair at this index
+abbrev pub hit_looks : {K V S : Type 0} → State K V S → ℕ → ℕ
+hit_looks m index = hit_reads (contents_of m) index
+
+-- how many the searches read in all that find its pairs, one search for each
+abbrev pub all_hit_looks : {K V S : Type 0} → State K V S → ℕ
+all_hit_looks m = all_hit_reads (length m.pairs) (contents_of m)
+
+-- how many the insertions read in all that put these pairs into an empty table of this capacity
+abbrev pub filling_looks : {K V : Type 0} → (K → ℕ) → ℕ → List (K × V) → ℕ
+filling_looks hash capacity pairs = filling_reach (buckets_of capacity) (map hash (keys_of pairs))
+
 -- what a search under this hash cost, by the tally before it and after: it found this index, or none, and asked for `asked` hashes
 pub record IsSearchCost {K V S : Type 0} (hash : S → K → ℕ) (sought : ℕ) (m : State K V S) (found : Option ℕ) (asked : ℕ) (before after : Work) : Type 0 where
   pub grew : GrewBy (search_cost (hash m.builder) sought found asked m.is_vec m.capacity m.pairs) before after
   pub looked_once : m.is_vec ≡ false → is_some found ≡ true → NoHomeIsShared (hash m.builder) m.capacity m.pairs
       → after.looked ≡ before.looked + 1
+  pub hit : m.is_vec ≡ false → IfSome found (λ index. after.looked ≡ before.looked + hit_looks m index)
+  pub hits : m.is_vec ≡ false → all_hit_looks m ≡ filling_looks (hash m.builder) m.capacity m.pairs
   pub short : probe_length (hash m.builder) m.is_vec m.capacity m.pairs sought ≤ length m.pairs + 1
 
 -- what one search in the map by a form of a key cost, by the tally before it and after: the form has the searched hash, and stands for the keys
@@ -196,3 +211,5 @@ module _ {K V S : Type 0} (limit : ℕ) where
       pub grew : GrewBy (insert_cost m k granted) before after
       pub looked_once : is_vec_after limit m ≡ false → granted ≡ true → holds eq m.pairs k ≡ true
           → NoHomeIsShared (hash m.builder) (capacity_after_switch m) m.pairs → after.looked ≡ before.looked + 1
+      pub hit : m.is_vec ≡ false → granted ≡ true
+          → IfSome (index_of (eq k) (keys_of m.pairs)) (λ index. after.looked ≡ before.looked + hit_looks m index)

@@ -97,8 +97,9 @@ impl Value {
     }
 
     /// Gives the member of this name a value, and returns the value that it had. A new member comes last. It fails with
-    /// `NoObject` where this is no object, and with `Memory` where there is none for a new member. On error nothing
-    /// changes. It costs one look-up, and now and then the growth of the map.
+    /// `NoObject` where this is no object, and as `insert` of the map does: a new member may need memory, and so may the
+    /// switch of a vector of 32 members, also for a held one. On error nothing changes. It costs one look-up, and now and
+    /// then the growth of the map.
     ///
     /// ```
     /// let before = order.set(String::from_str(alloc, "paid")?, Value::Bool(false))?;

@@ -20,7 +20,7 @@ unfolding total_reach
 miss_total_law hashes capacity held = refl
 
 -- the buckets of a capacity of tables are a bucket count
-table_count : (capacity : ℕ) → IsTableCapacity capacity → IsBucketCount (buckets_of capacity) × (capacity_of (buckets_of capacity) ≡ capacity)
+pub table_count : (capacity : ℕ) → IsTableCapacity capacity → IsBucketCount (buckets_of capacity) × (capacity_of (buckets_of capacity) ≡ capacity)
 table_count capacity is = grind (arith, common_steps, buckets_for-least, buckets_of-capacity_of)
 
 pub capacity_miss_law : CapacityMissLaw 17 2

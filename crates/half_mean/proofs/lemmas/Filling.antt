@@ -3,7 +3,7 @@ use Rattle.std.proofs.Common.{◌≡◌, ℕ, zero, suc, ◌+◌, ◌-◌, ◌*�
 use Rattle.std.proofs.Math.Nat.{pow-succ', mul-pos, mul-le-mul_left, mul-le-mul_right, le_of_mul-le-mul_right}
 use Rattle.std.proofs.lemmas.Nat.{mul-pow}
 use Rattle.half_store.specs.Reach.{reach}
-use Rattle.half_mean.specs.Mean.{sum_below, sum_lists, total_reach, total_filling, filling_reach, filling_cases, MeanFillingIsAtMost, MeanFillingLaw, CapacityFillingLaw}
+use Rattle.half_mean.specs.Mean.{sum_below, sum_lists, total_reach, total_filling, filling_reach, filling_cases, MeanFillingIsAtMost, MeanFillingLaw, HalfFullFillingLaw, CapacityFillingLaw}
 use Rattle.half_mean.proofs.lemmas.Sums.{below-plus, below-const, lists-plus, lists-swap}
 use Rattle.half_mean.proofs.lemmas.Homes.{filling_homes}
 use Rattle.half_mean.proofs.lemmas.Algebra.{pow-two}
@@ -59,6 +59,15 @@ pub filling_law : MeanFillingLaw
 filling_law share m n few =
     rw (filling_homes share m n, mul-pow share m n, times-swap n (share ^ n) (m ^ n))
     (scaled (share ^ n) (total_filling m m n) (2 * (m - n)) (m + (m - n)) (n * m ^ n) (filling_of_homes n m few))
+
+filling_half : (m d f c : ℕ) → m ≤ 2 * d → f * (2 * d) ≤ (m + d) * c → f * 2 * d ≤ 3 * c * d
+filling_half m d f c load mean = let most : (m + d) * c ≤ 3 * d * c = mul-le-mul_right c (omega arith) in grind arith
+
+pub filling_half_full_law : HalfFullFillingLaw 3 2
+filling_half_full_law share m n some half =
+    le_of_mul-le-mul_right
+    (filling_half m (m - n) (total_filling (share * m) m n) (filling_cases (share * m) n) (omega arith) (filling_law share m n (omega arith)))
+    (omega arith)
 
 filling_load : (m d f c : ℕ) → m ≤ 4 * d → f * (2 * d) ≤ (m + d) * c → f * 2 * d ≤ 5 * c * d
 filling_load m d f c load mean = let most : (m + d) * c ≤ 5 * d * c = mul-le-mul_right c (omega arith) in grind arith

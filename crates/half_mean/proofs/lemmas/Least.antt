@@ -3,7 +3,7 @@ use Rattle.std.proofs.Common.{◌≡◌, ℕ, zero, suc, ◌+◌, ◌*◌, ◌^�
 use Rattle.std.proofs.Math.Nat.{mul-le-mul_right}
 use Rattle.std.proofs.lemmas.Bool.{cases_lt}
 use borrow.Author.Tests.{ltb-true}
-use Rattle.half_mean.specs.Mean.{total_reach, total_filling, reach_cases, filling_cases, HalfFullMeanLaw, CapacityMeanLaw, CapacityFillingLaw, IsLeastOver}
+use Rattle.half_mean.specs.Mean.{total_reach, total_filling, reach_cases, filling_cases, HalfFullMeanLaw, CapacityMeanLaw, HalfFullFillingLaw, CapacityFillingLaw, IsLeastOver}
 use Rattle.half_mean.proofs.lemmas.Algebra.{knuth, plain, knuth-zero, plain-step, knuth_plain-step}
 use Rattle.half_mean.proofs.lemmas.Means.{exact_mean_law}
 use Rattle.half_mean.proofs.lemmas.Filling.{filling-step, filling-none}
@@ -64,3 +64,9 @@ pub filling_least : IsLeastOver CapacityFillingLaw 5 2
 filling_least over law =
     above 4 over (total_filling 64 64 48) (filling_cases 64 48) 2 (rw ((sums-are 64 48 (omega arith)).2) (ltb-true _ _ refl))
     (law 6 64 48 (omega arith) (inr (6, omega arith, refl)) (omega arith) (omega arith))
+
+-- in 4 buckets, of which 2 are full
+pub half_filling_least : IsLeastOver HalfFullFillingLaw 3 2
+half_filling_least over law =
+    above 2 over (total_filling 4 4 2) (filling_cases 4 2) 2 (rw ((sums-are 4 2 (omega arith)).2) (ltb-true _ _ refl))
+    (law 1 4 2 (omega arith) (omega arith))

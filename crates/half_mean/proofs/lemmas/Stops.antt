@@ -1,28 +1,18 @@
 -- Where probes end, in a table that holds the hashes of a list.
-use Rattle.std.proofs.Common.{◌≡◌, ◌≢◌, ℕ, suc, ◌+◌, ◌-◌, ◌<◌, ◌≤◌, Bool, true, ◌==◌, ◌⊎◌, inl, inr, refl, sym, ap, ◌∙◌, subst, arith}
-use Rattle.std.proofs.Common.{List, [], ◌∷◌, length, set, replicate, Option, Some, None, count_by}
+use Rattle.std.proofs.Common.{◌≡◌, ◌≢◌, ℕ, suc, ◌+◌, ◌<◌, ◌≤◌, Bool, ◌==◌, ◌⊎◌, inl, inr, sym, ap, ◌∙◌, subst, arith}
+use Rattle.std.proofs.Common.{List, ◌∷◌, length, Option, Some, None, count_by}
 use Rattle.std.proofs.Math.Nat.{mod-eq_of_lt, mod_self}
 use Rattle.std.proofs.lemmas.Grind.{common_steps}
 use Rattle.std.proofs.lemmas.Bool.{cases_lt, ne_eqb, eq-eqb}
-use Rattle.std.proofs.lemmas.List.{length-set, length-replicate, get_or-replicate, get_or_past}
-use Rattle.std.proofs.lemmas.List.Folds.{sum_by-replicate}
-use Rattle.std.proofs.lemmas.Option.{same_Some}
-use Rattle.std.proofs.lemmas.List.Sums.{sum_by-cons, sum_by-set, count_by-le-length}
-use Rattle.half_store.specs.Reach.{home, probe_distance, bucket_after, reach}
-use Rattle.half_store.specs.Slots.{slot_at, stored, IsVacancyFor, SomeVacant, ProbeInvariant}
-use Rattle.half_store.proofs.lemmas.table.Circle.{distance_is, distance_same, bucket_after-probe_distance}
-use Rattle.half_store.proofs.lemmas.table.Counts.{count_to, count_to_more, count_to-le, count_to-all, count_by-count_to, tick}
+use Rattle.half_store.specs.Reach.{home, probe_distance, reach}
+use Rattle.half_store.specs.Slots.{slot_at, stored, IsVacancyFor, ProbeInvariant}
+use Rattle.half_store.proofs.lemmas.table.Circle.{distance_is, distance_same}
+use Rattle.half_store.proofs.lemmas.table.Counts.{count_to, count_to_more, count_by-count_to}
+unfoldable pub use Rattle.half_store.proofs.lemmas.table.Filled.{stop}
+pub use Rattle.half_store.proofs.lemmas.table.Filled.{slots_with}
+use Rattle.half_store.proofs.lemmas.table.Filled.{table_of, at_stop}
 use Rattle.half_store.proofs.lemmas.table.Probe.{SameCounts, reach_at_vacancy}
-use Rattle.half_store.proofs.lemmas.table.Slots.{slot_cases, slot_set, slot_other, full_from, full-lt, home-lt, first_none, passes_stored, vacancy_for}
-
--- the bucket where an unsuccessful probe for the hash ends
-unfoldable pub stop : ℕ → List ℕ → ℕ → ℕ
-stop m w h = bucket_after m (home m h) (reach w m h - 1)
-
--- what the buckets contain after the hashes were added, the last one first
-abbrev pub slots_with : ℕ → List ℕ → List (Option ℕ)
-slots_with m [] = replicate m None
-slots_with m (x ∷ w) = set (slots_with m w) (stop m w x) (Some x)
+use Rattle.half_store.proofs.lemmas.table.Slots.{slot_cases, slot_set, slot_other, full_from, full-lt, home-lt}
 
 -- what is known of the ends of all probes
 pub record Ends (m : ℕ) (w : List ℕ) (slots : List (Option ℕ)) : Type 0 where
@@ -37,31 +27,14 @@ module _ (w : List ℕ) (slots : List (Option ℕ)) (ordered : ProbeInvariant sl
   abbrev m : ℕ
   m = length slots
 
-  some_vacant : SomeVacant slots
-  some_vacant =
-      elim (first_none slots (λ k. k) m) [
-        | inr (k, l, none, before) ↦ (k, l, none)
-        | inl all ↦
-            let any : ℕ → Bool = λ h. true in
-            let full = count_to-le (λ p. true) (λ p. stored any (slot_at slots p)) m (λ p in_p e. elim (slot_cases (slot_at slots p))
-            [ inl z ↦ absurd (all p in_p z) | inr (h, is) ↦ passes_stored slots any (slot_at slots p) h is refl ]) in
-            let held = count_by-le-length any w in
-            absurd (omega (arith, count_to-all m, counted any, count_by-count_to (stored any) slots None))
-      ]
-
   in_home : (h : ℕ) → home m h < m
   in_home h = home-lt m h (omega arith)
 
-  pub at_stop : (h : ℕ) → IsVacancyFor slots h (stop m w h)
-  unfolding stop
-  at_stop h =
-      let v = vacancy_for slots h some_vacant in
-      let far : reach w m h - 1 ≡ probe_distance m (home m h) v.0 = omega (arith, reach_at_vacancy slots ordered w counted h v.0 v.1) in
-      subst (IsVacancyFor slots h) (sym (ap (bucket_after m (home m h)) far
-      ∙ bucket_after-probe_distance m (home m h) (in_home h) v.0 v.1.within)) v.1
+  stop_at : (h : ℕ) → IsVacancyFor slots h (stop m w h)
+  stop_at h = at_stop w slots ordered counted few h
 
   first_vacant : (h g : ℕ) → g < m → slot_at slots g ≡ None → probe_distance m (home m h) (stop m w h) ≤ probe_distance m (home m h) g
-  first_vacant h g in_g none = grind (arith, common_steps, at_stop h)
+  first_vacant h g in_g none = grind (arith, common_steps, stop_at h)
 
   first_from : (p g : ℕ) → p < m → g < m → slot_at slots g ≡ None → probe_distance m p (stop m w p) ≤ probe_distance m p g
   first_from p g in_p in_g none =
@@ -71,14 +44,14 @@ module _ (w : List ℕ) (slots : List (Option ℕ)) (ordered : ProbeInvariant sl
   stored_stop : (p x : ℕ) → slot_at slots p ≡ Some x → stop m w x ≡ stop m w p
   stored_stop p x is =
       let in_p = full-lt slots p (full_from _ x is) in
-      let before = ordered.before p (stop m w x) x is (at_stop x).within (at_stop x).vacant in
-      let far = first_vacant x (stop m w p) (at_stop p).within (at_stop p).vacant in
-      let near = first_from p (stop m w x) in_p (at_stop x).within (at_stop x).vacant in
-      omega (arith, in_home x, (at_stop x).within, (at_stop p).within, distance_is)
+      let before = ordered.before p (stop m w x) x is (stop_at x).within (stop_at x).vacant in
+      let far = first_vacant x (stop m w p) (stop_at p).within (stop_at p).vacant in
+      let near = first_from p (stop m w x) in_p (stop_at x).within (stop_at x).vacant in
+      omega (arith, in_home x, (stop_at x).within, (stop_at p).within, distance_is)
 
   stop_vacant : (p : ℕ) → p < m → slot_at slots p ≡ None → stop m w p ≡ p
   stop_vacant p in_p none =
-      omega (arith, first_from p p in_p in_p none, (at_stop p).within, distance_is)
+      omega (arith, first_from p p in_p in_p none, (stop_at p).within, distance_is)
 
   entries-more : (h : ℕ) → count_by (λ x. stop m w x == stop m w h) w + 1 ≡ count_to (λ b. stop m w b == stop m w h) m
   entries-more h =
@@ -89,60 +62,19 @@ module _ (w : List ℕ) (slots : List (Option ℕ)) (ordered : ProbeInvariant sl
         | inl none ↦ rw none (sym (ne_eqb (stop m w p) e (λ q. ne (sym (stop_vacant p in_p none) ∙ q))))
         | inr (x, is) ↦ rw is (ap (λ s. s == e) (stored_stop p x is))
       ] in
-      let own = stop_vacant e (at_stop h).within (at_stop h).vacant in
-      let one = count_to_more (λ p. stored ends_there (slot_at slots p)) ends_there m e (at_stop h).within
-      (rw (at_stop h).vacant) (eq-eqb _ _ own) held in
+      let own = stop_vacant e (stop_at h).within (stop_at h).vacant in
+      let one = count_to_more (λ p. stored ends_there (slot_at slots p)) ends_there m e (stop_at h).within
+      (rw (stop_at h).vacant) (eq-eqb _ _ own) held in
       omega (arith, counted ends_there, count_by-count_to (stored ends_there) slots None)
 
   pub ends : Ends m w slots
   ends = record {
-    inside = λ h. (at_stop h).within;
-    vacant = λ h. (at_stop h).vacant;
+    inside = λ h. (stop_at h).within;
+    vacant = λ h. (stop_at h).vacant;
     first = first_vacant;
-    read = λ h. reach_at_vacancy slots ordered w counted h (stop m w h) (at_stop h);
+    read = λ h. reach_at_vacancy slots ordered w counted h (stop m w h) (stop_at h);
     entries = entries-more;
   }
-
--- a pair that is added where its probe ended keeps the probe invariant
-ordered-add : (slots : List (Option ℕ)) (p h : ℕ) → IsVacancyFor slots h p → ProbeInvariant slots → ProbeInvariant (set slots p (Some h))
-ordered-add slots p h w o = grind (arith, common_steps, distance_same, full_from, home-lt, length-set, same_Some, set, slot_other, slot_set)
-
-counted-add : (w : List ℕ) (slots : List (Option ℕ)) (p x : ℕ) → IsVacancyFor slots x p → SameCounts w slots
-    → SameCounts (x ∷ w) (set slots p (Some x))
-counted-add w slots p x at counted test =
-    let more = sum_by-set (λ o. tick (stored test o)) slots p (Some x) None at.within in
-    let none : tick (stored test (slot_at slots p)) ≡ 0 = rw at.vacant refl in
-    omega (arith, sum_by-cons (λ y. tick (test y)) x w, counted test)
-
--- the buckets contain the hashes, in the order that probes need
-record IsTableOf (m : ℕ) (w : List ℕ) (slots : List (Option ℕ)) : Type 0 where
-  long : length slots ≡ m
-  ordered : ProbeInvariant slots
-  counted : SameCounts w slots
-
-all_vacant : (m b : ℕ) → slot_at (replicate m None) b ≡ None
-all_vacant m b =
-    elim (cases_lt b m) [
-      | inl l ↦ get_or-replicate m b None None l
-      | inr past ↦ get_or_past (replicate m None) b None (omega (arith, length-replicate {A = Option ℕ} m None))
-    ]
-
-table_of : (m : ℕ) (w : List ℕ) → length w ≤ m → IsTableOf m w (slots_with m w)
-table_of m [] few = record {
-  long = length-replicate {A = Option ℕ} m None;
-  ordered = record { before = λ b v h is in_v none. absurd (full_from _ h is (all_vacant m b)) };
-  counted = λ test. sym (sum_by-replicate (λ o. tick (stored test o)) m None ∙ omega arith);
-}
-table_of m (x ∷ w) few =
-    let t = table_of m w (omega arith) in
-    let slots : List (Option ℕ) = slots_with m w in
-    let at : IsVacancyFor slots x (stop m w x) = subst (λ n. IsVacancyFor slots x (stop n w x)) t.long
-    (at_stop w slots t.ordered t.counted (subst (λ n. length w < n) (sym t.long) (omega arith)) x) in
-    record {
-      long = length-set slots (stop m w x) (Some x) ∙ t.long;
-      ordered = ordered-add slots (stop m w x) x at t.ordered;
-      counted = counted-add w slots (stop m w x) x at t.counted;
-    }
 
 pub ends_with : (m : ℕ) (w : List ℕ) → length w < m → Ends m w (slots_with m w)
 ends_with m w few =

@@ -1,35 +1,15 @@
 -- Sums over numbers and over lists.
-use Rattle.std.proofs.Common.{◌≡◌, ℕ, zero, suc, ◌+◌, ◌*◌, ◌^◌, ◌<◌, refl, sym, ap, ◌∙◌, arith, List, [], ◌∷◌, length, sum_by, IsPermutation}
+use Rattle.std.proofs.Common.{◌≡◌, ℕ, zero, suc, ◌+◌, ◌*◌, ◌^◌, refl, sym, ap, ◌∙◌, arith, List, [], ◌∷◌, length, sum_by, IsPermutation}
 use Rattle.std.proofs.Math.Nat.{pow-zero, pow-succ', mul_assoc}
 use Rattle.std.proofs.lemmas.Grind.{common_steps}
 use Rattle.std.proofs.lemmas.List.Sorted.{IsPermutation-cons, IsPermutation-swap}
 use Rattle.std.proofs.lemmas.List.Sums.{sum_by-cons}
+pub use Rattle.half_store.proofs.lemmas.table.Sums.{below-same, below-plus, below-const, below-swap, below-first}
 use Rattle.half_mean.specs.Mean.{sum_below, sum_lists}
-
-pub below-same : (m : ℕ) (f g : ℕ → ℕ) → ((k : ℕ) → k < m → f k ≡ g k) → sum_below m f ≡ sum_below m g
-below-same zero f g h = refl
-below-same (suc m) f g h = grind (arith, common_steps, h m (omega arith), below-same m f g (λ k l. h k (omega arith)))
-
-pub below-plus : (m : ℕ) (f g : ℕ → ℕ) → sum_below m (λ k. f k + g k) ≡ sum_below m f + sum_below m g
-below-plus zero f g = refl
-below-plus (suc m) f g = omega (arith, below-plus m f g)
 
 pub below-times : (m c : ℕ) (f : ℕ → ℕ) → sum_below m (λ k. c * f k) ≡ c * sum_below m f
 below-times zero c f = omega arith
 below-times (suc m) c f = grind (arith, common_steps, below-times m c f)
-
-pub below-const : (m c : ℕ) → sum_below m (λ k. c) ≡ m * c
-below-const zero c = omega arith
-below-const (suc m) c = grind (arith, common_steps, below-const m c)
-
-pub below-swap : (m n : ℕ) (f : ℕ → ℕ → ℕ) → sum_below m (λ a. sum_below n (λ b. f a b)) ≡ sum_below n (λ b. sum_below m (λ a. f a b))
-below-swap zero n f = sym (below-const n 0 ∙ omega arith)
-below-swap (suc m) n f = ap (λ s. sum_below n (f m) + s) (below-swap m n f) ∙ sym (below-plus n (f m) (λ b. sum_below m (λ a. f a b)))
-
--- the last term of a sum is that of 0
-pub below-first : (m : ℕ) (f : ℕ → ℕ) → sum_below (suc m) f ≡ f 0 + sum_below m (λ k. f (suc k))
-below-first zero f = omega arith
-below-first (suc m) f = omega (arith, below-first m f)
 
 pub lists-same : (m n : ℕ) (f g : List ℕ → ℕ) → ((list : List ℕ) → length list ≡ n → f list ≡ g list) → sum_lists m n f ≡ sum_lists m n g
 lists-same m zero f g h = h [] refl

@@ -5,7 +5,6 @@ ghost use Rattle.std.specs.Prelude.{◌≡◌, ℕ, ◌+◌, ◌-◌, ◌^◌, �
 ghost use Rattle.std.specs.Prelude.{length, slice_get, slice_set, slice_index, vec_capacity};
 ghost use Rattle.std.specs.Fn.{FnReturnsAt};
 ghost use Rattle.std.specs.List.{swap_remove};
-ghost use Rattle.half_store.specs.Slots.{slots_by};
 ghost use Rattle.half_store.specs.Search.{CallableOnHash, ReturnsAt};
 ghost use Rattle.half_store.specs.Capacity.{IsBucketCount};
 ghost use Rattle.half_store.specs.Work.{looked_more, LooksWithin, reads_left, removal_reads};
@@ -113,7 +112,7 @@ pub(super) fn take_in<B: Words, K, F: Fn(&K) -> bool>(
     requires keys { length hashes.old.items ≤ length keys.now }
     requires callable { CallableOnHash (F.pre matches.now) hashes.old.items hash keys.now }
     ensures finds { TableSearch (ReturnsAt (FnReturnsAt F.Fn matches.now) keys.now)
-        (table_state hashes.old.items (slots_by hashes.old.items (B.words buckets.old)))
+        (table_state hashes.old.items (B.words buckets.old))
         hash result tally.old tally.new }
     ensures hashes { IfOk result (λ pair. hashes.new.items
         ≡ swap_remove hashes.old.items pair.0 0) }

@@ -1,7 +1,6 @@
 //! The search of a table, over buckets of either size.
 ghost use Rattle.std.specs.Prelude.{◌≡◌, ℕ, ◌+◌, ◌≤◌, Some, length, slice_get, slice_index, IfOk};
 ghost use Rattle.std.specs.Fn.{FnReturnsAt};
-ghost use Rattle.half_store.specs.Slots.{slots_by};
 ghost use Rattle.half_store.specs.Search.{CallableOnHash, ReturnsAt};
 ghost use Rattle.half_store.specs.Table.{table_state, IsIndexed, TableSearch};
 
@@ -23,7 +22,7 @@ pub(super) fn find_in<P: Buckets, K, F: Fn(&K) -> bool>(
     requires keys { length (P.hashes buckets.now) ≤ length keys.now }
     requires callable { CallableOnHash (F.pre matches.now) (P.hashes buckets.now) hash keys.now }
     ensures finds { TableSearch (ReturnsAt (FnReturnsAt F.Fn matches.now) keys.now)
-        (table_state (P.hashes buckets.now) (slots_by (P.hashes buckets.now) (P.words buckets.now)))
+        (table_state (P.hashes buckets.now) (P.words buckets.now))
         hash result tally.old tally.new }
     ensures word { IfOk result (λ pair. slice_index (P.words buckets.now) pair.1 ≡ pair.0 + 1) }
 {

@@ -7,7 +7,7 @@ use Rattle.std.specs.Map.{keys_of}
 use Rattle.half_store.specs.declared.store.find.Vacancy.{Vacancy}
 use Rattle.half_store.specs.declared.vecmap.search.Scan.{Scan}
 use Rattle.half_store.specs.Columns.{ColumnsState}
-use Rattle.half_store.specs.Reach.{reach}
+use Rattle.half_store.specs.Reach.{reach, filling_reach}
 use Rattle.half_store.specs.Search.{ReturnsAt, IsFirstMatch, StoreSearch, ComparesInOrder, IsStoreSearchCost}
 use Rattle.half_store.specs.Store.{StoreState, IsTableOver, vector_of, table_of}
 use Rattle.half_store.specs.Table.{TableState, TableSearch}
@@ -34,6 +34,8 @@ module _ {K V : Type 0} (columns : ColumnsState K V) {keys : List K} (same : key
       (record {
         vector = λ form. subst (λ n. ComparesInOrder scan found n old new) (ap length same ∙ length-keys_of columns.pairs) work;
         found = λ form. absurd (true≢false form);
+        hit = λ form. absurd (true≢false form);
+        hits = λ form. absurd (true≢false form);
         missing = λ form. absurd (true≢false form);
         short = λ form. absurd (true≢false form);
       })
@@ -87,6 +89,8 @@ module _ {K V : Type 0} (columns : ColumnsState K V) {keys : List K} (same : key
           (record {
             vector = λ form. absurd (true≢false (sym form));
             found = λ form. subst (λ b. IsTableHitCost t.hashes b hash old new) e.buckets e.found_cost;
+            hit = λ form. e.hit;
+            hits = λ form. e.hits ∙ ap (λ b. filling_reach b t.hashes) e.buckets;
             missing = λ form. tt;
             short = λ form. subst (λ b. reach t.hashes b hash ≤ length t.hashes + 1) e.buckets e.short;
           })
@@ -98,6 +102,8 @@ module _ {K V : Type 0} (columns : ColumnsState K V) {keys : List K} (same : key
           (record {
             vector = λ form. absurd (true≢false (sym form));
             found = λ form. tt;
+            hit = λ form. tt;
+            hits = λ form. e.hits ∙ ap (λ b. filling_reach b t.hashes) e.buckets;
             missing = λ form. subst (λ b. new ≡ after_missing t.hashes b hash old) e.buckets e.missing_cost;
             short = λ form. subst (λ b. reach t.hashes b hash ≤ length t.hashes + 1) e.buckets e.short;
           })

@@ -7,12 +7,13 @@ use Rattle.std.specs.Prelude.{Result, Ok, Err, IfOk, IfErr, OnOk, OnErr}
 use Rattle.std.proofs.lemmas.List.Sums.{count_by-le-length}
 use Rattle.std.proofs.lemmas.Option.{slice_get_within, get_or_from_slice_get}
 use Rattle.half_store.specs.Slots.{slots_by, slot_at, stored, IsVacancyFor, EndsAtPair, distance_from_home}
-use Rattle.half_store.specs.Reach.{probe_distance, reach}
-use Rattle.half_store.specs.Work.{after_missing, looked_more, LooksWithin, removal_reads, Work}
-use Rattle.half_store.specs.Table.{TableState, table_state, IsIndexed, TableSearch, RemovesFromTable}
+use Rattle.half_store.specs.Reach.{probe_distance, reach, HomesApart}
+use Rattle.half_store.specs.Work.{after_missing, looked_more, LooksWithin, removal_reads, Work, probe_reads}
+use Rattle.half_store.specs.Table.{TableState, table_state, table_contents, IsIndexed, TableSearch, RemovesFromTable, hit_reads}
 use Rattle.half_store.proofs.lemmas.table.Buckets.{length-slots_by, slot_of_word, slot_of_zero, some_bucket}
 use Rattle.half_store.proofs.lemmas.table.Circle.{distance_self}
 use Rattle.half_store.proofs.lemmas.capacity.{buckets_of-capacity_of, capacity_for-capacity_of}
+use Rattle.half_store.proofs.lemmas.table.Hits.{hit_reads-at, hits_add_up}
 use Rattle.half_store.proofs.lemmas.table.Layout.{index-counted, index-vacant, at_home, buckets_seen, view_lent, count_seen, IsIndexed-as}
 use Rattle.half_store.proofs.lemmas.table.Slots.{full_from, full-lt}
 use Rattle.half_store.proofs.lemmas.table.Probe.{reach_at_vacancy, reach_past_pair, reach_short}
@@ -40,13 +41,22 @@ module _ {hashes words : List ℕ} (x : IsIndexed hashes words) (hash : ℕ) whe
       subst P entry (each b.0 (slot_of_word hashes words b.0 index within b.2 ∙ ap Some (get_or_from_slice_get hashes index hash 0 is)))
 
   -- no probe reads more buckets than one past the held pairs
-  short : reach hashes (length slots) hash ≤ length hashes + 1
+  short : reach hashes (length words) hash ≤ length hashes + 1
   short = grind (arith, common_steps, index-counted, index-vacant, length-slots_by, reach-none, reach_short)
+
+  -- a search that found this entry index
+  looked_hit : (index p old new : ℕ) → EndsAtPair hashes words hash index p old new
+      → new ≡ old + hit_reads (table_contents (table_state hashes words)) index
+  looked_hit index p old new ends =
+      let some : slice_index words p ≢ 0 = λ none. full_from _ hash ends.found.found (slot_of_zero hashes words p none) in
+      let at : slice_get hashes index ≡ Some hash = ap (slice_get hashes) ends.entry ∙ index_at p ends.found.found in
+      ends.looked ∙ ap (λ n. old + n) (ap (λ m. probe_reads m hash p) (length-slots_by hashes words)
+      ∙ sym (hit_reads-at x index p hash (omega (arith, ends.entry)) (get_or_from_slice_get hashes index hash 0 at)))
 
   -- a search where there are no buckets
   pub finds_none : (returns : ℕ → Bool → Type 0) (w : Work) → length words ≡ 0
-      → TableSearch returns (table_state hashes slots) hash (Err 0) w w
-  finds_none returns w none = grind (arith, common_steps, buckets_seen, count_by-le-length, length-slots_by, reach-none, same_work, short, slice_get_within)
+      → TableSearch returns (table_state hashes words) hash (Err 0) w w
+  finds_none returns w none = grind (arith, common_steps, hits_add_up, buckets_seen, count_by-le-length, reach-none, same_work, short, slice_get_within)
 
   -- the word of the bucket where a search ends leads to its pair
   pub word_found : (result : Result (ℕ × ℕ) ℕ) (old new : ℕ) → IfOk result (λ found. EndsAtPair hashes words hash found.0 found.1 old new)
@@ -64,11 +74,13 @@ module _ {hashes words : List ℕ} (x : IsIndexed hashes words) (hash : ℕ) whe
       → new.asked ≡ old.asked → IfErr result (λ p. new.looked ≡ old.looked + (distance_from_home slots hash p + 1))
       → OnOk result (old.compared + 1 ≤ new.compared) → new.compared ≤ old.compared + held
       → OnErr result (new.compared ≡ old.compared + held)
-      → TableSearch returns (table_state hashes slots) hash result old new
+      → TableSearch returns (table_state hashes words) hash result old new
   finds returns (Ok (index, p)) old new ends accepted vacancy refused asked looked some most all =
+      let size = length-slots_by hashes words in
       let in_p : p < length slots = full-lt slots p (full_from _ hash ends.found.found) in
-      let vacant = index-vacant x (omega (arith, length-slots_by hashes words)) in
-      let far = reach_past_pair slots x.ordered hashes (index-counted x) hash p ends.found.found vacant in
+      let vacant = index-vacant x (omega arith) in
+      let far = subst (λ n. distance_from_home slots hash p + 2 ≤ reach hashes n hash) size
+      (reach_past_pair slots x.ordered hashes (index-counted x) hash p ends.found.found vacant) in
       let same = index-counted x (λ h. h == hash) in
       let read = ends.looked in
       record {
@@ -86,15 +98,18 @@ module _ {hashes words : List ℕ} (x : IsIndexed hashes words) (hash : ℕ) whe
           looked_most = omega arith;
           looked_once = λ apart.
               let none : distance_from_home slots hash p ≡ 0 =
-              ap (λ b. probe_distance (length slots) b p) (at_home x apart vacant p hash ends.found.found)
+              ap (λ b. probe_distance (length slots) b p) (at_home x (subst (HomesApart hashes) (sym size) apart) vacant p hash ends.found.found)
               ∙ distance_self (length slots) p in_p in
               omega arith;
         };
+        hit = looked_hit index p old.looked new.looked ends;
+        hits = hits_add_up x;
         short = short;
         buckets = buckets_seen hashes words x refl;
       }
   finds returns (Err bucket) old new ends accepted vacancy refused asked looked some most all =
-      let read = reach_at_vacancy slots x.ordered hashes (index-counted x) hash bucket vacancy in
+      let read = ap (λ n. reach hashes n hash) (sym (length-slots_by hashes words))
+      ∙ reach_at_vacancy slots x.ordered hashes (index-counted x) hash bucket vacancy in
       let same = index-counted x (λ h. h == hash) in
       record {
         found = tt;
@@ -102,16 +117,18 @@ module _ {hashes words : List ℕ} (x : IsIndexed hashes words) (hash : ℕ) whe
         accepted = tt;
         refused = each_index (λ index. returns index false) refused;
         vacancy = λ buckets. vacancy;
-        missing_cost = same_work new (after_missing hashes (length slots) hash old) asked (omega arith) (omega arith);
+        missing_cost = same_work new (after_missing hashes (length words) hash old) asked (omega arith) (omega arith);
         found_cost = tt;
+        hit = tt;
+        hits = hits_add_up x;
         short = short;
         buckets = buckets_seen hashes words x refl;
       }
 
 -- What was told of columns that are lent, in the words of callers.
-module _ {hs ws hashes words : List ℕ} {t : TableState} (view : table_state hs (slots_by hs ws) ≡ t) (h : hashes ≡ hs) (w : ws ≡ words) {hash : ℕ} where
+module _ {hs ws hashes words : List ℕ} {t : TableState} (view : table_state hs ws ≡ t) (h : hashes ≡ hs) (w : ws ≡ words) {hash : ℕ} where
   pub search_seen : {returns : ℕ → Bool → Type 0} {result : Result (ℕ × ℕ) ℕ} {old new : Work}
-      → TableSearch returns (table_state hashes (slots_by hashes words)) hash result old new → TableSearch returns t hash result old new
+      → TableSearch returns (table_state hashes words) hash result old new → TableSearch returns t hash result old new
   search_seen {returns} {result} {old} {new} told = subst (λ t. TableSearch returns t hash result old new) (view_lent view h w) told
 
   pub probe_seen : IsIndexed hs ws → {p : ℕ} (old new : Work) → IsVacancyFor (slots_by hashes words) hash p
@@ -119,13 +136,14 @@ module _ {hs ws hashes words : List ℕ} {t : TableState} (view : table_state hs
   probe_seen x {p} old new vacant cost =
       let lent = IsIndexed-as h (sym w) x in
       subst (λ (t : TableState). new ≡ looked_more old (reach t.hashes t.buckets hash)) (view_lent view h w)
-      (cost ∙ ap (looked_more old) (sym (reach_at_vacancy (slots_by hashes words) lent.ordered hashes (index-counted lent) hash p vacant)))
+      (cost ∙ ap (looked_more old) (sym (reach_at_vacancy (slots_by hashes words) lent.ordered hashes (index-counted lent) hash p vacant)
+      ∙ ap (λ n. reach hashes n hash) (length-slots_by hashes words)))
 
 -- A search that removes what it finds, in the words of callers.
-module _ (hashes words hashes' words' : List ℕ) {t : TableState} (view : table_state hashes (slots_by hashes words) ≡ t) where
+module _ (hashes words hashes' words' : List ℕ) {t : TableState} (view : table_state hashes words ≡ t) where
   pub taken_removes : (hash : ℕ) (result : Result (ℕ × ℕ) ℕ) → length words' ≡ length words
       → IfOk result (λ pair. slice_get t.hashes pair.0 ≡ Some hash) → IfOk result (λ pair. hashes' ≡ swap_remove hashes pair.0 0)
-      → IfOk result (λ pair. RemovesFromTable t pair.0 (table_state hashes' (slots_by hashes' words')) hash)
+      → IfOk result (λ pair. RemovesFromTable t pair.0 (table_state hashes' words') hash)
   taken_removes hash result len found left = grind (arith, common_steps)
 
   pub taken_cost : (old new : Work) (result : Result (ℕ × ℕ) ℕ)
@@ -135,9 +153,9 @@ module _ (hashes words hashes' words' : List ℕ) {t : TableState} (view : table
 
   pub taken_none : (old new : Work) (result : Result (ℕ × ℕ) ℕ)
       → OnErr result ((hashes' ≡ hashes) × (words' ≡ words) × (new ≡ old))
-      → OnErr result ((table_state hashes' (slots_by hashes' words') ≡ t) × (new ≡ old))
+      → OnErr result ((table_state hashes' words' ≡ t) × (new ≡ old))
   taken_none old new (Ok pair) same = tt
-  taken_none old new (Err bucket) (kept, also, unread) = ((λ i. table_state (kept i) (slots_by (kept i) (also i))) ∙ view, unread)
+  taken_none old new (Err bucket) (kept, also, unread) = ((λ i. table_state (kept i) (also i)) ∙ view, unread)
 
 -- what the proofs of `Table` go by
 pub ruleset table_steps = (common_steps, IsIndexed-as, buckets_of-capacity_of, buckets_seen, capacity_for-capacity_of, count_seen, index-vacant, view_lent)

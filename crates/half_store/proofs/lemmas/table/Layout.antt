@@ -28,7 +28,7 @@ use Rattle.half_store.proofs.lemmas.table.Slots.{slot_cases, slot_set, slot_othe
 use Rattle.half_store.proofs.lemmas.table.Slots.{vacancy_for}
 
 -- a pair that is added where its probe ended keeps the probe invariant
-ordered-add : (slots : List (Option ℕ)) (p h : ℕ) → IsVacancyFor slots h p → ProbeInvariant slots → ProbeInvariant (set slots p (Some h))
+pub ordered-add : (slots : List (Option ℕ)) (p h : ℕ) → IsVacancyFor slots h p → ProbeInvariant slots → ProbeInvariant (set slots p (Some h))
 ordered-add slots p h w o = grind (arith, common_steps, distance_same, full_from, home-lt, length-set, same_Some, set, slot_other, slot_set)
 
 -- what `swap_remove` leaves, entry index by entry index
@@ -282,15 +282,15 @@ pub IsTable-as : {hashes words hashes' words' : List ℕ} {most most' capacity :
 IsTable-as h w m x sized exact = grind (arith, common_steps)
 
 -- the columns of a table, as they are lent, are its value
-pub view_lent : {hashes hs words ws : List ℕ} {t : TableState} → table_state hs (slots_by hs ws) ≡ t → hashes ≡ hs → ws ≡ words
-    → table_state hashes (slots_by hashes words) ≡ t
-view_lent view h w = (λ i. table_state (h i) (slots_by (h i) (sym w i))) ∙ view
+pub view_lent : {hashes hs words ws : List ℕ} {t : TableState} → table_state hs ws ≡ t → hashes ≡ hs → ws ≡ words
+    → table_state hashes words ≡ t
+view_lent view h w = (λ i. table_state (h i) (sym w i)) ∙ view
 
 -- a table has as many buckets as words, and they are those of its capacity
-pub count_seen : (hashes words : List ℕ) {t : TableState} → table_state hashes (slots_by hashes words) ≡ t → length words ≡ t.buckets
-count_seen hashes words view = sym (length-slots_by hashes words) ∙ ap (λ v. v.buckets) view
+pub count_seen : (hashes words : List ℕ) {t : TableState} → table_state hashes words ≡ t → length words ≡ t.buckets
+count_seen hashes words view = ap (λ v. v.buckets) view
 
-pub buckets_seen : (hashes words : List ℕ) {t : TableState} → IsIndexed hashes words → table_state hashes (slots_by hashes words) ≡ t
+pub buckets_seen : (hashes words : List ℕ) {t : TableState} → IsIndexed hashes words → table_state hashes words ≡ t
     → t.buckets ≡ buckets_of (capacity_of t.buckets)
 buckets_seen hashes words x view = grind (arith, common_steps, buckets_of-capacity_of, count_seen)
 

@@ -90,14 +90,14 @@ module _ (slots : List (Option ℕ)) (ordered : ProbeInvariant slots) where
       ∙ sym (count_by-count_to (stored (λ held. held == hash)) slots None)
 
   module _ (hashes : List ℕ) (counted : SameCounts hashes slots) where
-    loaded_where_full : (b : ℕ) → slot_at slots b ≢ None → SomeVacant slots → is_loaded hashes (m slots) b ≡ true
+    pub loaded_where_full : (b : ℕ) → slot_at slots b ≢ None → SomeVacant slots → is_loaded hashes (m slots) b ≡ true
     unfolding load
     loaded_where_full b full v =
         let l = full_loaded slots ordered b (full-lt slots b full) full v in
         is_loaded-yes hashes (m slots) b
         (l.0, l.1, l.2, rw (counted (λ hash. nat_lt (probe_distance (m slots) (home (m slots) hash) b) l.0)) l.3)
 
-    unloaded_where_vacant : (b : ℕ) → b < (m slots) → slot_at slots b ≡ None → is_loaded hashes (m slots) b ≡ false
+    pub unloaded_where_vacant : (b : ℕ) → b < (m slots) → slot_at slots b ≡ None → is_loaded hashes (m slots) b ≡ false
     unfolding load
     unloaded_where_vacant b in_b none =
         is_loaded-no hashes (m slots) b

@@ -1,10 +1,12 @@
 -- What was spent at one time and at another is spent in all: what a search for a key spent, and what a granted insertion.
-use Rattle.std.proofs.Common.{◌≡◌, ℕ, Bool, sym, subst, arith, zero-add, add-zero, add_assoc, true, false, ◌<◌}
+use Rattle.std.proofs.Common.{◌≡◌, ◌∙◌, ◌+◌, ◌==◌, ◌&&◌, ℕ, Bool, ap, IfSome, sym, subst, arith, zero-add, add-zero, add_assoc, true, false, ◌<◌}
 use Rattle.std.proofs.Common.{length, if◌then◌else◌}
 use Rattle.std.proofs.lemmas.Grind.{common_steps}
 use Rattle.half_store.specs.Work.{Work, asked_more, looked_more}
 use Rattle.halfbrown.specs.Costs.{Cost, GrewBy, no_cost, add_costs, IsLookupCost, IsKeySearchCost, switch_asked, capacity_after_switch}
-use Rattle.halfbrown.specs.Costs.{IsInsertCost, raw_insert_cost}
+use Rattle.halfbrown.specs.Costs.{IsInsertCost, raw_insert_cost, hit_looks}
+use Rattle.half_store.specs.PairLists.{index_of}
+use Rattle.std.specs.Map.{keys_of}
 use Rattle.halfbrown.specs.State.{State}
 use Rattle.halfbrown.specs.Growth.{is_full, is_vec_after, new_key_needs}
 use Rattle.halfbrown.specs.Pairs.{holds}
@@ -38,8 +40,17 @@ module _ {K V S : Type 0} (limit : ℕ) (eq : K → K → Bool) (hash : S → K 
     (capacity : middle.capacity ≡ capacity_after_switch limit old)
     (pairs : middle.pairs ≡ old.pairs) (builder : middle.builder ≡ old.builder)
     (spent : between ≡ asked_more (switch_asked limit old) before) (search : IsKeySearchCost eq hash middle k between after) where
-  pub held_costs : holds eq old.pairs k ≡ true → IsInsertCost limit eq hash old k true before after
-  held_costs held = grind (arith, common_steps, found_where_held (eq k) old.pairs)
+  -- what a search in a table read that finds its key
+  hit-read : (is_full limit old ≡ false → middle ≡ old) → old.is_vec ≡ false
+      → IfSome (index_of (eq k) (keys_of old.pairs)) (λ index. after.looked ≡ before.looked + hit_looks old index)
+  hit-read same table =
+      let is : middle ≡ old = same (ap (λ v. v && (length old.pairs == limit)) table) in
+      let read = search.hit (ap (λ (m : State K V S). m.is_vec) is ∙ table) in
+      subst (λ n. IfSome (index_of (eq k) (keys_of old.pairs)) (λ index. after.looked ≡ n + hit_looks old index)) (ap (λ (w : Work). w.looked) spent)
+      (subst (λ (m : State K V S). IfSome (index_of (eq k) (keys_of m.pairs)) (λ index. after.looked ≡ between.looked + hit_looks m index)) is read)
+
+  pub held_costs : (is_full limit old ≡ false → middle ≡ old) → holds eq old.pairs k ≡ true → IsInsertCost limit eq hash old k true before after
+  held_costs same held = grind (arith, common_steps, hit-read, found_where_held (eq k) old.pairs)
 
   -- where capacity for a new key was refused
   pub unmade_costs : is_full limit old ≡ false → IsInsertCost limit eq hash old k false before after
@@ -48,7 +59,7 @@ module _ {K V S : Type 0} (limit : ℕ) (eq : K → K → Bool) (hash : S → K 
   pub missing_costs : (sought : ℕ) → (middle.is_vec ≡ false → sought ≡ hash middle.builder k) → (final : Work)
       → final ≡ looked_more after (growth_looks (hash middle.builder) middle sought true) → holds eq old.pairs k ≡ false
       → IsInsertCost limit eq hash old k true before final
-  missing_costs sought own final probed missing = grind (arith, common_steps)
+  missing_costs sought own final probed missing = grind (arith, common_steps, found_where_held (eq k) old.pairs)
 
 pub raw_costs : {K V S : Type 0} (limit : ℕ) (eq : K → K → Bool) (hash : S → K → ℕ) (old m : State K V S) (k : K)
     → Prepares limit old (new_key_needs limit old) m → length m.pairs < m.capacity

@@ -4,14 +4,14 @@ use Rattle.std.proofs.Common.{IfNone, IfSome, arith, ◌<◌, get_or, slice_get}
 use Rattle.std.proofs.lemmas.Grind.{common_steps}
 use Rattle.std.proofs.lemmas.Map.Entries.{length-keys_of}
 use Rattle.std.specs.Map.{keys_of}
-use Rattle.half_store.specs.Reach.{reach}
+use Rattle.half_store.specs.Reach.{reach, filling_reach}
 use Rattle.half_store.specs.Capacity.{buckets_of}
 use Rattle.half_store.specs.Work.{IsTableHitCost, after_missing, Work}
 use Rattle.halfbrown.specs.Costs.{IsSearchCost}
-use Rattle.halfbrown.specs.State.{State}
+use Rattle.halfbrown.specs.State.{State, contents_of}
 use Rattle.std.proofs.Props.{props}
 use Rattle.half_store.specs.Store.{IsVacancy, StoreState}
-use Rattle.half_store.specs.Table.{Contents}
+use Rattle.half_store.specs.Table.{Contents, hit_reads, all_hit_reads}
 use Rattle.half_store.specs.declared.store.find.Vacancy.{Vacancy}
 use Rattle.half_store.specs.declared.vecmap.search.Scan.{Scan}
 use Rattle.std.proofs.lemmas.Option.{same_Some, slice_get-get_or, slice_get-map}
@@ -31,8 +31,10 @@ module _ {K V S : Type 0} (hash : S → K → ℕ) (sought : ℕ) (m : State K V
       → (is_vec ≡ true → ComparesInOrder scan index (length m.pairs) before after)
       → (is_vec ≡ false → IfSome index (λ _. IsTableHitCost hashes (buckets_of m.capacity) sought before after))
       → (is_vec ≡ false → IfNone index (after ≡ after_missing hashes (buckets_of m.capacity) sought before))
+      → (is_vec ≡ false → IfSome index (λ at. after.looked ≡ before.looked + hit_reads (contents_of m) at))
+      → (is_vec ≡ false → all_hit_reads (length hashes) (contents_of m) ≡ filling_reach (buckets_of m.capacity) hashes)
       → (is_vec ≡ false → reach hashes (buckets_of m.capacity) sought ≤ length hashes + 1) → IsSearchCost hash sought m index 0 before after
-  match_costs is_vec form scan index hashes is_map vector found missing near = grind (arith, common_steps)
+  match_costs is_vec form scan index hashes is_map vector found missing hit hits near = grind (arith, common_steps, length-keys_of)
 
 module _ {K V S : Type 0} (hash : S → K → ℕ) (sought own : ℕ) (m : State K V S) (before after : Work) (index : Option ℕ) where
   -- the costs under one hash are those under another that is the same in a table

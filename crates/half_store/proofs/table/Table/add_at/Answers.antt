@@ -1,10 +1,10 @@
-use Rattle.std.proofs.Common.{◌≡◌, ◌+◌, ◌<◌, ◌∙◌, [], suc, length, set, Some, sym, ap, subst, arith}
+use Rattle.std.proofs.Common.{◌≡◌, ◌+◌, ◌<◌, ◌∙◌, suc, length, set, sym, ap, subst, arith}
 use Rattle.std.proofs.lemmas.List.{length-set}
-use Rattle.half_store.specs.Slots.{slots_by, IsVacancyFor}
+use Rattle.half_store.specs.Slots.{IsVacancyFor}
 use Rattle.half_store.specs.Capacity.{capacity_of}
-use Rattle.half_store.specs.Table.{slots_of, table_contents, table_state}
+use Rattle.half_store.specs.Table.{slots_of, table_contents, table_state, with_hash_in}
 use Rattle.half_store.specs.Words.{words_of, AreWordsFor}
-use Rattle.half_store.proofs.lemmas.table.Layout.{IsIndexed-add, IsTable-as, count_seen, slots-add}
+use Rattle.half_store.proofs.lemmas.table.Layout.{IsIndexed-add, IsTable-as, count_seen}
 use Rattle.half_store.proofs.table.Table.add_at.Goals as goal
 
 pub invariant_of-self : goal.invariant_of-self
@@ -27,14 +27,11 @@ invariant_of-self c =
 pub returns-clause-contents : goal.returns-clause-contents
 returns-clause-contents c =
     let t = c.self.inside in
-    let hs = t.hashes.items in
     let words = words_of t.buckets in
     let hash = c.args.hash in
     let bucket = c.args.bucket in
-    let w = subst (λ s. IsVacancyFor s hash bucket) (sym (ap slots_of c.self.view_is)) c.requires.vacancy in
-    let index : c.len-word.result + 1 ≡ suc (length hs) =
+    let index : c.len-word.result + 1 ≡ suc (length t.hashes.items) =
     omega (arith, ap (λ v. length v.hashes) c.self.view_is, c.len-word.ensures.value) in
     let written = c.set_word.ensures.words ∙ ap (set words bucket) index in
-    ap (λ slots. table_contents (table_state [] slots))
-    ((λ i. slots_by (c.push_reserved.ensures.items i) (written i)) ∙ slots-add c.self.invariant.indexed bucket hash w
-    ∙ ap (λ slots. set slots bucket (Some hash)) (ap slots_of c.self.view_is))
+    (λ i. table_contents (table_state (c.push_reserved.ensures.items i) (written i)))
+    ∙ ap (λ v. with_hash_in (table_contents v) hash bucket) c.self.view_is

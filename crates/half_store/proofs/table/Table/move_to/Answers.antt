@@ -2,7 +2,6 @@ use Rattle.std.proofs.Common.{◌≡◌, ◌∙◌, ℕ, List, length, replicate
 use Rattle.std.proofs.lemmas.Grind.{common_steps}
 use Rattle.std.proofs.lemmas.List.{get_or-replicate, length-replicate, same_lists}
 use Rattle.half_store.specs.Slots.{EachOnce}
-use Rattle.half_store.proofs.lemmas.table.Buckets.{length-slots_by}
 use Rattle.half_store.proofs.lemmas.table.Layout.{count_seen}
 use Rattle.half_store.proofs.table.Table.move_to.Goals as goal
 
@@ -13,4 +12,4 @@ pub rehash-requires-clause-empty : goal.rehash-requires-clause-empty
 rehash-requires-clause-empty c = grind (arith, common_steps, all_empty)
 
 pub returns-clause-buckets : goal.returns-clause-buckets
-returns-clause-buckets c = length-slots_by _ _ ∙ c.rehash.ensures.len ∙ count_seen _ _ c.fresh.view_is
+returns-clause-buckets c = c.rehash.ensures.len ∙ count_seen _ _ c.fresh.view_is

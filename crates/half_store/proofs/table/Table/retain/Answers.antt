@@ -2,7 +2,6 @@ use Rattle.std.proofs.Common.{◌≡◌, ℕ, ◌≤◌, List, ◌++◌, length,
 use Rattle.std.proofs.lemmas.List.{take_at, take_all, length-replicate}
 use Rattle.half_store.specs.Capacity.{capacity_of, IsBucketCount}
 use Rattle.half_store.specs.Words.{AreWordsFor, words_of, most_of}
-use Rattle.half_store.proofs.lemmas.table.Buckets.{length-slots_by}
 use Rattle.half_store.proofs.lemmas.table.Layout.{IsTable-as, count_seen}
 use Rattle.half_store.proofs.table.Table.retain.Given as given
 use Rattle.half_store.proofs.table.Table.retain.Goals as goal
@@ -37,7 +36,7 @@ returns-then-len g c =
           ∙ sym (take_all (length c.retain.new.self.pairs) c.retain.new.hashes (omega (arith, all g c, ap length (same g c))))
           ∙ e.hashes hash (c.as_mut_slice.ensures.value ∙ ap (λ t. t.hashes) c.self.view_is ∙ each);
       even = ap length (front g c) ∙ sym (all g c);
-      buckets = length-slots_by _ (words_of c.self.inside.buckets) ∙ count_seen _ _ c.self.view_is;
+      buckets = count_seen _ _ c.self.view_is;
     }
 
 as_many : (old new : List ℕ) → new ≡ replicate (length old) 0 → length new ≡ length old
@@ -67,5 +66,5 @@ invariant_of-self-2 g c =
 
 pub returns-clause-buckets : goal.returns-clause-buckets
 returns-clause-buckets g c =
-    length-slots_by _ (words_of c.rehash.new.buckets) ∙ c.rehash.ensures.len
+    c.rehash.ensures.len
     ∙ as_many (words_of c.self.inside.buckets) _ c.clear.ensures.words ∙ count_seen _ _ c.self.view_is

@@ -21,4 +21,4 @@ returns-clause-cost g c =
     (match_costs hashing c.args.hash (state_in store c.self.inside.builder) c.args.tally.now c.find.new.tally store.is_vec
     (λ i. store.is_vec) c.args.scan (result_ok c.find.result) store.hashes
     c.self.invariant.hashed told.cost.vector told.cost.found
-    told.cost.missing told.cost.short)
+    told.cost.missing told.cost.hit told.cost.hits told.cost.short)

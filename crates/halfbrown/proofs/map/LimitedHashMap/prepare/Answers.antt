@@ -1,6 +1,8 @@
 use Rattle.std.proofs.lemmas.Grind.{common_steps}
-use Rattle.std.proofs.Common.{sym, ap, ◌∙◌, arith}
+use Rattle.std.proofs.Common.{◌≡◌, false, sym, ap, ◌∙◌, arith}
 use Rattle.std.proofs.lemmas.Result.{err_from_is_err_and}
+use Rattle.halfbrown.specs.Costs.{IsInsertCost}
+use Rattle.halfbrown.specs.Growth.{is_full}
 use Rattle.halfbrown.specs.Pairs.{holds}
 use Rattle.halfbrown.proofs.lemmas.map.Costs.{key_costs, held_costs, missing_costs, unmade_costs}
 use Rattle.halfbrown.proofs.lemmas.map.Growth.{switched_capacity}
@@ -15,6 +17,7 @@ returns-in-Ok-clause-cost g c =
     held_costs g.L.Limit.LIMIT eq g.S.KeyHasher.hash c.args.self.now c.args.key.now
     c.switch_if_full.new.self c.args.tally.now c.switch_if_full.new.tally c.find.new.tally
     switched.form (switched_capacity _ _ _ switched) switched.pairs switched.builder c.in_ok-switch_if_full.ensures.work searched
+    c.in_ok-switch_if_full.ensures.same
     (ap (λ ps. holds eq ps c.args.key.now) (sym switched.pairs) ∙ c.in-Ok.ensures.found.held)
 
 pub returns-in_ok-make_capacity_keeping-in-Err-clause-cost : goal.returns-in_ok-make_capacity_keeping-in-Err-clause-cost
@@ -33,4 +36,16 @@ returns-in_ok-make_capacity_keeping-in-Err-clause-cost g c =
     (ap (λ ps. holds eq ps key) (sym switched.pairs) ∙ missing.found.0.held)
 
 pub returns-in_err-make_capacity_keeping-in-Err-clause-cost : goal.returns-in_err-make_capacity_keeping-in-Err-clause-cost
-returns-in_err-make_capacity_keeping-in-Err-clause-cost g c = grind (arith, common_steps, err_from_is_err_and, key_costs, unmade_costs, switched_capacity, g.met.S.KeyHasher.hash_is)
+returns-in_err-make_capacity_keeping-in-Err-clause-cost g c =
+    let eq = g.K.PartialEq.eq in
+    let key = c.args.key.now in
+    let switched = c.in_ok-switch_if_full.ensures.prepares.ok in
+    let missing = c.in-Err.ensures in
+    let law = g.met.S.KeyHasher.hash_is c.switch_if_full.new.self.builder key in
+    let searched = key_costs eq g.S.KeyHasher.hash c.switch_if_full.new.self key _ _ _ law missing.cost in
+    let unmade : is_full g.L.Limit.LIMIT c.args.self.now ≡ false
+    → IsInsertCost g.L.Limit.LIMIT eq g.S.KeyHasher.hash c.args.self.now key false c.args.tally.now c.find.new.tally = λ room.
+    unmade_costs g.L.Limit.LIMIT eq g.S.KeyHasher.hash c.args.self.now key
+    c.switch_if_full.new.self c.args.tally.now c.switch_if_full.new.tally c.find.new.tally
+    switched.form (switched_capacity _ _ _ switched) switched.pairs switched.builder c.in_ok-switch_if_full.ensures.work searched room in
+    grind (arith, common_steps, err_from_is_err_and, unmade)

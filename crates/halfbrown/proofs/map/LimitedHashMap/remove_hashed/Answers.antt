@@ -37,7 +37,7 @@ returns g c =
     ∙ ap (g.S.KeyHasher.hash_writes builder) (sym (g.met.Q.Equivalent.hashes_alike c.args.key k passes)))
     told.search (matches_of _ hashing c.args.hash store builder c.self.invariant.hashed told.search told.finds) in
     let spent = match_costs hashing c.args.hash was c.args.tally.now c.take.new.tally store.is_vec (λ i. store.is_vec)
-    ByKey (result_ok told.search) store.hashes c.self.invariant.hashed told.cost.vector told.cost.found told.cost.missing told.cost.short in
+    ByKey (result_ok told.search) store.hashes c.self.invariant.hashed told.cost.vector told.cost.found told.cost.missing told.cost.hit told.cost.hits told.cost.short in
     let removes = subst (λ (m : State g.row.K.Denot g.row.V.Denot g.row.S.Denot). Removes g.L.Limit.LIMIT g.K.PartialEq.eq test m
     (lookup_entry test m.pairs) c.take.result (state_in c.take.new.self builder)) c.self.view_is
     (removes_found g.L.Limit.LIMIT g.K.PartialEq.eq g.met.K.Eq.laws (hashing builder) builder store c.take.new.self c.self.invariant test

@@ -1,0 +1,74 @@
+-- What searches read that find their keys.
+use Rattle.std.proofs.Common.{◌≡◌, ℕ, ◌+◌, ◌<◌, Bool, false, List, length, map, IfSome, sym, ◌∙◌, subst, arith}
+use Rattle.std.proofs.lemmas.List.Sorted.{sum_by-IsPermutation, length_permutation, IsPermutation-map}
+use Rattle.std.proofs.lemmas.Map.Entries.{length-keys_of}
+use Rattle.std.proofs.Math.ListN.{length-map}
+use Rattle.std.specs.Map.{keys_of}
+use Rattle.half_store.specs.Capacity.{buckets_of}
+use Rattle.half_store.specs.Table.{all_hit_reads}
+use Rattle.half_store.proofs.lemmas.capacity.{four-le_count}
+use Rattle.half_store.proofs.lemmas.table.Counts.{tick}
+use Rattle.half_store.proofs.lemmas.table.Filled.{IsTableOf, slots_with, table_of, filled}
+use Rattle.half_store.proofs.lemmas.table.Hits.{same_reads}
+use Rattle.half_mean.specs.Mean.{total_filling}
+use Rattle.half_mean.proofs.lemmas.Filling.{filling_capacity_law, filling_half_full_law}
+use Rattle.half_mean.proofs.lemmas.Means.{bucket_share}
+use Rattle.halfbrown.specs.Costs.{hit_looks, filling_looks}
+use Rattle.halfbrown.specs.State.{State, IsState}
+use Rattle.half_laws.specs.HitLaws.{HitLaw, HitTotalLaw, HitHistoryLaw, FillingOrderLaw, HalfFullHitLaw, CapacityHitLaw}
+use Rattle.half_laws.specs.MapLaws.{HoldSamePairs}
+use Rattle.half_laws.proofs.lemmas.means.{table_count}
+
+pub filling_order : FillingOrderLaw
+filling_order m some others few p =
+    let long : length others ≡ length some = length_permutation some others p in
+    let s = table_of m some (omega arith) in
+    let o = table_of m others (omega arith) in
+    let moved : IsTableOf m some (slots_with m others) = record {
+      long = o.long;
+      ordered = o.ordered;
+      counted = λ test. sym (sum_by-IsPermutation (λ x. tick (test x)) some others p) ∙ o.counted test;
+    } in
+    sym (filled m some (omega arith)) ∙ same_reads m some (slots_with m some) (slots_with m others) s moved few
+    ∙ filled m others (omega arith)
+
+module _ {K : Type 0} (V : Type 0) {S : Type 0} (hash : S → K → ℕ) where
+  pub hit_law : HitLaw V hash
+  hit_law m test sought asked index before after table found cost =
+      subst (λ o. IfSome o (λ at. after.looked ≡ before.looked + hit_looks m at)) found (cost.hit table)
+
+  pub hit_total_law : HitTotalLaw V hash
+  unfolding all_hit_reads
+  hit_total_law m sought asked found before after table cost = cost.hits table
+
+  -- fillings with the same pairs in another order
+  filling-same : (limit : ℕ) (eq : K → K → Bool) (a b : State K V S) → HoldSamePairs a b → IsState eq limit a → a.is_vec ≡ false
+      → filling_looks (hash a.builder) a.capacity a.pairs ≡ filling_looks (hash b.builder) b.capacity b.pairs
+  filling-same limit eq a b same is table =
+      let hashes : List ℕ = map (hash a.builder) (keys_of a.pairs) in
+      let count = table_count a.capacity (is.table_capacity table) in
+      let four = four-le_count (buckets_of a.capacity) count.0 (let some = is.table_exceeds table in omega arith) in
+      let fits = is.fits in
+      let few : length hashes < buckets_of a.capacity =
+      omega (arith, length-map (keys_of a.pairs) (hash a.builder), length-keys_of a.pairs, count.1) in
+      filling_order (buckets_of a.capacity) hashes (map (hash a.builder) (keys_of b.pairs)) few
+      (IsPermutation-map (hash a.builder) (keys_of a.pairs) (keys_of b.pairs) (IsPermutation-map (λ (e : K × V). e.0) a.pairs b.pairs same.pairs))
+      ∙ (λ i. filling_looks (hash (same.builder i)) (same.capacity i) b.pairs)
+
+  pub hit_history_law : (limit : ℕ) (eq : K → K → Bool) → HitHistoryLaw V limit eq hash
+  unfolding all_hit_reads
+  hit_history_law limit eq a b sought asked sought' asked' found found' before after before' after' same is table cost cost' =
+      cost.hits table ∙ filling-same limit eq a b same is table ∙ sym (cost'.hits (sym same.form ∙ table))
+
+pub capacity_hit_law : CapacityHitLaw 5 2
+unfolding total_filling
+capacity_hit_law bits capacity held is some fits within =
+    let count = table_count capacity is in
+    filling_capacity_law bits (buckets_of capacity) held (omega arith) count.0 fits (omega arith)
+
+pub half_full_hit_law : HalfFullHitLaw 3 2
+unfolding total_filling
+half_full_hit_law bits capacity held is some fits half =
+    let count = table_count capacity is in
+    let share = bucket_share bits (buckets_of capacity) 0 (omega arith) count.0 fits (omega arith) in
+    rw share.1 (filling_half_full_law share.0 (buckets_of capacity) held (omega arith) half)

@@ -1,0 +1,112 @@
+-- A table that insertions fill, and what searches for its pairs read.
+use Rattle.std.proofs.Common.{◌≡◌, ℕ, ◌-◌, ◌<◌, ◌≤◌, Bool, true, inl, inr, refl, sym, ap, ◌∙◌, subst, arith, List, [], ◌∷◌, length, set, replicate, Option, Some, None}
+use Rattle.std.proofs.lemmas.Bool.{cases_lt}
+use Rattle.std.proofs.lemmas.List.{length-set, length-replicate, get_or-replicate, get_or_past}
+use Rattle.std.proofs.lemmas.List.Folds.{sum_by-replicate}
+use Rattle.std.proofs.lemmas.List.Sums.{sum_by-cons, sum_by-set, count_by-le-length}
+use Rattle.half_store.specs.Reach.{home, probe_distance, bucket_after, reach, filling_reach}
+use Rattle.half_store.specs.Slots.{slot_at, stored, IsVacancyFor, SomeVacant, ProbeInvariant}
+use Rattle.half_store.specs.Work.{probe_reads}
+use Rattle.half_store.proofs.lemmas.table.Circle.{bucket_after-probe_distance}
+use Rattle.half_store.proofs.lemmas.table.Counts.{count_to-le, count_to-all, count_by-count_to, tick}
+use Rattle.half_store.proofs.lemmas.table.Layout.{ordered-add}
+use Rattle.half_store.proofs.lemmas.table.Probe.{SameCounts, reach_at_vacancy}
+use Rattle.half_store.proofs.lemmas.table.Slots.{slot_cases, slot_set, slot_other, full_from, home-lt, first_none, passes_stored, vacancy_for}
+use Rattle.half_store.proofs.lemmas.table.Sums.{below-zero, below-more, of_slot, slot_reads}
+
+-- the bucket where an insertion probe for the hash ends
+unfoldable pub stop : ℕ → List ℕ → ℕ → ℕ
+stop m w h = bucket_after m (home m h) (reach w m h - 1)
+
+-- what the buckets contain after the hashes were added, the last one first
+abbrev pub slots_with : ℕ → List ℕ → List (Option ℕ)
+slots_with m [] = replicate m None
+slots_with m (x ∷ w) = set (slots_with m w) (stop m w x) (Some x)
+
+-- the buckets contain the hashes, in the order that probes need
+pub record IsTableOf (m : ℕ) (w : List ℕ) (slots : List (Option ℕ)) : Type 0 where
+  pub long : length slots ≡ m
+  pub ordered : ProbeInvariant slots
+  pub counted : SameCounts w slots
+
+module _ (w : List ℕ) (slots : List (Option ℕ)) (ordered : ProbeInvariant slots) (counted : SameCounts w slots)
+    (few : length w < length slots) where
+  abbrev m : ℕ
+  m = length slots
+
+  pub some_vacant : SomeVacant slots
+  some_vacant =
+      elim (first_none slots (λ k. k) m) [
+        | inr (k, l, none, before) ↦ (k, l, none)
+        | inl all ↦
+            let any : ℕ → Bool = λ h. true in
+            let full = count_to-le (λ p. true) (λ p. stored any (slot_at slots p)) m (λ p in_p e. elim (slot_cases (slot_at slots p))
+            [ inl z ↦ absurd (all p in_p z) | inr (h, is) ↦ passes_stored slots any (slot_at slots p) h is refl ]) in
+            let held = count_by-le-length any w in
+            absurd (omega (arith, count_to-all m, counted any, count_by-count_to (stored any) slots None))
+      ]
+
+  pub at_stop : (h : ℕ) → IsVacancyFor slots h (stop m w h)
+  unfolding stop
+  at_stop h =
+      let v = vacancy_for slots h some_vacant in
+      let far : reach w m h - 1 ≡ probe_distance m (home m h) v.0 = omega (arith, reach_at_vacancy slots ordered w counted h v.0 v.1) in
+      subst (IsVacancyFor slots h) (sym (ap (bucket_after m (home m h)) far
+      ∙ bucket_after-probe_distance m (home m h) (home-lt m h (omega arith)) v.0 v.1.within)) v.1
+
+  pub stop-reads : (h : ℕ) → probe_reads m h (stop m w h) ≡ reach w m h
+  stop-reads h = sym (reach_at_vacancy slots ordered w counted h (stop m w h) (at_stop h))
+
+counted-add : (w : List ℕ) (slots : List (Option ℕ)) (p x : ℕ) → IsVacancyFor slots x p → SameCounts w slots
+    → SameCounts (x ∷ w) (set slots p (Some x))
+counted-add w slots p x at counted test =
+    let more = sum_by-set (λ o. tick (stored test o)) slots p (Some x) None at.within in
+    let none : tick (stored test (slot_at slots p)) ≡ 0 = rw at.vacant refl in
+    omega (arith, sum_by-cons (λ y. tick (test y)) x w, counted test)
+
+all_vacant : (m b : ℕ) → slot_at (replicate m None) b ≡ None
+all_vacant m b =
+    elim (cases_lt b m) [
+      | inl l ↦ get_or-replicate m b None None l
+      | inr past ↦ get_or_past (replicate m None) b None (omega (arith, length-replicate {A = Option ℕ} m None))
+    ]
+
+module _ (m : ℕ) (w : List ℕ) (t : IsTableOf m w (slots_with m w)) (few : length w < m) (x : ℕ) where
+  at : IsVacancyFor (slots_with m w) x (stop m w x)
+  at = subst (λ n. IsVacancyFor (slots_with m w) x (stop n w x)) t.long
+      (at_stop w (slots_with m w) t.ordered t.counted (subst (λ n. length w < n) (sym t.long) few) x)
+
+  reads : probe_reads m x (stop m w x) ≡ reach w m x
+  reads = subst (λ n. probe_reads n x (stop n w x) ≡ reach w n x) t.long
+      (stop-reads w (slots_with m w) t.ordered t.counted (subst (λ n. length w < n) (sym t.long) few) x)
+
+pub table_of : (m : ℕ) (w : List ℕ) → length w ≤ m → IsTableOf m w (slots_with m w)
+table_of m [] few = record {
+  long = length-replicate {A = Option ℕ} m None;
+  ordered = record { before = λ b v h is in_v none. absurd (full_from _ h is (all_vacant m b)) };
+  counted = λ test. sym (sum_by-replicate (λ o. tick (stored test o)) m None ∙ omega arith);
+}
+table_of m (x ∷ w) few =
+    let t = table_of m w (omega arith) in
+    let v = at m w t (omega arith) x in
+    record {
+      long = length-set (slots_with m w) (stop m w x) (Some x) ∙ t.long;
+      ordered = ordered-add (slots_with m w) (stop m w x) x v t.ordered;
+      counted = counted-add w (slots_with m w) (stop m w x) x v t.counted;
+    }
+
+-- the searches for the pairs of that table read what the insertions did
+pub filled : (m : ℕ) (w : List ℕ) → length w ≤ m → slot_reads m (slots_with m w) ≡ filling_reach m w
+filled m [] few = below-zero m _ (λ p l. ap (of_slot (λ h. probe_reads m h p)) (all_vacant m p))
+filled m (x ∷ w) few =
+    let t = table_of m w (omega arith) in
+    let s : ℕ = stop m w x in
+    let v = at m w t (omega arith) x in
+    let in_s : s < m = subst (λ n. s < n) t.long v.within in
+    let more = below-more m s (λ p. of_slot (λ h. probe_reads m h p) (slot_at (slots_with m w) p))
+    (λ p. of_slot (λ h. probe_reads m h p) (slot_at (slots_with m (x ∷ w)) p)) in_s
+    (ap (of_slot (λ h. probe_reads m h s)) v.vacant)
+    (λ p l ne. ap (of_slot (λ h. probe_reads m h p)) (sym (slot_other (slots_with m w) s p (Some x) ne))) in
+    let own : of_slot (λ h. probe_reads m h s) (slot_at (slots_with m (x ∷ w)) s) ≡ probe_reads m x s =
+    ap (of_slot (λ h. probe_reads m h s)) (slot_set (slots_with m w) s (Some x) v.within) in
+    omega (arith, filled m w (omega arith), reads m w t (omega arith) x)
