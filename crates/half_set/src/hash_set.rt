@@ -207,8 +207,9 @@ impl<T: Eq + Hash + Drop> HashSet<T> {
     /// Inserts a value, and returns whether it is new. A new value comes last. Where an equal one is in the set, that one stays,
     /// and the given value is dropped.
     ///
-    /// Fails only where memory is needed: for a new value where no capacity is left, or to make a full vector a table. Then
-    /// nothing changes, and the given value is dropped. It costs one search, and that switch hashes each value once.
+    /// Fails only where memory is needed: for a new value where no capacity is left, or to make a vector of 32 values a table,
+    /// also for a held one. Then nothing changes, and the given value is dropped. It costs one search, and that switch hashes
+    /// each value once.
     ///
     /// ```
     /// assert!(rt; seen.insert(3)?);
@@ -220,6 +221,7 @@ impl<T: Eq + Hash + Drop> HashSet<T> {
         ensures after { OnOk result (self.new ≡ add_key T.eq self.old value) }
         ensures err { OnErr result (self.new ≡ self.old) }
         ensures why { IfErr result (λ why. why ≡ refusal_of (length self.old + 1)) }
+        ensures held { OnErr result (is_member T.eq self.old value ≡ true → length self.old ≡ 32) }
     {
         Ok(self.map.insert(value, ())?.is_none())
     }
@@ -278,7 +280,7 @@ impl<T: Eq + Hash + Drop> HashSet<T> {
         self.map.shift_remove(value).is_some()
     }
 
-    /// Removes all values. The memory stays, for values to come.
+    /// Removes all values.
     ///
     /// ```
     /// seen.clear();

@@ -54,7 +54,7 @@ pub record ComparesInOrder (scan : Scan) (found : Option ℕ) (len : ℕ) (befor
   pub by_key : scan ≡ ByKey → after.compared ≡ before.compared + first_match_cost found len
   pub looked : after.looked ≡ before.looked
 
--- what a search of a store under this hash cost that found this index, or none
+-- what a search of a store under this hash cost that found this index, or none; of a table it also says what such searches of all pairs read
 pub record IsStoreSearchCost {K V : Type 0} (s : StoreState K V) (hash : ℕ) (scan : Scan) (index : Option ℕ) (before after : Work) : Type 0 where
   pub vector : s.is_vec ≡ true → ComparesInOrder scan index (length s.pairs) before after
   pub found : s.is_vec ≡ false → IfSome index (λ _. IsTableHitCost s.hashes (buckets_of s.capacity) hash before after)

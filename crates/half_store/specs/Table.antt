@@ -43,7 +43,7 @@ with_hash_in c hash bucket = record { hashes = c.hashes ++ hash ∷ []; words = 
 unfoldable pub hit_reads : Contents → ℕ → ℕ
 hit_reads c index = probe_reads (length c.words) (slice_index c.hashes index) (bucket_of c.words index)
 
--- how many the searches for the first `pairs` entry indices read, one each
+-- how many the searches for the pairs of the first entry indices read, one each
 unfoldable pub all_hit_reads : ℕ → Contents → ℕ
 all_hit_reads pairs c = sum_below pairs (λ index. hit_reads c index)
 
@@ -91,7 +91,7 @@ pub record IsTable (hashes words : List ℕ) (most capacity : ℕ) : Type 0 wher
   pub exact : capacity ≡ capacity_of (length words)
 
 -- the entry index of a pair of this hash that the test accepts, and its bucket; or, where it refuses each, the empty bucket where the probe
--- ended, if there are buckets
+-- ended, if there are buckets. The searches for all pairs, one each, read what insertions of their hashes read (`hits`)
 pub record TableSearch (returns : ℕ → Bool → Type 0) (t : TableState) (hash : ℕ) (result : Result (ℕ × ℕ) ℕ) (old new : Work) : Type 0 where
   pub found : IfOk result (λ pair. slice_get t.hashes pair.0 ≡ Some hash)
   pub at : IfOk result (λ pair. IsFoundAt (slots_of t) hash pair.1)

@@ -1,6 +1,6 @@
 //! Accounts, between which money is moved and none is made or lost.
 ghost use Rattle.std.specs.Map.{values_of};
-ghost use Rattle.std.specs.Prelude.{◌≡◌, ◌+◌, ◌^◌, ◌<◌, true, false, [], sum, IfErr, OnOk, OnErr};
+ghost use Rattle.std.specs.Prelude.{◌≡◌, ◌+◌, ◌^◌, ◌<◌, true, false, [], length, sum, IfErr, OnOk, OnErr};
 ghost use Rattle.halfbrown.specs.Pairs.{value_of, holds, put, take_out};
 ghost use Rattle.half_uses.specs.Bank.{are_known, moved, IsDeclined};
 
@@ -58,12 +58,13 @@ impl<A: Eq + Hash> Bank<A> {
         self.balances.get(account).copied()
     }
 
-    /// Opens an account, which must be new. On error nothing changes.
+    /// Opens an account, which must be new. Fails only where no capacity is left, and then nothing changes.
     #[tactic(auto, using(halfbrown::proofs::ValueFacts::value_facts))]
     pub fn open(&mut self, account: A, balance: u64) -> Result<(), Refused<A, u64>>
         requires new { holds A.eq self.old.balances.pairs account ≡ false }
         requires fits { sum (values_of self.old.balances.pairs) + balance < 2 ^ 64 }
         ensures after { OnOk result (self.new.balances.pairs ≡ put A.eq self.old.balances.pairs account balance) }
+        ensures full { OnErr result (length self.old.balances.pairs ≡ self.old.balances.capacity) }
         ensures err { OnErr result (self.new.balances ≡ self.old.balances) }
         ensures handed_back { IfErr result (λ refused. (refused.key ≡ account) × (refused.value ≡ balance)) }
     {

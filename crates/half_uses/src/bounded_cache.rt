@@ -1,7 +1,8 @@
 //! A cache of a bounded size, which forgets the oldest pair.
 ghost use Rattle.std.specs.Map.{lookup};
 ghost use Rattle.std.specs.Option.{option_copied};
-ghost use Rattle.std.specs.Prelude.{◌≡◌, ◌≤◌, [], length, IfErr, OnOk, OnErr};
+ghost use Rattle.std.specs.Prelude.{◌≡◌, ◌≢◌, ◌≤◌, None, [], length, IfErr, OnOk, OnErr};
+ghost use Rattle.halfbrown.specs.Growth.{insert_needs};
 ghost use Rattle.halfbrown.specs.Pairs.{put};
 ghost use Rattle.half_uses.specs.BoundedCache.{newest};
 
@@ -52,8 +53,9 @@ impl<K: Eq + Hash, V> BoundedCache<K, V> {
         self.held.get(key)
     }
 
-    /// Gives a key its value. A key that is held keeps its age. Beyond the bound the oldest pair is forgotten. On error
-    /// nothing changes.
+    /// Gives a key its value. A key that is held keeps its age. Beyond the bound the oldest pair is forgotten. Fails only
+    /// where the map needs memory: for a new key where no capacity is left, and to make a full vector a table. Then nothing
+    /// changes.
     pub fn insert(&mut self, key: K, value: V) -> Result<(), Refused<K, V>>
     where
         K: Drop,
@@ -61,6 +63,7 @@ impl<K: Eq + Hash, V> BoundedCache<K, V> {
         ensures after { OnOk result (self.new.held.pairs
             ≡ newest self.old.bound (put K.eq self.old.held.pairs key value)) }
         ensures bound { self.new.bound ≡ self.old.bound }
+        ensures needs { OnErr result (insert_needs 32 K.eq self.old.held key ≢ None) }
         ensures err { OnErr result (self.new.held ≡ self.old.held) }
         ensures handed_back { IfErr result (λ refused. (refused.key ≡ key) × (refused.value ≡ value)) }
     {

@@ -1,6 +1,7 @@
 //! A cache whose keys are hashed once, by whoever asks for them.
 ghost use Rattle.std.specs.Prelude.{◌≡◌, None, Some, false, [], IfOk, OnOk, OnErr};
 ghost use Rattle.std.specs.Option.{option_copied, UnwrapsOrElse};
+ghost use Rattle.halfbrown.specs.Costs.{IsHashedLookupCost};
 ghost use Rattle.halfbrown.specs.Pairs.{value_of, holds};
 
 use halfbrown::{KeyHasher, RawEntryMut, Refusal, SizedHashMap, Tally};
@@ -55,11 +56,12 @@ impl<K: Eq + Hash, V, S: BuildHasher> Cache<K, V, S> {
         Hashed { key, hash }
     }
 
-    /// The value of a key, where one is cached. Nothing is hashed.
+    /// The value of a key, where one is cached. It costs one search by the known hash: nothing is hashed.
     pub fn get(&self, key: &Hashed<K>, tally: &mut Tally) -> Option<&V>
         requires { key.now.hash ≡ ⟦<S as KeyHasher<K>>⟧.hash self.now.builder key.now.key }
         ensures value { option_copied result ≡ value_of K.eq self.now.pairs key.now.key }
-        ensures hashes { tally.new.asked ≡ tally.old.asked }
+        ensures cost { IsHashedLookupCost (⟦<S as KeyHasher<K>>⟧.hash) key.now.hash (K.eq key.now.key) self.now
+            tally.old tally.new }
     {
         self.values
             .raw_entry()

@@ -52,13 +52,14 @@ impl Interner {
     }
 
     /// The number of a text, which is stored where it is new. Equal texts have equal numbers, different texts different ones, and
-    /// no later call changes a number. On error nothing changes.
+    /// no later call changes a number. Only a new text can be refused. On error nothing changes.
     pub fn intern(&mut self, text: &str) -> Result<usize, Refusal>
         ensures number { IfOk result (λ number. number_of self.new text.now ≡ Some number) }
         ensures resolves { IfOk result (λ number. slice_get self.new number ≡ Some text.now) }
         ensures after { OnOk result (self.new ≡ with_text self.old text.now) }
         ensures kept { (other : List ℕ) (number : ℕ) → number_of self.old other ≡ Some number
             → number_of self.new other ≡ Some number }
+        ensures new { OnErr result (number_of self.old text.now ≡ None) }
         ensures err { OnErr result (self.new ≡ self.old) }
     {
         if let Some(number) = self.get(text) {

@@ -112,7 +112,9 @@ all_hit_looks m = all_hit_reads (length m.pairs) (contents_of m)
 abbrev pub filling_looks : {K V : Type 0} → (K → ℕ) → ℕ → List (K × V) → ℕ
 filling_looks hash capacity pairs = filling_reach (buckets_of capacity) (map hash (keys_of pairs))
 
--- what a search under this hash cost, by the tally before it and after: it found this index, or none, and asked for `asked` hashes
+-- what a search under this hash cost, by the tally before it and after: it found this index, or none, and asked for `asked` hashes. In a
+-- table a search that finds an index reads the same number of buckets each time (`hit`), and these numbers add up to what insertions of the
+-- pairs read (`hits`)
 pub record IsSearchCost {K V S : Type 0} (hash : S → K → ℕ) (sought : ℕ) (m : State K V S) (found : Option ℕ) (asked : ℕ) (before after : Work) : Type 0 where
   pub grew : GrewBy (search_cost (hash m.builder) sought found asked m.is_vec m.capacity m.pairs) before after
   pub looked_once : m.is_vec ≡ false → is_some found ≡ true → NoHomeIsShared (hash m.builder) m.capacity m.pairs
@@ -206,7 +208,7 @@ module _ {K V S : Type 0} (limit : ℕ) where
         unless_refused (not granted) (asks_more (switch_asked m) (asks_more (if held then 0 else search_asked (is_vec_after limit m))
         (reads_more (if held then 0 else insertion_looks hash (grown m) k) (key_search_cost eq hash (grown m) k))))
 
-    -- what an insertion of k cost, by the tally before it and after
+    -- what an insertion of k cost, by the tally before it and after; in a table a held key is found as by each search (`hit`)
     pub record IsInsertCost (m : State K V S) (k : K) (granted : Bool) (before after : Work) : Type 0 where
       pub grew : GrewBy (insert_cost m k granted) before after
       pub looked_once : is_vec_after limit m ≡ false → granted ≡ true → holds eq m.pairs k ≡ true

@@ -1,5 +1,5 @@
 //! JSON values whose objects are maps: looked into, changed, merged, and compared in any order of members.
-ghost use Rattle.std.specs.Prelude.{◌≡◌, if◌then◌else◌, true, IfOk, IfErr, IfNone, OnOk, OnErr};
+ghost use Rattle.std.specs.Prelude.{◌≡◌, if◌then◌else◌, true, length, IfOk, IfErr, IfSome, IfNone, OnOk, OnErr};
 ghost use Rattle.std.specs.Map.{remove_entry};
 ghost use Rattle.std.specs.Borrow.{LendsIf, sem};
 ghost use Rattle.std.specs.Option.{option_copied, option_copied_mut};
@@ -112,6 +112,8 @@ impl Value {
         ensures err { OnErr result (self.new ≡ self.old) }
         ensures refused { IfErr result
             (λ error. error ≡ (if is_object self.old then Error.Memory else Error.NoObject)) }
+        ensures held { OnErr result (IfSome (value_of string_eq (members_of self.old) name)
+            (λ _. length (members_of self.old) ≡ 32)) }
     {
         match self {
             Value::Object(members) => Ok(members.insert(name, value)?),

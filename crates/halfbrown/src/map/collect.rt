@@ -178,6 +178,8 @@ impl<K: Eq + Hash + Drop, V: Drop, S: KeyHasher<K> + Default + Drop, L: Limit> F
         ensures ran { IfOk result (λ m. (it : I.IntoIter) × (gave : List (K × V))
             × I.into_iter_gives items it × DrainsIf I.IntoIter.next_gives ⊤ it gave
             × ((hint : ℕ) × IsCollection L.LIMIT K.eq S.is_default hint gave m)) }
+        ensures collected { IfOk result (IsCollectionOf I.into_iter_gives I.IntoIter.next_gives
+            L.LIMIT K.eq I.IntoIter.remaining S.is_default items) }
         ensures refused { OnErr result ((why : Refusal) × IsRefusedCollectionOf I.into_iter_gives
             I.IntoIter.next_gives L.LIMIT K.eq I.IntoIter.remaining S.is_default items why) }
     {
