@@ -119,4 +119,9 @@ pub refusal_is : {K V S : Type 0} (limit : ℕ) (eq : K → K → Bool) (m : Sta
     → IsRefusal (insert_needs limit eq m k) why → why ≡ refusal_of (length (keys_of m.pairs) + 1)
 refusal_is limit eq m k why is = grind (arith, common_steps, length-keys_of m.pairs)
 
-pub ruleset set_facts = (refusal_is, union_added, others_removed, keys_removed, keys_taken, shows_in_order, length-filter, count_by-le-length)
+-- a held key is refused only by the switch of a full vector
+pub full_where_held : {T V S : Type 0} (limit : ℕ) (eq : T → T → Bool) (m : State T V S) (x : T) (why : Refusal)
+    → IsRefusal (insert_needs limit eq m x) why → is_member eq (keys_of m.pairs) x ≡ true → length (keys_of m.pairs) ≡ limit
+full_where_held limit eq m x why is held = grind (arith, common_steps, holds_by-any (eq x) m.pairs, length-keys_of m.pairs)
+
+pub ruleset set_facts = (refusal_is, full_where_held, union_added, others_removed, keys_removed, keys_taken, shows_in_order, length-filter, count_by-le-length)

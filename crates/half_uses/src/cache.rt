@@ -60,8 +60,8 @@ impl<K: Eq + Hash, V, S: BuildHasher> Cache<K, V, S> {
     pub fn get(&self, key: &Hashed<K>, tally: &mut Tally) -> Option<&V>
         requires { key.now.hash ≡ ⟦<S as KeyHasher<K>>⟧.hash self.now.builder key.now.key }
         ensures value { option_copied result ≡ value_of K.eq self.now.pairs key.now.key }
-        ensures cost { IsHashedLookupCost (⟦<S as KeyHasher<K>>⟧.hash) key.now.hash (K.eq key.now.key) self.now
-            tally.old tally.new }
+        ensures cost { IsHashedLookupCost ⟦<S as KeyHasher<K>>⟧.hash
+            (⟦<S as KeyHasher<K>>⟧.hash self.now.builder key.now.key) (K.eq key.now.key) self.now tally.old tally.new }
     {
         self.values
             .raw_entry()
