@@ -48,7 +48,7 @@ RULES = (
     ("Work is repeated, handed to a closure or broken off in these places.", "41 18 5 18 10 0 13",
      r"\b(?:while|loop|break|continue|return)\b|\bfor [^{}]*? in |(?:[=(,] ?|move )\|"
      r"|\.(?:all|any|map\w*|and_then|for_each|\w*fold|rev|\w*position|filter\w*|zip|chain|sum|chars|bytes|split\w*)(?:\(|::<)"),
-    ("Operators, drops and macros are written in these places; no comment is in a line, and nothing is shared.", "1 6 0 0 0 0 0",
+    ("Operators, drops and macros are written in these places; no comment is in a line, nothing is shared.", "1 6 0 0 0 0 0",
      r"\bfn drop\b|macro_rules|\b(?!(?:prove|write|writeln|uncounted|unreachable|eprintln)!)\w+! ?[(\[{]|/\*"
      r"|\b(?:Add|Sub|Mul|Div|Rem|Neg|Not|Bit\w+|Sh[lr]|\w+Assign|Deref\w*|Index\w*|Fn\w*|AsRef|Borrow)\b(?:<[^{}]*>)? for\b"
      r"|(?<!')\bstatic\b|\bunsafe\b|\b(?:Ref)?Cell\b|\bAtomic"),
