@@ -102,8 +102,8 @@ def attempt(edit):
     finder, texts = TESTS / edit.found_by, {}
     is_search = finder.suffix == ".py"
     with tempfile.TemporaryDirectory(prefix="planted-") as folder:
-        top = "halfmap" if is_search else TESTED if edit.found_by == OF_TESTS else PROGRAM
-        folder = copy_sources(pathlib.Path(folder, "copy"), crates_of(top, edit.crate))
+        crates = crates_of() if is_search else crates_of(TESTED if edit.found_by == OF_TESTS else PROGRAM, edit.crate)
+        folder = copy_sources(pathlib.Path(folder, "copy"), crates)
         edit.apply(texts, folder / "crates" / edit.crate)
         for file, text in texts.items():
             file.write_text(text)

@@ -1,108 +1,138 @@
 #!/usr/bin/env python3
-"""Searches the sources of the libraries and the program for what no proof sees: work beside the count, values that are forgotten,
-memory and clones that nobody keeps, refusals without a reason.
+"""Searches the sources of what users take for what no proof sees: work beside the count, values that are forgotten, memory that
+nobody keeps, refusals without a reason, and what is done or given up at a size that no test reaches.
 
-A rule is a sentence, a pattern, and how often it stands in the files of half_store | halfbrown | halfmap; elsewhere it does not.
-Comments, clauses and `use` lines are left out, and so is each plain call whose body is its counted form in `uncounted!`. Who adds
-a place reads the sentence, and changes the number if it still holds. The last line is "N passed, M failed".
+A rule is a sentence, how often its pattern stands in each of CRATES, and the pattern. Comments, clauses, `use` lines and tests
+are left out, and so is each plain call whose body is its counted form in `uncounted!`; white space is one space. PLAIN stands
+for the names of plain calls, HELPER for functions that no user can call. Who adds a place reads the sentence, and changes the
+number if it still holds. Each line of QUOTED stands once, word for word; `..` is the rest of a signature. The last line is
+"N passed, M failed".
 """
 
 import pathlib
 import re
 import sys
 
-CRATES = pathlib.Path(__file__).resolve().parent.parent / "crates"
-LIBRARIES = ("half_store", "halfbrown", "halfmap")
+TOP = pathlib.Path(__file__).resolve().parent.parent / "crates"
+CRATES = "half_store halfbrown half_set json_value half_uses word_count halfmap".split()
+NONE = "0 0 0 0 0 0 0"
+WORK = r"hash_one|hash_key|compare|word_at|search|first_(?:match\w*|empty)|find|find_\w+|vacancy_for|\w+_probe|same_text"
 
 RULES = (
-    ("Nothing is forgotten.", r"\bforget\b|ManuallyDrop|\bleak|\binto_raw", "||"),
-    ("A tally is made by the macro `uncounted` alone, and never copied.",
-     r"(?<!&mut )\bTally\b|\bTally::|\bCount\b|\bSelf(?:::new\b| \{)"
-     r"|derive\([^)]*(?:Clone|Copy|Default).*(?=\s+pub struct (?:Tally|Count)\b)", "tally 21 |  |"),
-    ("Nothing has a second name.", r"\bas (?!u\d|usize|BuildHasher>)", "| iter 1 |"),
+    ("Nothing is forgotten.", NONE, r"\bforget\b|ManuallyDrop|\bleak|\binto_raw"),
+    ("A tally is made by the macro `uncounted` alone, is never copied, and each part of it goes up by one.", "24 0 0 0 0 0 0",
+     r"(?<!&mut )\bTally\b|\bTally::|\bCount\b|\bSelf::new\b|(?<!-> )\bSelf \{"
+     r"|derive\([^)]*(?:Clone|Copy|Default)[^)]*\)\] pub struct (?:Tally|Count)\b"
+     r"|add_(\w+)\(&mut self\) \{ let next = self\.\1\.plus_one\(\); self\.\1 = next; \}"),
+    ("Only types have a second name, in these places.", "0 23 5 0 3 0 1", r"\bas (?!u\d|usize|BuildHasher>)|\btype \w+"),
     ("What is not counted: the buckets that growth and the switch fill, what a removal reads beside its search, `from_array`.",
-     r"\buncounted\b", "store/change 3, store/shift 1, table/rehash 1, tally 1 | map/collect 1, map/switch 1 |"),
-    ("A counted form is a method, except for `from_iter_counted` and `run_counted`.",
-     r"fn \w+_counted\b(?:<.*?>)?\((?!\s*&?(?:mut )?self\b)", "| map/collect 1, run 1 |"),
-    ("The libraries make no plain call: these are calls of entries and tables, of std's traits and of the program.",
-     r"(?<!fn )\b(?:PLAIN)(?:::<[^()]*>)?\(|::(?:PLAIN)\b(?!\()",
-     "store/change 2, store/shift 2, table/shift 1, vecmap/shift 2 | entry/debug 1, entry/methods 6, entry/occupied 4, "
-     "map/collect 2, map/debug 1, map/equality 1, map/shift_remove 1, raw_entry/debug 1, raw_entry/methods 1, run 3 | answer 3"),
-    ("Slices are indexed, and no map.", r"[\w\])]\[",
-     "buckets 1, table/deletion 2, table/probe 1, table/rehash 2, vecmap/replace 1, vecmap/retain 2, vecmap/search 1, vecmap 5, words 4 |  | "
-     "lines 2, request 2"),
-    ("What compares keys is handed on, and only `compare` calls it.", r"\b(?:matches|is_match)\b",
-     "counting 2, store/change 3, store/find 3, table/deletion 2, table/find 2, table/probe 2, table 6, vecmap/search 8 | "
-     "map/find 2, map/inner 2, map/remove 2, raw_entry/search 4 |"),
-    ("No hasher is built: a key is hashed by `hash_one`.", r"\.(?:hash|build_hasher)\(|::(?:hash|build_hasher)\b", "||"),
-    ("Keys and values are compared in these places; the other comparisons are of numbers, and of bytes in a line.",
-     r"[!=]=\s*(?![\s\d]|b')"
-     r"|(?:\.|::)(?:eq|ne|cmp|partial_cmp|equivalent|contains|starts_with|ends_with|strip_\w+)\b",
-     "table/deletion 2, table/probe 1, table/retain 1, table/shift 1, words 1 | "
-     "equivalent 6, map/equality 2, map/find 1, map/remove 1 | lines 1, request 4, session 2"),
-    ("Counted work is done in these places.",
-     r"\b(?:hash_one|hash_key|compare|word_at|read|search|first_match|first_empty|find_in)\b",
-     "buckets 3, counting 3, store/change 1, store/find 1, table/deletion 4, table/find 2, table/probe 5, table/rehash 1, table/shift 1, "
-     "table 4, vecmap/search 3, vecmap 1, words 6 | key_hasher 3, map/find 1, map/switch 2, raw_entry 1 |"),
-    ("The words of buckets are read by `word_at` alone.", r"\bwords\b",
-     "lib 1, store/memory 3, table/memory 2, words 39 |  |"),
-    ("Memory is taken, and values are cloned, in these places.",
-     r"\b(?:alloc|allocator|push|reserve\w*|extend\w*|append|resize\w*|clone\w*|copy|copied|grow\w*|collect)\b",
-     "blocks 11, store/change 3, store/drain 1, store/memory 17, store/switch 5, store 2, table/memory 9, vecmap/slices 2, "
-     "vecmap/memory 17, vecmap 4, words 11 | entry/vacant 1, iter/column 2, iter 4, macros 4, map/clone 7, map/collect 16, "
-     "map/growth 2, map/inner 2, map/insert 3, map/make 12, map/prepare 2, map 3, raw_entry/vacant 1, run 6 | lines 1, main 1, "
-     "session 10"),
-    ("A refusal is made, handed on or looked at in these places.",
-     r"\bErr\b|\bRefusal::\w|\bAllocError\b(?!>)|\bStopped\b(?!>)|\bNoRoom\b|\b(?:check_size|ok_or\w*)\(",
-     "blocks 2, refusal 13, store/change 3, store/find 3, store/memory 3, table/find 1, table/memory 1, "
-     "table/probe 1, vecmap/memory 3, words 2 | entry/find 2, entry/replace 1, map/collect 8, map/get 3, map/insert 6, map/prepare 1, "
-     "raw_entry/search 8, refused 4, run 6 | answer 4, lines 5, main 2, session 11"),
-    ("Where no clause says when a call fails, these words do: memory was refused, two counts differ, or u64 ends.",
-     r"if words\.capacity\(\) == words\.len\(\) \{\s*Ok\(WordVec \{ words \}\)\s*\} else \{\s*Err\(AllocError\)"
-     r"|let Ok\((?:mut )?\w+\) = Vec::\w+\(alloc, [\w.()]+\) else \{\s*return Err\("
-     r"|match LimitedHashMap::extend\(self, items\) \{\s*Ok\(\(\)\) => Ok\(\(\)\),\s*Err\(_\) =>|0\.\.u64::MAX",
-     "words 1 | map/collect 2, run 1 | lines 1, session 1"),
-    ("A raw call that lends the key is a call that returns the entry, and one loan.",
-     r"mut V\)\s*(?:where[^{}]*)?\{\s*self\s*\.(?:or_)?insert_\w+\([\w, ]*\)\s*(?:\.into_key_value\(\)\s*)?\}",
-     "| raw_entry/methods 2, raw_entry/vacant 3 |"),
+     "6 2 0 0 0 0 0", r"\buncounted\b"),
+    ("`uncounted!` lends its spare tally to one of these functions, which does that one thing.", "0 0 0 0 0 0 0",
+     r"uncounted!\((?!(?:table\.(?:(?:shift_)?remove\(index|take\(self\.columns\.keys\(\), hash, matches, tally|add\(hash)"
+     r"|first_empty\(&held, hashes\[index\]|LimitedHashMap::collect\(alloc, N, pairs\.into_iter\(\))\)\))"),
+    ("A counted form is a method, except for `from_iter_counted` and `run_counted`.", "0 2 0 0 0 0 0",
+     r"fn \w+_counted\b(?:<(?:[^()]|\([^()]*\))*?>)?\((?! ?&?(?:mut )?self\b)"),
+    ("The map makes no plain call of its own: these are of entries, tables, std's traits, and of its users.", "7 21 6 9 23 0 3",
+     r"(?<!fn )\b(?:PLAIN)(?:::<[^()]*>)?\(|::(?:PLAIN)\b(?!\()"),
+    ("Slices are indexed, and no map.", "19 0 0 0 0 0 4", r"[\w\])]\["),
+    ("What compares keys is handed on, and only `compare` calls it.", "28 10 0 0 0 0 0", r"\b(?:matches|is_match)\b"),
+    ("No hasher is built: a key is hashed by `hash_one`.", NONE, r"(?:\.|::)(?:hash(?:_slice)?\(|build_hasher\b)|::hash\b"),
+    ("Keys, values and numbers are found equal in these places, and nothing is sorted.", "11 12 4 6 1 0 9",
+     r"[!=]=|(?:\.|::)(?:eq|ne|\w*cmp|equivalent|contains|(?:start|end)s_with|strip_\w+|(?:sort|dedup|binary)\w*)\b"),
+    ("Sizes are compared, and ranges end, in these places.", "31 19 0 7 3 0 9",
+     r"(?<![-=]) [<>]=? ?(?=[\w(&*-])|[<>]=|\)[<>](?=[\w(]\w*[^\w(,>])|\b[a-z]\w*[<>](?!const)(?=[a-z\d])|\.\."
+     r"|\b(?:min|max|clamp|[lg][te]|nth\w*|skip\w*|step_by|chunks\w*|windows|split_at\w*|(?:checked|saturating)_\w+)\b"),
+    ("Numbers beside 0 and 1, constants, products, shifts, casts and sizes of types stand in these places.", "51 19 0 2 3 4 12",
+     r"(?<![\w.])(?![01]\b)\d\w*|\b[A-Z][A-Z_]{2,}\b|\w+_of(?:_val\(|::)|[\w)](?: [*/%^&+] (?=[a-z(])| ?<< ?|[*/%^](?=\w))"
+     r"| >> |>>\d|[*/%&|^]= |\bas [a-z]\w*|\w*(?:pow|ilog|isqrt|_mul|_sh[lr]|_zeros|_ones)\w*|\btry_(?:from|into)\b"),
+    ("Work is repeated, handed to a closure or broken off in these places.", "40 18 5 18 10 0 13",
+     r"\b(?:while|loop|break|continue|return)\b|\bfor [^{}]*? in |(?:[=(,] ?|move )\|"
+     r"|\.(?:all|any|map\w*|and_then|for_each|\w*fold|rev|\w*position|filter\w*|zip|chain|sum|chars|bytes|split\w*)(?:\(|::<)"),
+    ("Operators, drops and macros are written in these places; no comment is in a line, nothing is shared.", "1 6 0 0 0 0 0",
+     r"\bfn drop\b|macro_rules|\b(?!(?:prove|write|writeln|uncounted|unreachable|eprintln)!)\w+! ?[(\[{]|/\*"
+     r"|\b(?:Add|Sub|Mul|Div|Rem|Neg|Not|Bit\w+|Sh[lr]|\w+Assign|Deref\w*|Index\w*|Fn\w*|AsRef|Borrow)\b(?:<[^{}]*>)? for\b"
+     r"|(?<!')\bstatic\b|\bunsafe\b|\b(?:Ref)?Cell\b|\bAtomic"),
+    ("Counted work is done in these places.", "36 65 0 0 7 0 0", rf"\b(?:{WORK}|read|\w+_counted)\("),
+    ("What does work is called by its name alone: nothing stands between that and its bracket.", "10 6 0 0 0 0 0",
+     rf"(?<!mod )\b(?:{WORK})\b(?!\()|[.:]read\b(?!\()|[=(,:] ?(?=\w+_)(?:HELPER)\b(?!\()|[\w>]::[a-z]\w*(?![\w:(!])"),
+    ("What no user can call, and what goes through a text or a map, is called in these places.", "118 81 7 22 7 5 25",
+     r"(?<!fn )\b(?:HELPER|count_words|report|pointer|parse|from_utf8|flush|into|move_to|retain)(?:::<[^()]*>)?\("),
+    ("The words of buckets are read by `word_at` alone.", "44 0 0 0 0 0 0", r"(?<!mod )\bwords\b"),
+    ("An allocator is named `alloc`.", "1 1 0 0 0 0 0", r"(?<!\balloc: )\bGlobal\b"),
+    ("Memory is taken, and values are cloned, in these places.", "100 64 5 24 31 8 18",
+     r"\balloc(?:ator)?\b|\b(?:clone_all|grow\w*)\(|\bBox::\w|\bwrite(?:ln)?!|[.:](?:push\w*|reserve\w*|extend\w*|append"
+     r"|resize\w*|clone\w*|cop(?:y|ied)|collect|with_cap\w*|shrink_to\w*|from_[as]\w+|to_[osv]\w+|new_table)\b"),
+    ("A refusal is made, handed on or looked at in these places.", "34 39 0 30 6 10 22",
+     r"\bErr\b|\b(?:Refusal|Error|Declined|Failure)::\w|\b(?:AllocError|Stopped|NoRoom)\b(?!>)|\b(?:check_size|ok_or)\w*\("),
+    ("Where no clause says when a call fails, these words do: memory was refused, counts differ, u64 ends.", "1 3 0 0 0 0 2",
+     r"if words\.capacity\(\) == words\.len\(\) \{ Ok\(WordVec \{ words \}\) \} else \{ Err\(AllocError\)"
+     r"|let Ok\((?:mut )?\w+\) = Vec::\w+\(alloc, [\w.()]+\) else \{ return Err\("
+     r"|match LimitedHashMap::extend\(self, items\) \{ Ok\(\(\)\) => Ok\(\(\)\), Err\(_\) =>|0\.\.u64::MAX"),
+    ("A raw call that lends the key is a call that returns the entry, and one loan.", "0 5 0 0 0 0 0",
+     r"mut V\) (?:where[^{}]*)?\{ self ?\.(?:or_)?insert_\w+\([\w, ]*\) ?(?:\.into_key_value\(\) )?\}"),
 )
 
-COMMENT = re.compile(r"^\s*(?://|#\[tactic).*$", re.M)
-NEXT = r"^ *(?:requires|ensures|ghost|\{|fn|pub|type|impl|\}|use|const|struct|trait|#|$)"
-CLAUSE = re.compile(rf"^ *(?:requires|ensures|ghost)\b.*?(?={NEXT})", re.M | re.S)
-USE = re.compile(r"^(?:pub )?use (?:(?! as )[^;])*;$", re.M)
-PLAIN_CALL = re.compile(r"\bfn (\w+)\b[^{}]*\{\s*uncounted!\((?:\w+(?:\.|::))?\1_counted\([\w, ]*\)\)\s*\}")
+# Through these goes all that is counted, or no clause says what they leave.
+QUOTED = """
+half_store/src/counting hash_one..{ tally.add_asked(); builder.hash_one(key) }
+half_store/src/counting compare..{ tally.add_compared(); matches(key) }
+half_store/src/words word_at..{ tally.add_looked(); self.words[bucket] as usize }
+half_store/src/words word_at..{ tally.add_looked(); self.words[bucket] }
+half_store/src/buckets read..{ match self.buckets.word_at(bucket, tally) { \
+0 => None, full => { let index = full - 1; Some((index, self.hashes[index])) } } }
+half_store/src/tally uncounted { ($of:ident.$call:ident($($given:expr),*)) => { \
+$of.$call($($given,)* &mut $crate::Tally::new()) }; ($($call:ident)::+($($given:expr),*)) => { \
+$($call)::+($($given,)* &mut $crate::Tally::new()) }; }
+halfbrown/src/key_hasher hash_key..{ counting::hash_one(self, key, tally) }
+halfbrown/src/equivalent same_text..{ left == right }
+halfbrown/src/map/growth shrink_to_fit..{ let _ = self.store.shrink_to_fit(L::LIMIT); }
+halfbrown/src/entry/occupied into_key(..{ self.into_key_value().0 }
+halfbrown/src/entry/occupied into_key_value..{ let map = self.map; map.pair_at_mut(self.index) }
+halfbrown/src/entry drop..{ let VacantEntry { map: _, key, vacancy: _, } = self; drop(key); }
+halfbrown/src/drain drop..{ let Drain { map, pairs } = self; map.put_back(pairs); }
+halfbrown/src/iter/column drop..{ let Column { items, other: _ } = self; drop(items); }
+halfbrown/src/map drop..{ let LimitedHashMap { store, builder, limit: _, } = self; drop(store); drop(builder); }
+"""
+
+BRACES = r"\{(?:[^{}]|\{(?:[^{}]|\{[^{}]*\})*\})*\}"
+LEFT_OUT = (
+    r"^\s*(?://.*|#!?\[tactic\([^\[\]]*\)\])$",
+    rf"^ *(?:ghost use [^;]*;|(?:requires|ensures|ghost)\b[^{{}}();]*{BRACES}(?: by {BRACES})?[,;]?)",
+    r"^(?:pub )?use (?:(?! as )[^;])*;$",
+    r"\bfn (\w+)\b[^{}]*\{\s*uncounted!\((?:\w+(?:\.|::))?\1_counted\([\w, ]*\)\)\s*\}",
+)
 
 
-def code_of(path):
-    """The text of a file without what is left out."""
-    code = path.read_text()
-    for left_out in (COMMENT, CLAUSE, USE, PLAIN_CALL):
-        code = left_out.sub("", code)
-    return code
-
-
-def search(pattern, places, codes):
-    """Where the pattern does not stand as often as these places say."""
-    parts = zip(LIBRARIES, places.split("|"), strict=True)
-    often = {f"{crate}/src/{it[1]}": int(it[2]) for crate, part in parts for it in re.finditer(r"(\S+) (\d+)", part)}
-    for name in sorted(codes.keys() | often.keys()):
-        found = [it[0] for it in re.finditer(pattern, codes.get(name, ""))]
-        if len(found) != often.get(name, 0):
-            yield f"{name} has {len(found)} of these, and not {often.get(name, 0)}: {' '.join((found or [pattern])[-1].split())}"
+def code_of(text):
+    """The text of a file on one line, without what is left out."""
+    for left_out in LEFT_OUT:
+        text = re.sub(left_out, "", text, flags=re.M)
+    return re.sub(r"\s+", " ", text)
 
 
 def main():
-    paths = [path for crate in LIBRARIES for path in (CRATES / crate / "src").rglob("*.rt")]
-    paths = [it for it in paths if it.stem != "tests" or "#[cfg(test)]\nmod tests;" not in (it.parent / "main.rt").read_text()]
-    codes = {path.relative_to(CRATES).with_suffix("").as_posix(): code_of(path) for path in paths}
-    counted = {name for path in paths for name in re.findall(r"\bfn (\w+)_counted\b", path.read_text())}
-    failed = 0
-    for sentence, pattern, places in RULES:
-        problems = list(search(pattern.replace("PLAIN", "|".join(sorted(counted))), places, codes))
+    paths = [path for crate in CRATES for path in sorted((TOP / crate / "src").rglob("*.rt"))]
+    above = {it: [*it.parent.glob("main.rt"), it.parent.with_suffix(".rt")][0] for it in paths if it.stem == "tests"}
+    paths = [it for it in paths if it not in above or "#[cfg(test)]\nmod tests;" not in above[it].read_text()]
+    texts = {path.relative_to(TOP).with_suffix("").as_posix(): path.read_text() for path in paths}
+    codes, whole = {name: code_of(text) for name, text in texts.items()}, "\n".join(texts.values())
+    helpers = {*re.findall(r"^ *(?:pub\(\w+\) )?fn (\w+)", whole, re.M)} - {*re.findall(r"\bpub fn (\w+)", whole)}
+    names = {"PLAIN": {*re.findall(r"\bfn (\w+)_counted\b", whole)}, "HELPER": helpers}
+    quoted, failed = [it.split(" ", 1) for it in QUOTED.strip().split("\n")], 0
+    for sentence, often, pattern in RULES:
+        pattern, problems = re.sub("PLAIN|HELPER", lambda it: "|".join(names[it[0]]), pattern), []
+        for crate, number in zip(CRATES, map(int, often.split()), strict=True):
+            found = {it: [x[0] for x in re.finditer(pattern, codes[it])] for it in codes if it.startswith(f"{crate}/")}
+            if (count := sum(map(len, found.values()))) != number:
+                problems.append(f"{crate} has {count} of these, and not {number}:")
+                problems += [f"  {name} has {len(it)}, the last of them {it[-1]}" for name, it in found.items() if it]
         failed += bool(problems)
         print("\n".join([sentence, *problems]) + "\n" if problems else "", end="")
-    print(f"{len(RULES) - failed} passed, {failed} failed")
+    for name, text in quoted:
+        if len(re.findall(re.escape(text).replace(r"\.\.", "[^{}]*", 1), codes.get(name, ""))) != 1:
+            failed += 1
+            print(f"{name} does not have this once, word for word: {text}")
+    print(f"{len(RULES) + len(quoted) - failed} passed, {failed} failed")
     return bool(failed) or not paths
 
 
