@@ -35,7 +35,7 @@ WEIGHTS = dict.fromkeys(CALLS, 1) | dict.fromkeys(EMPTYING, 0.7) | dict.fromkeys
 DECK = list(itertools.product(CALLS, (True, False), (True, False)))
 SUMS = list(itertools.accumulate(WEIGHTS[form] for form, *_ in DECK))
 GOLDEN = (5**0.5 - 1) / 2
-# In a tenth of the scripts one request is refused, of one of these numbers, but of most calls. In the others all are.
+# In a tenth of the scripts most calls are refused the request of one of these numbers. In the others fewer are refused all.
 REQUESTS = (1, 2, 2, 3, 3, 3, 4, 4, 5, 5, 6)
 # The calls after which a map of many pairs has many still.
 KEEPING = tuple(form for form in CALLS if form not in (*EMPTYING, "swap", "retain M N *"))
@@ -59,7 +59,8 @@ class Script:
 
     def __init__(self, chance, index, kind, limit, rule, keys):
         self.chance, self.kind, self.limit, self.rule = chance, kind, limit, rule
-        self.refuse, self.seldom = ((chance.choice(REQUESTS),) * 2, 0.7) if chance.random() < 0.1 else (ALL, 0.1)
+        refuses_one = chance.random() < 0.1
+        self.refuse, self.share_refused = ((chance.choice(REQUESTS),) * 2, 0.7) if refuses_one else (ALL, 0.1)
         self.lines, self.wanted, self.session = [], [], Session(self.refuse)
         self.drawn = collections.Counter(dict.fromkeys(STATES, 12 * index))
         self.keys, self.stride = keys, chance.choice((1, 1, 4, 8, 16, 37))
@@ -136,7 +137,7 @@ class Script:
         return " ".join(word for word in said if word)
 
     def call(self, forms, id_=None, may_be_refused=False):
-        before = "refused " * (may_be_refused and self.chance.random() < self.seldom)
+        before = "refused " * (may_be_refused and self.chance.random() < self.share_refused)
         forms = [form for form in forms if self.kind in WITH_NUMBERS or not form.startswith("run")]
         self.add(before + self.written(self.chance.choice(forms), id_))
 
@@ -173,7 +174,7 @@ class Script:
         """Adds pairs until there are this number."""
         while len(self.a.pairs) < count:
             if self.chance.random() < 0.6:
-                before = "refused " * (self.chance.random() < self.seldom)
+                before = "refused " * (self.chance.random() < self.share_refused)
                 self.add(f"{before}extend {self.items(count - len(self.a.pairs))}".strip())
             else:
                 self.call(ADDING, self.new_id(), may_be_refused=True)
