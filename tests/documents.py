@@ -87,7 +87,8 @@ def files(chance):
 def cases(chance):
     """Texts, and paths and answers of each: those of the whole, and some."""
     documents = [some_text(chance) for _ in range(DOCUMENTS)]
-    for text in [*files(chance), *documents, "[" * 128 + "]" * 128]:
+    large = written({f"m{number}": Number(number) for number in range(1000)} | {"items": [Number(123456789)] * 30000})
+    for text in [*files(chance), *documents, "[" * 128 + "]" * 128, large]:
         value = read(text)
         yield text, "", written(value)
         for _ in range(PATHS):

@@ -30,6 +30,12 @@ prints() {
     "$1" <"crates/$2/stdin" | diff "crates/$2/stdout" -
 }
 
+# counts_many PROGRAM: two megabytes of words are counted. They are long, since a program that is not proved counts slowly.
+counts_many() {
+    local words="internationalization electroencephalographically otorhinolaryngological"
+    "$1" < <(yes "$words" | head -n 28000) | diff <(printf '%s 28000\n' $words) -
+}
+
 # The tests of a crate, unproved.
 try_tests() {
     local said
@@ -57,6 +63,7 @@ unproved_parts() {
     for program in word_count json_at; do
         part "$program" prints "$(built "$program")" "$program"
     done
+    part "many words" counts_many "$(built word_count)"
     part "documents" env JSON_AT="$(built json_at)" tests/documents.py
     part "tests of half_tests" try_tests half_tests
     part "tests of halfmap" try_tests halfmap

@@ -90,7 +90,7 @@ def said_at_random(folder):
     """The first line of a script that the faulty program answers otherwise than the model."""
     program, library = build(folder, [str(LIMIT)]), compile_allocator(folder)
     for script in scripts_at_random():
-        found = play(script.lines, library, program=program) + ["nothing"]
+        found = play(script.lines, library, script.refuse, program) + ["nothing"]
         at = difference(found[:-1], script.wanted)
         if at is not None:
             return [f"{[*script.lines, 'the end'][at]}: {found[at]}, not {[*script.wanted, 'nothing'][at]}"]

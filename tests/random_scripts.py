@@ -5,7 +5,7 @@ import bisect
 import collections
 import itertools
 
-from model.basics import GREATEST, MOST_PAIRS, RULES, Key
+from model.basics import ALL, GREATEST, MOST_PAIRS, RULES, Key
 from model.coverage import COMPARING, STATES
 from model.lines import CALLS, COMMANDS, LIMITS, MAKERS_FOR, OTHER_LIMITS, PLAIN_MAKERS, WITH_NUMBERS, WITH_TEXT, places_of
 from model.session import Session
@@ -28,12 +28,15 @@ BACK = ("shrink_to_fit", "shrink_to_fit", "run shrink len")
 # Those that empty the map come less often, and those that have many cases, or are no calls on some maps, more often.
 EMPTYING = ("clear", "drain N", "walk drain STEPS", *ANEW)
 MORE_OFTEN = ("clone", "made MAKER ITEMS", "from_iter_hint SIZE ITEMS", "extend ITEMS", "shrink_to_fit", "reserve SIZE")
-MORE_OFTEN += ("error reserve SIZE", "entry KEY or_default")
+MORE_OFTEN += ("error reserve SIZE", "entry KEY or_default", "from_iter ITEMS", "from_array ITEMS", "collect ITEMS")
+MORE_OFTEN += ("extend_by ITEMS", "hashmap ITEMS")
 WEIGHTS = dict.fromkeys(CALLS, 1) | dict.fromkeys(EMPTYING, 0.7) | dict.fromkeys(MORE_OFTEN, 3) | {"run COMMANDS": 10}
 # Each with a held key and with a new one, refused memory and not.
 DECK = list(itertools.product(CALLS, (True, False), (True, False)))
 SUMS = list(itertools.accumulate(WEIGHTS[form] for form, *_ in DECK))
 GOLDEN = (5**0.5 - 1) / 2
+# In a tenth of the scripts most calls are refused the request of one of these numbers. In the others fewer are refused all.
+REQUESTS = (1, 2, 2, 3, 3, 3, 4, 4, 5, 5, 6)
 # The calls after which a map of many pairs has many still.
 KEEPING = tuple(form for form in CALLS if form not in (*EMPTYING, "swap", "retain M N *"))
 NO_CALLS = (
@@ -56,7 +59,9 @@ class Script:
 
     def __init__(self, chance, index, kind, limit, rule, keys):
         self.chance, self.kind, self.limit, self.rule = chance, kind, limit, rule
-        self.lines, self.wanted, self.session = [], [], Session()
+        refuses_one = chance.random() < 0.1
+        self.refuse, self.share_refused = ((chance.choice(REQUESTS),) * 2, 0.7) if refuses_one else (ALL, 0.1)
+        self.lines, self.wanted, self.session = [], [], Session(self.refuse)
         self.drawn = collections.Counter(dict.fromkeys(STATES, 12 * index))
         self.keys, self.stride = keys, chance.choice((1, 1, 4, 8, 16, 37))
         self.first = chance.choice((0, 0, 3, 1000, GREATEST - 2 * self.stride * keys))
@@ -132,7 +137,7 @@ class Script:
         return " ".join(word for word in said if word)
 
     def call(self, forms, id_=None, may_be_refused=False):
-        before = "refused " * (may_be_refused and self.chance.random() < 0.1)
+        before = "refused " * (may_be_refused and self.chance.random() < self.share_refused)
         forms = [form for form in forms if self.kind in WITH_NUMBERS or not form.startswith("run")]
         self.add(before + self.written(self.chance.choice(forms), id_))
 
@@ -145,7 +150,8 @@ class Script:
     def any_call(self, form, is_held, is_refused):
         """A call, and often all pairs after it."""
         chance, id_ = self.chance, self.held_id() if is_held else self.new_id()
-        self.add("refused " * (is_refused and form not in WITH_TEXT) + self.written(form, id_))
+        is_refused = (is_refused or self.refuse != ALL) and form not in WITH_TEXT
+        self.add("refused " * is_refused + self.written(form, id_))
         if self.wanted[-1].startswith("refused") or chance.random() < 0.15:
             self.add("pairs")
         if form == "clone":
@@ -168,7 +174,7 @@ class Script:
         """Adds pairs until there are this number."""
         while len(self.a.pairs) < count:
             if self.chance.random() < 0.6:
-                before = "refused " * (self.chance.random() < 0.1)
+                before = "refused " * (self.chance.random() < self.share_refused)
                 self.add(f"{before}extend {self.items(count - len(self.a.pairs))}".strip())
             else:
                 self.call(ADDING, self.new_id(), may_be_refused=True)

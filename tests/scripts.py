@@ -17,6 +17,7 @@ import sys
 import tempfile
 from concurrent.futures import ThreadPoolExecutor
 
+from model.basics import ALL, NONE
 from model.lines import LIMITS
 from model.session import answers
 
@@ -92,12 +93,9 @@ def compile_allocator(folder):
     return library
 
 
-def play(lines, library, refuse=None, program=PROGRAM):
-    """What the program prints, and how it ended badly as one line more. Of a `refused` call all requests for memory are
-    refused, or those from the first to the second of two numbers."""
-    environment = os.environ | {"LD_PRELOAD": str(library)}
-    if refuse is not None:
-        environment |= {"REFUSE_FROM": str(refuse[0]), "REFUSE_TO": str(refuse[1])}
+def play(lines, library, refuse=ALL, program=PROGRAM):
+    """What the program prints, and how it ended badly as one line more. Of a `refused` call these requests are refused."""
+    environment = os.environ | {"LD_PRELOAD": str(library), "REFUSE_FROM": str(refuse[0]), "REFUSE_TO": str(refuse[1])}
     text = "".join(f"{line}\n" for line in lines).encode()
     try:
         ran = subprocess.run([program], input=text, capture_output=True, env=environment, timeout=SECONDS)
@@ -115,7 +113,7 @@ def plays_of(part, library):
     if sum(map(len, part.lines)) < MOST_ON_THE_MODEL:
         plays.append(("the model", answers(part.lines)))
     if len(refused) == 1:
-        granted = answers(part.lines, is_granted=True)
+        granted = answers(part.lines, NONE)
         plays.append(("the model, no request refused", granted))
         number = granted[refused[0]].split(" ")[-1]
         most = int(number) if number.isdigit() else 0

@@ -4,10 +4,10 @@
     tests/witness.py [N] [SEED]    makes N scripts, 600 if not said, from a seed
 
 The scripts are in the language of docs/SCRIPTS.md. Beside each answer its work, its drops and its requests for memory are
-compared; allocator.c refuses all requests of `refused` calls. Where a script differs, lines are taken out as long as it
-still differs, and what is left is printed with both answers. A table says how often each call was met and refused, and
-what model/coverage.py demands has to be met, except by fewer than 600 scripts. The last line is "N passed, M failed": the
-scripts, and what is demanded.
+compared; allocator.c refuses all requests of `refused` calls, or in some scripts one of each. Where a script differs, lines
+are taken out as long as it still differs, and what is left is printed with both answers. A table says how often each call
+was met and refused, and what model/coverage.py demands has to be met, except by fewer than 600 scripts. The last line is
+"N passed, M failed": the scripts, and what is demanded.
 """
 
 import collections
@@ -19,6 +19,7 @@ import tempfile
 import time
 from concurrent.futures import ProcessPoolExecutor
 
+from model.basics import ALL
 from model.coverage import COLUMNS, MET, demanded
 from model.session import answers
 from random_scripts import make_script
@@ -38,23 +39,23 @@ def difference(found, wanted):
     return None if len(found) == len(wanted) else min(len(found), len(wanted))
 
 
-def shortest(lines, player):
+def shortest(lines, refuse, player):
     """What is left of the lines when fewer and fewer at once are taken out, as long as they still differ."""
     end, size = time.monotonic() + SECONDS_TO_SHORTEN, len(lines)
     while size > 1:
         size, at = (size + 1) // 2, 0
         while at < len(lines) and time.monotonic() < end:
             shorter = lines[:at] + lines[at + size :]
-            if difference(player(shorter), answers(shorter)) is not None:
+            if difference(player(shorter, refuse=refuse), answers(shorter, refuse)) is not None:
                 lines = shorter
             else:
                 at += size
     return lines
 
 
-def report(lines, player):
+def report(lines, refuse, player):
     """Prints a script, and both answers where they differ."""
-    found, wanted = player(lines), answers(lines)
+    found, wanted = player(lines, refuse=refuse), answers(lines, refuse)
     for index in range(max(len(lines), len(found))):
         line, has, wants = (it[index] if index < len(it) else "nothing" for it in (lines, found, wanted))
         print(f"    {line}")
@@ -69,7 +70,8 @@ def script_of(seed, index):
 def try_script(seed, player, index):
     """Whether a script differs, and what it meets."""
     script = script_of(seed, index)
-    return difference(player(script.lines), script.wanted) is not None, collections.Counter(script.session.met)
+    found = player(script.lines, refuse=script.refuse)
+    return difference(found, script.wanted) is not None, collections.Counter(script.session.met)
 
 
 def print_met(met):
@@ -102,8 +104,10 @@ def main(count=SCRIPTS, seed=1):
             print(f"what they met is not judged, since they are fewer than {SCRIPTS}")
         # The first ones are long.
         for index in failed[-MOST_SHOWN:]:
-            print(f"script {index} of seed {seed}, made short:")
-            report(shortest(script_of(seed, index).lines, player), player)
+            script = script_of(seed, index)
+            of_each = "" if script.refuse == ALL else f", request {script.refuse[0]} refused"
+            print(f"script {index} of seed {seed}{of_each}, made short:")
+            report(shortest(script.lines, script.refuse, player), script.refuse, player)
     return len(tried) + len(demands) - len(failed) - len(missed), len(failed) + len(missed)
 
 

@@ -7,6 +7,8 @@ GREATEST = 2**64 - 1
 MOST_PAIRS = 2**60
 # A state of maps of 20 to 70 pairs, beside their form.
 MANY = "20 to 70"
+# Which requests for memory a `refused` call is refused, from one to another, counted from 1: all, or none.
+ALL, NONE = (1, 2**62), (0, 0)
 RULES = {"plain": lambda key: key.id, "zero": lambda key: 0, "top": lambda key: GREATEST}
 
 
@@ -57,15 +59,17 @@ class Pair:
 
 @dataclasses.dataclass
 class Work:
-    """What one line does that is counted, whether its requests for memory are refused, and whether keys have 8 bytes."""
+    """What one line does that is counted, which of its requests for memory are refused, and whether keys have 8 bytes."""
 
-    is_refused: bool = False
+    refused: tuple = NONE
     are_small: bool = False
     hashes: int = 0
     # Of the comparisons of keys the least and the most are known.
     least: int = 0
     most: int = 0
     requests: int = 0
+    # Which request was refused last.
+    refused_at: int = 0
     # How often the closure was called that the line hands in.
     called: int = 0
     # How many pairs were cloned.
@@ -83,12 +87,24 @@ class Work:
 
     def try_to_request(self, count):
         """Makes requests for memory, up to the first that is refused. Returns whether none is."""
-        self.requests += 1 if self.is_refused else count
-        self.refusals |= {"memory"} if self.is_refused else set()
-        return not self.is_refused
+        first, last = max(self.refused[0], self.requests + 1), min(self.refused[1], self.requests + count)
+        if first > last:
+            self.requests += count
+            return True
+        self.requests = self.refused_at = first
+        self.refusals.add("memory")
+        return False
 
     def request(self, count):
         if not self.try_to_request(count):
+            raise Refused("memory")
+
+    def clone(self, pairs):
+        """Counts clones. Small keys are in boxes, and what is in one is cloned before the box takes memory."""
+        before = self.requests
+        is_granted = not self.are_small or self.try_to_request(pairs)
+        self.cloned += pairs if is_granted else self.requests - before
+        if not is_granted:
             raise Refused("memory")
 
     def check_size(self, pairs):

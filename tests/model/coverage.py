@@ -10,12 +10,18 @@ from model.walk import KINDS, steps_of
 STATES = ("vec", "tight vec", "full vec", "table", "full table", "went back", MANY)
 # The reasons of a refusal.
 MEMORY, SIZE = "memory", "size"
-COLUMNS = (*STATES, MEMORY, SIZE)
+# The first request of a call was granted, and a later one refused.
+LATER = "later"
+# How many requests are made for one pair more, each of which is refused to entries and raw entries. Collections make more.
+GROWTH = {"tight vec": 2, "full vec": 5, "full table": 4}
+ENTRIES = ("entry", "raw")
+COLUMNS = (*STATES, MEMORY, LATER, SIZE)
 # Memory was asked for; a key was only stood for; and what is met in any state.
 ASKED, STOOD_FOR, MET = "asked", "by @ID", "met"
 COMPARING = ("same", "eq", "same_as LIMIT RULE", "same_from LIMIT RULE")
 AT_AN_INDEX = ("first", "last", "pop", "swap_remove_index N", "shift_remove_index N", "get_index N", "get_index_mut N V")
 AT_AN_INDEX += ("get_index_entry N V", "first_mut V", "last_mut V")
+COLLECTING = ("extend ITEMS", "extend_by ITEMS", "hashmap ITEMS", "made MAKER ITEMS")
 MAKING = ("from_iter ITEMS", "from_iter_hint SIZE ITEMS", "from_array ITEMS", "collect ITEMS")
 # What a search by blocks of small keys finds in a vector: a key of the first block, a later one, or none.
 SMALL_KEYS = ("small keys, held", "small keys, held past 16", "small keys, new")
@@ -32,6 +38,10 @@ def asked(state):
 
 def refused(state):
     return f"{state}, refused"
+
+
+def at_request(word, request):
+    return f"{word} at request {request}"
 
 
 def row_of(form, is_held):
@@ -72,6 +82,8 @@ def answered_by(call, met, maps, answer):
     (row, state), work = met[0], maps.a.work
     done = [(row, ASKED), (row, asked(state))] * (work.requests > 0)
     done += [(row, MEMORY), (row, refused(state))] * (MEMORY in work.refusals)
+    done += [(call.form, LATER)] * (work.refused_at > 1)
+    done += [(at_request(it, work.refused_at), state) for it in ENTRIES if work.refused_at and call.form.startswith(it)]
     done += [(call.form, SIZE)] * (SIZE in work.refusals) + [("run reserve SIZE", SIZE)] * ("refused size reserve" in answer)
     done += [(f"run {row_of(form, is_held)}", state) for form, is_held, states in work.commands for state in states]
     return done + [(f"{call.form}: {kind_of(call, maps, answer)}", MET)] * (call.form in ANSWERS)
@@ -83,6 +95,8 @@ def demanded(met):
     often = [it for it in met if met[it] > 12]
     wanted += [(row, refused(state)) for row, column in often for state in STATES if column == asked(state)]
     wanted += [(row, MEMORY) for row, column in met if column == ASKED]
+    wanted += [(at_request(word, 1 + it), state) for word in ENTRIES for state in GROWTH for it in range(GROWTH[state])]
+    wanted += [(form, LATER) for form in (*COLLECTING, *MAKING, "clone", "run COMMANDS")]
     wanted += [(f"raw calls at limit {limit}", MANY) for limit in (32, 64)] + [(row, MANY) for row in SMALL_KEYS]
     wanted += [(form, SIZE) for form in ROWS if {"SIZE", "MAKER"} & set(places_of(form))]
     wanted += [(form, STOOD_FOR) for form in CALLS if "QUERY" in places_of(form)]

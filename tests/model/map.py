@@ -180,13 +180,12 @@ class Map:
         return pair
 
     def clone(self):
-        """The capacity of a table's clone is that of the table. A vector's clone has none to spare. Small keys are in boxes."""
+        """The capacity of a table's clone is that of the table. A vector's clone has none to spare."""
         clone = self.anew()
         if self.pairs or not self.is_vec:
             clone.grow(len(self.pairs) if self.is_vec else self.capacity, self.is_vec)
         clone.pairs = [dataclasses.replace(pair) for pair in self.pairs]
-        self.work.cloned += len(self.pairs)
-        self.work.requests += len(self.pairs) if self.work.are_small else 0
+        self.work.clone(len(self.pairs))
         return clone
 
     def same_pairs(self, other):

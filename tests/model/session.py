@@ -1,6 +1,6 @@
 """A script on the model, line by line: what each line is answered, and what it meets."""
 
-from model.basics import BadLine, Pair, Refused, Work
+from model.basics import ALL, NONE, BadLine, Pair, Refused, Work
 from model.coverage import MET, answered_by, met_by
 from model.lines import CALLS, CALLS_ON_A, WITH_TEXT, keys_in, read_call, read_first
 from model.map import Map
@@ -16,10 +16,10 @@ def refusal_of(call, why):
 
 
 class Session:
-    """A script that is being played, and its two maps. `refused` calls are refused all memory, unless it is granted."""
+    """A script that is being played, and its two maps. `refused` calls are refused these requests."""
 
-    def __init__(self, is_granted=False):
-        self.is_granted, self.kind, self.a, self.b = is_granted, None, None, None
+    def __init__(self, refuse=ALL):
+        self.refuse, self.kind, self.a, self.b = refuse, None, None, None
         # Pairs of what was met and where, as in coverage.py.
         self.met = []
 
@@ -46,7 +46,7 @@ class Session:
 
     def answer_call(self, line):
         call = read_call(line, self.kind)
-        work = self.a.work = self.b.work = Work(call.is_refused and not self.is_granted, self.kind == "small")
+        work = self.a.work = self.b.work = Work(self.refuse if call.is_refused else NONE, self.kind == "small")
         met, held = met_by(call, self.a), self.held()
         try:
             answer = CALLS[call.form](self.a if call.form in CALLS_ON_A else self, *call.said)
@@ -61,7 +61,7 @@ class Session:
         return f"{answer} | {work} | {self.a} | {dropped}{called} | requests {requests}"
 
 
-def answers(lines, is_granted=False):
+def answers(lines, refuse=ALL):
     """The answer to each line of a script."""
-    session = Session(is_granted)
+    session = Session(refuse)
     return [session.answer(line) for line in lines]

@@ -4,6 +4,7 @@ mod callers;
 mod forms_of_keys;
 mod refused_clones;
 mod rust_crate;
+mod sizes;
 mod tables;
 mod texts;
 mod uses;

@@ -1,7 +1,7 @@
 //! Maps of texts, printed and under random hashes, and the text of an error.
 
 use crate::callers::basics::ages_by_names_of_others;
-use halfbrown::{Refusal, SizedHashMap};
+use halfbrown::{HashMap, Refusal, Refused, RefusedKey, SizedHashMap};
 use std::alloc::Global;
 use std::io;
 use std::test::Fail;
@@ -22,12 +22,34 @@ fn texts_are_printed_in_order(rt: HostRuntime) -> Result<(), Fail> {
     assert_printed::<0>(rt.alloc())
 }
 
+// Each key and each value has the width.
+#[test]
+fn a_width_and_lines_are_those_of_each_pair(rt: HostRuntime) -> Result<(), Fail> {
+    let alloc = rt.alloc();
+    let mut map = HashMap::<u64, u64>::new(alloc);
+    map.insert(7, 70)?;
+    map.insert(1000000, 8)?;
+    let text = format!(in alloc; "{map:5?}")?;
+    assert_same(text.as_str(), "{    7:    70, 1000000:     8}", "a width")?;
+    let text = format!(in alloc; "{map:#?}")?;
+    assert_same(text.as_str(), "{\n    7: 70,\n    1000000: 8,\n}", "lines")
+}
+
 #[test]
 fn an_io_error_has_the_text_of_its_reason(rt: HostRuntime) -> Result<(), Fail> {
-    for why in [Refusal::Memory, Refusal::Size] {
-        let text = format!(in rt.alloc(); "{}", io::Error::from(why))?;
-        let expected = format!(in rt.alloc(); "{why}")?;
-        assert_same(text, expected, "the text")?;
+    let (key, value) = (1u64, 10u64);
+    for (why, expected) in [
+        (Refusal::Memory, "memory could not be allocated"),
+        (Refusal::Size, "more than 2^60 pairs"),
+    ] {
+        for error in [
+            io::Error::from(why),
+            io::Error::from(Refused { key, value, why }),
+            io::Error::from(RefusedKey { key, why }),
+        ] {
+            let text = format!(in rt.alloc(); "{error}")?;
+            assert_same(text.as_str(), expected, "the text")?;
+        }
     }
     Ok(())
 }

@@ -218,3 +218,32 @@ fn other_paths_lead_where_they_led(rt: HostRuntime) -> Result<(), Error> {
     assert_eq!(rt; text.as_str(), r#"{"users":[true,2],"limits":true}"#);
     Ok(())
 }
+
+// A list of 30,000 items, which takes 300 KB, and 999 more members.
+fn large_text(alloc: Global) -> Result<String, Error> {
+    let mut text = String::from_str(alloc, r#"{"items":[0"#)?;
+    text.push_str(",123456789".repeat(alloc, 29_999)?.as_str())?;
+    text.push_str("]")?;
+    for number in 1..1000u64 {
+        text.push_str(format!(in alloc; ",\"m{number}\":{number}")?.as_str())?;
+    }
+    text.push_str("}")?;
+    Ok(text)
+}
+
+// No contract says that memory is found: here none gives up for the size, and a held member needs none.
+#[test]
+fn a_large_text_is_read_written_and_changed(rt: HostRuntime) -> Result<(), Error> {
+    let alloc = rt.alloc();
+    let text = large_text(alloc)?;
+    let mut value = Value::parse(alloc, text.as_str())?;
+    assert_eq!(rt; value.to_string(alloc)?.as_str(), text.as_str());
+    let last = value.set_at("/items/29999", Value::Null)?;
+    assert_eq!(rt; last.to_string(alloc)?.as_str(), "123456789");
+    for number in 1..1000u64 {
+        let name = format!(in alloc; "m{number}")?;
+        let before = value.set(name, Value::Null)?;
+        assert_eq!(rt; before, Some(Value::Number(format!(in alloc; "{number}")?)));
+    }
+    Ok(())
+}
