@@ -8,31 +8,31 @@ use Rattle.half_store.specs.PairLists.{index_of}
 use Rattle.half_store.specs.Reach.{filling_reach}
 use Rattle.half_store.specs.Work.{Work, sum_below}
 use Rattle.half_mean.specs.Mean.{sum_lists, filling_cases, MeanIsAtMost}
-use Rattle.halfbrown.specs.Costs.{IsSearchCost, hit_looks, filling_looks}
-use Rattle.halfbrown.specs.State.{State, IsState, IsTableCapacity}
+use Rattle.halfbrown.specs.Costs.{IsSearchCost, hit_reads, filling_reads}
+use Rattle.halfbrown.specs.State.{State, IsValid, IsTableCapacity}
 use Rattle.half_laws.specs.MapLaws.{HoldSamePairs}
 
 module _ {K : Type 0} (V : Type 0) {S : Type 0} (hash : S → K → ℕ) where
   -- in a table a search that finds the pair at this index, by any form of its key, reads as many buckets each time
   abbrev pub HitLaw : Type 0
-  HitLaw = (m : State K V S) (test : K → Bool) (sought asked index : ℕ) (before after : Work) → m.is_vec ≡ false
+  HitLaw = (m : State K V S) (test : K → Bool) (wanted asked index : ℕ) (before after : Work) → m.is_vec ≡ false
       → index_of test (keys_of m.pairs) ≡ Some index
-      → IsSearchCost hash sought m (index_of test (keys_of m.pairs)) asked before after → after.looked ≡ before.looked + hit_looks m index
+      → IsSearchCost hash wanted m (index_of test (keys_of m.pairs)) asked before after → after.looked ≡ before.looked + hit_reads m index
 
   -- the searches for all pairs, one each, read as many as the insertions of these pairs into an empty table of this capacity: each search
   -- says so, whatever it finds
   abbrev pub HitTotalLaw : Type 0
-  HitTotalLaw = (m : State K V S) (sought asked : ℕ) (found : Option ℕ) (before after : Work) → m.is_vec ≡ false
-      → IsSearchCost hash sought m found asked before after
-      → sum_below (length m.pairs) (λ index. hit_looks m index) ≡ filling_looks (hash m.builder) m.capacity m.pairs
+  HitTotalLaw = (m : State K V S) (wanted asked : ℕ) (found : Option ℕ) (before after : Work) → m.is_vec ≡ false
+      → IsSearchCost hash wanted m found asked before after
+      → sum_below (length m.pairs) (λ index. hit_reads m index) ≡ filling_reads (hash m.builder) m.capacity m.pairs
 
 -- so in two maps that hold the same pairs in any order they read as many, whatever was inserted and removed before
 module _ {K : Type 0} (V : Type 0) {S : Type 0} (limit : ℕ) (eq : K → K → Bool) (hash : S → K → ℕ) where
   abbrev pub HitHistoryLaw : Type 0
-  HitHistoryLaw = (a b : State K V S) (sought asked sought' asked' : ℕ) (found found' : Option ℕ) (before after before' after' : Work)
-      → HoldSamePairs a b → IsState eq limit a → a.is_vec ≡ false
-      → IsSearchCost hash sought a found asked before after → IsSearchCost hash sought' b found' asked' before' after'
-      → sum_below (length a.pairs) (λ index. hit_looks a index) ≡ sum_below (length b.pairs) (λ index. hit_looks b index)
+  HitHistoryLaw = (a b : State K V S) (wanted asked wanted' asked' : ℕ) (found found' : Option ℕ) (before after before' after' : Work)
+      → HoldSamePairs a b → IsValid eq limit a → a.is_vec ≡ false
+      → IsSearchCost hash wanted a found asked before after → IsSearchCost hash wanted' b found' asked' before' after'
+      → sum_below (length a.pairs) (λ index. hit_reads a index) ≡ sum_below (length b.pairs) (λ index. hit_reads b index)
 
 -- the order of the insertions does not matter
 abbrev pub FillingOrderLaw : Type 0

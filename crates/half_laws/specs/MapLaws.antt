@@ -11,7 +11,7 @@ use Rattle.halfbrown.specs.Costs.{probe_length, addition_grows, capacity_after_s
 use Rattle.halfbrown.specs.Growth.{is_vec_after}
 use Rattle.halfbrown.specs.Pairs.{holds, holds_by}
 use Rattle.halfbrown.specs.Run.{command_cost}
-use Rattle.halfbrown.specs.State.{State, IsState, IsTableCapacity}
+use Rattle.halfbrown.specs.State.{State, IsValid, IsTableCapacity}
 
 -- two maps have the same form, capacity and builder, and the same pairs in any order
 pub record HoldSamePairs {K V S : Type 0} (a b : State K V S) : Type 0 where
@@ -29,7 +29,7 @@ pub record GrewExactlyBy (work before after : Work) : Type 0 where
 -- the first `passed` buckets from the home bucket of a hash on lie in a stretch of neighbouring buckets, not of all of them, that is home
 -- to at least as many of the held pairs as it has buckets
 abbrev pub IsCrowdedAround : {K V : Type 0} → (K → ℕ) → ℕ → List (K × V) → ℕ → ℕ → Type 0
-IsCrowdedAround hash capacity pairs sought passed = IsCrowded (map hash (keys_of pairs)) (buckets_of capacity) sought passed
+IsCrowdedAround hash capacity pairs wanted passed = IsCrowded (map hash (keys_of pairs)) (buckets_of capacity) wanted passed
 
 -- the same from the home bucket of k on
 abbrev pub IsCrowdedFor : {K V : Type 0} → (K → ℕ) → ℕ → List (K × V) → K → ℕ → Type 0
@@ -62,16 +62,16 @@ module _ {K V S : Type 0} (limit : ℕ) (eq : K → K → Bool) where
 module _ {K : Type 0} (V : Type 0) {S : Type 0} (hash : S → K → ℕ) where
   -- a probe for a hash in a table of this capacity, for a search or for an insertion, passes only buckets that are crowded
   abbrev pub CrowdedProbeLaw : Type 0
-  CrowdedProbeLaw = (builder : S) (capacity : ℕ) (pairs : List (K × V)) (sought passed : ℕ)
-      → IsTableCapacity capacity → length pairs ≤ capacity → passed < probe_length (hash builder) false capacity pairs sought
-      → IsCrowdedAround (hash builder) capacity pairs sought passed
+  CrowdedProbeLaw = (builder : S) (capacity : ℕ) (pairs : List (K × V)) (wanted passed : ℕ)
+      → IsTableCapacity capacity → length pairs ≤ capacity → passed < probe_length (hash builder) false capacity pairs wanted
+      → IsCrowdedAround (hash builder) capacity pairs wanted passed
 
   -- in two maps that hold the same pairs in any order, a search that finds none hashes as often, compares as many keys and reads as many
   -- buckets, exactly, whatever was inserted and removed before: by a key or any form of one, hashed by it or under a hash that is known
   abbrev pub HistoryLaw : Type 0
-  HistoryLaw = (a b : State K V S) (test : K → Bool) (sought asked : ℕ) (a_before a_after b_before b_after : Work) → HoldSamePairs a b → holds_by test a.pairs ≡ false
-      → IsSearchCost hash sought a (index_of test (keys_of a.pairs)) asked a_before a_after
-      → IsSearchCost hash sought b (index_of test (keys_of b.pairs)) asked b_before b_after
+  HistoryLaw = (a b : State K V S) (test : K → Bool) (wanted asked : ℕ) (a_before a_after b_before b_after : Work) → HoldSamePairs a b → holds_by test a.pairs ≡ false
+      → IsSearchCost hash wanted a (index_of test (keys_of a.pairs)) asked a_before a_after
+      → IsSearchCost hash wanted b (index_of test (keys_of b.pairs)) asked b_before b_after
       → (work : Work) × GrewExactlyBy work a_before a_after × GrewExactlyBy work b_before b_after
 
 module _ {K : Type 0} (V : Type 0) {S : Type 0} (limit : ℕ) (eq : K → K → Bool) (hash : S → K → ℕ) where
@@ -100,26 +100,26 @@ module _ {K : Type 0} (V : Type 0) {S : Type 0} (limit : ℕ) (eq : K → K → 
 
   -- a search in a table, by any form of a key or by a match, passes only buckets that are crowded, whether it finds one or not
   abbrev pub CrowdedSearchLaw : Type 0
-  CrowdedSearchLaw = (m : State K V S) (sought : ℕ) (found : Option ℕ) (asked : ℕ) (before after : Work) (passed : ℕ)
-      → IsState eq limit m → m.is_vec ≡ false → IsSearchCost hash sought m found asked before after → before.looked + passed < after.looked
-      → IsCrowdedAround (hash m.builder) m.capacity m.pairs sought passed
+  CrowdedSearchLaw = (m : State K V S) (wanted : ℕ) (found : Option ℕ) (asked : ℕ) (before after : Work) (passed : ℕ)
+      → IsValid eq limit m → m.is_vec ≡ false → IsSearchCost hash wanted m found asked before after → before.looked + passed < after.looked
+      → IsCrowdedAround (hash m.builder) m.capacity m.pairs wanted passed
 
   -- an insertion that makes no capacity grow for its key passes only buckets that are crowded
   abbrev pub CrowdedInsertionLaw : Type 0
   CrowdedInsertionLaw = (m : State K V S) (k : K) (granted : Bool) (before after : Work) (passed : ℕ)
-      → IsState eq limit m → insertion_grows limit eq m k granted ≡ false
+      → IsValid eq limit m → insertion_grows limit eq m k granted ≡ false
       → IsInsertCost limit eq hash m k granted before after → before.looked + passed < after.looked
       → IsCrowdedFor (hash m.builder) (capacity_after_switch limit m) m.pairs k passed
 
   -- an insertion that makes the capacity of a table grow for its key reads two unsuccessful probes, one before the growth and one after it
   abbrev pub CrowdedGrowthLaw : Type 0
   CrowdedGrowthLaw = (m : State K V S) (k : K) (granted : Bool) (before after : Work)
-      → IsState eq limit m → is_vec_after limit m ≡ false → insertion_grows limit eq m k granted ≡ true
+      → IsValid eq limit m → is_vec_after limit m ≡ false → insertion_grows limit eq m k granted ≡ true
       → IsInsertCost limit eq hash m k granted before after
       → ReadsTwoProbes (hash m.builder) (capacity_after_switch limit m) (capacity_after_growth limit m) m.pairs k before after
 
   -- an insertion of a new key without a search passes only buckets that are crowded, in the capacity that it leaves
   abbrev pub CrowdedUncheckedLaw : Type 0
   CrowdedUncheckedLaw = (m : State K V S) (k : K) (granted : Bool) (before after : Work) (passed : ℕ)
-      → IsState eq limit m → GrewBy (new_key_cost limit eq hash m k granted) before after → before.looked + passed < after.looked
+      → IsValid eq limit m → GrewBy (new_key_cost limit eq hash m k granted) before after → before.looked + passed < after.looked
       → IsCrowdedFor (hash m.builder) (capacity_after_growth limit m) m.pairs k passed

@@ -13,18 +13,18 @@ use Rattle.halfbrown.specs.Pairs.{holds_by}
 use Rattle.halfbrown.specs.State.{State, IsTableCapacity}
 
 -- the buckets that a search reads which finds nothing in a table of this capacity, by the hashes of the held keys and the searched hash
-abbrev pub miss_looks : (capacity : ℕ) → List ℕ → (sought : ℕ) → ℕ
-miss_looks capacity hashes sought = reach hashes (buckets_of capacity) sought
+abbrev pub miss_reads : (capacity : ℕ) → List ℕ → (wanted : ℕ) → ℕ
+miss_reads capacity hashes wanted = reach hashes (buckets_of capacity) wanted
 
 -- those of all cases: each list of `held` hashes, and each searched hash. All hashes are below `hashes`
 abbrev pub total_misses : (hashes capacity held : ℕ) → ℕ
-total_misses hashes capacity held = sum_lists hashes held (λ list. sum_below hashes (λ sought. miss_looks capacity list sought))
+total_misses hashes capacity held = sum_lists hashes held (λ list. sum_below hashes (λ wanted. miss_reads capacity list wanted))
 
 -- that is what a search in a table reads, by any form of a key, where it finds none
 abbrev pub MissLaw : {K : Type 0} (V : Type 0) {S : Type 0} (hash : S → K → ℕ) → Type 0
-MissLaw {K} V {S} hash = (m : State K V S) (test : K → Bool) (sought asked : ℕ) (before after : Work) → m.is_vec ≡ false → holds_by test m.pairs ≡ false
-    → IsSearchCost hash sought m (index_of test (keys_of m.pairs)) asked before after
-    → after.looked ≡ before.looked + miss_looks m.capacity (map (hash m.builder) (keys_of m.pairs)) sought
+MissLaw {K} V {S} hash = (m : State K V S) (test : K → Bool) (wanted asked : ℕ) (before after : Work) → m.is_vec ≡ false → holds_by test m.pairs ≡ false
+    → IsSearchCost hash wanted m (index_of test (keys_of m.pairs)) asked before after
+    → after.looked ≡ before.looked + miss_reads m.capacity (map (hash m.builder) (keys_of m.pairs)) wanted
 
 -- all searches read what all probes do, so what is known of the mean of a probe holds of a search
 abbrev pub MissTotalLaw : Type 0

@@ -9,8 +9,8 @@ use Rattle.halfbrown.specs.declared.run.Command.TheVariants.{Reserve}
 use Rattle.halfbrown.specs.declared.run.Reply.{Reply}
 use Rattle.halfbrown.specs.Costs.{Cost, add_costs}
 use Rattle.half_store.specs.Arrays.{bytes}
-use Rattle.halfbrown.specs.Run.{Lead, RunsAtCost, shrinks, commands_of, replies_of, cost_of, Step, refusal_in, says_vec, is_shrink, switches, form_changed}
-use Rattle.halfbrown.specs.State.{State, IsState}
+use Rattle.halfbrown.specs.Run.{Chain, RunsAtCost, has_shrink, commands_of, replies_of, cost_of, Step, refusal_in, says_vec, is_shrink, switches, form_changed}
+use Rattle.halfbrown.specs.State.{State, IsValid}
 
 -- whether the command is `Reserve`
 abbrev pub is_reserve : {K V : Type 0} → Command K V → Bool
@@ -46,7 +46,7 @@ module _ {K V S : Type 0} where
 module _ {K : Type 0} (V S : Type 0) (limit : ℕ) (eq : K → K → Bool) where
   -- this holds of each run: of any steps, and of the maps from which and to which they lead
   abbrev pub EachRun : (State K V S → List (Step K V S) → State K V S → Type 0) → Type 0
-  EachRun Holds = (old new : State K V S) (steps : List (Step K V S)) → Lead limit eq old steps new → Holds old steps new
+  EachRun Holds = (old new : State K V S) (steps : List (Step K V S)) → Chain limit eq old steps new → Holds old steps new
 
   -- the form at the end of a run is the one that the last step that changed it left, and where none did the first one
   abbrev pub FormLaw : Type 0
@@ -54,16 +54,16 @@ module _ {K : Type 0} (V S : Type 0) (limit : ℕ) (eq : K → K → Bool) where
 
   -- a run without `Shrink` ends with a vector exactly where it began with one and put no pair into a full one
   abbrev pub SwitchLaw : Type 0
-  SwitchLaw = EachRun (λ old steps new. shrinks (commands_of steps) ≡ false
+  SwitchLaw = EachRun (λ old steps new. has_shrink (commands_of steps) ≡ false
       → new.is_vec ≡ (old.is_vec && not (list_any (switches limit) steps)))
 
   -- without `Shrink`: once a table, always a table
   abbrev pub TableLaw : Type 0
-  TableLaw = EachRun (λ old steps new. shrinks (commands_of steps) ≡ false → old.is_vec ≡ false → new.is_vec ≡ false)
+  TableLaw = EachRun (λ old steps new. has_shrink (commands_of steps) ≡ false → old.is_vec ≡ false → new.is_vec ≡ false)
 
   -- without `Shrink` a vector becomes a table once at most
   abbrev pub OneSwitchLaw : Type 0
-  OneSwitchLaw = EachRun (λ old steps new. shrinks (commands_of steps) ≡ false → count_by (switches limit) steps ≤ 1)
+  OneSwitchLaw = EachRun (λ old steps new. has_shrink (commands_of steps) ≡ false → count_by (switches limit) steps ≤ 1)
 
   -- two runs of the same commands from states that are alike, in which the same commands are refused for the same reasons and each
   -- `Shrink` leaves the same form, have the same replies and end in states that are alike: capacity, builder, hashes and history decide
@@ -75,18 +75,18 @@ module _ {K : Type 0} (V S : Type 0) (limit : ℕ) (eq : K → K → Bool) where
 
   -- without `Reserve` a map has capacity for at most eight pairs more than twice the most that it held at once, or for what it had at first
   abbrev pub CapacityLaw : Type 0
-  CapacityLaw = EachRun (λ old steps new. IsState eq limit old → reserves (commands_of steps) ≡ false
+  CapacityLaw = EachRun (λ old steps new. IsValid eq limit old → reserves (commands_of steps) ≡ false
       → new.capacity ≤ max old.capacity (2 * most_held old steps + 8))
 
   -- so its arrays, and the block of its table, take at most the bytes of a table with that capacity, whatever bytes a key and a value have
   abbrev pub BytesLaw : Type 0
-  BytesLaw = EachRun (λ old steps new. IsState eq limit old → reserves (commands_of steps) ≡ false → (key value : ℕ)
+  BytesLaw = EachRun (λ old steps new. IsValid eq limit old → reserves (commands_of steps) ≡ false → (key value : ℕ)
       → let most : ℕ = max old.capacity (2 * most_held old steps + 8) in
       bytes key value new.is_vec new.capacity ≤ bytes key value false most)
 
   -- without `Shrink` and `Reserve` a run moves at most two pairs for each command, and once those that it began with and twice the limit
   abbrev pub MovesLaw : Type 0
-  MovesLaw = EachRun (λ old steps new. IsState eq limit old → shrinks (commands_of steps) ≡ false
+  MovesLaw = EachRun (λ old steps new. IsValid eq limit old → has_shrink (commands_of steps) ≡ false
       → reserves (commands_of steps) ≡ false → sum_by moved steps ≤ 2 * length steps + (length old.pairs + 2 * limit))
 
   module _ (hash : S → K → ℕ) where
@@ -97,7 +97,7 @@ module _ {K : Type 0} (V S : Type 0) (limit : ℕ) (eq : K → K → Bool) where
 
     -- a run without `Shrink` that ends with a vector has hashed nothing
     abbrev pub NothingHashedLaw : Type 0
-    NothingHashedLaw = EachRun (λ old steps new. shrinks (commands_of steps) ≡ false → new.is_vec ≡ true
+    NothingHashedLaw = EachRun (λ old steps new. has_shrink (commands_of steps) ≡ false → new.is_vec ≡ true
         → (cost_of limit eq hash steps).asked ≡ 0)
 
     -- a run hashes at most two keys for each command, and the limit's number of keys for each switch
@@ -106,7 +106,7 @@ module _ {K : Type 0} (V S : Type 0) (limit : ℕ) (eq : K → K → Bool) where
 
     -- so without `Shrink` a run hashes at most two keys for each command, and the limit's number of keys once
     abbrev pub AmortizedHashesLaw : Type 0
-    AmortizedHashesLaw = EachRun (λ old steps new. shrinks (commands_of steps) ≡ false
+    AmortizedHashesLaw = EachRun (λ old steps new. has_shrink (commands_of steps) ≡ false
         → (cost_of limit eq hash steps).asked ≤ 2 * length steps + limit)
 
 module _ {K V S : Type 0} (limit : ℕ) (eq : K → K → Bool) (hash : S → K → ℕ) where

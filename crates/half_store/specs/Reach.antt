@@ -30,13 +30,13 @@ module _ (hashes : List ℕ) (buckets : ℕ) where
   loaded_within last (suc most) = nat_le (suc most) (load last (suc most)) || loaded_within last most
 
   -- the same question as `IsLoaded`
-  abbrev pub is_loaded : ℕ → Bool
-  is_loaded last = loaded_within last (buckets - 1)
+  abbrev pub loaded_test : ℕ → Bool
+  loaded_test last = loaded_within last (buckets - 1)
 
   -- how many loaded buckets follow one another from this bucket on, at most `most`
   unfoldable pub loaded_run : ℕ → ℕ → ℕ
   loaded_run zero bucket = 0
-  loaded_run (suc most) bucket = if is_loaded bucket then suc (loaded_run most (bucket_after buckets bucket 1)) else 0
+  loaded_run (suc most) bucket = if loaded_test bucket then suc (loaded_run most (bucket_after buckets bucket 1)) else 0
 
   -- the length of an unsuccessful probe for this hash: the loaded buckets from its home bucket on, and one more
   unfoldable pub reach : ℕ → ℕ

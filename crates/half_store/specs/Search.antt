@@ -8,9 +8,9 @@ use Rattle.half_store.specs.declared.store.find.Vacancy.{Vacancy}
 use Rattle.half_store.specs.declared.vecmap.search.Scan.{Scan}
 use Rattle.half_store.specs.declared.vecmap.search.Scan.TheVariants.{ByKey}
 use Rattle.half_store.specs.Store.{StoreState, IsVacancy}
-use Rattle.half_store.specs.Table.{Contents, hit_reads, all_hit_reads}
+use Rattle.half_store.specs.Table.{Contents, hit_reads_in, all_hit_reads_in}
 use Rattle.std.specs.Borrow.{Bor}
-use Rattle.half_store.specs.Slots.{slots_by, slot_at}
+use Rattle.half_store.specs.Slots.{slots_from, slot_at}
 
 -- the match returned this of the key at this index
 abbrev pub ReturnsAt : {K : Type 0} → (K → Bool → Type 0) → List K → ℕ → Bool → Type 0
@@ -58,8 +58,8 @@ pub record ComparesInOrder (scan : Scan) (found : Option ℕ) (len : ℕ) (befor
 pub record IsStoreSearchCost {K V : Type 0} (s : StoreState K V) (hash : ℕ) (scan : Scan) (index : Option ℕ) (before after : Work) : Type 0 where
   pub vector : s.is_vec ≡ true → ComparesInOrder scan index (length s.pairs) before after
   pub found : s.is_vec ≡ false → IfSome index (λ _. IsTableHitCost s.hashes (buckets_of s.capacity) hash before after)
-  pub hit : s.is_vec ≡ false → IfSome index (λ at. after.looked ≡ before.looked + hit_reads s.contents at)
-  pub hits : s.is_vec ≡ false → all_hit_reads (length s.hashes) s.contents ≡ filling_reach (buckets_of s.capacity) s.hashes
+  pub hit : s.is_vec ≡ false → IfSome index (λ at. after.looked ≡ before.looked + hit_reads_in s.contents at)
+  pub hits : s.is_vec ≡ false → all_hit_reads_in (length s.hashes) s.contents ≡ filling_reach (buckets_of s.capacity) s.hashes
   pub missing : s.is_vec ≡ false → IfNone index (after ≡ after_missing s.hashes (buckets_of s.capacity) hash before)
   pub short : s.is_vec ≡ false → reach s.hashes (buckets_of s.capacity) hash ≤ length s.hashes + 1
 
@@ -75,10 +75,10 @@ CallableOnHash {K} callable hashes hash keys =
 -- each that a bucket of this hash leads to
 abbrev pub CallableInBuckets : {K : Type 0} → (Bor K → Type 0) → List ℕ → List ℕ → ℕ → List K → Type 0
 CallableInBuckets {K} callable hashes words hash keys =
-    (key : Bor K) (bucket : ℕ) → slot_at (slots_by hashes words) bucket ≡ Some hash → slice_get keys (slice_index words bucket - 1) ≡ Some key.now
+    (key : Bor K) (bucket : ℕ) → slot_at (slots_from hashes words) bucket ≡ Some hash → slice_get keys (slice_index words bucket - 1) ≡ Some key.now
     → callable key
 
 -- the test refused each of those
 abbrev pub RefusedInBuckets : {K : Type 0} → (K → Bool → Type 0) → List ℕ → List ℕ → ℕ → List K → Type 0
 RefusedInBuckets returns hashes words hash keys =
-    (bucket : ℕ) → slot_at (slots_by hashes words) bucket ≡ Some hash → ReturnsAt returns keys (slice_index words bucket - 1) false
+    (bucket : ℕ) → slot_at (slots_from hashes words) bucket ≡ Some hash → ReturnsAt returns keys (slice_index words bucket - 1) false

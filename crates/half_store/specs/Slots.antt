@@ -4,13 +4,13 @@ use Rattle.half_store.specs.Reach.{home, probe_distance}
 use Rattle.std.specs.List.{All, slice_get, position_or_len}
 
 -- the hash stored for a word, by the stored hashes of the entry indices
-abbrev pub slot_by : List ℕ → ℕ → Option ℕ
-slot_by hashes zero = None
-slot_by hashes (suc index) = slice_get hashes index
+abbrev pub hash_of_word : List ℕ → ℕ → Option ℕ
+hash_of_word hashes zero = None
+hash_of_word hashes (suc index) = slice_get hashes index
 
 -- the hash stored for each bucket
-abbrev pub slots_by : List ℕ → List ℕ → List (Option ℕ)
-slots_by hashes words = map (slot_by hashes) words
+abbrev pub slots_from : List ℕ → List ℕ → List (Option ℕ)
+slots_from hashes words = map (hash_of_word hashes) words
 
 -- each bucket is empty, or its entry index has a stored hash
 abbrev pub WithinHashes : List ℕ → List ℕ → Type 0
@@ -38,13 +38,9 @@ stored test (Some hash) = test hash
 abbrev pub distance_from_home : List (Option ℕ) → ℕ → ℕ → ℕ
 distance_from_home slots hash bucket = probe_distance (length slots) (home (length slots) hash) bucket
 
--- how many buckets a probe for the hash reads up to and with this one
-abbrev pub reads_to : List (Option ℕ) → ℕ → ℕ → ℕ
-reads_to slots hash bucket = distance_from_home slots hash bucket + 1
-
 -- how many buckets have this hash
-abbrev pub stored_count : List (Option ℕ) → ℕ → ℕ
-stored_count slots hash = count_by (stored (λ held. held == hash)) slots
+abbrev pub slot_hash_count : List (Option ℕ) → ℕ → ℕ
+slot_hash_count slots hash = count_by (stored (λ held. held == hash)) slots
 
 -- each bucket that a probe from `start` reads before this one is full
 abbrev pub FullBefore : List (Option ℕ) → ℕ → ℕ → Type 0
@@ -52,7 +48,7 @@ FullBefore slots start bucket =
     (other : ℕ) → other < length slots → probe_distance (length slots) start other < probe_distance (length slots) start bucket → slot_at slots other ≢ None
 
 -- an insertion probe for the hash ends at this bucket: it is the first empty one from the hash's home bucket on
-pub record IsVacancyFor (slots : List (Option ℕ)) (hash bucket : ℕ) : Type 0 where
+pub record IsSlotVacancy (slots : List (Option ℕ)) (hash bucket : ℕ) : Type 0 where
   pub within : bucket < length slots
   pub vacant : slot_at slots bucket ≡ None
   pub passed : FullBefore slots (home (length slots) hash) bucket
@@ -64,13 +60,13 @@ pub record IsFoundAt (slots : List (Option ℕ)) (hash bucket : ℕ) : Type 0 wh
 
 -- a probe for the hash ended at the pair of this entry index, in this bucket, and read each bucket up to it
 pub record EndsAtPair (hashes words : List ℕ) (hash index bucket before after : ℕ) : Type 0 where
-  pub found : IsFoundAt (slots_by hashes words) hash bucket
+  pub found : IsFoundAt (slots_from hashes words) hash bucket
   pub entry : index ≡ slice_index words bucket - 1
-  pub looked : after ≡ before + reads_to (slots_by hashes words) hash bucket
+  pub looked : after ≡ before + (distance_from_home (slots_from hashes words) hash bucket + 1)
 
 -- some bucket is empty
-abbrev pub SomeVacant : List (Option ℕ) → Type 0
-SomeVacant slots = (bucket : ℕ) × (bucket < length slots) × (slot_at slots bucket ≡ None)
+abbrev pub HasVacantSlot : List (Option ℕ) → Type 0
+HasVacantSlot slots = (bucket : ℕ) × (bucket < length slots) × (slot_at slots bucket ≡ None)
 
 -- the probe invariant: counted from its home bucket, a stored hash comes before every empty bucket
 pub record ProbeInvariant (slots : List (Option ℕ)) : Type 0 where

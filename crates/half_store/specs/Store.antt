@@ -9,7 +9,7 @@ use Rattle.half_store.specs.declared.refusal.Refusal.{Refusal}
 use Rattle.half_store.specs.Capacity.{capacity_of, capacity_for, generous_capacity, least_capacity, vec_shrunk, shrunk_capacity}
 use Rattle.half_store.specs.Refusal.{refusal_of}
 use Rattle.half_store.specs.Columns.{ColumnsState}
-use Rattle.half_store.specs.Table.{TableState, Contents, table_contents, no_contents, contents_code, with_hash_in, IsVacancyIn}
+use Rattle.half_store.specs.Table.{TableState, Contents, table_contents, no_contents, contents_code, with_hash_in, IsTableVacancy}
 use base.Stored.{Coded, coded×, coded_list, coded_ℕ, coded_bool, coded_via}
 
 -- the form, the pairs in order, the capacity, and, in a table alone, the stored hashes by entry index and what the buckets contain
@@ -52,7 +52,7 @@ module _ {K V : Type 0} where
     pub hashes : new.hashes ≡ old.hashes
 
   -- the form and the capacity stay
-  pub record KeepsForm (old new : StoreState K V) : Type 0 where
+  pub record SameForm (old new : StoreState K V) : Type 0 where
     pub form : new.is_vec ≡ old.is_vec
     pub capacity : new.capacity ≡ old.capacity
 
@@ -61,13 +61,13 @@ module _ {K V : Type 0} where
   store_with_pairs s ps = record s { pairs = ps }
 
 -- of this many pairs as many as a form may hold: in a vector no more than the limit, in a table all
-abbrev pub allowed : ℕ → Bool → ℕ → ℕ
-allowed limit is_vec capacity = if is_vec then min capacity limit else capacity
+abbrev pub capped : ℕ → Bool → ℕ → ℕ
+capped limit is_vec capacity = if is_vec then min capacity limit else capacity
 
 module _ {K V : Type 0} (limit : ℕ) where
   -- how many pairs in all a reservation for this many more is for
   abbrev pub reserved : StoreState K V → ℕ → ℕ
-  reserved s additional = allowed limit s.is_vec (length s.pairs + additional)
+  reserved s additional = capped limit s.is_vec (length s.pairs + additional)
 
   -- the capacity that it makes where there is less: in a table the least of its series that is enough
   abbrev pub reserved_capacity : StoreState K V → ℕ → ℕ
@@ -134,7 +134,7 @@ module _ {K V : Type 0} (limit : ℕ) (old new : StoreState K V) where
 
 -- a pair of this hash may be added here: in a table at the empty bucket where an insertion probe for it ends; a vector looks at neither
 abbrev pub IsVacancy : Bool → Contents → ℕ → Vacancy → Type 0
-IsVacancy is_vec contents hash vacancy = is_vec ≡ false → (vacancy.hash ≡ hash) × IsVacancyIn contents hash vacancy.bucket
+IsVacancy is_vec contents hash vacancy = is_vec ≡ false → (vacancy.hash ≡ hash) × IsTableVacancy contents hash vacancy.bucket
 
 -- what the buckets contain once a pair is added here
 abbrev pub filled : Bool → Contents → Vacancy → Contents

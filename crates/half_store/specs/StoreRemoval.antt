@@ -4,12 +4,12 @@ use Rattle.std.specs.Result.{result_ok}
 use Rattle.half_store.specs.declared.store.find.Vacancy.{Vacancy}
 use Rattle.half_store.specs.declared.vecmap.search.Scan.TheVariants.{ByKey}
 use Rattle.half_store.specs.PairLists.{swap_remove_at}
-use Rattle.half_store.specs.Work.{LooksWithin, probe_reads, Work}
-use Rattle.half_store.specs.Slots.{slots_by}
+use Rattle.half_store.specs.Work.{ReadsWithin, probe_reads, Work}
+use Rattle.half_store.specs.Slots.{slots_from}
 use Rattle.half_store.specs.Reach.{reach, probe_distance}
 use Rattle.half_store.specs.Search.{StoreSearch, IsStoreSearchCost}
-use Rattle.half_store.specs.Store.{StoreState, KeepsForm}
-use Rattle.half_store.specs.Table.{IsVacantBeside}
+use Rattle.half_store.specs.Store.{StoreState, SameForm}
+use Rattle.half_store.specs.Table.{IsOtherVacancy}
 use Rattle.std.specs.List.{remove}
 
 -- the bucket of the last pair, which a probe for its hash finds, leads to this entry index
@@ -18,34 +18,34 @@ pub record Renames (hashes old : List ℕ) (index : ℕ) (new : List ℕ) (befor
   pub at : slice_index old bucket ≡ length hashes
   pub near : probe_reads (length old) (slice_index hashes (length hashes - 1)) bucket < reach hashes (length old) (slice_index hashes (length hashes - 1))
   pub words : new ≡ slice_set old bucket (index + 1)
-  pub reads : LooksWithin (probe_reads (length old) (slice_index hashes (length hashes - 1)) bucket) before after
+  pub reads : ReadsWithin (probe_reads (length old) (slice_index hashes (length hashes - 1)) bucket) before after
 
 -- closing the gap at this bucket reads those after it, up to any empty one
 abbrev pub ShiftsUpTo : List ℕ → List ℕ → ℕ → Work → Work → Type 0
-ShiftsUpTo hashes old removed before after = (vacant : ℕ) → IsVacantBeside (slots_by hashes (slice_set old removed 0)) removed vacant →
-    LooksWithin (probe_distance (length old) removed vacant) before after
+ShiftsUpTo hashes old removed before after = (vacant : ℕ) → IsOtherVacancy (slots_from hashes (slice_set old removed 0)) removed vacant →
+    ReadsWithin (probe_distance (length old) removed vacant) before after
 
 module _ {K V : Type 0} (old new : StoreState K V) where
   -- the pair at this index is gone, and the last pair has its index
-  pub record SwapRemoves (index : ℕ) (pair : K × V) : Type 0 where
+  pub record StoreSwapRemoves (index : ℕ) (pair : K × V) : Type 0 where
     pub removed : slice_get old.pairs index ≡ Some pair
     pub pairs : new.pairs ≡ swap_remove_at old.pairs index
     pub hashes : old.is_vec ≡ false → new.hashes ≡ swap_remove_at old.hashes index
-    pub form : KeepsForm old new
+    pub form : SameForm old new
 
   -- the pair that a search found is gone and returned, or it found none and nothing changed
-  abbrev pub TakesFound : Result ℕ Vacancy → Option (K × V) → Type 0
-  TakesFound (Ok index) (Some pair) = SwapRemoves index pair
-  TakesFound (Ok index) None = ⊥
-  TakesFound (Err vacancy) (Some pair) = ⊥
-  TakesFound (Err vacancy) None = new ≡ old
+  abbrev pub RemovesFound : Result ℕ Vacancy → Option (K × V) → Type 0
+  RemovesFound (Ok index) (Some pair) = StoreSwapRemoves index pair
+  RemovesFound (Ok index) None = ⊥
+  RemovesFound (Err vacancy) (Some pair) = ⊥
+  RemovesFound (Err vacancy) None = new ≡ old
 
   -- a search by the match under this hash, and the removal of what it found
-  pub record Takes (returns : K → Bool → Type 0) (hash : ℕ) (result : Option (K × V)) (before after : Work) : Type 0 where
+  pub record SearchesAndRemoves (returns : K → Bool → Type 0) (hash : ℕ) (result : Option (K × V)) (before after : Work) : Type 0 where
     pub search : Result ℕ Vacancy
     pub finds : StoreSearch returns hash old search
     pub cost : IsStoreSearchCost old hash ByKey (result_ok search) before after
-    pub takes : TakesFound search result
+    pub takes : RemovesFound search result
 
 -- the word of a bucket once the pair at this index is the last of `pairs`, and each pair behind it has the index before its own
 abbrev pub moved_word : ℕ → ℕ → ℕ → ℕ
@@ -57,8 +57,8 @@ pub record MovesLast (pairs index : ℕ) (old new : List ℕ) : Type 0 where
   pub words : (bucket : ℕ) → slice_index new bucket ≡ moved_word pairs index (slice_index old bucket)
 
 -- the pair at this index is gone, and each pair behind it has the index before its own
-pub record ShiftRemoves {K V : Type 0} (old new : StoreState K V) (index : ℕ) (pair : K × V) : Type 0 where
+pub record StoreShiftRemoves {K V : Type 0} (old new : StoreState K V) (index : ℕ) (pair : K × V) : Type 0 where
   pub removed : slice_get old.pairs index ≡ Some pair
   pub pairs : new.pairs ≡ remove old.pairs index
   pub hashes : old.is_vec ≡ false → new.hashes ≡ remove old.hashes index
-  pub form : KeepsForm old new
+  pub form : SameForm old new

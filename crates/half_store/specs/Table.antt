@@ -2,7 +2,7 @@
 use Rattle.std.specs.Prelude.{ℕ, suc, List, [], ◌∷◌, ◌++◌, length, Option, Some, slice_set, slice_index, ◌≡◌, ◌≢◌, ◌<◌, ◌≤◌, None, ◌+◌, Bool, true, false, slice_get, Result, IfOk, IfErr, OnErr}
 use Rattle.std.specs.Coded.{Coded, coded×, coded_list, coded_ℕ}
 use base.Stored.{coded_via}
-use Rattle.half_store.specs.Slots.{IsVacancyFor, slot_at, distance_from_home, ProbeInvariant, IsFoundAt, slots_by, EachOnce, bucket_of}
+use Rattle.half_store.specs.Slots.{IsSlotVacancy, slot_at, distance_from_home, ProbeInvariant, IsFoundAt, slots_from, EachOnce, bucket_of}
 use Rattle.half_store.specs.Capacity.{capacity_of, IsBucketCount, buckets_of}
 use Rattle.half_store.specs.Words.{AreWordsFor}
 use Rattle.std.specs.List.{swap_remove}
@@ -16,8 +16,8 @@ pub record TableState : Type 0 where
   words : List ℕ
 
 -- what each bucket contains
-abbrev pub slots_of : TableState → List (Option ℕ)
-slots_of t = slots_by t.hashes t.words
+abbrev pub table_slots : TableState → List (Option ℕ)
+table_slots t = slots_from t.hashes t.words
 
 -- what the buckets contain, for callers that keep such a fact and hand it back: nobody else can read it
 pub record Contents : Type 0 where
@@ -32,20 +32,20 @@ abbrev pub no_contents : Contents
 no_contents = record { hashes = []; words = [] }
 
 -- an insertion probe for the hash ends at this bucket
-abbrev pub IsVacancyIn : Contents → ℕ → ℕ → Type 0
-IsVacancyIn c hash bucket = IsVacancyFor (slots_by c.hashes c.words) hash bucket
+abbrev pub IsTableVacancy : Contents → ℕ → ℕ → Type 0
+IsTableVacancy c hash bucket = IsSlotVacancy (slots_from c.hashes c.words) hash bucket
 
 -- the same once a pair of the hash is added in this bucket
 abbrev pub with_hash_in : Contents → ℕ → ℕ → Contents
 with_hash_in c hash bucket = record { hashes = c.hashes ++ hash ∷ []; words = slice_set c.words bucket (suc (length c.hashes)) }
 
 -- how many buckets a search reads that finds the pair of this entry index: from the home of its hash up to and with its bucket
-unfoldable pub hit_reads : Contents → ℕ → ℕ
-hit_reads c index = probe_reads (length c.words) (slice_index c.hashes index) (bucket_of c.words index)
+unfoldable pub hit_reads_in : Contents → ℕ → ℕ
+hit_reads_in c index = probe_reads (length c.words) (slice_index c.hashes index) (bucket_of c.words index)
 
 -- how many the searches for the pairs of the first entry indices read, one each
-unfoldable pub all_hit_reads : ℕ → Contents → ℕ
-all_hit_reads pairs c = sum_below pairs (λ index. hit_reads c index)
+unfoldable pub all_hit_reads_in : ℕ → Contents → ℕ
+all_hit_reads_in pairs c = sum_below pairs (λ index. hit_reads_in c index)
 
 abbrev pub contents_code : Coded Contents
 contents_code = coded_via (coded× (coded_list coded_ℕ) (coded_list coded_ℕ)) (λ c. (c.hashes, c.words)) (λ a b e i. record { hashes = (e i).0; words = (e i).1 })
@@ -63,17 +63,17 @@ pub record IsIndexed (hashes words : List ℕ) : Type 0 where
   pub count : IsBucketCount (length words)
   pub room : length hashes ≤ capacity_of (length words)
   pub each : EachOnce (length hashes) words
-  pub ordered : ProbeInvariant (slots_by hashes words)
+  pub ordered : ProbeInvariant (slots_from hashes words)
 
 -- a bucket other than the gap is empty
-abbrev pub IsVacantBeside : List (Option ℕ) → ℕ → ℕ → Type 0
-IsVacantBeside slots gap vacant = (vacant < length slots) × (slot_at slots vacant ≡ None) × (vacant ≢ gap)
+abbrev pub IsOtherVacancy : List (Option ℕ) → ℕ → ℕ → Type 0
+IsOtherVacancy slots gap vacant = (vacant < length slots) × (slot_at slots vacant ≡ None) × (vacant ≢ gap)
 
 -- an emptied bucket, which alone may break the probe invariant; another bucket is empty too
 pub record HasGap (slots : List (Option ℕ)) (gap : ℕ) : Type 0 where
   pub within : gap < length slots
   pub vacant : slot_at slots gap ≡ None
-  pub another : (bucket : ℕ) × IsVacantBeside slots gap bucket
+  pub another : (bucket : ℕ) × IsOtherVacancy slots gap bucket
   pub others : (bucket vacant hash : ℕ) → slot_at slots bucket ≡ Some hash → vacant < length slots → slot_at slots vacant ≡ None → vacant ≢ gap →
       distance_from_home slots hash bucket < distance_from_home slots hash vacant
 
@@ -81,7 +81,7 @@ pub record HasGap (slots : List (Option ℕ)) (gap : ℕ) : Type 0 where
 pub record IsIndexedButFor (hashes words : List ℕ) (emptied : ℕ) : Type 0 where
   pub room : length hashes ≤ capacity_of (length words)
   pub each : EachOnce (length hashes) words
-  pub gap : HasGap (slots_by hashes words) emptied
+  pub gap : HasGap (slots_from hashes words) emptied
 
 -- what is always true of a table's columns: the buckets have words up to `most`, of four bytes exactly where the capacity of the table is
 -- below 2^32, and the column of the hashes has memory for exactly that capacity
@@ -94,14 +94,14 @@ pub record IsTable (hashes words : List ℕ) (most capacity : ℕ) : Type 0 wher
 -- ended, if there are buckets. The searches for all pairs, one each, read what insertions of their hashes read (`hits`)
 pub record TableSearch (returns : ℕ → Bool → Type 0) (t : TableState) (hash : ℕ) (result : Result (ℕ × ℕ) ℕ) (old new : Work) : Type 0 where
   pub found : IfOk result (λ pair. slice_get t.hashes pair.0 ≡ Some hash)
-  pub at : IfOk result (λ pair. IsFoundAt (slots_of t) hash pair.1)
+  pub at : IfOk result (λ pair. IsFoundAt (table_slots t) hash pair.1)
   pub accepted : IfOk result (λ pair. returns pair.0 true)
   pub refused : OnErr result ((index : ℕ) → slice_get t.hashes index ≡ Some hash → returns index false)
-  pub vacancy : IfErr result (λ bucket. 0 < t.buckets → IsVacancyIn (table_contents t) hash bucket)
+  pub vacancy : IfErr result (λ bucket. 0 < t.buckets → IsTableVacancy (table_contents t) hash bucket)
   pub missing_cost : OnErr result (new ≡ after_missing t.hashes t.buckets hash old)
   pub found_cost : IfOk result (λ pair. IsTableHitCost t.hashes t.buckets hash old new)
-  pub hit : IfOk result (λ pair. new.looked ≡ old.looked + hit_reads (table_contents t) pair.0)
-  pub hits : all_hit_reads (length t.hashes) (table_contents t) ≡ filling_reach t.buckets t.hashes
+  pub hit : IfOk result (λ pair. new.looked ≡ old.looked + hit_reads_in (table_contents t) pair.0)
+  pub hits : all_hit_reads_in (length t.hashes) (table_contents t) ≡ filling_reach t.buckets t.hashes
   pub short : reach t.hashes t.buckets hash ≤ length t.hashes + 1
   pub buckets : t.buckets ≡ buckets_of (capacity_of t.buckets)
 

@@ -19,7 +19,7 @@ module _ {K V : Type 0} (is_vec : Bool) (pairs : List (K × V)) (index : ℕ) wh
 
 module _ {K V : Type 0} (returns : Bor K → V → Option V → Type 0) where
   -- the closure was given this key and value, and returned this answer
-  pub record Answers (key : K) (value : V) (answer : Option V) : Type 0 where
+  pub record ClosureAnswers (key : K) (value : V) (answer : Option V) : Type 0 where
     pub shown : Bor K
     pub shows : shown.now ≡ key
     pub met : returns shown value answer
@@ -30,6 +30,6 @@ module _ {K V : Type 0} (returns : Bor K → V → Option V → Type 0) where
     pub value : V
     pub answer : Option V
     pub pair : slice_get old index ≡ Some (key, value)
-    pub answered : Answers key value answer
+    pub answered : ClosureAnswers key value answer
     pub pairs : new ≡ with_answer is_vec old index key answer
     pub removed_is : removed ≡ (if is_none answer then Some key else None)

@@ -26,29 +26,29 @@ abbrev pub asked_more : ℕ → Work → Work
 asked_more n w = record w { asked = w.asked + n }
 
 -- n more buckets were read
-abbrev pub looked_more : Work → ℕ → Work
-looked_more w n = record w { looked = w.looked + n }
+abbrev pub looked_more : ℕ → Work → Work
+looked_more n w = record w { looked = w.looked + n }
 
 -- at most this many more buckets were read, and nothing else was done
-pub record LooksWithin (most : ℕ) (old new : Work) : Type 0 where
+pub record ReadsWithin (most : ℕ) (old new : Work) : Type 0 where
   pub asked : new.asked ≡ old.asked
   pub compared : new.compared ≡ old.compared
   pub looked : new.looked ≤ old.looked + most
 
 -- how many of the hashes are this one
-abbrev pub count_of : List ℕ → ℕ → ℕ
-count_of hashes hash = count_by (λ held. held == hash) hashes
+abbrev pub hash_count : List ℕ → ℕ → ℕ
+hash_count hashes hash = count_by (λ held. held == hash) hashes
 
 -- after a probe that found none: each held pair of that hash was compared, and exactly `reach` buckets were read
 abbrev pub after_missing : List ℕ → ℕ → ℕ → Work → Work
 after_missing hashes buckets hash w =
-    record w { compared = w.compared + count_of hashes hash; looked = w.looked + reach hashes buckets hash }
+    record w { compared = w.compared + hash_count hashes hash; looked = w.looked + reach hashes buckets hash }
 
 -- what a probe that found a pair added
 pub record IsTableHitCost (hashes : List ℕ) (buckets hash : ℕ) (old new : Work) : Type 0 where
   pub asked : new.asked ≡ old.asked
   pub compared_some : old.compared + 1 ≤ new.compared
-  pub compared_most : new.compared ≤ old.compared + count_of hashes hash
+  pub compared_most : new.compared ≤ old.compared + hash_count hashes hash
   pub looked_some : old.looked + 1 ≤ new.looked
   pub looked_most : new.looked + 1 ≤ old.looked + reach hashes buckets hash
   pub looked_once : HomesApart hashes buckets → new.looked ≡ old.looked + 1
@@ -67,5 +67,5 @@ abbrev pub removal_reads : List ℕ → ℕ → ℕ → ℕ
 removal_reads hashes buckets index = reach hashes buckets (slice_index hashes index) + reach hashes buckets (slice_index hashes (length hashes - 1)) - 1
 
 -- what is left of them where the bucket of the pair is known, and no probe for it is needed
-abbrev pub reads_left : List ℕ → ℕ → ℕ → ℕ → ℕ
-reads_left hashes buckets index bucket = removal_reads hashes buckets index - probe_reads buckets (slice_index hashes index) bucket
+abbrev pub removal_reads_left : List ℕ → ℕ → ℕ → ℕ → ℕ
+removal_reads_left hashes buckets index bucket = removal_reads hashes buckets index - probe_reads buckets (slice_index hashes index) bucket

@@ -36,7 +36,7 @@ pub(crate) fn grow_beside<K, V>(keys: &mut Vec<K>, capacity: usize) -> Result<Ve
     ensures beside { IfOk result (λ v. vec_capacity v ≡ capacity) }
 {
     let values = Vec::with_capacity(*keys.allocator(), capacity)?;
-    // The last block, which may grow where it is.
+    // Grown last: only the last block may be extended in place.
     if let Err(refused) = grow(keys, capacity) {
         values.destroy_empty();
         return Err(refused);

@@ -1,6 +1,6 @@
 //! What a probe reads: buckets, each empty or with the entry index of a pair, whose hash is stored.
 ghost use Rattle.std.specs.Prelude.{◌≡◌, ℕ, ◌-◌, ◌<◌, List, length, slice_index, option_map, IfSome};
-ghost use Rattle.half_store.specs.Slots.{slot_at, slots_by, WithinHashes};
+ghost use Rattle.half_store.specs.Slots.{slot_at, slots_from, WithinHashes};
 ghost use Rattle.half_store.specs.Work.{looked_more};
 
 use crate::Tally;
@@ -24,9 +24,9 @@ pub trait Buckets {
         requires whole { WithinHashes (hashes self.now) (words self.now) }
         requires within { bucket < length (words self.now) }
         ensures hash { option_map (λ pair. pair.1) result
-            ≡ slot_at (slots_by (hashes self.now) (words self.now)) bucket }
+            ≡ slot_at (slots_from (hashes self.now) (words self.now)) bucket }
         ensures index { IfSome result (λ pair. pair.0 ≡ slice_index (words self.now) bucket - 1) }
-        ensures counted { tally.new ≡ looked_more tally.old 1 };
+        ensures counted { tally.new ≡ looked_more 1 tally.old };
 }
 
 /// The buckets of a table, and the stored hashes that they lead to.

@@ -4,7 +4,7 @@
 
 ghost use Rattle.std.specs.Prelude.{◌≡◌, ◌<◌, [], length, nat_lt};
 ghost use Rattle.half_store.specs.Columns.{no_pairs};
-ghost use Rattle.half_store.specs.Store.{vector_of, KeepsForm};
+ghost use Rattle.half_store.specs.Store.{vector_of, SameForm};
 
 mod at;
 mod change;
@@ -19,7 +19,7 @@ use crate::{Columns, Table};
 use std::alloc::Global;
 use std::marker::Model;
 
-/// Pairs in order, in one of two forms. Which hash a pair has is told by those who add it, and what a search compares.
+/// Pairs in order, in one of two forms. Callers supply the hashes and the comparisons.
 #[derive(Drop)]
 pub struct Store<K, V> {
     columns: Columns<K, V>,
@@ -81,7 +81,7 @@ impl<K, V> Store<K, V> {
         V: Drop,
         ensures pairs { self.new.pairs ≡ [] }
         ensures hashes { self.new.hashes ≡ [] }
-        ensures form { KeepsForm self.old self.new }
+        ensures form { SameForm self.old self.new }
     {
         if let Some(table) = &mut self.table {
             table.clear();

@@ -10,8 +10,8 @@ ghost use Rattle.std.specs.Fn.{FnReturnsAt};
 ghost use Rattle.half_store.specs.Search.{CallableOnHash, ReturnsAt};
 ghost use Rattle.half_store.specs.Reach.{reach};
 ghost use Rattle.half_store.specs.Capacity.{capacity_of, IsBucketCount, capacity_for, buckets_of};
-ghost use Rattle.half_store.specs.Work.{looked_more, LooksWithin, removal_reads};
-ghost use Rattle.half_store.specs.Table.{table_contents, with_hash_in, IsVacancyIn, TableSearch, RemovesFromTable};
+ghost use Rattle.half_store.specs.Work.{looked_more, ReadsWithin, removal_reads};
+ghost use Rattle.half_store.specs.Table.{table_contents, with_hash_in, IsTableVacancy, TableSearch, RemovesFromTable};
 
 mod deletion;
 mod find;
@@ -127,9 +127,9 @@ impl Table {
     #[inline(always)]
     pub fn insertion_probe(&self, hash: u64, tally: &mut Tally) -> usize
         requires { 0 < self.now.buckets }
-        ensures vacancy { IsVacancyIn (table_contents self.now) hash result }
-        ensures cost { tally.new ≡ looked_more tally.old
-            (reach self.now.hashes self.now.buckets hash) }
+        ensures vacancy { IsTableVacancy (table_contents self.now) hash result }
+        ensures cost { tally.new ≡ looked_more (reach self.now.hashes self.now.buckets hash)
+            tally.old }
         ensures buckets { self.now.buckets ≡ buckets_of (capacity_of self.now.buckets) }
     {
         let hashes = self.hashes.as_slice();
@@ -147,7 +147,7 @@ impl Table {
     #[inline(always)]
     pub fn add_at(&mut self, hash: u64, bucket: usize)
         requires capacity { length self.old.hashes < capacity_of self.old.buckets }
-        requires vacancy { IsVacancyIn (table_contents self.old) hash bucket }
+        requires vacancy { IsTableVacancy (table_contents self.old) hash bucket }
         ensures hashes { self.new.hashes ≡ self.old.hashes ++ hash ∷ [] }
         ensures buckets { self.new.buckets ≡ self.old.buckets }
         ensures contents { table_contents self.new
@@ -164,8 +164,8 @@ impl Table {
         requires { length self.old.hashes < capacity_of self.old.buckets }
         ensures hashes { self.new.hashes ≡ self.old.hashes ++ hash ∷ [] }
         ensures buckets { self.new.buckets ≡ self.old.buckets }
-        ensures cost { tally.new ≡ looked_more tally.old
-            (reach self.old.hashes self.old.buckets hash) }
+        ensures cost { tally.new ≡ looked_more (reach self.old.hashes self.old.buckets hash)
+            tally.old }
         ensures capacity { self.old.buckets ≡ buckets_of (capacity_of self.old.buckets) }
     {
         let _ = &self.hashes; // opens the invariant for the prover, and does nothing
@@ -179,7 +179,7 @@ impl Table {
     pub fn remove(&mut self, index: usize, tally: &mut Tally) -> u64
         requires { index < length self.old.hashes }
         ensures removes { RemovesFromTable self.old index self.new result }
-        ensures cost { LooksWithin (removal_reads self.old.hashes self.old.buckets index)
+        ensures cost { ReadsWithin (removal_reads self.old.hashes self.old.buckets index)
             tally.old tally.new }
     {
         match &mut self.buckets {
@@ -204,7 +204,7 @@ impl Table {
         ensures finds { TableSearch (ReturnsAt (FnReturnsAt F.Fn matches.now) keys.now) self.old
             hash result tally.old tally.new }
         ensures removes { IfOk result (λ pair. RemovesFromTable self.old pair.0 self.new hash) }
-        ensures cost { IfOk result (λ pair. LooksWithin
+        ensures cost { IfOk result (λ pair. ReadsWithin
             (removal_reads self.old.hashes self.old.buckets pair.0) removal.old removal.new) }
         ensures same { OnErr result ((self.new ≡ self.old) × (removal.new ≡ removal.old)) }
     {

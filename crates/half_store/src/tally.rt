@@ -52,7 +52,7 @@ impl Tally {
         }
     }
 
-    // One more key was hashed.
+    // One hash more.
     #[inline(always)]
     pub(crate) fn add_asked(&mut self)
         ensures { self.new ≡ asked_more 1 self.old }
@@ -61,7 +61,7 @@ impl Tally {
         self.asked = next;
     }
 
-    // Two more keys were compared.
+    // One comparison of keys more.
     #[inline(always)]
     pub(crate) fn add_compared(&mut self)
         ensures { self.new ≡ compared_more 1 self.old }
@@ -70,10 +70,10 @@ impl Tally {
         self.compared = next;
     }
 
-    // One more bucket was read.
+    // One bucket read more.
     #[inline(always)]
     pub(crate) fn add_looked(&mut self)
-        ensures { self.new ≡ looked_more self.old 1 }
+        ensures { self.new ≡ looked_more 1 self.old }
     {
         let next = self.looked.plus_one();
         self.looked = next;

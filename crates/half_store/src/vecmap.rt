@@ -85,7 +85,7 @@ impl<K, V> Columns<K, V> {
     /// Replaces the key of the pair at this index, and returns the old one.
     #[tactic(auto, using(crate::proofs::lemmas::vecmap::Columns::columns_steps))]
     #[inline(always)]
-    pub fn replace_key(&mut self, index: usize, key: K) -> K
+    pub fn set_key_at(&mut self, index: usize, key: K) -> K
         requires { index < length self.old.pairs }
         ensures old { slice_get (keys_of self.old.pairs) index ≡ Some result }
         ensures after { self.new ≡ columns_with self.old (set_key_at self.old.pairs index key) }

@@ -28,7 +28,7 @@ pub trait Words {
     fn word_at(&self, bucket: usize, tally: &mut Tally) -> usize
         requires { bucket < length (words self.now) }
         ensures value { result ≡ slice_index (words self.now) bucket }
-        ensures counted { tally.new ≡ looked_more tally.old 1 };
+        ensures counted { tally.new ≡ looked_more 1 tally.old };
 
     /// Writes the word of this bucket.
     fn set_word(&mut self, bucket: usize, word: usize)
@@ -69,7 +69,7 @@ impl<T: Copy> WordVec<T> {
         Ok(WordVec { words })
     }
 
-    /// The same words once more.
+    /// A copy of the words.
     fn copied(&self) -> Result<WordVec<T>, AllocError>
         ensures { IfOk result (λ v. v ≡ self.now) }
     {
@@ -199,7 +199,7 @@ impl WordArray {
         }
     }
 
-    /// The same words once more.
+    /// A copy of the words.
     pub(crate) fn copied(&self) -> Result<WordArray, AllocError>
         ensures words { IfOk result (λ a. words_of a ≡ words_of self.now) }
         ensures most { IfOk result (λ a. most_of a ≡ most_of self.now) }

@@ -14,11 +14,11 @@ use Rattle.half_store.specs.Capacity.{buckets_of, capacity_for}
 use Rattle.half_store.specs.PairLists.{index_of}
 use Rattle.half_store.specs.Work.{Work}
 use Rattle.halfbrown.specs.Costs.{IsKeySearchCost, IsInsertCost, Cost, GrewBy, GrewWithin, exactly, between, add_ranges, key_search_cost}
-use Rattle.halfbrown.specs.Costs.{insert_cost, NoHomeIsShared, search_cost}
+use Rattle.halfbrown.specs.Costs.{insert_cost, KeyHomesApart, search_cost}
 use Rattle.halfbrown.specs.Lookup.{ReadsMatch, IsMatchCost}
 use Rattle.halfbrown.specs.Pairs.{holds}
 use Rattle.halfbrown.proofs.lemmas.pairs.Indices.{found_where_held}
-use Rattle.halfbrown.specs.State.{State, state, contents_of}
+use Rattle.halfbrown.specs.State.{State, make_state, contents_of}
 use Rattle.test_support.specs.declared.builders.Rule.{Rule}
 use Rattle.test_support.specs.declared.builders.Counting.{Counting}
 use Rattle.test_support.specs.Hashes.{hash_by, shifted}
@@ -107,13 +107,13 @@ module _ (rule : Rule) (held : List (ℕ × ℕ)) (capacity : ℕ) (k : ℕ) whe
     -- the parts of the state that costs depend on, from those that it has to those of the table
     cost_is : key_search_cost eqb builder_hash m k ≡ table_cost (is_some (index_of (eqb k) (keys_of held)))
     cost_is i = key_search_cost eqb (λ b. number_hash (table.builder i))
-        (state (table.form i) (table.pairs i) (table.capacity i) m.builder (contents_of m)) k
+        (make_state (table.form i) (table.pairs i) (table.capacity i) m.builder (contents_of m)) k
 
     found_is : holds eqb held k ≡ true → is_some (index_of (eqb k) (keys_of m.pairs)) ≡ true
     found_is present = found_where_held (eqb k) m.pairs ∙ ap (λ ps. holds eqb ps k) table.pairs ∙ present
 
     apart_is : are_distinct (map (home (buckets_of capacity)) hashes_of) ≡ true
-        → NoHomeIsShared (builder_hash m.builder) m.capacity m.pairs
+        → KeyHomesApart (builder_hash m.builder) m.capacity m.pairs
     apart_is e =
         let hashes : map (builder_hash m.builder) (keys_of m.pairs) ≡ hashes_of =
         ap (λ r. map (number_hash r) (keys_of m.pairs)) table.builder ∙ ap (λ ps. map (number_hash rule) (keys_of ps)) table.pairs in
@@ -142,7 +142,7 @@ module _ (rule : Rule) (held : List (ℕ × ℕ)) (capacity : ℕ) (k : ℕ) whe
     insert_cost_is : insert_cost 0 eqb builder_hash m k true
         ≡ table_insert_cost (is_some (index_of (eqb k) (keys_of held))) (holds eqb held k)
     insert_cost_is i = insert_cost 0 eqb (λ b. number_hash (table.builder i))
-        (state (table.form i) (table.pairs i) (table.capacity i) m.builder (contents_of m)) k true
+        (make_state (table.form i) (table.pairs i) (table.capacity i) m.builder (contents_of m)) k true
 
     -- a new key that is granted: each key of its hash is compared, its probe is read to the end, and another one after growth
     pub inserting : (before after : Work) → IsInsertCost 0 eqb builder_hash m k true before after → holds eqb held k ≡ false
@@ -156,29 +156,29 @@ module _ (rule : Rule) (held : List (ℕ × ℕ)) (capacity : ℕ) (k : ℕ) whe
 
 -- ---- a search by a match, under a hash that was handed in
 
-module _ (rule : Rule) (held : List (ℕ × ℕ)) (capacity sought : ℕ) (m : State ℕ ℕ Counting) (table : IsTableOf rule held capacity m) where
+module _ (rule : Rule) (held : List (ℕ × ℕ)) (capacity wanted : ℕ) (m : State ℕ ℕ Counting) (table : IsTableOf rule held capacity m) where
   -- how many held keys have the hash, and how many buckets a probe for it reads up to the first empty one
-  abbrev pub candidates : ℕ
-  candidates = count_by (λ q. number_hash rule q == sought) (keys_of held)
+  abbrev pub key_hash_count : ℕ
+  key_hash_count = count_by (λ q. number_hash rule q == wanted) (keys_of held)
 
   abbrev pub sought_probe : ℕ
-  sought_probe = reach (map (number_hash rule) (keys_of held)) (buckets_of capacity) sought
+  sought_probe = reach (map (number_hash rule) (keys_of held)) (buckets_of capacity) wanted
 
   abbrev match_cost : Bool → Cost
   match_cost found = record {
     asked = 0;
-    compared = if found then between 1 candidates else exactly candidates;
+    compared = if found then between 1 key_hash_count else exactly key_hash_count;
     looked = if found then between 1 (sought_probe - 1) else exactly sought_probe;
   }
 
-  match_cost_is : (index : Option ℕ) → search_cost (builder_hash m.builder) sought index 0 m.is_vec m.capacity m.pairs ≡ match_cost (is_some index)
-  match_cost_is index i = search_cost (number_hash (table.builder i)) sought index 0 (table.form i) (table.capacity i) (table.pairs i)
+  match_cost_is : (index : Option ℕ) → search_cost (builder_hash m.builder) wanted index 0 m.is_vec m.capacity m.pairs ≡ match_cost (is_some index)
+  match_cost_is index i = search_cost (number_hash (table.builder i)) wanted index 0 (table.form i) (table.capacity i) (table.pairs i)
 
   -- where a held key of the hash that the match accepts would pass a test that none passes: each key of the hash is compared
   pub unmatched : (returns : ℕ → Bool → Type 0) (test : ℕ → Bool)
-      → ((q : ℕ) → number_hash rule q ≡ sought → returns q true → test q ≡ true) → list_any test (keys_of held) ≡ false
-      → (found : Option (ℕ × ℕ)) (before after : Work) → ReadsMatch returns builder_hash sought m found
-      → IsMatchCost builder_hash sought m found before after → after ≡ more_work 0 candidates sought_probe before
+      → ((q : ℕ) → number_hash rule q ≡ wanted → returns q true → test q ≡ true) → list_any test (keys_of held) ≡ false
+      → (found : Option (ℕ × ℕ)) (before after : Work) → ReadsMatch returns builder_hash wanted m found
+      → IsMatchCost builder_hash wanted m found before after → after ≡ more_work 0 key_hash_count sought_probe before
   unmatched returns test passes none None before after finds cost =
       let grew = subst (λ b. GrewBy (match_cost b) before after) cost.is_found
       (subst (λ c. GrewBy c before after) (match_cost_is cost.index) cost.costs.grew) in

@@ -4,9 +4,9 @@ use Rattle.std.specs.Map.{keys_of}
 use Rattle.half_store.specs.PairLists.{index_of}
 use Rattle.half_store.specs.Reach.{reach, filling_reach, HomesApart}
 use Rattle.half_store.specs.Capacity.{buckets_of, capacity_for}
-use Rattle.half_store.specs.Table.{hit_reads, all_hit_reads}
+use Rattle.half_store.specs.Table.{hit_reads_in, all_hit_reads_in}
 use Rattle.half_store.specs.Work.{Work, first_match_cost}
-use Rattle.halfbrown.specs.State.{State, state, contents_of}
+use Rattle.halfbrown.specs.State.{State, make_state, contents_of}
 use Rattle.halfbrown.specs.Pairs.{holds}
 use Rattle.halfbrown.specs.Growth.{is_full, is_vec_after}
 
@@ -37,12 +37,12 @@ abbrev pub add_costs : Cost → Cost → Cost
 add_costs a b = record { asked = a.asked + b.asked; compared = add_ranges a.compared b.compared; looked = add_ranges a.looked b.looked }
 
 -- a cost, once this many more keys were hashed
-abbrev pub asks_more : ℕ → Cost → Cost
-asks_more n cost = record cost { asked = n + cost.asked }
+abbrev pub plus_asked : ℕ → Cost → Cost
+plus_asked n cost = record cost { asked = n + cost.asked }
 
 -- a cost, once exactly this many more buckets were read
-abbrev pub reads_more : ℕ → Cost → Cost
-reads_more n cost = record cost { looked = add_ranges cost.looked (exactly n) }
+abbrev pub plus_looked : ℕ → Cost → Cost
+plus_looked n cost = record cost { looked = add_ranges cost.looked (exactly n) }
 
 -- a cost, but none where the call was refused before it did anything
 abbrev pub unless_refused : Bool → Cost → Cost
@@ -69,74 +69,74 @@ search_asked is_vec = if is_vec then 0 else 1
 
 module _ {K V : Type 0} (hash : K → ℕ) where
   -- the held keys of this hash: a search for it in a table compares no other
-  abbrev pub candidates : List (K × V) → ℕ → ℕ
-  candidates pairs sought = count_by (λ q. hash q == sought) (keys_of pairs)
+  abbrev pub key_hash_count : List (K × V) → ℕ → ℕ
+  key_hash_count pairs wanted = count_by (λ q. hash q == wanted) (keys_of pairs)
 
   -- the length of an unsuccessful probe for this hash in a table of this capacity; a vector has no buckets
   abbrev pub probe_length : Bool → ℕ → List (K × V) → ℕ → ℕ
-  probe_length is_vec capacity pairs sought = if is_vec then 0 else reach (map hash (keys_of pairs)) (buckets_of capacity) sought
+  probe_length is_vec capacity pairs wanted = if is_vec then 0 else reach (map hash (keys_of pairs)) (buckets_of capacity) wanted
 
   -- no two held keys of a table of this capacity have the same home bucket
-  abbrev pub NoHomeIsShared : ℕ → List (K × V) → Type 0
-  NoHomeIsShared capacity pairs = HomesApart (map hash (keys_of pairs)) (buckets_of capacity)
+  abbrev pub KeyHomesApart : ℕ → List (K × V) → Type 0
+  KeyHomesApart capacity pairs = HomesApart (map hash (keys_of pairs)) (buckets_of capacity)
 
   -- a search under this hash that found this index, or none
-  module _ (sought : ℕ) (found : Option ℕ) where
+  module _ (wanted : ℕ) (found : Option ℕ) where
     -- its comparisons: in a vector exactly all where it found none, and else at least those in order up to and with the key that it found; in a
-    -- table exactly all candidates where it found none, and at least one of them where it found one
+    -- table exactly all key_hash_count where it found none, and at least one of them where it found one
     abbrev pub search_compares : Bool → List (K × V) → Range
     search_compares is_vec pairs =
         if is_vec then between (first_match_cost found (length pairs)) (length pairs)
-        else (if is_some found then between 1 (candidates pairs sought) else exactly (candidates pairs sought))
+        else (if is_some found then between 1 (key_hash_count pairs wanted) else exactly (key_hash_count pairs wanted))
 
     -- its buckets: none in a vector; in a table exactly an unsuccessful probe where it found none, else at least one and fewer than that
-    abbrev pub search_looks : Bool → ℕ → List (K × V) → Range
-    search_looks is_vec capacity pairs =
-        let probe = probe_length is_vec capacity pairs sought in
+    abbrev pub search_reads : Bool → ℕ → List (K × V) → Range
+    search_reads is_vec capacity pairs =
+        let probe = probe_length is_vec capacity pairs wanted in
         if is_vec then exactly 0 else (if is_some found then between 1 (probe - 1) else exactly probe)
 
     -- what it costs, where the builder is asked for `asked` hashes
     abbrev pub search_cost : ℕ → Bool → ℕ → List (K × V) → Cost
     search_cost asked is_vec capacity pairs =
-        record { asked = asked; compared = search_compares is_vec pairs; looked = search_looks is_vec capacity pairs }
+        record { asked = asked; compared = search_compares is_vec pairs; looked = search_reads is_vec capacity pairs }
 
 -- how many buckets of a table a search reads that finds the pair at this index
-abbrev pub hit_looks : {K V S : Type 0} → State K V S → ℕ → ℕ
-hit_looks m index = hit_reads (contents_of m) index
+abbrev pub hit_reads : {K V S : Type 0} → State K V S → ℕ → ℕ
+hit_reads m index = hit_reads_in (contents_of m) index
 
 -- how many the searches read in all that find its pairs, one search for each
-abbrev pub all_hit_looks : {K V S : Type 0} → State K V S → ℕ
-all_hit_looks m = all_hit_reads (length m.pairs) (contents_of m)
+abbrev pub all_hit_reads : {K V S : Type 0} → State K V S → ℕ
+all_hit_reads m = all_hit_reads_in (length m.pairs) (contents_of m)
 
 -- how many the insertions read in all that put these pairs into an empty table of this capacity
-abbrev pub filling_looks : {K V : Type 0} → (K → ℕ) → ℕ → List (K × V) → ℕ
-filling_looks hash capacity pairs = filling_reach (buckets_of capacity) (map hash (keys_of pairs))
+abbrev pub filling_reads : {K V : Type 0} → (K → ℕ) → ℕ → List (K × V) → ℕ
+filling_reads hash capacity pairs = filling_reach (buckets_of capacity) (map hash (keys_of pairs))
 
 -- what a search under this hash cost, by the tally before it and after: it found this index, or none, and asked for `asked` hashes. In a
 -- table a search that finds an index reads the same number of buckets each time (`hit`), and these numbers add up to what insertions of the
 -- pairs read (`hits`)
-pub record IsSearchCost {K V S : Type 0} (hash : S → K → ℕ) (sought : ℕ) (m : State K V S) (found : Option ℕ) (asked : ℕ) (before after : Work) : Type 0 where
-  pub grew : GrewBy (search_cost (hash m.builder) sought found asked m.is_vec m.capacity m.pairs) before after
-  pub looked_once : m.is_vec ≡ false → is_some found ≡ true → NoHomeIsShared (hash m.builder) m.capacity m.pairs
+pub record IsSearchCost {K V S : Type 0} (hash : S → K → ℕ) (wanted : ℕ) (m : State K V S) (found : Option ℕ) (asked : ℕ) (before after : Work) : Type 0 where
+  pub grew : GrewBy (search_cost (hash m.builder) wanted found asked m.is_vec m.capacity m.pairs) before after
+  pub looked_once : m.is_vec ≡ false → is_some found ≡ true → KeyHomesApart (hash m.builder) m.capacity m.pairs
       → after.looked ≡ before.looked + 1
-  pub hit : m.is_vec ≡ false → IfSome found (λ index. after.looked ≡ before.looked + hit_looks m index)
-  pub hits : m.is_vec ≡ false → all_hit_looks m ≡ filling_looks (hash m.builder) m.capacity m.pairs
-  pub short : probe_length (hash m.builder) m.is_vec m.capacity m.pairs sought ≤ length m.pairs + 1
+  pub hit : m.is_vec ≡ false → IfSome found (λ index. after.looked ≡ before.looked + hit_reads m index)
+  pub hits : m.is_vec ≡ false → all_hit_reads m ≡ filling_reads (hash m.builder) m.capacity m.pairs
+  pub short : probe_length (hash m.builder) m.is_vec m.capacity m.pairs wanted ≤ length m.pairs + 1
 
 -- what one search in the map by a form of a key cost, by the tally before it and after: the form has the searched hash, and stands for the keys
 -- that pass the test
-module _ {K V S : Type 0} (hash : S → K → ℕ) (sought : ℕ) (test : K → Bool) (m : State K V S) where
+module _ {K V S : Type 0} (hash : S → K → ℕ) (wanted : ℕ) (test : K → Bool) (m : State K V S) where
   -- where the search hashed it, as it does in a table
   abbrev pub IsLookupCost : Work → Work → Type 0
-  IsLookupCost before after = IsSearchCost hash sought m (index_of test (keys_of m.pairs)) (search_asked m.is_vec) before after
+  IsLookupCost before after = IsSearchCost hash wanted m (index_of test (keys_of m.pairs)) (search_asked m.is_vec) before after
 
   -- where its hash was handed in: the builder is not asked
   abbrev pub IsHashedLookupCost : Work → Work → Type 0
-  IsHashedLookupCost before after = IsSearchCost hash sought m (index_of test (keys_of m.pairs)) 0 before after
+  IsHashedLookupCost before after = IsSearchCost hash wanted m (index_of test (keys_of m.pairs)) 0 before after
 
 -- the buckets that an insertion probe of a new key k reads, where the capacity is enough for it
-abbrev pub insertion_looks : {K V S : Type 0} → (S → K → ℕ) → State K V S → K → ℕ
-insertion_looks hash m k = probe_length (hash m.builder) m.is_vec m.capacity m.pairs (hash m.builder k)
+abbrev pub insertion_reads : {K V S : Type 0} → (S → K → ℕ) → State K V S → K → ℕ
+insertion_reads hash m k = probe_length (hash m.builder) m.is_vec m.capacity m.pairs (hash m.builder k)
 
 module _ {K V S : Type 0} (eq : K → K → Bool) (hash : S → K → ℕ) where
   -- what a search for k in the map costs
@@ -177,27 +177,27 @@ module _ {K V S : Type 0} (limit : ℕ) where
   abbrev pub capacity_after_growth : State K V S → ℕ
   capacity_after_growth m = if addition_grows m then capacity_for (length m.pairs + 1) else capacity_after_switch m
 
-  -- the map once a granted switch is made, as far as a cost depends on it: its memory and its buckets are not said
+  -- the map once a granted switch is made, as far as a cost depends on it: not on the contents of its buckets
   abbrev pub switched : State K V S → State K V S
-  switched m = state (is_vec_after limit m) m.pairs (capacity_after_switch m) m.builder (contents_of m)
+  switched m = make_state (is_vec_after limit m) m.pairs (capacity_after_switch m) m.builder (contents_of m)
 
   -- the same once the capacity is enough for one pair more
   abbrev pub grown : State K V S → State K V S
-  grown m = state (is_vec_after limit m) m.pairs (capacity_after_growth m) m.builder (contents_of m)
+  grown m = make_state (is_vec_after limit m) m.pairs (capacity_after_growth m) m.builder (contents_of m)
 
   module _ (eq : K → K → Bool) (hash : S → K → ℕ) where
     -- what an insertion of k costs: the switch hashes each key, one search follows in the form that it left, and, where a new key made
     -- the table grow, one insertion probe; a refused switch costs nothing
     abbrev pub insert_cost : State K V S → K → Bool → Cost
     insert_cost m k granted =
-        unless_refused (is_switch_refused m granted) (asks_more (switch_asked m)
-        (reads_more (if granted && not (holds eq m.pairs k) && addition_grows m then insertion_looks hash (grown m) k else 0)
+        unless_refused (is_switch_refused m granted) (plus_asked (switch_asked m)
+        (plus_looked (if granted && not (holds eq m.pairs k) && addition_grows m then insertion_reads hash (grown m) k else 0)
         (key_search_cost eq hash (switched m) k)))
 
     -- what an insertion of a new key k without a search costs: the switch, the hash of k, and, where it is granted, one insertion probe
     abbrev pub new_key_cost : State K V S → K → Bool → Cost
     new_key_cost m k granted =
-        record no_cost { asked = insert_asked m granted; looked = exactly (if granted then insertion_looks hash (grown m) k else 0) }
+        record no_cost { asked = insert_asked m granted; looked = exactly (if granted then insertion_reads hash (grown m) k else 0) }
 
     -- what `raw_entry_mut`, `from_key` of k and `or_insert_entry` of k cost: the switch hashes each key, and one search follows, once the capacity
     -- is enough for one pair more; a new key is hashed again in a table, and one insertion probe made for it; where the capacity was refused
@@ -205,13 +205,13 @@ module _ {K V S : Type 0} (limit : ℕ) where
     abbrev pub raw_insert_cost : State K V S → K → Bool → Cost
     raw_insert_cost m k granted =
         let held = holds eq m.pairs k in
-        unless_refused (not granted) (asks_more (switch_asked m) (asks_more (if held then 0 else search_asked (is_vec_after limit m))
-        (reads_more (if held then 0 else insertion_looks hash (grown m) k) (key_search_cost eq hash (grown m) k))))
+        unless_refused (not granted) (plus_asked (switch_asked m) (plus_asked (if held then 0 else search_asked (is_vec_after limit m))
+        (plus_looked (if held then 0 else insertion_reads hash (grown m) k) (key_search_cost eq hash (grown m) k))))
 
     -- what an insertion of k cost, by the tally before it and after; in a table a held key is found as by each search (`hit`)
     pub record IsInsertCost (m : State K V S) (k : K) (granted : Bool) (before after : Work) : Type 0 where
       pub grew : GrewBy (insert_cost m k granted) before after
       pub looked_once : is_vec_after limit m ≡ false → granted ≡ true → holds eq m.pairs k ≡ true
-          → NoHomeIsShared (hash m.builder) (capacity_after_switch m) m.pairs → after.looked ≡ before.looked + 1
+          → KeyHomesApart (hash m.builder) (capacity_after_switch m) m.pairs → after.looked ≡ before.looked + 1
       pub hit : m.is_vec ≡ false → granted ≡ true
-          → IfSome (index_of (eq k) (keys_of m.pairs)) (λ index. after.looked ≡ before.looked + hit_looks m index)
+          → IfSome (index_of (eq k) (keys_of m.pairs)) (λ index. after.looked ≡ before.looked + hit_reads m index)

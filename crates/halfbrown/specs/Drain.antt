@@ -24,18 +24,18 @@ module _ {K V S L H : Type 0} {e : eq.Ghosts K} {h : hash.Ghosts K} {b : hashers
   rest d = d.pairs.pairs
 
   -- old and new borrow the same map, with its builder, and leave it in the same form, with the same capacity
-  pub record Keeps (old new : Drain K V S L (StoreState K V) H e h b l p) : Type 0 where
+  pub record DrainsSameMap (old new : Drain K V S L (StoreState K V) H e h b l p) : Type 0 where
     pub map : new.map ≡ old.map
     pub form : new.pairs.is_vec ≡ old.pairs.is_vec
     pub capacity : new.pairs.capacity ≡ old.pairs.capacity
 
   -- `next` took s to t, and returned r: the first pair that was still to come; or None, and nothing changed
   abbrev pub DrainSteps : Drain K V S L (StoreState K V) H e h b l p → Option (K × V) → Drain K V S L (StoreState K V) H e h b l p → Type 0
-  DrainSteps s r t = MatchOption r ((rest s ≡ []) × (t ≡ s)) (λ x. (rest s ≡ x ∷ rest t) × Keeps s t)
+  DrainSteps s r t = MatchOption r ((rest s ≡ []) × (t ≡ s)) (λ x. (rest s ≡ x ∷ rest t) × DrainsSameMap s t)
 
   -- each state that calls of `next` lead to from s borrows the same map, in the same form and capacity
   abbrev pub KeepsAlong : Drain K V S L (StoreState K V) H e h b l p → Type 0
-  KeepsAlong s = (ps : List (K × V)) (t : Drain K V S L (StoreState K V) H e h b l p) → Yields DrainSteps s ps t → Keeps s t
+  KeepsAlong s = (ps : List (K × V)) (t : Drain K V S L (StoreState K V) H e h b l p) → Yields DrainSteps s ps t → DrainsSameMap s t
 
   -- s borrows the map of this ghost name; calls of `next` of any `Drain` give the first of the pairs that it had left, in order; and each state
   -- that they lead to from s borrows the same map, in the same form and capacity

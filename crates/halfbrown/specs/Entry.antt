@@ -15,7 +15,7 @@ use Rattle.halfbrown.specs.declared.refused.RefusedKey.{RefusedKey}
 use Rattle.halfbrown.specs.Growth.{insert_needs, IsRefusal}
 use Rattle.halfbrown.specs.Insertion.{Puts, Prepares, pushed}
 use Rattle.halfbrown.specs.Pairs.{value_of, pair_of, holds, take_out}
-use Rattle.halfbrown.specs.State.{State, IsState, WithPairs, with_pairs}
+use Rattle.halfbrown.specs.State.{State, IsValid, WithPairs, with_pairs}
 use Rattle.halfbrown.specs.Updates.{HasPut, HasRemoved}
 use Rattle.std.proofs.Common.{sym, subst}
 use mathlib.Core.Option.{none}
@@ -133,7 +133,7 @@ module _ {K V S L H : Type 0} {e : eq.Ghosts K} {h : hash.Ghosts K} {b : hashers
     pub writes : IfOk result (PutsThroughEntry limit eq m.now k)
     pub removes : IfOk result (RemovesKey eq m.now.pairs k)
     pub returned : IfErr result (HandsBackKey k (insert_needs limit eq m.now k))
-    pub state : IfOk result (λ entry. IsState eq limit (map_of entry))
+    pub valid : IfOk result (λ entry. IsValid eq limit (map_of entry))
 
   pub still_within : (o : OccupiedEntry K V S L H e h b l) (value : V) → o.index < length (with_value (Occupied o) value).pairs
   unfolding with_value

@@ -12,7 +12,7 @@ use Rattle.halfbrown.specs.Growth.{making_needs, insert_needs, IsRefusal}
 use Rattle.halfbrown.specs.Insertion.{Puts}
 use Rattle.halfbrown.specs.Making.{IsMade}
 use Rattle.halfbrown.specs.Pairs.{put, value_of}
-use Rattle.halfbrown.specs.State.{State, IsState}
+use Rattle.halfbrown.specs.State.{State, IsValid}
 
 module _ {K V : Type 0} (eq : K → K → Bool) where
   -- the pairs once these items are put, one after another
@@ -41,7 +41,7 @@ module _ {K V S : Type 0} (limit : ℕ) (eq : K → K → Bool) where
   abbrev pub InsertsAll : State K V S → List (K × V) → State K V S → Type 0
   InsertsAll old [] new = new ≡ old
   InsertsAll old (p ∷ items) new = (next : State K V S)
-      × Puts limit eq old p.0 p.1 (insert_needs limit eq old p.0) next × IsState eq limit next × InsertsAll next items new
+      × Puts limit eq old p.0 p.1 (insert_needs limit eq old p.0) next × IsValid eq limit next × InsertsAll next items new
 
   -- from old to new these items are inserted: new keys come behind those held, in order, and each key has the last value that was given for it
   pub record Extends (old : State K V S) (items : List (K × V)) (new : State K V S) : Type 0 where
@@ -52,7 +52,7 @@ module _ {K V S : Type 0} (limit : ℕ) (eq : K → K → Bool) where
     pub inserted : InsertsAll old items new
 
   -- there are items of which `given` holds: all but the last were inserted, which made `new`, and there the last was refused
-  pub record IsRefusedInsertion (given : List (K × V) → Type 0) (old : State K V S) (why : Refusal) (new : State K V S) : Type 0 where
+  pub record RefusedInsert (given : List (K × V) → Type 0) (old : State K V S) (why : Refusal) (new : State K V S) : Type 0 where
     pub before : List (K × V)
     pub key : K
     pub value : V
@@ -62,7 +62,7 @@ module _ {K V S : Type 0} (limit : ℕ) (eq : K → K → Bool) where
 
   module _ (is_default : S → Type 0) (needed : ℕ) where
     -- a map of these items: it was made with capacity for this many pairs, and the items were inserted one after another
-    pub record IsCollection (items : List (K × V)) (m : State K V S) : Type 0 where
+    pub record Collects (items : List (K × V)) (m : State K V S) : Type 0 where
       pub pairs : m.pairs ≡ collected eq items
       pub keys : keys_of m.pairs ≡ first_of_each eq (keys_of items)
       pub values : (k : K) → value_of eq m.pairs k ≡ last_value_of eq items k
@@ -72,15 +72,15 @@ module _ {K V S : Type 0} (limit : ℕ) (eq : K → K → Bool) where
       pub inserted : InsertsAll made items m
 
     -- a map that was made with capacity for this many pairs, and then an insertion that was refused
-    pub record IsRefusedItem (given : List (K × V) → Type 0) (why : Refusal) : Type 0 where
+    pub record RefusedItem (given : List (K × V) → Type 0) (why : Refusal) : Type 0 where
       pub made : State K V S
       pub is_made : IsMade is_default (nat_le needed limit) needed made
       pub reached : State K V S
-      pub insertion : IsRefusedInsertion given made why reached
+      pub insertion : RefusedInsert given made why reached
 
     -- why items were not collected: the first capacity was refused, or the insertion of an item; `given` holds of the items up to it
-    abbrev pub IsRefusedCollection : (List (K × V) → Type 0) → Refusal → Type 0
-    IsRefusedCollection given why = IsRefusal (making_needs needed) why ⊎ IsRefusedItem given why
+    abbrev pub RefusedCollect : (List (K × V) → Type 0) → Refusal → Type 0
+    RefusedCollect given why = IsRefusal (making_needs needed) why ⊎ RefusedItem given why
 
   -- what insertions cost, those that were granted and one that was refused
   module _ (hash : S → K → ℕ) where
@@ -90,23 +90,23 @@ module _ {K V S : Type 0} (limit : ℕ) (eq : K → K → Bool) where
         add_costs (insert_cost limit eq hash old p.0 true) (insertions_cost inserted.0 items new inserted.3)
 
     abbrev pub refused_cost : {given : List (K × V) → Type 0} {old : State K V S} {why : Refusal} {new : State K V S}
-        → IsRefusedInsertion given old why new → Cost
+        → RefusedInsert given old why new → Cost
     refused_cost {old = old} {new = new} r =
         add_costs (insertions_cost old r.before new r.inserted) (insert_cost limit eq hash new r.key false)
 
     abbrev pub collection_cost : {is_default : S → Type 0} {needed : ℕ} {items : List (K × V)} {m : State K V S}
-        → IsCollection is_default needed items m → Cost
+        → Collects is_default needed items m → Cost
     collection_cost {items = items} {m = m} c = insertions_cost c.made items m c.inserted
 
     abbrev pub refused_collection_cost : {is_default : S → Type 0} {needed : ℕ} {given : List (K × V) → Type 0} {why : Refusal}
-        → IsRefusedCollection is_default needed given why → Cost
+        → RefusedCollect is_default needed given why → Cost
     refused_collection_cost (inl refused) = no_cost
     refused_collection_cost (inr item) = refused_cost item.insertion
 
 -- items that come from an iterator: it is made from them, and each call of it is a step
 module _ {K V S C I : Type 0} (into : C → I → Type 0) (steps : I → Option (K × V) → I → Type 0) (limit : ℕ) (eq : K → K → Bool) where
   -- from old to new all that the iterator gave is inserted
-  pub record ExtendsWith (items : C) (old new : State K V S) : Type 0 where
+  pub record ExtendsIter (items : C) (old new : State K V S) : Type 0 where
     pub iterator : I
     pub is_made : into items iterator
     pub gave : List (K × V)
@@ -114,26 +114,26 @@ module _ {K V S C I : Type 0} (into : C → I → Type 0) (steps : I → Option 
     pub extends : Extends limit eq old gave new
 
   -- the last item that was taken from the iterator was refused, and those before it are inserted
-  pub record IsRefusedExtension (items : C) (old new : State K V S) (why : Refusal) : Type 0 where
+  pub record RefusedExtendIter (items : C) (old new : State K V S) (why : Refusal) : Type 0 where
     pub iterator : I
     pub is_made : into items iterator
-    pub insertion : IsRefusedInsertion limit eq (Gives steps iterator) old why new
+    pub insertion : RefusedInsert limit eq (Gives steps iterator) old why new
 
   module _ (left : I → Count) (is_default : S → Type 0) where
     -- a map of all that the iterator gave, made with capacity for some number of pairs that is no more than it may give
-    pub record IsCollectionOf (items : C) (m : State K V S) : Type 0 where
+    pub record CollectsIter (items : C) (m : State K V S) : Type 0 where
       pub iterator : I
       pub is_made : into items iterator
       pub hint : ℕ
       pub hinted : IsWithinCount hint (left iterator)
       pub gave : List (K × V)
       pub drained : Drains steps iterator gave
-      pub collection : IsCollection limit eq is_default hint gave m
+      pub collection : Collects limit eq is_default hint gave m
 
     -- why the items were not collected
-    pub record IsRefusedCollectionOf (items : C) (why : Refusal) : Type 0 where
+    pub record RefusedCollectIter (items : C) (why : Refusal) : Type 0 where
       pub iterator : I
       pub is_made : into items iterator
       pub hint : ℕ
       pub hinted : IsWithinCount hint (left iterator)
-      pub refused : IsRefusedCollection limit eq is_default hint (Gives steps iterator) why
+      pub refused : RefusedCollect limit eq is_default hint (Gives steps iterator) why

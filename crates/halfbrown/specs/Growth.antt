@@ -4,7 +4,7 @@ use Rattle.std.specs.Prelude.{◌≡◌, ℕ, ◌+◌, ◌^◌, ◌<◌, ◌≤�
 use Rattle.half_store.specs.declared.refusal.Refusal.{Refusal}
 use Rattle.half_store.specs.Refusal.{refusal_of}
 use Rattle.half_store.specs.Capacity.{capacity_for, generous_capacity, vec_shrunk, shrunk_capacity}
-use Rattle.half_store.specs.Store.{allowed}
+use Rattle.half_store.specs.Store.{capped}
 use Rattle.halfbrown.specs.State.{State}
 use Rattle.halfbrown.specs.Pairs.{holds}
 
@@ -20,7 +20,7 @@ HasCapacityAfter limit old needs new =
 
 -- the capacity that a reservation for this many pairs in all needs, or none where there is enough
 abbrev pub reserve_needs : {K V S : Type 0} → ℕ → State K V S → ℕ → Option ℕ
-reserve_needs limit m total = let most = allowed limit m.is_vec total in if nat_lt m.capacity most then Some most else None
+reserve_needs limit m total = let most = capped limit m.is_vec total in if nat_lt m.capacity most then Some most else None
 
 -- the capacity that a constructor for this many pairs needs
 abbrev pub making_needs : ℕ → Option ℕ
@@ -66,7 +66,7 @@ module _ {K V S : Type 0} (limit : ℕ) where
   -- a granted reservation for this many pairs more: the capacity is enough for them; in a vector for no more pairs in all than the limit
   pub record Reserves (old : State K V S) (additional : ℕ) (new : State K V S) : Type 0 where
     pub granted : Grants old.is_vec old (reserve_needs limit old (length old.pairs + additional)) new
-    pub enough : allowed limit old.is_vec (length old.pairs + additional) ≤ new.capacity
+    pub enough : capped limit old.is_vec (length old.pairs + additional) ≤ new.capacity
 
   -- capacity is given back, and so is the table where the limit allows the pairs
   pub record IsShrunk (old new : State K V S) : Type 0 where

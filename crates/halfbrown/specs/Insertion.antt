@@ -4,7 +4,7 @@ use Rattle.std.specs.Map.{keys_of}
 use Rattle.halfbrown.specs.declared.refused.Refused.{Refused}
 use Rattle.halfbrown.specs.Growth.{is_vec_after, insert_needs, new_key_needs, IsRefusal, IsGrantable, HasCapacityAfter, Grants}
 use Rattle.halfbrown.specs.Pairs.{index_of, put, value_of}
-use Rattle.halfbrown.specs.State.{State, IsState, state, contents_of}
+use Rattle.halfbrown.specs.State.{State, IsValid, make_state, contents_of}
 use Rattle.halfbrown.specs.Updates.{HasPut}
 use Rattle.half_store.specs.Capacity.{capacity_for}
 use Rattle.half_store.specs.Store.{IsVacancy, filled}
@@ -43,7 +43,7 @@ module _ {K V S : Type 0} where
       pub ok : OnOk result (Puts limit eq old k v (insert_needs limit eq old k) new)
       pub put : OnOk result (HasPut eq old.pairs k v new.pairs)
       pub returned : IfErr result (HandsBack old k v (insert_needs limit eq old k) new)
-      pub state : IsState eq limit new
+      pub valid : IsValid eq limit new
 
     -- an insertion of (k, v) that returns the index of its pair too
     pub record InsertsAt (result : Result (ℕ × Option V) (Refused K V)) (new : State K V S) : Type 0 where
@@ -55,16 +55,16 @@ module _ {K V S : Type 0} where
       pub ok : OnOk result (Puts limit eq old k v (new_key_needs limit old) new)
       pub put : OnOk result (HasPut eq old.pairs k v new.pairs)
       pub returned : IfErr result (HandsBack old k v (new_key_needs limit old) new)
-      pub state : IsState eq limit new
+      pub valid : IsValid eq limit new
 
 module _ {K V S : Type 0} where
   -- the map with one pair more, which is added here
   abbrev pub pushed : State K V S → K → V → Vacancy → State K V S
-  pushed m k v vacancy = state m.is_vec (m.pairs ++ (k, v) ∷ []) m.capacity m.builder (filled m.is_vec (contents_of m) vacancy)
+  pushed m k v vacancy = make_state m.is_vec (m.pairs ++ (k, v) ∷ []) m.capacity m.builder (filled m.is_vec (contents_of m) vacancy)
 
   -- the buckets that making capacity for a pair of this hash reads, whose vacancy is known: where the table grows, those of an insertion probe
-  abbrev pub growth_looks : (K → ℕ) → State K V S → ℕ → Bool → ℕ
-  growth_looks hash m h granted =
+  abbrev pub growth_reads : (K → ℕ) → State K V S → ℕ → Bool → ℕ
+  growth_reads hash m h granted =
       if nat_lt (length m.pairs) m.capacity then 0 else (if granted then probe_length hash m.is_vec (capacity_for (length m.pairs + 1)) m.pairs h else 0)
 
   -- a granted call that makes capacity for an insertion, which needed this much: the same pairs, and a full vector is a table now
@@ -76,16 +76,16 @@ module _ {K V S : Type 0} where
     pub ok : OnOk result (Prepares limit old needs new)
     pub refused : IfErr result (IsRefusal needs)
     pub err : OnErr result (new ≡ old)
-    pub state : IsState eq limit new
+    pub valid : IsValid eq limit new
 
   module _ (eq : K → K → Bool) (hash : S → K → ℕ) where
     -- k is not held, and a pair of it may be added here: the capacity is enough for it
-    pub record HasVacancyFor (m : State K V S) (k : K) (vacancy : Vacancy) : Type 0 where
+    pub record HasMapVacancy (m : State K V S) (k : K) (vacancy : Vacancy) : Type 0 where
       pub absent : IsAbsent (eq k) m.pairs
       pub capacity : length m.pairs < m.capacity
       pub vacant : IsVacancy m.is_vec (contents_of m) (hash m.builder k) vacancy
 
     -- all is ready for an insertion of k: its index is found, or a vacancy for its pair
-    abbrev pub IsReadyFor : State K V S → K → Place → Type 0
-    IsReadyFor m k (Held index) = IsIndexOf (eq k) m.pairs index
-    IsReadyFor m k (Vacant vacancy) = HasVacancyFor m k vacancy
+    abbrev pub IsPreparedFor : State K V S → K → Place → Type 0
+    IsPreparedFor m k (Held index) = IsIndexOf (eq k) m.pairs index
+    IsPreparedFor m k (Vacant vacancy) = HasMapVacancy m k vacancy

@@ -3,14 +3,14 @@ use Rattle.std.specs.Prelude.{◌≡◌, ℕ, ◌<◌, ◌≤◌, Bool, true, fa
 use Rattle.std.specs.List.{IsDistinct}
 use Rattle.std.specs.Map.{keys_of}
 use Rattle.half_store.specs.Store.{StoreState}
-use Rattle.halfbrown.specs.State.{State, state, IsTableCapacity}
+use Rattle.halfbrown.specs.State.{State, make_state, IsTableCapacity}
 
 -- the state that these fields make
 abbrev pub state_in : {K V S : Type 0} → StoreState K V → S → State K V S
-state_in store builder = state store.is_vec store.pairs store.capacity builder store.contents
+state_in store builder = make_state store.is_vec store.pairs store.capacity builder store.contents
 
 -- what the fields keep
-pub record IsKept {K V : Type 0} (eq : K → K → Bool) (hash : K → ℕ) (limit : ℕ) (store : StoreState K V) : Type 0 where
+pub record IsMapInvariant {K V : Type 0} (eq : K → K → Bool) (hash : K → ℕ) (limit : ℕ) (store : StoreState K V) : Type 0 where
   pub distinct : IsDistinct eq (keys_of store.pairs)
   pub fits : length store.pairs ≤ store.capacity
   pub within : store.is_vec ≡ true → store.capacity ≤ limit

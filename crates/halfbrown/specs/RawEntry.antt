@@ -15,7 +15,7 @@ use Rattle.halfbrown.specs.declared.raw_entry.RawEntryMut.{RawEntryMut}
 use Rattle.halfbrown.specs.Costs.{probe_length, search_asked}
 use Rattle.halfbrown.specs.Entry as entries
 use Rattle.halfbrown.specs.Pairs.{holds_by, set_by, put_by, take_out_by}
-use Rattle.halfbrown.specs.State.{State, IsState, WithPairs}
+use Rattle.halfbrown.specs.State.{State, IsValid, WithPairs}
 use Rattle.halfbrown.specs.Updates.{HasPut, HasSetBy, HasRemovedBy}
 use Rattle.std.specs.Map.Iter.{deref_pair}
 use Rattle.std.specs.Option.{option_map}
@@ -34,12 +34,12 @@ map_in builder = builder.map.now
 
 module _ {K V S L H : Type 0} {e : eq.Ghosts K} {h : hash.Ghosts K} {b : hashers.Ghosts S K H} {l : limits.Ghosts L} where
   -- the reference to the map that is ready for one pair more
-  abbrev pub ready_ref : RawEntryBuilderMut K V S L H e h b l → MutBor (State K V S)
-  ready_ref (Ready prepared) = prepared.map
+  abbrev pub prepared_ref : RawEntryBuilderMut K V S L H e h b l → MutBor (State K V S)
+  prepared_ref (Ready prepared) = prepared.map
 
   -- that map, as it is
-  abbrev pub ready_map : RawEntryBuilderMut K V S L H e h b l → State K V S
-  ready_map builder = (ready_ref builder).now
+  abbrev pub prepared_map : RawEntryBuilderMut K V S L H e h b l → State K V S
+  prepared_map builder = (prepared_ref builder).now
 
   -- the reference to the map
   abbrev pub raw_ref : RawEntryMut K V S L H e h b l → MutBor (State K V S)
@@ -116,13 +116,13 @@ module _ {K V S L H : Type 0} {e : eq.Ghosts K} {h : hash.Ghosts K} {b : hashers
   -- the pair is put, as `PutsThroughRawEntry` says, into a map that is whole
   pub record PutsEntry (limit : ℕ) (eq : K → K → Bool) (entry : RawEntryMut K V S L H e h b l) (key : K) (value : V) (result : OccupiedEntry K V S L H e h b l) : Type 0 where
     pub puts : PutsThroughRawEntry entry key value result
-    pub state : IsState eq limit (entries.map_of (entries.Occupied result))
+    pub valid : IsValid eq limit (entries.map_of (entries.Occupied result))
 
   -- the pair of this key, which was not held, is put and added
   pub record AddsEntry (limit : ℕ) (eq : K → K → Bool) (entry : RawEntryMut K V S L H e h b l) (key : K) (value : V) (result : OccupiedEntry K V S L H e h b l) : Type 0 where
     pub puts : PutsThroughRawEntry entry key value result
     pub adds : AddsThroughRawEntry eq (raw_map entry).pairs key value result
-    pub state : IsState eq limit (entries.map_of (entries.Occupied result))
+    pub valid : IsValid eq limit (entries.map_of (entries.Occupied result))
 
 -- this key and this value are lent
 pub record LendsPair {K V : Type 0} (k : K) (v : V) (lent : Bor K × MutBor V) : Type 0 where
@@ -148,7 +148,7 @@ module _ {F K V R : Type 0} (g : Once F (Bor K × (MutBor V × Unit {0})) (R × 
 module _ {K V S : Type 0} (hash : S → K → ℕ) (m : State K V S) where
   -- after one insertion probe for this hash
   abbrev pub after_probe : ℕ → Work → Work
-  after_probe sought before = looked_more before (probe_length (hash m.builder) m.is_vec m.capacity m.pairs sought)
+  after_probe wanted before = looked_more (probe_length (hash m.builder) m.is_vec m.capacity m.pairs wanted) before
 
   -- after the key was hashed, in a table, and one insertion probe made for it
   abbrev pub after_adding : K → Work → Work
@@ -161,28 +161,28 @@ pub record ReadsPair {K V S : Type 0} (test : K → Bool) (m : State K V S) (len
 
 module _ {K V S L H : Type 0} {e : eq.Ghosts K} {h : hash.Ghosts K} {b : hashers.Ghosts S K H} {l : limits.Ghosts L} (limit : ℕ) (eq : K → K → Bool) where
   -- what `raw_entry_mut` returns: where it is granted the same map, ready for one pair more; where it is refused the reason
-  pub record MakesReady (m : MutBor (State K V S)) (result : Result (RawEntryBuilderMut K V S L H e h b l) Refusal) : Type 0 where
-    pub same_map : IfOk result (λ ready. (ready_ref ready).ghost_name ≡ m.ghost_name)
-    pub ok : IfOk result (λ ready. Prepares limit m.now (new_key_needs limit m.now) (ready_map ready))
-    pub capacity : IfOk result (λ ready. length (ready_map ready).pairs < (ready_map ready).capacity)
+  pub record MakesBuilder (m : MutBor (State K V S)) (result : Result (RawEntryBuilderMut K V S L H e h b l) Refusal) : Type 0 where
+    pub same_map : IfOk result (λ ready. (prepared_ref ready).ghost_name ≡ m.ghost_name)
+    pub ok : IfOk result (λ ready. Prepares limit m.now (new_key_needs limit m.now) (prepared_map ready))
+    pub capacity : IfOk result (λ ready. length (prepared_map ready).pairs < (prepared_map ready).capacity)
     pub refused : IfErr result (IsRefusal (new_key_needs limit m.now))
-    pub state : IfOk result (λ ready. IsState eq limit (ready_map ready))
+    pub valid : IfOk result (λ ready. IsValid eq limit (prepared_map ready))
 
   -- the entry is that of the key which passes the test, in the map that was ready
-  pub record EntersByKey (test : K → Bool) (ready : RawEntryBuilderMut K V S L H e h b l) (entry : RawEntryMut K V S L H e h b l) : Type 0 where
-    pub same_map : (raw_ref entry).ghost_name ≡ (ready_ref ready).ghost_name
-    pub finds : IsRawEntryOf eq test (ready_map ready) entry
-    pub state : IsState eq limit (raw_map entry)
+  pub record FindsEntry (test : K → Bool) (ready : RawEntryBuilderMut K V S L H e h b l) (entry : RawEntryMut K V S L H e h b l) : Type 0 where
+    pub same_map : (raw_ref entry).ghost_name ≡ (prepared_ref ready).ghost_name
+    pub finds : IsRawEntryOf eq test (prepared_map ready) entry
+    pub valid : IsValid eq limit (raw_map entry)
 
   -- the entry is that of a pair which the match accepts, under this hash, in the map that was ready
-  pub record EntersByMatch (returns : K → Bool → Type 0) (hash_of : S → K → ℕ) (sought : ℕ) (ready : RawEntryBuilderMut K V S L H e h b l) (result : RawEntryMut K V S L H e h b l) : Type 0 where
-    pub same_map : (raw_ref result).ghost_name ≡ (ready_ref ready).ghost_name
-    pub map : raw_map result ≡ ready_map ready
-    pub found : ReadsMatch returns hash_of sought (ready_map ready) (found_pair result)
-    pub entry : IfSome (found_pair result) (λ pair. IsRawEntryOf eq (eq pair.0) (ready_map ready) result)
-    pub state : IsState eq limit (raw_map result)
+  pub record FindsEntryByMatch (returns : K → Bool → Type 0) (hash_of : S → K → ℕ) (wanted : ℕ) (ready : RawEntryBuilderMut K V S L H e h b l) (result : RawEntryMut K V S L H e h b l) : Type 0 where
+    pub same_map : (raw_ref result).ghost_name ≡ (prepared_ref ready).ghost_name
+    pub map : raw_map result ≡ prepared_map ready
+    pub found : ReadsMatch returns hash_of wanted (prepared_map ready) (found_pair result)
+    pub entry : IfSome (found_pair result) (λ pair. IsRawEntryOf eq (eq pair.0) (prepared_map ready) result)
+    pub valid : IsValid eq limit (raw_map result)
 
 module _ (K V S L H : RattleType) {e : eq.Ghosts K.Denot} {h : hash.Ghosts K.Denot} {b : hashers.Ghosts S.Denot K.Denot H.Denot} {l : limits.Ghosts L.Denot} where
   -- where the capacity was refused the map is as it was
   abbrev pub RestsIfUnready : {E : Type 0} → MutBor (State K.Denot V.Denot S.Denot) → Result (RawEntryBuilderMut K.Denot V.Denot S.Denot L.Denot H.Denot e h b l) E → Fml
-  RestsIfUnready m r = RestsIfErr (the_row K V S L H e h b l) m (λ ready. (ready_ref ready).ghost_name) r (λ n. n ≡ m.now)
+  RestsIfUnready m r = RestsIfErr (the_row K V S L H e h b l) m (λ ready. (prepared_ref ready).ghost_name) r (λ n. n ≡ m.now)

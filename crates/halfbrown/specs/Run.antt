@@ -4,7 +4,7 @@ use Rattle.std.specs.List.{list_any}
 use Rattle.halfbrown.specs.declared.run.Command.{Command}
 use Rattle.halfbrown.specs.declared.run.Command.TheVariants.{Insert, InsertNew, EntryOrInsert, RawOrInsert, Get, Remove, Clear, Reserve, Shrink, IsVec, Len}
 use Rattle.halfbrown.specs.declared.run.Reply.{Reply}
-use Rattle.halfbrown.specs.State.{State, IsState, WithPairs}
+use Rattle.halfbrown.specs.State.{State, IsValid, WithPairs}
 use Rattle.halfbrown.specs.Costs.{Cost, no_cost, add_costs, GrewBy, key_search_cost, insert_cost, raw_insert_cost, new_key_cost}
 use Rattle.halfbrown.specs.Pairs.{holds, value_of, pair_of, take_out}
 use Rattle.half_store.specs.Work.{Work}
@@ -68,11 +68,11 @@ abbrev pub is_refused : {K V : Type 0} → Reply K V → Bool
 is_refused reply = is_some (refusal_in reply)
 
 -- whether the reply says that a pair was put
-abbrev pub says_put : {K V : Type 0} → Reply K V → Bool
-says_put (Was before) = true
-says_put Added = true
-says_put (Value value) = true
-says_put reply = false
+abbrev pub did_put : {K V : Type 0} → Reply K V → Bool
+did_put (Was before) = true
+did_put Added = true
+did_put (Value value) = true
+did_put reply = false
 
 -- whether the reply is that the form is the vector
 abbrev pub says_vec : {K V : Type 0} → Reply K V → Bool
@@ -98,7 +98,7 @@ module _ {K V S : Type 0} (limit : ℕ) where
 
   -- whether the step put a pair into a full vector, and so made it a table
   abbrev pub switches : Step K V S → Bool
-  switches s = says_put s.reply && is_full limit s.before
+  switches s = did_put s.reply && is_full limit s.before
 
   -- whether the step made a table a vector: it is a `Shrink`, and says so
   abbrev pub goes_back : Step K V S → Bool
@@ -109,8 +109,8 @@ module _ {K V S : Type 0} (limit : ℕ) where
   form_changed s = if switches s then Some false else if goes_back s then Some true else None
 
 -- whether `Shrink` is among the commands
-abbrev pub shrinks : {K V : Type 0} → List (Command K V) → Bool
-shrinks commands = list_any is_shrink commands
+abbrev pub has_shrink : {K V : Type 0} → List (Command K V) → Bool
+has_shrink commands = list_any is_shrink commands
 
 module _ {K V S : Type 0} where
   -- the commands of the steps, in order
@@ -123,14 +123,14 @@ module _ {K V S : Type 0} where
 
 module _ {K V S : Type 0} (limit : ℕ) (eq : K → K → Bool) where
   -- the steps lead from old to new: each begins where the last ended, is one its command may take, and leaves what holds of every map
-  abbrev pub Lead : State K V S → List (Step K V S) → State K V S → Type 0
-  Lead old [] new = new ≡ old
-  Lead old (s ∷ steps) new = (s.before ≡ old) × IsValidStep limit eq s × IsState eq limit s.after × Lead s.after steps new
+  abbrev pub Chain : State K V S → List (Step K V S) → State K V S → Type 0
+  Chain old [] new = new ≡ old
+  Chain old (s ∷ steps) new = (s.before ≡ old) × IsValidStep limit eq s × IsValid eq limit s.after × Chain s.after steps new
 
   -- there are steps that lead from old to new, and have these commands and these replies
   pub record Runs (old : State K V S) (commands : List (Command K V)) (replies : List (Reply K V)) (new : State K V S) : Type 0 where
     pub steps : List (Step K V S)
-    pub lead : Lead old steps new
+    pub lead : Chain old steps new
     pub commands_are : commands ≡ commands_of steps
     pub replies_are : replies ≡ replies_of steps
 

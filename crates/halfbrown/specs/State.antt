@@ -16,8 +16,8 @@ pub record State (K V S : Type 0) : Type 0 where
 
 module _ {K V S : Type 0} where
   -- the state of these parts
-  abbrev pub state : Bool → List (K × V) → ℕ → S → Contents → State K V S
-  state is_vec pairs capacity builder contents =
+  abbrev pub make_state : Bool → List (K × V) → ℕ → S → Contents → State K V S
+  make_state is_vec pairs capacity builder contents =
       record { is_vec = is_vec; pairs = pairs; capacity = capacity; builder = builder; contents = contents }
 
   -- what the buckets contain
@@ -52,7 +52,7 @@ IsTableCapacity capacity = capacity ≡ capacity_for capacity
 
 -- what holds of every map: no two held keys are equal, the pairs fit in the capacity, a vector's capacity is at most the limit, and a
 -- table's is more than the limit and one of the series
-pub record IsState {K V S : Type 0} (eq : K → K → Bool) (limit : ℕ) (m : State K V S) : Type 0 where
+pub record IsValid {K V S : Type 0} (eq : K → K → Bool) (limit : ℕ) (m : State K V S) : Type 0 where
   pub distinct : IsDistinct eq (keys_of m.pairs)
   pub fits : length m.pairs ≤ m.capacity
   pub vector_capacity : m.is_vec ≡ true → m.capacity ≤ limit

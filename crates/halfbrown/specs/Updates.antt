@@ -3,7 +3,7 @@ use Rattle.std.specs.Prelude.{◌≡◌, ℕ, ◌+◌, ◌^◌, ◌<◌, Bool, t
 use Rattle.std.specs.Map.{keys_of, values_of, lookup}
 use Rattle.std.specs.Option.{option_map}
 use Rattle.halfbrown.specs.Pairs.{value_of, pair_of, holds, holds_by, set_values}
-use Rattle.halfbrown.specs.State.{State, IsState, with_pairs}
+use Rattle.halfbrown.specs.State.{State, IsValid, with_pairs}
 
 -- after these values are written into the pairs: there are as many pairs, with the same keys, and where there are as many values as pairs,
 -- these are their values
@@ -12,11 +12,11 @@ pub record HasValues {K V : Type 0} (old : List (K × V)) (vs : List V) (new : L
   pub values : length vs ≡ length old → values_of new ≡ vs
   pub len : length new ≡ length old
 
--- whatever values are written into the pairs of a map: it has as many pairs, fewer than 2^63, with the same keys, and `IsState` still holds
+-- whatever values are written into the pairs of a map: it has as many pairs, fewer than 2^63, with the same keys, and `IsValid` still holds
 pub record KeepsKeys {K V S : Type 0} (limit : ℕ) (eq : K → K → Bool) (old : State K V S) : Type 0 where
   pub small : length old.pairs < 2 ^ 63
   pub written : (vs : List V) → HasValues old.pairs vs (set_values old.pairs vs)
-  pub state : (vs : List V) → IsState eq limit (with_pairs old (set_values old.pairs vs))
+  pub valid : (vs : List V) → IsValid eq limit (with_pairs old (set_values old.pairs vs))
 
 module _ {K V : Type 0} (eq : K → K → Bool) where
   -- after the pair (k, v) is put: k is held with the value v, as are its equals; each other key has what it had; there is one pair more

@@ -2,7 +2,7 @@
 ghost use Rattle.std.specs.Prelude.{◌≡◌, ◌^◌, ◌<◌, ◌≤◌, true, false, [], length, Some, IfSome};
 ghost use Rattle.std.specs.Iterator.{at_most, UpTo};
 ghost use Rattle.std.specs.Iterator.SizeHint.{IsWithinCount};
-ghost use Rattle.halfbrown.specs.State.{IsState, IsTableCapacity, WithPairs};
+ghost use Rattle.halfbrown.specs.State.{IsValid, IsTableCapacity, WithPairs};
 
 use crate::{AtMost, DefaultHashBuilder, KeyHasher, Limit, LimitedHashMap};
 use half_store::{Drained, IntoStore};
@@ -41,7 +41,7 @@ impl<'a, K: Eq + Hash + Drop, V: Drop, S: KeyHasher<K>, L: Limit, P: IntoStore<K
 
     fn drop(self)
         ensures after { WithPairs (map_after self.entry) [] self.exit.0.now }
-        ensures state { IsState K.eq L.LIMIT self.exit.0.now }
+        ensures valid { IsValid K.eq L.LIMIT self.exit.0.now }
     {
         let Drain { map, pairs } = self;
         map.put_back(pairs);

@@ -64,7 +64,7 @@ impl<K: Eq + Hash> Equivalent<K> for &K {
     }
 }
 
-// Compares two texts. It is no part of the loop of a probe, which stays small so.
+// Compares two texts. It is not inlined, so that probe loops stay small.
 #[inline(never)]
 fn same_text<'t>(left: &'t str, right: &'t str) -> bool
     ensures { result ≡ bytes_eq left.now right.now }

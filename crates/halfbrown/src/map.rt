@@ -1,6 +1,6 @@
 //! The map, and what it says of itself.
 ghost use Rattle.std.specs.Prelude.{◌≡◌, ◌^◌, ◌<◌, ◌↔◌, false, [], length, IsTrue};
-ghost use Rattle.halfbrown.specs.State.{IsState, WithPairs};
+ghost use Rattle.halfbrown.specs.State.{IsValid, WithPairs};
 
 mod clone;
 mod collect;
@@ -70,7 +70,7 @@ pub struct LimitedHashMap<
 
 impl<K: Eq + Hash, V, S: KeyHasher<K>, L: Limit> Model for LimitedHashMap<K, V, S, L> {
     ghost use Rattle.halfbrown.specs.State.{State, state_code};
-    ghost use Rattle.halfbrown.specs.Layout.{state_in, IsKept};
+    ghost use Rattle.halfbrown.specs.Layout.{state_in, IsMapInvariant};
 
     ghost Value = { State K V S };
 
@@ -78,7 +78,7 @@ impl<K: Eq + Hash, V, S: KeyHasher<K>, L: Limit> Model for LimitedHashMap<K, V, 
 
     ghost view = { λ m. state_in m.store m.builder };
 
-    ghost invariant = { λ m. IsKept K.eq (S.hash m.builder) L.LIMIT m.store };
+    ghost invariant = { λ m. IsMapInvariant K.eq (S.hash m.builder) L.LIMIT m.store };
 }
 
 // Written out, since the limit is a type that no value of the map holds.
@@ -105,7 +105,7 @@ impl<K: Eq + Hash, V, S: KeyHasher<K>, L: Limit> LimitedHashMap<K, V, S, L> {
     pub fn len(&self) -> usize
         ensures len { result ≡ length self.now.pairs }
         ensures small { result < 2 ^ 63 }
-        ensures state { IsState K.eq L.LIMIT self.now }
+        ensures valid { IsValid K.eq L.LIMIT self.now }
     {
         self.columns().len()
     }
@@ -130,7 +130,7 @@ impl<K: Eq + Hash, V, S: KeyHasher<K>, L: Limit> LimitedHashMap<K, V, S, L> {
     #[inline(always)]
     pub fn is_vec(&self) -> bool
         ensures form { result ≡ self.now.is_vec }
-        ensures state { IsState K.eq L.LIMIT self.now }
+        ensures valid { IsValid K.eq L.LIMIT self.now }
     {
         self.store.is_vec()
     }
@@ -184,7 +184,7 @@ impl<K: Eq + Hash, V, S: KeyHasher<K>, L: Limit> LimitedHashMap<K, V, S, L> {
         K: Drop,
         V: Drop,
         ensures after { WithPairs self.old [] self.new }
-        ensures state { IsState K.eq L.LIMIT self.new }
+        ensures valid { IsValid K.eq L.LIMIT self.new }
     {
         self.store.clear();
     }

@@ -1,7 +1,7 @@
 //! Whole runs: a list of commands, done one after another, with a reply to each.
 ghost use Rattle.std.specs.Prelude.{◌≡◌, ◌+◌, ◌*◌, ◌≤◌, true, false, [], length, vec_capacity, IsOk, IfOk, IfErr, OnErr};
 ghost use Rattle.halfbrown.specs.Costs.{GrewBy};
-ghost use Rattle.halfbrown.specs.Run.{Runs, cost_of, shrinks, Executes, ExecutesAtCost};
+ghost use Rattle.halfbrown.specs.Run.{Runs, cost_of, has_shrink, Executes, ExecutesAtCost};
 
 use crate::{KeyHasher, Limit, LimitedHashMap, Refused};
 use half_store::{Refusal, Tally, uncounted};
@@ -78,7 +78,7 @@ pub fn run<K: Eq + Hash + Drop, V: Copy, S: KeyHasher<K>, L: Limit>(
 ) -> Result<Vec<Reply<K, V>>, Vec<Command<K, V>>>
     ensures run { IfOk result (λ replies.
         Runs L.LIMIT K.eq map.old commands.items replies.items map.new) }
-    ensures stays_a_table { shrinks commands.items ≡ false → map.old.is_vec ≡ false
+    ensures stays_a_table { has_shrink commands.items ≡ false → map.old.is_vec ≡ false
         → map.new.is_vec ≡ false }
     ensures empty { commands.items ≡ [] → IsOk result }
     ensures memory { IfOk result (λ replies. vec_capacity replies ≡ length commands.items) }
@@ -104,11 +104,11 @@ pub fn run_counted<K: Eq + Hash + Drop, V: Copy, S: KeyHasher<K>, L: Limit>(
 
     // Without `Shrink`: once a table, always a table; a run that ends with a vector has hashed nothing; and no run hashes more than
     // two keys for each command, and once as many as the limit.
-    ensures stays_a_table { shrinks commands.items ≡ false → map.old.is_vec ≡ false
+    ensures stays_a_table { has_shrink commands.items ≡ false → map.old.is_vec ≡ false
         → map.new.is_vec ≡ false }
-    ensures nothing_hashed { shrinks commands.items ≡ false → map.new.is_vec ≡ true
+    ensures nothing_hashed { has_shrink commands.items ≡ false → map.new.is_vec ≡ true
         → tally.new.asked ≡ tally.old.asked }
-    ensures hashes { shrinks commands.items ≡ false
+    ensures hashes { has_shrink commands.items ≡ false
         → tally.new.asked ≤ tally.old.asked + (2 * length commands.items + L.LIMIT) }
 
     // Where memory for the replies is refused, nothing was done.

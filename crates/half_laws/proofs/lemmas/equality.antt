@@ -18,7 +18,7 @@ use Rattle.halfbrown.proofs.CallerLemmas.{lookup_permuted}
 use Rattle.std.proofs.Math.Nat.{mul-le-mul_left}
 use Rattle.half_store.specs.PairLists.{index_of}
 use Rattle.half_store.specs.Work.{Work}
-use Rattle.halfbrown.specs.Costs.{Range, between, candidates, exactly, probe_length, search_asked, IsKeySearchCost, AreSearchCosts}
+use Rattle.halfbrown.specs.Costs.{Range, between, key_hash_count, exactly, probe_length, search_asked, IsKeySearchCost, AreSearchCosts}
 use Rattle.halfbrown.specs.State.{State}
 
 module _ {K V : Type 0} (eq : K → K → Bool) (value_eq : V → V → Bool) (laws : IsEquivalence eq) where
@@ -36,9 +36,9 @@ module _ {K V : Type 0} (eq : K → K → Bool) (value_eq : V → V → Bool) (l
       )
 
 -- a search compares at most all keys
-compares_most : (is_vec held : Bool) (in_order candidates most : ℕ) → candidates ≤ most
-    → (cond is_vec (between in_order most) (cond held (between 1 candidates) (exactly candidates))).most ≤ most
-compares_most is_vec held in_order candidates most table = grind (arith, common_steps)
+compares_most : (is_vec held : Bool) (in_order key_hash_count most : ℕ) → key_hash_count ≤ most
+    → (cond is_vec (between in_order most) (cond held (between 1 key_hash_count) (exactly key_hash_count))).most ≤ most
+compares_most is_vec held in_order key_hash_count most table = grind (arith, common_steps)
 
 looks_most : (is_vec held : Bool) (probe : ℕ) → (cond is_vec (exactly 0) (cond held (between 1 (probe - 1)) (exactly probe))).most ≤ probe
 looks_most is_vec held probe = grind (arith, common_steps)

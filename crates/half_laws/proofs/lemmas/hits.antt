@@ -5,7 +5,7 @@ use Rattle.std.proofs.lemmas.Map.Entries.{length-keys_of}
 use Rattle.std.proofs.Math.ListN.{length-map}
 use Rattle.std.specs.Map.{keys_of}
 use Rattle.half_store.specs.Capacity.{buckets_of}
-use Rattle.half_store.specs.Table.{all_hit_reads}
+use Rattle.half_store.specs.Table.{all_hit_reads_in}
 use Rattle.half_store.proofs.lemmas.capacity.{four-le_count}
 use Rattle.half_store.proofs.lemmas.table.Counts.{tick}
 use Rattle.half_store.proofs.lemmas.table.Filled.{IsTableOf, slots_with, table_of, filled}
@@ -13,8 +13,8 @@ use Rattle.half_store.proofs.lemmas.table.Hits.{same_reads}
 use Rattle.half_mean.specs.Mean.{total_filling}
 use Rattle.half_mean.proofs.lemmas.Filling.{filling_capacity_law, filling_half_full_law}
 use Rattle.half_mean.proofs.lemmas.Means.{bucket_share}
-use Rattle.halfbrown.specs.Costs.{hit_looks, filling_looks}
-use Rattle.halfbrown.specs.State.{State, IsState}
+use Rattle.halfbrown.specs.Costs.{hit_reads, filling_reads}
+use Rattle.halfbrown.specs.State.{State, IsValid}
 use Rattle.half_laws.specs.HitLaws.{HitLaw, HitTotalLaw, HitHistoryLaw, FillingOrderLaw, HalfFullHitLaw, CapacityHitLaw}
 use Rattle.half_laws.specs.MapLaws.{HoldSamePairs}
 use Rattle.half_laws.proofs.lemmas.means.{table_count}
@@ -34,16 +34,16 @@ filling_order m some others few p =
 
 module _ {K : Type 0} (V : Type 0) {S : Type 0} (hash : S → K → ℕ) where
   pub hit_law : HitLaw V hash
-  hit_law m test sought asked index before after table found cost =
-      subst (λ o. IfSome o (λ at. after.looked ≡ before.looked + hit_looks m at)) found (cost.hit table)
+  hit_law m test wanted asked index before after table found cost =
+      subst (λ o. IfSome o (λ at. after.looked ≡ before.looked + hit_reads m at)) found (cost.hit table)
 
   pub hit_total_law : HitTotalLaw V hash
-  unfolding all_hit_reads
-  hit_total_law m sought asked found before after table cost = cost.hits table
+  unfolding all_hit_reads_in
+  hit_total_law m wanted asked found before after table cost = cost.hits table
 
   -- fillings with the same pairs in another order
-  filling-same : (limit : ℕ) (eq : K → K → Bool) (a b : State K V S) → HoldSamePairs a b → IsState eq limit a → a.is_vec ≡ false
-      → filling_looks (hash a.builder) a.capacity a.pairs ≡ filling_looks (hash b.builder) b.capacity b.pairs
+  filling-same : (limit : ℕ) (eq : K → K → Bool) (a b : State K V S) → HoldSamePairs a b → IsValid eq limit a → a.is_vec ≡ false
+      → filling_reads (hash a.builder) a.capacity a.pairs ≡ filling_reads (hash b.builder) b.capacity b.pairs
   filling-same limit eq a b same is table =
       let hashes : List ℕ = map (hash a.builder) (keys_of a.pairs) in
       let count = table_count a.capacity (is.table_capacity table) in
@@ -53,11 +53,11 @@ module _ {K : Type 0} (V : Type 0) {S : Type 0} (hash : S → K → ℕ) where
       omega (arith, length-map (keys_of a.pairs) (hash a.builder), length-keys_of a.pairs, count.1) in
       filling_order (buckets_of a.capacity) hashes (map (hash a.builder) (keys_of b.pairs)) few
       (IsPermutation-map (hash a.builder) (keys_of a.pairs) (keys_of b.pairs) (IsPermutation-map (λ (e : K × V). e.0) a.pairs b.pairs same.pairs))
-      ∙ (λ i. filling_looks (hash (same.builder i)) (same.capacity i) b.pairs)
+      ∙ (λ i. filling_reads (hash (same.builder i)) (same.capacity i) b.pairs)
 
   pub hit_history_law : (limit : ℕ) (eq : K → K → Bool) → HitHistoryLaw V limit eq hash
-  unfolding all_hit_reads
-  hit_history_law limit eq a b sought asked sought' asked' found found' before after before' after' same is table cost cost' =
+  unfolding all_hit_reads_in
+  hit_history_law limit eq a b wanted asked wanted' asked' found found' before after before' after' same is table cost cost' =
       cost.hits table ∙ filling-same limit eq a b same is table ∙ sym (cost'.hits (sym same.form ∙ table))
 
 pub capacity_hit_law : CapacityHitLaw 5 2

@@ -10,7 +10,7 @@ use Rattle.halfbrown.proofs.lemmas.pairs.Indices.{absent_of_unheld}
 use Rattle.half_laws.specs.MeanLaws.{MissLaw, MissTotalLaw, HalfFullMissLaw, CapacityMissLaw}
 
 pub miss_law : {K : Type 0} (V : Type 0) {S : Type 0} (hash : S → K → ℕ) → MissLaw V hash
-miss_law V hash m test sought asked before after table unheld costs =
+miss_law V hash m test wanted asked before after table unheld costs =
     let absent = absent_of_unheld test m.pairs unheld in
     let looked = costs.grew.looked in
     grind (arith, common_steps, absent.index)

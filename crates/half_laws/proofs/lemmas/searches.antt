@@ -17,8 +17,8 @@ use Rattle.half_store.proofs.lemmas.capacity.{four-le_count, buckets_for-least, 
 use Rattle.half_laws.proofs.lemmas.probes.{history_law as reach_history, crowding_law}
 use Rattle.halfbrown.specs.declared.run.Command.{Command}
 use Rattle.halfbrown.specs.declared.run.Command.TheVariants.{Insert, InsertNew, EntryOrInsert, RawOrInsert}
-use Rattle.halfbrown.specs.Costs.{Range, Cost, GrewBy, GrewWithin, exactly, between, add_ranges, no_cost, search_asked, candidates}
-use Rattle.halfbrown.specs.Costs.{probe_length, search_compares, search_looks, search_cost, key_search_cost, switched, grown, insertion_looks}
+use Rattle.halfbrown.specs.Costs.{Range, Cost, GrewBy, GrewWithin, exactly, between, add_ranges, no_cost, search_asked, key_hash_count}
+use Rattle.halfbrown.specs.Costs.{probe_length, search_compares, search_reads, search_cost, key_search_cost, switched, grown, insertion_reads}
 use Rattle.halfbrown.specs.Costs.{insert_cost, raw_insert_cost, new_key_cost, is_switch_refused, capacity_after_switch, capacity_after_growth}
 use Rattle.halfbrown.specs.Costs.{addition_grows, IsSearchCost, IsInsertCost}
 use Rattle.half_laws.specs.MapLaws.{HoldSamePairs, GrewExactlyBy, HistoryLaw, InsertionHistoryLaw, CrowdedSearchLaw, CrowdedInsertionLaw}
@@ -27,7 +27,7 @@ use Rattle.half_laws.specs.MapLaws.{CommandBucketsLaw, finds_in_vector}
 use Rattle.halfbrown.specs.Growth.{is_full, is_vec_after}
 use Rattle.halfbrown.specs.Pairs.{holds, holds_by}
 use Rattle.halfbrown.specs.Run.{command_cost}
-use Rattle.halfbrown.specs.State.{State, state, contents_of, IsState, IsTableCapacity}
+use Rattle.halfbrown.specs.State.{State, make_state, contents_of, IsValid, IsTableCapacity}
 use Rattle.halfbrown.proofs.lemmas.map.Growth.{full_len}
 use Rattle.halfbrown.proofs.lemmas.pairs.Indices.{absent_of_unheld, found_where_held}
 
@@ -102,13 +102,13 @@ never_found in_vector held unheld = grind (arith, common_steps)
 
 module _ {K V S : Type 0} (hash : S → K → ℕ) where
   pub crowded_probe_law : CrowdedProbeLaw V hash
-  crowded_probe_law builder capacity pairs sought passed is fits l = grind (arith, common_steps, buckets-more, crowding_law, length-keys_of, length-map, map, reach-none)
+  crowded_probe_law builder capacity pairs wanted passed is fits l = grind (arith, common_steps, buckets-more, crowding_law, length-keys_of, length-map, map, reach-none)
 
   module _ (limit : ℕ) (eq : K → K → Bool) where
     pub crowded_search_law : CrowdedSearchLaw V limit eq hash
-    crowded_search_law m sought found asked before after passed state form costs l = grind (arith, common_steps, crowded_probe_law, is_some, looks_most)
+    crowded_search_law m wanted found asked before after passed state form costs l = grind (arith, common_steps, crowded_probe_law, is_some, looks_most)
 
-    module _ (m : State K V S) (s : IsState eq limit m) (stays : is_vec_after limit m ≡ false) where
+    module _ (m : State K V S) (s : IsValid eq limit m) (stays : is_vec_after limit m ≡ false) where
       -- once the form has changed, the capacity is that of a table that the pairs fit
       switched_fits : IsTableCapacity (capacity_after_switch limit m) × (length m.pairs ≤ capacity_after_switch limit m)
       switched_fits = grind (arith, common_steps, buckets_for-least, capacity_for-capacity_of, full_len, table_of)
@@ -136,7 +136,7 @@ module _ {K V S : Type 0} (hash : S → K → ℕ) where
               (exactly (if granted && not (holds eq m.pairs k) && addition_grows limit m then second else 0))) before.looked after.looked)
               (found_where_held (eq k) m.pairs)
               (subst (λ b. GrewWithin (if is_switch_refused limit m granted then exactly 0 else add_ranges
-              (search_looks h (h k) found b (capacity_after_switch limit m) m.pairs)
+              (search_reads h (h k) found b (capacity_after_switch limit m) m.pairs)
               (exactly (if granted && not (holds eq m.pairs k)
               && addition_grows limit m then probe_length h b (capacity_after_growth limit m) m.pairs (h k) else 0)))
               before.looked after.looked) stays costs.grew.looked));
@@ -161,32 +161,32 @@ module _ {K V S : Type 0} (hash : S → K → ℕ) where
       ap (λ i. first_match_cost i (length pairs)) absent.index
 
   -- what a search that finds none compares, and what it reads: both are exact
-  module _ (test : K → Bool) (h : K → ℕ) (sought : ℕ) (pairs : List (K × V)) (unheld : holds_by test pairs ≡ false) where
+  module _ (test : K → Bool) (h : K → ℕ) (wanted : ℕ) (pairs : List (K × V)) (unheld : holds_by test pairs ≡ false) where
     finds_none : index_of test (keys_of pairs) ≡ None
     finds_none = let absent = absent_of_unheld test pairs unheld in absent.index
 
-    compares-exact : (is_vec : Bool) → IsExact (search_compares h sought (index_of test (keys_of pairs)) is_vec pairs)
-    compares-exact true = subst (λ found. IsExact (search_compares h sought found true pairs)) (sym finds_none) refl
-    compares-exact false = subst (λ found. IsExact (search_compares h sought found false pairs)) (sym finds_none) refl
+    compares-exact : (is_vec : Bool) → IsExact (search_compares h wanted (index_of test (keys_of pairs)) is_vec pairs)
+    compares-exact true = subst (λ found. IsExact (search_compares h wanted found true pairs)) (sym finds_none) refl
+    compares-exact false = subst (λ found. IsExact (search_compares h wanted found false pairs)) (sym finds_none) refl
 
-    looks-exact : (is_vec : Bool) (capacity : ℕ) → IsExact (search_looks h sought (index_of test (keys_of pairs)) is_vec capacity pairs)
+    looks-exact : (is_vec : Bool) (capacity : ℕ) → IsExact (search_reads h wanted (index_of test (keys_of pairs)) is_vec capacity pairs)
     looks-exact true capacity = refl
-    looks-exact false capacity = subst (λ found. IsExact (search_looks h sought found false capacity pairs)) (sym finds_none) refl
+    looks-exact false capacity = subst (λ found. IsExact (search_reads h wanted found false capacity pairs)) (sym finds_none) refl
 
   -- what a search costs by this test, under this hash, that hashed so often
   abbrev cost_asking : (K → Bool) → ℕ → ℕ → State K V S → Cost
-  cost_asking test sought asked m = search_cost (hash m.builder) sought (index_of test (keys_of m.pairs)) asked m.is_vec m.capacity m.pairs
+  cost_asking test wanted asked m = search_cost (hash m.builder) wanted (index_of test (keys_of m.pairs)) asked m.is_vec m.capacity m.pairs
 
-  search_exactly : (m : State K V S) (test : K → Bool) (sought asked : ℕ) (before after : Work) → holds_by test m.pairs ≡ false
-      → IsSearchCost hash sought m (index_of test (keys_of m.pairs)) asked before after
-      → GrewExactlyBy (least_work (cost_asking test sought asked m)) before after
-  search_exactly m test sought asked before after unheld costs =
-      grew_exactly (cost_asking test sought asked m) before after
-      (compares-exact test (hash m.builder) sought m.pairs unheld m.is_vec)
-      (looks-exact test (hash m.builder) sought m.pairs unheld m.is_vec m.capacity) costs.grew
+  search_exactly : (m : State K V S) (test : K → Bool) (wanted asked : ℕ) (before after : Work) → holds_by test m.pairs ≡ false
+      → IsSearchCost hash wanted m (index_of test (keys_of m.pairs)) asked before after
+      → GrewExactlyBy (least_work (cost_asking test wanted asked m)) before after
+  search_exactly m test wanted asked before after unheld costs =
+      grew_exactly (cost_asking test wanted asked m) before after
+      (compares-exact test (hash m.builder) wanted m.pairs unheld m.is_vec)
+      (looks-exact test (hash m.builder) wanted m.pairs unheld m.is_vec m.capacity) costs.grew
 
   -- the same pairs in another order
-  module _ (builder : S) (xs ys : List (K × V)) (p : IsPermutation xs ys) (test : K → Bool) (sought : ℕ) where
+  module _ (builder : S) (xs ys : List (K × V)) (p : IsPermutation xs ys) (test : K → Bool) (wanted : ℕ) where
     held-same : holds_by test xs ≡ holds_by test ys
     held-same = is_some-lookup test xs ∙ list_any-IsPermutation test (keys_of xs) (keys_of ys) (keys-permutation xs ys p)
         ∙ sym (is_some-lookup test ys)
@@ -194,40 +194,40 @@ module _ {K V S : Type 0} (hash : S → K → ℕ) where
     found-same : is_some (index_of test (keys_of xs)) ≡ is_some (index_of test (keys_of ys))
     found-same = found_where_held test xs ∙ held-same ∙ sym (found_where_held test ys)
 
-    candidates-same : candidates (hash builder) xs sought ≡ candidates (hash builder) ys sought
-    candidates-same = sym
-        (sum_by-IsPermutation (λ q. cond (hash builder q == sought) 1 0) (keys_of xs) (keys_of ys) (keys-permutation xs ys p))
+    key_hash_count-same : key_hash_count (hash builder) xs wanted ≡ key_hash_count (hash builder) ys wanted
+    key_hash_count-same = sym
+        (sum_by-IsPermutation (λ q. cond (hash builder q == wanted) 1 0) (keys_of xs) (keys_of ys) (keys-permutation xs ys p))
 
-    reach-same : (m : ℕ) → reach (map (hash builder) (keys_of xs)) m sought ≡ reach (map (hash builder) (keys_of ys)) m sought
-    reach-same m = reach_history (map (hash builder) (keys_of xs)) (map (hash builder) (keys_of ys)) m sought
+    reach-same : (m : ℕ) → reach (map (hash builder) (keys_of xs)) m wanted ≡ reach (map (hash builder) (keys_of ys)) m wanted
+    reach-same m = reach_history (map (hash builder) (keys_of xs)) (map (hash builder) (keys_of ys)) m wanted
         (IsPermutation-map (hash builder) (keys_of xs) (keys_of ys) (keys-permutation xs ys p))
 
     compares-same : (is_vec : Bool) → (is_vec && holds_by test xs) ≡ false
-        → search_compares (hash builder) sought (index_of test (keys_of xs)) is_vec xs
-        ≡ search_compares (hash builder) sought (index_of test (keys_of ys)) is_vec ys
-    compares-same is_vec unheld = grind (arith, common_steps, candidates-same, comparisons-unheld, found-same, held-same, length_permutation)
+        → search_compares (hash builder) wanted (index_of test (keys_of xs)) is_vec xs
+        ≡ search_compares (hash builder) wanted (index_of test (keys_of ys)) is_vec ys
+    compares-same is_vec unheld = grind (arith, common_steps, key_hash_count-same, comparisons-unheld, found-same, held-same, length_permutation)
 
     looks-same : (is_vec : Bool) (capacity : ℕ)
-        → search_looks (hash builder) sought (index_of test (keys_of xs)) is_vec capacity xs
-        ≡ search_looks (hash builder) sought (index_of test (keys_of ys)) is_vec capacity ys
+        → search_reads (hash builder) wanted (index_of test (keys_of xs)) is_vec capacity xs
+        ≡ search_reads (hash builder) wanted (index_of test (keys_of ys)) is_vec capacity ys
     looks-same is_vec capacity = grind (arith, common_steps, found-same, reach-same)
 
   pub history_law : HistoryLaw V hash
-  history_law a b test sought asked a_before a_after b_before b_after same unheld a_costs b_costs =
-      let alike : cost_asking test sought asked a
-      ≡ cost_asking test sought asked (state b.is_vec a.pairs b.capacity b.builder (contents_of a)) =
-      λ i. cost_asking test sought asked (state (same.form i) a.pairs (same.capacity i) (same.builder i) (contents_of a)) in
-      let moved : cost_asking test sought asked (state b.is_vec a.pairs b.capacity b.builder (contents_of a))
-      ≡ cost_asking test sought asked b = λ i. record {
+  history_law a b test wanted asked a_before a_after b_before b_after same unheld a_costs b_costs =
+      let alike : cost_asking test wanted asked a
+      ≡ cost_asking test wanted asked (make_state b.is_vec a.pairs b.capacity b.builder (contents_of a)) =
+      λ i. cost_asking test wanted asked (make_state (same.form i) a.pairs (same.capacity i) (same.builder i) (contents_of a)) in
+      let moved : cost_asking test wanted asked (make_state b.is_vec a.pairs b.capacity b.builder (contents_of a))
+      ≡ cost_asking test wanted asked b = λ i. record {
         asked = asked;
-        compared = compares-same b.builder a.pairs b.pairs same.pairs test sought b.is_vec
+        compared = compares-same b.builder a.pairs b.pairs same.pairs test wanted b.is_vec
             (never_found b.is_vec (holds_by test a.pairs) unheld) i;
-        looked = looks-same b.builder a.pairs b.pairs same.pairs test sought b.is_vec b.capacity i;
+        looked = looks-same b.builder a.pairs b.pairs same.pairs test wanted b.is_vec b.capacity i;
       } in (
-        least_work (cost_asking test sought asked b),
+        least_work (cost_asking test wanted asked b),
         subst (λ cost. GrewExactlyBy (least_work cost) a_before a_after) (alike ∙ moved)
-            (search_exactly a test sought asked a_before a_after unheld a_costs),
-        search_exactly b test sought asked b_before b_after (sym (held-same b.builder a.pairs b.pairs same.pairs test sought) ∙ unheld)
+            (search_exactly a test wanted asked a_before a_after unheld a_costs),
+        search_exactly b test wanted asked b_before b_after (sym (held-same b.builder a.pairs b.pairs same.pairs test wanted) ∙ unheld)
             b_costs,
       )
 
@@ -238,7 +238,7 @@ module _ {K V S : Type 0} (hash : S → K → ℕ) where
     insertion_exactly limit m k granted before after unheld costs =
         let stays : Bool = is_vec_after limit m in
         let probe : ℕ = if granted && not (holds eq m.pairs k)
-        && addition_grows limit m then insertion_looks hash (grown limit m) k else 0 in
+        && addition_grows limit m then insertion_reads hash (grown limit m) k else 0 in
         grew_exactly (insert_cost limit eq hash m k granted) before after
         (exact_unless_refused (is_switch_refused limit m granted) (key_search_cost eq hash (switched limit m) k).compared
         (compares-exact (eq k) (hash m.builder) (hash m.builder k) m.pairs unheld stays))
@@ -251,10 +251,10 @@ module _ {K V S : Type 0} (hash : S → K → ℕ) where
     module _ (is_vec : Bool) (xs ys : List (K × V)) (capacity : ℕ) (builder : S) (some others : Contents)
         (p : IsPermutation xs ys) where
       abbrev first : State K V S
-      first = state is_vec xs capacity builder some
+      first = make_state is_vec xs capacity builder some
 
       abbrev second : State K V S
-      second = state is_vec ys capacity builder others
+      second = make_state is_vec ys capacity builder others
 
       long : length xs ≡ length ys
       long = sym (length_permutation xs ys p)
@@ -341,10 +341,10 @@ module _ {K V S : Type 0} (hash : S → K → ℕ) where
     -- two maps of the same form, capacity and builder
     module _ (a b : State K V S) (same : HoldSamePairs a b) where
       abbrev moved : State K V S
-      moved = state b.is_vec a.pairs b.capacity b.builder (contents_of a)
+      moved = make_state b.is_vec a.pairs b.capacity b.builder (contents_of a)
 
       alike : a ≡ moved
-      alike = λ i. state (same.form i) a.pairs (same.capacity i) (same.builder i) (contents_of a)
+      alike = λ i. make_state (same.form i) a.pairs (same.capacity i) (same.builder i) (contents_of a)
 
       unheld-too : (k : K) → holds eq a.pairs k ≡ false → holds eq b.pairs k ≡ false
       unheld-too k unheld = sym (held-same b.builder a.pairs b.pairs same.pairs (eq k) (hash b.builder k)) ∙ unheld

@@ -5,7 +5,7 @@ use Rattle.std.proofs.Math.Nat.{mod-eq_of_lt, mod_self}
 use Rattle.std.proofs.lemmas.Grind.{common_steps}
 use Rattle.std.proofs.lemmas.Bool.{cases_lt, ne_eqb, eq-eqb}
 use Rattle.half_store.specs.Reach.{home, probe_distance, reach}
-use Rattle.half_store.specs.Slots.{slot_at, stored, IsVacancyFor, ProbeInvariant}
+use Rattle.half_store.specs.Slots.{slot_at, stored, IsSlotVacancy, ProbeInvariant}
 use Rattle.half_store.proofs.lemmas.table.Circle.{distance_is, distance_same}
 use Rattle.half_store.proofs.lemmas.table.Counts.{count_to, count_to_more, count_by-count_to}
 unfoldable pub use Rattle.half_store.proofs.lemmas.table.Filled.{stop}
@@ -30,7 +30,7 @@ module _ (w : List ℕ) (slots : List (Option ℕ)) (ordered : ProbeInvariant sl
   in_home : (h : ℕ) → home m h < m
   in_home h = home-lt m h (omega arith)
 
-  stop_at : (h : ℕ) → IsVacancyFor slots h (stop m w h)
+  stop_at : (h : ℕ) → IsSlotVacancy slots h (stop m w h)
   stop_at h = at_stop w slots ordered counted few h
 
   first_vacant : (h g : ℕ) → g < m → slot_at slots g ≡ None → probe_distance m (home m h) (stop m w h) ≤ probe_distance m (home m h) g

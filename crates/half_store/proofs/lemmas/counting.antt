@@ -2,7 +2,7 @@
 use Rattle.std.proofs.Common.{◌≡◌, ℕ, ◌-◌, ◌<◌, ◌≤◌, Bool, List, Some, length, get_or, slice_get, slice_index, sym, ap, ◌∙◌, arith}
 use Rattle.std.proofs.lemmas.Grind.{common_steps}
 use Rattle.std.proofs.lemmas.Option.{get_or_from_slice_get, slice_get-get_or, slice_get_within}
-use Rattle.half_store.specs.Slots.{slots_by, slot_at}
+use Rattle.half_store.specs.Slots.{slots_from, slot_at}
 use Rattle.half_store.specs.Search.{ReturnsAt}
 use Rattle.half_store.proofs.lemmas.table.Buckets.{word_of_slot}
 
@@ -12,7 +12,7 @@ pub returned_at : {K : Type 0} (returns : K → Bool → Type 0) (keys : List K)
 returned_at returns keys index key answer is met = grind (arith, common_steps, get_or_from_slice_get)
 
 module _ {K : Type 0} (hashes words : List ℕ) (keys : List K) (bucket hash index : ℕ) (enough : length hashes ≤ length keys)
-    (full : slot_at (slots_by hashes words) bucket ≡ Some hash) (entry : index ≡ slice_index words bucket - 1) where
+    (full : slot_at (slots_from hashes words) bucket ≡ Some hash) (entry : index ≡ slice_index words bucket - 1) where
   -- the pair in a full bucket has a key
   pub key_within : index < length keys
   key_within = grind (arith, common_steps, slice_get_within, word_of_slot)

@@ -22,11 +22,11 @@ impl<K, V> Store<K, V> {
 
     /// Replaces the key of the pair at this index, which must have the same hash, and returns the old one.
     #[inline(always)]
-    pub fn set_key(&mut self, index: usize, key: K) -> K
+    pub fn set_key_at(&mut self, index: usize, key: K) -> K
         requires { index < length self.old.pairs }
         ensures old { slice_get (keys_of self.old.pairs) index ≡ Some result }
         ensures after { self.new ≡ store_with_pairs self.old (set_key_at self.old.pairs index key) }
     {
-        self.columns.replace_key(index, key)
+        self.columns.set_key_at(index, key)
     }
 }

@@ -8,9 +8,9 @@ ghost use Rattle.std.specs.Option.{option_map};
 ghost use Rattle.std.specs.Result.{result_err};
 ghost use Rattle.half_store.specs.Search.{CallableOnKeys};
 ghost use Rattle.half_store.specs.PairLists.{swap_remove_at};
-ghost use Rattle.half_store.specs.StoreRemoval.{SwapRemoves, Takes};
+ghost use Rattle.half_store.specs.StoreRemoval.{StoreSwapRemoves, SearchesAndRemoves};
 ghost use Rattle.half_store.specs.ValueReplacement.{kept_index, ReplacesValue};
-ghost use Rattle.half_store.specs.Store.{store_pushed, IsVacancy, KeepsForm};
+ghost use Rattle.half_store.specs.Store.{store_pushed, IsVacancy, SameForm};
 
 use super::Store;
 use super::find::Vacancy;
@@ -35,7 +35,7 @@ impl<K, V> Store<K, V> {
     #[inline(always)]
     pub fn swap_remove(&mut self, index: usize) -> (K, V)
         requires { index < length self.old.pairs }
-        ensures { SwapRemoves self.old self.new index result }
+        ensures { StoreSwapRemoves self.old self.new index result }
     {
         if let Some(table) = &mut self.table {
             uncounted!(table.remove(index));
@@ -53,7 +53,7 @@ impl<K, V> Store<K, V> {
         tally: &mut Tally,
     ) -> Option<(K, V)>
         requires { CallableOnKeys (F.pre matches.now) (keys_of self.old.pairs) }
-        ensures { Takes self.old self.new (FnReturnsAt F.Fn matches.now) hash result
+        ensures { SearchesAndRemoves self.old self.new (FnReturnsAt F.Fn matches.now) hash result
             tally.old tally.new }
     {
         let Some(table) = &mut self.table else {
@@ -86,7 +86,7 @@ impl<K, V> Store<K, V> {
         ensures hashes { IfErr result (λ _. self.old.is_vec ≡ false
             → self.new.hashes ≡ swap_remove_at self.old.hashes index) }
         ensures kept { OnOk result (self.new.hashes ≡ self.old.hashes) }
-        ensures form { KeepsForm self.old self.new }
+        ensures form { SameForm self.old self.new }
     {
         let Some(table) = &mut self.table else {
             let last = self.columns.len() - 1;
@@ -114,7 +114,7 @@ impl<K, V> Store<K, V> {
         ensures hashes { self.old.is_vec ≡ false → (hash : K → ℕ)
             → self.old.hashes ≡ map hash (keys_of self.old.pairs)
             → self.new.hashes ≡ map hash (keys_of self.new.pairs) }
-        ensures form { KeepsForm self.old self.new }
+        ensures form { SameForm self.old self.new }
     {
         match &mut self.table {
             Some(table) => table.retain(&mut self.columns, f),

@@ -56,8 +56,8 @@ impl<K, V> Store<K, V> {
         requires { length self.now.pairs < self.now.capacity }
         ensures hash { result.hash ≡ hash }
         ensures vacant { IsVacancy self.now.is_vec self.now.contents hash result }
-        ensures cost { tally.new ≡ looked_more tally.old (if self.now.is_vec then 0
-            else reach self.now.hashes (buckets_of self.now.capacity) hash) }
+        ensures cost { tally.new ≡ looked_more (if self.now.is_vec then 0
+            else reach self.now.hashes (buckets_of self.now.capacity) hash) tally.old }
     {
         let bucket = match &self.table {
             Some(table) => table.insertion_probe(hash, tally),

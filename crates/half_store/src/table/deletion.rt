@@ -7,7 +7,7 @@ ghost use Rattle.std.specs.Fn.{FnReturnsAt};
 ghost use Rattle.std.specs.List.{swap_remove};
 ghost use Rattle.half_store.specs.Search.{CallableOnHash, ReturnsAt};
 ghost use Rattle.half_store.specs.Capacity.{IsBucketCount};
-ghost use Rattle.half_store.specs.Work.{looked_more, LooksWithin, reads_left, removal_reads};
+ghost use Rattle.half_store.specs.Work.{looked_more, ReadsWithin, removal_reads_left, removal_reads};
 ghost use Rattle.half_store.specs.Reach.{home, probe_distance, IsNearer};
 ghost use Rattle.half_store.specs.StoreRemoval.{Renames, ShiftsUpTo};
 ghost use Rattle.half_store.specs.Table.{table_state, IsIndexed, IsIndexedButFor, TableSearch};
@@ -35,7 +35,7 @@ pub(super) fn remove_in<B: Words>(
     ensures indexed { IsIndexed hashes.new.items (B.words buckets.new) }
     ensures len { length (B.words buckets.new) ≡ length (B.words buckets.old) }
     ensures most { B.most buckets.new ≡ B.most buckets.old }
-    ensures cost { LooksWithin (removal_reads hashes.old.items (length (B.words buckets.old)) index)
+    ensures cost { ReadsWithin (removal_reads hashes.old.items (length (B.words buckets.old)) index)
         tally.old tally.new }
 {
     let bucket = bucket_of(buckets, hashes.as_slice(), index, tally);
@@ -61,7 +61,7 @@ fn remove_at<B: Words>(
     ensures indexed { IsIndexed hashes.new.items (B.words buckets.new) }
     ensures len { length (B.words buckets.new) ≡ length (B.words buckets.old) }
     ensures most { B.most buckets.new ≡ B.most buckets.old }
-    ensures cost { LooksWithin (reads_left hashes.old.items (length (B.words buckets.old)) index
+    ensures cost { ReadsWithin (removal_reads_left hashes.old.items (length (B.words buckets.old)) index
         bucket) tally.old tally.new }
 {
     rename_last(buckets, hashes.as_slice(), index, bucket, tally);
@@ -116,7 +116,7 @@ pub(super) fn take_in<B: Words, K, F: Fn(&K) -> bool>(
         hash result tally.old tally.new }
     ensures hashes { IfOk result (λ pair. hashes.new.items
         ≡ swap_remove hashes.old.items pair.0 0) }
-    ensures cost { IfOk result (λ pair. LooksWithin (removal_reads
+    ensures cost { IfOk result (λ pair. ReadsWithin (removal_reads
         hashes.old.items (length (B.words buckets.old)) pair.0) removal.old removal.new) }
     ensures capacity { vec_capacity hashes.new ≡ vec_capacity hashes.old }
     ensures indexed { IsIndexed hashes.new.items (B.words buckets.new) }
@@ -146,8 +146,8 @@ fn bucket_of<B: Words>(buckets: &B, hashes: &[u64], index: usize, tally: &mut Ta
     ensures at { slice_index (B.words buckets.now) result ≡ index + 1 }
     ensures near { IsNearer hashes.now (length (B.words buckets.now)) (slice_index hashes.now index)
         result }
-    ensures cost { tally.new ≡ looked_more tally.old (probe_distance (length (B.words buckets.now))
-        (home (length (B.words buckets.now)) (slice_index hashes.now index)) result + 1) }
+    ensures cost { tally.new ≡ looked_more (probe_distance (length (B.words buckets.now))
+        (home (length (B.words buckets.now)) (slice_index hashes.now index)) result + 1) tally.old }
 {
     let count = buckets.count();
     let mut bucket = home(hashes[index], count);

@@ -7,8 +7,8 @@ ghost use Rattle.std.specs.Prelude.{Some, length, count_by, slice_get, slice_ind
 ghost use Rattle.std.specs.Borrow.{Bor};
 ghost use Rattle.std.specs.Fn.{FnReturnsAt};
 ghost use Rattle.half_store.specs.Reach.{home, bucket_after};
-ghost use Rattle.half_store.specs.Slots.{slots_by, WithinHashes, reads_to, stored_count, IsVacancyFor, EndsAtPair};
-ghost use Rattle.half_store.specs.Slots.{SomeVacant, ProbeInvariant};
+ghost use Rattle.half_store.specs.Slots.{slots_from, WithinHashes, distance_from_home, slot_hash_count, IsSlotVacancy, EndsAtPair};
+ghost use Rattle.half_store.specs.Slots.{HasVacantSlot, ProbeInvariant};
 ghost use Rattle.half_store.specs.Search.{CallableInBuckets, RefusedInBuckets, ReturnsAt};
 ghost use Rattle.half_store.specs.Capacity.{IsBucketCount};
 ghost use Rattle.half_store.specs.Work.{looked_more};
@@ -53,8 +53,8 @@ pub fn search<P: Buckets, K, F: Fn(&K) -> bool>(
 ) -> Result<(usize, usize), usize>
     requires whole { WithinHashes (P.hashes buckets.now) (P.words buckets.now) }
     requires count { IsBucketCount (length (P.words buckets.now)) }
-    requires vacant { SomeVacant (slots_by (P.hashes buckets.now) (P.words buckets.now)) }
-    requires ordered { ProbeInvariant (slots_by (P.hashes buckets.now) (P.words buckets.now)) }
+    requires vacant { HasVacantSlot (slots_from (P.hashes buckets.now) (P.words buckets.now)) }
+    requires ordered { ProbeInvariant (slots_from (P.hashes buckets.now) (P.words buckets.now)) }
     requires keys { length (P.hashes buckets.now) ≤ length keys.now }
     requires callable { CallableInBuckets (F.pre matches.now) (P.hashes buckets.now)
         (P.words buckets.now) hash keys.now }
@@ -63,17 +63,17 @@ pub fn search<P: Buckets, K, F: Fn(&K) -> bool>(
     ensures accepted { IfOk result
         (λ found. ReturnsAt (FnReturnsAt F.Fn matches.now) keys.now found.0 true) }
     ensures vacancy { IfErr result
-        (IsVacancyFor (slots_by (P.hashes buckets.now) (P.words buckets.now)) hash) }
+        (IsSlotVacancy (slots_from (P.hashes buckets.now) (P.words buckets.now)) hash) }
     ensures refused { OnErr result (RefusedInBuckets (FnReturnsAt F.Fn matches.now)
         (P.hashes buckets.now) (P.words buckets.now) hash keys.now) }
     ensures asked { tally.new.asked ≡ tally.old.asked }
     ensures looked_missing { IfErr result (λ bucket. tally.new.looked ≡ tally.old.looked
-        + reads_to (slots_by (P.hashes buckets.now) (P.words buckets.now)) hash bucket) }
+        + (distance_from_home (slots_from (P.hashes buckets.now) (P.words buckets.now)) hash bucket + 1)) }
     ensures compared_some { OnOk result (tally.old.compared + 1 ≤ tally.new.compared) }
     ensures compared_most { tally.new.compared ≤ tally.old.compared
-        + stored_count (slots_by (P.hashes buckets.now) (P.words buckets.now)) hash }
+        + slot_hash_count (slots_from (P.hashes buckets.now) (P.words buckets.now)) hash }
     ensures compared_all { OnErr result (tally.new.compared ≡ tally.old.compared
-        + stored_count (slots_by (P.hashes buckets.now) (P.words buckets.now)) hash) }
+        + slot_hash_count (slots_from (P.hashes buckets.now) (P.words buckets.now)) hash) }
 {
     let count = buckets.count();
     let mut bucket = home(hash, count);
@@ -95,11 +95,11 @@ pub fn search<P: Buckets, K, F: Fn(&K) -> bool>(
 pub fn first_empty<P: Buckets>(buckets: &P, hash: u64, tally: &mut Tally) -> usize
     requires whole { WithinHashes (P.hashes buckets.now) (P.words buckets.now) }
     requires count { IsBucketCount (length (P.words buckets.now)) }
-    requires vacant { SomeVacant (slots_by (P.hashes buckets.now) (P.words buckets.now)) }
-    ensures vacancy { IsVacancyFor (slots_by (P.hashes buckets.now) (P.words buckets.now)) hash
+    requires vacant { HasVacantSlot (slots_from (P.hashes buckets.now) (P.words buckets.now)) }
+    ensures vacancy { IsSlotVacancy (slots_from (P.hashes buckets.now) (P.words buckets.now)) hash
         result }
-    ensures cost { tally.new ≡ looked_more tally.old
-        (reads_to (slots_by (P.hashes buckets.now) (P.words buckets.now)) hash result) }
+    ensures cost { tally.new ≡ looked_more (distance_from_home
+        (slots_from (P.hashes buckets.now) (P.words buckets.now)) hash result + 1) tally.old }
 {
     let count = buckets.count();
     let mut bucket = home(hash, count);

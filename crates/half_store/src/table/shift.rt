@@ -1,7 +1,7 @@
 //! Removal that keeps the order: a pass over the buckets makes the pair the last one, and then it is removed as any other.
 ghost use Rattle.std.specs.Prelude.{◌≡◌, ◌+◌, ◌*◌, ◌<◌, ◌≤◌, length, remove, slice_index, vec_capacity};
 ghost use Rattle.half_store.specs.Slots.{EachOnce};
-ghost use Rattle.half_store.specs.Work.{looked_more, LooksWithin};
+ghost use Rattle.half_store.specs.Work.{looked_more, ReadsWithin};
 ghost use Rattle.half_store.specs.Reach.{reach};
 ghost use Rattle.half_store.specs.StoreRemoval.{MovesLast};
 ghost use Rattle.half_store.specs.Table.{IsIndexed};
@@ -18,7 +18,7 @@ impl Table {
         requires { index < length self.old.hashes }
         ensures hashes { self.new.hashes ≡ remove self.old.hashes index }
         ensures buckets { self.new.buckets ≡ self.old.buckets }
-        ensures cost { LooksWithin (self.old.buckets + 2 * reach self.old.hashes self.old.buckets
+        ensures cost { ReadsWithin (self.old.buckets + 2 * reach self.old.hashes self.old.buckets
             (slice_index self.old.hashes index)) tally.old tally.new }
     {
         match &mut self.buckets {
@@ -38,7 +38,7 @@ fn shift_in<B: Words>(buckets: &mut B, hashes: &mut Vec<u64>, index: usize, tall
     ensures indexed { IsIndexed hashes.new.items (B.words buckets.new) }
     ensures len { length (B.words buckets.new) ≡ length (B.words buckets.old) }
     ensures most { B.most buckets.new ≡ B.most buckets.old }
-    ensures cost { LooksWithin (length (B.words buckets.old) + 2 * reach hashes.old.items
+    ensures cost { ReadsWithin (length (B.words buckets.old) + 2 * reach hashes.old.items
         (length (B.words buckets.old)) (slice_index hashes.old.items index)) tally.old tally.new }
 {
     move_last(buckets, index, hashes.len(), tally);
@@ -56,7 +56,7 @@ fn move_last<B: Words>(buckets: &mut B, index: usize, pairs: usize, tally: &mut 
     requires fits { pairs ≤ B.most buckets.old }
     ensures moves { MovesLast pairs index (B.words buckets.old) (B.words buckets.new) }
     ensures most { B.most buckets.new ≡ B.most buckets.old }
-    ensures cost { tally.new ≡ looked_more tally.old (length (B.words buckets.old)) }
+    ensures cost { tally.new ≡ looked_more (length (B.words buckets.old)) tally.old }
 {
     for bucket in 0..buckets.count() {
         let word = buckets.word_at(bucket, tally);

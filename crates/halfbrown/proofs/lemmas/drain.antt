@@ -6,7 +6,7 @@ use Rattle.std.proofs.Props.{props}
 use Rattle.std.proofs.iter.runs.Sources.{as_is, from_front}
 use Rattle.std.specs.Iterator.Runs.{YieldsInOrder}
 use Rattle.half_store.specs.Store.{StoreState}
-use Rattle.halfbrown.specs.Drain.{Keeps, KeepsAlong, DrainSteps, rest}
+use Rattle.halfbrown.specs.Drain.{DrainsSameMap, KeepsAlong, DrainSteps, rest}
 use Rattle.halfbrown.specs.declared.drain.Drain.{Drain}
 use Rattle.halfbrown.specs.State.{IsTableCapacity}
 use Rattle.std.specs.declared.cmp.PartialEq as eq
@@ -34,5 +34,5 @@ module _ {K V S L H : Type 0} {e : eq.Ghosts K} {h : hash.Ghosts K} {b : hashers
   runs r t = as_is r (rest r.from) (from_front DrainSteps (λ y. y) rest (λ s t h. ap length h.0) (λ s x t h. h.0) r t)
 
   pub keeps_along : (s : Drain K V S L (StoreState K V) H e h b l p) → KeepsAlong s
-  keeps_along s [] t y = subst (Keeps s) y (record { map = refl; form = refl; capacity = refl })
+  keeps_along s [] t y = subst (DrainsSameMap s) y (record { map = refl; form = refl; capacity = refl })
   keeps_along s (x ∷ xs) t y = grind (arith, common_steps, keeps_along y.0 xs t y.2)

@@ -10,7 +10,7 @@ ghost use Rattle.std.specs.Borrow.{sem};
 ghost use Rattle.half_store.specs.PairLists.{swap_remove_at};
 ghost use Rattle.halfbrown.specs.Entry.{Occupied, entry_key, entry_pair, entry_value, map_of, pairs_without, IsWritten};
 ghost use Rattle.halfbrown.specs.Entry.{HasNewKey, EntryLends, OccupiedLends, OccupiedRests, with_entry_value};
-ghost use Rattle.halfbrown.specs.State.{IsState, WithPairs};
+ghost use Rattle.halfbrown.specs.State.{IsValid, WithPairs};
 ghost use Rattle.halfbrown.specs.Updates.{HasKeyReplaced};
 
 use super::OccupiedEntry;
@@ -175,7 +175,7 @@ impl<'a, K: Eq + Hash, V, S: KeyHasher<K>, L: Limit> OccupiedEntry<'a, K, V, S, 
     pub fn insert(&mut self, value: V) -> V
         ensures old { entry_value (Occupied self.old) ≡ Some result }
         ensures written { IsWritten (Occupied self.old) value (Occupied self.new) }
-        ensures state { IsState K.eq L.LIMIT (map_of (Occupied self.new)) }
+        ensures valid { IsValid K.eq L.LIMIT (map_of (Occupied self.new)) }
     {
         let old = std::mem::replace(self.get_mut(), value);
         // Of the map that is read here `len` states what holds of every map.
@@ -195,7 +195,7 @@ impl<'a, K: Eq + Hash, V, S: KeyHasher<K>, L: Limit> OccupiedEntry<'a, K, V, S, 
         ensures new { HasNewKey self.old key self.new }
         ensures replaced { HasKeyReplaced K.eq (map_of (Occupied self.old)).pairs key
             (map_of (Occupied self.new)).pairs }
-        ensures state { IsState K.eq L.LIMIT (map_of (Occupied self.new)) }
+        ensures valid { IsValid K.eq L.LIMIT (map_of (Occupied self.new)) }
     {
         let index = self.index;
         self.map.set_key_at(index, key)
@@ -215,7 +215,7 @@ impl<'a, K: Eq + Hash, V, S: KeyHasher<K>, L: Limit> OccupiedEntry<'a, K, V, S, 
         ensures value { entry_value (Occupied self.entry) ≡ Some result }
         ensures after { WithPairs (map_of (Occupied self.entry))
             (pairs_without (Occupied self.entry)) self.exit.0.now }
-        ensures state { IsState K.eq L.LIMIT self.exit.0.now }
+        ensures valid { IsValid K.eq L.LIMIT self.exit.0.now }
     {
         self.remove_entry().1
     }
@@ -233,7 +233,7 @@ impl<'a, K: Eq + Hash, V, S: KeyHasher<K>, L: Limit> OccupiedEntry<'a, K, V, S, 
         ensures value { entry_value (Occupied self.entry) ≡ Some result.1 }
         ensures after { WithPairs (map_of (Occupied self.entry))
             (pairs_without (Occupied self.entry)) self.exit.0.now }
-        ensures state { IsState K.eq L.LIMIT self.exit.0.now }
+        ensures valid { IsValid K.eq L.LIMIT self.exit.0.now }
     {
         let index = self.index;
         self.map.take_at(index)

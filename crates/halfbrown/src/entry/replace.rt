@@ -2,7 +2,7 @@
 ghost use Rattle.std.specs.Prelude.{◌≡◌, Some};
 ghost use Rattle.std.specs.Borrow.{Bor};
 ghost use Rattle.halfbrown.specs.Entry.{Occupied, entry_pair};
-ghost use Rattle.halfbrown.specs.Replacement.{PutsBack, IsReplacementCost};
+ghost use Rattle.halfbrown.specs.Replacement.{ReplacesOrRemoves, IsReplacementCost};
 
 use super::{Entry, OccupiedEntry, VacantEntry};
 use crate::{KeyHasher, Limit};
@@ -27,7 +27,7 @@ impl<'a, K: Eq + Hash, V, S: KeyHasher<K>, L: Limit> OccupiedEntry<'a, K, V, S, 
     pub fn replace_entry_with<F: FnOnce(&K, V) -> Option<V>>(self, f: F) -> Entry<'a, K, V, S, L>
         requires { (key : Bor K) (value : V) → entry_pair (Occupied self) ≡ Some (key.now, value)
             → F.pre f key value }
-        ensures { PutsBack L.LIMIT K.eq (F.post f) (Occupied self.entry) result }
+        ensures { ReplacesOrRemoves L.LIMIT K.eq (F.post f) (Occupied self.entry) result }
     {
         uncounted!(self.replace_entry_with_counted(f))
     }
@@ -41,7 +41,7 @@ impl<'a, K: Eq + Hash, V, S: KeyHasher<K>, L: Limit> OccupiedEntry<'a, K, V, S, 
     ) -> Entry<'a, K, V, S, L>
         requires { (key : Bor K) (value : V) → entry_pair (Occupied self) ≡ Some (key.now, value)
             → F.pre f key value }
-        ensures replaced { PutsBack L.LIMIT K.eq (F.post f) (Occupied self.entry) result }
+        ensures replaced { ReplacesOrRemoves L.LIMIT K.eq (F.post f) (Occupied self.entry) result }
         ensures cost { IsReplacementCost S.hash result tally.old tally.new }
     {
         let index = self.index;

@@ -1,7 +1,7 @@
 //! Clones of a map.
 ghost use Rattle.std.specs.Prelude.{◌≡◌, IfOk, IfErr};
 ghost use Rattle.halfbrown.specs.Clone.{ClonesEqualKeys, HashesAlike, IsCloneOf};
-ghost use Rattle.halfbrown.specs.State.{IsState};
+ghost use Rattle.halfbrown.specs.State.{IsValid};
 
 use super::LimitedHashMap;
 use crate::{EqualClone, KeyHasher, Limit};
@@ -34,7 +34,7 @@ impl<K: Eq + Hash, V, S: KeyHasher<K>, L: Limit> LimitedHashMap<K, V, S, L> {
             → S.is_clone self.now.builder copy → HashesAlike S.hash self.now copy }
         ensures cloned { IfOk result (IsCloneOf K.is_clone V.is_clone S.is_clone self.now) }
         ensures refused { IfErr result (λ why. why ≡ Refusal.Memory) }
-        ensures state { IfOk result (IsState K.eq L.LIMIT) }
+        ensures valid { IfOk result (IsValid K.eq L.LIMIT) }
     {
         let builder = self.builder.clone()?;
         self.clone_with(builder)
@@ -51,7 +51,7 @@ impl<K: Eq + Hash, V, S: KeyHasher<K>, L: Limit> LimitedHashMap<K, V, S, L> {
         ensures cloned { IfOk result (IsCloneOf K.is_clone V.is_clone
             (λ _ it. it ≡ builder) self.now) }
         ensures refused { IfErr result (λ why. why ≡ Refusal.Memory) }
-        ensures state { IfOk result (IsState K.eq L.LIMIT) }
+        ensures valid { IfOk result (IsValid K.eq L.LIMIT) }
     {
         let store = self.store.clone()?;
         Ok(LimitedHashMap {

@@ -1,11 +1,11 @@
 //! Maps made from items.
 ghost use Rattle.std.specs.Prelude.{◌≡◌, ◌⊎◌, ℕ, ⊤, true, List, IfOk, IfErr, OnOk, OnErr};
 ghost use Rattle.std.specs.Iterator.{IsFinite, IsFiniteIterable, Drains, DrainsIf, ExtendsWithItems};
-ghost use Rattle.halfbrown.specs.FromIter.{Gives, AreFirst, Extends, ExtendsWith, IsRefusedExtension};
-ghost use Rattle.halfbrown.specs.FromIter.{IsCollection, IsCollectionOf, IsRefusedCollection, IsRefusedCollectionOf};
+ghost use Rattle.halfbrown.specs.FromIter.{Gives, AreFirst, Extends, ExtendsIter, RefusedExtendIter};
+ghost use Rattle.halfbrown.specs.FromIter.{Collects, CollectsIter, RefusedCollect, RefusedCollectIter};
 ghost use Rattle.halfbrown.specs.FromIter.{insertions_cost, refused_cost, collection_cost, refused_collection_cost};
 ghost use Rattle.halfbrown.specs.Costs.{GrewBy};
-ghost use Rattle.halfbrown.specs.State.{IsState};
+ghost use Rattle.halfbrown.specs.State.{IsValid};
 
 use super::LimitedHashMap;
 use crate::{KeyHasher, Limit};
@@ -39,11 +39,11 @@ impl<K: Eq + Hash + Drop, V: Drop, S: KeyHasher<K> + Default + Drop, L: Limit> L
     ) -> Result<Self, Refusal>
         requires { IsFiniteIterable I.into_iter_gives I.IntoIter.can_next
             I.IntoIter.remaining items }
-        ensures collected { IfOk result (IsCollectionOf I.into_iter_gives I.IntoIter.next_gives
+        ensures collected { IfOk result (CollectsIter I.into_iter_gives I.IntoIter.next_gives
             L.LIMIT K.eq I.IntoIter.remaining S.is_default items) }
-        ensures refused { IfErr result (IsRefusedCollectionOf I.into_iter_gives
+        ensures refused { IfErr result (RefusedCollectIter I.into_iter_gives
             I.IntoIter.next_gives L.LIMIT K.eq I.IntoIter.remaining S.is_default items) }
-        ensures state { IfOk result (IsState K.eq L.LIMIT) }
+        ensures valid { IfOk result (IsValid K.eq L.LIMIT) }
     {
         uncounted!(LimitedHashMap::from_iter_counted(alloc, items))
     }
@@ -56,17 +56,17 @@ impl<K: Eq + Hash + Drop, V: Drop, S: KeyHasher<K> + Default + Drop, L: Limit> L
     ) -> Result<Self, Refusal>
         requires { IsFiniteIterable I.into_iter_gives I.IntoIter.can_next
             I.IntoIter.remaining items }
-        ensures collected { IfOk result (λ m. (made : IsCollectionOf I.into_iter_gives
+        ensures collected { IfOk result (λ m. (made : CollectsIter I.into_iter_gives
             I.IntoIter.next_gives L.LIMIT K.eq I.IntoIter.remaining S.is_default items m)
             × GrewBy (collection_cost L.LIMIT K.eq S.hash made.collection) tally.old tally.new) }
-        ensures refused { IfErr result (λ why. (made : IsRefusedCollectionOf I.into_iter_gives
+        ensures refused { IfErr result (λ why. (made : RefusedCollectIter I.into_iter_gives
             I.IntoIter.next_gives L.LIMIT K.eq I.IntoIter.remaining S.is_default items why)
             × GrewBy (refused_collection_cost L.LIMIT K.eq S.hash made.refused)
             tally.old tally.new) }
         // A vector has hashed nothing.
         ensures nothing_hashed { IfOk result
             (λ m. m.is_vec ≡ true → tally.new.asked ≡ tally.old.asked) }
-        ensures state { IfOk result (IsState K.eq L.LIMIT) }
+        ensures valid { IfOk result (IsValid K.eq L.LIMIT) }
     {
         let items = items.into_iter();
         let hint = items.size_hint().0;
@@ -80,10 +80,10 @@ impl<K: Eq + Hash + Drop, V: Drop, S: KeyHasher<K> + Default + Drop, L: Limit> L
     /// assert_eq!(rt; ages.len(), 2);
     /// ```
     pub fn from_array<const N: usize>(alloc: Global, pairs: [(K, V); N]) -> Result<Self, Refusal>
-        ensures collected { IfOk result (IsCollection L.LIMIT K.eq S.is_default N pairs) }
+        ensures collected { IfOk result (Collects L.LIMIT K.eq S.is_default N pairs) }
         ensures refused { IfErr result (λ why. (why ≡ Refusal.Memory)
-            ⊎ IsRefusedCollection L.LIMIT K.eq S.is_default N (AreFirst pairs) why) }
-        ensures state { IfOk result (IsState K.eq L.LIMIT) }
+            ⊎ RefusedCollect L.LIMIT K.eq S.is_default N (AreFirst pairs) why) }
+        ensures valid { IfOk result (IsValid K.eq L.LIMIT) }
     {
         // A vector is gone over whatever the size of a pair is.
         let Ok(pairs) = Vec::from_array(alloc, pairs) else {
@@ -102,14 +102,14 @@ impl<K: Eq + Hash + Drop, V: Drop, S: KeyHasher<K> + Default + Drop, L: Limit> L
         requires can { I.can_next items }
         requires ends { IsFinite (I.remaining items) }
         ensures collected { IfOk result (λ m. (gave : List (K × V)) × Drains I.next_gives items gave
-            × (made : IsCollection L.LIMIT K.eq S.is_default capacity gave m)
+            × (made : Collects L.LIMIT K.eq S.is_default capacity gave m)
             × GrewBy (collection_cost L.LIMIT K.eq S.hash made) tally.old tally.new) }
-        ensures refused { IfErr result (λ why. (made : IsRefusedCollection L.LIMIT K.eq S.is_default
+        ensures refused { IfErr result (λ why. (made : RefusedCollect L.LIMIT K.eq S.is_default
             capacity (Gives I.next_gives items) why)
             × GrewBy (refused_collection_cost L.LIMIT K.eq S.hash made) tally.old tally.new) }
         ensures nothing_hashed { IfOk result
             (λ m. m.is_vec ≡ true → tally.new.asked ≡ tally.old.asked) }
-        ensures state { IfOk result (IsState K.eq L.LIMIT) }
+        ensures valid { IfOk result (IsValid K.eq L.LIMIT) }
     {
         let mut map = LimitedHashMap::with_capacity_and_hasher(alloc, capacity, S::default())?;
         map.extend_counted(items, tally)?;
@@ -131,9 +131,9 @@ impl<K: Eq + Hash + Drop, V: Drop, S: KeyHasher<K>, L: Limit> LimitedHashMap<K, 
     pub fn extend<I: IntoIterator<Item = (K, V)>>(&mut self, items: I) -> Result<(), Refusal>
         requires { IsFiniteIterable I.into_iter_gives I.IntoIter.can_next
             I.IntoIter.remaining items }
-        ensures extended { OnOk result (ExtendsWith I.into_iter_gives I.IntoIter.next_gives
+        ensures extended { OnOk result (ExtendsIter I.into_iter_gives I.IntoIter.next_gives
             L.LIMIT K.eq items self.old self.new) }
-        ensures refused { IfErr result (IsRefusedExtension I.into_iter_gives I.IntoIter.next_gives
+        ensures refused { IfErr result (RefusedExtendIter I.into_iter_gives I.IntoIter.next_gives
             L.LIMIT K.eq items self.old self.new) }
     {
         uncounted!(self.extend_counted(items))
@@ -147,10 +147,10 @@ impl<K: Eq + Hash + Drop, V: Drop, S: KeyHasher<K>, L: Limit> LimitedHashMap<K, 
     ) -> Result<(), Refusal>
         requires { IsFiniteIterable I.into_iter_gives I.IntoIter.can_next
             I.IntoIter.remaining items }
-        ensures extended { OnOk result ((made : ExtendsWith I.into_iter_gives I.IntoIter.next_gives
+        ensures extended { OnOk result ((made : ExtendsIter I.into_iter_gives I.IntoIter.next_gives
             L.LIMIT K.eq items self.old self.new) × GrewBy (insertions_cost L.LIMIT K.eq S.hash
             self.old made.gave self.new made.extends.inserted) tally.old tally.new) }
-        ensures refused { IfErr result (λ why. (made : IsRefusedExtension I.into_iter_gives
+        ensures refused { IfErr result (λ why. (made : RefusedExtendIter I.into_iter_gives
             I.IntoIter.next_gives L.LIMIT K.eq items self.old self.new why)
             × GrewBy (refused_cost L.LIMIT K.eq S.hash made.insertion) tally.old tally.new) }
     {
@@ -167,7 +167,7 @@ impl<K: Eq + Hash + Drop, V: Drop, S: KeyHasher<K> + Default + Drop, L: Limit> F
     type Alloc = Global;
 
     ghost from_iter_gives = { λ items m. (hint : ℕ)
-        × IsCollection L.LIMIT K.eq S.is_default hint items m };
+        × Collects L.LIMIT K.eq S.is_default hint items m };
 
     fn from_iter<I: IntoIterator<Item = (K, V)>>(
         alloc: Global,
@@ -177,10 +177,10 @@ impl<K: Eq + Hash + Drop, V: Drop, S: KeyHasher<K> + Default + Drop, L: Limit> F
             I.IntoIter.remaining items }
         ensures ran { IfOk result (λ m. (it : I.IntoIter) × (gave : List (K × V))
             × I.into_iter_gives items it × DrainsIf I.IntoIter.next_gives ⊤ it gave
-            × ((hint : ℕ) × IsCollection L.LIMIT K.eq S.is_default hint gave m)) }
-        ensures collected { IfOk result (IsCollectionOf I.into_iter_gives I.IntoIter.next_gives
+            × ((hint : ℕ) × Collects L.LIMIT K.eq S.is_default hint gave m)) }
+        ensures collected { IfOk result (CollectsIter I.into_iter_gives I.IntoIter.next_gives
             L.LIMIT K.eq I.IntoIter.remaining S.is_default items) }
-        ensures refused { OnErr result ((why : Refusal) × IsRefusedCollectionOf I.into_iter_gives
+        ensures refused { OnErr result ((why : Refusal) × RefusedCollectIter I.into_iter_gives
             I.IntoIter.next_gives L.LIMIT K.eq I.IntoIter.remaining S.is_default items why) }
     {
         match LimitedHashMap::from_iter(alloc, items) {
@@ -200,7 +200,7 @@ impl<K: Eq + Hash + Drop, V: Drop, S: KeyHasher<K>, L: Limit> Extend<(K, V)>
             I.IntoIter.remaining items }
         ensures ran { ExtendsWithItems I.into_iter_gives I.IntoIter.next_gives
             (Extends L.LIMIT K.eq) items self.old self.new result }
-        ensures refused { OnErr result ((why : Refusal) × IsRefusedExtension I.into_iter_gives
+        ensures refused { OnErr result ((why : Refusal) × RefusedExtendIter I.into_iter_gives
             I.IntoIter.next_gives L.LIMIT K.eq items self.old self.new why) }
     {
         match LimitedHashMap::extend(self, items) {

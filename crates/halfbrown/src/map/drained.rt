@@ -1,7 +1,7 @@
 //! The store of a map, taken out so that its pairs can be drained, and put back once they are gone.
 ghost use Rattle.std.specs.Prelude.{◌≡◌, ◌^◌, ◌<◌, ◌≤◌, true, false, [], length};
 ghost use Rattle.halfbrown.specs.Layout.{state_in};
-ghost use Rattle.halfbrown.specs.State.{IsState, IsTableCapacity, WithPairs};
+ghost use Rattle.halfbrown.specs.State.{IsValid, IsTableCapacity, WithPairs};
 
 use super::LimitedHashMap;
 use crate::{KeyHasher, Limit};
@@ -34,7 +34,7 @@ impl<K: Eq + Hash, V, S: KeyHasher<K>, L: Limit> LimitedHashMap<K, V, S, L> {
         requires exceeds { (P.store drained).is_vec ≡ false → L.LIMIT < (P.store drained).capacity }
         ensures after { WithPairs (state_in (P.store drained) self.old.builder)
             [] self.new }
-        ensures state { IsState K.eq L.LIMIT self.new }
+        ensures valid { IsValid K.eq L.LIMIT self.new }
     {
         self.store = drained.into_store();
     }

@@ -2,7 +2,7 @@
 ghost use Rattle.std.specs.Prelude.{◌≡◌, ◌+◌, ◌<◌, false};
 ghost use Rattle.halfbrown.specs.Costs.{IsLookupCost, IsHashedLookupCost};
 ghost use Rattle.halfbrown.specs.Lookup.{KeySearch};
-ghost use Rattle.halfbrown.specs.State.{IsState};
+ghost use Rattle.halfbrown.specs.State.{IsValid};
 
 use super::LimitedHashMap;
 use crate::{Equivalent, KeyHasher, Limit};
@@ -17,7 +17,7 @@ impl<K: Eq + Hash, V, S: KeyHasher<K>, L: Limit> LimitedHashMap<K, V, S, L> {
             (S.hash_writes self.now.builder (Q.hash_input key)) self.now result }
         ensures cost { IsLookupCost S.hash (S.hash_writes self.now.builder (Q.hash_input key))
             (Q.equivalent key) self.now tally.old tally.new }
-        ensures state { IsState K.eq L.LIMIT self.now }
+        ensures valid { IsValid K.eq L.LIMIT self.now }
     {
         // `hash_in_table` written out, so that this proof, for which thirty others wait, waits for one alone.
         let hash = if self.store.is_vec() {
@@ -42,7 +42,7 @@ impl<K: Eq + Hash, V, S: KeyHasher<K>, L: Limit> LimitedHashMap<K, V, S, L> {
             (S.hash_writes self.now.builder (Q.hash_input key)) self.now result }
         ensures cost { IsHashedLookupCost S.hash (S.hash_writes self.now.builder (Q.hash_input key))
             (Q.equivalent key) self.now tally.old tally.new }
-        ensures state { IsState K.eq L.LIMIT self.now }
+        ensures valid { IsValid K.eq L.LIMIT self.now }
     {
         let matches = move |held: &K| -> bool
             ensures { result ≡ Q.equivalent key held.now }

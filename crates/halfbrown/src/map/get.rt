@@ -9,7 +9,7 @@ ghost use Rattle.std.specs.Map.Iter.{deref_pair};
 ghost use Rattle.std.specs.Option.{option_copied, option_copied_mut, option_map};
 ghost use Rattle.halfbrown.specs.Costs.{IsLookupCost};
 ghost use Rattle.halfbrown.specs.Pairs.{holds_by, set_by};
-ghost use Rattle.halfbrown.specs.State.{IsState};
+ghost use Rattle.halfbrown.specs.State.{IsValid};
 ghost use Rattle.halfbrown.specs.Updates.{HasSetBy};
 
 use super::LimitedHashMap;
@@ -41,7 +41,7 @@ impl<K: Eq + Hash, V, S: KeyHasher<K>, L: Limit> LimitedHashMap<K, V, S, L> {
         ensures value { option_copied result ≡ lookup (Q.equivalent key) self.now.pairs }
         ensures cost { IsLookupCost S.hash (S.hash_writes self.now.builder (Q.hash_input key))
             (Q.equivalent key) self.now tally.old tally.new }
-        ensures state { IsState K.eq L.LIMIT self.now }
+        ensures valid { IsValid K.eq L.LIMIT self.now }
     {
         match self.find(key, tally) {
             Ok(index) => Some(self.pair_at(index).1),
@@ -72,7 +72,7 @@ impl<K: Eq + Hash, V, S: KeyHasher<K>, L: Limit> LimitedHashMap<K, V, S, L> {
             ≡ lookup_entry (Q.equivalent key) self.now.pairs }
         ensures cost { IsLookupCost S.hash (S.hash_writes self.now.builder (Q.hash_input key))
             (Q.equivalent key) self.now tally.old tally.new }
-        ensures state { IsState K.eq L.LIMIT self.now }
+        ensures valid { IsValid K.eq L.LIMIT self.now }
     {
         match self.find(key, tally) {
             Ok(index) => Some(self.pair_at(index)),
@@ -109,7 +109,7 @@ impl<K: Eq + Hash, V, S: KeyHasher<K>, L: Limit> LimitedHashMap<K, V, S, L> {
             self.old.pairs written (set_by (Q.equivalent key) self.old.pairs written)) }
         ensures cost { IsLookupCost S.hash (S.hash_writes self.old.builder (Q.hash_input key))
             (Q.equivalent key) self.old tally.old tally.new }
-        ensures state { IsState K.eq L.LIMIT self.old }
+        ensures valid { IsValid K.eq L.LIMIT self.old }
     {
         match self.find(key, tally) {
             Ok(index) => Some(self.pair_at_mut(index).1),
@@ -136,7 +136,7 @@ impl<K: Eq + Hash, V, S: KeyHasher<K>, L: Limit> LimitedHashMap<K, V, S, L> {
         ensures held { result ≡ holds_by (Q.equivalent key) self.now.pairs }
         ensures cost { IsLookupCost S.hash (S.hash_writes self.now.builder (Q.hash_input key))
             (Q.equivalent key) self.now tally.old tally.new }
-        ensures state { IsState K.eq L.LIMIT self.now }
+        ensures valid { IsValid K.eq L.LIMIT self.now }
     {
         self.find(key, tally).is_ok()
     }

@@ -1,7 +1,7 @@
 //! Growing and shrinking the capacity.
 ghost use Rattle.std.specs.Prelude.{◌≡◌, ◌+◌, length, OnOk, OnErr, IfErr};
 ghost use Rattle.halfbrown.specs.Growth.{reserve_needs, IsRefusal, Reserves, Shrinks};
-ghost use Rattle.halfbrown.specs.State.{IsState};
+ghost use Rattle.halfbrown.specs.State.{IsValid};
 
 use super::LimitedHashMap;
 use crate::{KeyHasher, Limit};
@@ -27,7 +27,7 @@ impl<K: Eq + Hash, V, S: KeyHasher<K>, L: Limit> LimitedHashMap<K, V, S, L> {
         ensures refused { IfErr result (IsRefusal (reserve_needs L.LIMIT self.old
             (length self.old.pairs + additional))) }
         ensures err { OnErr result (self.new ≡ self.old) }
-        ensures state { IsState K.eq L.LIMIT self.new }
+        ensures valid { IsValid K.eq L.LIMIT self.new }
     {
         self.store.reserve(additional, L::LIMIT)
     }
@@ -48,7 +48,7 @@ impl<K: Eq + Hash, V, S: KeyHasher<K>, L: Limit> LimitedHashMap<K, V, S, L> {
     /// ```
     pub fn shrink_to_fit(&mut self)
         ensures after { Shrinks L.LIMIT self.old self.new }
-        ensures state { IsState K.eq L.LIMIT self.new }
+        ensures valid { IsValid K.eq L.LIMIT self.new }
     {
         // Where memory is refused, nothing has changed.
         let _ = self.store.shrink_to_fit(L::LIMIT);

@@ -10,7 +10,7 @@ ghost use Rattle.half_store.specs.PairLists.{index_of};
 ghost use Rattle.halfbrown.specs.Costs.{IsLookupCost};
 ghost use Rattle.halfbrown.specs.Lookup.{FindsIndex};
 ghost use Rattle.halfbrown.specs.Removal.{RemovesAt};
-ghost use Rattle.halfbrown.specs.State.{IsState};
+ghost use Rattle.halfbrown.specs.State.{IsValid};
 
 use super::LimitedHashMap;
 use crate::{Equivalent, KeyHasher, Limit};
@@ -54,7 +54,7 @@ impl<K: Eq + Hash, V, S: KeyHasher<K>, L: Limit> LimitedHashMap<K, V, S, L> {
             S.KeyHasher L.Limit self.entry index result) }
         ensures value { option_copied_mut result ≡ slice_get (values_of self.old.pairs) index }
         ensures held { IsSome result ↔ (index < length self.old.pairs) }
-        ensures state { IsState K.eq L.LIMIT self.old }
+        ensures valid { IsValid K.eq L.LIMIT self.old }
     {
         if index < self.len() {
             Some(self.pair_at_mut(index).1)
@@ -104,7 +104,7 @@ impl<K: Eq + Hash, V, S: KeyHasher<K>, L: Limit> LimitedHashMap<K, V, S, L> {
             S.KeyHasher L.Limit self.entry 0 result) }
         ensures value { option_copied_mut result ≡ slice_get (values_of self.old.pairs) 0 }
         ensures held { IsSome result ↔ (0 < length self.old.pairs) }
-        ensures state { IsState K.eq L.LIMIT self.old }
+        ensures valid { IsValid K.eq L.LIMIT self.old }
     {
         self.get_index_mut(0)
     }
@@ -124,7 +124,7 @@ impl<K: Eq + Hash, V, S: KeyHasher<K>, L: Limit> LimitedHashMap<K, V, S, L> {
         ensures value { option_copied_mut result
             ≡ slice_get (values_of self.old.pairs) (length self.old.pairs - 1) }
         ensures held { IsSome result ↔ (0 < length self.old.pairs) }
-        ensures state { IsState K.eq L.LIMIT self.old }
+        ensures valid { IsValid K.eq L.LIMIT self.old }
     {
         let index = self.len().saturating_sub(1);
         self.get_index_mut(index)
@@ -150,7 +150,7 @@ impl<K: Eq + Hash, V, S: KeyHasher<K>, L: Limit> LimitedHashMap<K, V, S, L> {
         ensures found { FindsIndex (Q.equivalent key) self.now.pairs result }
         ensures cost { IsLookupCost S.hash (S.hash_writes self.now.builder (Q.hash_input key))
             (Q.equivalent key) self.now tally.old tally.new }
-        ensures state { IsState K.eq L.LIMIT self.now }
+        ensures valid { IsValid K.eq L.LIMIT self.now }
     {
         self.find(key, tally).ok()
     }

@@ -17,7 +17,7 @@ ghost use Rattle.halfbrown.specs.Costs.{probe_length, IsSearchCost};
 ghost use Rattle.halfbrown.specs.Lookup.{MatchSearch};
 ghost use Rattle.halfbrown.specs.Pairs.{holds};
 ghost use Rattle.halfbrown.specs.Insertion.{pushed};
-ghost use Rattle.halfbrown.specs.State.{IsState, WithPairs, contents_of};
+ghost use Rattle.halfbrown.specs.State.{IsValid, WithPairs, contents_of};
 ghost use Rattle.halfbrown.specs.Updates.{HasKeyReplaced};
 
 use super::LimitedHashMap;
@@ -33,7 +33,7 @@ impl<K: Eq + Hash, V, S: KeyHasher<K>, L: Limit> LimitedHashMap<K, V, S, L> {
     #[inline(always)]
     pub(crate) fn columns(&self) -> &Columns<K, V>
         ensures pairs { result.now.pairs ≡ self.now.pairs }
-        ensures state { IsState K.eq L.LIMIT self.now }
+        ensures valid { IsValid K.eq L.LIMIT self.now }
     {
         self.store.columns()
     }
@@ -69,9 +69,9 @@ impl<K: Eq + Hash, V, S: KeyHasher<K>, L: Limit> LimitedHashMap<K, V, S, L> {
         ensures old { slice_get (keys_of self.old.pairs) index ≡ Some result }
         ensures after { WithPairs self.old (set_key_at self.old.pairs index key) self.new }
         ensures replaced { HasKeyReplaced K.eq self.old.pairs key self.new.pairs }
-        ensures state { IsState K.eq L.LIMIT self.new }
+        ensures valid { IsValid K.eq L.LIMIT self.new }
     {
-        self.store.set_key(index, key)
+        self.store.set_key_at(index, key)
     }
 
     /// Searches for a key that `matches` accepts: in a vector for the first, in a table among the keys of this hash.
@@ -88,7 +88,7 @@ impl<K: Eq + Hash, V, S: KeyHasher<K>, L: Limit> LimitedHashMap<K, V, S, L> {
         ensures cost { IsSearchCost S.hash hash self.now (result_ok result) 0 tally.old tally.new }
         ensures in_order { scan ≡ ByKey → self.now.is_vec ≡ true → tally.new.compared
             ≡ tally.old.compared + first_match_cost (result_ok result) (length self.now.pairs) }
-        ensures state { IsState K.eq L.LIMIT self.now }
+        ensures valid { IsValid K.eq L.LIMIT self.now }
     {
         self.store.find(hash, matches, scan, tally)
     }
@@ -99,8 +99,8 @@ impl<K: Eq + Hash, V, S: KeyHasher<K>, L: Limit> LimitedHashMap<K, V, S, L> {
     pub(crate) fn vacancy_for(&self, hash: u64, tally: &mut Tally) -> Vacancy
         requires capacity { length self.now.pairs < self.now.capacity }
         ensures vacant { IsVacancy self.now.is_vec (contents_of self.now) hash result }
-        ensures work { tally.new ≡ looked_more tally.old (probe_length
-            (S.hash self.now.builder) self.now.is_vec self.now.capacity self.now.pairs hash) }
+        ensures work { tally.new ≡ looked_more (probe_length
+            (S.hash self.now.builder) self.now.is_vec self.now.capacity self.now.pairs hash) tally.old }
     {
         self.store.vacancy_for(hash, tally)
     }
@@ -111,7 +111,7 @@ impl<K: Eq + Hash, V, S: KeyHasher<K>, L: Limit> LimitedHashMap<K, V, S, L> {
         requires { index < length self.old.pairs }
         ensures old { slice_get (values_of self.old.pairs) index ≡ Some result }
         ensures after { WithPairs self.old (set_value_at self.old.pairs index value) self.new }
-        ensures state { IsState K.eq L.LIMIT self.new }
+        ensures valid { IsValid K.eq L.LIMIT self.new }
     {
         let (_, held) = self.store.pair_at_mut(index);
         replace(held, value)
@@ -126,7 +126,7 @@ impl<K: Eq + Hash, V, S: KeyHasher<K>, L: Limit> LimitedHashMap<K, V, S, L> {
             (S.hash self.old.builder key) vacancy }
         ensures exact { self.new ≡ pushed self.old key value vacancy }
         ensures after { WithPairs self.old (self.old.pairs ++ (key, value) ∷ []) self.new }
-        ensures state { IsState K.eq L.LIMIT self.new }
+        ensures valid { IsValid K.eq L.LIMIT self.new }
     {
         self.store.push(key, value, vacancy);
     }
@@ -138,7 +138,7 @@ impl<K: Eq + Hash, V, S: KeyHasher<K>, L: Limit> LimitedHashMap<K, V, S, L> {
         ensures taken { slice_get self.old.pairs index ≡ Some result }
         ensures value { slice_get (values_of self.old.pairs) index ≡ Some result.1 }
         ensures after { WithPairs self.old (swap_remove_at self.old.pairs index) self.new }
-        ensures state { IsState K.eq L.LIMIT self.new }
+        ensures valid { IsValid K.eq L.LIMIT self.new }
     {
         self.store.swap_remove(index)
     }
@@ -163,7 +163,7 @@ impl<K: Eq + Hash, V, S: KeyHasher<K>, L: Limit> LimitedHashMap<K, V, S, L> {
             (λ removed. self.new.is_vec ≡ false → removed.1 ≡ S.hash self.new.builder removed.0) }
         ensures absent { IfErr result (λ removed. holds K.eq self.new.pairs removed.0 ≡ false) }
         ensures capacity_left { OnErr result (length self.new.pairs < self.new.capacity) }
-        ensures state { IsState K.eq L.LIMIT self.new }
+        ensures valid { IsValid K.eq L.LIMIT self.new }
     {
         self.store.replace_with(index, f)
     }

@@ -7,7 +7,7 @@ ghost use Rattle.std.specs.Borrow.{sem};
 ghost use Rattle.std.specs.Iterator.Runs.{YieldsMutRefsInOrder};
 ghost use Rattle.std.specs.Map.{keys_of, values_of};
 ghost use Rattle.std.specs.Map.Iter.{LendsValuesInOrder};
-ghost use Rattle.halfbrown.specs.State.{IsState};
+ghost use Rattle.halfbrown.specs.State.{IsValid};
 ghost use Rattle.halfbrown.specs.Updates.{KeepsKeys};
 
 use super::LimitedHashMap;
@@ -33,7 +33,7 @@ impl<K: Eq + Hash, V, S: KeyHasher<K>, L: Limit> LimitedHashMap<K, V, S, L> {
         ensures left { pairs_left result ≡ self.now.pairs }
         ensures small { length self.now.pairs < 2 ^ 63 }
         ensures runs { ShowsPairsInOrder K V }
-        ensures state { IsState K.eq L.LIMIT self.now }
+        ensures valid { IsValid K.eq L.LIMIT self.now }
     {
         let columns = self.columns();
         Iter::new(columns.keys(), columns.values())
@@ -49,7 +49,7 @@ impl<K: Eq + Hash, V, S: KeyHasher<K>, L: Limit> LimitedHashMap<K, V, S, L> {
         ensures left { column_left result ≡ keys_of self.now.pairs }
         ensures small { length self.now.pairs < 2 ^ 63 }
         ensures runs { ShowsColumnInOrder K V }
-        ensures state { IsState K.eq L.LIMIT self.now }
+        ensures valid { IsValid K.eq L.LIMIT self.now }
     {
         Keys::new(self.columns().keys())
     }
@@ -64,7 +64,7 @@ impl<K: Eq + Hash, V, S: KeyHasher<K>, L: Limit> LimitedHashMap<K, V, S, L> {
         ensures left { column_left result ≡ values_of self.now.pairs }
         ensures small { length self.now.pairs < 2 ^ 63 }
         ensures runs { ShowsColumnInOrder V K }
-        ensures state { IsState K.eq L.LIMIT self.now }
+        ensures valid { IsValid K.eq L.LIMIT self.now }
     {
         Values::new(self.columns().values())
     }

@@ -1,7 +1,7 @@
 //! Making a map.
 ghost use Rattle.std.specs.Prelude.{◌≡◌, true, min, nat_le, IfOk};
 ghost use Rattle.halfbrown.specs.Making.{IsDefaultBuilder, IsNew, Makes};
-ghost use Rattle.halfbrown.specs.State.{IsState};
+ghost use Rattle.halfbrown.specs.State.{IsValid};
 
 use super::{DefaultHashBuilder, LimitedHashMap};
 use crate::{KeyHasher, Limit};
@@ -19,7 +19,7 @@ impl<K: Eq + Hash, V, L: Limit> LimitedHashMap<K, V, DefaultHashBuilder, L> {
     /// ```
     pub fn new(alloc: Global) -> Self
         ensures made { IsNew IsDefaultBuilder result }
-        ensures state { IsState K.eq L.LIMIT result }
+        ensures valid { IsValid K.eq L.LIMIT result }
     {
         LimitedHashMap::with_hasher(alloc, BuildHasherDefault::new())
     }
@@ -39,7 +39,7 @@ impl<K: Eq + Hash, V, L: Limit> LimitedHashMap<K, V, DefaultHashBuilder, L> {
     pub fn with_capacity(alloc: Global, capacity: usize) -> Result<Self, Refusal>
         ensures makes { Makes IsDefaultBuilder (nat_le capacity L.LIMIT)
             capacity result }
-        ensures state { IfOk result (IsState K.eq L.LIMIT) }
+        ensures valid { IfOk result (IsValid K.eq L.LIMIT) }
     {
         LimitedHashMap::with_capacity_and_hasher(alloc, capacity, BuildHasherDefault::new())
     }
@@ -55,7 +55,7 @@ impl<K: Eq + Hash, V, L: Limit> LimitedHashMap<K, V, DefaultHashBuilder, L> {
     pub fn vec_with_capacity(alloc: Global, capacity: usize) -> Result<Self, Refusal>
         ensures makes { Makes IsDefaultBuilder true
             (min capacity L.LIMIT) result }
-        ensures state { IfOk result (IsState K.eq L.LIMIT) }
+        ensures valid { IfOk result (IsValid K.eq L.LIMIT) }
     {
         LimitedHashMap::with_capacity(alloc, capacity.min(L::LIMIT))
     }
@@ -70,7 +70,7 @@ impl<K: Eq + Hash, V, S: KeyHasher<K>, L: Limit> LimitedHashMap<K, V, S, L> {
     /// ```
     pub fn with_hasher(alloc: Global, builder: S) -> Self
         ensures made { IsNew (λ b. b ≡ builder) result }
-        ensures state { IsState K.eq L.LIMIT result }
+        ensures valid { IsValid K.eq L.LIMIT result }
     {
         LimitedHashMap {
             store: Store::new(alloc),
@@ -89,7 +89,7 @@ impl<K: Eq + Hash, V, S: KeyHasher<K>, L: Limit> LimitedHashMap<K, V, S, L> {
     where
         S: Default,
         ensures made { IsNew S.is_default result }
-        ensures state { IsState K.eq L.LIMIT result }
+        ensures valid { IsValid K.eq L.LIMIT result }
     {
         LimitedHashMap::with_hasher(alloc, S::default())
     }
@@ -110,7 +110,7 @@ impl<K: Eq + Hash, V, S: KeyHasher<K>, L: Limit> LimitedHashMap<K, V, S, L> {
     where
         S: Drop,
         ensures makes { Makes (λ b. b ≡ builder) (nat_le capacity L.LIMIT) capacity result }
-        ensures state { IfOk result (IsState K.eq L.LIMIT) }
+        ensures valid { IfOk result (IsValid K.eq L.LIMIT) }
     {
         Ok(LimitedHashMap {
             store: Store::with_capacity(alloc, capacity, L::LIMIT)?,

@@ -5,7 +5,7 @@ ghost use Rattle.half_store.specs.Store.{IsVacancy};
 ghost use Rattle.halfbrown.specs.Costs.{switch_asked, new_key_cost, GrewBy, IsInsertCost};
 ghost use Rattle.halfbrown.specs.Growth.{is_full, addition_needs, insert_needs, new_key_needs};
 ghost use Rattle.halfbrown.specs.Pairs.{holds};
-ghost use Rattle.halfbrown.specs.Insertion.{IsReadyFor, HasVacancyFor, PreparesOrRefuses, growth_looks};
+ghost use Rattle.halfbrown.specs.Insertion.{IsPreparedFor, HasMapVacancy, PreparesOrRefuses, growth_reads};
 ghost use Rattle.halfbrown.specs.State.{contents_of};
 
 use super::LimitedHashMap;
@@ -27,7 +27,7 @@ impl<K: Eq + Hash, V, S: KeyHasher<K>, L: Limit> LimitedHashMap<K, V, S, L> {
     pub(crate) fn prepare(&mut self, key: &K, tally: &mut Tally) -> Result<Place, Refusal>
         ensures prepares { PreparesOrRefuses L.LIMIT K.eq self.old
             (insert_needs L.LIMIT K.eq self.old key.now) result self.new }
-        ensures ready { IfOk result (IsReadyFor K.eq S.hash self.new key.now) }
+        ensures ready { IfOk result (IsPreparedFor K.eq S.hash self.new key.now) }
         ensures cost { IsInsertCost L.LIMIT K.eq S.hash self.old key.now (is_ok result)
             tally.old tally.new }
     {
@@ -45,7 +45,7 @@ impl<K: Eq + Hash, V, S: KeyHasher<K>, L: Limit> LimitedHashMap<K, V, S, L> {
         requires { holds K.eq self.old.pairs key.now ≡ false }
         ensures prepares { PreparesOrRefuses L.LIMIT K.eq self.old
             (new_key_needs L.LIMIT self.old) result self.new }
-        ensures ready { IfOk result (HasVacancyFor K.eq S.hash self.new key.now) }
+        ensures ready { IfOk result (HasMapVacancy K.eq S.hash self.new key.now) }
         ensures cost { GrewBy (new_key_cost L.LIMIT K.eq S.hash self.old key.now (is_ok result))
             tally.old tally.new }
     {
@@ -57,7 +57,7 @@ impl<K: Eq + Hash, V, S: KeyHasher<K>, L: Limit> LimitedHashMap<K, V, S, L> {
 
     /// Switches a full map and makes capacity for one pair more, whatever its key. Nothing is searched.
     #[inline(always)]
-    pub(crate) fn make_room(&mut self, tally: &mut Tally) -> Result<(), Refusal>
+    pub(crate) fn prepare_any(&mut self, tally: &mut Tally) -> Result<(), Refusal>
         ensures prepares { PreparesOrRefuses L.LIMIT K.eq self.old
             (new_key_needs L.LIMIT self.old) result self.new }
         ensures capacity { OnOk result (length self.new.pairs < self.new.capacity) }
@@ -97,8 +97,8 @@ impl<K: Eq + Hash, V, S: KeyHasher<K>, L: Limit> LimitedHashMap<K, V, S, L> {
         ensures capacity { OnOk result (length self.new.pairs < self.new.capacity) }
         ensures vacant { IfOk result
             (IsVacancy self.new.is_vec (contents_of self.new) vacancy.hash) }
-        ensures work { tally.new ≡ looked_more tally.old
-            (growth_looks (S.hash self.old.builder) self.old vacancy.hash (is_ok result)) }
+        ensures work { tally.new ≡ looked_more (growth_reads (S.hash self.old.builder) self.old vacancy.hash (is_ok result))
+            tally.old }
     {
         if self.store.has_room() {
             return Ok(vacancy);

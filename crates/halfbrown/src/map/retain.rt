@@ -1,7 +1,7 @@
 //! Keeping the pairs that a closure accepts.
 ghost use Rattle.std.specs.Prelude.{◌≤◌, length};
 ghost use Rattle.std.specs.Map.Calls.{CalledAtPair, TakesPair, CallableOnEachPair, RetainsPairs};
-ghost use Rattle.halfbrown.specs.State.{IsState, WithPairs};
+ghost use Rattle.halfbrown.specs.State.{IsValid, WithPairs};
 
 use super::LimitedHashMap;
 use crate::{KeyHasher, Limit};
@@ -29,7 +29,7 @@ impl<K: Eq + Hash, V, S: KeyHasher<K>, L: Limit> LimitedHashMap<K, V, S, L> {
         ensures kept { RetainsPairs (CalledAtPair F.FnMut) f self.old.pairs self.new.pairs }
         ensures len { length self.new.pairs ≤ length self.old.pairs }
         ensures after { WithPairs self.old self.new.pairs self.new }
-        ensures state { IsState K.eq L.LIMIT self.new }
+        ensures valid { IsValid K.eq L.LIMIT self.new }
     {
         self.store.retain(f);
     }

@@ -1,7 +1,7 @@
 //! Removal that keeps the order of the pairs.
 ghost use Rattle.std.specs.Map.{lookup, lookup_entry};
 ghost use Rattle.halfbrown.specs.Costs.{IsLookupCost};
-ghost use Rattle.halfbrown.specs.Removal.{RemovesInOrder, RemovesInOrderAt};
+ghost use Rattle.halfbrown.specs.Removal.{ShiftRemoves, ShiftRemovesAt};
 
 use super::LimitedHashMap;
 use crate::{Equivalent, KeyHasher, Limit};
@@ -23,7 +23,7 @@ impl<K: Eq + Hash, V, S: KeyHasher<K>, L: Limit> LimitedHashMap<K, V, S, L> {
     pub fn shift_remove<Q: Equivalent<K>>(&mut self, key: Q) -> Option<V>
     where
         K: Drop,
-        ensures { RemovesInOrder L.LIMIT K.eq (Q.equivalent key) self.old
+        ensures { ShiftRemoves L.LIMIT K.eq (Q.equivalent key) self.old
             (lookup (Q.equivalent key) self.old.pairs) result self.new }
     {
         uncounted!(self.shift_remove_counted(key))
@@ -34,7 +34,7 @@ impl<K: Eq + Hash, V, S: KeyHasher<K>, L: Limit> LimitedHashMap<K, V, S, L> {
     pub fn shift_remove_counted<Q: Equivalent<K>>(&mut self, key: Q, tally: &mut Tally) -> Option<V>
     where
         K: Drop,
-        ensures removes { RemovesInOrder L.LIMIT K.eq (Q.equivalent key) self.old
+        ensures removes { ShiftRemoves L.LIMIT K.eq (Q.equivalent key) self.old
             (lookup (Q.equivalent key) self.old.pairs) result self.new }
         ensures cost { IsLookupCost S.hash (S.hash_writes self.old.builder (Q.hash_input key))
             (Q.equivalent key) self.old tally.old tally.new }
@@ -51,7 +51,7 @@ impl<K: Eq + Hash, V, S: KeyHasher<K>, L: Limit> LimitedHashMap<K, V, S, L> {
     /// ```
     #[inline]
     pub fn shift_remove_entry<Q: Equivalent<K>>(&mut self, key: Q) -> Option<(K, V)>
-        ensures { RemovesInOrder L.LIMIT K.eq (Q.equivalent key) self.old
+        ensures { ShiftRemoves L.LIMIT K.eq (Q.equivalent key) self.old
             (lookup_entry (Q.equivalent key) self.old.pairs) result self.new }
     {
         uncounted!(self.shift_remove_entry_counted(key))
@@ -64,7 +64,7 @@ impl<K: Eq + Hash, V, S: KeyHasher<K>, L: Limit> LimitedHashMap<K, V, S, L> {
         key: Q,
         tally: &mut Tally,
     ) -> Option<(K, V)>
-        ensures removes { RemovesInOrder L.LIMIT K.eq (Q.equivalent key) self.old
+        ensures removes { ShiftRemoves L.LIMIT K.eq (Q.equivalent key) self.old
             (lookup_entry (Q.equivalent key) self.old.pairs) result self.new }
         ensures cost { IsLookupCost S.hash (S.hash_writes self.old.builder (Q.hash_input key))
             (Q.equivalent key) self.old tally.old tally.new }
@@ -82,7 +82,7 @@ impl<K: Eq + Hash, V, S: KeyHasher<K>, L: Limit> LimitedHashMap<K, V, S, L> {
     /// ```
     #[inline]
     pub fn shift_remove_index(&mut self, index: usize) -> Option<(K, V)>
-        ensures { RemovesInOrderAt L.LIMIT K.eq self.old index result self.new }
+        ensures { ShiftRemovesAt L.LIMIT K.eq self.old index result self.new }
     {
         if index < self.len() {
             Some(self.store.shift_remove(index))

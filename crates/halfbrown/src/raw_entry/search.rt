@@ -11,8 +11,8 @@ ghost use Rattle.half_store.specs.Search.{CallableOnKeys};
 ghost use Rattle.half_store.specs.Work.{asked_more};
 ghost use Rattle.halfbrown.specs.Costs.{IsLookupCost, IsHashedLookupCost, switch_asked};
 ghost use Rattle.halfbrown.specs.Lookup.{ReadsMatch, IsMatchCost};
-ghost use Rattle.halfbrown.specs.RawEntry.{found_pair, map_in, ready_map, MakesReady, RestsIfUnready, ReadsPair};
-ghost use Rattle.halfbrown.specs.RawEntry.{EntersByKey, EntersByMatch};
+ghost use Rattle.halfbrown.specs.RawEntry.{found_pair, map_in, prepared_map, MakesBuilder, RestsIfUnready, ReadsPair};
+ghost use Rattle.halfbrown.specs.RawEntry.{FindsEntry, FindsEntryByMatch};
 
 use super::{Prepared, RawEntryBuilder, RawEntryBuilderMut, RawEntryMut, RawVacantEntryMut};
 use crate::{Equivalent, KeyHasher, Limit, LimitedHashMap, OccupiedEntry};
@@ -46,7 +46,7 @@ impl<K: Eq + Hash, V, S: KeyHasher<K>, L: Limit> LimitedHashMap<K, V, S, L> {
     pub fn raw_entry_mut(&mut self) -> Result<RawEntryBuilderMut<'_, K, V, S, L>, Refusal>
         ensures* unchanged { sem 𝓛
             (RestsIfUnready K.row V.row S.row L.row S.Hasher.row self.entry result) }
-        ensures makes { MakesReady L.LIMIT K.eq self.entry result }
+        ensures makes { MakesBuilder L.LIMIT K.eq self.entry result }
     {
         uncounted!(self.raw_entry_mut_counted())
     }
@@ -59,11 +59,11 @@ impl<K: Eq + Hash, V, S: KeyHasher<K>, L: Limit> LimitedHashMap<K, V, S, L> {
     ) -> Result<RawEntryBuilderMut<'_, K, V, S, L>, Refusal>
         ensures* unchanged { sem 𝓛
             (RestsIfUnready K.row V.row S.row L.row S.Hasher.row self.entry result) }
-        ensures makes { MakesReady L.LIMIT K.eq self.entry result }
+        ensures makes { MakesBuilder L.LIMIT K.eq self.entry result }
         ensures cost { tally.new ≡ (if is_ok result
             then asked_more (switch_asked L.LIMIT self.old) tally.old else tally.old) }
     {
-        match self.make_room(tally) {
+        match self.prepare_any(tally) {
             Ok(()) => Ok(RawEntryBuilderMut::Ready(Prepared { map: self })),
             Err(why) => Err(why),
         }
@@ -188,7 +188,7 @@ impl<'a, K: Eq + Hash, V, S: KeyHasher<K>, L: Limit> RawEntryBuilderMut<'a, K, V
     /// ```
     #[inline]
     pub fn from_key<Q: Equivalent<K>>(self, key: Q) -> RawEntryMut<'a, K, V, S, L>
-        ensures { EntersByKey L.LIMIT K.eq (Q.equivalent key) self.entry result }
+        ensures { FindsEntry L.LIMIT K.eq (Q.equivalent key) self.entry result }
     {
         uncounted!(self.from_key_counted(key))
     }
@@ -200,9 +200,9 @@ impl<'a, K: Eq + Hash, V, S: KeyHasher<K>, L: Limit> RawEntryBuilderMut<'a, K, V
         key: Q,
         tally: &mut Tally,
     ) -> RawEntryMut<'a, K, V, S, L>
-        ensures searches { EntersByKey L.LIMIT K.eq (Q.equivalent key) self.entry result }
-        ensures cost { IsLookupCost S.hash (S.hash_writes (ready_map self.entry).builder
-            (Q.hash_input key)) (Q.equivalent key) (ready_map self.entry) tally.old tally.new }
+        ensures searches { FindsEntry L.LIMIT K.eq (Q.equivalent key) self.entry result }
+        ensures cost { IsLookupCost S.hash (S.hash_writes (prepared_map self.entry).builder
+            (Q.hash_input key)) (Q.equivalent key) (prepared_map self.entry) tally.old tally.new }
     {
         let RawEntryBuilderMut::Ready(ready) = self;
         match ready.map.find(key, tally) {
@@ -227,8 +227,8 @@ impl<'a, K: Eq + Hash, V, S: KeyHasher<K>, L: Limit> RawEntryBuilderMut<'a, K, V
         hash: u64,
         key: Q,
     ) -> RawEntryMut<'a, K, V, S, L>
-        requires { hash ≡ S.hash_writes (ready_map self).builder (Q.hash_input key) }
-        ensures { EntersByKey L.LIMIT K.eq (Q.equivalent key) self.entry result }
+        requires { hash ≡ S.hash_writes (prepared_map self).builder (Q.hash_input key) }
+        ensures { FindsEntry L.LIMIT K.eq (Q.equivalent key) self.entry result }
     {
         uncounted!(self.from_key_hashed_nocheck_counted(hash, key))
     }
@@ -241,10 +241,10 @@ impl<'a, K: Eq + Hash, V, S: KeyHasher<K>, L: Limit> RawEntryBuilderMut<'a, K, V
         key: Q,
         tally: &mut Tally,
     ) -> RawEntryMut<'a, K, V, S, L>
-        requires { hash ≡ S.hash_writes (ready_map self).builder (Q.hash_input key) }
-        ensures searches { EntersByKey L.LIMIT K.eq (Q.equivalent key) self.entry result }
-        ensures cost { IsHashedLookupCost S.hash (S.hash_writes (ready_map self.entry).builder
-            (Q.hash_input key)) (Q.equivalent key) (ready_map self.entry) tally.old tally.new }
+        requires { hash ≡ S.hash_writes (prepared_map self).builder (Q.hash_input key) }
+        ensures searches { FindsEntry L.LIMIT K.eq (Q.equivalent key) self.entry result }
+        ensures cost { IsHashedLookupCost S.hash (S.hash_writes (prepared_map self.entry).builder
+            (Q.hash_input key)) (Q.equivalent key) (prepared_map self.entry) tally.old tally.new }
     {
         let RawEntryBuilderMut::Ready(ready) = self;
         match ready.map.find_hashed(hash, key, tally) {
@@ -269,8 +269,8 @@ impl<'a, K: Eq + Hash, V, S: KeyHasher<K>, L: Limit> RawEntryBuilderMut<'a, K, V
     /// ```
     #[inline]
     pub fn from_hash<F: Fn(&K) -> bool>(self, hash: u64, is_match: F) -> RawEntryMut<'a, K, V, S, L>
-        requires { CallableOnKeys (F.pre is_match) (keys_of (ready_map self).pairs) }
-        ensures { EntersByMatch L.LIMIT K.eq (FnReturnsAt F.Fn is_match)
+        requires { CallableOnKeys (F.pre is_match) (keys_of (prepared_map self).pairs) }
+        ensures { FindsEntryByMatch L.LIMIT K.eq (FnReturnsAt F.Fn is_match)
             S.hash hash self.entry result }
     {
         uncounted!(self.from_hash_counted(hash, is_match))
@@ -284,10 +284,10 @@ impl<'a, K: Eq + Hash, V, S: KeyHasher<K>, L: Limit> RawEntryBuilderMut<'a, K, V
         is_match: F,
         tally: &mut Tally,
     ) -> RawEntryMut<'a, K, V, S, L>
-        requires { CallableOnKeys (F.pre is_match) (keys_of (ready_map self).pairs) }
-        ensures searches { EntersByMatch L.LIMIT K.eq (FnReturnsAt F.Fn is_match)
+        requires { CallableOnKeys (F.pre is_match) (keys_of (prepared_map self).pairs) }
+        ensures searches { FindsEntryByMatch L.LIMIT K.eq (FnReturnsAt F.Fn is_match)
             S.hash hash self.entry result }
-        ensures cost { IsMatchCost S.hash hash (ready_map self.entry) (found_pair result)
+        ensures cost { IsMatchCost S.hash hash (prepared_map self.entry) (found_pair result)
             tally.old tally.new }
     {
         let RawEntryBuilderMut::Ready(ready) = self;

@@ -1,4 +1,4 @@
--- What a step does to pairs and capacity: it puts a pair, or keeps the capacity and adds none, or shrinks. A `Reserve` is left out.
+-- What a step does to pairs and capacity: it puts a pair, or keeps the capacity and adds none, or has_shrink. A `Reserve` is left out.
 use Rattle.std.proofs.Common.{◌≡◌, ℕ, ◌+◌, ◌≤◌, nat_lt, ◌⊎◌, inl, inr, Bool, true, false, cond, length, Option, None, Some, ap, refl, arith}
 use Rattle.std.proofs.Common.{if◌then◌else◌}
 use Rattle.std.proofs.lemmas.Grind.{common_steps}

@@ -9,49 +9,49 @@ use Rattle.std.proofs.lemmas.List.Elements.{All-from_get_or, All-set, All-replic
 use Rattle.std.proofs.lemmas.List.Sums.{sum_by-cons, sum_by-set, get_or-le-sum_by}
 use Rattle.std.proofs.lemmas.Option.{slice_get-get_or}
 use borrow.Author.Tests.{eqb-true}
-use Rattle.half_store.specs.Slots.{slot_by, slots_by, WithinHashes, EachOnce, slot_at}
+use Rattle.half_store.specs.Slots.{hash_of_word, slots_from, WithinHashes, EachOnce, slot_at}
 use Rattle.half_store.proofs.lemmas.table.Counts.{tick, tick_yes, tick_no, count_to, count_to-none, count_by-count_to}
 use Rattle.half_store.proofs.lemmas.table.Slots.{some≢none}
 use Rattle.std.proofs.Math.ListN as lists
 
-pub length-slots_by : (hashes words : List ℕ) → length (slots_by hashes words) ≡ length words
-length-slots_by hashes words = length-map words (slot_by hashes)
+pub length-slots_from : (hashes words : List ℕ) → length (slots_from hashes words) ≡ length words
+length-slots_from hashes words = length-map words (hash_of_word hashes)
 
 -- bucket by bucket, past the end too
-pub slot_by-at : (hashes words : List ℕ) (bucket : ℕ) → slot_at (slots_by hashes words) bucket ≡ slot_by hashes (slice_index words bucket)
-slot_by-at hashes words bucket = lists.get_or-map (slot_by hashes) words bucket 0
+pub hash_of_word-at : (hashes words : List ℕ) (bucket : ℕ) → slot_at (slots_from hashes words) bucket ≡ hash_of_word hashes (slice_index words bucket)
+hash_of_word-at hashes words bucket = lists.get_or-map (hash_of_word hashes) words bucket 0
 
 -- a bucket that is written
-pub slots_by-set : (hashes words : List ℕ) (bucket word : ℕ)
-    → slots_by hashes (set words bucket word) ≡ set (slots_by hashes words) bucket (slot_by hashes word)
-slots_by-set hashes words bucket word = map-set (slot_by hashes) words bucket word
+pub slots_from-set : (hashes words : List ℕ) (bucket word : ℕ)
+    → slots_from hashes (set words bucket word) ≡ set (slots_from hashes words) bucket (hash_of_word hashes word)
+slots_from-set hashes words bucket word = map-set (hash_of_word hashes) words bucket word
 
 -- slots are the same where each is
-pub slots_by-same : (hashes hashes' words words' : List ℕ) → length words ≡ length words'
-    → ((bucket : ℕ) → slot_by hashes (slice_index words bucket) ≡ slot_by hashes' (slice_index words' bucket))
-    → slots_by hashes words ≡ slots_by hashes' words'
-slots_by-same hashes hashes' words words' long same =
-    ext_get_or None (slots_by hashes words) (slots_by hashes' words')
-    (length-slots_by hashes words ∙ long ∙ sym (length-slots_by hashes' words'))
-    (λ bucket l. slot_by-at hashes words bucket ∙ same bucket ∙ sym (slot_by-at hashes' words' bucket))
+pub slots_from-same : (hashes hashes' words words' : List ℕ) → length words ≡ length words'
+    → ((bucket : ℕ) → hash_of_word hashes (slice_index words bucket) ≡ hash_of_word hashes' (slice_index words' bucket))
+    → slots_from hashes words ≡ slots_from hashes' words'
+slots_from-same hashes hashes' words words' long same =
+    ext_get_or None (slots_from hashes words) (slots_from hashes' words')
+    (length-slots_from hashes words ∙ long ∙ sym (length-slots_from hashes' words'))
+    (λ bucket l. hash_of_word-at hashes words bucket ∙ same bucket ∙ sym (hash_of_word-at hashes' words' bucket))
 
 -- the bucket of an entry index has its hash
 pub slot_of_word : (hashes words : List ℕ) (bucket index : ℕ) → index < length hashes → slice_index words bucket ≡ suc index
-    → slot_at (slots_by hashes words) bucket ≡ Some (slice_index hashes index)
-slot_of_word hashes words bucket index in_hashes word = grind (arith, common_steps, slice_get-get_or, slot_by-at)
+    → slot_at (slots_from hashes words) bucket ≡ Some (slice_index hashes index)
+slot_of_word hashes words bucket index in_hashes word = grind (arith, common_steps, slice_get-get_or, hash_of_word-at)
 
-pub slot_of_zero : (hashes words : List ℕ) (bucket : ℕ) → slice_index words bucket ≡ 0 → slot_at (slots_by hashes words) bucket ≡ None
-slot_of_zero hashes words bucket word = slot_by-at hashes words bucket ∙ ap (slot_by hashes) word
+pub slot_of_zero : (hashes words : List ℕ) (bucket : ℕ) → slice_index words bucket ≡ 0 → slot_at (slots_from hashes words) bucket ≡ None
+slot_of_zero hashes words bucket word = hash_of_word-at hashes words bucket ∙ ap (hash_of_word hashes) word
 
-index_in : (hashes : List ℕ) (word hash : ℕ) → slot_by hashes word ≡ Some hash → (index : ℕ) × (word ≡ suc index)
+index_in : (hashes : List ℕ) (word hash : ℕ) → hash_of_word hashes word ≡ Some hash → (index : ℕ) × (word ≡ suc index)
     × (slice_get hashes index ≡ Some hash)
 index_in hashes zero hash e = absurd (some≢none hash (sym e))
 index_in hashes (suc index) hash e = (index, refl, e)
 
 -- a bucket that has a hash has the word of an entry index with that hash
-pub word_of_slot : (hashes words : List ℕ) (bucket hash : ℕ) → slot_at (slots_by hashes words) bucket ≡ Some hash
+pub word_of_slot : (hashes words : List ℕ) (bucket hash : ℕ) → slot_at (slots_from hashes words) bucket ≡ Some hash
     → (index : ℕ) × (slice_index words bucket ≡ suc index) × (slice_get hashes index ≡ Some hash)
-word_of_slot hashes words bucket hash is = index_in hashes (slice_index words bucket) hash (sym (slot_by-at hashes words bucket) ∙ is)
+word_of_slot hashes words bucket hash is = index_in hashes (slice_index words bucket) hash (sym (hash_of_word-at hashes words bucket) ∙ is)
 
 -- a word that was written, and each other one
 pub word_set : (words : List ℕ) (p n : ℕ) → p < length words → slice_index (set words p n) p ≡ n
@@ -75,7 +75,7 @@ module _ (number : ℕ) (words : List ℕ) where
   within-set : (p n : ℕ) → n ≤ number → All (λ word. word ≤ number) words → All (λ word. word ≤ number) (set words p n)
   within-set p n l w = All-set (λ word. word ≤ number) words p n l w
 
-pub zero_of_slot : (hashes words : List ℕ) (bucket : ℕ) → WithinHashes hashes words → slot_at (slots_by hashes words) bucket ≡ None
+pub zero_of_slot : (hashes words : List ℕ) (bucket : ℕ) → WithinHashes hashes words → slot_at (slots_from hashes words) bucket ≡ None
     → slice_index words bucket ≡ 0
 zero_of_slot hashes words bucket w none =
     elim (cases_lt 0 (slice_index words bucket)) [

@@ -5,10 +5,10 @@ use Rattle.std.proofs.lemmas.Grind.{common_steps}
 use Rattle.std.proofs.lemmas.Bool.{cases_eq}
 use Rattle.std.proofs.lemmas.List.{length-set, set-set}
 use Rattle.std.proofs.lemmas.Option.{same_Some}
-use Rattle.half_store.specs.Slots.{slot_by, slots_by, EachOnce, slot_at, SomeVacant, ProbeInvariant}
+use Rattle.half_store.specs.Slots.{hash_of_word, slots_from, EachOnce, slot_at, HasVacantSlot, ProbeInvariant}
 use Rattle.half_store.specs.Reach.{home, probe_distance, bucket_after}
-use Rattle.half_store.specs.Table.{HasGap, IsIndexedButFor, IsVacantBeside}
-use Rattle.half_store.proofs.lemmas.table.Buckets.{length-slots_by, slot_by-at, slot_of_word, slot_of_zero, word_set, word_other, within-at}
+use Rattle.half_store.specs.Table.{HasGap, IsIndexedButFor, IsOtherVacancy}
+use Rattle.half_store.proofs.lemmas.table.Buckets.{length-slots_from, hash_of_word-at, slot_of_word, slot_of_zero, word_set, word_other, within-at}
 use Rattle.half_store.proofs.lemmas.table.Buckets.{EachOnce-move}
 use Rattle.half_store.proofs.lemmas.table.Circle.{distance_is, after_is, next_farther, probe_distance-lt, distance_same}
 use Rattle.half_store.proofs.lemmas.table.Slots.{full_from, full-lt, home-lt}
@@ -26,7 +26,7 @@ Before m hash at other = probe_distance m (home m hash) at < probe_distance m (h
 
 -- what the buckets contain, where the gap counts as empty
 abbrev around : List ℕ → List ℕ → ℕ → List (Option ℕ)
-around hashes words gap = slots_by hashes (set words gap 0)
+around hashes words gap = slots_from hashes (set words gap 0)
 
 -- from bucket `start` on the probe has passed full buckets, and is at this one; the gap is among them, or at `start`
 pub record Shifts (m : ℕ) (hashes words : List ℕ) (start gap bucket : ℕ) : Type 0 where
@@ -52,12 +52,12 @@ pub record Ahead (m : ℕ) (hashes words : List ℕ) (start gap bucket vacant : 
 module _ (m : ℕ) (hashes words : List ℕ) (start bucket : ℕ) (size : length words ≡ m) (x : IsIndexedButFor hashes (set words start 0) start)
     (e : bucket ≡ bucket_after m start 1) where
   long_start : length (around hashes words start) ≡ m
-  long_start = length-slots_by hashes (set words start 0) ∙ length-set words start 0 ∙ size
+  long_start = length-slots_from hashes (set words start 0) ∙ length-set words start 0 ∙ size
 
   in_start : start < m
   in_start = omega (arith, x.gap.within, long_start)
 
-  pub Ahead-start : (vacant : ℕ) → IsVacantBeside (around hashes words start) start vacant → Ahead m hashes words start start bucket vacant
+  pub Ahead-start : (vacant : ℕ) → IsOtherVacancy (around hashes words start) start vacant → Ahead m hashes words start start bucket vacant
   Ahead-start vacant v = grind (arith, common_steps, after_is, distance_is, in_start, long_start)
 
   pub Shifts-start : Shifts m hashes words start start bucket
@@ -68,7 +68,7 @@ module _ {m : ℕ} {hashes words : List ℕ} {start gap bucket : ℕ} (s : Shift
   slots = around hashes words gap
 
   long : length slots ≡ m
-  long = length-slots_by hashes (set words gap 0) ∙ length-set words gap 0 ∙ s.size
+  long = length-slots_from hashes (set words gap 0) ∙ length-set words gap 0 ∙ s.size
 
   within : (q hash : ℕ) → slot_at slots q ≡ Some hash → q < m
   within q hash is = omega (arith, full-lt slots q (full_from _ hash is), long)
@@ -167,9 +167,9 @@ module _ {m : ℕ} {hashes words : List ℕ} {start gap bucket : ℕ} (s : Shift
     -- a bucket that is neither is as it was
     other : (q : ℕ) → q ≢ bucket → q ≢ gap → slot_at (around hashes words' bucket) q ≡ slot_at slots q
     other q nb ng =
-        slot_by-at hashes (set words' bucket 0) q
-        ∙ ap (slot_by hashes) (word_other words' bucket q 0 nb ∙ word_other words gap q word ng ∙ sym (word_other words gap q 0 ng))
-        ∙ sym (slot_by-at hashes (set words gap 0) q)
+        hash_of_word-at hashes (set words' bucket 0) q
+        ∙ ap (hash_of_word hashes) (word_other words' bucket q 0 nb ∙ word_other words gap q word ng ∙ sym (word_other words gap q 0 ng))
+        ∙ sym (hash_of_word-at hashes (set words gap 0) q)
 
     pub Ahead-move : Ahead m hashes words' start bucket next vacant
     Ahead-move = grind (arith, common_steps, farther, one_farther, other)
@@ -213,6 +213,6 @@ module _ {m : ℕ} {hashes words : List ℕ} {start gap bucket : ℕ} (s : Shift
         }
 
 -- a bucket that is emptied is the only gap
-pub HasGap-remove : (slots : List (Option ℕ)) → ProbeInvariant slots → SomeVacant slots → (bucket : ℕ) → slot_at slots bucket ≢ None
+pub HasGap-remove : (slots : List (Option ℕ)) → ProbeInvariant slots → HasVacantSlot slots → (bucket : ℕ) → slot_at slots bucket ≢ None
     → HasGap (set slots bucket None) bucket
 HasGap-remove slots ordered vacant bucket full = grind (arith, common_steps)

@@ -5,7 +5,7 @@ use Rattle.std.proofs.lemmas.List.{length-set, length-replicate, get_or-replicat
 use Rattle.std.proofs.lemmas.List.Folds.{sum_by-replicate}
 use Rattle.std.proofs.lemmas.List.Sums.{sum_by-cons, sum_by-set, count_by-le-length}
 use Rattle.half_store.specs.Reach.{home, probe_distance, bucket_after, reach, filling_reach}
-use Rattle.half_store.specs.Slots.{slot_at, stored, IsVacancyFor, SomeVacant, ProbeInvariant}
+use Rattle.half_store.specs.Slots.{slot_at, stored, IsSlotVacancy, HasVacantSlot, ProbeInvariant}
 use Rattle.half_store.specs.Work.{probe_reads}
 use Rattle.half_store.proofs.lemmas.table.Circle.{bucket_after-probe_distance}
 use Rattle.half_store.proofs.lemmas.table.Counts.{count_to-le, count_to-all, count_by-count_to, tick}
@@ -34,7 +34,7 @@ module _ (w : List ℕ) (slots : List (Option ℕ)) (ordered : ProbeInvariant sl
   abbrev m : ℕ
   m = length slots
 
-  pub some_vacant : SomeVacant slots
+  pub some_vacant : HasVacantSlot slots
   some_vacant =
       elim (first_none slots (λ k. k) m) [
         | inr (k, l, none, before) ↦ (k, l, none)
@@ -46,18 +46,18 @@ module _ (w : List ℕ) (slots : List (Option ℕ)) (ordered : ProbeInvariant sl
             absurd (omega (arith, count_to-all m, counted any, count_by-count_to (stored any) slots None))
       ]
 
-  pub at_stop : (h : ℕ) → IsVacancyFor slots h (stop m w h)
+  pub at_stop : (h : ℕ) → IsSlotVacancy slots h (stop m w h)
   unfolding stop
   at_stop h =
       let v = vacancy_for slots h some_vacant in
       let far : reach w m h - 1 ≡ probe_distance m (home m h) v.0 = omega (arith, reach_at_vacancy slots ordered w counted h v.0 v.1) in
-      subst (IsVacancyFor slots h) (sym (ap (bucket_after m (home m h)) far
+      subst (IsSlotVacancy slots h) (sym (ap (bucket_after m (home m h)) far
       ∙ bucket_after-probe_distance m (home m h) (home-lt m h (omega arith)) v.0 v.1.within)) v.1
 
   pub stop-reads : (h : ℕ) → probe_reads m h (stop m w h) ≡ reach w m h
   stop-reads h = sym (reach_at_vacancy slots ordered w counted h (stop m w h) (at_stop h))
 
-counted-add : (w : List ℕ) (slots : List (Option ℕ)) (p x : ℕ) → IsVacancyFor slots x p → SameCounts w slots
+counted-add : (w : List ℕ) (slots : List (Option ℕ)) (p x : ℕ) → IsSlotVacancy slots x p → SameCounts w slots
     → SameCounts (x ∷ w) (set slots p (Some x))
 counted-add w slots p x at counted test =
     let more = sum_by-set (λ o. tick (stored test o)) slots p (Some x) None at.within in
@@ -72,8 +72,8 @@ all_vacant m b =
     ]
 
 module _ (m : ℕ) (w : List ℕ) (t : IsTableOf m w (slots_with m w)) (few : length w < m) (x : ℕ) where
-  at : IsVacancyFor (slots_with m w) x (stop m w x)
-  at = subst (λ n. IsVacancyFor (slots_with m w) x (stop n w x)) t.long
+  at : IsSlotVacancy (slots_with m w) x (stop m w x)
+  at = subst (λ n. IsSlotVacancy (slots_with m w) x (stop n w x)) t.long
       (at_stop w (slots_with m w) t.ordered t.counted (subst (λ n. length w < n) (sym t.long) few) x)
 
   reads : probe_reads m x (stop m w x) ≡ reach w m x

@@ -6,14 +6,14 @@ use Rattle.std.specs.List.{slice_get, swap_remove}
 use Rattle.std.specs.Prelude.{Result, Ok, Err, IfOk, IfErr, OnOk, OnErr}
 use Rattle.std.proofs.lemmas.List.Sums.{count_by-le-length}
 use Rattle.std.proofs.lemmas.Option.{slice_get_within, get_or_from_slice_get}
-use Rattle.half_store.specs.Slots.{slots_by, slot_at, stored, IsVacancyFor, EndsAtPair, distance_from_home}
+use Rattle.half_store.specs.Slots.{slots_from, slot_at, stored, IsSlotVacancy, EndsAtPair, distance_from_home}
 use Rattle.half_store.specs.Reach.{probe_distance, reach, HomesApart}
-use Rattle.half_store.specs.Work.{after_missing, looked_more, LooksWithin, removal_reads, Work, probe_reads}
-use Rattle.half_store.specs.Table.{TableState, table_state, table_contents, IsIndexed, TableSearch, RemovesFromTable, hit_reads}
-use Rattle.half_store.proofs.lemmas.table.Buckets.{length-slots_by, slot_of_word, slot_of_zero, some_bucket}
+use Rattle.half_store.specs.Work.{after_missing, looked_more, ReadsWithin, removal_reads, Work, probe_reads}
+use Rattle.half_store.specs.Table.{TableState, table_state, table_contents, IsIndexed, TableSearch, RemovesFromTable, hit_reads_in}
+use Rattle.half_store.proofs.lemmas.table.Buckets.{length-slots_from, slot_of_word, slot_of_zero, some_bucket}
 use Rattle.half_store.proofs.lemmas.table.Circle.{distance_self}
 use Rattle.half_store.proofs.lemmas.capacity.{buckets_of-capacity_of, capacity_for-capacity_of}
-use Rattle.half_store.proofs.lemmas.table.Hits.{hit_reads-at, hits_add_up}
+use Rattle.half_store.proofs.lemmas.table.Hits.{hit_reads_in-at, hits_add_up}
 use Rattle.half_store.proofs.lemmas.table.Layout.{index-counted, index-vacant, at_home, buckets_seen, view_lent, count_seen, IsIndexed-as}
 use Rattle.half_store.proofs.lemmas.table.Slots.{full_from, full-lt}
 use Rattle.half_store.proofs.lemmas.table.Probe.{reach_at_vacancy, reach_past_pair, reach_short}
@@ -22,7 +22,7 @@ use Rattle.half_store.proofs.lemmas.tally.{same_work}
 
 module _ {hashes words : List ℕ} (x : IsIndexed hashes words) (hash : ℕ) where
   abbrev slots : List (Option ℕ)
-  slots = slots_by hashes words
+  slots = slots_from hashes words
 
   abbrev held : ℕ
   held = count_by (stored (λ h. h == hash)) slots
@@ -42,16 +42,16 @@ module _ {hashes words : List ℕ} (x : IsIndexed hashes words) (hash : ℕ) whe
 
   -- no probe reads more buckets than one past the held pairs
   short : reach hashes (length words) hash ≤ length hashes + 1
-  short = grind (arith, common_steps, index-counted, index-vacant, length-slots_by, reach-none, reach_short)
+  short = grind (arith, common_steps, index-counted, index-vacant, length-slots_from, reach-none, reach_short)
 
   -- a search that found this entry index
   looked_hit : (index p old new : ℕ) → EndsAtPair hashes words hash index p old new
-      → new ≡ old + hit_reads (table_contents (table_state hashes words)) index
+      → new ≡ old + hit_reads_in (table_contents (table_state hashes words)) index
   looked_hit index p old new ends =
       let some : slice_index words p ≢ 0 = λ none. full_from _ hash ends.found.found (slot_of_zero hashes words p none) in
       let at : slice_get hashes index ≡ Some hash = ap (slice_get hashes) ends.entry ∙ index_at p ends.found.found in
-      ends.looked ∙ ap (λ n. old + n) (ap (λ m. probe_reads m hash p) (length-slots_by hashes words)
-      ∙ sym (hit_reads-at x index p hash (omega (arith, ends.entry)) (get_or_from_slice_get hashes index hash 0 at)))
+      ends.looked ∙ ap (λ n. old + n) (ap (λ m. probe_reads m hash p) (length-slots_from hashes words)
+      ∙ sym (hit_reads_in-at x index p hash (omega (arith, ends.entry)) (get_or_from_slice_get hashes index hash 0 at)))
 
   -- a search where there are no buckets
   pub finds_none : (returns : ℕ → Bool → Type 0) (w : Work) → length words ≡ 0
@@ -69,14 +69,14 @@ module _ {hashes words : List ℕ} (x : IsIndexed hashes words) (hash : ℕ) whe
   -- what a search says of the slots, where there are some, is what callers see
   pub finds : (returns : ℕ → Bool → Type 0) (result : Result (ℕ × ℕ) ℕ) (old new : Work)
       → IfOk result (λ found. EndsAtPair hashes words hash found.0 found.1 old.looked new.looked) → IfOk result (λ found. returns found.0 true)
-      → IfErr result (IsVacancyFor slots hash)
+      → IfErr result (IsSlotVacancy slots hash)
       → OnErr result ((p : ℕ) → slot_at slots p ≡ Some hash → returns (slice_index words p - 1) false)
       → new.asked ≡ old.asked → IfErr result (λ p. new.looked ≡ old.looked + (distance_from_home slots hash p + 1))
       → OnOk result (old.compared + 1 ≤ new.compared) → new.compared ≤ old.compared + held
       → OnErr result (new.compared ≡ old.compared + held)
       → TableSearch returns (table_state hashes words) hash result old new
   finds returns (Ok (index, p)) old new ends accepted vacancy refused asked looked some most all =
-      let size = length-slots_by hashes words in
+      let size = length-slots_from hashes words in
       let in_p : p < length slots = full-lt slots p (full_from _ hash ends.found.found) in
       let vacant = index-vacant x (omega arith) in
       let far = subst (λ n. distance_from_home slots hash p + 2 ≤ reach hashes n hash) size
@@ -108,7 +108,7 @@ module _ {hashes words : List ℕ} (x : IsIndexed hashes words) (hash : ℕ) whe
         buckets = buckets_seen hashes words x refl;
       }
   finds returns (Err bucket) old new ends accepted vacancy refused asked looked some most all =
-      let read = ap (λ n. reach hashes n hash) (sym (length-slots_by hashes words))
+      let read = ap (λ n. reach hashes n hash) (sym (length-slots_from hashes words))
       ∙ reach_at_vacancy slots x.ordered hashes (index-counted x) hash bucket vacancy in
       let same = index-counted x (λ h. h == hash) in
       record {
@@ -131,13 +131,13 @@ module _ {hs ws hashes words : List ℕ} {t : TableState} (view : table_state hs
       → TableSearch returns (table_state hashes words) hash result old new → TableSearch returns t hash result old new
   search_seen {returns} {result} {old} {new} told = subst (λ t. TableSearch returns t hash result old new) (view_lent view h w) told
 
-  pub probe_seen : IsIndexed hs ws → {p : ℕ} (old new : Work) → IsVacancyFor (slots_by hashes words) hash p
-      → new ≡ looked_more old (distance_from_home (slots_by hashes words) hash p + 1) → new ≡ looked_more old (reach t.hashes t.buckets hash)
+  pub probe_seen : IsIndexed hs ws → {p : ℕ} (old new : Work) → IsSlotVacancy (slots_from hashes words) hash p
+      → new ≡ looked_more (distance_from_home (slots_from hashes words) hash p + 1) old → new ≡ looked_more (reach t.hashes t.buckets hash) old
   probe_seen x {p} old new vacant cost =
       let lent = IsIndexed-as h (sym w) x in
-      subst (λ (t : TableState). new ≡ looked_more old (reach t.hashes t.buckets hash)) (view_lent view h w)
-      (cost ∙ ap (looked_more old) (sym (reach_at_vacancy (slots_by hashes words) lent.ordered hashes (index-counted lent) hash p vacant)
-      ∙ ap (λ n. reach hashes n hash) (length-slots_by hashes words)))
+      subst (λ (t : TableState). new ≡ looked_more (reach t.hashes t.buckets hash) old) (view_lent view h w)
+      (cost ∙ ap (λ n. looked_more n old) (sym (reach_at_vacancy (slots_from hashes words) lent.ordered hashes (index-counted lent) hash p vacant)
+      ∙ ap (λ n. reach hashes n hash) (length-slots_from hashes words)))
 
 -- A search that removes what it finds, in the words of callers.
 module _ (hashes words hashes' words' : List ℕ) {t : TableState} (view : table_state hashes words ≡ t) where
@@ -147,8 +147,8 @@ module _ (hashes words hashes' words' : List ℕ) {t : TableState} (view : table
   taken_removes hash result len found left = grind (arith, common_steps)
 
   pub taken_cost : (old new : Work) (result : Result (ℕ × ℕ) ℕ)
-      → IfOk result (λ pair. LooksWithin (removal_reads hashes (length words) pair.0) old new)
-      → IfOk result (λ pair. LooksWithin (removal_reads t.hashes t.buckets pair.0) old new)
+      → IfOk result (λ pair. ReadsWithin (removal_reads hashes (length words) pair.0) old new)
+      → IfOk result (λ pair. ReadsWithin (removal_reads t.hashes t.buckets pair.0) old new)
   taken_cost old new result cost = grind (arith, common_steps)
 
   pub taken_none : (old new : Work) (result : Result (ℕ × ℕ) ℕ)

@@ -5,12 +5,12 @@ use Rattle.std.proofs.lemmas.Bool.{cases_lt, ne_eqb, eq-eqb, cond-true, cond-fal
 use Rattle.std.proofs.lemmas.List.Sums.{fails_before_first, passes_at_first}
 use Rattle.std.specs.List.{position_or_len}
 use borrow.Author.Tests.{eqb-true}
-use Rattle.half_store.specs.Reach.{home, probe_distance, is_loaded, filling_reach}
-use Rattle.half_store.specs.Slots.{slots_by, slot_at, bucket_of, SomeVacant, ProbeInvariant}
-use Rattle.half_store.specs.Table.{IsIndexed, table_state, table_contents, hit_reads, all_hit_reads}
+use Rattle.half_store.specs.Reach.{home, probe_distance, loaded_test, filling_reach}
+use Rattle.half_store.specs.Slots.{slots_from, slot_at, bucket_of, HasVacantSlot, ProbeInvariant}
+use Rattle.half_store.specs.Table.{IsIndexed, table_state, table_contents, hit_reads_in, all_hit_reads_in}
 use Rattle.half_store.specs.Work.{probe_reads, sum_below}
 use Rattle.half_store.proofs.lemmas.capacity.{four-le_count}
-use Rattle.half_store.proofs.lemmas.table.Buckets.{length-slots_by, slot_of_word, slot_of_zero, within-at, some_bucket, same_bucket}
+use Rattle.half_store.proofs.lemmas.table.Buckets.{length-slots_from, slot_of_word, slot_of_zero, within-at, some_bucket, same_bucket}
 use Rattle.half_store.proofs.lemmas.table.Circle.{distance_is, probe_distance-lt}
 use Rattle.half_store.proofs.lemmas.table.Filled.{IsTableOf, slots_with, table_of, filled, some_vacant}
 use Rattle.half_store.proofs.lemmas.table.Layout.{index-counted}
@@ -24,7 +24,7 @@ homes_from m v hashes = sum_by (λ h. probe_distance m v (home m h)) hashes
 
 -- the distances from bucket v to the loaded buckets, and one more for each
 abbrev loaded_from : ℕ → ℕ → List ℕ → ℕ
-loaded_from m v hashes = sum_below m (λ p. cond (is_loaded hashes m p) (probe_distance m v p + 1) 0)
+loaded_from m v hashes = sum_below m (λ p. cond (loaded_test hashes m p) (probe_distance m v p + 1) 0)
 
 module _ (slots : List (Option ℕ)) (ordered : ProbeInvariant slots) (hashes : List ℕ) (counted : SameCounts hashes slots)
     (v : ℕ) (in_v : v < length slots) (none : slot_at slots v ≡ None) where
@@ -36,7 +36,7 @@ module _ (slots : List (Option ℕ)) (ordered : ProbeInvariant slots) (hashes : 
 
   -- no pair passes an empty bucket, so the way from there to the pair leads over its home
   at_bucket : (p : ℕ) → p < m → (slot : Option ℕ) → slot_at slots p ≡ slot
-      → of_slot (λ h. probe_reads m h p) slot + of_slot weight slot ≡ cond (is_loaded hashes m p) (probe_distance m v p + 1) 0
+      → of_slot (λ h. probe_reads m h p) slot + of_slot weight slot ≡ cond (loaded_test hashes m p) (probe_distance m v p + 1) 0
   at_bucket p in_p None is = rw (unloaded_where_vacant slots ordered hashes counted p in_p is) refl
   at_bucket p in_p (Some h) is =
       let before = ordered.before p v h is in_v none in
@@ -68,15 +68,15 @@ module _ {m : ℕ} {hashes : List ℕ} {slots : List (Option ℕ)} (t : IsTableO
       subst (λ n. slot_reads n slots + homes_from n v hashes ≡ loaded_from n v hashes) t.long
       (spread slots t.ordered hashes t.counted v within none)
 
-  none_unloaded : slot_at slots v ≡ None → is_loaded hashes m v ≡ false
+  none_unloaded : slot_at slots v ≡ None → loaded_test hashes m v ≡ false
   none_unloaded none =
-      subst (λ n. is_loaded hashes n v ≡ false) t.long (unloaded_where_vacant slots t.ordered hashes t.counted v within none)
+      subst (λ n. loaded_test hashes n v ≡ false) t.long (unloaded_where_vacant slots t.ordered hashes t.counted v within none)
 
-  unloaded_vacant : SomeVacant slots → is_loaded hashes m v ≡ false → slot_at slots v ≡ None
+  unloaded_vacant : HasVacantSlot slots → loaded_test hashes m v ≡ false → slot_at slots v ≡ None
   unloaded_vacant some is =
       elim (slot_cases (slot_at slots v)) [
         | inl none ↦ none
-        | inr (h, full) ↦ absurd (false≢true (sym is ∙ subst (λ n. is_loaded hashes n v ≡ true) t.long
+        | inr (h, full) ↦ absurd (false≢true (sym is ∙ subst (λ n. loaded_test hashes n v ≡ true) t.long
             (loaded_where_full slots t.ordered hashes t.counted v (full_from _ h full) some)))
       ]
 
@@ -123,7 +123,7 @@ module _ {hashes words : List ℕ} (x : IsIndexed hashes words) where
         ∙ cond-true _ _ _ (eq-eqb _ _ at.1)
 
     by_word : (p word : ℕ) → slice_index words p ≡ word
-        → sum_below (length hashes) (λ index. term index p) ≡ of_slot (λ h. f h p) (slot_at (slots_by hashes words) p)
+        → sum_below (length hashes) (λ index. term index p) ≡ of_slot (λ h. f h p) (slot_at (slots_from hashes words) p)
     by_word p zero is =
         below-zero (length hashes) (λ index. term index p)
         (λ index l. cond-false _ _ _ (ne_eqb (slice_index words p) (suc index) (λ e. omega arith)))
@@ -135,17 +135,17 @@ module _ {hashes words : List ℕ} (x : IsIndexed hashes words) where
         ∙ cond-true _ _ _ (eq-eqb _ _ is) ∙ sym (ap (of_slot (λ h. f h p)) (slot_of_word hashes words p index within is))
 
     pub sum_of_pairs : sum_below (length hashes) (λ index. f (slice_index hashes index) (bucket_of words index))
-        ≡ sum_below (length words) (λ p. of_slot (λ h. f h p) (slot_at (slots_by hashes words) p))
+        ≡ sum_below (length words) (λ p. of_slot (λ h. f h p) (slot_at (slots_from hashes words) p))
     sum_of_pairs =
         sym (below-same (length hashes) _ _ by_index) ∙ below-swap (length hashes) (length words) term
         ∙ below-same (length words) _ _ (λ p in_p. by_word p (slice_index words p) refl)
 
-  table : IsTableOf (length words) hashes (slots_by hashes words)
-  table = record { long = length-slots_by hashes words; ordered = x.ordered; counted = index-counted x }
+  table : IsTableOf (length words) hashes (slots_from hashes words)
+  table = record { long = length-slots_from hashes words; ordered = x.ordered; counted = index-counted x }
 
   -- the searches for all held pairs read what the insertions of their hashes read
-  pub hits_add_up : all_hit_reads (length hashes) (table_contents (table_state hashes words)) ≡ filling_reach (length words) hashes
-  unfolding all_hit_reads hit_reads
+  pub hits_add_up : all_hit_reads_in (length hashes) (table_contents (table_state hashes words)) ≡ filling_reach (length words) hashes
+  unfolding all_hit_reads_in hit_reads_in
   hits_add_up =
       let m : ℕ = length words in
       let room = x.room in
@@ -154,20 +154,20 @@ module _ {hashes words : List ℕ} (x : IsIndexed hashes words) where
         | inl some ↦
             let four = four-le_count m x.count some in
             let few : length hashes < m = omega arith in
-            same_reads m hashes (slots_by hashes words) (slots_with m hashes) table (table_of m hashes (omega arith)) few
+            same_reads m hashes (slots_from hashes words) (slots_with m hashes) table (table_of m hashes (omega arith)) few
             ∙ filled m hashes (omega arith)
         | inr none ↦
             let zero_buckets : m ≡ 0 = omega arith in
             let no_pairs : length hashes ≡ 0 = omega arith in
-            ap (λ n. sum_below n (λ p. of_slot (λ h. probe_reads m h p) (slot_at (slots_by hashes words) p))) zero_buckets
+            ap (λ n. sum_below n (λ p. of_slot (λ h. probe_reads m h p) (slot_at (slots_from hashes words) p))) zero_buckets
             ∙ sym (no_hashes m hashes no_pairs)
       ]
 
   -- a search that ends at a pair has read what its depth says
-  pub hit_reads-at : (index p hash : ℕ) → slice_index words p ≡ suc index → slice_index hashes index ≡ hash
-      → hit_reads (table_contents (table_state hashes words)) index ≡ probe_reads (length words) hash p
-  unfolding hit_reads
-  hit_reads-at index p hash word is =
+  pub hit_reads_in-at : (index p hash : ℕ) → slice_index words p ≡ suc index → slice_index hashes index ≡ hash
+      → hit_reads_in (table_contents (table_state hashes words)) index ≡ probe_reads (length words) hash p
+  unfolding hit_reads_in
+  hit_reads_in-at index p hash word is =
       let within : index < length hashes = omega (arith, within-at (length hashes) words p x.each.within) in
       let at = bucket_of-is index within in
       let same : bucket_of words index ≡ p = same_bucket x.each (bucket_of words index) p index at.1 word in

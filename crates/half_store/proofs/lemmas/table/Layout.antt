@@ -8,11 +8,11 @@ use Rattle.std.proofs.lemmas.List.{length-set, length_push, length-replicate, ge
 use Rattle.std.proofs.lemmas.List.{get_or-replicate, get_or_past}
 use Rattle.std.proofs.lemmas.List.Sums.{count_by-le-length}
 use Rattle.std.proofs.lemmas.Option.{same_Some, slice_get-get_or, slice_get_within, get_or_from_slice_get}
-use Rattle.half_store.specs.Slots.{slot_by, slots_by, EachOnce, slot_at, stored, IsVacancyFor, SomeVacant, ProbeInvariant}
+use Rattle.half_store.specs.Slots.{hash_of_word, slots_from, EachOnce, slot_at, stored, IsSlotVacancy, HasVacantSlot, ProbeInvariant}
 use Rattle.half_store.specs.Capacity.{capacity_of, buckets_of, IsBucketCount}
 use Rattle.half_store.specs.Reach.{home, probe_distance, reach, IsNearer, HomesApart}
-use Rattle.half_store.specs.Table.{TableState, table_state, HasGap, IsIndexed, IsIndexedButFor, IsTable, IsVacantBeside}
-use Rattle.half_store.proofs.lemmas.table.Buckets.{length-slots_by, slot_by-at, slots_by-set, slots_by-same, slot_of_word, slot_of_zero}
+use Rattle.half_store.specs.Table.{TableState, table_state, HasGap, IsIndexed, IsIndexedButFor, IsTable, IsOtherVacancy}
+use Rattle.half_store.proofs.lemmas.table.Buckets.{length-slots_from, hash_of_word-at, slots_from-set, slots_from-same, slot_of_word, slot_of_zero}
 use Rattle.half_store.proofs.lemmas.table.Buckets.{word_of_slot, zero_of_slot, word_set, word_other, word-lt, within-at, same_bucket}
 use Rattle.half_store.proofs.lemmas.table.Buckets.{EachOnce-add, EachOnce-remove, EachOnce-empty, length-remove, remove-at, remove-last}
 use Rattle.half_store.proofs.lemmas.table.Buckets.{remove-other, count_each}
@@ -28,7 +28,7 @@ use Rattle.half_store.proofs.lemmas.table.Slots.{slot_cases, slot_set, slot_othe
 use Rattle.half_store.proofs.lemmas.table.Slots.{vacancy_for}
 
 -- a pair that is added where its probe ended keeps the probe invariant
-pub ordered-add : (slots : List (Option ℕ)) (p h : ℕ) → IsVacancyFor slots h p → ProbeInvariant slots → ProbeInvariant (set slots p (Some h))
+pub ordered-add : (slots : List (Option ℕ)) (p h : ℕ) → IsSlotVacancy slots h p → ProbeInvariant slots → ProbeInvariant (set slots p (Some h))
 ordered-add slots p h w o = grind (arith, common_steps, distance_same, full_from, home-lt, length-set, same_Some, set, slot_other, slot_set)
 
 -- what `swap_remove` leaves, entry index by entry index
@@ -44,25 +44,25 @@ swap_remove-other xs i k last e l ne = grind (arith, common_steps)
 
 module _ {hashes words : List ℕ} (x : IsIndexed hashes words) where
   abbrev slots : List (Option ℕ)
-  slots = slots_by hashes words
+  slots = slots_from hashes words
 
   long : length slots ≡ length words
-  long = length-slots_by hashes words
+  long = length-slots_from hashes words
 
   -- counting the stored hashes is counting the full buckets
   pub index-counted : SameCounts hashes slots
   index-counted test =
-      let passes : ℕ → Bool = λ word. stored test (slot_by hashes word) in
+      let passes : ℕ → Bool = λ word. stored test (hash_of_word hashes word) in
       count_by-count_to test hashes 0
       ∙ count_to-same (λ i. test (slice_index hashes i)) (λ i. passes (suc i)) (length hashes)
       (λ i l. ap (stored test) (sym (slice_get-get_or hashes i 0 l)))
       ∙ sym (count_each passes refl (length hashes) words x.each) ∙ count_by-count_to passes words 0
       ∙ count_to-same (λ p. passes (slice_index words p)) (λ p. stored test (slot_at slots p)) (length words)
-      (λ p l. ap (stored test) (sym (slot_by-at hashes words p)))
+      (λ p l. ap (stored test) (sym (hash_of_word-at hashes words p)))
       ∙ ap (count_to (λ p. stored test (slot_at slots p))) (sym long) ∙ sym (count_by-count_to (stored test) slots None)
 
   -- where there are buckets, one is empty
-  pub index-vacant : 0 < length words → SomeVacant slots
+  pub index-vacant : 0 < length words → HasVacantSlot slots
   index-vacant some =
       elim (first_none slots (λ k. k) (length slots)) [
         | inr (k, l, none, before) ↦ (k, l, none)
@@ -111,7 +111,7 @@ module _ {hashes words : List ℕ} (x : IsIndexed hashes words) where
         ]
       ]
 
-  pub at_home : HomesApart hashes (length slots) → SomeVacant slots → (p h : ℕ) → slot_at slots p ≡ Some h → home (length slots) h ≡ p
+  pub at_home : HomesApart hashes (length slots) → HasVacantSlot slots → (p h : ℕ) → slot_at slots p ≡ Some h → home (length slots) h ≡ p
   at_home apart (e, in_e, none) p h is = at_home_below apart e in_e none (suc (probe_distance (length slots) e p)) p h (omega arith) is
 
   -- a probe from the pair's home bucket comes to it sooner than an unsuccessful one ends
@@ -119,7 +119,7 @@ module _ {hashes words : List ℕ} (x : IsIndexed hashes words) where
       → IsNearer hashes (length words) (slice_index hashes index) bucket
   nearer index bucket in_hashes word = grind (arith, common_steps, index-counted, index-vacant, long, reach_past_pair, slice_index, slot_of_word, word-lt)
 
-  module _ (p h : ℕ) (w : IsVacancyFor slots h p) where
+  module _ (p h : ℕ) (w : IsSlotVacancy slots h p) where
     abbrev hashes' : List ℕ
     hashes' = hashes ++ h ∷ []
 
@@ -127,18 +127,18 @@ module _ {hashes words : List ℕ} (x : IsIndexed hashes words) where
     words' = set words p (suc (length hashes))
 
     -- a stored hash that is added leaves the others
-    more-by : (word : ℕ) → word ≤ length hashes → slot_by hashes' word ≡ slot_by hashes word
+    more-by : (word : ℕ) → word ≤ length hashes → hash_of_word hashes' word ≡ hash_of_word hashes word
     more-by zero l = refl
     more-by (suc i) l =
         let in_old : i < length hashes = omega arith in
         slice_get-get_or hashes' i 0 (omega (arith, length_push hashes h)) ∙ ap Some (get_or_append_left hashes (h ∷ []) 0 i in_old)
         ∙ sym (slice_get-get_or hashes i 0 in_old)
 
-    pub slots-add : slots_by hashes' words' ≡ set slots p (Some h)
+    pub slots-add : slots_from hashes' words' ≡ set slots p (Some h)
     slots-add =
-        slots_by-set hashes' words p (suc (length hashes))
-        ∙ ap (λ s. set s p (slot_by hashes' (suc (length hashes))))
-        (slots_by-same hashes' hashes words words refl
+        slots_from-set hashes' words p (suc (length hashes))
+        ∙ ap (λ s. set s p (hash_of_word hashes' (suc (length hashes))))
+        (slots_from-same hashes' hashes words words refl
         (λ q. more-by (slice_index words q) (within-at (length hashes) words q x.each.within)))
         ∙ ap (set slots p) (slice_get-get_or hashes' (length hashes) 0 (omega (arith, length_push hashes h))
         ∙ ap Some (get_or_push hashes h 0 (length hashes) refl))
@@ -172,7 +172,7 @@ module _ {hashes words : List ℕ} (x : IsIndexed hashes words) where
     length-hashes° = length-swap_remove hashes index last is_last
 
     -- the word of another bucket has the hash that it had
-    other-by : (q word : ℕ) → q ≢ bucket → q ≢ last_bucket → slice_index words q ≡ word → slot_by hashes° word ≡ slot_by hashes word
+    other-by : (q word : ℕ) → q ≢ bucket → q ≢ last_bucket → slice_index words q ≡ word → hash_of_word hashes° word ≡ hash_of_word hashes word
     other-by q zero nb nl e = refl
     other-by q (suc i) nb nl e =
         let not_index : i ≢ index = λ same. nb (same_bucket each q bucket index (e ∙ ap suc same) at) in
@@ -181,41 +181,41 @@ module _ {hashes words : List ℕ} (x : IsIndexed hashes words) where
         slice_get-get_or hashes° i 0 (omega (arith, length-hashes°)) ∙ ap Some (swap_remove-other hashes index i last is_last few not_index)
         ∙ sym (slice_get-get_or hashes i 0 (omega arith))
 
-    slot-remove : (q : ℕ) → slot_by hashes° (slice_index words° q) ≡ slot_by hashes (slice_index (set words bucket 0) q)
+    slot-remove : (q : ℕ) → hash_of_word hashes° (slice_index words° q) ≡ hash_of_word hashes (slice_index (set words bucket 0) q)
     slot-remove q =
         elim (cases_eq q bucket) [
           | inl e ↦
-              ap (λ b. slot_by hashes° (slice_index words° b)) e ∙ ap (slot_by hashes°) (remove-at each index bucket last_bucket at at_last)
-              ∙ sym (ap (λ b. slot_by hashes (slice_index (set words bucket 0) b)) e
-              ∙ ap (slot_by hashes) (word_set words bucket 0 (word-lt words bucket (omega arith))))
+              ap (λ b. hash_of_word hashes° (slice_index words° b)) e ∙ ap (hash_of_word hashes°) (remove-at each index bucket last_bucket at at_last)
+              ∙ sym (ap (λ b. hash_of_word hashes (slice_index (set words bucket 0) b)) e
+              ∙ ap (hash_of_word hashes) (word_set words bucket 0 (word-lt words bucket (omega arith))))
           | inr nb ↦
               let old : slice_index (set words bucket 0) q ≡ slice_index words q = word_other words bucket q 0 nb in
               elim (cases_eq q last_bucket) [
                 | inr nl ↦
-                    ap (slot_by hashes°) (remove-other each index bucket last_bucket at at_last q nb nl)
-                    ∙ other-by q (slice_index words q) nb nl refl ∙ ap (slot_by hashes) (sym old)
+                    ap (hash_of_word hashes°) (remove-other each index bucket last_bucket at at_last q nb nl)
+                    ∙ other-by q (slice_index words q) nb nl refl ∙ ap (hash_of_word hashes) (sym old)
                 | inl e ↦
                     let apart : last_bucket ≢ bucket = λ same. nb (e ∙ same) in
                     let not_last : index ≢ last = λ same. apart (same_bucket each last_bucket bucket last at_last (at ∙ ap suc same)) in
                     let few : index < last = omega (arith, within-at (suc last) words bucket each.within) in
-                    ap (λ b. slot_by hashes° (slice_index words° b)) e
-                    ∙ ap (slot_by hashes°) (remove-last each index bucket last_bucket at at_last apart)
+                    ap (λ b. hash_of_word hashes° (slice_index words° b)) e
+                    ∙ ap (hash_of_word hashes°) (remove-last each index bucket last_bucket at at_last apart)
                     ∙ slice_get-get_or hashes° index 0 (omega (arith, length-hashes°))
                     ∙ ap Some (swap_remove-at hashes index last is_last few)
-                    ∙ sym (ap (slot_by hashes) (old ∙ ap (slice_index words) e ∙ at_last) ∙ slice_get-get_or hashes last 0 (omega arith))
+                    ∙ sym (ap (hash_of_word hashes) (old ∙ ap (slice_index words) e ∙ at_last) ∙ slice_get-get_or hashes last 0 (omega arith))
               ]
         ]
 
-    slots-remove : slots_by hashes° words° ≡ set slots bucket None
+    slots-remove : slots_from hashes° words° ≡ set slots bucket None
     slots-remove =
-        slots_by-same hashes° hashes words° (set words bucket 0)
+        slots_from-same hashes° hashes words° (set words bucket 0)
         (length-remove each index bucket last_bucket at at_last ∙ sym (length-set words bucket 0)) slot-remove
-        ∙ slots_by-set hashes words bucket 0
+        ∙ slots_from-set hashes words bucket 0
 
     hash° : slot_at slots bucket ≡ Some (slice_index hashes index)
     hash° = slot_of_word hashes words bucket index (omega (arith, within-at (suc last) words bucket each.within)) at
 
-    some_vacant : SomeVacant slots
+    some_vacant : HasVacantSlot slots
     some_vacant = index-vacant (let l = word-lt words bucket (omega arith) in omega arith)
 
     -- what the backward shift begins with
@@ -230,7 +230,7 @@ module _ {hashes words : List ℕ} (x : IsIndexed hashes words) where
         }
 
     -- an empty bucket ends the shift where an unsuccessful probe for the hash of the pair ends
-    pub vacant-remove : (vacant : ℕ) × IsVacantBeside (slots_by hashes° words°) bucket vacant
+    pub vacant-remove : (vacant : ℕ) × IsOtherVacancy (slots_from hashes° words°) bucket vacant
         × (probe_distance (length words) (home (length words) (slice_index hashes index)) bucket
         + probe_distance (length words) bucket vacant + 1 ≡ reach hashes (length words) (slice_index hashes index))
     vacant-remove =
@@ -251,7 +251,7 @@ module _ {hashes words : List ℕ} (x : IsIndexed hashes words) where
           before,
         ) in (
           v.0,
-          subst (λ s. IsVacantBeside s bucket v.0) (sym slots-remove)
+          subst (λ s. IsOtherVacancy s bucket v.0) (sym slots-remove)
               (omega (arith, length-set slots bucket None, v.1.within), slot_other slots bucket v.0 None apart ∙ v.1.vacant, apart),
           subst (λ n. probe_distance n (home n hash) bucket + probe_distance n bucket v.0 + 1 ≡ reach hashes n hash) long far,
         )

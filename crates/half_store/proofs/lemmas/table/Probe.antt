@@ -6,16 +6,16 @@ use Rattle.std.proofs.lemmas.Bool.{cases_Bool, lt-ltb, le-ltb, eq-eqb, ne_eqb, a
 use Rattle.std.proofs.lemmas.Option.{same_Some}
 use Rattle.std.proofs.lemmas.List.Sums.{count_by-le-length}
 use borrow.Author.Tests.{ltb-true, eqb-true}
-use Rattle.half_store.specs.Reach.{home, probe_distance, bucket_after, load, is_loaded, reach}
-use Rattle.half_store.specs.Slots.{slot_at, stored, FullBefore, IsVacancyFor, SomeVacant, ProbeInvariant, distance_from_home}
+use Rattle.half_store.specs.Reach.{home, probe_distance, bucket_after, load, loaded_test, reach}
+use Rattle.half_store.specs.Slots.{slot_at, stored, FullBefore, IsSlotVacancy, HasVacantSlot, ProbeInvariant, distance_from_home}
 use Rattle.half_store.proofs.lemmas.table.Circle.{probe_distance-lt, bucket_after-lt, probe_distance-bucket_after}
 use Rattle.half_store.proofs.lemmas.table.Circle.{bucket_after-probe_distance, distance_same}
 use Rattle.half_store.proofs.lemmas.table.Counts.{count_to, count_to-same, count_to-le, count_to_more, count_to-none, count_by-count_to}
 use Rattle.half_store.proofs.lemmas.table.Counts.{ahead_size}
-use Rattle.half_store.proofs.lemmas.table.Reach.{is_loaded-yes, is_loaded-no, loaded_run-is, reach-some}
+use Rattle.half_store.proofs.lemmas.table.Reach.{loaded_test-yes, loaded_test-no, loaded_run-is, reach-some}
 use Rattle.half_store.specs.Work.{Work, looked_more, compared_more}
 use Rattle.half_store.proofs.lemmas.table.Mask.{mask_mod}
-use Rattle.half_store.proofs.lemmas.table.Buckets.{length-slots_by}
+use Rattle.half_store.proofs.lemmas.table.Buckets.{length-slots_from}
 use Rattle.half_store.proofs.lemmas.tally.{looked_more-zero}
 use Rattle.half_store.proofs.lemmas.table.Slots.{Probes, home_distance, Probes-vacancy, Probes-distance, Probes-next, slot_cases, full_from}
 use Rattle.half_store.proofs.lemmas.table.Slots.{home-lt, full-lt, vacancy_for, full_loaded, vacant_unloaded, stored_passes, passes_stored}
@@ -70,12 +70,12 @@ module _ (slots : List (Option ℕ)) where
 
 module _ (slots : List (Option ℕ)) (ordered : ProbeInvariant slots) where
   -- a pair that a probe comes to lies before where the probe for its hash ends
-  pub found-before : (hash p v : ℕ) → slot_at slots p ≡ Some hash → IsVacancyFor slots hash v
+  pub found-before : (hash p v : ℕ) → slot_at slots p ≡ Some hash → IsSlotVacancy slots hash v
       → distance_from_home slots hash p < distance_from_home slots hash v
   found-before hash p v is w = ordered.before p v hash is w.within w.vacant
 
   -- all pairs of the hash lie before where the probe ends
-  pub passed-all : (hash p : ℕ) → IsVacancyFor slots hash p
+  pub passed-all : (hash p : ℕ) → IsSlotVacancy slots hash p
       → passed slots (home (m slots) hash) hash (distance_from_home slots hash p) ≡ count_by (stored (λ held. held == hash)) slots
   passed-all hash p w =
       count_to-same (passes slots (home (m slots) hash) hash (distance_from_home slots hash p))
@@ -90,17 +90,17 @@ module _ (slots : List (Option ℕ)) (ordered : ProbeInvariant slots) where
       ∙ sym (count_by-count_to (stored (λ held. held == hash)) slots None)
 
   module _ (hashes : List ℕ) (counted : SameCounts hashes slots) where
-    pub loaded_where_full : (b : ℕ) → slot_at slots b ≢ None → SomeVacant slots → is_loaded hashes (m slots) b ≡ true
+    pub loaded_where_full : (b : ℕ) → slot_at slots b ≢ None → HasVacantSlot slots → loaded_test hashes (m slots) b ≡ true
     unfolding load
     loaded_where_full b full v =
         let l = full_loaded slots ordered b (full-lt slots b full) full v in
-        is_loaded-yes hashes (m slots) b
+        loaded_test-yes hashes (m slots) b
         (l.0, l.1, l.2, rw (counted (λ hash. nat_lt (probe_distance (m slots) (home (m slots) hash) b) l.0)) l.3)
 
-    pub unloaded_where_vacant : (b : ℕ) → b < (m slots) → slot_at slots b ≡ None → is_loaded hashes (m slots) b ≡ false
+    pub unloaded_where_vacant : (b : ℕ) → b < (m slots) → slot_at slots b ≡ None → loaded_test hashes (m slots) b ≡ false
     unfolding load
     unloaded_where_vacant b in_b none =
-        is_loaded-no hashes (m slots) b
+        loaded_test-no hashes (m slots) b
         (λ size one small. rw (counted (λ hash. nat_lt (probe_distance (m slots) (home (m slots) hash) b) size))
         (vacant_unloaded slots ordered b in_b none size one small))
 
@@ -109,24 +109,24 @@ module _ (slots : List (Option ℕ)) (ordered : ProbeInvariant slots) where
     full_on_the_way b p in_b in_p full k l = grind (arith, common_steps, bucket_after-lt, probe_distance-bucket_after, probe_distance-lt)
 
     -- a probe that ends at an empty bucket has read what `reach` says
-    pub reach_at_vacancy : (hash p : ℕ) → IsVacancyFor slots hash p → reach hashes (m slots) hash ≡ distance_from_home slots hash p + 1
+    pub reach_at_vacancy : (hash p : ℕ) → IsSlotVacancy slots hash p → reach hashes (m slots) hash ≡ distance_from_home slots hash p + 1
     reach_at_vacancy hash p w =
         let in_p : p < (m slots) = w.within in
         let b : ℕ = home (m slots) hash in
         let in_b : b < (m slots) = home-lt (m slots) hash (omega arith) in
         let d : ℕ = probe_distance (m slots) b p in
         let l : d < (m slots) = probe_distance-lt (m slots) b in_b p in_p in
-        let v : SomeVacant slots = (p, in_p, w.vacant) in
+        let v : HasVacantSlot slots = (p, in_p, w.vacant) in
         let run : (k : ℕ) → k < d
-        → is_loaded hashes (m slots) (bucket_after (m slots) b k) ≡ true =
+        → loaded_test hashes (m slots) (bucket_after (m slots) b k) ≡ true =
         λ k x. loaded_where_full (bucket_after (m slots) b k) (full_on_the_way b p in_b in_p w.passed k x) v in
-        let stop : is_loaded hashes (m slots) (bucket_after (m slots) b d) ≡ false =
-        ap (is_loaded hashes (m slots)) (bucket_after-probe_distance (m slots) b in_b p in_p) ∙ unloaded_where_vacant p in_p w.vacant in
+        let stop : loaded_test hashes (m slots) (bucket_after (m slots) b d) ≡ false =
+        ap (loaded_test hashes (m slots)) (bucket_after-probe_distance (m slots) b in_b p in_p) ∙ unloaded_where_vacant p in_p w.vacant in
         let r = loaded_run-is hashes (m slots) ((m slots) - 1) d b in_b (omega arith) (omega arith) run (λ x. stop) in
         reach-some hashes (m slots) hash (omega arith) ∙ omega arith
 
     -- a probe that comes to a pair of its hash has not come so far
-    pub reach_past_pair : (hash p : ℕ) → slot_at slots p ≡ Some hash → SomeVacant slots
+    pub reach_past_pair : (hash p : ℕ) → slot_at slots p ≡ Some hash → HasVacantSlot slots
         → distance_from_home slots hash p + 2 ≤ reach hashes (m slots) hash
     reach_past_pair hash p is v =
         let w = vacancy_for slots hash v in
@@ -134,7 +134,7 @@ module _ (slots : List (Option ℕ)) (ordered : ProbeInvariant slots) where
         omega (arith, reach_at_vacancy hash w.0 w.1)
 
     -- as many buckets are full as pairs are held
-    pub reach_short : (hash : ℕ) → SomeVacant slots → reach hashes (m slots) hash ≤ length hashes + 1
+    pub reach_short : (hash : ℕ) → HasVacantSlot slots → reach hashes (m slots) hash ≤ length hashes + 1
     reach_short hash v =
         let w = vacancy_for slots hash v in
         let p : ℕ = w.0 in
@@ -158,7 +158,7 @@ module _ (slots : List (Option ℕ)) (ordered : ProbeInvariant slots) where
         omega (arith, reach_at_vacancy hash p w.1)
 
 -- a search has passed full buckets, each counted; each pair of the hash among them was compared once, and refused
-pub record EntersByKey (slots : List (Option ℕ)) (hash : ℕ) (Refused : ℕ → Type 0) (bucket : ℕ) (old new : Work) : Type 0 where
+pub record SearchedTo (slots : List (Option ℕ)) (hash : ℕ) (Refused : ℕ → Type 0) (bucket : ℕ) (old new : Work) : Type 0 where
   pub probe : Probes slots hash bucket
   pub asked : new.asked ≡ old.asked
   pub looked : new.looked ≡ old.looked + distance_from_home slots hash bucket
@@ -168,21 +168,21 @@ pub record EntersByKey (slots : List (Option ℕ)) (hash : ℕ) (Refused : ℕ �
 
 pub Searches-start : (slots : List (Option ℕ)) (hash : ℕ) (Refused : ℕ → Type 0) (bucket : ℕ) (w : Work) → bucket < length slots
     → bucket ≡ home (length slots) hash
-    → EntersByKey slots hash Refused bucket w w
+    → SearchedTo slots hash Refused bucket w w
 Searches-start slots hash Refused bucket w in_bucket e = grind (arith, common_steps, home_distance, passed-zero)
 
 module _ {slots : List (Option ℕ)} {hash : ℕ} {Refused : ℕ → Type 0} {bucket : ℕ} {old now : Work}
-    (s : EntersByKey slots hash Refused bucket old now) where
+    (s : SearchedTo slots hash Refused bucket old now) where
   abbrev far : ℕ
   far = distance_from_home slots hash bucket
 
   start_in : home (length slots) hash < length slots
   start_in = home-lt (length slots) hash (omega (arith, s.probe.inside))
 
-  module _ (vacant : SomeVacant slots) (next : ℕ) (new : Work) (e : next ≡ bucket_after (length slots) bucket 1) where
+  module _ (vacant : HasVacantSlot slots) (next : ℕ) (new : Work) (e : next ≡ bucket_after (length slots) bucket 1) where
     goes_on : slot_at slots bucket ≢ None → new.asked ≡ now.asked → new.looked ≡ now.looked + 1
         → new.compared ≡ old.compared + passed slots (home (length slots) hash) hash (far + 1)
-        → (slot_at slots bucket ≡ Some hash → Refused bucket) → EntersByKey slots hash Refused next old new
+        → (slot_at slots bucket ≡ Some hash → Refused bucket) → SearchedTo slots hash Refused next old new
     goes_on full asked looked compared here =
         let one = Probes-distance s.probe vacant next full e in
         record {
@@ -194,13 +194,13 @@ module _ {slots : List (Option ℕ)} {hash : ℕ} {Refused : ℕ → Type 0} {bu
         }
 
     -- the bucket holds another hash
-    pub Searches-skip : (held : ℕ) → slot_at slots bucket ≡ Some held → held ≢ hash → new ≡ looked_more now 1
-        → EntersByKey slots hash Refused next old new
+    pub Searches-skip : (held : ℕ) → slot_at slots bucket ≡ Some held → held ≢ hash → new ≡ looked_more 1 now
+        → SearchedTo slots hash Refused next old new
     Searches-skip held is other work = grind (arith, common_steps, full_from, goes_on, ne_eqb, passed-skip, same_Some, start_in)
 
     -- the bucket holds a pair of the hash, which was refused
-    pub Searches-refused : slot_at slots bucket ≡ Some hash → Refused bucket → new ≡ compared_more 1 (looked_more now 1)
-        → EntersByKey slots hash Refused next old new
+    pub Searches-refused : slot_at slots bucket ≡ Some hash → Refused bucket → new ≡ compared_more 1 (looked_more 1 now)
+        → SearchedTo slots hash Refused next old new
     Searches-refused is no_match work = grind (arith, common_steps, full_from, goes_on, passed-one, start_in)
 
   -- the bucket holds a pair of the hash: at most as many comparisons as there are such pairs
@@ -219,4 +219,4 @@ module _ {slots : List (Option ℕ)} {hash : ℕ} {Refused : ℕ → Type 0} {bu
     Searches-missing = omega (arith, s.compared, passed-all slots ordered hash bucket (Probes-vacancy s.probe none))
 
 -- what the proofs of probes go by
-pub ruleset probe_steps = (common_steps, Probes-ahead, full_from, home_distance, length-slots_by, looked_more-zero, mask_mod, some_read)
+pub ruleset probe_steps = (common_steps, Probes-ahead, full_from, home_distance, length-slots_from, looked_more-zero, mask_mod, some_read)

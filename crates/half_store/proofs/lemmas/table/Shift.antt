@@ -9,13 +9,13 @@ use Rattle.std.proofs.lemmas.List.Elements.{All-from_get_or}
 use Rattle.std.proofs.lemmas.List.Sorted.{IsPermutation-append_comm, IsPermutation-remove, IsPermutation-trans}
 use Rattle.std.proofs.lemmas.Option.{slice_get-get_or}
 use Rattle.std.specs.List.{remove}
-use Rattle.half_store.specs.Slots.{slot_by, slots_by, EachOnce, ProbeInvariant}
+use Rattle.half_store.specs.Slots.{hash_of_word, slots_from, EachOnce, ProbeInvariant}
 use Rattle.half_store.specs.Capacity.{capacity_of, IsBucketCount}
 use Rattle.half_store.specs.Work.{removal_reads}
 use Rattle.half_store.specs.Reach.{reach}
 use Rattle.half_store.specs.StoreRemoval.{moved_word, MovesLast}
 use Rattle.half_store.specs.Table.{IsIndexed}
-use Rattle.half_store.proofs.lemmas.table.Buckets.{slots_by-same, within-at}
+use Rattle.half_store.proofs.lemmas.table.Buckets.{slots_from-same, within-at}
 use Rattle.half_store.proofs.lemmas.table.Counts.{count_to, count_to-same, count_by-count_to}
 use Rattle.half_store.proofs.lemmas.table.History.{reach-permutation}
 
@@ -37,9 +37,9 @@ module _ (pairs index : ℕ) (within : index < pairs) where
 
 -- the hash of a word by one column is that of another word by another
 same_hash : (hashes hashes' : List ℕ) (word' at at' : ℕ) → word' ≡ suc at' → at < length hashes → at' < length hashes'
-    → slice_index hashes' at' ≡ slice_index hashes at → slot_by hashes' word' ≡ slot_by hashes (suc at)
+    → slice_index hashes' at' ≡ slice_index hashes at → hash_of_word hashes' word' ≡ hash_of_word hashes (suc at)
 same_hash hashes hashes' word' at at' is within within' same =
-    ap (slot_by hashes') is ∙ slice_get-get_or hashes' at' 0 within' ∙ ap Some same ∙ sym (slice_get-get_or hashes at 0 within)
+    ap (hash_of_word hashes') is ∙ slice_get-get_or hashes' at' 0 within' ∙ ap Some same ∙ sym (slice_get-get_or hashes at 0 within)
 
 module _ (hashes : List ℕ) (index : ℕ) (within : index < length hashes) where
   abbrev moved : List ℕ
@@ -49,8 +49,8 @@ module _ (hashes : List ℕ) (index : ℕ) (within : index < length hashes) wher
   length-moved = omega (arith, length_push (remove hashes index) (slice_index hashes index), length-remove hashes index within)
 
   -- each word has the hash that it had
-  hash-moved : (word : ℕ) → word ≤ length hashes → slot_by moved (moved_word (length hashes) index word) ≡ slot_by hashes word
-  hash-moved zero l = ap (slot_by moved) (let e : moved_word (length hashes) index 0 ≡ 0 = grind (arith, nat_tests) in e)
+  hash-moved : (word : ℕ) → word ≤ length hashes → hash_of_word moved (moved_word (length hashes) index word) ≡ hash_of_word hashes word
+  hash-moved zero l = ap (hash_of_word moved) (let e : moved_word (length hashes) index 0 ≡ 0 = grind (arith, nat_tests) in e)
   hash-moved (suc at) l =
       let left = length-remove hashes index within in
       elim (cases_lt at index) [
@@ -87,9 +87,9 @@ module _ (hashes : List ℕ) (index : ℕ) (within : index < length hashes) wher
     )
 
   module _ {words words' : List ℕ} (x : IsIndexed hashes words) (m : MovesLast (length hashes) index words words') where
-    slots-moved : slots_by moved words' ≡ slots_by hashes words
-    slots-moved = slots_by-same moved hashes words' words m.len
-        (λ bucket. ap (slot_by moved) (m.words bucket) ∙ hash-moved _ (within-at (length hashes) words bucket x.each.within))
+    slots-moved : slots_from moved words' ≡ slots_from hashes words
+    slots-moved = slots_from-same moved hashes words' words m.len
+        (λ bucket. ap (hash_of_word moved) (m.words bucket) ∙ hash-moved _ (within-at (length hashes) words bucket x.each.within))
 
     each-moved : EachOnce (length hashes) words'
     each-moved = record {

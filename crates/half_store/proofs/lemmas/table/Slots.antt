@@ -8,7 +8,7 @@ use Rattle.std.proofs.lemmas.List.{get_or_past, get_or-set_same, get_or-set_othe
 use borrow.Author.Tests.{ltb-true}
 use Rattle.std.specs.Prelude.{option_map}
 use Rattle.half_store.specs.Reach.{home, probe_distance, bucket_after}
-use Rattle.half_store.specs.Slots.{slot_at, stored, FullBefore, IsVacancyFor, SomeVacant, ProbeInvariant, distance_from_home}
+use Rattle.half_store.specs.Slots.{slot_at, stored, FullBefore, IsSlotVacancy, HasVacantSlot, ProbeInvariant, distance_from_home}
 use Rattle.half_store.proofs.lemmas.table.Circle.{probe_distance-lt, distance_self, bucket_after-lt, next_farther}
 use Rattle.half_store.proofs.lemmas.table.Circle.{probe_distance-bucket_after, bucket_after-probe_distance, distance_same, down-lt}
 use Rattle.half_store.proofs.lemmas.table.Circle.{probe_distance-down, down-probe_distance, home_in_stretch, nearer_than_home, after_is}
@@ -64,7 +64,7 @@ module _ (slots : List (Option ℕ)) where
       ]
 
   -- a probe from b that ends at an empty bucket
-  pub probe_ends : (b : ℕ) → b < m → SomeVacant slots → (p : ℕ) × (p < m) × (slot_at slots p ≡ None) × FullBefore slots b p
+  pub probe_ends : (b : ℕ) → b < m → HasVacantSlot slots → (p : ℕ) × (p < m) × (slot_at slots p ≡ None) × FullBefore slots b p
   probe_ends b in_b (v, in_v, none_v) =
       elim (first_none (λ k. bucket_after m b k) m) [
         | inl all ↦ absurd (all (probe_distance m b v) (probe_distance-lt m b in_b v in_v)
@@ -78,7 +78,7 @@ module _ (slots : List (Option ℕ)) where
         )
       ]
 
-  pub vacancy_for : (hash : ℕ) → SomeVacant slots → (p : ℕ) × IsVacancyFor slots hash p
+  pub vacancy_for : (hash : ℕ) → HasVacantSlot slots → (p : ℕ) × IsSlotVacancy slots hash p
   vacancy_for hash v =
       let w = probe_ends (home m hash) (home-lt m hash (let l = v.1 in omega arith)) v in
       (w.0, record { within = w.1; vacant = w.2; passed = w.3 })
@@ -103,7 +103,7 @@ module _ (slots : List (Option ℕ)) where
 
   module _ (ordered : ProbeInvariant slots) where
     -- the full buckets back to the nearest empty one are a stretch that holds the homes of all its pairs
-    pub full_loaded : (b : ℕ) → b < m → slot_at slots b ≢ None → SomeVacant slots → (size : ℕ) × (1 ≤ size) × (size < m)
+    pub full_loaded : (b : ℕ) → b < m → slot_at slots b ≢ None → HasVacantSlot slots → (size : ℕ) × (1 ≤ size) × (size < m)
         × (size ≤ slots_load b size)
     full_loaded b in_b full (v, in_v, none_v) =
         elim (first_none (λ k. bucket_after m b (m - k)) m) [
@@ -155,11 +155,11 @@ module _ (slots : List (Option ℕ)) (hash bucket : ℕ) (in_bucket : bucket < l
   home_distance = ap (λ b. probe_distance (length slots) b bucket) (sym e) ∙ distance_self (length slots) bucket in_bucket
 
 module _ {slots : List (Option ℕ)} {hash bucket : ℕ} where
-  pub Probes-vacancy : Probes slots hash bucket → slot_at slots bucket ≡ None → IsVacancyFor slots hash bucket
+  pub Probes-vacancy : Probes slots hash bucket → slot_at slots bucket ≡ None → IsSlotVacancy slots hash bucket
   Probes-vacancy w none = record { within = w.inside; vacant = none; passed = w.passed }
 
   -- from a full bucket it goes on to the next, and not past all
-  module _ (w : Probes slots hash bucket) (vacant : SomeVacant slots) (next : ℕ) (full : slot_at slots bucket ≢ None)
+  module _ (w : Probes slots hash bucket) (vacant : HasVacantSlot slots) (next : ℕ) (full : slot_at slots bucket ≢ None)
       (e : next ≡ bucket_after (length slots) bucket 1) where
     in_home : home (length slots) hash < length slots
     in_home = home-lt (length slots) hash (omega (arith, vacant.1))

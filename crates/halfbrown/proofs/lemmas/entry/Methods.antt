@@ -24,7 +24,7 @@ use Rattle.halfbrown.proofs.lemmas.pairs.Changes.{value-set_value_at, swap_remov
 use Rattle.halfbrown.proofs.lemmas.pairs.Changes.{length-swap_remove_at}
 use Rattle.std.proofs.Math.ListN.{length-append}
 use Rattle.half_store.specs.ValueReplacement.{kept_index, kept_pairs, ReplacesValue}
-use Rattle.halfbrown.specs.Replacement.{ReplacesEntry, KeepsPair, LosesPair}
+use Rattle.halfbrown.specs.Replacement.{ReplacesEntry, HasNewValue, IsLost}
 use Rattle.std.specs.declared.cmp.PartialEq as eq
 use Rattle.std.specs.declared.hash.Hash as hash
 use Rattle.halfbrown.specs.declared.key_hasher.KeyHasher as hashers
@@ -189,7 +189,7 @@ module _ {K V S L H : Type 0} {e : eq.Ghosts K} {h : hash.Ghosts K} {b : hashers
   unfolding with_value
   loses_pair v r after =
       let lost = lost_pair r in
-      let loss : LosesPair (Occupied o) r.key (Vacant v) = record {
+      let loss : IsLost (Occupied o) r.key (Vacant v) = record {
         key_is = ap Some (sym lost.2);
         no_value = refl;
         map = record { pairs = lost.1; form = after.form; capacity = after.capacity; builder = after.builder };
@@ -207,8 +207,8 @@ module _ {K V S L H : Type 0} {e : eq.Ghosts K} {h : hash.Ghosts K} {b : hashers
         answer = r.answer;
         pair = r.pair;
         answered = r.answered;
-        after = subst (λ answer. MatchOption answer (LosesPair (Occupied o) r.key (Vacant v))
-            (λ value. KeepsPair (Occupied o) r.key value (Vacant v))) (sym lost.0) loss;
+        after = subst (λ answer. MatchOption answer (IsLost (Occupied o) r.key (Vacant v))
+            (λ value. HasNewValue (Occupied o) r.key value (Vacant v))) (sym lost.0) loss;
       }
 
   -- the pair has another value
@@ -219,7 +219,7 @@ module _ {K V S L H : Type 0} {e : eq.Ghosts K} {h : hash.Ghosts K} {b : hashers
   keeps_pair p r at after =
       let kept = kept_value r in
       let there = kept_there o.within r at in
-      let keep : KeepsPair (Occupied o) r.key kept.0 (Occupied p) = record {
+      let keep : HasNewValue (Occupied o) r.key kept.0 (Occupied p) = record {
         pair = there.pair;
         key_is = key_of-pair p.map.now.pairs p.index ∙ ap (option_map (λ (q : K × V). q.0)) there.pair;
         value_is = there.value;
@@ -233,6 +233,6 @@ module _ {K V S L H : Type 0} {e : eq.Ghosts K} {h : hash.Ghosts K} {b : hashers
         answer = r.answer;
         pair = r.pair;
         answered = r.answered;
-        after = subst (λ answer. MatchOption answer (LosesPair (Occupied o) r.key (Occupied p))
-            (λ value. KeepsPair (Occupied o) r.key value (Occupied p))) (sym kept.1) keep;
+        after = subst (λ answer. MatchOption answer (IsLost (Occupied o) r.key (Occupied p))
+            (λ value. HasNewValue (Occupied o) r.key value (Occupied p))) (sym kept.1) keep;
       }

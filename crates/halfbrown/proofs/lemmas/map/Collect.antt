@@ -6,8 +6,8 @@ use Rattle.std.proofs.lemmas.List.{reverse-append}
 use Rattle.std.specs.Cmp.{IsEquivalence}
 use Rattle.std.specs.Map.{keys_of}
 use Rattle.std.specs.Option.{option_or}
-use Rattle.halfbrown.specs.FromIter.{put_all, collected, last_value_of, InsertsAll, Extends, IsCollection, IsRefusedInsertion}
-use Rattle.halfbrown.specs.FromIter.{IsRefusedCollection, insertions_cost, refused_cost}
+use Rattle.halfbrown.specs.FromIter.{put_all, collected, last_value_of, InsertsAll, Extends, Collects, RefusedInsert}
+use Rattle.halfbrown.specs.FromIter.{RefusedCollect, insertions_cost, refused_cost}
 use Rattle.halfbrown.specs.Pairs.{value_of, put}
 use Rattle.halfbrown.proofs.CallerFacts.{holds_by-any}
 use Rattle.halfbrown.proofs.CallerLemmas.{keys_put, lookup_put}
@@ -21,7 +21,7 @@ use Rattle.halfbrown.specs.Costs.{GrewBy, no_cost, add_costs, insert_cost}
 use Rattle.halfbrown.specs.Growth.{insert_needs, IsRefusal}
 use Rattle.halfbrown.specs.Insertion.{Puts}
 use Rattle.halfbrown.specs.Making.{IsMade}
-use Rattle.halfbrown.specs.State.{State, IsState}
+use Rattle.halfbrown.specs.State.{State, IsValid}
 use Rattle.halfbrown.proofs.lemmas.map.Costs.{costs_assoc, none_more, more_none, spent_both}
 
 module _ {K V : Type 0} (eq : K → K → Bool) where
@@ -70,8 +70,8 @@ module _ {K V S : Type 0} (limit : ℕ) (eq : K → K → Bool) where
   inserts_builder old new (p ∷ items) inserts = inserts_builder inserts.0 new items inserts.3 ∙ inserts.1.builder
 
   pub inserts_state : (old new : State K V S) (items : List (K × V)) → InsertsAll limit eq old items new
-      → IsState eq limit old → IsState eq limit new
-  inserts_state old new [] inserts state = subst (IsState eq limit) (sym inserts) state
+      → IsValid eq limit old → IsValid eq limit new
+  inserts_state old new [] inserts state = subst (IsValid eq limit) (sym inserts) state
   inserts_state old new (p ∷ items) inserts state = inserts_state inserts.0 new items inserts.3 inserts.2
 
   abbrev pub extends_of : IsEquivalence eq → (old new : State K V S) (items : List (K × V))
@@ -91,7 +91,7 @@ module _ {K V S : Type 0} (limit : ℕ) (eq : K → K → Bool) where
   module _ (hash : S → K → ℕ) where
     -- one item more
     inserts_more : (old middle new : State K V S) (items : List (K × V)) (k : K) (v : V) (inserts : InsertsAll limit eq old items middle)
-        → Puts limit eq middle k v (insert_needs limit eq middle k) new → IsState eq limit new
+        → Puts limit eq middle k v (insert_needs limit eq middle k) new → IsValid eq limit new
         → (more : InsertsAll limit eq old (items ++ (k, v) ∷ []) new) × (insertions_cost limit eq hash old (items ++ (k, v) ∷ []) new more
         ≡ add_costs (insertions_cost limit eq hash old items middle inserts) (insert_cost limit eq hash middle k true))
     inserts_more old middle new [] k v same puts state =
@@ -114,7 +114,7 @@ module _ {K V S : Type 0} (limit : ℕ) (eq : K → K → Bool) where
 
     pub item_more : (old now new : State K V S) (items : List (K × V)) (k : K) (v : V) (before middle after : Work)
         → InsertsSoFar old items now before middle
-        → Puts limit eq now k v (insert_needs limit eq now k) new → IsState eq limit new
+        → Puts limit eq now k v (insert_needs limit eq now k) new → IsValid eq limit new
         → GrewBy (insert_cost limit eq hash now k true) middle after
         → InsertsSoFar old (items ++ (k, v) ∷ []) new before after
     item_more old now new items k v before middle after so_far puts state grew =
@@ -131,10 +131,10 @@ module _ {K V S : Type 0} (limit : ℕ) (eq : K → K → Bool) where
         (before middle after : Work)
         → InsertsSoFar old items now before middle → given (items ++ (k, v) ∷ []) → new ≡ now → IsRefusal (insert_needs limit eq now k) why
         → GrewBy (insert_cost limit eq hash now k false) middle after
-        → (refused : IsRefusedInsertion limit eq given old why new) × GrewBy (refused_cost limit eq hash refused) before after
+        → (refused : RefusedInsert limit eq given old why new) × GrewBy (refused_cost limit eq hash refused) before after
     item_refused old now new items given k v why before middle after so_far was_given same refused grew =
         let cost = insertions_cost limit eq hash old items now so_far.inserted in
-        subst (λ m. (refused : IsRefusedInsertion limit eq given old why m) × GrewBy (refused_cost limit eq hash refused) before after)
+        subst (λ m. (refused : RefusedInsert limit eq given old why m) × GrewBy (refused_cost limit eq hash refused) before after)
         (sym same) (
           record { before = items; key = k; value = v; were_given = was_given; inserted = so_far.inserted; refused = refused },
           spent_both cost (insert_cost limit eq hash now k false) before middle after so_far.spent grew,
@@ -151,7 +151,7 @@ module _ {K V S : Type 0} (limit : ℕ) (eq : K → K → Bool) where
   module _ (laws : IsEquivalence eq) (is_default : S → Type 0) (needed : ℕ) where
     abbrev pub collection_of : (made new : State K V S) (items : List (K × V)) → IsMade is_default (nat_le needed limit) needed made
         → InsertsAll limit eq made items new
-        → IsCollection limit eq is_default needed items new
+        → Collects limit eq is_default needed items new
     collection_of made new items is_made inserts =
         let pairs = inserts_pairs made new items inserts ∙ ap (λ ps. put_all eq ps items) is_made.pairs in
         record {
@@ -167,8 +167,8 @@ module _ {K V S : Type 0} (limit : ℕ) (eq : K → K → Bool) where
     -- a refusal of items, of which more is known
     pub refusal_given : (given known : List (K × V) → Type 0) (why : Refusal)
         → ((items : List (K × V)) → given items → known items)
-        → IsRefusedCollection limit eq is_default needed given why
-        → IsRefusedCollection limit eq is_default needed known why
+        → RefusedCollect limit eq is_default needed given why
+        → RefusedCollect limit eq is_default needed known why
     refusal_given given known why also (inl refused) = inl refused
     refusal_given given known why also (inr item) =
         let i = item.insertion in

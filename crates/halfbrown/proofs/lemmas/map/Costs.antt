@@ -4,13 +4,13 @@ use Rattle.std.proofs.Common.{length, if◌then◌else◌}
 use Rattle.std.proofs.lemmas.Grind.{common_steps}
 use Rattle.half_store.specs.Work.{Work, asked_more, looked_more}
 use Rattle.halfbrown.specs.Costs.{Cost, GrewBy, no_cost, add_costs, IsLookupCost, IsKeySearchCost, switch_asked, capacity_after_switch}
-use Rattle.halfbrown.specs.Costs.{IsInsertCost, raw_insert_cost, hit_looks}
+use Rattle.halfbrown.specs.Costs.{IsInsertCost, raw_insert_cost, hit_reads}
 use Rattle.half_store.specs.PairLists.{index_of}
 use Rattle.std.specs.Map.{keys_of}
 use Rattle.halfbrown.specs.State.{State}
 use Rattle.halfbrown.specs.Growth.{is_full, is_vec_after, new_key_needs}
 use Rattle.halfbrown.specs.Pairs.{holds}
-use Rattle.halfbrown.specs.Insertion.{growth_looks, Prepares}
+use Rattle.halfbrown.specs.Insertion.{growth_reads, Prepares}
 use Rattle.halfbrown.proofs.lemmas.pairs.Indices.{found_where_held}
 use Rattle.halfbrown.specs.RawEntry.{after_adding}
 
@@ -31,9 +31,9 @@ pub spent_both : (a b : Cost) (before middle after : Work) → GrewBy a before m
 spent_both a b before middle after first second = grind (arith, common_steps)
 
 -- a search under what a key writes is one under the key's hash
-pub key_costs : {K V S : Type 0} (eq : K → K → Bool) (hash : S → K → ℕ) (m : State K V S) (k : K) (sought : ℕ) (before after : Work)
-    → hash m.builder k ≡ sought → IsLookupCost hash sought (eq k) m before after → IsKeySearchCost eq hash m k before after
-key_costs eq hash m k sought before after same costs = subst (λ h. IsLookupCost hash h (eq k) m before after) (sym same) costs
+pub key_costs : {K V S : Type 0} (eq : K → K → Bool) (hash : S → K → ℕ) (m : State K V S) (k : K) (wanted : ℕ) (before after : Work)
+    → hash m.builder k ≡ wanted → IsLookupCost hash wanted (eq k) m before after → IsKeySearchCost eq hash m k before after
+key_costs eq hash m k wanted before after same costs = subst (λ h. IsLookupCost hash h (eq k) m before after) (sym same) costs
 
 module _ {K V S : Type 0} (limit : ℕ) (eq : K → K → Bool) (hash : S → K → ℕ) (old : State K V S) (k : K)
     (middle : State K V S) (before between after : Work) (form : middle.is_vec ≡ is_vec_after limit old)
@@ -42,12 +42,12 @@ module _ {K V S : Type 0} (limit : ℕ) (eq : K → K → Bool) (hash : S → K 
     (spent : between ≡ asked_more (switch_asked limit old) before) (search : IsKeySearchCost eq hash middle k between after) where
   -- what a search in a table read that finds its key
   hit-read : (is_full limit old ≡ false → middle ≡ old) → old.is_vec ≡ false
-      → IfSome (index_of (eq k) (keys_of old.pairs)) (λ index. after.looked ≡ before.looked + hit_looks old index)
+      → IfSome (index_of (eq k) (keys_of old.pairs)) (λ index. after.looked ≡ before.looked + hit_reads old index)
   hit-read same table =
       let is : middle ≡ old = same (ap (λ v. v && (length old.pairs == limit)) table) in
       let read = search.hit (ap (λ (m : State K V S). m.is_vec) is ∙ table) in
-      subst (λ n. IfSome (index_of (eq k) (keys_of old.pairs)) (λ index. after.looked ≡ n + hit_looks old index)) (ap (λ (w : Work). w.looked) spent)
-      (subst (λ (m : State K V S). IfSome (index_of (eq k) (keys_of m.pairs)) (λ index. after.looked ≡ between.looked + hit_looks m index)) is read)
+      subst (λ n. IfSome (index_of (eq k) (keys_of old.pairs)) (λ index. after.looked ≡ n + hit_reads old index)) (ap (λ (w : Work). w.looked) spent)
+      (subst (λ (m : State K V S). IfSome (index_of (eq k) (keys_of m.pairs)) (λ index. after.looked ≡ between.looked + hit_reads m index)) is read)
 
   pub held_costs : (is_full limit old ≡ false → middle ≡ old) → holds eq old.pairs k ≡ true → IsInsertCost limit eq hash old k true before after
   held_costs same held = grind (arith, common_steps, hit-read, found_where_held (eq k) old.pairs)
@@ -56,10 +56,10 @@ module _ {K V S : Type 0} (limit : ℕ) (eq : K → K → Bool) (hash : S → K 
   pub unmade_costs : is_full limit old ≡ false → IsInsertCost limit eq hash old k false before after
   unmade_costs room = grind (arith, common_steps)
 
-  pub missing_costs : (sought : ℕ) → (middle.is_vec ≡ false → sought ≡ hash middle.builder k) → (final : Work)
-      → final ≡ looked_more after (growth_looks (hash middle.builder) middle sought true) → holds eq old.pairs k ≡ false
+  pub missing_costs : (wanted : ℕ) → (middle.is_vec ≡ false → wanted ≡ hash middle.builder k) → (final : Work)
+      → final ≡ looked_more (growth_reads (hash middle.builder) middle wanted true) after → holds eq old.pairs k ≡ false
       → IsInsertCost limit eq hash old k true before final
-  missing_costs sought own final probed missing = grind (arith, common_steps, found_where_held (eq k) old.pairs)
+  missing_costs wanted own final probed missing = grind (arith, common_steps, found_where_held (eq k) old.pairs)
 
 pub raw_costs : {K V S : Type 0} (limit : ℕ) (eq : K → K → Bool) (hash : S → K → ℕ) (old m : State K V S) (k : K)
     → Prepares limit old (new_key_needs limit old) m → length m.pairs < m.capacity

@@ -11,7 +11,7 @@ use Rattle.halfbrown.specs.Costs.{IsSearchCost}
 use Rattle.halfbrown.specs.State.{State, contents_of}
 use Rattle.std.proofs.Props.{props}
 use Rattle.half_store.specs.Store.{IsVacancy, StoreState}
-use Rattle.half_store.specs.Table.{Contents, hit_reads, all_hit_reads}
+use Rattle.half_store.specs.Table.{Contents, hit_reads_in, all_hit_reads_in}
 use Rattle.half_store.specs.declared.store.find.Vacancy.{Vacancy}
 use Rattle.half_store.specs.declared.vecmap.search.Scan.{Scan}
 use Rattle.std.proofs.lemmas.Option.{same_Some, slice_get-get_or, slice_get-map}
@@ -24,21 +24,21 @@ use Rattle.halfbrown.specs.Layout.{state_in}
 use Rattle.halfbrown.specs.Lookup.{IsIndexOf, IsAbsent, KeySearch, IsMatch, HasNoMatch, MatchSearch}
 use Rattle.halfbrown.proofs.lemmas.pairs.Indices.{first_matched, index_of_first, none_at, absent_of_none}
 
-module _ {K V S : Type 0} (hash : S → K → ℕ) (sought : ℕ) (m : State K V S) (before after : Work) where
+module _ {K V S : Type 0} (hash : S → K → ℕ) (wanted : ℕ) (m : State K V S) (before after : Work) where
   -- what a search by a match costs, from what the store says of its work
   pub match_costs : (is_vec : Bool) → m.is_vec ≡ is_vec → (scan : Scan) (index : Option ℕ) (hashes : List ℕ)
       → (is_vec ≡ false → hashes ≡ map (hash m.builder) (keys_of m.pairs))
       → (is_vec ≡ true → ComparesInOrder scan index (length m.pairs) before after)
-      → (is_vec ≡ false → IfSome index (λ _. IsTableHitCost hashes (buckets_of m.capacity) sought before after))
-      → (is_vec ≡ false → IfNone index (after ≡ after_missing hashes (buckets_of m.capacity) sought before))
-      → (is_vec ≡ false → IfSome index (λ at. after.looked ≡ before.looked + hit_reads (contents_of m) at))
-      → (is_vec ≡ false → all_hit_reads (length hashes) (contents_of m) ≡ filling_reach (buckets_of m.capacity) hashes)
-      → (is_vec ≡ false → reach hashes (buckets_of m.capacity) sought ≤ length hashes + 1) → IsSearchCost hash sought m index 0 before after
+      → (is_vec ≡ false → IfSome index (λ _. IsTableHitCost hashes (buckets_of m.capacity) wanted before after))
+      → (is_vec ≡ false → IfNone index (after ≡ after_missing hashes (buckets_of m.capacity) wanted before))
+      → (is_vec ≡ false → IfSome index (λ at. after.looked ≡ before.looked + hit_reads_in (contents_of m) at))
+      → (is_vec ≡ false → all_hit_reads_in (length hashes) (contents_of m) ≡ filling_reach (buckets_of m.capacity) hashes)
+      → (is_vec ≡ false → reach hashes (buckets_of m.capacity) wanted ≤ length hashes + 1) → IsSearchCost hash wanted m index 0 before after
   match_costs is_vec form scan index hashes is_map vector found missing hit hits near = grind (arith, common_steps, length-keys_of)
 
-module _ {K V S : Type 0} (hash : S → K → ℕ) (sought own : ℕ) (m : State K V S) (before after : Work) (index : Option ℕ) where
+module _ {K V S : Type 0} (hash : S → K → ℕ) (wanted own : ℕ) (m : State K V S) (before after : Work) (index : Option ℕ) where
   -- the costs under one hash are those under another that is the same in a table
-  pub costs_for_other : (m.is_vec ≡ false → sought ≡ own) → IsSearchCost hash sought m index 0 before after
+  pub costs_for_other : (m.is_vec ≡ false → wanted ≡ own) → IsSearchCost hash wanted m index 0 before after
       → IsSearchCost hash own m index 0 before after
   costs_for_other same costs = grind (arith, common_steps)
 
@@ -56,35 +56,35 @@ vacancy-prop is_vec contents hash vacancy = Prim.hlevel props
 -- What a search by a match on keys says of a key, where the match is the test of one.
 
 -- the index that a search by a test found is that of the first key that passes
-module _ {K V S : Type 0} (test : K → Bool) (sought : ℕ) (m : State K V S) where
-  pub found_is_index : (result : Result ℕ Vacancy) → KeySearch test sought m result → result_ok result ≡ index_of test (keys_of m.pairs)
+module _ {K V S : Type 0} (test : K → Bool) (wanted : ℕ) (m : State K V S) where
+  pub found_is_index : (result : Result ℕ Vacancy) → KeySearch test wanted m result → result_ok result ≡ index_of test (keys_of m.pairs)
   found_is_index result at = grind (arith, common_steps)
 
 module _ {K V S : Type 0} (test : K → Bool) (returns : K → Bool → Type 0) (decides : (k : K) (b : Bool) → returns k b → b ≡ test k)
     (eq : K → K → Bool) (one_class : (k other : K) → test k ≡ true → test other ≡ eq k other)
-    (hash : S → K → ℕ) (sought : ℕ) (m : State K V S) (distinct : IsDistinct eq (keys_of m.pairs)) where
+    (hash : S → K → ℕ) (wanted : ℕ) (m : State K V S) (distinct : IsDistinct eq (keys_of m.pairs)) where
   -- the key that is accepted is the one that passes
-  index_of_match : (index : ℕ) → IsMatch returns hash sought m index → IsIndexOf test m.pairs index
+  index_of_match : (index : ℕ) → IsMatch returns hash wanted m index → IsIndexOf test m.pairs index
   index_of_match index found =
       let within : index < length (keys_of m.pairs) = omega (arith, found.within, length-keys_of m.pairs) in
       index_of_first test m.pairs index (first_matched test eq one_class (keys_of m.pairs) index distinct within
       (λ d. decides (get_or (keys_of m.pairs) index d) true (found.accepted _ (slice_get-get_or (keys_of m.pairs) index d within))))
 
-  module _ (own : ℕ) (known : m.is_vec ≡ false → sought ≡ own) (hashed : (k : K) → test k ≡ true → hash m.builder k ≡ own) where
+  module _ (own : ℕ) (known : m.is_vec ≡ false → wanted ≡ own) (hashed : (k : K) → test k ≡ true → hash m.builder k ≡ own) where
     -- where each key of the hash is refused none passes
-    absent_of_no_match : HasNoMatch returns hash sought m → IsAbsent test m.pairs
+    absent_of_no_match : HasNoMatch returns hash wanted m → IsAbsent test m.pairs
     absent_of_no_match none =
         absent_of_none test m.pairs (none_at test (keys_of m.pairs) (λ j d within.
         let k = get_or (keys_of m.pairs) j d in
         grind (arith, common_steps, decides k false, hashed k, none.refused j k, slice_get-get_or (keys_of m.pairs) j d within)))
 
     -- a search by the match is one for the key, under its own hash
-    pub looks_up : (result : Result ℕ Vacancy) → MatchSearch returns hash sought m result → KeySearch test own m result
+    pub looks_up : (result : Result ℕ Vacancy) → MatchSearch returns hash wanted m result → KeySearch test own m result
     looks_up result found = grind (arith, common_steps, absent_of_no_match, index_of_match, vacancy_for)
 
-module _ {K V S : Type 0} (returns : K → Bool → Type 0) (hash : S → K → ℕ) (sought : ℕ) (s : StoreState K V) (builder : S)
+module _ {K V S : Type 0} (returns : K → Bool → Type 0) (hash : S → K → ℕ) (wanted : ℕ) (s : StoreState K V) (builder : S)
     (hashed : s.is_vec ≡ false → s.hashes ≡ map (hash builder) (keys_of s.pairs)) where
   -- a search of the store by the match is one of the map
-  pub matches_of : (result : Result ℕ Vacancy) → StoreSearch returns sought s result
-      → MatchSearch returns hash sought (state_in s builder) result
+  pub matches_of : (result : Result ℕ Vacancy) → StoreSearch returns wanted s result
+      → MatchSearch returns hash wanted (state_in s builder) result
   matches_of result found = grind (arith, common_steps, same_Some, slice_get, slice_get-map)

@@ -4,8 +4,8 @@ use Rattle.std.specs.Map.{keys_of, values_of}
 use Rattle.half_store.proofs.lemmas.store.States.{length-set_values}
 use Rattle.half_store.specs.PairLists.{set_values}
 use Rattle.half_store.specs.Store.{StoreState, store_with_pairs}
-use Rattle.halfbrown.specs.Layout.{IsKept, state_in}
-use Rattle.halfbrown.specs.State.{State, IsState, with_pairs}
+use Rattle.halfbrown.specs.Layout.{IsMapInvariant, state_in}
+use Rattle.halfbrown.specs.State.{State, IsValid, with_pairs}
 use Rattle.halfbrown.specs.Updates.{HasValues, KeepsKeys}
 use Rattle.halfbrown.proofs.lemmas.map.Layout.{kept_keys, state_of}
 use Rattle.std.proofs.iter.runs.Sources.{from_front, as_is}
@@ -36,8 +36,8 @@ module _ {K V : Type 0} where
   has_values ps vs = record { keys = keys_of-set_values ps vs; values = values_of-set_values ps vs; len = length-set_values ps vs }
 
   -- the fields keep what they keep, whatever values are written
-  pub kept_written : (eq : K → K → Bool) (hash : K → ℕ) (limit : ℕ) (s : StoreState K V) → IsKept eq hash limit s → (vs : List V)
-      → IsKept eq hash limit (store_with_pairs s (set_values s.pairs vs))
+  pub kept_written : (eq : K → K → Bool) (hash : K → ℕ) (limit : ℕ) (s : StoreState K V) → IsMapInvariant eq hash limit s → (vs : List V)
+      → IsMapInvariant eq hash limit (store_with_pairs s (set_values s.pairs vs))
   kept_written eq hash limit s kept vs =
       kept_keys eq hash limit s (set_values s.pairs vs) kept (keys_of-set_values s.pairs vs) (length-set_values s.pairs vs)
 
@@ -54,14 +54,14 @@ module _ {K V S : Type 0} (eq : K → K → Bool) (hash : K → ℕ) (limit : �
       → state_in (store_with_pairs s (set_values s.pairs vs)) builder ≡ with_pairs map (set_values map.pairs vs)
   comes_back vs = ap (λ m. with_pairs m (set_values m.pairs vs)) is
 
-  pub lent_values : IsKept eq hash limit s → length s.pairs < 2 ^ 63 → LentValues
+  pub lent_values : IsMapInvariant eq hash limit s → length s.pairs < 2 ^ 63 → LentValues
   lent_values kept small = record {
     back = comes_back;
     pairs = ap (λ m. m.pairs) is;
     keeps = record {
       small = omega (arith, ap (λ m. length m.pairs) is);
       written = has_values map.pairs;
-      state = λ vs. subst (IsState eq limit) (comes_back vs)
+      valid = λ vs. subst (IsValid eq limit) (comes_back vs)
           (state_of eq hash limit (store_with_pairs s (set_values s.pairs vs)) builder (kept_written eq hash limit s kept vs));
     };
   }

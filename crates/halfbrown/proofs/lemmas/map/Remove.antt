@@ -9,14 +9,14 @@ use Rattle.std.proofs.lemmas.Option.{slice_get_past, slice_get_within}
 use Rattle.std.specs.Option.{option_map}
 use Rattle.std.specs.Prelude.{Result, Ok, Err, IfNone}
 use Rattle.half_store.specs.PairLists.{swap_remove_at}
-use Rattle.half_store.specs.StoreRemoval.{TakesFound, ShiftRemoves}
+use Rattle.half_store.specs.StoreRemoval.{RemovesFound, StoreShiftRemoves}
 use Rattle.half_store.specs.Store.{StoreState}
 use Rattle.half_store.specs.declared.store.find.Vacancy.{Vacancy}
-use Rattle.halfbrown.specs.Layout.{IsKept, state_in}
+use Rattle.halfbrown.specs.Layout.{IsMapInvariant, state_in}
 use Rattle.halfbrown.specs.Lookup.{KeySearch, FindsIndex}
 use Rattle.halfbrown.specs.Pairs.{take_out_by}
-use Rattle.halfbrown.specs.Removal.{Removes, RemovesAt, RemovesInOrder, RemovesInOrderAt}
-use Rattle.halfbrown.specs.State.{State, IsState, WithPairs}
+use Rattle.halfbrown.specs.Removal.{Removes, RemovesAt, ShiftRemoves, ShiftRemovesAt}
+use Rattle.halfbrown.specs.State.{State, IsValid, WithPairs}
 use Rattle.halfbrown.specs.Updates.{HasRemovedBy}
 use Rattle.halfbrown.proofs.CallerLemmas.{has_left, has_all, has_removed_by}
 use Rattle.halfbrown.proofs.lemmas.map.Layout.{kept_taken, state_of, kept_as}
@@ -29,8 +29,8 @@ use Rattle.halfbrown.proofs.lemmas.pairs.Changes.{map-remove, IsDistinct-remove,
 
 module _ {K V S : Type 0} (limit : ℕ) (eq : K → K → Bool) (test : K → Bool) (old new : State K V S) where
   -- the pairs without the one whose key passes
-  pub removed_as : {R : Type 0} → IsEquivalence eq → ((k other : K) → test k ≡ true → test other ≡ eq k other) → IsState eq limit old
-      → IsState eq limit new
+  pub removed_as : {R : Type 0} → IsEquivalence eq → ((k other : K) → test k ≡ true → test other ≡ eq k other) → IsValid eq limit old
+      → IsValid eq limit new
       → WithPairs old (take_out_by test old.pairs) new → (held result : Option R) → result ≡ held → IfNone result (new ≡ old)
       → Removes limit eq test old held result new
   removed_as laws one_class before now after held result gives unchanged = grind (arith, common_steps, has_removed_by)
@@ -44,25 +44,25 @@ module _ {K V S : Type 0} (limit : ℕ) (eq : K → K → Bool) (test : K → Bo
 
 -- a store without the pair that a search of it found
 module _ {K V S : Type 0} (limit : ℕ) (eq : K → K → Bool) (laws : IsEquivalence eq) (hash : K → ℕ) (builder : S) (old new : StoreState K V)
-    (kept : IsKept eq hash limit old) where
+    (kept : IsMapInvariant eq hash limit old) where
   -- keeps what the fields of a map keep
-  pub kept_found : (search : Result ℕ Vacancy) (result : Option (K × V)) → TakesFound old new search result → IsKept eq hash limit new
+  pub kept_found : (search : Result ℕ Vacancy) (result : Option (K × V)) → RemovesFound old new search result → IsMapInvariant eq hash limit new
   kept_found (Ok index) (Some pair) taken =
       kept_taken eq hash limit laws old new index kept taken.form (slice_get_within old.pairs index pair taken.removed) taken.pairs
       taken.hashes
   kept_found (Ok index) None taken = absurd taken
   kept_found (Err vacancy) (Some pair) taken = absurd taken
-  kept_found (Err vacancy) None same = subst (IsKept eq hash limit) (sym same) kept
+  kept_found (Err vacancy) None same = subst (IsMapInvariant eq hash limit) (sym same) kept
 
   abbrev was : State K V S
   was = state_in old builder
 
-  was_state : IsState eq limit was
+  was_state : IsValid eq limit was
   was_state = state_of eq hash limit old builder kept
 
   -- is the map without the pair of the key that was searched for
   pub removes_found : (test : K → Bool) (own : ℕ) → ((k other : K) → test k ≡ true → test other ≡ eq k other)
-      → (search : Result ℕ Vacancy) (result : Option (K × V)) → TakesFound old new search result → KeySearch test own was search
+      → (search : Result ℕ Vacancy) (result : Option (K × V)) → RemovesFound old new search result → KeySearch test own was search
       → Removes limit eq test was (lookup_entry test old.pairs) result (state_in new builder)
   removes_found test own one_class (Ok index) (Some pair) taken found =
       removed_as limit eq test was (state_in new builder) laws one_class was_state
@@ -80,7 +80,7 @@ module _ {K V S : Type 0} (limit : ℕ) (eq : K → K → Bool) (laws : IsEquiva
 
 module _ {K V S : Type 0} (limit : ℕ) (eq : K → K → Bool) (old : State K V S) (index : ℕ) where
   -- the pair at an index is taken out
-  pub removed_at : IsEquivalence eq → (pair : K × V) (new : State K V S) → IsState eq limit old → IsState eq limit new
+  pub removed_at : IsEquivalence eq → (pair : K × V) (new : State K V S) → IsValid eq limit old → IsValid eq limit new
       → slice_get old.pairs index ≡ Some pair
       → WithPairs old (swap_remove_at old.pairs index) new → RemovesAt limit eq old index (Some pair) new
   removed_at laws pair new before now at after =
@@ -91,13 +91,13 @@ module _ {K V S : Type 0} (limit : ℕ) (eq : K → K → Bool) (old : State K V
         removed = subst (HasRemovedBy eq (eq pair.0) old.pairs) (found.take_is ∙ sym after.pairs)
             (has_removed_by eq laws (eq pair.0) (λ k other alike. laws.congr pair.0 k other alike) old.pairs before.distinct);
         unchanged = tt;
-        state = now;
+        valid = now;
       }
 
   -- there is none
-  pub none_removed_at : IsState eq limit old → length old.pairs ≤ index → RemovesAt limit eq old index None old
+  pub none_removed_at : IsValid eq limit old → length old.pairs ≤ index → RemovesAt limit eq old index None old
   none_removed_at before past =
-      record { gives = sym (slice_get_past old.pairs index past); after = tt; removed = tt; unchanged = refl; state = before }
+      record { gives = sym (slice_get_past old.pairs index past); after = tt; removed = tt; unchanged = refl; valid = before }
 
 module _ {K V S : Type 0} (limit : ℕ) (eq : K → K → Bool) (old new : State K V S) where
   -- the last pair is taken out, and the others stay as they are
@@ -108,14 +108,14 @@ module _ {K V S : Type 0} (limit : ℕ) (eq : K → K → Bool) (old new : State
 
 module _ {K V S : Type 0} (limit : ℕ) (eq : K → K → Bool) (laws : IsEquivalence eq) where
   -- a store without the pair at an index
-  module _ (hash : K → ℕ) (builder : S) (old new : StoreState K V) (kept : IsKept eq hash limit old) (index : ℕ) (pair : K × V)
-      (told : ShiftRemoves old new index pair) where
+  module _ (hash : K → ℕ) (builder : S) (old new : StoreState K V) (kept : IsMapInvariant eq hash limit old) (index : ℕ) (pair : K × V)
+      (told : StoreShiftRemoves old new index pair) where
     -- keeps what the fields of a map keep
-    pub kept_shifted : IsKept eq hash limit new
+    pub kept_shifted : IsMapInvariant eq hash limit new
     kept_shifted = grind (arith, common_steps, IsDistinct-remove, kept_as, length-keys_of, length-remove, map, map-remove, slice_get_within)
 
     -- and is the map without it
-    pub removed_in_order : RemovesInOrderAt limit eq (state_in old builder) index (Some pair) (state_in new builder)
+    pub removed_in_order : ShiftRemovesAt limit eq (state_in old builder) index (Some pair) (state_in new builder)
     removed_in_order =
         let found = index_of_pair eq laws old.pairs index pair kept.distinct told.removed in
         record {
@@ -125,20 +125,20 @@ module _ {K V S : Type 0} (limit : ℕ) (eq : K → K → Bool) (laws : IsEquiva
               (has_left eq laws (eq pair.0) (laws.congr pair.0) old.pairs kept.distinct index found (remove old.pairs index)
               (λ p. IsPermutation-remove old.pairs index p found.within));
           unchanged = tt;
-          state = state_of eq hash limit new builder kept_shifted;
+          valid = state_of eq hash limit new builder kept_shifted;
         }
 
-  module _ (old : State K V S) (before : IsState eq limit old) where
+  module _ (old : State K V S) (before : IsValid eq limit old) where
     -- there is none
-    pub none_in_order : (index : ℕ) → length old.pairs ≤ index → RemovesInOrderAt limit eq old index None old
+    pub none_in_order : (index : ℕ) → length old.pairs ≤ index → ShiftRemovesAt limit eq old index None old
     none_in_order index past =
-        record { gives = sym (slice_get_past old.pairs index past); after = tt; removed = tt; unchanged = refl; state = before }
+        record { gives = sym (slice_get_past old.pairs index past); after = tt; removed = tt; unchanged = refl; valid = before }
 
     module _ (test : K → Bool) (one_class : (k other : K) → test k ≡ true → test other ≡ eq k other) where
       -- a removal at the index that a search found
       pub found_in_order : (index : ℕ) (result : Option (K × V)) (new : State K V S) → FindsIndex test old.pairs (Some index)
-          → RemovesInOrderAt limit eq old index result new
-          → RemovesInOrder limit eq test old (lookup_entry test old.pairs) result new
+          → ShiftRemovesAt limit eq old index result new
+          → ShiftRemoves limit eq test old (lookup_entry test old.pairs) result new
       found_in_order index None new found told = absurd (some_is_not_none old.pairs index found.within (sym told.gives))
       found_in_order index (Some pair) new found told =
           let same = remove_found test old.pairs index found.index_is in
@@ -148,7 +148,7 @@ module _ {K V S : Type 0} (limit : ℕ) (eq : K → K → Bool) (laws : IsEquiva
 
       -- a search that found none
       pub absent_in_order : (result : Option (K × V)) → result ≡ None → FindsIndex test old.pairs None
-          → RemovesInOrder limit eq test old (lookup_entry test old.pairs) result old
+          → ShiftRemoves limit eq test old (lookup_entry test old.pairs) result old
       absent_in_order result none absent =
           let same = remove_absent test old.pairs absent.index in
           grind (arith, common_steps, has_all eq laws test one_class old.pairs before.distinct absent, same)
@@ -156,6 +156,6 @@ module _ {K V S : Type 0} (limit : ℕ) (eq : K → K → Bool) (laws : IsEquiva
 -- the same removal, of which the value is returned
 module _ {K V S : Type 0} (limit : ℕ) (eq : K → K → Bool) (old : State K V S) (test : K → Bool) where
   pub value_in_order : (pair : Option (K × V)) (value : Option V) (new : State K V S) → value ≡ option_map (λ p. p.1) pair
-      → RemovesInOrder limit eq test old (lookup_entry test old.pairs) pair new
-      → RemovesInOrder limit eq test old (lookup test old.pairs) value new
+      → ShiftRemoves limit eq test old (lookup_entry test old.pairs) pair new
+      → ShiftRemoves limit eq test old (lookup test old.pairs) value new
   value_in_order pair value new is told = grind (arith, common_steps, value_of_entry)

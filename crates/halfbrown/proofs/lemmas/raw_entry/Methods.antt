@@ -11,7 +11,7 @@ use Rattle.halfbrown.specs.declared.raw_entry.RawVacantEntryMut.{RawVacantEntryM
 use Rattle.halfbrown.specs.Entry.{entry_key, entry_value, map_of, with_value, IsWritten}
 use Rattle.halfbrown.specs.RawEntry.{Occupied, Vacant, found_key, found_pair, found_value, pairs_once_put, PutsThroughRawEntry, PutsEntry}
 use Rattle.halfbrown.specs.RawEntry.{AddsThroughRawEntry, IsRawEntryOf}
-use Rattle.halfbrown.specs.State.{IsState, WithPairs, State}
+use Rattle.halfbrown.specs.State.{IsValid, WithPairs, State}
 use Rattle.halfbrown.proofs.lemmas.pairs.Changes.{key_of-pair, value_of-pair, set_value_at-last, value-last, key-last, set_value_at-twice}
 use Rattle.halfbrown.proofs.lemmas.entry.Methods.{swap_remove_at-last}
 use Rattle.std.proofs.lemmas.Grind.{common_steps}
@@ -163,13 +163,13 @@ module _ {K V S L H : Type 0} {e : eq.Ghosts K} {h : hash.Ghosts K} {b : hashers
 
     -- a pair that is found and left is put with its own key and value
     pub held_puts_pair : (limit : ℕ) (same : K → K → Bool) (entry : RawEntryMut K V S L H e h b l) (o : OccupiedEntry K V S L H e h b l)
-        → entry ≡ Occupied o → (within : o.index < length o.map.now.pairs) → IsState same limit o.map.now
+        → entry ≡ Occupied o → (within : o.index < length o.map.now.pairs) → IsValid same limit o.map.now
         → IfSome (slice_get o.map.now.pairs o.index)
         (λ pair. PutsEntry limit same entry pair.0 pair.1 (record { map = o.map; index = o.index; within = within }))
     held_puts_pair limit same entry o is within state = pair_there _ o.map.now.pairs o.index (λ pair held. record {
       puts = subst (λ value. PutsThroughRawEntry entry pair.0 value (record { map = o.map; index = o.index; within = within }))
           (ap (λ found. unwrap_or (found_value found) pair.1) is ∙ held) (held_puts entry o is pair.0 pair.1 within);
-      state = state;
+      valid = state;
     })
 
 module _ {K : Type 0} (same : K → K → Bool) (laws : IsEquivalence same) (test : K → Bool)
@@ -242,13 +242,13 @@ module _ {K V S L H : Type 0} {e : eq.Ghosts K} {h : hash.Ghosts K} {b : hashers
       → IfSome (slice_get o.map.now.pairs o.index) (λ pair. IsRawEntryOf same (same pair.0) m (Occupied o))
   found_by_match m o is distinct = found_at m o is distinct (slice_get o.map.now.pairs o.index) refl
 
-module _ {K V S : Type 0} (returns : K → Bool → Type 0) (hash_of : S → K → ℕ) (sought : ℕ) where
+module _ {K V S : Type 0} (returns : K → Bool → Type 0) (hash_of : S → K → ℕ) (wanted : ℕ) where
   match_at : (m : State K V S) (index : ℕ) (found : Option (K × V)) → slice_get m.pairs index ≡ found
-      → IsMatch returns hash_of sought m index → ReadsMatch returns hash_of sought m found
+      → IsMatch returns hash_of wanted m index → ReadsMatch returns hash_of wanted m found
   match_at m index None at is = absurd (some_is_not_none m.pairs index is.within at)
   match_at m index (Some pair) at is = (index, at, is)
 
   -- the pair at the index that a match found, in the map that was ready
-  pub found_match : (ready m : State K V S) (index : ℕ) → ready ≡ m → IsMatch returns hash_of sought m index
-      → ReadsMatch returns hash_of sought ready (slice_get m.pairs index)
+  pub found_match : (ready m : State K V S) (index : ℕ) → ready ≡ m → IsMatch returns hash_of wanted m index
+      → ReadsMatch returns hash_of wanted ready (slice_get m.pairs index)
   found_match ready m index is at = grind (arith, common_steps, match_at, slice_get)

@@ -5,8 +5,8 @@ use Rattle.std.proofs.lemmas.List.{length-map, map-append}
 use Rattle.half_store.specs.Work.{Work}
 use Rattle.halfbrown.specs.declared.run.Command.{Command}
 use Rattle.halfbrown.specs.declared.run.Reply.{Reply}
-use Rattle.halfbrown.specs.State.{State, IsState}
-use Rattle.halfbrown.specs.Run.{Step, IsValidStep, is_shrink, Lead, Runs, shrinks, commands_of, replies_of, step_cost, cost_of}
+use Rattle.halfbrown.specs.State.{State, IsValid}
+use Rattle.halfbrown.specs.Run.{Step, IsValidStep, is_shrink, Chain, Runs, has_shrink, commands_of, replies_of, step_cost, cost_of}
 use Rattle.halfbrown.specs.Costs.{GrewBy, add_costs}
 use Rattle.halfbrown.proofs.lemmas.map.Costs.{none_more, more_none, costs_assoc, spent_none, spent_both}
 use Rattle.halfbrown.proofs.lemmas.run.Steps.{PaysTwo, switch_left, step_pays_two}
@@ -16,9 +16,9 @@ neither a b none = grind (arith, common_steps)
 
 module _ {K V S : Type 0} (limit : ℕ) (eq : K → K → Bool) where
   -- steps, and then others
-  pub lead_on : (old between new : State K V S) (first second : List (Step K V S)) → Lead limit eq old first between
-      → Lead limit eq between second new → Lead limit eq old (first ++ second) new
-  lead_on old between new [] second lead next = subst (λ m. Lead limit eq m second new) lead next
+  pub lead_on : (old between new : State K V S) (first second : List (Step K V S)) → Chain limit eq old first between
+      → Chain limit eq between second new → Chain limit eq old (first ++ second) new
+  lead_on old between new [] second lead next = subst (λ m. Chain limit eq m second new) lead next
   lead_on old between new (s ∷ first) second lead next = (lead.0, lead.1, lead.2, lead_on s.after between new first second lead.3 next)
 
   module _ (hash : S → K → ℕ) where
@@ -31,7 +31,7 @@ module _ {K V S : Type 0} (limit : ℕ) (eq : K → K → Bool) where
       -- the steps so far lead from old to now, with the replies so far; these commands are left, and the tally grew by the cost so far
       pub record RunSoFar (now : State K V S) (left : List (Command K V)) (replies : List (Reply K V)) (after : Work) : Type 0 where
         pub steps : List (Step K V S)
-        pub lead : Lead limit eq old steps now
+        pub lead : Chain limit eq old steps now
         pub commands_are : commands ≡ commands_of steps ++ left
         pub replies_are : replies ≡ replies_of steps
         pub spent : GrewBy (cost_of limit eq hash steps) before after
@@ -40,7 +40,7 @@ module _ {K V S : Type 0} (limit : ℕ) (eq : K → K → Bool) where
       no_step = record { steps = []; lead = refl; commands_are = refl; replies_are = refl; spent = spent_none before }
 
       pub step_more : (s : Step K V S) (left : List (Command K V)) (replies : List (Reply K V)) (middle after : Work)
-          → RunSoFar s.before (s.command ∷ left) replies middle → IsValidStep limit eq s → IsState eq limit s.after
+          → RunSoFar s.before (s.command ∷ left) replies middle → IsValidStep limit eq s → IsValid eq limit s.after
           → GrewBy (step_cost limit eq hash s) middle after → RunSoFar s.after left (replies ++ s.reply ∷ []) after
       step_more s left replies middle after so_far step state spent =
           let steps = so_far.steps in
@@ -65,18 +65,18 @@ module _ {K V S : Type 0} (limit : ℕ) (eq : K → K → Bool) where
           (record { steps = so_far.steps; lead = so_far.lead; commands_are = all; replies_are = so_far.replies_are }, so_far.spent)
 
     -- a run without `Shrink`
-    pub steps_pay_two : (old new : State K V S) (steps : List (Step K V S)) → Lead limit eq old steps new
-        → shrinks (commands_of steps) ≡ false → PaysTwo limit (length steps) (cost_of limit eq hash steps).asked old.is_vec new.is_vec
+    pub steps_pay_two : (old new : State K V S) (steps : List (Step K V S)) → Chain limit eq old steps new
+        → has_shrink (commands_of steps) ≡ false → PaysTwo limit (length steps) (cost_of limit eq hash steps).asked old.is_vec new.is_vec
     steps_pay_two old new [] lead none = grind (arith, common_steps, switch_left)
     steps_pay_two old new (s ∷ steps) lead none =
-        let parts = neither (is_shrink s.command) (shrinks (commands_of steps)) none in
+        let parts = neither (is_shrink s.command) (has_shrink (commands_of steps)) none in
         let first = step_pays_two limit eq hash s lead.1 parts.0 in
         let rest = steps_pay_two s.after new steps lead.3 parts.1 in
         let same = ap (λ m. m.is_vec) lead.0 in
         grind (arith, common_steps)
 
     pub run_pays_two : (old new : State K V S) (commands : List (Command K V)) (replies : List (Reply K V))
-        (run : Runs limit eq old commands replies new) → shrinks commands ≡ false
+        (run : Runs limit eq old commands replies new) → has_shrink commands ≡ false
         → PaysTwo limit (length commands) (cost_of limit eq hash run.steps).asked old.is_vec new.is_vec
     run_pays_two old new commands replies run none = grind (arith, common_steps, length-map, steps_pay_two)
 

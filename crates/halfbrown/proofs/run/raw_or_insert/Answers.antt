@@ -1,5 +1,5 @@
 use Rattle.std.proofs.Common.{cond, rules, ◌∙◌}
-use Rattle.halfbrown.specs.RawEntry.{after_adding, ready_map}
+use Rattle.halfbrown.specs.RawEntry.{after_adding, prepared_map}
 use Rattle.halfbrown.proofs.lemmas.map.Costs.{key_costs, raw_costs}
 use Rattle.halfbrown.proofs.run.raw_or_insert.Goals as goal
 
@@ -8,7 +8,7 @@ returns-in-Ok g c =
     let hash = g.S.KeyHasher.hash in
     let key = c.args.key in
     let searched = c.from_key_counted-found.new.tally in
-    let m = ready_map c.in-Ok.entries in
+    let m = prepared_map c.in-Ok.entries in
     let finds = c.from_key_counted-found.ensures.searches.finds in
     record {
       step = search rules;

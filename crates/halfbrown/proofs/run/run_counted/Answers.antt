@@ -41,7 +41,7 @@ loop-command-preserved g c =
     record {
       so_far = subst (λ rs. So c.step.new.map left rs c.step.new.tally) (sym c.push_reserved.ensures.items)
           (step_more g.L.Limit.LIMIT g.K.PartialEq.eq hash old commands before s left replies c.loop-command.tally c.step.new.tally
-          so_far c.step.ensures.step c.len-in-Some.ensures.state c.step.ensures.cost);
+          so_far c.step.ensures.step c.len-in-Some.ensures.valid c.step.ensures.cost);
       capacity = omega (
         arith,
         c.loop-command.invariant.capacity,

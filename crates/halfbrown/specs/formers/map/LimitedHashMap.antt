@@ -24,8 +24,8 @@ use Rattle.half_store.specs.Table.{Contents, contents_code, no_contents}
 use Rattle.half_store.specs.formers.store.Store as store
 use Rattle.half_store.specs.HashMapFormer.{entries_eq-map}
 use Rattle.halfbrown.specs.Equality.{same_pairs}
-use Rattle.halfbrown.specs.Layout.{IsKept}
-use Rattle.halfbrown.specs.State.{State, state, contents_of}
+use Rattle.halfbrown.specs.Layout.{IsMapInvariant}
+use Rattle.halfbrown.specs.State.{State, make_state, contents_of}
 use Rattle.halfbrown.specs.declared.limit.Limit as limits
 use Rattle.halfbrown.specs.declared.map.LimitedHashMap.TheInside.{Inside}
 use Rattle.halfbrown.specs.declared.map.LimitedHashMap.TheView.{view, invariant}
@@ -35,14 +35,14 @@ use Rattle.halfbrown.specs.contracts.map.LimitedHashMap.TheInside as I
 abbrev pub the_former : Former {0} → Type 0 → Type 0 → Type 0 → Type 0 → Former {0}
 the_former g K S L T = via (pair (const Bool) (pair (list (entry g K)) (const (ℕ × (S × Contents))))) (λ X. State K (g.Of X) S)
     (λ X m. (m.is_vec, (m.pairs, (m.capacity, (m.builder, contents_of m)))))
-    (λ X v. state v.0 v.1.0 v.1.1.0 v.1.1.1.0 v.1.1.1.1) (λ X m. refl) (λ X v. refl)
+    (λ X v. make_state v.0 v.1.0 v.1.1.0 v.1.1.1.0 v.1.1.1.1) (λ X m. refl) (λ X v. refl)
 
 abbrev pub the_weighed : {g : Former {0}} → Weighed g → (K S L T : Type 0) → Weighed (the_former g K S L T)
 the_weighed w K S L T =
     record { weight = λ X μ m. most (w.weight X μ) (values_of m.pairs); puts = λ X μ m. entries_puts w K X μ m.pairs }
 
 pub the_empty : (K S L T : Type 0) → K → S → L → T → State K ⊥ S
-the_empty K S L T k s l t = state true [] 0 s no_contents
+the_empty K S L T k s l t = make_state true [] 0 s no_contents
 
 abbrev pub the_items : (K S L T X : Type 0) → State K X S → List X
 the_items K S L T X m = values_of m.pairs
@@ -55,7 +55,7 @@ fields K S L T = via (pair (store.the_former this K) (const S)) (λ X. Inside K 
     (λ X v. record { store = v.0; builder = v.1; limit = record {} }) (λ X u. refl) (λ X v. refl)
 
 module _ {K X : Type 0} (same : K → K → Bool) (hashed : K → ℕ) (limit : ℕ) (s : StoreState K X) where
-  Kept-prop : IsProp (IsKept same hashed limit s)
+  Kept-prop : IsProp (IsMapInvariant same hashed limit s)
   Kept-prop p q = λ i. record {
     distinct = IsDistinct-prop same (keys_of s.pairs) p.distinct q.distinct i;
     fits = le_prop p.fits q.fits i;
@@ -67,9 +67,9 @@ module _ {K X : Type 0} (same : K → K → Bool) (hashed : K → ℕ) (limit : 
 
   module _ {Y : Type 0} (h : X → Y) where
     abbrev KeptMapped : Type 0
-    KeptMapped = IsKept same hashed limit ((store.the_former this K).map X Y h s)
+    KeptMapped = IsMapInvariant same hashed limit ((store.the_former this K).map X Y h s)
 
-    goes : IsKept same hashed limit s → KeptMapped
+    goes : IsMapInvariant same hashed limit s → KeptMapped
     goes p = record {
       distinct = subst (IsDistinct same) (sym (keys_on_values h s.pairs)) p.distinct;
       fits = subst (λ n. n ≤ s.capacity) (sym (length-map s.pairs (on_value h))) p.fits;
@@ -79,7 +79,7 @@ module _ {K X : Type 0} (same : K → K → Bool) (hashed : K → ℕ) (limit : 
       exceeds = p.exceeds;
     }
 
-    comes : KeptMapped → IsKept same hashed limit s
+    comes : KeptMapped → IsMapInvariant same hashed limit s
     comes p = record {
       distinct = subst (IsDistinct same) (keys_on_values h s.pairs) p.distinct;
       fits = subst (λ n. n ≤ s.capacity) (length-map s.pairs (on_value h)) p.fits;

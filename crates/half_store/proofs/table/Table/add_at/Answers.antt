@@ -1,8 +1,8 @@
 use Rattle.std.proofs.Common.{◌≡◌, ◌+◌, ◌<◌, ◌∙◌, suc, length, set, sym, ap, subst, arith}
 use Rattle.std.proofs.lemmas.List.{length-set}
-use Rattle.half_store.specs.Slots.{IsVacancyFor}
+use Rattle.half_store.specs.Slots.{IsSlotVacancy}
 use Rattle.half_store.specs.Capacity.{capacity_of}
-use Rattle.half_store.specs.Table.{slots_of, table_contents, table_state, with_hash_in}
+use Rattle.half_store.specs.Table.{table_slots, table_contents, table_state, with_hash_in}
 use Rattle.half_store.specs.Words.{words_of, AreWordsFor}
 use Rattle.half_store.proofs.lemmas.table.Layout.{IsIndexed-add, IsTable-as, count_seen}
 use Rattle.half_store.proofs.table.Table.add_at.Goals as goal
@@ -16,7 +16,7 @@ invariant_of-self c =
     let x = c.self.invariant in
     let held = ap (λ v. length v.hashes) c.self.view_is in
     let count = ap capacity_of (count_seen _ _ c.self.view_is) in
-    let w = subst (λ s. IsVacancyFor s c.args.hash bucket) (sym (ap slots_of c.self.view_is)) c.requires.vacancy in
+    let w = subst (λ s. IsSlotVacancy s c.args.hash bucket) (sym (ap table_slots c.self.view_is)) c.requires.vacancy in
     let few : length hs < capacity_of (length words) = omega (arith, held, count, c.requires.capacity) in
     let index : c.len-word.result + 1 ≡ suc (length hs) = omega (arith, held, c.len-word.ensures.value) in
     let same = ap capacity_of (length-set words bucket (suc (length hs))) in

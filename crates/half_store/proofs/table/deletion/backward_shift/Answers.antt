@@ -25,7 +25,7 @@ loop-word-init g c =
       read = c.word_at-word.ensures.value;
       apart = one;
       most = refl;
-      counted = c.word_at-word.ensures.counted ∙ looked_more-one w w 0 (looked_more-zero w) ∙ ap (looked_more w) one;
+      counted = c.word_at-word.ensures.counted ∙ looked_more-one w w 0 (looked_more-zero w) ∙ ap (λ n. looked_more n w) one;
       shifts = begun;
       ahead = Ahead-start c.count-count.result c.args.hashes.now words c.args.removed c.next-bucket.result size c.requires.removed e;
     }
@@ -106,7 +106,7 @@ loop-word-preserved g c =
     let a = i.ahead v.0 v.1 in
     let on = one_farther i.shifts a next some e in
     let counted = c.word_at-word-in-loop-word.ensures.counted ∙ looked_more-one c.args.tally.now l.tally _ i.counted
-    ∙ ap (looked_more c.args.tally.now) (sym on) in
+    ∙ ap (λ n. looked_more n c.args.tally.now) (sym on) in
     elim (cases_lt c.probe_distance-from_home.result l.distance) [
       | inr ge ↦
           let into = c.if_less-place.ensures.not_less ge in

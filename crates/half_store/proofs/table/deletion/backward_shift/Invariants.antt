@@ -1,8 +1,8 @@
 use Rattle.std.proofs.Common.{◌≡◌, ℕ, ◌-◌, set, slice_index}
-use Rattle.half_store.specs.Slots.{slots_by}
+use Rattle.half_store.specs.Slots.{slots_from}
 use Rattle.half_store.specs.Work.{looked_more}
 use Rattle.half_store.specs.Reach.{probe_distance}
-use Rattle.half_store.specs.Table.{IsVacantBeside}
+use Rattle.half_store.specs.Table.{IsOtherVacancy}
 use Rattle.half_store.proofs.lemmas.table.Deletion.{Shifts, Ahead}
 use Rattle.half_store.proofs.table.deletion.backward_shift.Given as goal
 
@@ -12,9 +12,9 @@ invariant-loop-word g l = record {
   read : l.word ≡ slice_index (g.B.Words.words l.buckets) l.bucket;
   apart : l.distance ≡ probe_distance l.count l.gap l.bucket;
   most : g.B.Words.most l.buckets ≡ g.B.Words.most l.initial.buckets;
-  counted : l.tally ≡ looked_more l.fn.tally (probe_distance l.count l.removed l.bucket);
+  counted : l.tally ≡ looked_more (probe_distance l.count l.removed l.bucket) l.fn.tally;
   shifts : Shifts l.count l.hashes (g.B.Words.words l.buckets) l.removed l.gap l.bucket;
-  ahead : (vacant : ℕ) → IsVacantBeside (slots_by l.hashes (set (g.B.Words.words l.initial.buckets) l.removed 0)) l.removed vacant
+  ahead : (vacant : ℕ) → IsOtherVacancy (slots_from l.hashes (set (g.B.Words.words l.initial.buckets) l.removed 0)) l.removed vacant
       → Ahead l.count l.hashes (g.B.Words.words l.buckets) l.removed l.gap l.bucket vacant;
 }
 

@@ -43,7 +43,7 @@ loop-bucket-preserved g c =
     record {
       inside = omega (arith, c.next-bucket.ensures.bound, c.count-count.ensures);
       counted = c.word_at.ensures.counted ∙ looked_more-one c.args.tally.now c.loop-bucket.tally _ c.loop-bucket.invariant.counted
-          ∙ ap (looked_more c.args.tally.now) (sym (one_on g c b.0 b.2));
+          ∙ ap (λ n. looked_more n c.args.tally.now) (sym (one_on g c b.0 b.2));
       ahead = λ target is. omega (arith, one_on g c target is, farther g c target is);
     }
 

@@ -10,7 +10,7 @@ invariant-loop-bucket g l =
     let start = home m (slice_index l.hashes l.index) in
     record {
       inside : l.bucket < m;
-      counted : l.tally ≡ looked_more l.initial.tally (probe_distance m start l.bucket);
+      counted : l.tally ≡ looked_more (probe_distance m start l.bucket) l.initial.tally;
       ahead : (target : ℕ) → slice_index (g.B.Words.words l.buckets) target ≡ suc l.index
           → probe_distance m start l.bucket ≤ probe_distance m start target;
     }

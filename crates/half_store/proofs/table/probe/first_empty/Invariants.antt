@@ -1,5 +1,5 @@
 use Rattle.std.proofs.Common.{◌≡◌, ◌-◌, length}
-use Rattle.half_store.specs.Slots.{slots_by, distance_from_home}
+use Rattle.half_store.specs.Slots.{slots_from, distance_from_home}
 use Rattle.half_store.specs.Work.{looked_more}
 use Rattle.half_store.proofs.lemmas.table.Slots.{Probes}
 use Rattle.half_store.proofs.table.probe.first_empty.Given as goal
@@ -7,14 +7,14 @@ use Rattle.half_store.proofs.table.probe.first_empty.Given as goal
 -- full buckets were passed, and each of them was counted
 abbrev pub invariant-loop-bucket : goal.invariant-loop-bucket
 invariant-loop-bucket g l =
-    let slots = slots_by (g.P.Buckets.hashes l.buckets) (g.P.Buckets.words l.buckets) in
+    let slots = slots_from (g.P.Buckets.hashes l.buckets) (g.P.Buckets.words l.buckets) in
     record {
       probe : Probes slots l.hash l.bucket;
-      counted : l.tally ≡ looked_more l.initial.tally (distance_from_home slots l.hash l.bucket);
+      counted : l.tally ≡ looked_more (distance_from_home slots l.hash l.bucket) l.initial.tally;
     }
 
 -- the buckets ahead, once round
 abbrev pub decreases-loop-bucket : goal.decreases-loop-bucket
 decreases-loop-bucket g l =
-    let slots = slots_by (g.P.Buckets.hashes l.buckets) (g.P.Buckets.words l.buckets) in
+    let slots = slots_from (g.P.Buckets.hashes l.buckets) (g.P.Buckets.words l.buckets) in
     length slots - distance_from_home slots l.hash l.bucket

@@ -1,12 +1,12 @@
 use Rattle.std.proofs.Common.{◌-◌, false, slice_index, Some, sym, ap, subst, ◌∙◌, arith}
 use Rattle.std.proofs.lemmas.Grind.{common_steps}
 use Rattle.std.specs.Fn.{FnReturnsAt}
-use Rattle.half_store.specs.Slots.{slots_by}
+use Rattle.half_store.specs.Slots.{slots_from}
 use Rattle.half_store.specs.Reach.{home, bucket_after}
 use Rattle.half_store.specs.Search.{ReturnsAt}
 use Rattle.half_store.specs.Work.{Work, compared_more}
 use Rattle.half_store.proofs.lemmas.counting.{returned_at, key_in_bucket, key_within}
-use Rattle.half_store.proofs.lemmas.table.Buckets.{length-slots_by}
+use Rattle.half_store.proofs.lemmas.table.Buckets.{length-slots_from}
 use Rattle.half_store.proofs.lemmas.table.Slots.{full_from, Probes-ahead}
 use Rattle.half_store.proofs.lemmas.table.Probe.{Searches-start, Searches-skip, Searches-refused, Searches-found, Searches-missing}
 use Rattle.half_store.proofs.table.probe.search.Goals.{else-held-hash-via-then-held-hash+else-compare, else-held-hash-via-else-held-hash}
@@ -15,26 +15,26 @@ use Rattle.half_store.proofs.table.probe.search.Goals as goal
 pub home-bucket-requires : goal.home-bucket-requires
 home-bucket-requires g c = record {
   count = rw c.count-count.ensures c.requires.count;
-  some = omega (arith, c.requires.vacant.1, c.count-count.ensures, length-slots_by);
+  some = omega (arith, c.requires.vacant.1, c.count-count.ensures, length-slots_from);
 }
 
 pub read-requires : goal.read-requires
 read-requires g c = record {
   whole = c.requires.whole;
-  within = omega (arith, c.loop-index.invariant.probe.inside, length-slots_by);
+  within = omega (arith, c.loop-index.invariant.probe.inside, length-slots_from);
 }
 
 pub next-bucket-requires : goal.next-bucket-requires
 next-bucket-requires g c = record {
   count = rw c.count-count.ensures c.requires.count;
-  within = omega (arith, c.loop-index.invariant.probe.inside, c.count-count.ensures, length-slots_by);
+  within = omega (arith, c.loop-index.invariant.probe.inside, c.count-count.ensures, length-slots_from);
 }
 
 pub loop-index-init : goal.loop-index-init
 loop-index-init g c =
     let same = c.count-count.ensures
-    ∙ sym (length-slots_by (g.P.Buckets.hashes c.args.buckets.now) (g.P.Buckets.words c.args.buckets.now)) in
-    Searches-start (slots_by (g.P.Buckets.hashes c.args.buckets.now) (g.P.Buckets.words c.args.buckets.now)) c.args.hash
+    ∙ sym (length-slots_from (g.P.Buckets.hashes c.args.buckets.now) (g.P.Buckets.words c.args.buckets.now)) in
+    Searches-start (slots_from (g.P.Buckets.hashes c.args.buckets.now) (g.P.Buckets.words c.args.buckets.now)) c.args.hash
     (λ bucket. ReturnsAt (FnReturnsAt g.F.Fn c.args.matches.now) c.args.keys.now
     (slice_index (g.P.Buckets.words c.args.buckets.now) bucket - 1) false)
     c.home-bucket.result c.args.tally.now (omega arith) (c.home-bucket.ensures.value ∙ ap (λ m. home m c.args.hash) same)
@@ -82,7 +82,7 @@ returns-then-compare-clause-compared_most g c =
 pub loop-index-preserved : goal.loop-index-preserved
 loop-index-preserved g c =
     let same = c.count-count.ensures
-    ∙ sym (length-slots_by (g.P.Buckets.hashes c.args.buckets.now) (g.P.Buckets.words c.args.buckets.now)) in
+    ∙ sym (length-slots_from (g.P.Buckets.hashes c.args.buckets.now) (g.P.Buckets.words c.args.buckets.now)) in
     let next = c.next-bucket.ensures.value ∙ ap (λ m. bucket_after m c.loop-index.bucket 1) same in
     elim c.else-held-hash.branch [
       | else-held-hash-via-then-held-hash+else-compare w ↦
@@ -99,4 +99,4 @@ loop-index-preserved g c =
     ]
 
 pub loop-index-smaller : goal.loop-index-smaller
-loop-index-smaller g c = grind (arith, common_steps, Probes-ahead, full_from, length-slots_by)
+loop-index-smaller g c = grind (arith, common_steps, Probes-ahead, full_from, length-slots_from)

@@ -1,19 +1,19 @@
 use Rattle.std.proofs.Common.{◌-◌, false, length, slice_index}
 use Rattle.std.specs.Fn.{FnReturnsAt}
-use Rattle.half_store.specs.Slots.{slots_by, distance_from_home}
+use Rattle.half_store.specs.Slots.{slots_from, distance_from_home}
 use Rattle.half_store.specs.Search.{ReturnsAt}
-use Rattle.half_store.proofs.lemmas.table.Probe.{EntersByKey}
+use Rattle.half_store.proofs.lemmas.table.Probe.{SearchedTo}
 use Rattle.half_store.proofs.table.probe.search.Given as goal
 
 -- full buckets were passed, and each pair of the hash among them refused
 abbrev pub invariant-loop-index : goal.invariant-loop-index
 invariant-loop-index g l =
-    EntersByKey (slots_by (g.P.Buckets.hashes l.buckets) (g.P.Buckets.words l.buckets)) l.hash
+    SearchedTo (slots_from (g.P.Buckets.hashes l.buckets) (g.P.Buckets.words l.buckets)) l.hash
     (λ bucket. ReturnsAt (FnReturnsAt g.F.Fn l.matches) l.keys (slice_index (g.P.Buckets.words l.buckets) bucket - 1) false)
     l.bucket l.initial.tally l.tally
 
 -- the buckets ahead, once round
 abbrev pub decreases-loop-index : goal.decreases-loop-index
 decreases-loop-index g l =
-    let slots = slots_by (g.P.Buckets.hashes l.buckets) (g.P.Buckets.words l.buckets) in
+    let slots = slots_from (g.P.Buckets.hashes l.buckets) (g.P.Buckets.words l.buckets) in
     length slots - distance_from_home slots l.hash l.bucket

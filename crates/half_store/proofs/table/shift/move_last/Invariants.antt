@@ -13,5 +13,5 @@ invariant-loop-bucket g l =
       written : (k : ℕ) → k < l.bucket → slice_index words k ≡ moved_word l.pairs l.index (slice_index old k);
       ahead : (k : ℕ) → l.bucket ≤ k → slice_index words k ≡ slice_index old k;
       most : g.B.Words.most l.buckets ≡ g.B.Words.most l.initial.buckets;
-      counted : l.tally ≡ looked_more l.initial.tally l.bucket;
+      counted : l.tally ≡ looked_more l.bucket l.initial.tally;
     }

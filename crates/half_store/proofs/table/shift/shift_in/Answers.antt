@@ -1,7 +1,7 @@
 use Rattle.std.proofs.Common.{◌≡◌, ℕ, suc, [], ◌∷◌, ◌++◌, List, length, sym, ap, subst, ◌∙◌, arith}
 use Rattle.std.proofs.lemmas.Grind.{common_steps}
 use Rattle.std.proofs.lemmas.List.{get_or_default}
-use Rattle.half_store.specs.Work.{LooksWithin, removal_reads}
+use Rattle.half_store.specs.Work.{ReadsWithin, removal_reads}
 use Rattle.half_store.specs.StoreRemoval.{MovesLast}
 use Rattle.half_store.specs.Table.{IsIndexed}
 use Rattle.half_store.proofs.lemmas.table.Shift.{IsIndexed-moved, reads-moved}
@@ -26,8 +26,8 @@ returns-clause-cost g c =
     let last : suc c.len-last.result ≡ length hs = grind (arith, common_steps) in
     let hash = c.remove-hash.ensures.value ∙ get_or_default hs index c.remove-hash.result 0 c.requires.within in
     let same = c.push_reserved.ensures.items ∙ (λ i. c.remove-hash.ensures.items i ++ hash i ∷ []) in
-    let told = subst (λ xs. LooksWithin (removal_reads xs m c.len-last.result) c.move_last.new.tally c.remove_in.new.tally) same
-    (subst (λ n. LooksWithin (removal_reads c.push_reserved.new.self.items n c.len-last.result) c.move_last.new.tally c.remove_in.new.tally)
+    let told = subst (λ xs. ReadsWithin (removal_reads xs m c.len-last.result) c.move_last.new.tally c.remove_in.new.tally) same
+    (subst (λ n. ReadsWithin (removal_reads c.push_reserved.new.self.items n c.len-last.result) c.move_last.new.tally c.remove_in.new.tally)
     c.move_last.ensures.moves.len c.remove_in.ensures.cost) in
     let pass = c.move_last.ensures.cost in
     record {

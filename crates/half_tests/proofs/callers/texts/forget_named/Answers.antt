@@ -2,4 +2,4 @@ use Rattle.halfbrown.proofs.TextFacts.{has_removed_text}
 use Rattle.half_tests.proofs.callers.texts.forget_named.Goals as goal
 
 pub returns : goal.returns
-returns c = has_removed_text c.args.name.now c.len-before.ensures.state.distinct c.remove.ensures
+returns c = has_removed_text c.args.name.now c.len-before.ensures.valid.distinct c.remove.ensures

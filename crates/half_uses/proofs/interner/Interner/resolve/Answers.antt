@@ -14,5 +14,5 @@ pub returns-clause-number : goal.returns-clause-number
 returns-clause-number c =
     ap (number_of c.args.self.now) c.as_str.ensures.value
     ∙ ap (λ texts. number_of texts (string_bytes c.in_ok-text.text.now)) (sym c.self.view_is)
-    ∙ number_of_key c.self.inside.texts.pairs c.args.number (c.in_ok-text.text.now, c.in_ok-text.field-0-1.now) c.len.ensures.state.distinct
+    ∙ number_of_key c.self.inside.texts.pairs c.args.number (c.in_ok-text.text.now, c.in_ok-text.field-0-1.now) c.len.ensures.valid.distinct
     (sym c.in_ok-text.ensures.pair)

@@ -6,5 +6,5 @@ invariant_of-self g c =
     let told = c.clear.ensures in
     kept_none _ _ _ _ c.clear.new.self c.self.invariant told.form told.pairs told.hashes
 
-pub returns-clause-state : goal.returns-clause-state
-returns-clause-state g c = state_of _ _ _ _ _ (invariant_of-self g c)
+pub returns-clause-valid : goal.returns-clause-valid
+returns-clause-valid g c = state_of _ _ _ _ _ (invariant_of-self g c)

@@ -52,5 +52,5 @@ returns-clause-cloned g c =
       builder = refl;
     })
 
-pub returns-clause-state : goal.returns-clause-state
-returns-clause-state g c = state_of _ _ _ _ _ (invariant_of-result g c)
+pub returns-clause-valid : goal.returns-clause-valid
+returns-clause-valid g c = state_of _ _ _ _ _ (invariant_of-result g c)

@@ -2,7 +2,7 @@ use Rattle.std.proofs.Common.{nat_le, inl, inr, sym, subst, arith}
 use Rattle.std.proofs.lemmas.Grind.{common_steps}
 use Rattle.std.specs.Iterator.{Drains}
 use Rattle.halfbrown.specs.Costs.{GrewBy}
-use Rattle.halfbrown.specs.FromIter.{Gives, IsRefusedInsertion, refused_cost}
+use Rattle.halfbrown.specs.FromIter.{Gives, RefusedInsert, refused_cost}
 use Rattle.halfbrown.specs.Making.{IsMade}
 use Rattle.halfbrown.proofs.lemmas.map.Collect.{at_error, collection_of, inserts_asked, inserts_state}
 use Rattle.halfbrown.proofs.lemmas.map.Costs.{spent_none}
@@ -32,7 +32,7 @@ returns-in_err-extend_counted-clause-refused g c =
       grantable = told.grantable;
     } in
     let given = Gives g.I.Iterator.next_gives in
-    let counted = subst (λ it. (insertion : IsRefusedInsertion L E (given it) made why after)
+    let counted = subst (λ it. (insertion : RefusedInsert L E (given it) made why after)
     × GrewBy (refused_cost L E H insertion) before c.extend_counted.new.tally)
     refused.0.is_made (refused.0.insertion, refused.1) in
     (at_error c.from_residual-in_err-extend_counted.result why (Unit {0}) _ c.from_residual-in_err-extend_counted.ensures
@@ -62,5 +62,5 @@ returns-clause-collected g c =
 pub returns-clause-nothing_hashed : goal.returns-clause-nothing_hashed
 returns-clause-nothing_hashed g c form = grind (arith, common_steps, inserts_asked)
 
-pub returns-clause-state : goal.returns-clause-state
-returns-clause-state g c = grind (arith, common_steps, inserts_state)
+pub returns-clause-valid : goal.returns-clause-valid
+returns-clause-valid g c = grind (arith, common_steps, inserts_state)

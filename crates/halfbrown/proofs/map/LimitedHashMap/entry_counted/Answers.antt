@@ -1,5 +1,5 @@
 use Rattle.std.proofs.Common.{refl, subst}
-use Rattle.halfbrown.specs.Insertion.{IsReadyFor}
+use Rattle.halfbrown.specs.Insertion.{IsPreparedFor}
 use Rattle.halfbrown.proofs.lemmas.entry.Methods.{found_entry, found_writes, found_removes, missing_entry, missing_writes, missing_removes}
 use Rattle.halfbrown.proofs.map.LimitedHashMap.entry_counted.Goals as goal
 
@@ -10,7 +10,7 @@ returns-in-Ok-Held g c =
     let limit = g.L.Limit.LIMIT in
     let key = c.args.key in
     let prepared = c.in-Ok-Held.ensures.prepares.ok in
-    let at = subst (IsReadyFor same g.S.KeyHasher.hash c.prepare.new.self key)
+    let at = subst (IsPreparedFor same g.S.KeyHasher.hash c.prepare.new.self key)
     c.in-Ok-Held.field-0-is c.in-Ok-Held.ensures.ready in (
       (refl, λ n. refl, tt),
       record {
@@ -20,9 +20,9 @@ returns-in-Ok-Held g c =
           ok = prepared;
           entry = found_entry limit same laws c.args.self.now key _ prepared at;
           writes = found_writes limit same laws c.args.self.now key _ prepared at;
-          removes = found_removes limit same laws c.args.self.now key _ prepared at c.prepare.ensures.prepares.state.distinct;
+          removes = found_removes limit same laws c.args.self.now key _ prepared at c.prepare.ensures.prepares.valid.distinct;
           returned = tt;
-          state = c.prepare.ensures.prepares.state;
+          valid = c.prepare.ensures.prepares.valid;
         };
         cost = c.in-Ok-Held.ensures.cost;
       },
@@ -34,7 +34,7 @@ returns-in-Ok-Vacant g c =
     let laws = g.met.K.Eq.laws in
     let limit = g.L.Limit.LIMIT in
     let prepared = c.in-Ok-Vacant.ensures.prepares.ok in
-    let ready = subst (IsReadyFor same g.S.KeyHasher.hash c.prepare.new.self c.args.key)
+    let ready = subst (IsPreparedFor same g.S.KeyHasher.hash c.prepare.new.self c.args.key)
     c.in-Ok-Vacant.field-0-is c.in-Ok-Vacant.ensures.ready in (
       (refl, λ n. refl, tt),
       record {
@@ -44,9 +44,9 @@ returns-in-Ok-Vacant g c =
           ok = prepared;
           entry = missing_entry limit same laws c.args.self.now _ prepared ready.absent;
           writes = missing_writes limit same laws c.args.self.now _ prepared ready.absent;
-          removes = missing_removes limit same laws c.args.self.now _ prepared ready.absent c.prepare.ensures.prepares.state.distinct;
+          removes = missing_removes limit same laws c.args.self.now _ prepared ready.absent c.prepare.ensures.prepares.valid.distinct;
           returned = tt;
-          state = c.prepare.ensures.prepares.state;
+          valid = c.prepare.ensures.prepares.valid;
         };
         cost = c.in-Ok-Vacant.ensures.cost;
       },

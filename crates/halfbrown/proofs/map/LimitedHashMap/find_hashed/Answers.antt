@@ -4,7 +4,7 @@ use Rattle.half_store.specs.declared.vecmap.search.Scan.TheVariants.{ByBlock}
 use Rattle.halfbrown.specs.Costs.{IsHashedLookupCost, IsSearchCost}
 use Rattle.halfbrown.specs.Layout.{state_in}
 use Rattle.halfbrown.specs.Lookup.{KeySearch}
-use Rattle.halfbrown.specs.State.{State, IsState}
+use Rattle.halfbrown.specs.State.{State, IsValid}
 use Rattle.halfbrown.proofs.lemmas.map.Find.{costs_for_other, found_is_index, looks_up, match_costs, matches_of}
 use Rattle.halfbrown.proofs.lemmas.map.Layout.{state_of}
 use Rattle.halfbrown.proofs.map.LimitedHashMap.find_hashed.Goals as goal
@@ -36,5 +36,5 @@ returns g c =
           (subst (λ index. IsSearchCost hashing own was index 0 c.args.tally.now c.find.new.tally)
           (found_is_index test own was c.find.result found)
           (costs_for_other hashing c.args.hash own was c.args.tally.now c.find.new.tally (result_ok c.find.result) known spent));
-      state = subst (IsState g.K.PartialEq.eq g.L.Limit.LIMIT) c.self.view_is (state_of _ _ _ _ _ c.self.invariant);
+      valid = subst (IsValid g.K.PartialEq.eq g.L.Limit.LIMIT) c.self.view_is (state_of _ _ _ _ _ c.self.invariant);
     }

@@ -2,14 +2,14 @@ use Rattle.std.proofs.Common.{List, sym, subst, inr, ◌∙◌}
 use Rattle.std.proofs.IntoIterSteps.{All-taken}
 use Rattle.std.proofs.lemmas.Result.{IfOk-weaker, IfErr-weaker}
 use Rattle.std.specs.Vec.Iter.{into_iter_items, into_iter_steps}
-use Rattle.halfbrown.specs.FromIter.{AreFirst, Gives, IsCollection}
+use Rattle.halfbrown.specs.FromIter.{AreFirst, Gives, Collects}
 use Rattle.halfbrown.proofs.lemmas.map.Collect.{gave_first, refusal_given}
 use Rattle.halfbrown.proofs.map.LimitedHashMap.from_array.Goals as goal
 
 pub returns-clause-collected : goal.returns-clause-collected
 returns-clause-collected g c =
     IfOk-weaker c.uncounted.result _ _
-    (λ m h. subst (λ (xs : List (g.row.K.Denot × g.row.V.Denot)). IsCollection g.L.Limit.LIMIT g.K.PartialEq.eq g.S.Default.is_default
+    (λ m h. subst (λ (xs : List (g.row.K.Denot × g.row.V.Denot)). Collects g.L.Limit.LIMIT g.K.PartialEq.eq g.S.Default.is_default
     g.row.N xs m)
     (All-taken c.into_iter.result h.0 h.1 ∙ c.into_iter.ensures.rest ∙ c.in-Ok.ensures.items) h.2)
     c.uncounted.ensures.collected

@@ -15,6 +15,6 @@ returns-in-Ok g c = (
         (g.met.Q.Equivalent.stands_for_equals c.args.key) c.args.self.now.pairs c.in-Ok.index w c.in-Ok.ensures.found);
     value = sym c.pair_at_mut.ensures.value ∙ sym c.in-Ok.ensures.found.value;
     cost = c.in-Ok.ensures.cost;
-    state = c.in-Ok.ensures.state;
+    valid = c.in-Ok.ensures.valid;
   },
 )

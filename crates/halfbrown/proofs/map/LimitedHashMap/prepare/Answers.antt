@@ -31,7 +31,7 @@ returns-in_ok-make_capacity_keeping-in-Err-clause-cost g c =
     missing_costs g.L.Limit.LIMIT eq g.S.KeyHasher.hash c.args.self.now key
     c.switch_if_full.new.self c.args.tally.now c.switch_if_full.new.tally c.find.new.tally
     switched.form (switched_capacity _ _ _ switched) switched.pairs switched.builder c.in_ok-switch_if_full.ensures.work searched
-    c.in-Err.vacancy.hash (λ table. (missing.found.1 (omega (arith, missing.state.table_exceeds table)) table).0 ∙ sym law)
+    c.in-Err.vacancy.hash (λ table. (missing.found.1 (omega (arith, missing.valid.table_exceeds table)) table).0 ∙ sym law)
     c.make_capacity_keeping.new.tally c.in_ok-make_capacity_keeping-in-Err.ensures.work
     (ap (λ ps. holds eq ps key) (sym switched.pairs) ∙ missing.found.0.held)
 

@@ -1,6 +1,6 @@
 use Rattle.std.proofs.Common.{◌<◌, length, sym, ap, subst, arith}
 use Rattle.half_store.specs.Store.{IsVacancy}
-use Rattle.halfbrown.specs.Layout.{IsKept}
+use Rattle.halfbrown.specs.Layout.{IsMapInvariant}
 use Rattle.halfbrown.specs.Lookup.{IsAbsent}
 use Rattle.halfbrown.specs.State.{contents_of}
 use Rattle.halfbrown.proofs.lemmas.pairs.Indices.{absent_of_unheld}
@@ -22,9 +22,9 @@ invariant_of-self g c =
     let vacant : IsVacancy store.is_vec store.contents (hash key) vacancy =
     subst (λ m. IsVacancy m.is_vec (contents_of m) (g.S.KeyHasher.hash m.builder key) vacancy)
     (sym c.self.view_is) c.requires.vacant in
-    subst (IsKept eq hash g.L.Limit.LIMIT) (sym c.push.ensures)
+    subst (IsMapInvariant eq hash g.L.Limit.LIMIT) (sym c.push.ensures)
     (kept_pushed eq hash g.L.Limit.LIMIT g.met.K.Eq.laws store key c.args.value vacancy c.self.invariant absent room
     (λ table. (vacant table).0))
 
-pub returns-clause-state : goal.returns-clause-state
-returns-clause-state g c = state_of _ _ _ _ _ (invariant_of-self g c)
+pub returns-clause-valid : goal.returns-clause-valid
+returns-clause-valid g c = state_of _ _ _ _ _ (invariant_of-self g c)

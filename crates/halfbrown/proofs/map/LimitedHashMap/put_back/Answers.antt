@@ -13,5 +13,5 @@ invariant_of-self g c =
     (λ table. subst IsTableCapacity (sym told.form.capacity) (c.requires.series (sym told.form.form ∙ table)))
     (λ table. subst (λ n. g.L.Limit.LIMIT < n) (sym told.form.capacity) (c.requires.exceeds (sym told.form.form ∙ table)))
 
-pub returns-clause-state : goal.returns-clause-state
-returns-clause-state g c = state_of _ _ _ _ _ (invariant_of-self g c)
+pub returns-clause-valid : goal.returns-clause-valid
+returns-clause-valid g c = state_of _ _ _ _ _ (invariant_of-self g c)

@@ -18,5 +18,5 @@ returns-clause-absent g c =
     let told = c.replace_with.ensures in
     absent_replaced _ g.met.K.Eq.laws _ _ _ _ _ c.self.invariant told.form c.replace_with.result told.replaces
 
-pub returns-clause-state : goal.returns-clause-state
-returns-clause-state g c = state_of _ _ _ _ _ (invariant_of-self g c)
+pub returns-clause-valid : goal.returns-clause-valid
+returns-clause-valid g c = state_of _ _ _ _ _ (invariant_of-self g c)

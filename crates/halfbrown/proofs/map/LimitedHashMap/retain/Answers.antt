@@ -6,5 +6,5 @@ use Rattle.halfbrown.proofs.map.LimitedHashMap.retain.Goals as goal
 pub invariant_of-self : goal.invariant_of-self
 invariant_of-self g c = grind (arith, common_steps, IsDistinct-retained, kept_as)
 
-pub returns-clause-state : goal.returns-clause-state
-returns-clause-state g c = state_of _ _ _ _ _ (invariant_of-self g c)
+pub returns-clause-valid : goal.returns-clause-valid
+returns-clause-valid g c = state_of _ _ _ _ _ (invariant_of-self g c)

@@ -1,6 +1,6 @@
 use Rattle.std.proofs.Common.{Some, subst, rules}
 use Rattle.halfbrown.specs.Layout.{state_in}
-use Rattle.halfbrown.specs.Removal.{RemovesInOrderAt}
+use Rattle.halfbrown.specs.Removal.{ShiftRemovesAt}
 use Rattle.halfbrown.specs.State.{State}
 use Rattle.halfbrown.proofs.lemmas.map.Remove.{kept_shifted, none_in_order, removed_in_order}
 use Rattle.halfbrown.proofs.map.LimitedHashMap.shift_remove_index.Goals as goal
@@ -12,9 +12,9 @@ invariant_of-self g c =
 pub returns-then-index-len : goal.returns-then-index-len
 returns-then-index-len g c =
     let builder = c.self.inside.builder in
-    subst (λ (m : State g.row.K.Denot g.row.V.Denot g.row.S.Denot). RemovesInOrderAt g.L.Limit.LIMIT g.K.PartialEq.eq m c.args.index
+    subst (λ (m : State g.row.K.Denot g.row.V.Denot g.row.S.Denot). ShiftRemovesAt g.L.Limit.LIMIT g.K.PartialEq.eq m c.args.index
     (Some c.shift_remove.result) (state_in c.shift_remove.new.self builder)) c.self.view_is
     (removed_in_order _ _ g.met.K.Eq.laws _ builder _ _ c.self.invariant c.args.index c.shift_remove.result c.shift_remove.ensures)
 
 pub returns-else-index-len : goal.returns-else-index-len
-returns-else-index-len g c = none_in_order _ _ g.met.K.Eq.laws _ c.len.ensures.state c.args.index (search rules)
+returns-else-index-len g c = none_in_order _ _ g.met.K.Eq.laws _ c.len.ensures.valid c.args.index (search rules)

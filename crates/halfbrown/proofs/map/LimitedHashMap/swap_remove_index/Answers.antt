@@ -5,7 +5,7 @@ use Rattle.halfbrown.proofs.map.LimitedHashMap.swap_remove_index.Goals as goal
 pub returns-then-index-len : goal.returns-then-index-len
 returns-then-index-len g c =
     let told = c.take_at.ensures in
-    removed_at _ _ _ _ g.met.K.Eq.laws c.take_at.result _ c.len.ensures.state told.state told.taken told.after
+    removed_at _ _ _ _ g.met.K.Eq.laws c.take_at.result _ c.len.ensures.valid told.valid told.taken told.after
 
 pub returns-else-index-len : goal.returns-else-index-len
-returns-else-index-len g c = none_removed_at _ _ _ c.args.index c.len.ensures.state (search rules)
+returns-else-index-len g c = none_removed_at _ _ _ c.args.index c.len.ensures.valid (search rules)

@@ -13,5 +13,5 @@ invariant_of-self g c =
 pub returns-clause-value : goal.returns-clause-value
 returns-clause-value g c = grind (arith, common_steps, value_of-pair)
 
-pub returns-clause-state : goal.returns-clause-state
-returns-clause-state g c = state_of _ _ _ _ _ (invariant_of-self g c)
+pub returns-clause-valid : goal.returns-clause-valid
+returns-clause-valid g c = state_of _ _ _ _ _ (invariant_of-self g c)

@@ -9,5 +9,5 @@ invariant_of-result g c =
     kept_made g.K.PartialEq.eq (g.S.KeyHasher.hash c.args.builder) g.L.Limit.LIMIT
     c.in_ok-with_capacity.field-0 made.pairs made.hashes (λ vector. grind (arith, common_steps, c.LIMIT.ensures)) made.series (λ table. omega (arith, made.exceeds table, c.LIMIT.ensures))
 
-pub returns-clause-state : goal.returns-clause-state
-returns-clause-state g c = grind (arith, common_steps, invariant_of-result, state_of)
+pub returns-clause-valid : goal.returns-clause-valid
+returns-clause-valid g c = grind (arith, common_steps, invariant_of-result, state_of)

@@ -8,5 +8,5 @@ invariant_of-result g c =
     kept_empty g.K.PartialEq.eq (g.S.KeyHasher.hash c.args.builder) g.L.Limit.LIMIT c.new.result
     c.new.ensures
 
-pub returns-clause-state : goal.returns-clause-state
-returns-clause-state g c = grind (arith, common_steps, invariant_of-result, state_of)
+pub returns-clause-valid : goal.returns-clause-valid
+returns-clause-valid g c = grind (arith, common_steps, invariant_of-result, state_of)

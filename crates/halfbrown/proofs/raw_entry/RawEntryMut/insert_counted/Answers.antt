@@ -7,5 +7,5 @@ pub returns-in-Occupied-clause-puts : goal.returns-in-Occupied-clause-puts
 returns-in-Occupied-clause-puts g c = record {
   puts = subst (λ entry. PutsThroughRawEntry entry c.args.key c.args.value c.insert.new.self) (sym c.in-Occupied.is)
       (written_puts c.in-Occupied.entry c.args.key c.args.value c.insert.new.self c.insert.ensures.written);
-  state = c.insert.ensures.state;
+  valid = c.insert.ensures.valid;
 }

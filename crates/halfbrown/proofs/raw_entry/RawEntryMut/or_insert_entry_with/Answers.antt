@@ -13,7 +13,7 @@ pub returns-in-Occupied : goal.returns-in-Occupied
 returns-in-Occupied g c =
     let o = c.in-Occupied.entry in
     record {
-      puts = held_puts_pair _ _ c.args.self o c.in-Occupied.is _ c.len.ensures.state;
+      puts = held_puts_pair _ _ c.args.self o c.in-Occupied.is _ c.len.ensures.valid;
       pair = if_some (slice_get o.map.now.pairs o.index) (λ pair is. rw c.in-Occupied.is (rw is refl));
       cost = if_some (slice_get o.map.now.pairs o.index) (λ pair is. rw c.in-Occupied.is refl);
     }
@@ -27,7 +27,7 @@ returns g c =
     let value = c.default-key.result.1 in
     record {
       puts = pair_is _ pairs index key value adds.puts.key_is adds.puts.value_is
-          (rw c.in-Vacant.is (record { puts = adds.puts; state = adds.state }));
+          (rw c.in-Vacant.is (record { puts = adds.puts; valid = adds.valid }));
       pair = pair_is _ pairs index key value adds.puts.key_is adds.puts.value_is (rw c.in-Vacant.is c.default-key.ensures);
       cost = pair_is _ pairs index key value adds.puts.key_is adds.puts.value_is (rw c.in-Vacant.is c.insert_entry_counted.ensures.cost);
     }

@@ -24,7 +24,7 @@ returns g c =
       adds = record {
         puts = puts;
         adds = adds_pair g.K.PartialEq.eq g.met.K.Eq.laws c.args.self c.args.key c.args.value _ c.requires.absent puts;
-        state = c.push.ensures.state;
+        valid = c.push.ensures.valid;
       };
       cost = c.vacancy_for-vacancy.ensures.work;
     }

@@ -11,6 +11,6 @@ returns g c =
         columns.small,
         gives_in_order,
         shows_values_in_order g.row.K.Denot,
-        columns.state,
+        columns.valid,
       );
     }

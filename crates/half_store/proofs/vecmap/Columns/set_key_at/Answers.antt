@@ -3,7 +3,7 @@ use Rattle.std.specs.List.{slice_get}
 use Rattle.half_store.proofs.lemmas.vecmap.Columns.{opened, pairs_are}
 use Rattle.half_store.proofs.lemmas.vecmap.Zip.{slice_get_at, zip-set_key_at}
 use Rattle.half_store.specs.PairLists.{set_key_at}
-use Rattle.half_store.proofs.vecmap.Columns.replace_key.Goals as goal
+use Rattle.half_store.proofs.vecmap.Columns.set_key_at.Goals as goal
 
 pub index_mut-requires : goal.index_mut-requires
 index_mut-requires g c =
