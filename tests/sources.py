@@ -39,13 +39,13 @@ RULES = (
     ("No hasher is built: a key is hashed by `hash_one`.", NONE, r"(?:\.|::)(?:hash(?:_slice)?\(|build_hasher\b)|::hash\b"),
     ("Keys, values and numbers are found equal in these places, and nothing is sorted.", "11 12 4 6 1 0 9",
      r"[!=]=|(?:\.|::)(?:eq|ne|\w*cmp|equivalent|contains|(?:start|end)s_with|strip_\w+|(?:sort|dedup|binary)\w*)\b"),
-    ("Sizes are compared, and ranges end, in these places.", "31 19 0 7 3 0 9",
+    ("Sizes are compared, and ranges end, in these places.", "33 19 0 7 3 0 9",
      r"(?<![-=]) [<>]=? ?(?=[\w(&*-])|[<>]=|\)[<>](?=[\w(]\w*[^\w(,>])|\b[a-z]\w*[<>](?!const)(?=[a-z\d])|\.\."
      r"|\b(?:min|max|clamp|[lg][te]|nth\w*|skip\w*|step_by|chunks\w*|windows|split_at\w*|(?:checked|saturating)_\w+)\b"),
     ("Numbers beside 0 and 1, constants, products, shifts, casts and sizes of types stand in these places.", "51 19 0 2 3 4 12",
      r"(?<![\w.])(?![01]\b)\d\w*|\b[A-Z][A-Z_]{2,}\b|\w+_of(?:_val\(|::)|[\w)](?: [*/%^&+] (?=[a-z(])| ?<< ?|[*/%^](?=\w))"
      r"| >> |>>\d|[*/%&|^]= |\bas [a-z]\w*|\w*(?:pow|ilog|isqrt|_mul|_sh[lr]|_zeros|_ones)\w*|\btry_(?:from|into)\b"),
-    ("Work is repeated, handed to a closure or broken off in these places.", "40 18 5 18 10 0 13",
+    ("Work is repeated, handed to a closure or broken off in these places.", "41 18 5 18 10 0 13",
      r"\b(?:while|loop|break|continue|return)\b|\bfor [^{}]*? in |(?:[=(,] ?|move )\|"
      r"|\.(?:all|any|map\w*|and_then|for_each|\w*fold|rev|\w*position|filter\w*|zip|chain|sum|chars|bytes|split\w*)(?:\(|::<)"),
     ("Operators, drops and macros are written in these places; no comment is in a line, nothing is shared.", "1 6 0 0 0 0 0",

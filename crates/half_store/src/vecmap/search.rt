@@ -57,22 +57,25 @@ fn first_match_by_block<K, F: Fn(&K) -> bool>(
     ensures first { IsFirstMatch (FnReturnsAt F.Fn matches.now) keys.now result }
     ensures work { ComparesInOrder ByBlock result (length keys.now) tally.old tally.new }
 {
-    // A block before the last has a length that is known here, so that LLVM unrolls it.
+    // Most vectors are one block, and a loop over it would take a quarter longer.
+    if keys.len() <= BLOCK {
+        let found = first_match_between(keys, 0, keys.len(), matches, tally);
+        return if found < keys.len() {
+            Some(found)
+        } else {
+            None
+        };
+    }
     let mut start = 0;
-    while keys.len() - start > BLOCK {
-        let end = start + BLOCK;
+    while start < keys.len() {
+        let end = start + BLOCK.min(keys.len() - start);
         let found = first_match_between(keys, start, end, matches, tally);
         if found < end {
             return Some(found);
         }
         start = end;
     }
-    let found = first_match_between(keys, start, keys.len(), matches, tally);
-    if found < keys.len() {
-        Some(found)
-    } else {
-        None
-    }
+    None
 }
 
 // The index of the first key that matches from `start` on, or `end`. It compares all keys between, so that no branch depends

@@ -4,32 +4,12 @@ use Rattle.half_store.specs.Search.{ReturnsAt}
 use Rattle.half_store.proofs.lemmas.vecmap.Search.{below_and_from, compared_all}
 use Rattle.half_store.proofs.vecmap.search.first_match_by_block.Goals as goal
 
-pub returns-then-found-end-clause-first : goal.returns-then-found-end-clause-first
-returns-then-found-end-clause-first g c =
-    let told = c.first_match_between-found.ensures in
-    record {
-      found = (omega (arith, c.if-found-end.true, c.loop-start-test.true), told.found c.if-found-end.true);
-      none_before = below_and_from (λ k. ReturnsAt (FnReturnsAt g.F.Fn c.args.matches.now) c.args.keys.now k false) c.loop-start.start
-          c.first_match_between-found.result c.loop-start.invariant.none_so_far told.none_before;
-      absent = tt;
-    }
-
-pub loop-start-preserved : goal.loop-start-preserved
-loop-start-preserved g c = record {
-  within = omega (arith, c.loop-start-test.true);
-  none_so_far = below_and_from (λ k. ReturnsAt (FnReturnsAt g.F.Fn c.args.matches.now) c.args.keys.now k false) c.loop-start.start
-      (c.loop-start.start + 16) c.loop-start.invariant.none_so_far
-      (λ k from within. c.first_match_between-found.ensures.none_before k from (omega (arith, within, c.if-found-end.false)));
-  work = compared_all c.loop-start.start 16 _ _ _ c.loop-start.invariant.work c.first_match_between-found.ensures.work;
-}
-
 pub returns-then-found-keys-clause-first : goal.returns-then-found-keys-clause-first
 returns-then-found-keys-clause-first g c =
-    let told = c.first_match_between-found-2.ensures in
+    let told = c.first_match_between-found.ensures in
     record {
       found = (c.if-found-keys.true, told.found c.if-found-keys.true);
-      none_before = below_and_from (λ k. ReturnsAt (FnReturnsAt g.F.Fn c.args.matches.now) c.args.keys.now k false) c.loop-start.start
-          c.first_match_between-found-2.result c.loop-start.invariant.none_so_far told.none_before;
+      none_before = λ earlier before. told.none_before earlier (omega arith) before;
       absent = tt;
     }
 
@@ -38,7 +18,31 @@ returns-else-found-keys-clause-first g c = record {
   found = tt;
   none_before = tt;
   absent = λ index within.
-      below_and_from (λ k. ReturnsAt (FnReturnsAt g.F.Fn c.args.matches.now) c.args.keys.now k false) c.loop-start.start
-      c.first_match_between-found-2.result c.loop-start.invariant.none_so_far c.first_match_between-found-2.ensures.none_before index
-      (omega (arith, within, c.if-found-keys.false));
+      c.first_match_between-found.ensures.none_before index (omega arith) (omega (arith, within, c.if-found-keys.false));
+}
+
+pub returns-then-found-end-clause-first : goal.returns-then-found-end-clause-first
+returns-then-found-end-clause-first g c =
+    let told = c.first_match_between-found-in-loop-start.ensures in
+    record {
+      found = (omega (arith, c.min.ensures, c.if-found-end.true, c.loop-start-test.true), told.found c.if-found-end.true);
+      none_before = below_and_from (λ k. ReturnsAt (FnReturnsAt g.F.Fn c.args.matches.now) c.args.keys.now k false) c.loop-start.start
+          c.first_match_between-found-in-loop-start.result c.loop-start.invariant.none_so_far told.none_before;
+      absent = tt;
+    }
+
+pub loop-start-preserved : goal.loop-start-preserved
+loop-start-preserved g c = record {
+  within = omega (arith, c.min.ensures, c.loop-start-test.true);
+  none_so_far = below_and_from (λ k. ReturnsAt (FnReturnsAt g.F.Fn c.args.matches.now) c.args.keys.now k false) c.loop-start.start
+      (c.loop-start.start + c.min.result) c.loop-start.invariant.none_so_far
+      (λ k from within. c.first_match_between-found-in-loop-start.ensures.none_before k from (omega (arith, within, c.if-found-end.false)));
+  work = compared_all c.loop-start.start c.min.result _ _ _ c.loop-start.invariant.work c.first_match_between-found-in-loop-start.ensures.work;
+}
+
+pub returns-clause-first : goal.returns-clause-first
+returns-clause-first g c = record {
+  found = tt;
+  none_before = tt;
+  absent = λ index within. c.loop-start.invariant.none_so_far index (omega (arith, within, c.loop-start-test.false));
 }
