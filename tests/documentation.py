@@ -119,7 +119,7 @@ def quoted(call):
 
 
 CALL = re.compile(r"^fn ([\w:]+)(?:.*\n)(?:  [^|\n].*\n)*((?:  \|.*\n)*)", re.M)
-LEFT_OUT = ("cost", "keeps", "runs", "small", "state", "values_run")
+LEFT_OUT = ("cost", "keeps", "runs", "small", "valid", "values_run")
 
 
 def calling(found):
