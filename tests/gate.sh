@@ -41,7 +41,9 @@ try_tests() {
     local said
     said=$(cd "crates/$1" && rt try --test --steps 1 2>&1)
     echo "$said"
-    sed -n -E 's/^test result: .* ([0-9]+) passed; ([0-9]+) failed;.*/\1 passed, \2 failed/p' <<<"$said"
+    # Where it does not compile there is no result, and rt's status is 0.
+    sed -n -E 's/^test result: .* ([0-9]+) passed; ([0-9]+) failed;.*/\1 passed, \2 failed/p' <<<"$said" | grep . ||
+        echo "0 passed, 1 failed"
 }
 
 # Where a program stands, built if need be.

@@ -1,5 +1,5 @@
-//! A map may cross threads: it is `Send` and `Sync` where its keys, its values and its builder are. No thread is started here;
-//! the bounds are those of `std::thread::spawn` and of what threads share.
+//! A map may cross threads: it is `Send` and `Sync` where its keys, its values, its builder and its limit are, and each
+//! `AtMost<N>` is. No thread is started here; the bounds are those of `std::thread::spawn` and of what threads share.
 
 ghost use Rattle.std.specs.Prelude.{◌≡◌};
 ghost use Rattle.halfbrown.specs.Pairs.{value_of};
@@ -23,7 +23,7 @@ fn shared<T: Sync>(value: &T) -> &T
 }
 
 /// A map moves into a thread, with all that is known of it.
-pub fn moved<K: Eq + Hash + Send, V: Send, S: KeyHasher<K> + Send, L: Limit>(
+pub fn moved<K: Eq + Hash + Send, V: Send, S: KeyHasher<K> + Send, L: Limit + Send>(
     map: LimitedHashMap<K, V, S, L>,
 ) -> LimitedHashMap<K, V, S, L>
     ensures { result ≡ map }
@@ -32,10 +32,12 @@ pub fn moved<K: Eq + Hash + Send, V: Send, S: KeyHasher<K> + Send, L: Limit>(
 }
 
 /// Threads read one map.
-pub fn read_by_threads<K: Eq + Hash + Sync, V: Copy + Sync, S: KeyHasher<K> + Sync, L: Limit>(
-    map: &LimitedHashMap<K, V, S, L>,
-    key: &K,
-) -> Option<V>
+pub fn read_by_threads<
+    K: Eq + Hash + Sync,
+    V: Copy + Sync,
+    S: KeyHasher<K> + Sync,
+    L: Limit + Sync,
+>(map: &LimitedHashMap<K, V, S, L>, key: &K) -> Option<V>
     ensures { result ≡ value_of K.eq map.now.pairs key.now }
 {
     shared(map).get(key).copied()
