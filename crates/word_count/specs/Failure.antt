@@ -1,5 +1,5 @@
 -- What a failure says of the input.
-use Rattle.std.specs.Prelude.{◌≡◌, ℕ, List, ⊤, ⊥}
+use Rattle.std.specs.Prelude.{◌≡◌, ℕ, List, ⊤}
 use Rattle.std.specs.Str.{IsUtf8}
 use Rattle.std.specs.Str.Lossy.{utf8_valid_len}
 use Rattle.word_count.specs.declared.failure.Failure.{Failure}
