@@ -25,7 +25,10 @@ pub(crate) fn grow<T>(column: &mut Vec<T>, capacity: usize) -> Result<(), AllocE
 }
 
 /// Gives the keys a greater capacity, and returns an empty column of that capacity for the values. On error nothing changes.
-pub(crate) fn grow_beside<K, V>(keys: &mut Vec<K>, capacity: usize) -> Result<Vec<V>, AllocError>
+pub(crate) fn grow_with_column<K, V>(
+    keys: &mut Vec<K>,
+    capacity: usize,
+) -> Result<Vec<V>, AllocError>
     requires { vec_capacity keys.old < capacity }
     ensures items { keys.new.items ≡ keys.old.items }
     ensures len { vec_len keys.new ≡ vec_len keys.old }

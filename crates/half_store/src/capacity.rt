@@ -1,9 +1,9 @@
-//! The rule for growth: how many buckets a table has, and how many pairs it may hold.
+//! The rules for growth: how many buckets a table has, how many pairs it may hold, and how far a vector grows.
 //!
 //! A table has no buckets, or a power of two from 4 on. The load factor is three quarters: the capacity is three quarters
 //! of the buckets, so at least one bucket stays empty and each probe ends.
 ghost use Rattle.std.specs.Prelude.{◌≡◌, ◌^◌, ◌≤◌};
-ghost use Rattle.half_store.specs.Capacity.{capacity_of, buckets_for, IsLeastFor};
+ghost use Rattle.half_store.specs.Capacity.{capacity_of, buckets_for, generous_capacity, IsLeastFor};
 
 /// The most pairs that a map may hold.
 pub const MOST_PAIRS: usize = 1 << 60;
@@ -13,6 +13,9 @@ const BUCKETS_PER_EMPTY: usize = 4;
 
 /// The fewest buckets of a table that has any.
 const LEAST_BUCKETS: usize = 4;
+
+/// The least capacity to which a vector grows, unless the limit is less.
+const LEAST_GROWN: usize = 8;
 
 /// The capacity of this many buckets: 0, 3, 6, 12, 24 for 0, 4, 8, 16, 32.
 #[inline(always)]
@@ -36,4 +39,16 @@ pub fn buckets_for(needed: usize) -> usize
         buckets *= 2;
     }
     buckets
+}
+
+/// The capacity to which a vector grows that needs this much: twice what it was, but at least eight and what is needed, so that
+/// many insertions cost few growths, and never past the limit.
+pub(crate) fn generous_capacity(limit: usize, capacity: usize, needed: usize) -> usize
+    ensures { result ≡ generous_capacity limit capacity needed }
+{
+    capacity
+        .saturating_mul(2)
+        .max(LEAST_GROWN)
+        .max(needed)
+        .min(limit)
 }

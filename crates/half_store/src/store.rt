@@ -6,14 +6,11 @@ ghost use Rattle.std.specs.Prelude.{◌≡◌, ◌<◌, [], length, nat_lt};
 ghost use Rattle.half_store.specs.Columns.{no_pairs};
 ghost use Rattle.half_store.specs.Store.{vector_of, SameForm};
 
-mod at;
 mod change;
+mod columns;
 pub mod drain;
 pub mod find;
 pub mod memory;
-mod shift;
-mod slices;
-mod switch;
 
 use crate::{Columns, Table};
 use std::alloc::Global;

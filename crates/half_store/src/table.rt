@@ -14,20 +14,17 @@ ghost use Rattle.half_store.specs.Work.{looked_more, ReadsWithin, removal_reads}
 ghost use Rattle.half_store.specs.Table.{table_contents, with_hash_in, IsTableVacancy, TableSearch, RemovesFromTable};
 
 mod deletion;
-mod find;
 mod memory;
 pub mod probe;
-mod rehash;
 mod retain;
 mod shift;
 
 use crate::Tally;
 use crate::buckets::HashedBuckets;
 use crate::capacity::capacity_of;
-use crate::words::{WordArray, Words};
+use crate::words::{WordArray, Words, of_either_size};
 use deletion::{remove_in, take_in};
-use find::find_in;
-use probe::first_empty;
+use probe::{find_in, first_empty};
 use std::marker::Model;
 
 /// Buckets that lead from a hash to the entry indices of the pairs that have it.
@@ -101,26 +98,10 @@ impl Table {
             hash result tally.old tally.new }
     {
         let hashes = self.hashes.as_slice();
-        match &self.buckets {
-            WordArray::FourBytes(buckets) => {
-                find_in(
-                    &HashedBuckets { buckets, hashes },
-                    keys,
-                    hash,
-                    matches,
-                    tally,
-                )
-            }
-            WordArray::EightBytes(buckets) => {
-                find_in(
-                    &HashedBuckets { buckets, hashes },
-                    keys,
-                    hash,
-                    matches,
-                    tally,
-                )
-            }
-        }
+        of_either_size!(
+            &self.buckets,
+            buckets => find_in(&HashedBuckets { buckets, hashes }, keys, hash, matches, tally)
+        )
     }
 
     /// Probes for the empty bucket where a pair of this hash belongs. It reads exactly `reach` buckets.
@@ -133,14 +114,10 @@ impl Table {
         ensures buckets { self.now.buckets ≡ buckets_of (capacity_of self.now.buckets) }
     {
         let hashes = self.hashes.as_slice();
-        match &self.buckets {
-            WordArray::FourBytes(buckets) => {
-                first_empty(&HashedBuckets { buckets, hashes }, hash, tally)
-            }
-            WordArray::EightBytes(buckets) => {
-                first_empty(&HashedBuckets { buckets, hashes }, hash, tally)
-            }
-        }
+        of_either_size!(
+            &self.buckets,
+            buckets => first_empty(&HashedBuckets { buckets, hashes }, hash, tally)
+        )
     }
 
     /// Adds a pair of this hash in the empty bucket at which a probe for it ended. It reads no bucket.
@@ -182,10 +159,10 @@ impl Table {
         ensures cost { ReadsWithin (removal_reads self.old.hashes self.old.buckets index)
             tally.old tally.new }
     {
-        match &mut self.buckets {
-            WordArray::FourBytes(buckets) => remove_in(buckets, &mut self.hashes, index, tally),
-            WordArray::EightBytes(buckets) => remove_in(buckets, &mut self.hashes, index, tally),
-        }
+        of_either_size!(
+            &mut self.buckets,
+            buckets => remove_in(buckets, &mut self.hashes, index, tally)
+        )
     }
 
     /// Searches as `find` does, and removes the pair that it finds, in the bucket where the probe ended. The last pair takes its
@@ -208,30 +185,10 @@ impl Table {
             (removal_reads self.old.hashes self.old.buckets pair.0) removal.old removal.new) }
         ensures same { OnErr result ((self.new ≡ self.old) × (removal.new ≡ removal.old)) }
     {
-        match &mut self.buckets {
-            WordArray::FourBytes(buckets) => {
-                take_in(
-                    buckets,
-                    &mut self.hashes,
-                    keys,
-                    hash,
-                    matches,
-                    tally,
-                    removal,
-                )
-            }
-            WordArray::EightBytes(buckets) => {
-                take_in(
-                    buckets,
-                    &mut self.hashes,
-                    keys,
-                    hash,
-                    matches,
-                    tally,
-                    removal,
-                )
-            }
-        }
+        of_either_size!(
+            &mut self.buckets,
+            buckets => take_in(buckets, &mut self.hashes, keys, hash, matches, tally, removal)
+        )
     }
 
     /// Removes all pairs. The capacity stays.

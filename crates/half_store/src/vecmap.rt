@@ -1,17 +1,16 @@
 //! Pairs in two columns, one of keys and one of values: dense, in order, searched from first to last.
 #![tactic(auto, using(crate::proofs::lemmas::vecmap::Columns::opened))]
 
-ghost use Rattle.std.specs.Prelude.{◌≡◌, ◌^◌, ◌<◌, ◌≤◌, [], ◌∷◌, ◌++◌, length, slice_get};
-ghost use Rattle.std.specs.Borrow.{sem};
+ghost use Rattle.std.specs.Prelude.{◌≡◌, ◌^◌, ◌<◌, ◌≤◌, [], ◌∷◌, ◌++◌, length, slice_get, Some, remove, false};
+ghost use Rattle.std.specs.Borrow.{sem, Bor};
 ghost use Rattle.std.specs.Map.{keys_of, values_of};
 ghost use Rattle.half_store.specs.Columns.{no_pairs, columns_with};
 ghost use Rattle.half_store.specs.PairLists.{set_key_at, swap_remove_at};
+ghost use Rattle.half_store.specs.ValueReplacement.{ReplacesValue};
 
 mod memory;
-mod replace;
 mod retain;
 pub mod search;
-mod shift;
 mod slices;
 
 use std::alloc::Global;
@@ -125,5 +124,36 @@ impl<K, V> Columns<K, V> {
     {
         self.keys.clear();
         self.values.clear();
+    }
+
+    /// Removes the pair at this index. Each pair behind it gets the index before its own.
+    pub fn shift_remove(&mut self, index: usize) -> (K, V)
+        requires { index < length self.old.pairs }
+        ensures taken { slice_get self.old.pairs index ≡ Some result }
+        ensures after { self.new ≡ columns_with self.old (remove self.old.pairs index) }
+    {
+        (self.keys.remove(index), self.values.remove(index))
+    }
+
+    /// Hands the value of the pair at this index to `f`, with its key. Where `f` returns a value the pair has that one, at its
+    /// index, and else it is removed and its key returned: the last pair takes its index.
+    pub fn replace_with<F: FnOnce(&K, V) -> Option<V>>(&mut self, index: usize, f: F) -> Option<K>
+        requires within { index < length self.old.pairs }
+        requires callable { (key : Bor K) (value : V)
+            → slice_get self.old.pairs index ≡ Some (key.now, value) → F.pre f key value }
+        ensures replaces { ReplacesValue (F.post f) false self.old.pairs index self.new.pairs
+            result }
+        ensures capacity { self.new.capacity ≡ self.old.capacity }
+    {
+        let value = self.values.swap_remove(index);
+        match f(&self.keys[index], value) {
+            Some(value) => {
+                self.values.push_reserved(value);
+                let last = self.values.len() - 1;
+                self.values.swap(index, last);
+                None
+            }
+            None => Some(self.keys.swap_remove(index)),
+        }
     }
 }

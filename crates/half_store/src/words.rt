@@ -139,6 +139,18 @@ pub enum WordArray {
     EightBytes(WordVec<usize>),
 }
 
+/// What is done alike with words of four bytes and of eight.
+macro_rules! of_either_size {
+    ($array:expr, $words:ident => $call:expr) => {
+        match $array {
+            $crate::words::WordArray::FourBytes($words) => $call,
+            $crate::words::WordArray::EightBytes($words) => $call,
+        }
+    };
+}
+
+pub(crate) use of_either_size;
+
 impl Words for WordArray {
     ghost words = { words_of };
 
@@ -146,26 +158,17 @@ impl Words for WordArray {
 
     #[inline(always)]
     fn count(&self) -> usize {
-        match self {
-            WordArray::FourBytes(words) => words.count(),
-            WordArray::EightBytes(words) => words.count(),
-        }
+        of_either_size!(self, words => words.count())
     }
 
     #[inline(always)]
     fn word_at(&self, bucket: usize, tally: &mut Tally) -> usize {
-        match self {
-            WordArray::FourBytes(words) => words.word_at(bucket, tally),
-            WordArray::EightBytes(words) => words.word_at(bucket, tally),
-        }
+        of_either_size!(self, words => words.word_at(bucket, tally))
     }
 
     #[inline(always)]
     fn set_word(&mut self, bucket: usize, word: usize) {
-        match self {
-            WordArray::FourBytes(words) => words.set_word(bucket, word),
-            WordArray::EightBytes(words) => words.set_word(bucket, word),
-        }
+        of_either_size!(self, words => words.set_word(bucket, word))
     }
 }
 
@@ -193,10 +196,7 @@ impl WordArray {
         ensures words { words_of self.new ≡ replicate (length (words_of self.old)) 0 }
         ensures most { most_of self.new ≡ most_of self.old }
     {
-        match self {
-            WordArray::FourBytes(array) => array.words.fill(0),
-            WordArray::EightBytes(array) => array.words.fill(0),
-        }
+        of_either_size!(self, array => array.words.fill(0))
     }
 
     /// A copy of the words.

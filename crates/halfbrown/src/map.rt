@@ -2,15 +2,14 @@
 ghost use Rattle.std.specs.Prelude.{◌≡◌, ◌^◌, ◌<◌, ◌↔◌, false, [], length, IsTrue};
 ghost use Rattle.halfbrown.specs.State.{IsValid, WithPairs};
 
+mod by_index;
+mod capacity;
 mod clone;
 mod collect;
 mod debug;
-mod drained;
 mod equality;
 mod find;
 mod get;
-mod growth;
-mod index;
 mod inner;
 mod insert;
 mod into_iter;
@@ -19,7 +18,6 @@ mod make;
 pub(crate) mod prepare;
 mod remove;
 mod retain;
-mod shift_remove;
 mod switch;
 
 use crate::{AtMost, KeyHasher, Limit};

@@ -8,7 +8,7 @@ ghost use Rattle.std.specs.Option.{option_map};
 ghost use Rattle.std.specs.Result.{result_err};
 ghost use Rattle.half_store.specs.Search.{CallableOnKeys};
 ghost use Rattle.half_store.specs.PairLists.{swap_remove_at};
-ghost use Rattle.half_store.specs.StoreRemoval.{StoreSwapRemoves, SearchesAndRemoves};
+ghost use Rattle.half_store.specs.StoreRemoval.{StoreSwapRemoves, SearchesAndRemoves, StoreShiftRemoves};
 ghost use Rattle.half_store.specs.ValueReplacement.{kept_index, ReplacesValue};
 ghost use Rattle.half_store.specs.Store.{store_pushed, IsVacancy, SameForm};
 
@@ -120,5 +120,16 @@ impl<K, V> Store<K, V> {
             Some(table) => table.retain(&mut self.columns, f),
             None => self.columns.retain(&mut [], f),
         }
+    }
+
+    /// Removes the pair at this index. Each pair behind it gets the index before its own.
+    pub fn shift_remove(&mut self, index: usize) -> (K, V)
+        requires { index < length self.old.pairs }
+        ensures { StoreShiftRemoves self.old self.new index result }
+    {
+        if let Some(table) = &mut self.table {
+            uncounted!(table.shift_remove(index));
+        }
+        self.columns.shift_remove(index)
     }
 }

@@ -1,10 +1,11 @@
-//! The capacity of a store: making it, and giving it back. All memory is had before anything changes.
-ghost use Rattle.std.specs.Prelude.{◌≡◌, ℕ, IfOk, IfErr};
+//! The memory of a store: capacity made and given back, and a table for a vector. All memory is had before anything changes.
+ghost use Rattle.std.specs.Prelude.{◌≡◌, ℕ, IfOk, IfErr, true, length};
 ghost use Rattle.half_store.specs.Arrays.{arrays_of, bytes_of, bytes};
-ghost use Rattle.half_store.specs.Store.{IsStoreClone, MakesStore, StoreReserves, StoreShrinks};
+ghost use Rattle.half_store.specs.Store.{IsStoreClone, MakesStore, StoreReserves, StoreShrinks, MakesTable, table_of};
+ghost use Rattle.half_store.specs.Capacity.{capacity_of};
 
 use super::Store;
-use crate::capacity::{buckets_for, capacity_of};
+use crate::capacity::{buckets_for, capacity_of, generous_capacity};
 use crate::refusal::check_size;
 use crate::{Columns, Refusal, Table};
 use std::alloc::{AllocError, Global};
@@ -73,7 +74,8 @@ impl<K, V> Store<K, V> {
 
     /// Makes the capacity enough for this many pairs more, in a vector for no more in all than the limit.
     ///
-    /// Where it is not enough yet, a table gets the least of its series that is, and a vector grows as `Columns::grow` says.
+    /// Where it is not enough yet, a table gets the least of its series that is, and a vector grows as `generous_capacity` says. On error
+    /// nothing changes.
     #[inline(never)]
     #[tactic(auto)]
     pub fn reserve(&mut self, additional: usize, limit: usize) -> Result<(), Refusal>
@@ -82,7 +84,13 @@ impl<K, V> Store<K, V> {
         let len = self.columns.len();
         let Some(table) = &mut self.table else {
             let needed = len.saturating_add(additional).min(limit);
-            return self.columns.grow(needed, limit);
+            let capacity = self.columns.capacity();
+            if capacity < needed {
+                check_size(needed)?;
+                self.columns
+                    .grow_to(generous_capacity(limit, capacity, needed))?;
+            }
+            return Ok(());
         };
         if additional <= table.capacity() - len {
             return Ok(());
@@ -91,7 +99,7 @@ impl<K, V> Store<K, V> {
             return Err(Refusal::Size);
         };
         let fresh = Table::with_capacity(self.columns.allocator(), needed)?;
-        Ok(self.columns.reserve_beside(table, fresh)?)
+        Ok(self.columns.grow_with_table(table, fresh)?)
     }
 
     /// Makes a table of no more pairs than the limit a vector, and shrinks the capacity to the least that the pairs fit. On
@@ -137,5 +145,30 @@ impl<K, V> Store<K, V> {
             columns: self.columns.clone_with_capacity(table.capacity())?,
             table: Some(copy),
         })
+    }
+
+    /// An empty table with capacity for this many pairs, in a block of its own. The columns get the same capacity, after the table
+    /// has all its memory. On error nothing changes.
+    pub fn new_table(&mut self, needed: usize) -> Result<Box<Table>, Refusal>
+        requires { self.old.is_vec ≡ true }
+        ensures makes { MakesTable self.old self.new needed result }
+    {
+        let alloc = self.columns.allocator();
+        let table = Box::new(alloc, Table::with_capacity(alloc, needed)?)?;
+        if self.columns.capacity() < table.capacity() {
+            self.columns.grow_to(table.capacity())?;
+        }
+        Ok(table)
+    }
+
+    /// Makes a vector one with this table, which has the hash of each pair, in order.
+    pub fn switch_to(&mut self, table: Box<Table>)
+        requires vector { self.old.is_vec ≡ true }
+        requires len { length table.value.hashes ≡ length self.old.pairs }
+        requires backed { capacity_of table.value.buckets ≡ self.old.capacity }
+        ensures { self.new ≡ table_of
+            (record { pairs = self.old.pairs; capacity = self.old.capacity }) table.value }
+    {
+        self.table = Some(table);
     }
 }

@@ -12,8 +12,7 @@ ghost use Rattle.half_store.specs.Reach.{home, probe_distance, IsNearer};
 ghost use Rattle.half_store.specs.StoreRemoval.{Renames, ShiftsUpTo};
 ghost use Rattle.half_store.specs.Table.{table_state, IsIndexed, IsIndexedButFor, TableSearch};
 
-use super::find::find_in;
-use super::probe::{home, next};
+use super::probe::{find_in, home, next};
 use crate::Tally;
 use crate::buckets::HashedBuckets;
 use crate::words::Words;

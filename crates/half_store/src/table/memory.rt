@@ -1,15 +1,17 @@
-//! Making a table, and moving its pairs into another one.
-ghost use Rattle.std.specs.Prelude.{◌≡◌, ◌^◌, ◌<◌, ◌≤◌, ◌↔◌, [], length, Err, IfOk, IsOk};
+//! Making a table, and moving its pairs into another one, by their stored hashes.
+ghost use Rattle.std.specs.Prelude.{◌≡◌, ◌^◌, ◌<◌, ◌≤◌, ◌↔◌, [], length, replicate, Err, IfOk, IsOk};
+ghost use Rattle.half_store.specs.Table.{IsIndexed};
 ghost use Rattle.half_store.specs.Capacity.{capacity_of, buckets_for, buckets_of, IsBucketCount};
 ghost use Rattle.half_store.specs.Words.{word_size};
 
 use super::Table;
-use super::rehash::rehash;
-use crate::Refusal;
+use super::probe::first_empty;
 use crate::blocks::{clone_all, move_to};
+use crate::buckets::HashedBuckets;
 use crate::capacity::{buckets_for, capacity_of};
 use crate::refusal::check_size;
 use crate::words::{WordArray, Words};
+use crate::{Refusal, uncounted};
 use std::alloc::{AllocError, Global};
 
 impl Table {
@@ -76,5 +78,25 @@ impl Table {
     {
         let (words, size) = self.buckets.memory();
         (self.hashes.capacity(), words, size)
+    }
+}
+
+/// Puts all pairs into empty buckets, in the order of their entry indices.
+pub(super) fn rehash<B: Words>(buckets: &mut B, hashes: &[u64])
+    requires count { IsBucketCount (length (B.words buckets.old)) }
+    requires empty { B.words buckets.old ≡ replicate (length (B.words buckets.old)) 0 }
+    requires capacity { length hashes.now ≤ capacity_of (length (B.words buckets.old)) }
+    requires fits { length hashes.now ≤ B.most buckets.old }
+    ensures indexed { IsIndexed hashes.now (B.words buckets.new) }
+    ensures len { length (B.words buckets.new) ≡ length (B.words buckets.old) }
+    ensures most { B.most buckets.new ≡ B.most buckets.old }
+{
+    for index in 0..hashes.len() {
+        let held = HashedBuckets {
+            buckets,
+            hashes: &hashes[..index],
+        };
+        let bucket = uncounted!(first_empty(&held, hashes[index]));
+        buckets.set_word(bucket, index + 1);
     }
 }

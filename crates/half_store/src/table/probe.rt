@@ -9,7 +9,8 @@ ghost use Rattle.std.specs.Fn.{FnReturnsAt};
 ghost use Rattle.half_store.specs.Reach.{home, bucket_after};
 ghost use Rattle.half_store.specs.Slots.{slots_from, WithinHashes, distance_from_home, slot_hash_count, IsSlotVacancy, EndsAtPair};
 ghost use Rattle.half_store.specs.Slots.{HasVacantSlot, ProbeInvariant};
-ghost use Rattle.half_store.specs.Search.{CallableInBuckets, RefusedInBuckets, ReturnsAt};
+ghost use Rattle.half_store.specs.Search.{CallableInBuckets, CallableOnHash, RefusedInBuckets, ReturnsAt};
+ghost use Rattle.half_store.specs.Table.{table_state, IsIndexed, TableSearch};
 ghost use Rattle.half_store.specs.Capacity.{IsBucketCount};
 ghost use Rattle.half_store.specs.Work.{looked_more};
 
@@ -88,6 +89,31 @@ pub fn search<P: Buckets, K, F: Fn(&K) -> bool>(
         }
         bucket = next(bucket, count);
     }
+}
+
+/// Searches for a pair of this hash whose key `matches` accepts, and returns its entry index and its bucket. Where there are
+/// no buckets it reads none, and returns 0.
+#[inline(always)]
+#[tactic(auto, using(crate::proofs::lemmas::table::Find::table_steps))]
+pub(super) fn find_in<P: Buckets, K, F: Fn(&K) -> bool>(
+    buckets: &P,
+    keys: &[K],
+    hash: u64,
+    matches: &F,
+    tally: &mut Tally,
+) -> Result<(usize, usize), usize>
+    requires indexed { IsIndexed (P.hashes buckets.now) (P.words buckets.now) }
+    requires keys { length (P.hashes buckets.now) ≤ length keys.now }
+    requires callable { CallableOnHash (F.pre matches.now) (P.hashes buckets.now) hash keys.now }
+    ensures finds { TableSearch (ReturnsAt (FnReturnsAt F.Fn matches.now) keys.now)
+        (table_state (P.hashes buckets.now) (P.words buckets.now))
+        hash result tally.old tally.new }
+    ensures word { IfOk result (λ pair. slice_index (P.words buckets.now) pair.1 ≡ pair.0 + 1) }
+{
+    if buckets.count() == 0 {
+        return Err(0);
+    }
+    search(buckets, keys, hash, matches, tally)
 }
 
 /// Probes up from the home bucket to the first empty bucket.

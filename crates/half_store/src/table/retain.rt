@@ -6,7 +6,7 @@ ghost use Rattle.std.specs.Map.{keys_of};
 ghost use Rattle.std.specs.Map.Calls.{CalledAtPair, TakesPair, CallableOnEachPair, RetainsPairs};
 
 use super::Table;
-use super::rehash::rehash;
+use super::memory::rehash;
 use crate::Columns;
 
 impl Table {

@@ -9,7 +9,7 @@ ghost use Rattle.half_store.specs.Table.{IsIndexed};
 use super::Table;
 use super::deletion::remove_in;
 use crate::Tally;
-use crate::words::{WordArray, Words};
+use crate::words::{WordArray, Words, of_either_size};
 
 impl Table {
     /// Removes the pair at this entry index. Each pair behind it gets the index before its own. It reads each bucket once, and
@@ -21,10 +21,10 @@ impl Table {
         ensures cost { ReadsWithin (self.old.buckets + 2 * reach self.old.hashes self.old.buckets
             (slice_index self.old.hashes index)) tally.old tally.new }
     {
-        match &mut self.buckets {
-            WordArray::FourBytes(buckets) => shift_in(buckets, &mut self.hashes, index, tally),
-            WordArray::EightBytes(buckets) => shift_in(buckets, &mut self.hashes, index, tally),
-        }
+        of_either_size!(
+            &mut self.buckets,
+            buckets => shift_in(buckets, &mut self.hashes, index, tally)
+        )
     }
 }
 

@@ -2,16 +2,11 @@
 ghost use Rattle.std.specs.Prelude.{◌≡◌, ◌<◌, ◌≤◌, min, [], length, IsOk, IfOk, OnOk, OnErr};
 ghost use Rattle.std.specs.List.{AllZip};
 ghost use Rattle.half_store.specs.Capacity.{capacity_of, capacity_for};
-ghost use Rattle.half_store.specs.Columns.{ColumnsGrow};
 
 use super::Columns;
-use crate::blocks::{clone_all, grow_beside, move_to};
-use crate::refusal::check_size;
-use crate::{Refusal, Table};
+use crate::Table;
+use crate::blocks::{clone_all, grow_with_column, move_to};
 use std::alloc::{AllocError, Global};
-
-/// The least capacity that a growth makes, unless the limit is less.
-const FIRST_CAPACITY: usize = 8;
 
 impl<K, V> Columns<K, V> {
     /// No pairs, with exactly this capacity.
@@ -89,14 +84,14 @@ impl<K, V> Columns<K, V> {
         ensures ok { OnOk result (self.new.capacity ≡ capacity) }
         ensures err { OnErr result (self.new ≡ self.old) }
     {
-        let values = grow_beside(&mut self.keys, capacity)?;
+        let values = grow_with_column(&mut self.keys, capacity)?;
         move_to(&mut self.values, values);
         Ok(())
     }
 
     /// Grows to the capacity of an empty table, into which the pairs of this one move. They move before the values do, so that
     /// the buckets and the values are not both there twice. On error nothing changes.
-    pub(crate) fn reserve_beside(
+    pub(crate) fn grow_with_table(
         &mut self,
         table: &mut Table,
         fresh: Table,
@@ -111,31 +106,9 @@ impl<K, V> Columns<K, V> {
         ensures series { OnOk result (self.new.capacity ≡ capacity_for self.new.capacity) }
         ensures err { OnErr result ((self.new ≡ self.old) × (table.new ≡ table.old)) }
     {
-        let values = grow_beside(&mut self.keys, fresh.capacity())?;
+        let values = grow_with_column(&mut self.keys, fresh.capacity())?;
         table.move_to(fresh);
         move_to(&mut self.values, values);
-        Ok(())
-    }
-
-    /// Makes the capacity enough for `needed` pairs in all. Where that needs memory it grows to twice what it was, but at
-    /// least to eight pairs and what is needed, so that many insertions cost few growths, and never past `limit`. Where it
-    /// needs none, nothing changes.
-    #[inline(never)]
-    pub(crate) fn grow(&mut self, needed: usize, limit: usize) -> Result<(), Refusal>
-        requires { needed ≤ limit }
-        ensures grows { ColumnsGrow limit self.old self.new needed result }
-    {
-        let capacity = self.capacity();
-        if needed <= capacity {
-            return Ok(());
-        }
-        check_size(needed)?;
-        let generous = capacity
-            .saturating_mul(2)
-            .max(FIRST_CAPACITY)
-            .max(needed)
-            .min(limit);
-        self.grow_to(generous)?;
         Ok(())
     }
 }

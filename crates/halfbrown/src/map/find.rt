@@ -1,7 +1,12 @@
 //! The search for a key, or by a match on keys: in a vector by `==` alone, in a table by hash.
-ghost use Rattle.std.specs.Prelude.{◌≡◌, ◌+◌, ◌<◌, false};
-ghost use Rattle.halfbrown.specs.Costs.{IsLookupCost, IsHashedLookupCost};
-ghost use Rattle.halfbrown.specs.Lookup.{KeySearch};
+ghost use Rattle.std.specs.Prelude.{◌≡◌, ◌+◌, ◌<◌, true, false, length};
+ghost use Rattle.std.specs.Fn.{FnReturnsAt};
+ghost use Rattle.std.specs.Map.{keys_of};
+ghost use Rattle.std.specs.Result.{result_ok};
+ghost use Rattle.half_store.specs.Search.{CallableOnKeys};
+ghost use Rattle.half_store.specs.Work.{asked_more, first_match_cost};
+ghost use Rattle.halfbrown.specs.Costs.{IsLookupCost, IsHashedLookupCost, IsSearchCost, search_asked};
+ghost use Rattle.halfbrown.specs.Lookup.{KeySearch, MatchSearch};
 ghost use Rattle.halfbrown.specs.State.{IsValid};
 
 use super::LimitedHashMap;
@@ -15,16 +20,11 @@ impl<K: Eq + Hash, V, S: KeyHasher<K>, L: Limit> LimitedHashMap<K, V, S, L> {
     pub(crate) fn find<Q: Equivalent<K>>(&self, key: Q, tally: &mut Tally) -> Result<usize, Vacancy>
         ensures found { KeySearch (Q.equivalent key)
             (S.hash_writes self.now.builder (Q.hash_input key)) self.now result }
-        ensures cost { IsLookupCost S.hash (S.hash_writes self.now.builder (Q.hash_input key))
-            (Q.equivalent key) self.now tally.old tally.new }
+        ensures cost { IsLookupCost S.KeyHasher Q.Hash Q.Equivalent key self.now
+            tally.old tally.new }
         ensures valid { IsValid K.eq L.LIMIT self.now }
     {
-        // `hash_in_table` written out, so that this proof, for which thirty others wait, waits for one alone.
-        let hash = if self.store.is_vec() {
-            0
-        } else {
-            self.builder.hash_key(&key, tally)
-        };
+        let hash = self.hash_in_table(&key, tally);
         self.find_hashed(hash, key, tally)
     }
 
@@ -40,13 +40,44 @@ impl<K: Eq + Hash, V, S: KeyHasher<K>, L: Limit> LimitedHashMap<K, V, S, L> {
             → hash ≡ S.hash_writes self.now.builder (Q.hash_input key) }
         ensures found { KeySearch (Q.equivalent key)
             (S.hash_writes self.now.builder (Q.hash_input key)) self.now result }
-        ensures cost { IsHashedLookupCost S.hash (S.hash_writes self.now.builder (Q.hash_input key))
-            (Q.equivalent key) self.now tally.old tally.new }
+        ensures cost { IsHashedLookupCost S.KeyHasher Q.Hash Q.Equivalent key self.now
+            tally.old tally.new }
         ensures valid { IsValid K.eq L.LIMIT self.now }
     {
         let matches = move |held: &K| -> bool
             ensures { result ≡ Q.equivalent key held.now }
         { key.equivalent(held) };
         self.store.find(hash, &matches, Scan::ByBlock, tally)
+    }
+
+    /// Searches for a key that `matches` accepts: in a vector for the first, in a table among the keys of this hash.
+    #[inline(always)]
+    pub(crate) fn find_match<F: Fn(&K) -> bool>(
+        &self,
+        hash: u64,
+        matches: &F,
+        tally: &mut Tally,
+    ) -> Result<usize, Vacancy>
+        requires { CallableOnKeys (F.pre matches.now) (keys_of self.now.pairs) }
+        ensures found { MatchSearch (FnReturnsAt F.Fn matches.now) S.hash hash self.now result }
+        ensures cost { IsSearchCost S.hash hash self.now (result_ok result) 0 tally.old tally.new }
+        ensures in_order { self.now.is_vec ≡ true → tally.new.compared
+            ≡ tally.old.compared + first_match_cost (result_ok result) (length self.now.pairs) }
+        ensures valid { IsValid K.eq L.LIMIT self.now }
+    {
+        self.store.find(hash, matches, Scan::ByKey, tally)
+    }
+
+    /// The hash of a key in a table. In a vector nothing is hashed, and it is 0.
+    #[inline(always)]
+    pub(crate) fn hash_in_table<Q: Hash>(&self, key: &Q, tally: &mut Tally) -> u64
+        ensures hash { self.now.is_vec ≡ false
+            → result ≡ S.hash_writes self.now.builder (Q.hash_input key.now) }
+        ensures work { tally.new ≡ asked_more (search_asked self.now.is_vec) tally.old }
+    {
+        if self.store.is_vec() {
+            return 0;
+        }
+        self.builder.hash_key(key, tally)
     }
 }

@@ -1,28 +1,25 @@
 //! The calls of the store, as calls of the map: what they need and do is said of the map.
 //!
 //! A clause `writes_back` says what the map is once the borrow that the call returns has ended.
-ghost use Rattle.std.specs.Prelude.{◌≡◌, ◌+◌, ◌<◌, false, true, Some, [], ◌∷◌, ◌++◌, IfOk, IfErr, IfSome, OnErr, length, slice_get};
+ghost use Rattle.std.specs.Prelude.{◌≡◌, ◌^◌, ◌<◌, ◌≤◌, false, true, Some, [], ◌∷◌, ◌++◌, IfOk, IfErr, IfSome, OnErr, length, slice_get};
 ghost use Rattle.std.specs.Borrow.{sem, Bor};
-ghost use Rattle.std.specs.Fn.{FnReturnsAt};
 ghost use Rattle.std.specs.Map.{keys_of, values_of};
 ghost use Rattle.std.specs.Option.{option_map};
-ghost use Rattle.std.specs.Result.{result_ok, result_err};
+ghost use Rattle.std.specs.Result.{result_err};
 ghost use Rattle.half_store.specs.PairLists.{set_key_at, set_value_at, swap_remove_at};
-ghost use Rattle.half_store.specs.Work.{looked_more, first_match_cost};
-ghost use Rattle.half_store.specs.Search.{CallableOnKeys};
+ghost use Rattle.half_store.specs.Work.{looked_more};
 ghost use Rattle.half_store.specs.Store.{IsVacancy};
 ghost use Rattle.half_store.specs.ValueReplacement.{kept_index, ReplacesValue};
-ghost use Rattle.half_store.specs.declared.vecmap.search.Scan.TheVariants.{ByKey};
-ghost use Rattle.halfbrown.specs.Costs.{probe_length, IsSearchCost};
-ghost use Rattle.halfbrown.specs.Lookup.{MatchSearch};
+ghost use Rattle.halfbrown.specs.Costs.{probe_length};
 ghost use Rattle.halfbrown.specs.Pairs.{holds};
 ghost use Rattle.halfbrown.specs.Insertion.{pushed};
-ghost use Rattle.halfbrown.specs.State.{IsValid, WithPairs, contents_of};
+ghost use Rattle.halfbrown.specs.State.{IsValid, IsTableCapacity, WithPairs, contents_of};
+ghost use Rattle.halfbrown.specs.Layout.{state_in};
 ghost use Rattle.halfbrown.specs.Updates.{HasKeyReplaced};
 
 use super::LimitedHashMap;
 use crate::{KeyHasher, Limit};
-use half_store::{Columns, Scan, Tally, Vacancy};
+use half_store::{Columns, Drained, IntoStore, Tally, Vacancy};
 use std::hash::Hash;
 use std::mem::replace;
 
@@ -72,25 +69,6 @@ impl<K: Eq + Hash, V, S: KeyHasher<K>, L: Limit> LimitedHashMap<K, V, S, L> {
         ensures valid { IsValid K.eq L.LIMIT self.new }
     {
         self.store.set_key_at(index, key)
-    }
-
-    /// Searches for a key that `matches` accepts: in a vector for the first, in a table among the keys of this hash.
-    #[inline(always)]
-    pub(crate) fn find_match<F: Fn(&K) -> bool>(
-        &self,
-        hash: u64,
-        matches: &F,
-        scan: Scan,
-        tally: &mut Tally,
-    ) -> Result<usize, Vacancy>
-        requires { CallableOnKeys (F.pre matches.now) (keys_of self.now.pairs) }
-        ensures found { MatchSearch (FnReturnsAt F.Fn matches.now) S.hash hash self.now result }
-        ensures cost { IsSearchCost S.hash hash self.now (result_ok result) 0 tally.old tally.new }
-        ensures in_order { scan ≡ ByKey → self.now.is_vec ≡ true → tally.new.compared
-            ≡ tally.old.compared + first_match_cost (result_ok result) (length self.now.pairs) }
-        ensures valid { IsValid K.eq L.LIMIT self.now }
-    {
-        self.store.find(hash, matches, scan, tally)
     }
 
     /// Where a pair of a key that is not held may be added, under the key's hash: the capacity must be enough for it. In a table
@@ -166,5 +144,35 @@ impl<K: Eq + Hash, V, S: KeyHasher<K>, L: Limit> LimitedHashMap<K, V, S, L> {
         ensures valid { IsValid K.eq L.LIMIT self.new }
     {
         self.store.replace_with(index, f)
+    }
+
+    /// Takes the store out, with all pairs. An empty vector without memory is left, and the builder.
+    #[inline(always)]
+    pub(crate) fn take_store(&mut self) -> Drained<K, V>
+        ensures after { WithPairs self.old self.old.pairs
+            (state_in result self.new.builder) }
+        ensures small { length result.pairs < 2 ^ 63 }
+        ensures within { result.is_vec ≡ true → result.capacity ≤ L.LIMIT }
+        ensures series { result.is_vec ≡ false → IsTableCapacity result.capacity }
+        ensures exceeds { result.is_vec ≡ false → L.LIMIT < result.capacity }
+    {
+        self.store.drain()
+    }
+
+    /// Puts it back, with no pair. Those that are left in it are dropped.
+    #[inline(always)]
+    pub(crate) fn put_back<P: IntoStore<K, V>>(&mut self, drained: P)
+    where
+        K: Drop,
+        V: Drop,
+        requires within { (P.store drained).is_vec ≡ true → (P.store drained).capacity ≤ L.LIMIT }
+        requires series { (P.store drained).is_vec ≡ false
+            → IsTableCapacity (P.store drained).capacity }
+        requires exceeds { (P.store drained).is_vec ≡ false → L.LIMIT < (P.store drained).capacity }
+        ensures after { WithPairs (state_in (P.store drained) self.old.builder)
+            [] self.new }
+        ensures valid { IsValid K.eq L.LIMIT self.new }
+    {
+        self.store = drained.into_store();
     }
 }

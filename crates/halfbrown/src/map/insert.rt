@@ -48,14 +48,7 @@ impl<K: Eq + Hash, V, S: KeyHasher<K>, L: Limit> LimitedHashMap<K, V, S, L> {
         ensures cost { IsInsertCost L.LIMIT K.eq S.hash self.old key (is_ok result)
             tally.old tally.new }
     {
-        match self.prepare(&key, tally) {
-            Ok(Place::Held(index)) => Ok(Some(self.set_at(index, value))),
-            Ok(Place::Vacant(vacancy)) => {
-                self.push(key, value, vacancy);
-                Ok(None)
-            }
-            Err(why) => Err(Refused { key, value, why }),
-        }
+        Ok(self.insert_full_counted(key, value, tally)?.1)
     }
 
     /// `insert`, which returns the index of the pair too.
@@ -74,7 +67,7 @@ impl<K: Eq + Hash, V, S: KeyHasher<K>, L: Limit> LimitedHashMap<K, V, S, L> {
     }
 
     /// `insert_full`, with its work counted: that of `insert`.
-    #[inline]
+    #[inline(always)]
     pub fn insert_full_counted(
         &mut self,
         key: K,

@@ -1,9 +1,9 @@
-//! Removal.
+//! Removal: by the last pair, which takes the index, or in order.
 ghost use Rattle.std.specs.Prelude.{◌≡◌, ◌<◌, false, Some};
 ghost use Rattle.std.specs.Map.{lookup, lookup_entry};
 ghost use Rattle.std.specs.Option.{option_map};
 ghost use Rattle.halfbrown.specs.Costs.{IsLookupCost, IsHashedLookupCost};
-ghost use Rattle.halfbrown.specs.Removal.{Removes};
+ghost use Rattle.halfbrown.specs.Removal.{Removes, ShiftRemoves, ShiftRemovesAt};
 
 use super::LimitedHashMap;
 use crate::{Equivalent, KeyHasher, Limit};
@@ -35,8 +35,8 @@ impl<K: Eq + Hash, V, S: KeyHasher<K>, L: Limit> LimitedHashMap<K, V, S, L> {
         K: Drop,
         ensures removes { Removes L.LIMIT K.eq (Q.equivalent key) self.old
             (lookup (Q.equivalent key) self.old.pairs) result self.new }
-        ensures cost { IsLookupCost S.hash (S.hash_writes self.old.builder (Q.hash_input key))
-            (Q.equivalent key) self.old tally.old tally.new }
+        ensures cost { IsLookupCost S.KeyHasher Q.Hash Q.Equivalent key self.old
+            tally.old tally.new }
     {
         let (_, value) = self.remove_entry_counted(key, tally)?;
         Some(value)
@@ -65,8 +65,8 @@ impl<K: Eq + Hash, V, S: KeyHasher<K>, L: Limit> LimitedHashMap<K, V, S, L> {
     ) -> Option<(K, V)>
         ensures removes { Removes L.LIMIT K.eq (Q.equivalent key) self.old
             (lookup_entry (Q.equivalent key) self.old.pairs) result self.new }
-        ensures cost { IsLookupCost S.hash (S.hash_writes self.old.builder (Q.hash_input key))
-            (Q.equivalent key) self.old tally.old tally.new }
+        ensures cost { IsLookupCost S.KeyHasher Q.Hash Q.Equivalent key self.old
+            tally.old tally.new }
     {
         let hash = self.hash_in_table(&key, tally);
         self.remove_hashed(hash, key, tally)
@@ -107,8 +107,8 @@ impl<K: Eq + Hash, V, S: KeyHasher<K>, L: Limit> LimitedHashMap<K, V, S, L> {
             (lookup_entry (Q.equivalent key) self.old.pairs) result self.new }
         ensures value { option_map (λ pair. pair.1) result
             ≡ lookup (Q.equivalent key) self.old.pairs }
-        ensures cost { IsHashedLookupCost S.hash (S.hash_writes self.old.builder (Q.hash_input key))
-            (Q.equivalent key) self.old tally.old tally.new }
+        ensures cost { IsHashedLookupCost S.KeyHasher Q.Hash Q.Equivalent key self.old
+            tally.old tally.new }
     {
         self.remove_hashed(hash, key, tally)
     }
@@ -127,12 +127,94 @@ impl<K: Eq + Hash, V, S: KeyHasher<K>, L: Limit> LimitedHashMap<K, V, S, L> {
             (lookup_entry (Q.equivalent key) self.old.pairs) result self.new }
         ensures value { option_map (λ pair. pair.1) result
             ≡ lookup (Q.equivalent key) self.old.pairs }
-        ensures cost { IsHashedLookupCost S.hash (S.hash_writes self.old.builder (Q.hash_input key))
-            (Q.equivalent key) self.old tally.old tally.new }
+        ensures cost { IsHashedLookupCost S.KeyHasher Q.Hash Q.Equivalent key self.old
+            tally.old tally.new }
     {
         let matches = move |held: &K| -> bool
             ensures { result ≡ Q.equivalent key held.now }
         { key.equivalent(held) };
         self.store.take(hash, &matches, tally)
+    }
+
+    /// Removes the pair of the held key that equals this one, and returns its value. Each pair behind it gets the index
+    /// before its own. Where no such key is held, nothing changes. The form and the capacity stay, and no memory is needed.
+    ///
+    /// It costs one search, and then time that grows with the number of pairs: the pairs behind it move, and a table goes
+    /// over all of its buckets. `remove` takes the time of a search.
+    ///
+    /// ```
+    /// assert_eq!(rt; ages.shift_remove(&1), Some(36));
+    /// assert_eq!(rt; ages.shift_remove(&1), None);
+    /// ```
+    #[inline]
+    pub fn shift_remove<Q: Equivalent<K>>(&mut self, key: Q) -> Option<V>
+    where
+        K: Drop,
+        ensures { ShiftRemoves L.LIMIT K.eq (Q.equivalent key) self.old
+            (lookup (Q.equivalent key) self.old.pairs) result self.new }
+    {
+        uncounted!(self.shift_remove_counted(key))
+    }
+
+    /// `shift_remove`, with the work of its search counted.
+    #[inline]
+    pub fn shift_remove_counted<Q: Equivalent<K>>(&mut self, key: Q, tally: &mut Tally) -> Option<V>
+    where
+        K: Drop,
+        ensures removes { ShiftRemoves L.LIMIT K.eq (Q.equivalent key) self.old
+            (lookup (Q.equivalent key) self.old.pairs) result self.new }
+        ensures cost { IsLookupCost S.KeyHasher Q.Hash Q.Equivalent key self.old
+            tally.old tally.new }
+    {
+        let (_, value) = self.shift_remove_entry_counted(key, tally)?;
+        Some(value)
+    }
+
+    /// Removes the pair of the held key that equals this one, as `shift_remove` does, and returns the stored key and its
+    /// value.
+    ///
+    /// ```
+    /// assert_eq!(rt; ages.shift_remove_entry(&1), Some((1, 36)));
+    /// ```
+    #[inline]
+    pub fn shift_remove_entry<Q: Equivalent<K>>(&mut self, key: Q) -> Option<(K, V)>
+        ensures { ShiftRemoves L.LIMIT K.eq (Q.equivalent key) self.old
+            (lookup_entry (Q.equivalent key) self.old.pairs) result self.new }
+    {
+        uncounted!(self.shift_remove_entry_counted(key))
+    }
+
+    /// `shift_remove_entry`, with the work of its search counted.
+    #[inline]
+    pub fn shift_remove_entry_counted<Q: Equivalent<K>>(
+        &mut self,
+        key: Q,
+        tally: &mut Tally,
+    ) -> Option<(K, V)>
+        ensures removes { ShiftRemoves L.LIMIT K.eq (Q.equivalent key) self.old
+            (lookup_entry (Q.equivalent key) self.old.pairs) result self.new }
+        ensures cost { IsLookupCost S.KeyHasher Q.Hash Q.Equivalent key self.old
+            tally.old tally.new }
+    {
+        let index = self.get_index_of_counted(key, tally)?;
+        self.shift_remove_index(index)
+    }
+
+    /// Removes the pair at this index, and returns it. Each pair behind it gets the index before its own. Where the index is
+    /// not below `len`, nothing changes. Nothing is hashed or compared, and all else is as for `shift_remove`.
+    ///
+    /// ```
+    /// assert_eq!(rt; ages.shift_remove_index(0), Some((1, 36)));
+    /// assert_eq!(rt; ages.get_index_of(&2), Some(0));
+    /// ```
+    #[inline]
+    pub fn shift_remove_index(&mut self, index: usize) -> Option<(K, V)>
+        ensures { ShiftRemovesAt L.LIMIT K.eq self.old index result self.new }
+    {
+        if index < self.len() {
+            Some(self.store.shift_remove(index))
+        } else {
+            None
+        }
     }
 }

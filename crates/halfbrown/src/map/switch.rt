@@ -1,10 +1,9 @@
-//! What depends on the form of a map: the switch of a full vector, and the hash of a key. Beside them `find` alone asks for the
-//! form.
+//! The switch: a full vector becomes a table.
 ghost use Rattle.std.specs.Prelude.{◌≡◌, ◌≤◌, ◌<◌, true, false, [], length, map};
 ghost use Rattle.std.specs.Prelude.{OnOk, is_ok, if◌then◌else◌};
 ghost use Rattle.half_store.specs.Capacity.{capacity_of};
 ghost use Rattle.half_store.specs.Work.{asked_more};
-ghost use Rattle.halfbrown.specs.Costs.{search_asked, switch_asked};
+ghost use Rattle.halfbrown.specs.Costs.{switch_asked};
 ghost use Rattle.halfbrown.specs.Growth.{is_full, switch_needs};
 ghost use Rattle.halfbrown.specs.Insertion.{PreparesOrRefuses};
 
@@ -52,19 +51,6 @@ impl<K: Eq + Hash, V, S: KeyHasher<K>, L: Limit> LimitedHashMap<K, V, S, L> {
         );
         self.store.switch_to(table);
         Ok(())
-    }
-
-    /// The hash of a key in a table. In a vector nothing is hashed, and it is 0.
-    #[inline(always)]
-    pub(crate) fn hash_in_table<Q: Hash>(&self, key: &Q, tally: &mut Tally) -> u64
-        ensures hash { self.now.is_vec ≡ false
-            → result ≡ S.hash_writes self.now.builder (Q.hash_input key.now) }
-        ensures work { tally.new ≡ asked_more (search_asked self.now.is_vec) tally.old }
-    {
-        if self.store.is_vec() {
-            return 0;
-        }
-        self.builder.hash_key(key, tally)
     }
 }
 

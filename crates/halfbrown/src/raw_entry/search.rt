@@ -16,7 +16,7 @@ ghost use Rattle.halfbrown.specs.RawEntry.{FindsEntry, FindsEntryByMatch};
 
 use super::{Prepared, RawEntryBuilder, RawEntryBuilderMut, RawEntryMut, RawVacantEntryMut};
 use crate::{Equivalent, KeyHasher, Limit, LimitedHashMap, OccupiedEntry};
-use half_store::{Refusal, Scan, Tally, uncounted};
+use half_store::{Refusal, Tally, uncounted};
 use std::hash::Hash;
 
 impl<K: Eq + Hash, V, S: KeyHasher<K>, L: Limit> LimitedHashMap<K, V, S, L> {
@@ -169,7 +169,7 @@ impl<'a, K: Eq + Hash, V, S: KeyHasher<K>, L: Limit> RawEntryBuilder<'a, K, V, S
         ensures cost { IsMatchCost S.hash hash (map_in self.entry) (option_map deref_pair result)
             tally.old tally.new }
     {
-        match self.map.find_match(hash, &is_match, Scan::ByKey, tally) {
+        match self.map.find_match(hash, &is_match, tally) {
             Ok(index) => Some(self.map.pair_at(index)),
             Err(_) => None,
         }
@@ -291,7 +291,7 @@ impl<'a, K: Eq + Hash, V, S: KeyHasher<K>, L: Limit> RawEntryBuilderMut<'a, K, V
             tally.old tally.new }
     {
         let RawEntryBuilderMut::Ready(ready) = self;
-        match ready.map.find_match(hash, &is_match, Scan::ByKey, tally) {
+        match ready.map.find_match(hash, &is_match, tally) {
             Ok(index) => RawEntryMut::Occupied(OccupiedEntry {
                 map: ready.map,
                 index,

@@ -3,7 +3,7 @@ use Rattle.std.proofs.Common.{◌≡◌, ◌∙◌, ◌+◌, ◌==◌, ◌&&◌,
 use Rattle.std.proofs.Common.{length, if◌then◌else◌}
 use Rattle.std.proofs.lemmas.Grind.{common_steps}
 use Rattle.half_store.specs.Work.{Work, asked_more, looked_more}
-use Rattle.halfbrown.specs.Costs.{Cost, GrewBy, no_cost, add_costs, IsLookupCost, IsKeySearchCost, switch_asked, capacity_after_switch}
+use Rattle.halfbrown.specs.Costs.{Cost, GrewBy, no_cost, add_costs, IsSearchCost, IsKeySearchCost, search_asked, switch_asked, capacity_after_switch}
 use Rattle.halfbrown.specs.Costs.{IsInsertCost, raw_insert_cost, hit_reads}
 use Rattle.half_store.specs.PairLists.{index_of}
 use Rattle.std.specs.Map.{keys_of}
@@ -32,8 +32,10 @@ spent_both a b before middle after first second = grind (arith, common_steps)
 
 -- a search under what a key writes is one under the key's hash
 pub key_costs : {K V S : Type 0} (eq : K → K → Bool) (hash : S → K → ℕ) (m : State K V S) (k : K) (wanted : ℕ) (before after : Work)
-    → hash m.builder k ≡ wanted → IsLookupCost hash wanted (eq k) m before after → IsKeySearchCost eq hash m k before after
-key_costs eq hash m k wanted before after same costs = subst (λ h. IsLookupCost hash h (eq k) m before after) (sym same) costs
+    → hash m.builder k ≡ wanted → IsSearchCost hash wanted m (index_of (eq k) (keys_of m.pairs)) (search_asked m.is_vec) before after
+    → IsKeySearchCost eq hash m k before after
+key_costs eq hash m k wanted before after same costs =
+    subst (λ h. IsSearchCost hash h m (index_of (eq k) (keys_of m.pairs)) (search_asked m.is_vec) before after) (sym same) costs
 
 module _ {K V S : Type 0} (limit : ℕ) (eq : K → K → Bool) (hash : S → K → ℕ) (old : State K V S) (k : K)
     (middle : State K V S) (before between after : Work) (form : middle.is_vec ≡ is_vec_after limit old)

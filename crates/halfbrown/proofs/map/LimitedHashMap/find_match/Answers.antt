@@ -2,6 +2,7 @@ use Rattle.std.proofs.Common.{arith}
 use Rattle.std.proofs.lemmas.Grind.{common_steps}
 use Rattle.std.proofs.Common.{subst}
 use Rattle.std.specs.Result.{result_ok}
+use Rattle.half_store.specs.declared.vecmap.search.Scan.TheVariants.{ByKey}
 use Rattle.halfbrown.specs.Costs.{IsSearchCost}
 use Rattle.halfbrown.specs.Layout.{state_in}
 use Rattle.halfbrown.specs.State.{State}
@@ -19,6 +20,6 @@ returns-clause-cost g c =
     subst (λ (m : State g.row.K.Denot g.row.V.Denot g.row.S.Denot). IsSearchCost hashing c.args.hash m (result_ok c.find.result) 0
     c.args.tally.now c.find.new.tally) c.self.view_is
     (match_costs hashing c.args.hash (state_in store c.self.inside.builder) c.args.tally.now c.find.new.tally store.is_vec
-    (λ i. store.is_vec) c.args.scan (result_ok c.find.result) store.hashes
+    (λ i. store.is_vec) ByKey (result_ok c.find.result) store.hashes
     c.self.invariant.hashed told.cost.vector told.cost.found
     told.cost.missing told.cost.hit told.cost.hits told.cost.short)

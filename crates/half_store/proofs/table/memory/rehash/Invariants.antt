@@ -1,6 +1,6 @@
 use Rattle.std.proofs.Common.{◌≡◌, length, take}
 use Rattle.half_store.specs.Table.{IsIndexed}
-use Rattle.half_store.proofs.table.rehash.rehash.Given as goal
+use Rattle.half_store.proofs.table.memory.rehash.Given as goal
 
 -- the first pairs have their buckets
 abbrev pub invariant-loop-index : goal.invariant-loop-index

@@ -3,7 +3,7 @@ use Rattle.std.proofs.lemmas.Grind.{common_steps}
 use Rattle.std.proofs.lemmas.List.{length-take, length-set, take_more}
 use Rattle.half_store.specs.Capacity.{capacity_of}
 use Rattle.half_store.proofs.lemmas.table.Layout.{index-vacant, IsIndexed-empty, IsIndexed-add, IsIndexed-as}
-use Rattle.half_store.proofs.table.rehash.rehash.Goals as goal
+use Rattle.half_store.proofs.table.memory.rehash.Goals as goal
 
 pub loop-index-init : goal.loop-index-init
 loop-index-init g c = grind (arith, common_steps, IsIndexed-empty)

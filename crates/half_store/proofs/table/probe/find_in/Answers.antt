@@ -3,7 +3,7 @@ use Rattle.std.specs.Fn.{FnReturnsAt}
 use Rattle.half_store.specs.Search.{ReturnsAt}
 use Rattle.half_store.proofs.lemmas.table.Layout.{index-vacant}
 use Rattle.half_store.proofs.lemmas.table.Find.{finds_none, finds, index_at, word_found}
-use Rattle.half_store.proofs.table.find.find_in.Goals as goal
+use Rattle.half_store.proofs.table.probe.find_in.Goals as goal
 
 pub search-requires : goal.search-requires
 search-requires g c =
