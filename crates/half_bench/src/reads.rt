@@ -1,7 +1,7 @@
 //! How many buckets probes read, by the hashes of keys. The buckets count their reads.
 use crate::keys::Key;
 use half_store::buckets::{Buckets, HashedBuckets};
-use half_store::table::probe::{first_empty, search};
+use half_store::table::probe::{first_empty, probe_for};
 use half_store::words::WordArray;
 use half_store::{Table, Tally};
 use halfbrown::DefaultHashBuilder;
@@ -59,7 +59,7 @@ fn search_reads(table: &Table, held: &[u64], number: u64, hash: u64) -> u64 {
         reads: &reads,
     };
     if buckets.count() > 0 && table.len() <= held.len() {
-        let _ = search(
+        let _ = probe_for(
             &buckets,
             held,
             hash,

@@ -9,7 +9,7 @@ use Rattle.halfbrown.specs.declared.run.Command.TheVariants.{Reserve}
 use Rattle.halfbrown.specs.declared.run.Reply.{Reply}
 use Rattle.halfbrown.specs.Costs.{Cost, add_costs}
 use Rattle.half_store.specs.Arrays.{bytes}
-use Rattle.halfbrown.specs.Run.{Chain, RunsAtCost, has_shrink, commands_of, replies_of, cost_of, Step, refusal_in, says_vec, is_shrink, switches, form_changed}
+use Rattle.halfbrown.specs.Run.{StepsLead, RunsAtCost, has_shrink, commands_of, replies_of, cost_of, Step, refusal_in, says_vec, is_shrink, switches, form_changed}
 use Rattle.halfbrown.specs.State.{State, IsValid}
 
 -- whether the command is `Reserve`
@@ -18,8 +18,8 @@ is_reserve (Reserve additional) = true
 is_reserve command = false
 
 -- whether `Reserve` is among the commands
-abbrev pub reserves : {K V : Type 0} → List (Command K V) → Bool
-reserves commands = list_any is_reserve commands
+abbrev pub has_reserve : {K V : Type 0} → List (Command K V) → Bool
+has_reserve commands = list_any is_reserve commands
 
 -- two states have the same form, and the same pairs in the same order
 pub record IsAlike {K V S : Type 0} (a b : State K V S) : Type 0 where
@@ -46,7 +46,7 @@ module _ {K V S : Type 0} where
 module _ {K : Type 0} (V S : Type 0) (limit : ℕ) (eq : K → K → Bool) where
   -- this holds of each run: of any steps, and of the maps from which and to which they lead
   abbrev pub EachRun : (State K V S → List (Step K V S) → State K V S → Type 0) → Type 0
-  EachRun Holds = (old new : State K V S) (steps : List (Step K V S)) → Chain limit eq old steps new → Holds old steps new
+  EachRun Holds = (old new : State K V S) (steps : List (Step K V S)) → StepsLead limit eq old steps new → Holds old steps new
 
   -- the form at the end of a run is the one that the last step that changed it left, and where none did the first one
   abbrev pub FormLaw : Type 0
@@ -75,19 +75,19 @@ module _ {K : Type 0} (V S : Type 0) (limit : ℕ) (eq : K → K → Bool) where
 
   -- without `Reserve` a map has capacity for at most eight pairs more than twice the most that it held at once, or for what it had at first
   abbrev pub CapacityLaw : Type 0
-  CapacityLaw = EachRun (λ old steps new. IsValid eq limit old → reserves (commands_of steps) ≡ false
+  CapacityLaw = EachRun (λ old steps new. IsValid eq limit old → has_reserve (commands_of steps) ≡ false
       → new.capacity ≤ max old.capacity (2 * most_held old steps + 8))
 
   -- so its arrays, and the block of its table, take at most the bytes of a table with that capacity, whatever bytes a key and a value have
   abbrev pub BytesLaw : Type 0
-  BytesLaw = EachRun (λ old steps new. IsValid eq limit old → reserves (commands_of steps) ≡ false → (key value : ℕ)
+  BytesLaw = EachRun (λ old steps new. IsValid eq limit old → has_reserve (commands_of steps) ≡ false → (key value : ℕ)
       → let most : ℕ = max old.capacity (2 * most_held old steps + 8) in
       bytes key value new.is_vec new.capacity ≤ bytes key value false most)
 
   -- without `Shrink` and `Reserve` a run moves at most two pairs for each command, and once those that it began with and twice the limit
   abbrev pub MovesLaw : Type 0
   MovesLaw = EachRun (λ old steps new. IsValid eq limit old → has_shrink (commands_of steps) ≡ false
-      → reserves (commands_of steps) ≡ false → sum_by moved steps ≤ 2 * length steps + (length old.pairs + 2 * limit))
+      → has_reserve (commands_of steps) ≡ false → sum_by moved steps ≤ 2 * length steps + (length old.pairs + 2 * limit))
 
   module _ (hash : S → K → ℕ) where
     -- a run that begins with a vector and puts no pair into a full one ends with a vector, and has hashed nothing

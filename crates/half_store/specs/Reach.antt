@@ -24,19 +24,19 @@ module _ (hashes : List ℕ) (buckets : ℕ) where
   abbrev pub IsLoaded : ℕ → Type 0
   IsLoaded last = (size : ℕ) × (1 ≤ size) × (size < buckets) × (size ≤ load last size)
 
-  -- is one of the stretches of 1 to `most` buckets that end with bucket `last` home to at least as many hashes?
+  -- whether a stretch of 1 to `most` buckets that ends with bucket `last` is home to at least as many hashes
   unfoldable pub loaded_within : ℕ → ℕ → Bool
   loaded_within last zero = false
   loaded_within last (suc most) = nat_le (suc most) (load last (suc most)) || loaded_within last most
 
-  -- the same question as `IsLoaded`
-  abbrev pub loaded_test : ℕ → Bool
-  loaded_test last = loaded_within last (buckets - 1)
+  -- whether `IsLoaded` holds, computed
+  abbrev pub bucket_is_loaded : ℕ → Bool
+  bucket_is_loaded last = loaded_within last (buckets - 1)
 
   -- how many loaded buckets follow one another from this bucket on, at most `most`
   unfoldable pub loaded_run : ℕ → ℕ → ℕ
   loaded_run zero bucket = 0
-  loaded_run (suc most) bucket = if loaded_test bucket then suc (loaded_run most (bucket_after buckets bucket 1)) else 0
+  loaded_run (suc most) bucket = if bucket_is_loaded bucket then suc (loaded_run most (bucket_after buckets bucket 1)) else 0
 
   -- the length of an unsuccessful probe for this hash: the loaded buckets from its home bucket on, and one more
   unfoldable pub reach : ℕ → ℕ
@@ -50,7 +50,7 @@ module _ (hashes : List ℕ) (buckets : ℕ) where
   abbrev pub HomesApart : Type 0
   HomesApart = AllPairs (λ one other. home buckets one ≢ home buckets other) hashes
 
--- the buckets that the insertions read in all that put these hashes into an empty table, the last one first
+-- how many buckets are read in all to insert these hashes into an empty table, the last one of the list first
 abbrev pub filling_reach : (buckets : ℕ) → List ℕ → ℕ
 filling_reach buckets [] = 0
 filling_reach buckets (hash ∷ before) = reach before buckets hash + filling_reach buckets before

@@ -38,7 +38,7 @@ stored test (Some hash) = test hash
 abbrev pub distance_from_home : List (Option ℕ) → ℕ → ℕ → ℕ
 distance_from_home slots hash bucket = probe_distance (length slots) (home (length slots) hash) bucket
 
--- how many buckets have this hash
+-- in how many buckets this hash is stored
 abbrev pub slot_hash_count : List (Option ℕ) → ℕ → ℕ
 slot_hash_count slots hash = count_by (stored (λ held. held == hash)) slots
 

@@ -52,7 +52,7 @@ module _ {K V : Type 0} where
     pub hashes : new.hashes ≡ old.hashes
 
   -- the form and the capacity stay
-  pub record SameForm (old new : StoreState K V) : Type 0 where
+  pub record SameFormAndCapacity (old new : StoreState K V) : Type 0 where
     pub form : new.is_vec ≡ old.is_vec
     pub capacity : new.capacity ≡ old.capacity
 

@@ -8,11 +8,11 @@ use Rattle.half_store.specs.Work.{ReadsWithin, probe_reads, Work}
 use Rattle.half_store.specs.Slots.{slots_from}
 use Rattle.half_store.specs.Reach.{reach, probe_distance}
 use Rattle.half_store.specs.Search.{StoreSearch, IsStoreSearchCost}
-use Rattle.half_store.specs.Store.{StoreState, SameForm}
-use Rattle.half_store.specs.Table.{IsOtherVacancy}
+use Rattle.half_store.specs.Store.{StoreState, SameFormAndCapacity}
+use Rattle.half_store.specs.Table.{IsEmptyBeside}
 use Rattle.std.specs.List.{remove}
 
--- the bucket of the last pair, which a probe for its hash finds, leads to this entry index
+-- the bucket of the last pair, which a probe for its hash finds, has this entry index now
 pub record Renames (hashes old : List ℕ) (index : ℕ) (new : List ℕ) (before after : Work) : Type 0 where
   pub bucket : ℕ
   pub at : slice_index old bucket ≡ length hashes
@@ -22,7 +22,7 @@ pub record Renames (hashes old : List ℕ) (index : ℕ) (new : List ℕ) (befor
 
 -- closing the gap at this bucket reads those after it, up to any empty one
 abbrev pub ShiftsUpTo : List ℕ → List ℕ → ℕ → Work → Work → Type 0
-ShiftsUpTo hashes old removed before after = (vacant : ℕ) → IsOtherVacancy (slots_from hashes (slice_set old removed 0)) removed vacant →
+ShiftsUpTo hashes old removed before after = (vacant : ℕ) → IsEmptyBeside (slots_from hashes (slice_set old removed 0)) removed vacant →
     ReadsWithin (probe_distance (length old) removed vacant) before after
 
 module _ {K V : Type 0} (old new : StoreState K V) where
@@ -31,7 +31,7 @@ module _ {K V : Type 0} (old new : StoreState K V) where
     pub removed : slice_get old.pairs index ≡ Some pair
     pub pairs : new.pairs ≡ swap_remove_at old.pairs index
     pub hashes : old.is_vec ≡ false → new.hashes ≡ swap_remove_at old.hashes index
-    pub form : SameForm old new
+    pub form : SameFormAndCapacity old new
 
   -- the pair that a search found is gone and returned, or it found none and nothing changed
   abbrev pub RemovesFound : Result ℕ Vacancy → Option (K × V) → Type 0
@@ -51,7 +51,7 @@ module _ {K V : Type 0} (old new : StoreState K V) where
 abbrev pub moved_word : ℕ → ℕ → ℕ → ℕ
 moved_word pairs index word = if word == suc index then pairs else (if nat_lt index word then word - 1 else word)
 
--- each bucket has that word
+-- the pair at this index is the last now, as far as the buckets go: each of them has that word
 pub record MovesLast (pairs index : ℕ) (old new : List ℕ) : Type 0 where
   pub len : length new ≡ length old
   pub words : (bucket : ℕ) → slice_index new bucket ≡ moved_word pairs index (slice_index old bucket)
@@ -61,4 +61,4 @@ pub record StoreShiftRemoves {K V : Type 0} (old new : StoreState K V) (index : 
   pub removed : slice_get old.pairs index ≡ Some pair
   pub pairs : new.pairs ≡ remove old.pairs index
   pub hashes : old.is_vec ≡ false → new.hashes ≡ remove old.hashes index
-  pub form : SameForm old new
+  pub form : SameFormAndCapacity old new

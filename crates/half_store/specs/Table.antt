@@ -15,7 +15,7 @@ pub record TableState : Type 0 where
   pub buckets : ℕ
   words : List ℕ
 
--- what each bucket contains
+-- the hash stored for each bucket of the table
 abbrev pub table_slots : TableState → List (Option ℕ)
 table_slots t = slots_from t.hashes t.words
 
@@ -35,7 +35,7 @@ no_contents = record { hashes = []; words = [] }
 abbrev pub IsTableVacancy : Contents → ℕ → ℕ → Type 0
 IsTableVacancy c hash bucket = IsSlotVacancy (slots_from c.hashes c.words) hash bucket
 
--- the same once a pair of the hash is added in this bucket
+-- what the buckets contain once a pair of the hash is added in this bucket
 abbrev pub with_hash_in : Contents → ℕ → ℕ → Contents
 with_hash_in c hash bucket = record { hashes = c.hashes ++ hash ∷ []; words = slice_set c.words bucket (suc (length c.hashes)) }
 
@@ -50,15 +50,15 @@ all_hit_reads_in pairs c = sum_below pairs (λ index. hit_reads_in c index)
 abbrev pub contents_code : Coded Contents
 contents_code = coded_via (coded× (coded_list coded_ℕ) (coded_list coded_ℕ)) (λ c. (c.hashes, c.words)) (λ a b e i. record { hashes = (e i).0; words = (e i).1 })
 
-abbrev pub table_state : List ℕ → List ℕ → TableState
-table_state hashes words = record { hashes = hashes; buckets = length words; words = words }
+abbrev pub state_of_words : List ℕ → List ℕ → TableState
+state_of_words hashes words = record { hashes = hashes; buckets = length words; words = words }
 
-abbrev pub table_state_code : Coded TableState
-table_state_code =
+abbrev pub table_code : Coded TableState
+table_code =
     coded_via (coded× (coded_list coded_ℕ) (coded× coded_ℕ (coded_list coded_ℕ))) (λ t. (t.hashes, (t.buckets, t.words)))
     (λ a b e i. record { hashes = (e i).0; buckets = (e i).1.0; words = (e i).1.1 })
 
--- the buckets lead to the stored hashes: each pair has one bucket, which a probe from its home meets before any empty one
+-- the buckets are an index over the stored hashes: each pair has one bucket, which a probe from its home reads before any empty one
 pub record IsIndexed (hashes words : List ℕ) : Type 0 where
   pub count : IsBucketCount (length words)
   pub room : length hashes ≤ capacity_of (length words)
@@ -66,18 +66,18 @@ pub record IsIndexed (hashes words : List ℕ) : Type 0 where
   pub ordered : ProbeInvariant (slots_from hashes words)
 
 -- a bucket other than the gap is empty
-abbrev pub IsOtherVacancy : List (Option ℕ) → ℕ → ℕ → Type 0
-IsOtherVacancy slots gap vacant = (vacant < length slots) × (slot_at slots vacant ≡ None) × (vacant ≢ gap)
+abbrev pub IsEmptyBeside : List (Option ℕ) → ℕ → ℕ → Type 0
+IsEmptyBeside slots gap vacant = (vacant < length slots) × (slot_at slots vacant ≡ None) × (vacant ≢ gap)
 
 -- an emptied bucket, which alone may break the probe invariant; another bucket is empty too
 pub record HasGap (slots : List (Option ℕ)) (gap : ℕ) : Type 0 where
   pub within : gap < length slots
   pub vacant : slot_at slots gap ≡ None
-  pub another : (bucket : ℕ) × IsOtherVacancy slots gap bucket
+  pub another : (bucket : ℕ) × IsEmptyBeside slots gap bucket
   pub others : (bucket vacant hash : ℕ) → slot_at slots bucket ≡ Some hash → vacant < length slots → slot_at slots vacant ≡ None → vacant ≢ gap →
       distance_from_home slots hash bucket < distance_from_home slots hash vacant
 
--- the buckets lead to the stored hashes but for one bucket that was emptied, and whose pair has no stored hash any more
+-- they are one but for a bucket that was emptied, whose pair has no stored hash any more
 pub record IsIndexedButFor (hashes words : List ℕ) (emptied : ℕ) : Type 0 where
   pub room : length hashes ≤ capacity_of (length words)
   pub each : EachOnce (length hashes) words

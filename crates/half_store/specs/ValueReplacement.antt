@@ -3,8 +3,9 @@ use Rattle.std.specs.Prelude.{◌≡◌, ℕ, ◌-◌, Bool, List, [], ◌∷◌
 use Rattle.std.specs.Borrow.{Bor}
 use Rattle.half_store.specs.PairLists.{set_value_at, swap_remove_at}
 
--- where a pair is once its value was replaced: in a vector it goes last, and the last pair takes its index, in a table it stays
+-- a pair whose value was replaced: in a vector it goes last, and the last pair takes its index, in a table it stays
 module _ {K V : Type 0} (is_vec : Bool) (pairs : List (K × V)) (index : ℕ) where
+  -- its index then
   abbrev pub kept_index : ℕ
   kept_index = if is_vec then length pairs - 1 else index
 

@@ -66,6 +66,6 @@ probe_reads buckets hash bucket = probe_distance buckets (home buckets hash) buc
 abbrev pub removal_reads : List ℕ → ℕ → ℕ → ℕ
 removal_reads hashes buckets index = reach hashes buckets (slice_index hashes index) + reach hashes buckets (slice_index hashes (length hashes - 1)) - 1
 
--- what is left of them where the bucket of the pair is known, and no probe for it is needed
+-- the most that it reads where the bucket of the pair is known, and no probe for it is made
 abbrev pub removal_reads_left : List ℕ → ℕ → ℕ → ℕ → ℕ
 removal_reads_left hashes buckets index bucket = removal_reads hashes buckets index - probe_reads buckets (slice_index hashes index) bucket

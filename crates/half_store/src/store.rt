@@ -4,7 +4,7 @@
 
 ghost use Rattle.std.specs.Prelude.{◌≡◌, ◌<◌, [], length, nat_lt};
 ghost use Rattle.half_store.specs.Columns.{no_pairs};
-ghost use Rattle.half_store.specs.Store.{vector_of, SameForm};
+ghost use Rattle.half_store.specs.Store.{vector_of, SameFormAndCapacity};
 
 mod change;
 mod columns;
@@ -65,7 +65,7 @@ impl<K, V> Store<K, V> {
 
     /// Whether one pair more fits.
     #[inline(always)]
-    pub fn has_room(&self) -> bool
+    pub fn has_capacity_left(&self) -> bool
         ensures { result ≡ nat_lt (length self.now.pairs) self.now.capacity }
     {
         self.columns.len() < self.columns.capacity()
@@ -78,7 +78,7 @@ impl<K, V> Store<K, V> {
         V: Drop,
         ensures pairs { self.new.pairs ≡ [] }
         ensures hashes { self.new.hashes ≡ [] }
-        ensures form { SameForm self.old self.new }
+        ensures form { SameFormAndCapacity self.old self.new }
     {
         if let Some(table) = &mut self.table {
             table.clear();

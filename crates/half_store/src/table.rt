@@ -42,21 +42,21 @@ pub struct Table {
 
 impl Model for Table {
     ghost use Rattle.std.specs.Prelude.{vec_capacity};
-    ghost use Rattle.half_store.specs.Table.{TableState, table_state, table_state_code, IsTable};
+    ghost use Rattle.half_store.specs.Table.{TableState, state_of_words, table_code, IsTable};
     ghost use Rattle.half_store.specs.Words.{words_of, most_of};
 
     ghost Value = { TableState };
 
-    ghost coded = { table_state_code };
+    ghost coded = { table_code };
 
-    ghost view = { λ t. table_state t.hashes.items (words_of t.buckets) };
+    ghost view = { λ t. state_of_words t.hashes.items (words_of t.buckets) };
 
     ghost invariant = { λ t. IsTable t.hashes.items (words_of t.buckets) (most_of t.buckets)
         (vec_capacity t.hashes) };
 }
 
 impl Table {
-    ghost use Rattle.half_store.specs.Table.{table_state, IsIndexed};
+    ghost use Rattle.half_store.specs.Table.{state_of_words, IsIndexed};
     ghost use Rattle.half_store.specs.Words.{words_of};
 
     /// How many pairs it holds.
@@ -204,7 +204,7 @@ impl Table {
     #[inline(always)]
     pub fn hashed_buckets(&self) -> HashedBuckets<'_, WordArray>
         ensures indexed { IsIndexed result.hashes.now (words_of result.buckets.now) }
-        ensures shown { table_state result.hashes.now (words_of result.buckets.now) ≡ self.now }
+        ensures shown { state_of_words result.hashes.now (words_of result.buckets.now) ≡ self.now }
     {
         HashedBuckets {
             buckets: &self.buckets,

@@ -55,7 +55,7 @@ unless_refused refused cost = record {
   looked = if refused then exactly 0 else cost.looked;
 }
 
--- a number grew by one of this range
+-- a number grew by a number in this range
 pub record GrewWithin (range : Range) (before after : ℕ) : Type 0 where
   pub least : before + range.least ≤ after
   pub most : after ≤ before + range.most
@@ -71,7 +71,7 @@ abbrev pub search_asked : Bool → ℕ
 search_asked is_vec = if is_vec then 0 else 1
 
 module _ {K V : Type 0} (hash : K → ℕ) where
-  -- the held keys of this hash: a search for it in a table compares no other
+  -- how many held keys have this hash: a search for it in a table compares no other
   abbrev pub key_hash_count : List (K × V) → ℕ → ℕ
   key_hash_count pairs wanted = count_by (λ q. hash q == wanted) (keys_of pairs)
 
@@ -86,7 +86,7 @@ module _ {K V : Type 0} (hash : K → ℕ) where
   -- a search under this hash that found this index, or none
   module _ (wanted : ℕ) (found : Option ℕ) where
     -- its comparisons: in a vector exactly all where it found none, and else at least those in order up to and with the key that it found; in a
-    -- table exactly all key_hash_count where it found none, and at least one of them where it found one
+    -- table exactly the keys of that hash where it found none, and at least one of them where it found one
     abbrev pub search_compares : Bool → List (K × V) → Range
     search_compares is_vec pairs =
         if is_vec then between (first_match_cost found (length pairs)) (length pairs)

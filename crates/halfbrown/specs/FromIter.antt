@@ -71,7 +71,7 @@ module _ {K V S : Type 0} (limit : ℕ) (eq : K → K → Bool) where
       pub is_made : IsMade is_default (nat_le needed limit) needed made
       pub inserted : InsertsAll made items m
 
-    -- a map that was made with capacity for this many pairs, and then an insertion that was refused
+    -- a map was made with capacity for this many pairs, and then the insertion of an item was refused
     pub record RefusedItem (given : List (K × V) → Type 0) (why : Refusal) : Type 0 where
       pub made : State K V S
       pub is_made : IsMade is_default (nat_le needed limit) needed made

@@ -63,8 +63,8 @@ module _ {K V S : Type 0} where
   pushed m k v vacancy = make_state m.is_vec (m.pairs ++ (k, v) ∷ []) m.capacity m.builder (filled m.is_vec (contents_of m) vacancy)
 
   -- the buckets that making capacity for a pair of this hash reads, whose vacancy is known: where the table grows, those of an insertion probe
-  abbrev pub growth_reads : (K → ℕ) → State K V S → ℕ → Bool → ℕ
-  growth_reads hash m h granted =
+  abbrev pub second_probe_reads : (K → ℕ) → State K V S → ℕ → Bool → ℕ
+  second_probe_reads hash m h granted =
       if nat_lt (length m.pairs) m.capacity then 0 else (if granted then probe_length hash m.is_vec (capacity_for (length m.pairs + 1)) m.pairs h else 0)
 
   -- a granted call that makes capacity for an insertion, which needed this much: the same pairs, and a full vector is a table now
@@ -80,7 +80,7 @@ module _ {K V S : Type 0} where
 
   module _ (eq : K → K → Bool) (hash : S → K → ℕ) where
     -- k is not held, and a pair of it may be added here: the capacity is enough for it
-    pub record HasMapVacancy (m : State K V S) (k : K) (vacancy : Vacancy) : Type 0 where
+    pub record MayInsertAt (m : State K V S) (k : K) (vacancy : Vacancy) : Type 0 where
       pub absent : IsAbsent (eq k) m.pairs
       pub capacity : length m.pairs < m.capacity
       pub vacant : IsVacancy m.is_vec (contents_of m) (hash m.builder k) vacancy
@@ -88,4 +88,4 @@ module _ {K V S : Type 0} where
     -- all is ready for an insertion of k: its index is found, or a vacancy for its pair
     abbrev pub IsPreparedFor : State K V S → K → Place → Type 0
     IsPreparedFor m k (Held index) = IsIndexOf (eq k) m.pairs index
-    IsPreparedFor m k (Vacant vacancy) = HasMapVacancy m k vacancy
+    IsPreparedFor m k (Vacant vacancy) = MayInsertAt m k vacancy

@@ -68,11 +68,11 @@ abbrev pub is_refused : {K V : Type 0} → Reply K V → Bool
 is_refused reply = is_some (refusal_in reply)
 
 -- whether the reply says that a pair was put
-abbrev pub did_put : {K V : Type 0} → Reply K V → Bool
-did_put (Was before) = true
-did_put Added = true
-did_put (Value value) = true
-did_put reply = false
+abbrev pub says_put : {K V : Type 0} → Reply K V → Bool
+says_put (Was before) = true
+says_put Added = true
+says_put (Value value) = true
+says_put reply = false
 
 -- whether the reply is that the form is the vector
 abbrev pub says_vec : {K V : Type 0} → Reply K V → Bool
@@ -98,7 +98,7 @@ module _ {K V S : Type 0} (limit : ℕ) where
 
   -- whether the step put a pair into a full vector, and so made it a table
   abbrev pub switches : Step K V S → Bool
-  switches s = did_put s.reply && is_full limit s.before
+  switches s = says_put s.reply && is_full limit s.before
 
   -- whether the step made a table a vector: it is a `Shrink`, and says so
   abbrev pub goes_back : Step K V S → Bool
@@ -123,14 +123,14 @@ module _ {K V S : Type 0} where
 
 module _ {K V S : Type 0} (limit : ℕ) (eq : K → K → Bool) where
   -- the steps lead from old to new: each begins where the last ended, is one its command may take, and leaves what holds of every map
-  abbrev pub Chain : State K V S → List (Step K V S) → State K V S → Type 0
-  Chain old [] new = new ≡ old
-  Chain old (s ∷ steps) new = (s.before ≡ old) × IsValidStep limit eq s × IsValid eq limit s.after × Chain s.after steps new
+  abbrev pub StepsLead : State K V S → List (Step K V S) → State K V S → Type 0
+  StepsLead old [] new = new ≡ old
+  StepsLead old (s ∷ steps) new = (s.before ≡ old) × IsValidStep limit eq s × IsValid eq limit s.after × StepsLead s.after steps new
 
   -- there are steps that lead from old to new, and have these commands and these replies
   pub record Runs (old : State K V S) (commands : List (Command K V)) (replies : List (Reply K V)) (new : State K V S) : Type 0 where
     pub steps : List (Step K V S)
-    pub lead : Chain old steps new
+    pub lead : StepsLead old steps new
     pub commands_are : commands ≡ commands_of steps
     pub replies_are : replies ≡ replies_of steps
 

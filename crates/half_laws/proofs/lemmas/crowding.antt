@@ -3,7 +3,7 @@ use Rattle.std.proofs.Common.{◌≡◌, ℕ, zero, suc, ◌+◌, ◌-◌, ◌<�
 use Rattle.std.proofs.Common.{[], ◌∷◌, length, sum_by}
 use Rattle.std.proofs.lemmas.Bool.{cases_lt, cases_eq, or_cases, leb-true, lt-ltb, le-ltb, false≢true}
 use Rattle.std.proofs.lemmas.List.Sums.{sum_by-cons, count_by-le-length}
-use Rattle.half_store.specs.Reach.{home, probe_distance, bucket_after, load, loaded_within, loaded_test, IsLoaded}
+use Rattle.half_store.specs.Reach.{home, probe_distance, bucket_after, load, loaded_within, bucket_is_loaded, IsLoaded}
 use Rattle.half_store.proofs.lemmas.table.Circle.{distance_is, after_is}
 use Rattle.half_store.proofs.lemmas.table.Counts.{tick, tick_yes, tick_no}
 use Rattle.half_store.proofs.lemmas.table.Slots.{home-lt}
@@ -35,7 +35,7 @@ module _ (hashes : List ℕ) (m : ℕ) where
       ]
 
   -- what the test of a loaded bucket says
-  pub loaded_from : (last : ℕ) → loaded_test hashes m last ≡ true → IsLoaded hashes m last
+  pub loaded_from : (last : ℕ) → bucket_is_loaded hashes m last ≡ true → IsLoaded hashes m last
   loaded_from last e = let r = loaded_within-size last (m - 1) e in (r.0, r.1, omega (arith, r.1, r.2), r.3)
 
   pub load-le : (last size : ℕ) → load hashes m last size ≤ length hashes
@@ -151,7 +151,7 @@ module _ (hashes : List ℕ) (m : ℕ) where
                 ]
           ]
 
-      leads_over : (count : ℕ) → ((back : ℕ) → back < count → loaded_test hashes m (bucket_after m last (m - back)) ≡ true) → (size : ℕ)
+      leads_over : (count : ℕ) → ((back : ℕ) → back < count → bucket_is_loaded hashes m (bucket_after m last (m - back)) ≡ true) → (size : ℕ)
           × (count ≤ size) × Leads size
       leads_over zero run = (0, omega arith, λ less small. let e : less ≡ 0 = omega arith in rw e (omega arith))
       leads_over (suc count) run =
@@ -159,13 +159,13 @@ module _ (hashes : List ℕ) (m : ℕ) where
           elim (cases_eq rest.0 count) [
             | inr ne ↦ (rest.0, omega (arith, rest.1), rest.2)
             | inl e ↦
-                let loaded : loaded_test hashes m (bucket_after m last (m - rest.0)) ≡ true = run rest.0 (omega arith) in
+                let loaded : bucket_is_loaded hashes m (bucket_after m last (m - rest.0)) ≡ true = run rest.0 (omega arith) in
                 let more = longer rest.0 rest.2 (loaded_from (bucket_after m last (m - rest.0)) loaded) in
                 (more.0, omega (arith, more.1), more.2)
           ]
 
       -- `count` loaded buckets that end here lie in such a stretch
-      pub run_leads : (count : ℕ) → ((back : ℕ) → back < count → loaded_test hashes m (bucket_after m last (m - back)) ≡ true) → (size : ℕ)
+      pub run_leads : (count : ℕ) → ((back : ℕ) → back < count → bucket_is_loaded hashes m (bucket_after m last (m - back)) ≡ true) → (size : ℕ)
           × (count ≤ size) × (size < m) × (size ≤ load hashes m last size)
       run_leads count run =
           let found = leads_over count run in

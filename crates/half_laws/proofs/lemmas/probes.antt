@@ -4,14 +4,14 @@ use Rattle.std.proofs.Common.{length, get_or, sum_by, Contains}
 use Rattle.std.proofs.lemmas.Grind.{common_steps}
 use Rattle.std.proofs.lemmas.Bool.{cases_lt, cases_eq, cases_Bool, lt-ltb, both_ways}
 use Rattle.std.proofs.lemmas.List.Sums.{get_or-le-sum_by}
-use Rattle.half_store.specs.Reach.{home, probe_distance, bucket_after, load, loaded_test, loaded_run, reach, IsLoaded}
+use Rattle.half_store.specs.Reach.{home, probe_distance, bucket_after, load, bucket_is_loaded, loaded_run, reach, IsLoaded}
 use Rattle.half_laws.specs.ProbeLaws.{IsCrowded, PassesLoaded, ReachHistoryLaw, NoBucketsLaw, NothingHeldLaw, OneBucketLaw, SharedHomeLaw}
 use Rattle.half_laws.specs.ProbeLaws.{ShortLaw, OnceRoundLaw, CrowdingLaw, StopsLaw}
 use Rattle.half_store.proofs.lemmas.table.Circle.{distance_is, distance_self, after_is, bucket_after-zero, after_next, bucket_after-lt}
 use Rattle.half_store.proofs.lemmas.table.Counts.{tick, tick_yes}
 use Rattle.half_laws.proofs.lemmas.crowding.{load-le, loaded_from, run_leads}
 use Rattle.half_store.proofs.lemmas.table.History.{reach-permutation}
-use Rattle.half_store.proofs.lemmas.table.Reach.{loaded_test-yes, loaded_run-is, reach-none, reach-some}
+use Rattle.half_store.proofs.lemmas.table.Reach.{bucket_is_loaded-yes, loaded_run-is, reach-none, reach-some}
 use Rattle.half_store.proofs.lemmas.table.Slots.{home-lt}
 
 pub history_law : ReachHistoryLaw
@@ -22,18 +22,18 @@ module _ (hashes : List ℕ) (m : ℕ) where
   unfolding loaded_run
   loaded_run-le zero bucket = omega arith
   loaded_run-le (suc most) bucket =
-      elim (cases_Bool (loaded_test hashes m bucket)) [
+      elim (cases_Bool (bucket_is_loaded hashes m bucket)) [
         | inl e ↦ rw e (omega (arith, loaded_run-le most (bucket_after m bucket 1)))
         | inr e ↦ rw e (omega arith)
       ]
 
   -- each bucket of the run is loaded
   loaded_run-loaded : (most b : ℕ) → b < m → most < m → (k : ℕ) → k < loaded_run hashes m most b
-      → loaded_test hashes m (bucket_after m b k) ≡ true
+      → bucket_is_loaded hashes m (bucket_after m b k) ≡ true
   unfolding loaded_run
   loaded_run-loaded zero b in_b in_most k l = absurd (omega arith)
   loaded_run-loaded (suc most) b in_b in_most k l =
-      elim (cases_Bool (loaded_test hashes m b)) [
+      elim (cases_Bool (bucket_is_loaded hashes m b)) [
         | inr e ↦ let l' = rw e at l in absurd (omega arith)
         | inl e ↦
             let l' : k < suc (loaded_run hashes m most (bucket_after m b 1)) = rw e at l in
@@ -44,18 +44,18 @@ module _ (hashes : List ℕ) (m : ℕ) where
                   let one : suc j ≡ k = omega arith in
                   let rest = loaded_run-loaded most (bucket_after m b 1) (bucket_after-lt m b in_b 1 (omega arith)) (omega arith) j
                   (omega arith) in
-                  subst (λ n. loaded_test hashes m (bucket_after m b n) ≡ true) one
+                  subst (λ n. bucket_is_loaded hashes m (bucket_after m b n) ≡ true) one
                   (rw (← after_next m b in_b j (omega (arith, loaded_run-le most (bucket_after m b 1)))) rest)
             ]
       ]
 
   -- the bucket that follows a run that did not go on to the end is not
   loaded_run-stops : (most b : ℕ) → b < m → most < m → loaded_run hashes m most b < most
-      → loaded_test hashes m (bucket_after m b (loaded_run hashes m most b)) ≡ false
+      → bucket_is_loaded hashes m (bucket_after m b (loaded_run hashes m most b)) ≡ false
   unfolding loaded_run
   loaded_run-stops zero b in_b in_most l = absurd (omega arith)
   loaded_run-stops (suc most) b in_b in_most l =
-      elim (cases_Bool (loaded_test hashes m b)) [
+      elim (cases_Bool (bucket_is_loaded hashes m b)) [
         | inr e ↦ rw (e, bucket_after-zero m b in_b) e
         | inl e ↦
             let l' : suc (loaded_run hashes m most (bucket_after m b 1)) < suc most = rw e at l in
@@ -64,14 +64,14 @@ module _ (hashes : List ℕ) (m : ℕ) where
             rw (e, ← after_next m b in_b (loaded_run hashes m most (bucket_after m b 1)) (omega arith)) rest
       ]
 
-  pub not_loaded : (last : ℕ) → loaded_test hashes m last ≡ false → IsLoaded hashes m last → ⊥
-  not_loaded last e loaded = both_ways (loaded_test hashes m last) e (loaded_test-yes hashes m last loaded)
+  pub not_loaded : (last : ℕ) → bucket_is_loaded hashes m last ≡ false → IsLoaded hashes m last → ⊥
+  not_loaded last e loaded = both_ways (bucket_is_loaded hashes m last) e (bucket_is_loaded-yes hashes m last loaded)
 
-  pub unloaded : (last : ℕ) → (IsLoaded hashes m last → ⊥) → loaded_test hashes m last ≡ false
+  pub unloaded : (last : ℕ) → (IsLoaded hashes m last → ⊥) → bucket_is_loaded hashes m last ≡ false
   unloaded last free = grind (arith, common_steps, loaded_from)
 
   -- a run of as many loaded buckets as the table has would be home to as many hashes
-  full_circle : (b : ℕ) → b < m → length hashes < m → ((k : ℕ) → k < m → loaded_test hashes m (bucket_after m b k) ≡ true) → ⊥
+  full_circle : (b : ℕ) → b < m → length hashes < m → ((k : ℕ) → k < m → bucket_is_loaded hashes m (bucket_after m b k) ≡ true) → ⊥
   full_circle b in_b few run =
       let last : ℕ = bucket_after m b (m - 1) in
       let lead = run_leads hashes m last (bucket_after-lt m b in_b (m - 1) (omega arith)) few m
@@ -147,7 +147,7 @@ one_bucket_law hashes m hash some =
           let part : 1 < m = omega (arith, loaded.1, loaded.2) in
           let none : loaded_run hashes m (m - 1) b ≡ 0 = omega arith in
           let at = loaded_run-stops hashes m (m - 1) b in_b (omega arith) (omega arith) in
-          not_loaded hashes m b (subst (λ n. loaded_test hashes m n ≡ false) start (rw none at at)) loaded,
+          not_loaded hashes m b (subst (λ n. bucket_is_loaded hashes m n ≡ false) start (rw none at at)) loaded,
       λ free.
           let none = loaded_run-is hashes m (m - 1) 0 b in_b (omega arith) (omega arith) (λ k l. absurd (omega arith))
           (λ l. rw start (unloaded hashes m b free)) in
@@ -197,7 +197,7 @@ module _ (hashes : List ℕ) (m hash passed : ℕ) (few : length hashes < m) whe
             | inl below ↦ loaded_run-loaded hashes m (m - 1) b in_b (omega arith) k below
             | inr past ↦
                 let at : passed ≡ k = omega (arith, loaded_run-le hashes m (m - 1) b) in
-                subst (λ n. loaded_test hashes m (bucket_after m b n) ≡ true) at (loaded_test-yes hashes m (bucket_after m b passed) loaded)
+                subst (λ n. bucket_is_loaded hashes m (bucket_after m b n) ≡ true) at (bucket_is_loaded-yes hashes m (bucket_after m b passed) loaded)
           ])
     ];
   }
@@ -205,7 +205,7 @@ module _ (hashes : List ℕ) (m hash passed : ℕ) (few : length hashes < m) whe
   stops_back : PassesLoaded hashes m hash passed → run ≡ passed
   stops_back p =
       let all : (k : ℕ) → k < passed
-      → loaded_test hashes m (bucket_after m b k) ≡ true = λ k l. loaded_test-yes hashes m (bucket_after m b k) (p.loaded k l) in
+      → bucket_is_loaded hashes m (bucket_after m b k) ≡ true = λ k l. bucket_is_loaded-yes hashes m (bucket_after m b k) (p.loaded k l) in
       elim (cases_lt passed m) [
         | inr ge ↦ absurd (full_circle hashes m b in_b few (λ k l. all k (omega arith)))
         | inl l ↦ loaded_run-is hashes m (m - 1) passed b in_b (omega arith) (omega arith) all

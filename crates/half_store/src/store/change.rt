@@ -10,7 +10,7 @@ ghost use Rattle.half_store.specs.Search.{CallableOnKeys};
 ghost use Rattle.half_store.specs.PairLists.{swap_remove_at};
 ghost use Rattle.half_store.specs.StoreRemoval.{StoreSwapRemoves, SearchesAndRemoves, StoreShiftRemoves};
 ghost use Rattle.half_store.specs.ValueReplacement.{kept_index, ReplacesValue};
-ghost use Rattle.half_store.specs.Store.{store_pushed, IsVacancy, SameForm};
+ghost use Rattle.half_store.specs.Store.{store_pushed, IsVacancy, SameFormAndCapacity};
 
 use super::Store;
 use super::find::Vacancy;
@@ -86,7 +86,7 @@ impl<K, V> Store<K, V> {
         ensures hashes { IfErr result (λ _. self.old.is_vec ≡ false
             → self.new.hashes ≡ swap_remove_at self.old.hashes index) }
         ensures kept { OnOk result (self.new.hashes ≡ self.old.hashes) }
-        ensures form { SameForm self.old self.new }
+        ensures form { SameFormAndCapacity self.old self.new }
     {
         let Some(table) = &mut self.table else {
             let last = self.columns.len() - 1;
@@ -114,7 +114,7 @@ impl<K, V> Store<K, V> {
         ensures hashes { self.old.is_vec ≡ false → (hash : K → ℕ)
             → self.old.hashes ≡ map hash (keys_of self.old.pairs)
             → self.new.hashes ≡ map hash (keys_of self.new.pairs) }
-        ensures form { SameForm self.old self.new }
+        ensures form { SameFormAndCapacity self.old self.new }
     {
         match &mut self.table {
             Some(table) => table.retain(&mut self.columns, f),

@@ -1,7 +1,7 @@
 //! A store whose pairs are taken out, from first to last.
 ghost use Rattle.std.specs.Prelude.{◌≡◌, ◌^◌, ◌<◌, [], ◌∷◌, length, MatchOption};
 ghost use Rattle.half_store.specs.Columns.{no_pairs};
-ghost use Rattle.half_store.specs.Store.{vector_of, SameForm};
+ghost use Rattle.half_store.specs.Store.{vector_of, SameFormAndCapacity};
 
 use super::Store;
 use crate::{Columns, Table};
@@ -46,7 +46,7 @@ pub trait IntoStore<K, V> {
         V: Drop,
         ensures pairs { result.pairs ≡ [] }
         ensures hashes { result.hashes ≡ [] }
-        ensures form { SameForm (Self.store self) result };
+        ensures form { SameFormAndCapacity (Self.store self) result };
 }
 
 impl<K, V> Store<K, V> {
@@ -54,7 +54,7 @@ impl<K, V> Store<K, V> {
     #[inline(always)]
     pub fn drain(&mut self) -> Drained<K, V>
         ensures pairs { result.pairs ≡ self.old.pairs }
-        ensures form { SameForm self.old result }
+        ensures form { SameFormAndCapacity self.old result }
         ensures after { self.new ≡ vector_of no_pairs }
         ensures small { length result.pairs < 2 ^ 63 }
     {
@@ -83,7 +83,7 @@ impl<K, V> Drained<K, V> {
     pub fn pop_front(&mut self) -> Option<(K, V)>
         ensures first { MatchOption result ((self.old.pairs ≡ []) × (self.new ≡ self.old))
             (λ pair. self.old.pairs ≡ pair ∷ self.new.pairs) }
-        ensures form { SameForm self.old self.new }
+        ensures form { SameFormAndCapacity self.old self.new }
     {
         let key = self.keys.pop_front()?;
         Some((key, self.values.pop_front().unwrap()))

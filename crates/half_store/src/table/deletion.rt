@@ -10,7 +10,7 @@ ghost use Rattle.half_store.specs.Capacity.{IsBucketCount};
 ghost use Rattle.half_store.specs.Work.{looked_more, ReadsWithin, removal_reads_left, removal_reads};
 ghost use Rattle.half_store.specs.Reach.{home, probe_distance, IsNearer};
 ghost use Rattle.half_store.specs.StoreRemoval.{Renames, ShiftsUpTo};
-ghost use Rattle.half_store.specs.Table.{table_state, IsIndexed, IsIndexedButFor, TableSearch};
+ghost use Rattle.half_store.specs.Table.{state_of_words, IsIndexed, IsIndexedButFor, TableSearch};
 
 use super::probe::{find_in, home, next};
 use crate::Tally;
@@ -111,7 +111,7 @@ pub(super) fn take_in<B: Words, K, F: Fn(&K) -> bool>(
     requires keys { length hashes.old.items ≤ length keys.now }
     requires callable { CallableOnHash (F.pre matches.now) hashes.old.items hash keys.now }
     ensures finds { TableSearch (ReturnsAt (FnReturnsAt F.Fn matches.now) keys.now)
-        (table_state hashes.old.items (B.words buckets.old))
+        (state_of_words hashes.old.items (B.words buckets.old))
         hash result tally.old tally.new }
     ensures hashes { IfOk result (λ pair. hashes.new.items
         ≡ swap_remove hashes.old.items pair.0 0) }

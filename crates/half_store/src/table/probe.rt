@@ -10,7 +10,7 @@ ghost use Rattle.half_store.specs.Reach.{home, bucket_after};
 ghost use Rattle.half_store.specs.Slots.{slots_from, WithinHashes, distance_from_home, slot_hash_count, IsSlotVacancy, EndsAtPair};
 ghost use Rattle.half_store.specs.Slots.{HasVacantSlot, ProbeInvariant};
 ghost use Rattle.half_store.specs.Search.{CallableInBuckets, CallableOnHash, RefusedInBuckets, ReturnsAt};
-ghost use Rattle.half_store.specs.Table.{table_state, IsIndexed, TableSearch};
+ghost use Rattle.half_store.specs.Table.{state_of_words, IsIndexed, TableSearch};
 ghost use Rattle.half_store.specs.Capacity.{IsBucketCount};
 ghost use Rattle.half_store.specs.Work.{looked_more};
 
@@ -45,7 +45,7 @@ pub(crate) fn next(bucket: usize, count: usize) -> usize
 /// `matches` is called with the keys of those pairs alone whose whole hash is equal. Returns the entry index of the pair and
 /// its bucket, or the empty bucket.
 #[inline(always)]
-pub fn search<P: Buckets, K, F: Fn(&K) -> bool>(
+pub fn probe_for<P: Buckets, K, F: Fn(&K) -> bool>(
     buckets: &P,
     keys: &[K],
     hash: u64,
@@ -106,14 +106,14 @@ pub(super) fn find_in<P: Buckets, K, F: Fn(&K) -> bool>(
     requires keys { length (P.hashes buckets.now) ≤ length keys.now }
     requires callable { CallableOnHash (F.pre matches.now) (P.hashes buckets.now) hash keys.now }
     ensures finds { TableSearch (ReturnsAt (FnReturnsAt F.Fn matches.now) keys.now)
-        (table_state (P.hashes buckets.now) (P.words buckets.now))
+        (state_of_words (P.hashes buckets.now) (P.words buckets.now))
         hash result tally.old tally.new }
     ensures word { IfOk result (λ pair. slice_index (P.words buckets.now) pair.1 ≡ pair.0 + 1) }
 {
     if buckets.count() == 0 {
         return Err(0);
     }
-    search(buckets, keys, hash, matches, tally)
+    probe_for(buckets, keys, hash, matches, tally)
 }
 
 /// Probes up from the home bucket to the first empty bucket.

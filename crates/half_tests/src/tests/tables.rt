@@ -2,7 +2,7 @@
 //! pairs it asks for, and how many buckets it reads. The buckets count their reads themselves, so none is read beside the tally.
 
 use half_store::buckets::{Buckets, HashedBuckets};
-use half_store::table::probe::{first_empty, search};
+use half_store::table::probe::{first_empty, probe_for};
 use half_store::words::WordArray;
 use half_store::{Table, Tally};
 use std::alloc::Global;
@@ -60,7 +60,7 @@ fn searched(table: &Table, keys: &[usize], hash: u64, accepted: usize) -> Search
         asked.set(asked.get().wrapping_add(1));
         *key == accepted
     };
-    let ended = search(&buckets, keys, hash, &matches, &mut Tally::new());
+    let ended = probe_for(&buckets, keys, hash, &matches, &mut Tally::new());
     (ended, asked.get(), reads.get())
 }
 

@@ -5,7 +5,7 @@ ghost use Rattle.half_store.specs.Store.{IsVacancy};
 ghost use Rattle.halfbrown.specs.Costs.{switch_asked, new_key_cost, GrewBy, IsInsertCost};
 ghost use Rattle.halfbrown.specs.Growth.{is_full, addition_needs, insert_needs, new_key_needs};
 ghost use Rattle.halfbrown.specs.Pairs.{holds};
-ghost use Rattle.halfbrown.specs.Insertion.{IsPreparedFor, HasMapVacancy, PreparesOrRefuses, growth_reads};
+ghost use Rattle.halfbrown.specs.Insertion.{IsPreparedFor, MayInsertAt, PreparesOrRefuses, second_probe_reads};
 ghost use Rattle.halfbrown.specs.State.{contents_of};
 
 use super::LimitedHashMap;
@@ -34,7 +34,7 @@ impl<K: Eq + Hash, V, S: KeyHasher<K>, L: Limit> LimitedHashMap<K, V, S, L> {
         self.switch_if_full(tally)?;
         match self.find(key, tally) {
             Ok(index) => Ok(Place::Held(index)),
-            Err(vacancy) => Ok(Place::Vacant(self.make_capacity_keeping(vacancy, tally)?)),
+            Err(vacancy) => Ok(Place::Vacant(self.reserve_one_keeping(vacancy, tally)?)),
         }
     }
 
@@ -45,13 +45,13 @@ impl<K: Eq + Hash, V, S: KeyHasher<K>, L: Limit> LimitedHashMap<K, V, S, L> {
         requires { holds K.eq self.old.pairs key.now ≡ false }
         ensures prepares { PreparesOrRefuses L.LIMIT K.eq self.old
             (new_key_needs L.LIMIT self.old) result self.new }
-        ensures ready { IfOk result (HasMapVacancy K.eq S.hash self.new key.now) }
+        ensures ready { IfOk result (MayInsertAt K.eq S.hash self.new key.now) }
         ensures cost { GrewBy (new_key_cost L.LIMIT K.eq S.hash self.old key.now (is_ok result))
             tally.old tally.new }
     {
         self.switch_if_full(tally)?;
         let hash = self.hash_in_table(key, tally);
-        self.make_capacity()?;
+        self.reserve_one()?;
         Ok(self.vacancy_for(hash, tally))
     }
 
@@ -65,18 +65,18 @@ impl<K: Eq + Hash, V, S: KeyHasher<K>, L: Limit> LimitedHashMap<K, V, S, L> {
             then asked_more (switch_asked L.LIMIT self.old) tally.old else tally.old) }
     {
         self.switch_if_full(tally)?;
-        self.make_capacity()
+        self.reserve_one()
     }
 
     // Makes the capacity enough for one pair more.
     #[inline(always)]
-    fn make_capacity(&mut self) -> Result<(), Refusal>
+    fn reserve_one(&mut self) -> Result<(), Refusal>
         requires not_full { is_full L.LIMIT self.old ≡ false }
         ensures prepares { PreparesOrRefuses L.LIMIT K.eq self.old
             (addition_needs self.old) result self.new }
         ensures capacity { OnOk result (length self.new.pairs < self.new.capacity) }
     {
-        if self.store.has_room() {
+        if self.store.has_capacity_left() {
             return Ok(());
         }
         self.reserve(1)
@@ -84,7 +84,7 @@ impl<K: Eq + Hash, V, S: KeyHasher<K>, L: Limit> LimitedHashMap<K, V, S, L> {
 
     // The same, and returns the vacancy, whose bucket is probed for anew where the table grew.
     #[inline(always)]
-    fn make_capacity_keeping(
+    fn reserve_one_keeping(
         &mut self,
         vacancy: Vacancy,
         tally: &mut Tally,
@@ -97,10 +97,10 @@ impl<K: Eq + Hash, V, S: KeyHasher<K>, L: Limit> LimitedHashMap<K, V, S, L> {
         ensures capacity { OnOk result (length self.new.pairs < self.new.capacity) }
         ensures vacant { IfOk result
             (IsVacancy self.new.is_vec (contents_of self.new) vacancy.hash) }
-        ensures work { tally.new ≡ looked_more (growth_reads (S.hash self.old.builder) self.old vacancy.hash (is_ok result))
+        ensures work { tally.new ≡ looked_more (second_probe_reads (S.hash self.old.builder) self.old vacancy.hash (is_ok result))
             tally.old }
     {
-        if self.store.has_room() {
+        if self.store.has_capacity_left() {
             return Ok(vacancy);
         }
         self.reserve(1)?;

@@ -5,7 +5,7 @@ use Rattle.std.proofs.lemmas.Grind.{common_steps}
 use Rattle.std.specs.List.{list_any}
 use Rattle.std.specs.Option.{option_or}
 use Rattle.std.proofs.lemmas.List.Sums.{sum_by-cons}
-use Rattle.halfbrown.specs.Run.{Chain, has_shrink, commands_of, cost_of, Step, did_put, is_shrink, switches, goes_back, form_changed}
+use Rattle.halfbrown.specs.Run.{StepsLead, has_shrink, commands_of, cost_of, Step, says_put, is_shrink, switches, goes_back, form_changed}
 use Rattle.halfbrown.specs.State.{State}
 use Rattle.halfbrown.proofs.lemmas.map.Growth.{form_stays}
 use Rattle.halfbrown.proofs.lemmas.run.Runs.{neither, steps_pay_two, table_stays}
@@ -44,7 +44,7 @@ once_most true = omega arith
 once_most false = omega arith
 
 module _ {K V S : Type 0} (limit : ℕ) (eq : K → K → Bool) where
-  form_after : (first : Bool) (old new : State K V S) (steps : List (Step K V S)) (earlier : Option Bool) → Chain limit eq old steps new
+  form_after : (first : Bool) (old new : State K V S) (steps : List (Step K V S)) (earlier : Option Bool) → StepsLead limit eq old steps new
       → old.is_vec ≡ unwrap_or earlier first
       → new.is_vec ≡ unwrap_or (fold (λ earlier s. option_or (form_changed limit s) earlier) earlier steps) first
   form_after first old new [] earlier lead form = ap (λ m. m.is_vec) lead ∙ form
@@ -64,7 +64,7 @@ module _ {K V S : Type 0} (limit : ℕ) (eq : K → K → Bool) where
       switch_law s.after new steps lead.3 parts.1 ∙ ap (λ v. v && not later) (form_unshrunk limit eq s lead.1 parts.0)
       ∙ neither_switches s.before.is_vec (switches limit s) later ∙ ap (λ m. m.is_vec && not (switches limit s || later)) lead.0
 
-  switches_most : (old new : State K V S) (steps : List (Step K V S)) → Chain limit eq old steps new → has_shrink (commands_of steps) ≡ false
+  switches_most : (old new : State K V S) (steps : List (Step K V S)) → StepsLead limit eq old steps new → has_shrink (commands_of steps) ≡ false
       → count_by (switches limit) steps ≤ once_if old.is_vec
   switches_most old new [] lead none = omega arith
   switches_most old new (s ∷ steps) lead none =
@@ -72,7 +72,7 @@ module _ {K V S : Type 0} (limit : ℕ) (eq : K → K → Bool) where
       omega (
         arith,
         sum_by-cons (λ s. once_if (switches limit s)) s steps,
-        once_less s.before.is_vec (length s.before.pairs == limit) (did_put s.reply),
+        once_less s.before.is_vec (length s.before.pairs == limit) (says_put s.reply),
         ap once_if (form_unshrunk limit eq s lead.1 parts.0),
         ap (λ m. once_if m.is_vec) lead.0,
         switches_most s.after new steps lead.3 parts.1,

@@ -9,11 +9,11 @@ use Rattle.half_store.specs.Arrays.{bytes}
 use Rattle.half_store.specs.Words.{word_size}
 use Rattle.half_store.proofs.lemmas.capacity.{buckets_for-least}
 use Rattle.halfbrown.specs.Growth.{is_full, HasCapacityAfter, IsShrunk}
-use Rattle.halfbrown.specs.Run.{Chain, commands_of, Step, IsValidStep}
+use Rattle.halfbrown.specs.Run.{StepsLead, commands_of, Step, IsValidStep}
 use Rattle.halfbrown.specs.State.{State, IsValid}
 use Rattle.halfbrown.proofs.lemmas.map.Growth.{full_len}
 use Rattle.halfbrown.proofs.lemmas.run.Runs.{neither}
-use Rattle.half_laws.specs.RunLaws.{CapacityLaw, BytesLaw, is_reserve, reserves, most_held}
+use Rattle.half_laws.specs.RunLaws.{CapacityLaw, BytesLaw, is_reserve, has_reserve, most_held}
 use Rattle.half_laws.proofs.lemmas.runs.Changes.{IsDue, Changes, step_changes}
 
 -- the next of the series is twice as large, or 3
@@ -86,12 +86,12 @@ module _ {K V S : Type 0} (limit : ℕ) (eq : K → K → Bool) where
     by (inr (inr has_shrink)) = shrunk_most s.before s.after has_shrink.1
 
   -- from a state that holds no more than `top`
-  steps_most : (old new : State K V S) (steps : List (Step K V S)) (top : ℕ) → Chain limit eq old steps new → IsValid eq limit old
-      → reserves (commands_of steps) ≡ false → length old.pairs ≤ top
+  steps_most : (old new : State K V S) (steps : List (Step K V S)) (top : ℕ) → StepsLead limit eq old steps new → IsValid eq limit old
+      → has_reserve (commands_of steps) ≡ false → length old.pairs ≤ top
       → new.capacity ≤ max old.capacity (2 * fold (λ most s. max most (length s.after.pairs)) top steps + 8)
   steps_most old new [] top lead state none few = omega (arith, ap (λ m. m.capacity) lead)
   steps_most old new (s ∷ steps) top lead state none few =
-      let parts = neither (is_reserve s.command) (reserves (commands_of steps)) none in
+      let parts = neither (is_reserve s.command) (has_reserve (commands_of steps)) none in
       let next = max top (length s.after.pairs) in
       omega (
         arith,

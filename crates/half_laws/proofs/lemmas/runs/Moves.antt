@@ -8,12 +8,12 @@ use Rattle.half_store.specs.Capacity.{IsBucketCount, capacity_of, more_buckets, 
 use Rattle.half_store.proofs.lemmas.capacity.{more_buckets-some, buckets_for-least, buckets_for-grown, quarter}
 use Rattle.halfbrown.specs.Growth.{is_full, HasCapacityAfter}
 use Rattle.halfbrown.specs.Pairs.{put}
-use Rattle.halfbrown.specs.Run.{Chain, has_shrink, commands_of, Step, IsValidStep, is_shrink}
+use Rattle.halfbrown.specs.Run.{StepsLead, has_shrink, commands_of, Step, IsValidStep, is_shrink}
 use Rattle.halfbrown.specs.State.{State, IsValid, IsTableCapacity}
 use Rattle.halfbrown.proofs.CallerLemmas.{len_put}
 use Rattle.halfbrown.proofs.lemmas.map.Growth.{full_len, form_stays, and_false}
 use Rattle.halfbrown.proofs.lemmas.run.Runs.{neither}
-use Rattle.half_laws.specs.RunLaws.{MovesLaw, is_reserve, reserves, moved}
+use Rattle.half_laws.specs.RunLaws.{MovesLaw, is_reserve, has_reserve, moved}
 use Rattle.half_laws.proofs.lemmas.runs.Memory.{first_of_both}
 use Rattle.half_laws.proofs.lemmas.runs.Changes.{IsDue, PutsDue, Changes, step_changes}
 
@@ -110,12 +110,12 @@ module _ {K V S : Type 0} (limit : ℕ) (eq : K → K → Bool) where
     by (inr (inl keeps)) = stays_pays s.before s.after state (omega (arith, keeps.len)) keeps.form keeps.capacity
     by (inr (inr has_shrink)) = absurd (true≢false (sym has_shrink.0 ∙ no_shrink))
 
-  steps_pay : (old new : State K V S) (steps : List (Step K V S)) → Chain limit eq old steps new → IsValid eq limit old
-      → has_shrink (commands_of steps) ≡ false → reserves (commands_of steps) ≡ false → sum_by moved steps ≤ 2 * length steps + credit old
+  steps_pay : (old new : State K V S) (steps : List (Step K V S)) → StepsLead limit eq old steps new → IsValid eq limit old
+      → has_shrink (commands_of steps) ≡ false → has_reserve (commands_of steps) ≡ false → sum_by moved steps ≤ 2 * length steps + credit old
   steps_pay old new [] lead state no_shrink no_reserve = omega arith
   steps_pay old new (s ∷ steps) lead state no_shrink no_reserve =
       let shrink = neither (is_shrink s.command) (has_shrink (commands_of steps)) no_shrink in
-      let reserve = neither (is_reserve s.command) (reserves (commands_of steps)) no_reserve in
+      let reserve = neither (is_reserve s.command) (has_reserve (commands_of steps)) no_reserve in
       omega (
         arith,
         sum_by-cons moved s steps,

@@ -3,7 +3,7 @@ use Rattle.std.proofs.Common.{◌≡◌, ◌∙◌, ℕ, Bool, List, [], ◌∷�
 use Rattle.std.proofs.lemmas.List.{map-append}
 use Rattle.halfbrown.specs.declared.run.Command.{Command}
 use Rattle.halfbrown.specs.Costs.{add_costs}
-use Rattle.halfbrown.specs.Run.{Chain, commands_of, replies_of, cost_of, Step}
+use Rattle.halfbrown.specs.Run.{StepsLead, commands_of, replies_of, cost_of, Step}
 use Rattle.halfbrown.specs.State.{State}
 use Rattle.halfbrown.proofs.lemmas.run.Runs.{lead_on, cost_of-append}
 use Rattle.half_laws.specs.RunLaws.{SplitLaw, JoinLaw}
@@ -19,8 +19,8 @@ module _ {K V S : Type 0} where
       (s ∷ rest.0, rest.1, (λ i. s ∷ rest.2 i), cc (same, rest.3), rest.4)
 
 module _ {K V S : Type 0} (limit : ℕ) (eq : K → K → Bool) where
-  lead_parts : (old new : State K V S) (first second : List (Step K V S)) → Chain limit eq old (first ++ second) new
-      → (between : State K V S) × Chain limit eq old first between × Chain limit eq between second new
+  lead_parts : (old new : State K V S) (first second : List (Step K V S)) → StepsLead limit eq old (first ++ second) new
+      → (between : State K V S) × StepsLead limit eq old first between × StepsLead limit eq between second new
   lead_parts old new [] second lead = (old, refl, lead)
   lead_parts old new (s ∷ first) second lead =
       let rest = lead_parts s.after new first second lead.3 in
@@ -31,7 +31,7 @@ module _ {K V S : Type 0} (limit : ℕ) (eq : K → K → Bool) where
     split_law old first second replies new cost at_cost =
         let run = at_cost.run in
         let parts = parts_of first second run.steps run.commands_are in
-        let leads = lead_parts old new parts.0 parts.1 (subst (λ steps. Chain limit eq old steps new) parts.2 run.lead) in
+        let leads = lead_parts old new parts.0 parts.1 (subst (λ steps. StepsLead limit eq old steps new) parts.2 run.lead) in
         record {
           between = leads.0;
           first_replies = replies_of parts.0;

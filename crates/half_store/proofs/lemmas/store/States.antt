@@ -10,7 +10,7 @@ use Rattle.std.specs.Global.{Box}
 use Rattle.half_store.specs.Columns.{ColumnsState}
 use Rattle.half_store.specs.PairLists.{set_key_at, set_value_at, set_values, swap_remove_at, length-set_value_at}
 use Rattle.half_store.specs.ValueReplacement.{kept_pairs, with_answer, ReplacesValue}
-use Rattle.half_store.specs.Store.{StoreState, IsStore, IsTableOver, SameForm, vector_of, table_of, store_of}
+use Rattle.half_store.specs.Store.{StoreState, IsStore, IsTableOver, SameFormAndCapacity, vector_of, table_of, store_of}
 use Rattle.half_store.specs.Table.{TableState}
 
 module _ {K V : Type 0} where
@@ -47,7 +47,7 @@ module _ {K V : Type 0} where
   -- the form stays where a table has another index with as many buckets, and the capacity of the columns stays
   pub table_keeps_form : (old new : ColumnsState K V) {t : Box TableState} {after : TableState} {index : Option (Box TableState)} {s : StoreState K V}
       → index ≡ Some t → store_of old index ≡ s → after.buckets ≡ t.value.buckets → new.capacity ≡ old.capacity
-      → SameForm s (table_of new after)
+      → SameFormAndCapacity s (table_of new after)
   table_keeps_form old new {t} is view buckets columns = grind (arith, common_steps, table_view)
 
   -- as many pairs, with the same capacity, have the same index

@@ -7,7 +7,7 @@ use Rattle.std.proofs.lemmas.List.{length-set, set-set}
 use Rattle.std.proofs.lemmas.Option.{same_Some}
 use Rattle.half_store.specs.Slots.{hash_of_word, slots_from, EachOnce, slot_at, HasVacantSlot, ProbeInvariant}
 use Rattle.half_store.specs.Reach.{home, probe_distance, bucket_after}
-use Rattle.half_store.specs.Table.{HasGap, IsIndexedButFor, IsOtherVacancy}
+use Rattle.half_store.specs.Table.{HasGap, IsIndexedButFor, IsEmptyBeside}
 use Rattle.half_store.proofs.lemmas.table.Buckets.{length-slots_from, hash_of_word-at, slot_of_word, slot_of_zero, word_set, word_other, within-at}
 use Rattle.half_store.proofs.lemmas.table.Buckets.{EachOnce-move}
 use Rattle.half_store.proofs.lemmas.table.Circle.{distance_is, after_is, next_farther, probe_distance-lt, distance_same}
@@ -57,7 +57,7 @@ module _ (m : ℕ) (hashes words : List ℕ) (start bucket : ℕ) (size : length
   in_start : start < m
   in_start = omega (arith, x.gap.within, long_start)
 
-  pub Ahead-start : (vacant : ℕ) → IsOtherVacancy (around hashes words start) start vacant → Ahead m hashes words start start bucket vacant
+  pub Ahead-start : (vacant : ℕ) → IsEmptyBeside (around hashes words start) start vacant → Ahead m hashes words start start bucket vacant
   Ahead-start vacant v = grind (arith, common_steps, after_is, distance_is, in_start, long_start)
 
   pub Shifts-start : Shifts m hashes words start start bucket

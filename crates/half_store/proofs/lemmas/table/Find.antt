@@ -9,7 +9,7 @@ use Rattle.std.proofs.lemmas.Option.{slice_get_within, get_or_from_slice_get}
 use Rattle.half_store.specs.Slots.{slots_from, slot_at, stored, IsSlotVacancy, EndsAtPair, distance_from_home}
 use Rattle.half_store.specs.Reach.{probe_distance, reach, HomesApart}
 use Rattle.half_store.specs.Work.{after_missing, looked_more, ReadsWithin, removal_reads, Work, probe_reads}
-use Rattle.half_store.specs.Table.{TableState, table_state, table_contents, IsIndexed, TableSearch, RemovesFromTable, hit_reads_in}
+use Rattle.half_store.specs.Table.{TableState, state_of_words, table_contents, IsIndexed, TableSearch, RemovesFromTable, hit_reads_in}
 use Rattle.half_store.proofs.lemmas.table.Buckets.{length-slots_from, slot_of_word, slot_of_zero, some_bucket}
 use Rattle.half_store.proofs.lemmas.table.Circle.{distance_self}
 use Rattle.half_store.proofs.lemmas.capacity.{buckets_of-capacity_of, capacity_for-capacity_of}
@@ -46,7 +46,7 @@ module _ {hashes words : List ℕ} (x : IsIndexed hashes words) (hash : ℕ) whe
 
   -- a search that found this entry index
   looked_hit : (index p old new : ℕ) → EndsAtPair hashes words hash index p old new
-      → new ≡ old + hit_reads_in (table_contents (table_state hashes words)) index
+      → new ≡ old + hit_reads_in (table_contents (state_of_words hashes words)) index
   looked_hit index p old new ends =
       let some : slice_index words p ≢ 0 = λ none. full_from _ hash ends.found.found (slot_of_zero hashes words p none) in
       let at : slice_get hashes index ≡ Some hash = ap (slice_get hashes) ends.entry ∙ index_at p ends.found.found in
@@ -55,7 +55,7 @@ module _ {hashes words : List ℕ} (x : IsIndexed hashes words) (hash : ℕ) whe
 
   -- a search where there are no buckets
   pub finds_none : (returns : ℕ → Bool → Type 0) (w : Work) → length words ≡ 0
-      → TableSearch returns (table_state hashes words) hash (Err 0) w w
+      → TableSearch returns (state_of_words hashes words) hash (Err 0) w w
   finds_none returns w none = grind (arith, common_steps, hits_add_up, buckets_seen, count_by-le-length, reach-none, same_work, short, slice_get_within)
 
   -- the word of the bucket where a search ends leads to its pair
@@ -74,7 +74,7 @@ module _ {hashes words : List ℕ} (x : IsIndexed hashes words) (hash : ℕ) whe
       → new.asked ≡ old.asked → IfErr result (λ p. new.looked ≡ old.looked + (distance_from_home slots hash p + 1))
       → OnOk result (old.compared + 1 ≤ new.compared) → new.compared ≤ old.compared + held
       → OnErr result (new.compared ≡ old.compared + held)
-      → TableSearch returns (table_state hashes words) hash result old new
+      → TableSearch returns (state_of_words hashes words) hash result old new
   finds returns (Ok (index, p)) old new ends accepted vacancy refused asked looked some most all =
       let size = length-slots_from hashes words in
       let in_p : p < length slots = full-lt slots p (full_from _ hash ends.found.found) in
@@ -126,9 +126,9 @@ module _ {hashes words : List ℕ} (x : IsIndexed hashes words) (hash : ℕ) whe
       }
 
 -- What was told of columns that are lent, in the words of callers.
-module _ {hs ws hashes words : List ℕ} {t : TableState} (view : table_state hs ws ≡ t) (h : hashes ≡ hs) (w : ws ≡ words) {hash : ℕ} where
+module _ {hs ws hashes words : List ℕ} {t : TableState} (view : state_of_words hs ws ≡ t) (h : hashes ≡ hs) (w : ws ≡ words) {hash : ℕ} where
   pub search_seen : {returns : ℕ → Bool → Type 0} {result : Result (ℕ × ℕ) ℕ} {old new : Work}
-      → TableSearch returns (table_state hashes words) hash result old new → TableSearch returns t hash result old new
+      → TableSearch returns (state_of_words hashes words) hash result old new → TableSearch returns t hash result old new
   search_seen {returns} {result} {old} {new} told = subst (λ t. TableSearch returns t hash result old new) (view_lent view h w) told
 
   pub probe_seen : IsIndexed hs ws → {p : ℕ} (old new : Work) → IsSlotVacancy (slots_from hashes words) hash p
@@ -140,10 +140,10 @@ module _ {hs ws hashes words : List ℕ} {t : TableState} (view : table_state hs
       ∙ ap (λ n. reach hashes n hash) (length-slots_from hashes words)))
 
 -- A search that removes what it finds, in the words of callers.
-module _ (hashes words hashes' words' : List ℕ) {t : TableState} (view : table_state hashes words ≡ t) where
+module _ (hashes words hashes' words' : List ℕ) {t : TableState} (view : state_of_words hashes words ≡ t) where
   pub taken_removes : (hash : ℕ) (result : Result (ℕ × ℕ) ℕ) → length words' ≡ length words
       → IfOk result (λ pair. slice_get t.hashes pair.0 ≡ Some hash) → IfOk result (λ pair. hashes' ≡ swap_remove hashes pair.0 0)
-      → IfOk result (λ pair. RemovesFromTable t pair.0 (table_state hashes' words') hash)
+      → IfOk result (λ pair. RemovesFromTable t pair.0 (state_of_words hashes' words') hash)
   taken_removes hash result len found left = grind (arith, common_steps)
 
   pub taken_cost : (old new : Work) (result : Result (ℕ × ℕ) ℕ)
@@ -153,9 +153,9 @@ module _ (hashes words hashes' words' : List ℕ) {t : TableState} (view : table
 
   pub taken_none : (old new : Work) (result : Result (ℕ × ℕ) ℕ)
       → OnErr result ((hashes' ≡ hashes) × (words' ≡ words) × (new ≡ old))
-      → OnErr result ((table_state hashes' words' ≡ t) × (new ≡ old))
+      → OnErr result ((state_of_words hashes' words' ≡ t) × (new ≡ old))
   taken_none old new (Ok pair) same = tt
-  taken_none old new (Err bucket) (kept, also, unread) = ((λ i. table_state (kept i) (also i)) ∙ view, unread)
+  taken_none old new (Err bucket) (kept, also, unread) = ((λ i. state_of_words (kept i) (also i)) ∙ view, unread)
 
 -- what the proofs of `Table` go by
 pub ruleset table_steps = (common_steps, IsIndexed-as, buckets_of-capacity_of, buckets_seen, capacity_for-capacity_of, count_seen, index-vacant, view_lent)

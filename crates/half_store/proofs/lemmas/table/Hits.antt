@@ -5,9 +5,9 @@ use Rattle.std.proofs.lemmas.Bool.{cases_lt, ne_eqb, eq-eqb, cond-true, cond-fal
 use Rattle.std.proofs.lemmas.List.Sums.{fails_before_first, passes_at_first}
 use Rattle.std.specs.List.{position_or_len}
 use borrow.Author.Tests.{eqb-true}
-use Rattle.half_store.specs.Reach.{home, probe_distance, loaded_test, filling_reach}
+use Rattle.half_store.specs.Reach.{home, probe_distance, bucket_is_loaded, filling_reach}
 use Rattle.half_store.specs.Slots.{slots_from, slot_at, bucket_of, HasVacantSlot, ProbeInvariant}
-use Rattle.half_store.specs.Table.{IsIndexed, table_state, table_contents, hit_reads_in, all_hit_reads_in}
+use Rattle.half_store.specs.Table.{IsIndexed, state_of_words, table_contents, hit_reads_in, all_hit_reads_in}
 use Rattle.half_store.specs.Work.{probe_reads, sum_below}
 use Rattle.half_store.proofs.lemmas.capacity.{four-le_count}
 use Rattle.half_store.proofs.lemmas.table.Buckets.{length-slots_from, slot_of_word, slot_of_zero, within-at, some_bucket, same_bucket}
@@ -24,7 +24,7 @@ homes_from m v hashes = sum_by (λ h. probe_distance m v (home m h)) hashes
 
 -- the distances from bucket v to the loaded buckets, and one more for each
 abbrev loaded_from : ℕ → ℕ → List ℕ → ℕ
-loaded_from m v hashes = sum_below m (λ p. cond (loaded_test hashes m p) (probe_distance m v p + 1) 0)
+loaded_from m v hashes = sum_below m (λ p. cond (bucket_is_loaded hashes m p) (probe_distance m v p + 1) 0)
 
 module _ (slots : List (Option ℕ)) (ordered : ProbeInvariant slots) (hashes : List ℕ) (counted : SameCounts hashes slots)
     (v : ℕ) (in_v : v < length slots) (none : slot_at slots v ≡ None) where
@@ -36,7 +36,7 @@ module _ (slots : List (Option ℕ)) (ordered : ProbeInvariant slots) (hashes : 
 
   -- no pair passes an empty bucket, so the way from there to the pair leads over its home
   at_bucket : (p : ℕ) → p < m → (slot : Option ℕ) → slot_at slots p ≡ slot
-      → of_slot (λ h. probe_reads m h p) slot + of_slot weight slot ≡ cond (loaded_test hashes m p) (probe_distance m v p + 1) 0
+      → of_slot (λ h. probe_reads m h p) slot + of_slot weight slot ≡ cond (bucket_is_loaded hashes m p) (probe_distance m v p + 1) 0
   at_bucket p in_p None is = rw (unloaded_where_vacant slots ordered hashes counted p in_p is) refl
   at_bucket p in_p (Some h) is =
       let before = ordered.before p v h is in_v none in
@@ -68,15 +68,15 @@ module _ {m : ℕ} {hashes : List ℕ} {slots : List (Option ℕ)} (t : IsTableO
       subst (λ n. slot_reads n slots + homes_from n v hashes ≡ loaded_from n v hashes) t.long
       (spread slots t.ordered hashes t.counted v within none)
 
-  none_unloaded : slot_at slots v ≡ None → loaded_test hashes m v ≡ false
+  none_unloaded : slot_at slots v ≡ None → bucket_is_loaded hashes m v ≡ false
   none_unloaded none =
-      subst (λ n. loaded_test hashes n v ≡ false) t.long (unloaded_where_vacant slots t.ordered hashes t.counted v within none)
+      subst (λ n. bucket_is_loaded hashes n v ≡ false) t.long (unloaded_where_vacant slots t.ordered hashes t.counted v within none)
 
-  unloaded_vacant : HasVacantSlot slots → loaded_test hashes m v ≡ false → slot_at slots v ≡ None
+  unloaded_vacant : HasVacantSlot slots → bucket_is_loaded hashes m v ≡ false → slot_at slots v ≡ None
   unloaded_vacant some is =
       elim (slot_cases (slot_at slots v)) [
         | inl none ↦ none
-        | inr (h, full) ↦ absurd (false≢true (sym is ∙ subst (λ n. loaded_test hashes n v ≡ true) t.long
+        | inr (h, full) ↦ absurd (false≢true (sym is ∙ subst (λ n. bucket_is_loaded hashes n v ≡ true) t.long
             (loaded_where_full slots t.ordered hashes t.counted v (full_from _ h full) some)))
       ]
 
@@ -144,7 +144,7 @@ module _ {hashes words : List ℕ} (x : IsIndexed hashes words) where
   table = record { long = length-slots_from hashes words; ordered = x.ordered; counted = index-counted x }
 
   -- the searches for all held pairs read what the insertions of their hashes read
-  pub hits_add_up : all_hit_reads_in (length hashes) (table_contents (table_state hashes words)) ≡ filling_reach (length words) hashes
+  pub hits_add_up : all_hit_reads_in (length hashes) (table_contents (state_of_words hashes words)) ≡ filling_reach (length words) hashes
   unfolding all_hit_reads_in hit_reads_in
   hits_add_up =
       let m : ℕ = length words in
@@ -165,7 +165,7 @@ module _ {hashes words : List ℕ} (x : IsIndexed hashes words) where
 
   -- a search that ends at a pair has read what its depth says
   pub hit_reads_in-at : (index p hash : ℕ) → slice_index words p ≡ suc index → slice_index hashes index ≡ hash
-      → hit_reads_in (table_contents (table_state hashes words)) index ≡ probe_reads (length words) hash p
+      → hit_reads_in (table_contents (state_of_words hashes words)) index ≡ probe_reads (length words) hash p
   unfolding hit_reads_in
   hit_reads_in-at index p hash word is =
       let within : index < length hashes = omega (arith, within-at (length hashes) words p x.each.within) in

@@ -11,7 +11,7 @@ use Rattle.std.proofs.lemmas.Option.{same_Some, slice_get-get_or, slice_get_with
 use Rattle.half_store.specs.Slots.{hash_of_word, slots_from, EachOnce, slot_at, stored, IsSlotVacancy, HasVacantSlot, ProbeInvariant}
 use Rattle.half_store.specs.Capacity.{capacity_of, buckets_of, IsBucketCount}
 use Rattle.half_store.specs.Reach.{home, probe_distance, reach, IsNearer, HomesApart}
-use Rattle.half_store.specs.Table.{TableState, table_state, HasGap, IsIndexed, IsIndexedButFor, IsTable, IsOtherVacancy}
+use Rattle.half_store.specs.Table.{TableState, state_of_words, HasGap, IsIndexed, IsIndexedButFor, IsTable, IsEmptyBeside}
 use Rattle.half_store.proofs.lemmas.table.Buckets.{length-slots_from, hash_of_word-at, slots_from-set, slots_from-same, slot_of_word, slot_of_zero}
 use Rattle.half_store.proofs.lemmas.table.Buckets.{word_of_slot, zero_of_slot, word_set, word_other, word-lt, within-at, same_bucket}
 use Rattle.half_store.proofs.lemmas.table.Buckets.{EachOnce-add, EachOnce-remove, EachOnce-empty, length-remove, remove-at, remove-last}
@@ -230,7 +230,7 @@ module _ {hashes words : List ℕ} (x : IsIndexed hashes words) where
         }
 
     -- an empty bucket ends the shift where an unsuccessful probe for the hash of the pair ends
-    pub vacant-remove : (vacant : ℕ) × IsOtherVacancy (slots_from hashes° words°) bucket vacant
+    pub vacant-remove : (vacant : ℕ) × IsEmptyBeside (slots_from hashes° words°) bucket vacant
         × (probe_distance (length words) (home (length words) (slice_index hashes index)) bucket
         + probe_distance (length words) bucket vacant + 1 ≡ reach hashes (length words) (slice_index hashes index))
     vacant-remove =
@@ -251,7 +251,7 @@ module _ {hashes words : List ℕ} (x : IsIndexed hashes words) where
           before,
         ) in (
           v.0,
-          subst (λ s. IsOtherVacancy s bucket v.0) (sym slots-remove)
+          subst (λ s. IsEmptyBeside s bucket v.0) (sym slots-remove)
               (omega (arith, length-set slots bucket None, v.1.within), slot_other slots bucket v.0 None apart ∙ v.1.vacant, apart),
           subst (λ n. probe_distance n (home n hash) bucket + probe_distance n bucket v.0 + 1 ≡ reach hashes n hash) long far,
         )
@@ -282,15 +282,15 @@ pub IsTable-as : {hashes words hashes' words' : List ℕ} {most most' capacity :
 IsTable-as h w m x sized exact = grind (arith, common_steps)
 
 -- the columns of a table, as they are lent, are its value
-pub view_lent : {hashes hs words ws : List ℕ} {t : TableState} → table_state hs ws ≡ t → hashes ≡ hs → ws ≡ words
-    → table_state hashes words ≡ t
-view_lent view h w = (λ i. table_state (h i) (sym w i)) ∙ view
+pub view_lent : {hashes hs words ws : List ℕ} {t : TableState} → state_of_words hs ws ≡ t → hashes ≡ hs → ws ≡ words
+    → state_of_words hashes words ≡ t
+view_lent view h w = (λ i. state_of_words (h i) (sym w i)) ∙ view
 
 -- a table has as many buckets as words, and they are those of its capacity
-pub count_seen : (hashes words : List ℕ) {t : TableState} → table_state hashes words ≡ t → length words ≡ t.buckets
+pub count_seen : (hashes words : List ℕ) {t : TableState} → state_of_words hashes words ≡ t → length words ≡ t.buckets
 count_seen hashes words view = ap (λ v. v.buckets) view
 
-pub buckets_seen : (hashes words : List ℕ) {t : TableState} → IsIndexed hashes words → table_state hashes words ≡ t
+pub buckets_seen : (hashes words : List ℕ) {t : TableState} → IsIndexed hashes words → state_of_words hashes words ≡ t
     → t.buckets ≡ buckets_of (capacity_of t.buckets)
 buckets_seen hashes words x view = grind (arith, common_steps, buckets_of-capacity_of, count_seen)
 

@@ -6,13 +6,13 @@ use Rattle.std.proofs.lemmas.Bool.{cases_Bool, lt-ltb, le-ltb, eq-eqb, ne_eqb, a
 use Rattle.std.proofs.lemmas.Option.{same_Some}
 use Rattle.std.proofs.lemmas.List.Sums.{count_by-le-length}
 use borrow.Author.Tests.{ltb-true, eqb-true}
-use Rattle.half_store.specs.Reach.{home, probe_distance, bucket_after, load, loaded_test, reach}
+use Rattle.half_store.specs.Reach.{home, probe_distance, bucket_after, load, bucket_is_loaded, reach}
 use Rattle.half_store.specs.Slots.{slot_at, stored, FullBefore, IsSlotVacancy, HasVacantSlot, ProbeInvariant, distance_from_home}
 use Rattle.half_store.proofs.lemmas.table.Circle.{probe_distance-lt, bucket_after-lt, probe_distance-bucket_after}
 use Rattle.half_store.proofs.lemmas.table.Circle.{bucket_after-probe_distance, distance_same}
 use Rattle.half_store.proofs.lemmas.table.Counts.{count_to, count_to-same, count_to-le, count_to_more, count_to-none, count_by-count_to}
 use Rattle.half_store.proofs.lemmas.table.Counts.{ahead_size}
-use Rattle.half_store.proofs.lemmas.table.Reach.{loaded_test-yes, loaded_test-no, loaded_run-is, reach-some}
+use Rattle.half_store.proofs.lemmas.table.Reach.{bucket_is_loaded-yes, bucket_is_loaded-no, loaded_run-is, reach-some}
 use Rattle.half_store.specs.Work.{Work, looked_more, compared_more}
 use Rattle.half_store.proofs.lemmas.table.Mask.{mask_mod}
 use Rattle.half_store.proofs.lemmas.table.Buckets.{length-slots_from}
@@ -90,17 +90,17 @@ module _ (slots : List (Option ℕ)) (ordered : ProbeInvariant slots) where
       ∙ sym (count_by-count_to (stored (λ held. held == hash)) slots None)
 
   module _ (hashes : List ℕ) (counted : SameCounts hashes slots) where
-    pub loaded_where_full : (b : ℕ) → slot_at slots b ≢ None → HasVacantSlot slots → loaded_test hashes (m slots) b ≡ true
+    pub loaded_where_full : (b : ℕ) → slot_at slots b ≢ None → HasVacantSlot slots → bucket_is_loaded hashes (m slots) b ≡ true
     unfolding load
     loaded_where_full b full v =
         let l = full_loaded slots ordered b (full-lt slots b full) full v in
-        loaded_test-yes hashes (m slots) b
+        bucket_is_loaded-yes hashes (m slots) b
         (l.0, l.1, l.2, rw (counted (λ hash. nat_lt (probe_distance (m slots) (home (m slots) hash) b) l.0)) l.3)
 
-    pub unloaded_where_vacant : (b : ℕ) → b < (m slots) → slot_at slots b ≡ None → loaded_test hashes (m slots) b ≡ false
+    pub unloaded_where_vacant : (b : ℕ) → b < (m slots) → slot_at slots b ≡ None → bucket_is_loaded hashes (m slots) b ≡ false
     unfolding load
     unloaded_where_vacant b in_b none =
-        loaded_test-no hashes (m slots) b
+        bucket_is_loaded-no hashes (m slots) b
         (λ size one small. rw (counted (λ hash. nat_lt (probe_distance (m slots) (home (m slots) hash) b) size))
         (vacant_unloaded slots ordered b in_b none size one small))
 
@@ -118,10 +118,10 @@ module _ (slots : List (Option ℕ)) (ordered : ProbeInvariant slots) where
         let l : d < (m slots) = probe_distance-lt (m slots) b in_b p in_p in
         let v : HasVacantSlot slots = (p, in_p, w.vacant) in
         let run : (k : ℕ) → k < d
-        → loaded_test hashes (m slots) (bucket_after (m slots) b k) ≡ true =
+        → bucket_is_loaded hashes (m slots) (bucket_after (m slots) b k) ≡ true =
         λ k x. loaded_where_full (bucket_after (m slots) b k) (full_on_the_way b p in_b in_p w.passed k x) v in
-        let stop : loaded_test hashes (m slots) (bucket_after (m slots) b d) ≡ false =
-        ap (loaded_test hashes (m slots)) (bucket_after-probe_distance (m slots) b in_b p in_p) ∙ unloaded_where_vacant p in_p w.vacant in
+        let stop : bucket_is_loaded hashes (m slots) (bucket_after (m slots) b d) ≡ false =
+        ap (bucket_is_loaded hashes (m slots)) (bucket_after-probe_distance (m slots) b in_b p in_p) ∙ unloaded_where_vacant p in_p w.vacant in
         let r = loaded_run-is hashes (m slots) ((m slots) - 1) d b in_b (omega arith) (omega arith) run (λ x. stop) in
         reach-some hashes (m slots) hash (omega arith) ∙ omega arith
 

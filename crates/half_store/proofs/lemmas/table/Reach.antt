@@ -1,7 +1,7 @@
 -- How far a probe goes, said of loads alone.
 use Rattle.std.proofs.Common.{◌≡◌, ℕ, zero, suc, ◌-◌, ◌<◌, ◌≤◌, true, false, leb, inl, inr, refl, ap, subst, arith, List}
 use Rattle.std.proofs.lemmas.Bool.{cases_eq, le-leb, lt-leb, ne_eqb, or_from, or_left, or_right}
-use Rattle.half_store.specs.Reach.{home, bucket_after, load, loaded_within, loaded_test, loaded_run, reach, IsLoaded}
+use Rattle.half_store.specs.Reach.{home, bucket_after, load, loaded_within, bucket_is_loaded, loaded_run, reach, IsLoaded}
 use Rattle.half_store.proofs.lemmas.table.Circle.{bucket_after-zero, after_next, bucket_after-lt}
 
 module _ (hashes : List ℕ) (m : ℕ) where
@@ -25,35 +25,35 @@ module _ (hashes : List ℕ) (m : ℕ) where
       or_from (leb (suc most) (load hashes m last (suc most))) (loaded_within hashes m last most)
       (lt-leb _ _ (h (suc most) (omega arith) (omega arith))) (loaded_within-no last most (λ size one small. h size one (omega arith)))
 
-  pub loaded_test-yes : (last : ℕ) → IsLoaded hashes m last → loaded_test hashes m last ≡ true
-  loaded_test-yes last (size, one, small, full) = loaded_within-yes last size (m - 1) one (omega arith) full
+  pub bucket_is_loaded-yes : (last : ℕ) → IsLoaded hashes m last → bucket_is_loaded hashes m last ≡ true
+  bucket_is_loaded-yes last (size, one, small, full) = loaded_within-yes last size (m - 1) one (omega arith) full
 
-  pub loaded_test-no : (last : ℕ) → ((size : ℕ) → 1 ≤ size → size < m → load hashes m last size < size) → loaded_test hashes m last ≡ false
-  loaded_test-no last h = loaded_within-no last (m - 1) (λ size one small. h size one (omega arith))
+  pub bucket_is_loaded-no : (last : ℕ) → ((size : ℕ) → 1 ≤ size → size < m → load hashes m last size < size) → bucket_is_loaded hashes m last ≡ false
+  bucket_is_loaded-no last h = loaded_within-no last (m - 1) (λ size one small. h size one (omega arith))
 
   -- the run of loaded buckets from b on, where d of them are loaded and the next is not
-  pub loaded_run-is : (most d b : ℕ) → b < m → most < m → d ≤ most → ((k : ℕ) → k < d → loaded_test hashes m (bucket_after m b k) ≡ true)
-      → (d < most → loaded_test hashes m (bucket_after m b d) ≡ false) → loaded_run hashes m most b ≡ d
+  pub loaded_run-is : (most d b : ℕ) → b < m → most < m → d ≤ most → ((k : ℕ) → k < d → bucket_is_loaded hashes m (bucket_after m b k) ≡ true)
+      → (d < most → bucket_is_loaded hashes m (bucket_after m b d) ≡ false) → loaded_run hashes m most b ≡ d
   unfolding loaded_run
   loaded_run-is zero d b in_b in_most small run stop = omega arith
   loaded_run-is (suc most) zero b in_b in_most small run stop =
-      let e : loaded_test hashes m b ≡ false = rw (← bucket_after-zero m b in_b) (stop (omega arith)) in
+      let e : bucket_is_loaded hashes m b ≡ false = rw (← bucket_after-zero m b in_b) (stop (omega arith)) in
       rw e refl
   loaded_run-is (suc most) (suc d) b in_b in_most small run stop =
-      let e : loaded_test hashes m b ≡ true = rw (← bucket_after-zero m b in_b) (run 0 (omega arith)) in
+      let e : bucket_is_loaded hashes m b ≡ true = rw (← bucket_after-zero m b in_b) (run 0 (omega arith)) in
       let rest = loaded_run-is most d (bucket_after m b 1) (bucket_after-lt m b in_b 1 (omega arith)) (omega arith) (omega arith)
       (λ k h. rw (after_next m b in_b k (omega arith)) (run (suc k) (omega arith)))
       (λ h. rw (after_next m b in_b d (omega arith)) (stop (omega arith))) in
       rw e (ap suc rest)
 
   -- and where d of them are loaded
-  pub loaded_run-ge : (most d b : ℕ) → b < m → most < m → d ≤ most → ((k : ℕ) → k < d → loaded_test hashes m (bucket_after m b k) ≡ true)
+  pub loaded_run-ge : (most d b : ℕ) → b < m → most < m → d ≤ most → ((k : ℕ) → k < d → bucket_is_loaded hashes m (bucket_after m b k) ≡ true)
       → d ≤ loaded_run hashes m most b
   unfolding loaded_run
   loaded_run-ge most zero b in_b in_most small run = omega arith
   loaded_run-ge zero (suc d) b in_b in_most small run = omega arith
   loaded_run-ge (suc most) (suc d) b in_b in_most small run =
-      let e : loaded_test hashes m b ≡ true = rw (← bucket_after-zero m b in_b) (run 0 (omega arith)) in
+      let e : bucket_is_loaded hashes m b ≡ true = rw (← bucket_after-zero m b in_b) (run 0 (omega arith)) in
       let rest = loaded_run-ge most d (bucket_after m b 1) (bucket_after-lt m b in_b 1 (omega arith)) (omega arith) (omega arith)
       (λ k h. rw (after_next m b in_b k (omega arith)) (run (suc k) (omega arith))) in
       rw e (omega arith)

@@ -10,7 +10,7 @@ use Rattle.std.specs.Map.{keys_of}
 use Rattle.halfbrown.specs.State.{State}
 use Rattle.halfbrown.specs.Growth.{is_full, is_vec_after, new_key_needs}
 use Rattle.halfbrown.specs.Pairs.{holds}
-use Rattle.halfbrown.specs.Insertion.{growth_reads, Prepares}
+use Rattle.halfbrown.specs.Insertion.{second_probe_reads, Prepares}
 use Rattle.halfbrown.proofs.lemmas.pairs.Indices.{found_where_held}
 use Rattle.halfbrown.specs.RawEntry.{after_adding}
 
@@ -59,7 +59,7 @@ module _ {K V S : Type 0} (limit : ℕ) (eq : K → K → Bool) (hash : S → K 
   unmade_costs room = grind (arith, common_steps)
 
   pub missing_costs : (wanted : ℕ) → (middle.is_vec ≡ false → wanted ≡ hash middle.builder k) → (final : Work)
-      → final ≡ looked_more (growth_reads (hash middle.builder) middle wanted true) after → holds eq old.pairs k ≡ false
+      → final ≡ looked_more (second_probe_reads (hash middle.builder) middle wanted true) after → holds eq old.pairs k ≡ false
       → IsInsertCost limit eq hash old k true before final
   missing_costs wanted own final probed missing = grind (arith, common_steps, found_where_held (eq k) old.pairs)
 

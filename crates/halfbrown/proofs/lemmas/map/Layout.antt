@@ -12,7 +12,7 @@ use Rattle.std.proofs.lemmas.Map.Keys.{IsDistinct-push, IsDistinct-head, IsDisti
 use Rattle.half_store.proofs.lemmas.store.States.{length-set_key_at, kept_value as value_kept, lost_pair}
 use Rattle.half_store.specs.Columns.{no_pairs}
 use Rattle.half_store.specs.PairLists.{set_key_at, set_value_at, swap_remove_at, length-set_value_at}
-use Rattle.half_store.specs.Store.{StoreState, SameForm, store_pushed, store_with_pairs, vector_of}
+use Rattle.half_store.specs.Store.{StoreState, SameFormAndCapacity, store_pushed, store_with_pairs, vector_of}
 use Rattle.half_store.specs.declared.store.find.Vacancy.{Vacancy}
 use Rattle.halfbrown.specs.Layout.{IsMapInvariant, state_in}
 use Rattle.halfbrown.specs.Lookup.{IsAbsent, IsIndexOf}
@@ -37,7 +37,7 @@ module _ {K V : Type 0} where
 
   module _ (eq : K → K → Bool) (hash : K → ℕ) (limit : ℕ) where
     -- other pairs in the same form, with their hashes
-    pub kept_as : (old new : StoreState K V) → IsMapInvariant eq hash limit old → SameForm old new → IsDistinct eq (keys_of new.pairs)
+    pub kept_as : (old new : StoreState K V) → IsMapInvariant eq hash limit old → SameFormAndCapacity old new → IsDistinct eq (keys_of new.pairs)
         → length new.pairs ≤ old.capacity → (old.is_vec ≡ false → new.hashes ≡ map hash (keys_of new.pairs))
         → IsMapInvariant eq hash limit new
     kept_as old new kept keeps distinct fits hashed = grind (arith, common_steps)
@@ -66,14 +66,14 @@ module _ {K V : Type 0} where
     kept_key laws s i old new kept at same alike = grind (arith, common_steps, IsDistinct-set, kept_as, keys_of-set_key_at, length-set_key_at, map, map-set_alike)
 
     -- a pair is gone, the last one at its index
-    pub kept_taken : IsEquivalence eq → (old new : StoreState K V) (i : ℕ) → IsMapInvariant eq hash limit old → SameForm old new
+    pub kept_taken : IsEquivalence eq → (old new : StoreState K V) (i : ℕ) → IsMapInvariant eq hash limit old → SameFormAndCapacity old new
         → i < length old.pairs
         → new.pairs ≡ swap_remove_at old.pairs i → (old.is_vec ≡ false → new.hashes ≡ swap_remove_at old.hashes i)
         → IsMapInvariant eq hash limit new
     kept_taken laws old new i kept keeps within pairs hashes = grind (arith, common_steps, IsDistinct-swap_remove_at, kept_as, length-keys_of, length-swap_remove_at, map, map-swap_remove_at)
 
     -- no pairs
-    pub kept_none : (old new : StoreState K V) → IsMapInvariant eq hash limit old → SameForm old new → new.pairs ≡ [] → new.hashes ≡ []
+    pub kept_none : (old new : StoreState K V) → IsMapInvariant eq hash limit old → SameFormAndCapacity old new → new.pairs ≡ [] → new.hashes ≡ []
         → IsMapInvariant eq hash limit new
     unfolding IsDistinct
     kept_none old new kept keeps none no_hashes = grind (arith, common_steps)
@@ -176,7 +176,7 @@ module _ {K V : Type 0} where
 
 module _ {K V : Type 0} (eq : K → K → Bool) (laws : IsEquivalence eq) (hash : K → ℕ) (limit : ℕ)
     (old new : StoreState K V) (index : ℕ) (kept : IsMapInvariant eq hash limit old)
-    (keeps : SameForm old new) where
+    (keeps : SameFormAndCapacity old new) where
   -- a pair that goes last
   moved_distinct : old.is_vec ≡ true → index < length old.pairs → (k : K) (v w : V) → slice_get old.pairs index ≡ Some (k, v)
       → IsDistinct eq (keys_of (swap_remove_at old.pairs index ++ (k, w) ∷ []))

@@ -6,7 +6,7 @@ use Rattle.half_store.specs.Work.{Work}
 use Rattle.halfbrown.specs.declared.run.Command.{Command}
 use Rattle.halfbrown.specs.declared.run.Reply.{Reply}
 use Rattle.halfbrown.specs.State.{State, IsValid}
-use Rattle.halfbrown.specs.Run.{Step, IsValidStep, is_shrink, Chain, Runs, has_shrink, commands_of, replies_of, step_cost, cost_of}
+use Rattle.halfbrown.specs.Run.{Step, IsValidStep, is_shrink, StepsLead, Runs, has_shrink, commands_of, replies_of, step_cost, cost_of}
 use Rattle.halfbrown.specs.Costs.{GrewBy, add_costs}
 use Rattle.halfbrown.proofs.lemmas.map.Costs.{none_more, more_none, costs_assoc, spent_none, spent_both}
 use Rattle.halfbrown.proofs.lemmas.run.Steps.{PaysTwo, switch_left, step_pays_two}
@@ -16,9 +16,9 @@ neither a b none = grind (arith, common_steps)
 
 module _ {K V S : Type 0} (limit : ℕ) (eq : K → K → Bool) where
   -- steps, and then others
-  pub lead_on : (old between new : State K V S) (first second : List (Step K V S)) → Chain limit eq old first between
-      → Chain limit eq between second new → Chain limit eq old (first ++ second) new
-  lead_on old between new [] second lead next = subst (λ m. Chain limit eq m second new) lead next
+  pub lead_on : (old between new : State K V S) (first second : List (Step K V S)) → StepsLead limit eq old first between
+      → StepsLead limit eq between second new → StepsLead limit eq old (first ++ second) new
+  lead_on old between new [] second lead next = subst (λ m. StepsLead limit eq m second new) lead next
   lead_on old between new (s ∷ first) second lead next = (lead.0, lead.1, lead.2, lead_on s.after between new first second lead.3 next)
 
   module _ (hash : S → K → ℕ) where
@@ -31,7 +31,7 @@ module _ {K V S : Type 0} (limit : ℕ) (eq : K → K → Bool) where
       -- the steps so far lead from old to now, with the replies so far; these commands are left, and the tally grew by the cost so far
       pub record RunSoFar (now : State K V S) (left : List (Command K V)) (replies : List (Reply K V)) (after : Work) : Type 0 where
         pub steps : List (Step K V S)
-        pub lead : Chain limit eq old steps now
+        pub lead : StepsLead limit eq old steps now
         pub commands_are : commands ≡ commands_of steps ++ left
         pub replies_are : replies ≡ replies_of steps
         pub spent : GrewBy (cost_of limit eq hash steps) before after
@@ -65,7 +65,7 @@ module _ {K V S : Type 0} (limit : ℕ) (eq : K → K → Bool) where
           (record { steps = so_far.steps; lead = so_far.lead; commands_are = all; replies_are = so_far.replies_are }, so_far.spent)
 
     -- a run without `Shrink`
-    pub steps_pay_two : (old new : State K V S) (steps : List (Step K V S)) → Chain limit eq old steps new
+    pub steps_pay_two : (old new : State K V S) (steps : List (Step K V S)) → StepsLead limit eq old steps new
         → has_shrink (commands_of steps) ≡ false → PaysTwo limit (length steps) (cost_of limit eq hash steps).asked old.is_vec new.is_vec
     steps_pay_two old new [] lead none = grind (arith, common_steps, switch_left)
     steps_pay_two old new (s ∷ steps) lead none =

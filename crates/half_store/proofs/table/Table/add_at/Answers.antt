@@ -2,7 +2,7 @@ use Rattle.std.proofs.Common.{◌≡◌, ◌+◌, ◌<◌, ◌∙◌, suc, lengt
 use Rattle.std.proofs.lemmas.List.{length-set}
 use Rattle.half_store.specs.Slots.{IsSlotVacancy}
 use Rattle.half_store.specs.Capacity.{capacity_of}
-use Rattle.half_store.specs.Table.{table_slots, table_contents, table_state, with_hash_in}
+use Rattle.half_store.specs.Table.{table_slots, table_contents, state_of_words, with_hash_in}
 use Rattle.half_store.specs.Words.{words_of, AreWordsFor}
 use Rattle.half_store.proofs.lemmas.table.Layout.{IsIndexed-add, IsTable-as, count_seen}
 use Rattle.half_store.proofs.table.Table.add_at.Goals as goal
@@ -33,5 +33,5 @@ returns-clause-contents c =
     let index : c.len-word.result + 1 ≡ suc (length t.hashes.items) =
     omega (arith, ap (λ v. length v.hashes) c.self.view_is, c.len-word.ensures.value) in
     let written = c.set_word.ensures.words ∙ ap (set words bucket) index in
-    (λ i. table_contents (table_state (c.push_reserved.ensures.items i) (written i)))
+    (λ i. table_contents (state_of_words (c.push_reserved.ensures.items i) (written i)))
     ∙ ap (λ v. with_hash_in (table_contents v) hash bucket) c.self.view_is

@@ -2,7 +2,7 @@ use Rattle.std.proofs.Common.{◌≡◌, ℕ, ◌-◌, set, slice_index}
 use Rattle.half_store.specs.Slots.{slots_from}
 use Rattle.half_store.specs.Work.{looked_more}
 use Rattle.half_store.specs.Reach.{probe_distance}
-use Rattle.half_store.specs.Table.{IsOtherVacancy}
+use Rattle.half_store.specs.Table.{IsEmptyBeside}
 use Rattle.half_store.proofs.lemmas.table.Deletion.{Shifts, Ahead}
 use Rattle.half_store.proofs.table.deletion.backward_shift.Given as goal
 
@@ -14,7 +14,7 @@ invariant-loop-word g l = record {
   most : g.B.Words.most l.buckets ≡ g.B.Words.most l.initial.buckets;
   counted : l.tally ≡ looked_more (probe_distance l.count l.removed l.bucket) l.fn.tally;
   shifts : Shifts l.count l.hashes (g.B.Words.words l.buckets) l.removed l.gap l.bucket;
-  ahead : (vacant : ℕ) → IsOtherVacancy (slots_from l.hashes (set (g.B.Words.words l.initial.buckets) l.removed 0)) l.removed vacant
+  ahead : (vacant : ℕ) → IsEmptyBeside (slots_from l.hashes (set (g.B.Words.words l.initial.buckets) l.removed 0)) l.removed vacant
       → Ahead l.count l.hashes (g.B.Words.words l.buckets) l.removed l.gap l.bucket vacant;
 }
 

@@ -6,7 +6,7 @@ use Rattle.half_store.specs.Slots.{slots_from}
 use Rattle.half_store.specs.Reach.{probe_distance}
 use Rattle.half_store.specs.Work.{Work, ReadsWithin, removal_reads_left}
 use Rattle.half_store.specs.StoreRemoval.{Renames, ShiftsUpTo}
-use Rattle.half_store.specs.Table.{IsIndexed, IsIndexedButFor, IsOtherVacancy}
+use Rattle.half_store.specs.Table.{IsIndexed, IsIndexedButFor, IsEmptyBeside}
 use Rattle.half_store.proofs.lemmas.table.Layout.{IsIndexed-remove, vacant-remove}
 use Rattle.half_store.proofs.table.deletion.remove_at.Goals as goal
 
@@ -35,7 +35,7 @@ module _ {hs ws words : List ℕ} {index : ℕ} (bucket : ℕ) {old renamed : Wo
       → ReadsWithin (removal_reads_left hs (length ws) index bucket) old new
   cost_left told =
       let v = vacant-remove x index (length hs - 1) bucket r.bucket is_last (at ∙ one) (r.at ∙ sym is_last) in
-      let empty = subst (λ ys. IsOtherVacancy (slots_from (swap_remove hs index 0) (set ys bucket 0)) bucket v.0) renames v.1 in
+      let empty = subst (λ ys. IsEmptyBeside (slots_from (swap_remove hs index 0) (set ys bucket 0)) bucket v.0) renames v.1 in
       let shift = told v.0 empty in
       let same = ap length r.words ∙ length-set ws r.bucket (index + 1) in
       let far = ap (λ n. probe_distance n bucket v.0) same in

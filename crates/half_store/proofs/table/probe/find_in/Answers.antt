@@ -5,8 +5,8 @@ use Rattle.half_store.proofs.lemmas.table.Layout.{index-vacant}
 use Rattle.half_store.proofs.lemmas.table.Find.{finds_none, finds, index_at, word_found}
 use Rattle.half_store.proofs.table.probe.find_in.Goals as goal
 
-pub search-requires : goal.search-requires
-search-requires g c =
+pub probe_for-requires : goal.probe_for-requires
+probe_for-requires g c =
     let x = c.requires.indexed in
     record {
       whole = x.each.within;
@@ -24,11 +24,11 @@ returns-then-count-eq0-clause-finds g c =
 
 pub returns-clause-word : goal.returns-clause-word
 returns-clause-word g c =
-    word_found c.requires.indexed c.args.hash c.search.result c.args.tally.now.looked c.search.new.tally.looked c.search.ensures.found
+    word_found c.requires.indexed c.args.hash c.probe_for.result c.args.tally.now.looked c.probe_for.new.tally.looked c.probe_for.ensures.found
 
 pub returns-clause-finds : goal.returns-clause-finds
 returns-clause-finds g c =
-    let told = c.search.ensures in
-    finds c.requires.indexed c.args.hash (ReturnsAt (FnReturnsAt g.F.Fn c.args.matches.now) c.args.keys.now) c.search.result c.args.tally.now c.search.new.tally
+    let told = c.probe_for.ensures in
+    finds c.requires.indexed c.args.hash (ReturnsAt (FnReturnsAt g.F.Fn c.args.matches.now) c.args.keys.now) c.probe_for.result c.args.tally.now c.probe_for.new.tally
     told.found told.accepted told.vacancy told.refused told.asked told.looked_missing told.compared_some told.compared_most
     told.compared_all

@@ -20,8 +20,8 @@ returns-in-Ok-clause-cost g c =
     c.in_ok-switch_if_full.ensures.same
     (ap (λ ps. holds eq ps c.args.key.now) (sym switched.pairs) ∙ c.in-Ok.ensures.found.held)
 
-pub returns-in_ok-make_capacity_keeping-in-Err-clause-cost : goal.returns-in_ok-make_capacity_keeping-in-Err-clause-cost
-returns-in_ok-make_capacity_keeping-in-Err-clause-cost g c =
+pub returns-in_ok-reserve_one_keeping-in-Err-clause-cost : goal.returns-in_ok-reserve_one_keeping-in-Err-clause-cost
+returns-in_ok-reserve_one_keeping-in-Err-clause-cost g c =
     let eq = g.K.PartialEq.eq in
     let key = c.args.key.now in
     let switched = c.in_ok-switch_if_full.ensures.prepares.ok in
@@ -32,11 +32,11 @@ returns-in_ok-make_capacity_keeping-in-Err-clause-cost g c =
     c.switch_if_full.new.self c.args.tally.now c.switch_if_full.new.tally c.find.new.tally
     switched.form (switched_capacity _ _ _ switched) switched.pairs switched.builder c.in_ok-switch_if_full.ensures.work searched
     c.in-Err.vacancy.hash (λ table. (missing.found.1 (omega (arith, missing.valid.table_exceeds table)) table).0 ∙ sym law)
-    c.make_capacity_keeping.new.tally c.in_ok-make_capacity_keeping-in-Err.ensures.work
+    c.reserve_one_keeping.new.tally c.in_ok-reserve_one_keeping-in-Err.ensures.work
     (ap (λ ps. holds eq ps key) (sym switched.pairs) ∙ missing.found.0.held)
 
-pub returns-in_err-make_capacity_keeping-in-Err-clause-cost : goal.returns-in_err-make_capacity_keeping-in-Err-clause-cost
-returns-in_err-make_capacity_keeping-in-Err-clause-cost g c =
+pub returns-in_err-reserve_one_keeping-in-Err-clause-cost : goal.returns-in_err-reserve_one_keeping-in-Err-clause-cost
+returns-in_err-reserve_one_keeping-in-Err-clause-cost g c =
     let eq = g.K.PartialEq.eq in
     let key = c.args.key.now in
     let switched = c.in_ok-switch_if_full.ensures.prepares.ok in

@@ -11,9 +11,9 @@ returns-clause-ready g c =
     let eq = g.K.PartialEq.eq in
     let key = c.args.key.now in
     let hash = g.S.KeyHasher.hash in
-    let prepared = c.in_ok-make_capacity.ensures in
+    let prepared = c.in_ok-reserve_one.ensures in
     let opened = c.switch_if_full.new.self in
-    let now = c.make_capacity.new.self in
+    let now = c.reserve_one.new.self in
     record {
       absent = absent_of_unheld (eq key) now.pairs
           (ap (λ ps. holds eq ps key) (prepared.prepares.ok.pairs ∙ c.in_ok-switch_if_full.ensures.prepares.ok.pairs) ∙ c.requires);

@@ -3,7 +3,7 @@ use Rattle.std.specs.Fn.{FnReturnsAt}
 use Rattle.half_store.specs.Slots.{slots_from, distance_from_home}
 use Rattle.half_store.specs.Search.{ReturnsAt}
 use Rattle.half_store.proofs.lemmas.table.Probe.{SearchedTo}
-use Rattle.half_store.proofs.table.probe.search.Given as goal
+use Rattle.half_store.proofs.table.probe.probe_for.Given as goal
 
 -- full buckets were passed, and each pair of the hash among them refused
 abbrev pub invariant-loop-index : goal.invariant-loop-index

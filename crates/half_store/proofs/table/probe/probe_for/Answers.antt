@@ -9,8 +9,8 @@ use Rattle.half_store.proofs.lemmas.counting.{returned_at, key_in_bucket, key_wi
 use Rattle.half_store.proofs.lemmas.table.Buckets.{length-slots_from}
 use Rattle.half_store.proofs.lemmas.table.Slots.{full_from, Probes-ahead}
 use Rattle.half_store.proofs.lemmas.table.Probe.{Searches-start, Searches-skip, Searches-refused, Searches-found, Searches-missing}
-use Rattle.half_store.proofs.table.probe.search.Goals.{else-held-hash-via-then-held-hash+else-compare, else-held-hash-via-else-held-hash}
-use Rattle.half_store.proofs.table.probe.search.Goals as goal
+use Rattle.half_store.proofs.table.probe.probe_for.Goals.{else-held-hash-via-then-held-hash+else-compare, else-held-hash-via-else-held-hash}
+use Rattle.half_store.proofs.table.probe.probe_for.Goals as goal
 
 pub home-bucket-requires : goal.home-bucket-requires
 home-bucket-requires g c = record {
