@@ -70,6 +70,7 @@ class Word:
 
 
 def words():
+    """The words of the specs, by name."""
     found = {}
     for path in sorted(CRATE.glob("specs/*.antt")):
         lines = [it for it in path.read_text().splitlines() if it.strip() and not it.lstrip().startswith("--")]
@@ -131,7 +132,7 @@ class Page:
         return [it for it in re.findall(NAME, text) if it in self.words]
 
     def head(self, said):
-        """Of which result a clause says a word, the word, and its arguments; None where it says more or other."""
+        """The result that a clause speaks of, if it says what of it by a word, that word, or None, and its arguments."""
         of, inner = re.fullmatch(r"(?:(If|On)(?:Ok|Err) result (?=\(.*\)$))?(.*)", said).groups()
         name, *arguments = parts(inner[1:-1] if of else inner) or [""]
         return said[2:5].strip() if of == "If" else "", name if name in self.words else None, arguments
@@ -149,27 +150,29 @@ class Page:
                 self.reach(other, True)
 
     def whole(self, text, modules):
-        """A text with the parameters of words of the same modules, which it leaves out."""
-        for name in {*self.named(text)}:
-            if shared := [it for module in modules if module in self.words[name].modules for it in bound(module[1])]:
-                said = " ".join([name, *shared])
-                text = re.sub(rf"(?<=\w ){name}(?![\w'])", f"({said})", text)
-                text = re.sub(rf"(?<![\w'] )(?<![\w'.(]){name}(?![\w'])|(?<=\(){name}(?! {shared[0]}\b)(?![\w'])", said, text)
-        return text
+        """A text with the parameters that words of the same modules have there without being given them."""
+
+        def with_parameters(it):
+            own = self.words[it[0]].modules if it[0] in self.words else []
+            shared = [name for module in modules if module in own for name in bound(module[1])]
+            said = " ".join([it[0], *shared])
+            return f"({said})" if shared and re.search(r"[\w')] $", text[: it.start()]) else said
+
+        return re.sub(NAME, with_parameters, text)
 
     def short(self, text):
         """`Ok(x): P` for what a field says of a result."""
-        said, result, inner = [*parts(text), "", "", ""][:3]
-        if not re.fullmatch("(?:If|On)(?:Ok|Err|Some|None)", said) or result != "result" or len(parts(text)) != 3:
+        said = re.fullmatch(r"(If|On)(Ok|Err|Some|None) result \((.*)\)", text)
+        if not said or len(parts(text)) != 3:
             return text
-        inner = inner[1:-1]
-        if said[:2] == "On" or said == "IfNone":
-            return f"{said[2:]}: {inner}"
+        of, variant, inner = said.groups()
+        if of == "On" or variant == "None":
+            return f"{variant}: {inner}"
         if it := re.match(r"λ (\w+)\. (.*)", inner):
-            return f"{said[2:]}({it[1]}): {it[2]}"
+            return f"{variant}({it[1]}): {it[2]}"
         name, *arguments = parts(inner)
         last = self.words[name].parameters[len(arguments)]
-        return f"{said[2:]}({last}): {inner} {last}"
+        return f"{variant}({last}): {inner} {last}"
 
     def fields(self, name, arguments=()):
         word = self.words[name]
@@ -214,7 +217,8 @@ class Page:
                 owner = re.findall(r"^impl\b[^{]*?> (\w+)<", text[: it.start()], re.M)[-1] if it[1] else ""
                 calls.setdefault(owner.replace("LimitedHashMap", ""), []).append(it[2])
             for owner, names in calls.items():
-                stars = [f"{it}{'*' * (f'{it}_counted' in names)}" for it in names if it.removesuffix("_counted") not in {*names} - {it}]
+                plain = [it for it in names if it.removesuffix("_counted") not in {*names} - {it}]
+                stars = [f"{it}{'*' * (f'{it}_counted' in names)}" for it in plain]
                 module = path.relative_to(CRATE / "src").with_suffix("").as_posix()
                 yield wrapped(f"{module:<18}{owner}{': ' * bool(owner)}{' '.join(stars)}", " " * 20)
 
