@@ -14,6 +14,9 @@ targets := help run prove test edits scripts witness bench fmt
 
 no_rt = $(error There is no rt on the path; it is in the folder bin of Rattle's kit)
 $(if $(filter-out help,$(MAKECMDGOALS)),$(if $(shell command -v rt 2>&1),,$(no_rt)))
+no_write = $(error Nothing can be written to this folder: copy it, and run make in the copy)
+writes := { mkdir -p out && : >out/try.$$$$ && rm out/try.$$$$ && echo yes; } 2>&-
+$(if $(filter-out help,$(MAKECMDGOALS)),$(if $(shell $(writes)),,$(no_write)))
 $(if $(shell echo '$(N)' | tr -d 0-9),$(error N is a number of scripts, and not $(N)))
 # A file is read by < alone.
 ifneq ($(filter run,$(MAKECMDGOALS)),)

@@ -1,12 +1,15 @@
 #!/usr/bin/env python3
 """What the documentation names is there, and what it shows is proved or run. The last line is "N passed, M failed".
 
-- In the pages (README.md, docs/*.md, the README.md of each crate) a link leads to a file, and to a heading where it names one.
-  A path in backticks leads to a file or a folder, from anywhere in the tree: `map/find.rt` is in crates/halfbrown/src. A name in
-  backticks such as `counting::hash_one` is that of an item in a module, of a crate or of std.
+- In the pages (*.md) a link leads to a file, and to a heading where it names one; from the folder of a crate it does not lead out,
+  since users copy that. A path in backticks leads to a file or a folder, from anywhere in the tree: `map/find.rt` is in
+  crates/halfbrown/src. A name in backticks such as `counting::hash_one` is that of an item in a module, of a crate or of std.
+- The folders of crates that users copy (COPIED) have a page and the licences, which are those at the top. A page has the line of
+  crates.txt.
 - README's first example stands in half_tests, where it is proved with its clause, and halfmap, the program HALFMAP, answers its lines as it says.
 - USING's imports stand in the crates, its snippets in callers, which are proved, or in examples, and its lemmas in their modules.
-- CALLING has the clauses of its calls as they stand in the sources. `tests/documentation.py --write` quotes them there anew.
+- CALLING has the clauses of its calls, the fields that these name and the list of all calls as they stand in the sources and specs
+  (calling.py). `tests/documentation.py --write` prints them there anew.
 - docs/speed.svg shows the figures of SPEED.
 - The examples in the documentation of the map and of the set run, with nothing proved. Those of a page, `//!`, stand before each
   that follows in the file, and those of the crate's page before all.
@@ -19,8 +22,8 @@ import shutil
 import subprocess
 import sys
 import tempfile
-import textwrap
 
+import calling
 import picture
 
 TOP = pathlib.Path(__file__).resolve().parent.parent
@@ -32,6 +35,7 @@ LINK = re.compile(r"\[[^\]]*\]\(((?!\w+://)[^)\s]+)\)")
 PATH = re.compile(r"[\w.-]+/[\w./-]*|[\w-]+\.(?:antt|c|edits|md|py|rt|sh|svg|txt)")
 IMPORT = re.compile(r"^ *(?:ghost )?use (Rattle[\w.]*)\.\{(.*)\};?\n", re.M)
 CALLERS = ("half_tests/src/callers/*.rt", "half_uses/s*/*.*", "json_value/src/*.rt", "half_tests/proofs/*/*/*/*.antt")
+COPIED = "half_store halfbrown half_set half_uses json_value".split()
 USES = {  # The crates whose examples run, and what their tests import.
     "halfbrown": "use halfbrown::{run::run, *}; use std::hash::{BuildHasher, RandomState}; use std::test::Fail;",
     "half_set": "use half_set::*; use std::test::Fail;",
@@ -52,12 +56,14 @@ def code_of(module):
 
 def named(page, tree):
     prose = CODE.sub("", page.read_text())
+    folder = next((it for it in page.parents if it.parent == TOP / "crates"), TOP)
     for link in LINK.findall(SPAN.sub("", prose)):
         name, _, heading = link.partition("#")
         target = page.parent / name if name else page
         headings = re.findall("^#+ (.*)$", CODE.sub("", target.read_text()), re.M) if target.is_file() else []
         anchors = ["", *(re.sub(r"[^\w -]", "", it.lower()).replace(" ", "-") for it in headings)]
-        yield link, target.exists() and heading in anchors
+        stays = folder in [target.resolve(), *target.resolve().parents]
+        yield link, target.exists() and heading in anchors and stays
     for word in " ".join(SPAN.findall(prose)).split():
         if PATH.fullmatch(word) and "out" not in word.split("/"):
             wanted = re.sub("CRATE|FILE|PATH", "[^/]+", re.escape(word.strip("/")))  # These stand for any.
@@ -103,37 +109,22 @@ def using(page):
         yield from ((name, name in defined) for name in names.split(", "))
 
 
-def quoted(call):
-    """The signature and the clauses of a call, as CALLING has them, without those that the page leaves out."""
-    kind, _, name = call.rpartition("::")
-    files = ["entry/methods.rt"] if kind else ["map.rt", "map/*.rt", "drain.rt", "entry/find.rt"]
-    text = "\n".join(texts(*(f"halfbrown/src/{it}" for it in files)))
-    found = re.search(rf"^    pub fn {name}\b(.*?)^    {{$", text, re.M | re.S)[1]
-    head, *clauses = re.split(r"(?=\b(?:requires|ensures)\b)", " ".join(re.sub("//.*", "", found).split()))
-    yield f"fn {call}{head.strip().rstrip(',')}".replace("( ", "(").replace(", )", ")")
-    for clause in clauses:
-        word, is_starred, name, said = re.match(r"(\w+)(\*?) ?(\w*) ?{ (.*) }", clause).groups()
-        if not is_starred and name not in LEFT_OUT:
-            said = re.sub(r"\bself\b(\.new)?(?:\.(?:now|old|entry)\b)?", lambda it: "self'" if it[1] else "self", said)
-            yield f"  {word}{' ' * bool(name)}{name}: {said}"
-
-
-CALL = re.compile(r"^fn ([\w:]+)(?:.*\n)(?:  [^|\n].*\n)*((?:  \|.*\n)*)", re.M)
-LEFT_OUT = ("cost", "keeps", "runs", "small", "valid", "values_run")
-
-
-def calling(found):
-    """A call of CALLING, quoted anew above the lines by hand."""
-    lines = re.sub(r"^(.*)\n(.*)", lambda it: it[0] if len(it[0]) > 119 else it[1] + it[2], "\n".join(quoted(found[1])))
-    lines = (textwrap.fill(it, 120, subsequent_indent="      ", break_on_hyphens=False) for it in lines.splitlines())
-    return "\n".join([*lines, found[2]])
-
-
 def callers(page):
     """The caller of CALLING and its proof, which stand in half_tests."""
     code = packed("\n".join(texts(*CALLERS)))
     for part in re.findall(r"^```(?:rust|antt)\n(.*?)^```", page, re.M | re.S):
         yield part, packed(part[max(part.find("///"), 0):]) in code
+
+
+def copied():
+    """What stands in the folder of each crate that users copy."""
+    lines = dict(it.split(":") for it in (TOP / "crates.txt").read_text().splitlines() if it[0] != "#")
+    for name in COPIED:
+        page = TOP / f"crates/{name}/README.md"
+        yield f"the page of {name}", page.exists() and f"\n    {name}:{lines[name]}\n" in page.read_text()
+        for licence in ("LICENSE-APACHE", "LICENSE-MIT"):
+            copy = page.with_name(licence)
+            yield f"{name}: {licence}", copy.exists() and copy.read_bytes() == (TOP / licence).read_bytes()
 
 
 def tests_of(path, tests, before):
@@ -168,17 +159,16 @@ def examples():
     yield from ((f"the example {name}", f"test {name} ... ok\n" in ran.stdout) for name in names)
 
 
-CALLING = TOP / "crates/halfbrown/CALLING.md"
+CALLING, USING = (TOP / f"crates/halfbrown/{it}.md" for it in ("CALLING", "USING"))
 if sys.argv[1:] == ["--write"]:
-    sys.exit(not CALLING.write_text(CALL.sub(calling, CALLING.read_text())))
+    sys.exit(not CALLING.write_text(calling.written(CALLING.read_text())))
 git = subprocess.run(["git", "ls-files", "-co", "--exclude-standard"], cwd=TOP, capture_output=True, text=True, check=True)
 files = [it for it in git.stdout.splitlines() if (TOP / it).exists()]
 tree = "\n".join(f"/{it}" for it in files)
 claims = [(f"{it}: {what}", stands) for it in files if it.endswith(".md") for what, stands in named(TOP / it, tree)]
-claims += [*readme((TOP / "README.md").read_text()), *using((TOP / "docs/USING.md").read_text())]
-claims += [(f"CALLING: {it[1]}", it[0] == calling(it)) for it in CALL.finditer(CALLING.read_text())]
-claims += [it for page in (CALLING, TOP / "docs/USING.md") for it in imports(page.read_text())]
-claims += callers(CALLING.read_text())
+claims += [*readme((TOP / "README.md").read_text()), *using(USING.read_text())]
+claims += [*calling.claims(CALLING.read_text()), *callers(CALLING.read_text()), *copied()]
+claims += [it for page in (CALLING, USING) for it in imports(page.read_text())]
 drawn = picture.picture(*picture.figures((TOP / "docs/SPEED.md").read_text()))
 claims.append(("the picture of SPEED", drawn == (TOP / "docs/speed.svg").read_text()))
 claims += examples()

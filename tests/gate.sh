@@ -4,6 +4,11 @@
 #   tests/gate.sh            proves what users run, and builds the rest unproved beside that
 #   tests/gate.sh proved     takes what `rt ci` has proved and built
 set -uo pipefail
+missing=0
+for it in rt python3 cc; do
+    command -v "$it" >/dev/null || { echo "$it is not on the path"; missing=1; }
+done
+[ "$missing" -eq 0 ] || { echo "0 passed, 1 failed"; exit 1; }
 cd "$(dirname "$0")/.." || exit 1
 folder=$(mktemp -d) || exit 1
 trap 'rm -rf "$folder"; kill $(jobs -p) 2>/dev/null' EXIT
@@ -35,6 +40,34 @@ counts_many() {
     local words="internationalization electroencephalographically otorhinolaryngological"
     "$1" < <(yes "$words" | head -n 28000) | diff <(printf '%s 28000\n' $words) -
 }
+
+# says PROGRAM: what the gate says where it finds no tools, and `make run` in a copy of the tree, where this program is built and not
+# proved: to a line, where the reader of many answers goes away, and where nothing can be written.
+says() (
+    copy=$folder/copy
+    unset MAKEFLAGS MAKELEVEL
+    mkdir "$copy" && cp -r --parents Makefile crates.txt tests crates/half{_store,brown,map}/{src,specs,proofs} "$copy" || exit
+    mkdir -p "$copy/out/unproved" && cp "$1" "$copy/out/unproved/halfmap" && cd "$copy" || exit
+    {
+        PATH='' "$BASH" tests/gate.sh
+        echo f | make run
+        yes f | head -n 1000000 | make run | head -n 1
+        echo "make: ${PIPESTATUS[2]}"
+        rm -r out && touch out
+        make run
+    } 2>&1 | sed 's/^.*\*\*\* //' | diff - <(
+        echo "rt is not on the path"
+        echo "python3 is not on the path"
+        echo "cc is not on the path"
+        echo "0 passed, 1 failed"
+        echo "This halfmap is not proved; make prove proves it."
+        echo "vec 0"
+        echo "This halfmap is not proved; make prove proves it."
+        echo "vec 0"
+        echo "make: 0"
+        echo "Nothing can be written to this folder: copy it, and run make in the copy.  Stop."
+    )
+)
 
 # The tests of a crate, unproved.
 try_tests() {
@@ -72,12 +105,12 @@ unproved_parts() {
     part "tests of json_value" try_tests json_value
     part "must not compile" tests/must_not_compile.py
     part "sources" tests/sources.py
+    part "what make says" says "$(built halfmap)"
     part "documentation" env HALFMAP="$(built halfmap || echo none)" tests/documentation.py
     echo "$passed $failed" >"$folder/sum"
 }
 
 mode=${1:-}
-command -v rt >/dev/null || { echo "rt is not on the path: 0 passed, 1 failed"; exit 1; }
 rt version
 if [ "$mode" = proved ]; then
     unproved_parts

@@ -21,11 +21,12 @@ fails() { echo "$1" >"$why"; exit 1; }
 # rt stores the stamp only where the sources did not change while it proved them.
 if fits $proved $proved.stamp "$(realpath "$(command -v rt)")"; then
     program=$proved
+elif program=$unproved && fits $unproved $unproved tests/build_unproved.sh; then
+    echo "This halfmap is not proved; make prove proves it." >&2
 else
-    program=$unproved
     echo "No proved halfmap is up to date, so this one is built without proofs, in about 20 seconds;" \
         "make prove proves it, in about $(tests/prove.sh minutes) minutes." >&2
-    fits $unproved $unproved tests/build_unproved.sh || tests/build_unproved.sh halfmap $unproved
+    tests/build_unproved.sh halfmap $unproved
     case $? in
         0) ;;
         2) echo "So halfmap is proved first." >&2; program=$proved; tests/prove.sh || fails "halfmap is not proved" ;;
@@ -33,5 +34,11 @@ else
     esac
 fi
 [ ! -t 0 ] || echo "i K V, g K, r K or f; end with ^D" >&2
-$program && exec rm "$why"
-fails "halfmap ended with status $? (1: its input or its output was closed, or the disk was full)"
+# Only cat says that the reader of the answers went away, as head does: SIGPIPE ends it, and that is no failure.
+$program | cat
+statuses=("${PIPESTATUS[@]}")
+status=${statuses[0]}
+[ "$status" -ne 0 ] || status=${statuses[1]}
+[ "${statuses[1]}" -eq 141 ] || [ "$status" -eq 0 ] ||
+    fails "halfmap ended with status $status (1: its input or its output was closed, or the disk was full)"
+rm "$why"

@@ -5,7 +5,7 @@ ghost use Rattle.std.specs.Prelude.{◌≡◌, IfOk};
 use halfbrown::{Refused, SizedHashMap};
 use std::alloc::Global;
 
-/// Ada's age after her birthday. The map stores up to four pairs in a vector, and more in a table.
+/// Ada's age after her birthday. Up to four pairs stay in a vector; an insertion into a vector of four makes a table.
 pub fn birthday(alloc: Global) -> Result<u32, Refused<u64, u32>>
     ensures { IfOk result (λ age. age ≡ 37) }
 {
