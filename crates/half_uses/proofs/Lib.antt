@@ -1,2 +1,4 @@
 pub mod Interning
+pub mod Recency
+pub mod TableCapacity
 pub mod TextWords

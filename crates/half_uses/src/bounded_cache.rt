@@ -1,41 +1,48 @@
-//! A cache of a bounded size, which forgets the oldest pair.
-ghost use Rattle.std.specs.Map.{lookup};
+//! A cache of a bounded size, which forgets the pair that was used longest ago.
+ghost use Rattle.std.specs.Map.{lookup, remove_entry};
 ghost use Rattle.std.specs.Option.{option_copied};
-ghost use Rattle.std.specs.Prelude.{◌≡◌, ◌≢◌, ◌≤◌, None, [], length, IfErr, OnOk, OnErr};
-ghost use Rattle.halfbrown.specs.Growth.{insert_needs};
-ghost use Rattle.halfbrown.specs.Pairs.{put};
-ghost use Rattle.half_uses.specs.BoundedCache.{newest};
+ghost use Rattle.std.specs.Prelude.{◌≡◌, ◌-◌, ◌<◌, ◌≤◌, false, None, Some, [], ◌∷◌, ◌++◌, length, IfErr, IfOk, IfSome, OnSome};
+ghost use Rattle.halfbrown.specs.Pairs.{value_of, holds, holds_by};
+ghost use Rattle.halfbrown.specs.Refusal.{refusal_of};
+ghost use Rattle.halfbrown.specs.Updates.{HasPut};
+ghost use Rattle.half_uses.specs.BoundedCache.{newest, refreshed, making_way};
 
-use halfbrown::{Equivalent, HashMap, Refused};
+use halfbrown::{Equivalent, HashMap, Refusal};
 use std::alloc::Global;
 use std::hash::Hash;
 
-/// The pairs that were inserted last, never more than the bound.
+/// The pairs that were used last, never more than the bound. All its memory is taken by `new`, so that no other call fails.
+///
+/// The pairs stand in the order of their last use, the oldest first. So each hit moves the pairs behind its own: a cache of
+/// some dozens is fast, and with a bound of at most 32 nothing is ever hashed. In a larger one a hit costs two hashes and a step
+/// for each bucket.
 ///
 /// ```
-/// let mut cache = BoundedCache::<u64, u64>::new(alloc, 2);
-/// cache.insert(1, 10)?;
-/// cache.insert(2, 20)?;
-/// cache.insert(3, 30)?;
-/// let oldest = cache.get(&1); // None, which is forgotten
+/// let mut cache = BoundedCache::<u64, u64>::new(alloc, 2)?;
+/// cache.insert(1, 10);
+/// cache.insert(2, 20);
+/// let hit = cache.get(&1); // Some(10), and 2 is the oldest now
+/// let forgotten = cache.insert(3, 30); // Some((2, 20))
 /// ```
 #[derive(Drop)]
 pub struct BoundedCache<K: Eq + Hash, V> {
     held: HashMap<K, V>,
     bound: usize,
     ghost within: { length held.pairs ≤ bound },
+    ghost room: { bound ≤ held.capacity },
+    ghost some: { 0 < bound },
 }
 
 impl<K: Eq + Hash, V> BoundedCache<K, V> {
-    /// No pairs. It takes no memory.
-    pub fn new(alloc: Global, bound: usize) -> BoundedCache<K, V>
-        ensures pairs { result.held.pairs ≡ [] }
-        ensures bound { result.bound ≡ bound }
+    /// No pairs, and memory for as many as the bound, which is not 0. Fails only where that memory is refused.
+    pub fn new(alloc: Global, bound: usize) -> Result<BoundedCache<K, V>, Refusal>
+        requires { 0 < bound }
+        ensures pairs { IfOk result (λ cache. cache.held.pairs ≡ []) }
+        ensures bound { IfOk result (λ cache. cache.bound ≡ bound) }
+        ensures refused { IfErr result (λ why. why ≡ refusal_of bound) }
     {
-        BoundedCache {
-            held: HashMap::new(alloc),
-            bound,
-        }
+        let held = HashMap::with_capacity(alloc, bound)?;
+        Ok(BoundedCache { held, bound })
     }
 
     /// How many pairs are held.
@@ -46,31 +53,98 @@ impl<K: Eq + Hash, V> BoundedCache<K, V> {
         self.held.len()
     }
 
-    /// The value of a key, where it is held.
-    pub fn get<Q: Equivalent<K>>(&self, key: Q) -> Option<&V>
+    /// The value of a key, where it is held. This is no use of it: all pairs keep their order. It costs one search.
+    pub fn peek<Q: Equivalent<K>>(&self, key: Q) -> Option<&V>
         ensures { option_copied result ≡ lookup (Q.equivalent key) self.now.held.pairs }
     {
         self.held.get(key)
     }
 
-    /// Gives a key its value. A key that is held keeps its age. Beyond the bound the oldest pair is forgotten. Fails only
-    /// where the map needs memory: for a new key where no capacity is left, and to make a full vector a table. Then nothing
-    /// changes.
-    pub fn insert(&mut self, key: K, value: V) -> Result<(), Refused<K, V>>
+    /// The value of a key, where it is held. It is used thereby: its pair is the newest now, and no key's value changes. A value that
+    /// is no `Copy` is read by `peek`, after `refresh`. It costs one search more than `refresh`, and where it finds none only that.
+    pub fn get<Q: Equivalent<K>>(&mut self, key: Q) -> Option<V>
+    where
+        K: Drop,
+        V: Copy,
+        ensures value { result ≡ lookup (Q.equivalent key) self.old.held.pairs }
+        ensures after { self.new.held.pairs ≡ refreshed (Q.equivalent key) self.old.held.pairs }
+        ensures values { (any : K) → value_of K.eq self.new.held.pairs any ≡ value_of K.eq self.old.held.pairs any }
+        ensures bound { self.new.bound ≡ self.old.bound }
+    {
+        let value = self.held.get(key).copied()?;
+        self.refresh(key);
+        Some(value)
+    }
+
+    /// Makes the pair of a key the newest, and returns whether it is held. No key's value changes. It costs two searches, and
+    /// moves each pair behind it; with a bound of more than 32 it goes over all buckets.
+    pub fn refresh<Q: Equivalent<K>>(&mut self, key: Q) -> bool
     where
         K: Drop,
         V: Drop,
-        ensures after { OnOk result (self.new.held.pairs
-            ≡ newest self.old.bound (put K.eq self.old.held.pairs key value)) }
+        ensures held { result ≡ holds_by (Q.equivalent key) self.old.held.pairs }
+        ensures after { self.new.held.pairs ≡ refreshed (Q.equivalent key) self.old.held.pairs }
+        ensures values { (any : K) → value_of K.eq self.new.held.pairs any ≡ value_of K.eq self.old.held.pairs any }
         ensures bound { self.new.bound ≡ self.old.bound }
-        ensures needs { OnErr result (insert_needs 32 K.eq self.old.held key ≢ None) }
-        ensures err { OnErr result (self.new.held ≡ self.old.held) }
-        ensures handed_back { IfErr result (λ refused. (refused.key ≡ key) × (refused.value ≡ value)) }
     {
-        self.held.insert(key, value)?;
-        if self.held.len() > self.bound {
-            self.held.shift_remove_index(0);
+        match self.held.shift_remove_entry(key) {
+            Some((held, value)) => {
+                insert_within(&mut self.held, held, value);
+                true
+            }
+            None => false,
         }
-        Ok(())
     }
+
+    /// Gives a key its value, as the newest pair, and returns the pair that made way for it: the one that the key had, or, where
+    /// as many other pairs are held as the bound allows, the oldest. It costs what `refresh` costs.
+    pub fn insert(&mut self, key: K, value: V) -> Option<(K, V)>
+    where
+        K: Drop,
+        V: Drop,
+        ensures way { result ≡ making_way K.eq self.old.bound self.old.held.pairs key }
+        ensures after { self.new.held.pairs
+            ≡ newest self.old.bound (remove_entry (K.eq key) self.old.held.pairs ++ (key, value) ∷ []) }
+        ensures value { value_of K.eq self.new.held.pairs key ≡ Some value }
+        // Each other key has what it had, but for the one that made way.
+        ensures others { (other : K) → K.eq key other ≡ false → IfSome result (λ gone. K.eq gone.0 other ≡ false)
+            → value_of K.eq self.new.held.pairs other ≡ value_of K.eq self.old.held.pairs other }
+        ensures bound { self.new.bound ≡ self.old.bound }
+    {
+        let gone = self.make_way(&key);
+        insert_within(&mut self.held, key, value);
+        gone
+    }
+
+    // Removes the pair of this key, or, where as many others are held as the bound allows, the oldest.
+    fn make_way(&mut self, key: &K) -> Option<(K, V)>
+        ensures way { result ≡ making_way K.eq self.old.bound self.old.held.pairs key.now }
+        ensures left { self.new.held.pairs
+            ≡ newest (self.old.bound - 1) (remove_entry (K.eq key.now) self.old.held.pairs) }
+        ensures others { (other : K) → K.eq key.now other ≡ false → IfSome result (λ gone. K.eq gone.0 other ≡ false)
+            → value_of K.eq self.new.held.pairs other ≡ value_of K.eq self.old.held.pairs other }
+        ensures absent { holds K.eq self.new.held.pairs key.now ≡ false }
+        ensures room { length self.new.held.pairs < self.new.bound }
+        ensures bound { self.new.bound ≡ self.old.bound }
+    {
+        match self.held.shift_remove_entry(key) {
+            Some(pair) => Some(pair),
+            None if self.held.len() == self.bound => self.held.shift_remove_index(0),
+            None => None,
+        }
+    }
+}
+
+// Adds a pair to a map that has capacity for it, which needs no memory.
+fn insert_within<K: Eq + Hash + Drop, V: Drop>(held: &mut HashMap<K, V>, key: K, value: V)
+    requires new { holds K.eq held.old.pairs key ≡ false }
+    requires room { length held.old.pairs < held.old.capacity }
+    ensures pairs { held.new.pairs ≡ held.old.pairs ++ (key, value) ∷ [] }
+    ensures put { HasPut K.eq held.old.pairs key value held.new.pairs }
+    ensures capacity { held.new.capacity ≡ held.old.capacity }
+{
+    // A vector has no more capacity than its limit, as `len` states. So one with capacity left is not full.
+    let _len = held.len();
+    let inserted = held.insert_nocheck(key, value);
+    inserted.unwrap();
 }

@@ -8,6 +8,7 @@ pub mod bank;
 pub mod bounded_cache;
 pub mod cache;
 pub mod interner;
+pub mod labels;
 pub mod memo;
 pub mod object;
 pub mod scopes;

@@ -100,15 +100,25 @@ fn sets_are_compared_and_made_smaller(rt: HostRuntime) -> Result<(), Fail> {
     assert_same(set.len(), 0, "no value is left")
 }
 
+// With a bound of 2 the pairs are a vector, and with one of 40 a table.
 #[test]
-fn a_bounded_cache_forgets_the_oldest(rt: HostRuntime) -> Result<(), Fail> {
-    let mut cache = BoundedCache::<u64, u64>::new(rt.alloc(), 2);
-    for key in [1, 2, 1, 3] {
-        cache.insert(key, key * 10)?;
+fn a_bounded_cache_forgets_what_was_used_longest_ago(rt: HostRuntime) -> Result<(), Fail> {
+    let mut cache = BoundedCache::<u64, u64>::new(rt.alloc(), 2)?;
+    assert_same(cache.insert(1, 10), None, "there is room")?;
+    assert_same(cache.insert(2, 20), None, "for two")?;
+    assert_same(cache.get(&1), Some(&10), "which is used thereby")?;
+    assert_same(cache.peek(&2), Some(&20), "which is not")?;
+    assert_same(cache.insert(3, 30), Some((2, 20)), "2 is the oldest")?;
+    assert_same(cache.insert(1, 11), Some((1, 10)), "its own pair")?;
+    assert_same(cache.insert(4, 40), Some((3, 30)), "3 is the oldest")?;
+    assert_same(cache.get(&3), None, "which is forgotten")?;
+    assert_same(cache.len(), 2, "never more than the bound")?;
+    let mut large = BoundedCache::<u64, u64>::new(rt.alloc(), 40)?;
+    for key in 0..40u64 {
+        let _gone = large.insert(key, key);
     }
-    let values = [1, 2, 3].map(|key: u64| cache.get(&key).copied());
-    assert_same(values, [None, Some(20), Some(30)], "1 is the oldest")?;
-    assert_same(cache.len(), 2, "never more than the bound")
+    assert_true(large.refresh(&0) && !large.refresh(&40), "0 is held")?;
+    assert_same(large.insert(41, 41), Some((1, 1)), "1 is the oldest")
 }
 
 #[test]

@@ -1,0 +1,129 @@
+//! Sets of labels as keys, to sum by them what a program measures.
+ghost use Rattle.std.specs.Map.{keys_of, values_of, lookup};
+ghost use Rattle.std.specs.List.{IsDistinct};
+ghost use Rattle.std.specs.Option.{option_copied};
+ghost use Rattle.std.specs.Prelude.{◌≡◌, ◌+◌, ◌^◌, ◌<◌, false, [], length, sum, unwrap_or, IfErr, IfOk, OnErr, OnOk};
+ghost use Rattle.std.specs.String.{string_eq};
+ghost use Rattle.std.proofs.Props.{props};
+ghost use Rattle.halfbrown.specs.Pairs.{value_of, put};
+ghost use Rattle.half_uses.specs.Labels.{labels_number};
+
+use halfbrown::{DefaultHashBuilder, Equivalent, HashMap, Refusal, Refused};
+use std::alloc::Global;
+use std::hash::{BuildHasher, Hash, Hasher};
+
+/// Labels of a measurement: a text for each name, such as `method` and `GET`. They are keys: two sets are equal where they have the
+/// same texts for the same names, in whatever order these were set, and equal sets hash alike.
+///
+/// ```
+/// let mut labels = Labels::new(alloc);
+/// labels.set(String::from_str(alloc, "method")?, String::from_str(alloc, "GET")?)?;
+/// labels.set(String::from_str(alloc, "status")?, String::from_str(alloc, "200")?)?;
+/// let mut requests = HashMap::<Labels, u64>::new(alloc);
+/// add_to(&mut requests, labels, 1)?;
+/// ```
+#[derive(Drop)]
+pub struct Labels {
+    texts: HashMap<String, String>,
+    // Of a list with a name twice the hash would say more than `==` does.
+    ghost distinct: { IsDistinct string_eq (keys_of texts.pairs) } by { Prim.hlevel props },
+}
+
+impl Labels {
+    /// No labels. It takes no memory.
+    pub fn new(alloc: Global) -> Labels
+        ensures { result.texts.pairs ≡ [] }
+    {
+        Labels {
+            texts: HashMap::new(alloc),
+        }
+    }
+
+    /// How many labels there are.
+    pub fn len(&self) -> usize
+        ensures { result ≡ length self.now.texts.pairs }
+    {
+        self.texts.len()
+    }
+
+    /// The text of a name, where there is one.
+    pub fn get<Q: Equivalent<String>>(&self, name: Q) -> Option<&String>
+        ensures { option_copied result ≡ lookup (Q.equivalent name) self.now.texts.pairs }
+    {
+        self.texts.get(name)
+    }
+
+    /// Gives a name its text, and returns the one that it had. Fails as the map's `insert` does, and then nothing changes.
+    pub fn set(&mut self, name: String, text: String) -> Result<Option<String>, Refused<String, String>>
+        ensures before { IfOk result (λ old. old ≡ value_of string_eq self.old.texts.pairs name) }
+        ensures after { OnOk result (self.new.texts.pairs ≡ put string_eq self.old.texts.pairs name text) }
+        ensures err { OnErr result (self.new.texts ≡ self.old.texts) }
+        ensures handed_back { IfErr result (λ refused. (refused.key ≡ name) × (refused.value ≡ text)) }
+    {
+        self.texts.insert(name, text)
+    }
+
+    // A number that does not depend on the order of the labels: the sum of what each hashes to, without what exceeds 64 bits.
+    fn number(&self) -> u64
+        ensures { result ≡ labels_number self.now.texts.pairs }
+    {
+        let builder = DefaultHashBuilder::new();
+        let mut number = 0u64;
+        for (name, text) in &self.texts {
+            number = number.wrapping_add(builder.hash_one((name, text)));
+        }
+        number
+    }
+}
+
+impl PartialEq for Labels {
+    ghost use Rattle.std.specs.Cmp.{on_per, partial_equiv_from_equiv};
+    ghost use Rattle.std.specs.String.{string_eq_equiv};
+    ghost use Rattle.halfbrown.specs.Equality.{same_pairs, same_maps_per};
+
+    ghost eq = { λ a b. same_pairs string_eq string_eq a.texts.pairs b.texts.pairs };
+
+    ghost laws = { on_per (λ labels. labels.texts) (same_maps_per string_eq string_eq string_eq_equiv (partial_equiv_from_equiv string_eq_equiv)) };
+
+    /// Whether both have the same texts for the same names, in any order.
+    fn eq(&self, other: &Labels) -> bool {
+        self.texts == other.texts
+    }
+}
+
+impl Eq for Labels {
+    ghost use Rattle.std.proofs.lemmas.Cmp.{on_equiv};
+    ghost use Rattle.std.specs.String.{string_eq_equiv};
+    ghost use Rattle.halfbrown.specs.Equality.{same_maps_equiv};
+
+    ghost laws = { on_equiv (λ labels. labels.texts) (same_maps_equiv string_eq string_eq string_eq_equiv string_eq_equiv) };
+}
+
+impl Hash for Labels {
+    ghost use Rattle.std.specs.Hash as fed;
+    ghost use Rattle.half_uses.specs.LabelSums.{equal_alike};
+
+    ghost hash_input = { λ labels. fed.u64 (labels_number labels.texts.pairs) };
+
+    ghost respects_eq = { λ a b same. equal_alike a.texts.pairs b.texts.pairs a.distinct b.distinct same };
+
+    fn hash<H: Hasher>(&self, state: &mut H) {
+        state.write_u64(self.number());
+    }
+}
+
+/// Adds a value to the sum of its key, as of its labels. Then the sum over all keys is larger by exactly this value, which has to fit.
+/// It costs one search. Fails only where the map needs memory, and then nothing changes.
+#[tactic(auto, using(halfbrown::proofs::ValueFacts::value_facts))]
+pub fn add_to<K: Eq + Hash + Drop>(sums: &mut HashMap<K, u64>, key: K, value: u64) -> Result<(), Refusal>
+    requires fits { sum (values_of sums.old.pairs) + value < 2 ^ 64 }
+    ensures total { OnOk result (sum (values_of sums.new.pairs) ≡ sum (values_of sums.old.pairs) + value) }
+    ensures key { OnOk result (sums.new.pairs
+        ≡ put K.eq sums.old.pairs key (unwrap_or (value_of K.eq sums.old.pairs key) 0 + value)) }
+    ensures others { OnOk result ((other : K) → K.eq key other ≡ false
+        → value_of K.eq sums.new.pairs other ≡ value_of K.eq sums.old.pairs other) }
+    ensures err { OnErr result (sums.new ≡ sums.old) }
+{
+    *sums.entry(key)?.or_insert(0) += value;
+    Ok(())
+}
