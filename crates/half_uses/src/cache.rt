@@ -1,8 +1,9 @@
 //! A cache whose keys are hashed once, by whoever asks for them.
 ghost use Rattle.std.specs.Prelude.{◌≡◌, None, Some, false, [], IfOk, OnOk, OnErr};
+ghost use Rattle.std.specs.Map.{keys_of};
 ghost use Rattle.std.specs.Option.{option_copied, UnwrapsOrElse};
-ghost use Rattle.halfbrown.specs.Costs.{IsHashedLookupCost};
-ghost use Rattle.halfbrown.specs.Pairs.{value_of, holds};
+ghost use Rattle.halfbrown.specs.Costs.{IsSearchCost};
+ghost use Rattle.halfbrown.specs.Pairs.{index_of, value_of, holds};
 
 use halfbrown::{KeyHasher, RawEntryMut, Refusal, SizedHashMap, Tally};
 use std::alloc::Global;
@@ -60,8 +61,8 @@ impl<K: Eq + Hash, V, S: BuildHasher> Cache<K, V, S> {
     pub fn get(&self, key: &Hashed<K>, tally: &mut Tally) -> Option<&V>
         requires { key.now.hash ≡ ⟦<S as KeyHasher<K>>⟧.hash self.now.builder key.now.key }
         ensures value { option_copied result ≡ value_of K.eq self.now.pairs key.now.key }
-        ensures cost { IsHashedLookupCost ⟦<S as KeyHasher<K>>⟧.hash
-            (⟦<S as KeyHasher<K>>⟧.hash self.now.builder key.now.key) (K.eq key.now.key) self.now tally.old tally.new }
+        ensures cost { IsSearchCost ⟦<S as KeyHasher<K>>⟧.hash (⟦<S as KeyHasher<K>>⟧.hash self.now.builder key.now.key)
+            self.now (index_of (K.eq key.now.key) (keys_of self.now.pairs)) 0 tally.old tally.new }
     {
         self.values
             .raw_entry()
