@@ -5,15 +5,15 @@ ghost use Rattle.std.specs.Prelude.{◌≡◌, IfOk};
 use halfbrown::{Refused, SizedHashMap};
 use std::alloc::Global;
 
-/// Ada's age after her birthday. Up to four pairs stay in a vector; an insertion into a vector of four makes a table.
+/// Ada's age after her birthday.
 pub fn birthday(alloc: Global) -> Result<u32, Refused<u64, u32>>
     ensures { IfOk result (λ age. age ≡ 37) }
 {
-    let mut ages = SizedHashMap::<u64, u32, _, 4>::new(alloc);
+    let mut ages = SizedHashMap::<u64, u32, _, 4>::new(alloc); // up to four pairs are a vector
     ages.insert(1, 36)?;
     ages.insert(2, 41)?;
     ages.insert(1, 37)?;
-    Ok(ages.get(&1).copied().unwrap_or(0))
+    Ok(ages[&1])
 }
 
 #[cfg(test)]
