@@ -11,12 +11,12 @@ use Rattle.half_store.specs.Store.{StoreState}
 use Rattle.halfbrown.specs.declared.drain.Drain.{Drain}
 use Rattle.halfbrown.specs.declared.limit.Limit as limits
 use Rattle.halfbrown.specs.Layout.{state_in}
-use Rattle.halfbrown.specs.State.{State, with_pairs}
+use Rattle.halfbrown.specs.State.{State, map_with_pairs}
 
 -- the map as it is once the `Drain` is dropped: its own store again, with no pair
 abbrev pub map_after : {K V S L P H : Type 0} {e : eq.Ghosts K} {h : hash.Ghosts K} {b : hashers.Ghosts S K H} {l : limits.Ghosts L} {p : taken.Ghosts P K V}
     → Drain K V S L P H e h b l p → State K V S
-map_after {p} d = with_pairs (state_in (p.store d.pairs) d.map.now.builder) []
+map_after {p} d = map_with_pairs (state_in (p.store d.pairs) d.map.now.builder) []
 
 module _ {K V S L H : Type 0} {e : eq.Ghosts K} {h : hash.Ghosts K} {b : hashers.Ghosts S K H} {l : limits.Ghosts L} {p : taken.Ghosts (StoreState K V) K V} where
   -- the pairs that are still to come, first to last

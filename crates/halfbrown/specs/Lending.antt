@@ -7,7 +7,7 @@ use Rattle.halfbrown.specs.declared.key_hasher.KeyHasher as hashers
 use Rattle.half_store.specs.PairLists.{set_value_at, set_values}
 use Rattle.halfbrown.specs.declared.limit.Limit as limits
 use Rattle.halfbrown.specs.Pairs.{set_by}
-use Rattle.halfbrown.specs.State.{State, with_pairs}
+use Rattle.halfbrown.specs.State.{State, map_with_pairs}
 use Rattle.halfbrown.specs.contracts.map.LimitedHashMap.{the_row}
 
 module _ (K V S L H : RattleType) (key : HashMembers K.Denot) (build : hashers.Ghosts S.Denot K.Denot H.Denot) (most : limits.Ghosts L.Denot) where
@@ -18,20 +18,20 @@ module _ (K V S L H : RattleType) (key : HashMembers K.Denot) (build : hashers.G
   module _ (m : MutBor (State K.Denot V.Denot S.Denot)) where
     -- the pair at this index has the last value written through the reference
     abbrev pub LendsValueAt : ℕ → MutBor V.Denot → Fml
-    LendsValueAt index r = Lends map_row V m r (λ w. with_pairs m.now (set_value_at m.now.pairs index w))
+    LendsValueAt index r = Lends map_row V m r (λ w. map_with_pairs m.now (set_value_at m.now.pairs index w))
 
     -- the same, and where there is no pair at this index the map stays as it is
     abbrev pub LendsValueIfAt : ℕ → Option (MutBor V.Denot) → Fml
-    LendsValueIfAt index r = LendsIf map_row V m r (λ w. with_pairs m.now (set_value_at m.now.pairs index w)) m.now
+    LendsValueIfAt index r = LendsIf map_row V m r (λ w. map_with_pairs m.now (set_value_at m.now.pairs index w)) m.now
 
     -- the pair whose key passes the test has the last value written through the reference, and where none is held the map stays as it is
     abbrev pub LendsValueBy : (K.Denot → Bool) → Option (MutBor V.Denot) → Fml
-    LendsValueBy test r = LendsIf map_row V m r (λ w. with_pairs m.now (set_by test m.now.pairs w)) m.now
+    LendsValueBy test r = LendsIf map_row V m r (λ w. map_with_pairs m.now (set_by test m.now.pairs w)) m.now
 
     -- once the loan of this name ends, the pairs have the values that were written through it, and the keys that they had; a proof knows
     -- these values where a slice was lent, and not where an iterator was
     abbrev pub LendsValues : GName → Fml
-    LendsValues name = follows map_row (Array V 0) m.ghost_name name (λ vs. with_pairs m.now (set_values m.now.pairs vs))
+    LendsValues name = follows map_row (Array V 0) m.ghost_name name (λ vs. map_with_pairs m.now (set_values m.now.pairs vs))
 
     -- the map stays as it is
     abbrev pub Rests : Fml

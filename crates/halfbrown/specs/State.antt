@@ -25,8 +25,8 @@ module _ {K V S : Type 0} where
   contents_of m = m.contents
 
   -- the map with these pairs, all else the same
-  abbrev pub with_pairs : State K V S → List (K × V) → State K V S
-  with_pairs m ps = record m { pairs = ps }
+  abbrev pub map_with_pairs : State K V S → List (K × V) → State K V S
+  map_with_pairs m ps = record m { pairs = ps }
 
   -- new is old with these pairs: form, capacity and builder are the same; what the buckets contain is not said
   pub record WithPairs (old : State K V S) (ps : List (K × V)) (new : State K V S) : Type 0 where

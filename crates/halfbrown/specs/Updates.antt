@@ -3,7 +3,7 @@ use Rattle.std.specs.Prelude.{◌≡◌, ℕ, ◌+◌, ◌^◌, ◌<◌, Bool, t
 use Rattle.std.specs.Map.{keys_of, values_of, lookup}
 use Rattle.std.specs.Option.{option_map}
 use Rattle.halfbrown.specs.Pairs.{value_of, pair_of, holds, holds_by, set_values}
-use Rattle.halfbrown.specs.State.{State, IsValid, with_pairs}
+use Rattle.halfbrown.specs.State.{State, IsValid, map_with_pairs}
 
 -- after these values are written into the pairs: there are as many pairs, with the same keys, and where there are as many values as pairs,
 -- these are their values
@@ -16,7 +16,7 @@ pub record HasValues {K V : Type 0} (old : List (K × V)) (vs : List V) (new : L
 pub record KeepsKeys {K V S : Type 0} (limit : ℕ) (eq : K → K → Bool) (old : State K V S) : Type 0 where
   pub small : length old.pairs < 2 ^ 63
   pub written : (vs : List V) → HasValues old.pairs vs (set_values old.pairs vs)
-  pub valid : (vs : List V) → IsValid eq limit (with_pairs old (set_values old.pairs vs))
+  pub valid : (vs : List V) → IsValid eq limit (map_with_pairs old (set_values old.pairs vs))
 
 module _ {K V : Type 0} (eq : K → K → Bool) where
   -- after the pair (k, v) is put: k is held with the value v, as are its equals; each other key has what it had; there is one pair more

@@ -9,7 +9,7 @@ use Rattle.std.specs.Vec.{with_item}
 use Rattle.std.specs.declared.alloc.Global.{Global}
 use Rattle.std.specs.declared.string.String.{String}
 use Rattle.halfbrown.specs.Pairs.{index_of as first_index, set_value_at}
-use Rattle.halfbrown.specs.State.{with_pairs}
+use Rattle.halfbrown.specs.State.{map_with_pairs}
 use Rattle.json_value.specs.Members.{by_kind, is_named}
 use Rattle.json_value.specs.declared.value.Value.{Value}
 use Rattle.json_value.specs.declared.value.Value.TheViews.{List as list_of, Object as object_of}
@@ -64,7 +64,7 @@ value_at v (c ∷ path) = if c == 47 then descendant v (slice_split (λ b. b == 
 
 -- the value with w as its item, or as the value of its member, at this index
 abbrev pub with_child : Value → ℕ → Value → Value
-with_child v i w = by_kind (λ vs. list_of (with_item vs i w)) (λ m. object_of (with_pairs m (set_value_at m.pairs i w))) v v
+with_child v i w = by_kind (λ vs. list_of (with_item vs i w)) (λ m. object_of (map_with_pairs m (set_value_at m.pairs i w))) v v
 
 -- the value in which w is what a step leads to
 abbrev pub put_child : Value → List ℕ → Value → Value

@@ -5,7 +5,7 @@ use Rattle.half_store.proofs.lemmas.store.States.{length-set_values}
 use Rattle.half_store.specs.PairLists.{set_values}
 use Rattle.half_store.specs.Store.{StoreState, store_with_pairs}
 use Rattle.halfbrown.specs.Layout.{IsMapInvariant, state_in}
-use Rattle.halfbrown.specs.State.{State, IsValid, with_pairs}
+use Rattle.halfbrown.specs.State.{State, IsValid, map_with_pairs}
 use Rattle.halfbrown.specs.Updates.{HasValues, KeepsKeys}
 use Rattle.halfbrown.proofs.lemmas.map.Layout.{kept_keys, state_of}
 use Rattle.std.proofs.iter.runs.Sources.{from_front, as_is}
@@ -46,13 +46,13 @@ module _ {K V S : Type 0} (eq : K → K → Bool) (hash : K → ℕ) (limit : �
     (is : state_in s builder ≡ map) where
   pub record LentValues : Type 0 where
     pub back : (vs : List V)
-        → state_in (store_with_pairs s (set_values s.pairs vs)) builder ≡ with_pairs map (set_values map.pairs vs)
+        → state_in (store_with_pairs s (set_values s.pairs vs)) builder ≡ map_with_pairs map (set_values map.pairs vs)
     pub pairs : s.pairs ≡ map.pairs
     pub keeps : KeepsKeys limit eq map
 
   comes_back : (vs : List V)
-      → state_in (store_with_pairs s (set_values s.pairs vs)) builder ≡ with_pairs map (set_values map.pairs vs)
-  comes_back vs = ap (λ m. with_pairs m (set_values m.pairs vs)) is
+      → state_in (store_with_pairs s (set_values s.pairs vs)) builder ≡ map_with_pairs map (set_values map.pairs vs)
+  comes_back vs = ap (λ m. map_with_pairs m (set_values m.pairs vs)) is
 
   pub lent_values : IsMapInvariant eq hash limit s → length s.pairs < 2 ^ 63 → LentValues
   lent_values kept small = record {

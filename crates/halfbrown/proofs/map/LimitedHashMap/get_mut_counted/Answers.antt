@@ -1,12 +1,12 @@
 use Rattle.std.proofs.Common.{inl, sym, subst, ◌∙◌}
-use Rattle.halfbrown.specs.State.{with_pairs}
+use Rattle.halfbrown.specs.State.{map_with_pairs}
 use Rattle.halfbrown.specs.Updates.{HasSetBy}
 use Rattle.halfbrown.proofs.lemmas.pairs.SetBy.{has_set_by}
 use Rattle.halfbrown.proofs.map.LimitedHashMap.get_mut_counted.Goals as goal
 
 pub returns-in-Ok : goal.returns-in-Ok
 returns-in-Ok g c = (
-  λ i. inl (c.pair_at_mut.result.1.ghost_name, λ w. with_pairs c.args.self.now (sym (c.in-Ok.ensures.found.set_is w) i)),
+  λ i. inl (c.pair_at_mut.result.1.ghost_name, λ w. map_with_pairs c.args.self.now (sym (c.in-Ok.ensures.found.set_is w) i)),
   record {
     writes_back = tt;
     written = λ w. subst (HasSetBy g.K.PartialEq.eq (g.Q.Equivalent.equivalent c.args.key) c.args.self.now.pairs w)
