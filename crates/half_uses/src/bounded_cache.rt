@@ -1,7 +1,7 @@
 //! A cache of a bounded size, which forgets the pair that was used longest ago.
 ghost use Rattle.std.specs.Map.{lookup, remove_entry};
 ghost use Rattle.std.specs.Option.{option_copied};
-ghost use Rattle.std.specs.Prelude.{◌≡◌, ◌-◌, ◌<◌, ◌≤◌, false, None, Some, [], ◌∷◌, ◌++◌, length, IfErr, IfOk, IfSome, OnSome};
+ghost use Rattle.std.specs.Prelude.{◌≡◌, ◌-◌, ◌<◌, ◌≤◌, true, false, None, Some, [], ◌∷◌, ◌++◌, length, IfErr, IfOk, IfSome, OnSome};
 ghost use Rattle.halfbrown.specs.Pairs.{value_of, holds, holds_by};
 ghost use Rattle.halfbrown.specs.Refusal.{refusal_of};
 ghost use Rattle.halfbrown.specs.Updates.{HasPut};
@@ -11,11 +11,11 @@ use halfbrown::{Equivalent, HashMap, Refusal};
 use std::alloc::Global;
 use std::hash::Hash;
 
-/// The pairs that were used last, never more than the bound. All its memory is taken by `new`, so that no other call fails.
+/// The pairs that were used last, never more than the bound. `new` takes all the memory, so that no other call fails.
 ///
-/// The pairs stand in the order of their last use, the oldest first. So each hit moves the pairs behind its own: a cache of
-/// some dozens is fast, and with a bound of at most 32 nothing is ever hashed. In a larger one a hit costs two hashes and a step
-/// for each bucket.
+/// The pairs stand in the order of their last use, the oldest first, so that a use moves each pair behind its own. With a bound
+/// of at most 32 the map stays a vector, and nothing is ever hashed. With a larger one it is a table, and a use goes over all
+/// of its buckets: for thousands of pairs take another structure.
 ///
 /// ```
 /// let mut cache = BoundedCache::<u64, u64>::new(alloc, 2)?;
@@ -31,10 +31,15 @@ pub struct BoundedCache<K: Eq + Hash, V> {
     ghost within: { length held.pairs ≤ bound },
     ghost room: { bound ≤ held.capacity },
     ghost some: { 0 < bound },
+    ghost vector: { bound ≤ 32 → held.is_vec ≡ true },
 }
 
 impl<K: Eq + Hash, V> BoundedCache<K, V> {
     /// No pairs, and memory for as many as the bound, which is not 0. Fails only where that memory is refused.
+    ///
+    /// ```
+    /// let cache = BoundedCache::<u64, u64>::new(alloc, 100)?;
+    /// ```
     pub fn new(alloc: Global, bound: usize) -> Result<BoundedCache<K, V>, Refusal>
         requires { 0 < bound }
         ensures pairs { IfOk result (λ cache. cache.held.pairs ≡ []) }
@@ -54,14 +59,23 @@ impl<K: Eq + Hash, V> BoundedCache<K, V> {
     }
 
     /// The value of a key, where it is held. This is no use of it: all pairs keep their order. It costs one search.
+    ///
+    /// ```
+    /// let value = cache.peek(&1).copied();
+    /// ```
     pub fn peek<Q: Equivalent<K>>(&self, key: Q) -> Option<&V>
         ensures { option_copied result ≡ lookup (Q.equivalent key) self.now.held.pairs }
     {
         self.held.get(key)
     }
 
-    /// The value of a key, where it is held. It is used thereby: its pair is the newest now, and no key's value changes. A value that
-    /// is no `Copy` is read by `peek`, after `refresh`. It costs one search more than `refresh`, and where it finds none only that.
+    /// The value of a key, where it is held. It is used thereby: its pair is the newest now, and no key's value changes. It costs
+    /// one search where it finds none, and else one more than `refresh`. A value that is not `Copy` is read by `peek`, after
+    /// `refresh`.
+    ///
+    /// ```
+    /// let value = cache.get(&1).unwrap_or(0);
+    /// ```
     pub fn get<Q: Equivalent<K>>(&mut self, key: Q) -> Option<V>
     where
         K: Drop,
@@ -77,7 +91,13 @@ impl<K: Eq + Hash, V> BoundedCache<K, V> {
     }
 
     /// Makes the pair of a key the newest, and returns whether it is held. No key's value changes. It costs two searches, and
-    /// moves each pair behind it; with a bound of more than 32 it goes over all buckets.
+    /// moves each pair behind it; in a table it goes over all buckets.
+    ///
+    /// ```
+    /// if cache.refresh(&1) {
+    ///     let value = cache.peek(&1);
+    /// }
+    /// ```
     pub fn refresh<Q: Equivalent<K>>(&mut self, key: Q) -> bool
     where
         K: Drop,
@@ -96,8 +116,14 @@ impl<K: Eq + Hash, V> BoundedCache<K, V> {
         }
     }
 
-    /// Gives a key its value, as the newest pair, and returns the pair that made way for it: the one that the key had, or, where
-    /// as many other pairs are held as the bound allows, the oldest. It costs what `refresh` costs.
+    /// Gives a key its value, as the newest pair. It returns the pair that made way: the one that the key had, or, where as many
+    /// others are held as the bound allows, the oldest. It costs what `refresh` costs, and never fails.
+    ///
+    /// ```
+    /// if let Some((key, value)) = cache.insert(4, 40) {
+    ///     store(key, value)?;
+    /// }
+    /// ```
     pub fn insert(&mut self, key: K, value: V) -> Option<(K, V)>
     where
         K: Drop,
@@ -114,6 +140,21 @@ impl<K: Eq + Hash, V> BoundedCache<K, V> {
         let gone = self.make_way(&key);
         insert_within(&mut self.held, key, value);
         gone
+    }
+
+    /// Forgets a key, and returns its value. The others keep their order. It costs one search, and moves each pair behind it.
+    ///
+    /// ```
+    /// let value = cache.remove(&1);
+    /// ```
+    pub fn remove<Q: Equivalent<K>>(&mut self, key: Q) -> Option<V>
+    where
+        K: Drop,
+        ensures value { result ≡ lookup (Q.equivalent key) self.old.held.pairs }
+        ensures after { self.new.held.pairs ≡ remove_entry (Q.equivalent key) self.old.held.pairs }
+        ensures bound { self.new.bound ≡ self.old.bound }
+    {
+        self.held.shift_remove(key)
     }
 
     // Removes the pair of this key, or, where as many others are held as the bound allows, the oldest.
@@ -142,6 +183,7 @@ fn insert_within<K: Eq + Hash + Drop, V: Drop>(held: &mut HashMap<K, V>, key: K,
     ensures pairs { held.new.pairs ≡ held.old.pairs ++ (key, value) ∷ [] }
     ensures put { HasPut K.eq held.old.pairs key value held.new.pairs }
     ensures capacity { held.new.capacity ≡ held.old.capacity }
+    ensures form { length held.old.pairs < 32 → held.new.is_vec ≡ held.old.is_vec }
 {
     // A vector has no more capacity than its limit, as `len` states. So one with capacity left is not full.
     let _len = held.len();

@@ -2,9 +2,10 @@
 ghost use Rattle.std.specs.Map.{keys_of, values_of, lookup};
 ghost use Rattle.std.specs.List.{IsDistinct};
 ghost use Rattle.std.specs.Option.{option_copied};
-ghost use Rattle.std.specs.Prelude.{◌≡◌, ◌+◌, ◌^◌, ◌<◌, false, [], length, sum, unwrap_or, IfErr, IfOk, OnErr, OnOk};
+ghost use Rattle.std.specs.Prelude.{◌≡◌, ◌≢◌, ◌+◌, ◌^◌, ◌<◌, false, None, [], length, sum, unwrap_or, IfErr, IfOk, OnErr, OnOk};
 ghost use Rattle.std.specs.String.{string_eq};
 ghost use Rattle.std.proofs.Props.{props};
+ghost use Rattle.halfbrown.specs.Growth.{insert_needs};
 ghost use Rattle.halfbrown.specs.Pairs.{value_of, put};
 ghost use Rattle.half_uses.specs.Labels.{labels_number};
 
@@ -122,6 +123,7 @@ pub fn add_to<K: Eq + Hash + Drop>(sums: &mut HashMap<K, u64>, key: K, value: u6
         ≡ put K.eq sums.old.pairs key (unwrap_or (value_of K.eq sums.old.pairs key) 0 + value)) }
     ensures others { OnOk result ((other : K) → K.eq key other ≡ false
         → value_of K.eq sums.new.pairs other ≡ value_of K.eq sums.old.pairs other) }
+    ensures needs { OnErr result (insert_needs 32 K.eq sums.old key ≢ None) }
     ensures err { OnErr result (sums.new ≡ sums.old) }
 {
     *sums.entry(key)?.or_insert(0) += value;

@@ -5,10 +5,11 @@ use half_uses::bank::{Bank, Declined};
 use half_uses::bounded_cache::BoundedCache;
 use half_uses::cache::Cache;
 use half_uses::interner::Interner;
+use half_uses::labels::{Labels, add_to};
 use half_uses::object::Object;
 use half_uses::scopes::Scopes;
 use half_uses::words::{count_words, report};
-use halfbrown::Tally;
+use halfbrown::{HashMap, Refusal, Tally};
 use std::alloc::Global;
 use std::cell::Cell;
 use std::test::Fail;
@@ -106,19 +107,52 @@ fn a_bounded_cache_forgets_what_was_used_longest_ago(rt: HostRuntime) -> Result<
     let mut cache = BoundedCache::<u64, u64>::new(rt.alloc(), 2)?;
     assert_same(cache.insert(1, 10), None, "there is room")?;
     assert_same(cache.insert(2, 20), None, "for two")?;
-    assert_same(cache.get(&1), Some(&10), "which is used thereby")?;
+    assert_same(cache.get(&1), Some(10), "which is used thereby")?;
     assert_same(cache.peek(&2), Some(&20), "which is not")?;
     assert_same(cache.insert(3, 30), Some((2, 20)), "2 is the oldest")?;
     assert_same(cache.insert(1, 11), Some((1, 10)), "its own pair")?;
     assert_same(cache.insert(4, 40), Some((3, 30)), "3 is the oldest")?;
     assert_same(cache.get(&3), None, "which is forgotten")?;
     assert_same(cache.len(), 2, "never more than the bound")?;
+    assert_same(cache.remove(&1), Some(11), "it was held")?;
+    assert_same(cache.remove(&1), None, "once")?;
     let mut large = BoundedCache::<u64, u64>::new(rt.alloc(), 40)?;
     for key in 0..40u64 {
         let _gone = large.insert(key, key);
     }
     assert_true(large.refresh(&0) && !large.refresh(&40), "0 is held")?;
     assert_same(large.insert(41, 41), Some((1, 1)), "1 is the oldest")
+}
+
+// Labels of these names and texts, in this order.
+fn labels_of(alloc: Global, pairs: &[(&str, &str)]) -> Result<Labels, Refusal> {
+    let mut labels = Labels::new(alloc);
+    for (name, text) in pairs {
+        let name = String::from_str(alloc, name)?;
+        let _before = labels.set(name, String::from_str(alloc, text)?)?;
+    }
+    Ok(labels)
+}
+
+// Of forty groups, so that the sums become a table. Each is found by its labels in the other order.
+#[test]
+fn values_are_summed_by_labels(rt: HostRuntime) -> Result<(), Fail> {
+    let alloc = rt.alloc();
+    let mut sums = HashMap::<Labels, u64>::new(alloc);
+    for number in 0..40u64 {
+        let path = format!(in alloc; "/{number}")?;
+        let labels = labels_of(alloc, &[("method", "GET"), ("path", path.as_str())])?;
+        add_to(&mut sums, labels, number)?;
+        let again = labels_of(alloc, &[("path", path.as_str()), ("method", "GET")])?;
+        add_to(&mut sums, again, 1)?;
+        let swapped = labels_of(alloc, &[("method", path.as_str()), ("path", "GET")])?;
+        assert_same_at(number, sums.get(&swapped).copied(), None, "other labels")?;
+    }
+    assert_same(sums.len(), 40, "one for each path")?;
+    let last = labels_of(alloc, &[("path", "/39"), ("method", "GET")])?;
+    assert_same(last.get("path").map(|text| text.as_str()), Some("/39"), "set")?;
+    assert_same(last.len(), 2, "each once")?;
+    assert_same(sums.get(&last).copied(), Some(40), "39 and 1")
 }
 
 #[test]

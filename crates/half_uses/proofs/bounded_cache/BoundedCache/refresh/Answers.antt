@@ -29,3 +29,10 @@ pub returns-in-Some-clause-values : goal.returns-in-Some-clause-values
 returns-in-Some-clause-values g c =
     put_back g.met.K.Eq.laws (g.Q.Equivalent.equivalent c.args.key) (g.met.Q.Equivalent.stands_for_equals c.args.key) _ _ _ _
     (sym c.shift_remove_entry.ensures.gives ∙ c.in-Some.is) c.shift_remove_entry.ensures.removed c.insert_within.ensures.put
+
+pub invariant_of-self-clause-vector : goal.invariant_of-self-clause-vector
+invariant_of-self-clause-vector g c small =
+    let out = out g.met.K.Eq.laws (g.Q.Equivalent.equivalent c.args.key) (g.met.Q.Equivalent.stands_for_equals c.args.key) _ _ _
+    (sym c.shift_remove_entry.ensures.gives ∙ c.in-Some.is) c.shift_remove_entry.ensures.removed in
+    c.insert_within.ensures.form (omega (arith, out.len, c.args.self.now.within, small)) ∙ c.shift_remove_entry.ensures.after.form
+    ∙ c.args.self.now.vector small
