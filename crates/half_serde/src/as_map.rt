@@ -1,0 +1,61 @@
+//! A map as the value of a field: `#[serde(with = "half_serde::as_map")]`. The field stays a map, of any limit.
+ghost use Rattle.std.specs.Prelude.{IfOk, OnOk};
+ghost use Rattle.serde.specs.Event.{WritesMap};
+ghost use Rattle.half_serde.specs.Reading.{ReadsMap};
+
+use halfbrown::{Limit, LimitedHashMap};
+use serde::{Deserialize, Deserializer, Format, Serialize, Serializer};
+use std::alloc::Global;
+use std::hash::{BuildHasher, Hash};
+
+/// Writes the pairs of a map, in order.
+pub fn serialize<K: Serialize + Eq + Hash, V: Serialize, H: BuildHasher, L: Limit, S: Serializer>(
+    map: &LimitedHashMap<K, V, H, L>,
+    out: &mut S,
+) -> Result<(), S::Error>
+    ensures { OnOk result
+        (WritesMap K.writes V.writes map.now.pairs (S.written out.old) (S.written out.new)) }
+{
+    out.begin_map(Some(map.len()))?;
+    for (key, value) in map {
+        out.begin_key()?;
+        key.serialize(out)?;
+        out.end_key()?;
+        value.serialize(out)?;
+    }
+    out.end_map()
+}
+
+/// Reads a map, with the default of the builder's type. Each entry of the text is inserted, in order. Refused memory is the
+/// format's own error for that.
+///
+/// The clause says that each entry that begins gives a pair. Which pair that is, is for the impls of the key and the value
+/// to say, and no clause of `serde` speaks of it.
+#[tactic(auto, using(crate::proofs::Reading::reads_none))]
+pub fn deserialize<
+    'de,
+    K: Deserialize<'de> + Eq + Hash,
+    V: Deserialize<'de>,
+    H: BuildHasher + Default + Drop,
+    L: Limit,
+    F: Format,
+>(
+    alloc: Global,
+    from: &mut Deserializer<'de, '_, F>,
+) -> Result<LimitedHashMap<K, V, H, L>, F::Error>
+    ensures { IfOk result (λ map. ReadsMap F.gives K.eq H.is_default from.old map from.new) }
+{
+    from.begin_map()?;
+    let mut map = LimitedHashMap::default(alloc);
+    for _ in 0..u64::MAX {
+        if !from.next_entry()? {
+            return Ok(map);
+        }
+        let key = K::deserialize(alloc, from)?;
+        let value = V::deserialize(alloc, from)?;
+        if map.insert(key, value).is_err() {
+            return Err(from.no_memory());
+        }
+    }
+    Err(from.wrong_len())
+}

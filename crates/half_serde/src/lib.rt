@@ -1,0 +1,26 @@
+//! Maps as members of what `serde` writes and reads: a JSON object, for one, with its members in order.
+//!
+//! ```
+//! #[derive(Drop, Serialize, Deserialize)]
+//! struct Order {
+//!     #[serde(with = "half_serde::as_map")]
+//!     counts: HashMap<String, u64>,
+//!     prices: Object<Object<u64>>,
+//! }
+//! let text = r#"{"counts":{"pen":2,"ink":1},"prices":{"pen":{"net":3}}}"#;
+//! let order: Order = serde_json::from_str(alloc, text)?;
+//! assert_eq!(rt; order.counts.get("ink"), Some(&1));
+//! assert_eq!(rt; serde_json::to_string(alloc, &order)?.as_str(), text);
+//! ```
+//!
+//! A field that is a map names the module `as_map`. Where a type has to implement the traits itself, such as a value of
+//! another map, or a whole document, it is an `Object` or a `Map`.
+//!
+//! Pairs are written in the order of the map, and read in the order of the text. Of equal keys the last value stands at
+//! the place of the first key, as `insert` has it.
+#![tactic(auto)]
+
+pub mod as_map;
+mod map;
+
+pub use map::{Map, Object};
