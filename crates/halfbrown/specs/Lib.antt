@@ -3,6 +3,7 @@ pub mod Clone
 pub mod Costs
 pub mod Drain
 pub mod Entry
+pub mod EntryView
 pub mod Equality
 pub mod FromIter
 pub mod Growth

@@ -5,7 +5,8 @@
 ghost use Rattle.std.specs.Prelude.{◌<◌, ◌↔◌, IfSome, IsSome, is_ok, length};
 ghost use Rattle.std.specs.Borrow.{sem};
 ghost use Rattle.halfbrown.specs.Costs.{IsInsertCost};
-ghost use Rattle.halfbrown.specs.Entry.{IsEntryAt, MakesEntry, RestsIfNoEntry, RestsIfRefused};
+ghost use Rattle.halfbrown.specs.Entry.{occupied, MakesEntry, RestsIfNoEntry, RestsIfRefused};
+ghost use Rattle.halfbrown.specs.EntryView.{IsEntryAt};
 
 use super::{Entry, OccupiedEntry, VacantEntry};
 use crate::map::prepare::Place;
@@ -74,11 +75,11 @@ impl<K: Eq + Hash, V, S: KeyHasher<K>, L: Limit> LimitedHashMap<K, V, S, L> {
     /// assert_eq!(rt; ages.get(&2), Some(&42));
     /// ```
     #[inline(always)]
-    #[tactic(auto, unfolding(crate::specs::Entry::with_value))]
+    #[tactic(auto, unfolding(crate::specs::EntryView::with_value))]
     pub fn get_index_entry(&mut self, index: usize) -> Option<OccupiedEntry<'_, K, V, S, L>>
         ensures* unchanged { sem 𝓛
             (RestsIfNoEntry K.row V.row S.row L.row S.Hasher.row self.entry result) }
-        ensures entry { IfSome result (IsEntryAt self.entry index) }
+        ensures entry { IfSome result (λ entry. IsEntryAt self.entry index (occupied entry)) }
         ensures held { IsSome result ↔ (index < length self.old.pairs) }
     {
         if index < self.len() {

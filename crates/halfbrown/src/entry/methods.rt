@@ -6,8 +6,9 @@ ghost use Rattle.std.specs.Prelude.{◌≡◌, true, false, None, Some, length, 
 ghost use Rattle.std.specs.Borrow.{sem, MutBor};
 ghost use Rattle.std.specs.Map.Calls.{ModifiesValue};
 ghost use Rattle.std.specs.Option.{UnwrapsOrElse};
-ghost use Rattle.halfbrown.specs.Entry.{is_occupied, map_of, entry_key, entry_pair, entry_value, ModifiesEntry};
-ghost use Rattle.halfbrown.specs.Entry.{EntryLends};
+ghost use Rattle.halfbrown.specs.Entry.{view, EntryLends};
+ghost use Rattle.halfbrown.specs.EntryView.{is_occupied, map_of, entry_key, entry_pair};
+ghost use Rattle.halfbrown.specs.EntryView.{entry_value, ModifiesEntry};
 
 use super::Entry;
 use crate::{KeyHasher, Limit};
@@ -21,7 +22,7 @@ impl<'a, K: Eq + Hash, V, S: KeyHasher<K>, L: Limit> Entry<'a, K, V, S, L> {
     /// ```
     #[inline(always)]
     pub fn key(&self) -> &K
-        ensures { entry_key self.now ≡ Some result.now }
+        ensures { entry_key (view self.now) ≡ Some result.now }
     {
         match self {
             Entry::Occupied(entry) => entry.key(),
@@ -43,7 +44,7 @@ impl<'a, K: Eq + Hash, V, S: KeyHasher<K>, L: Limit> Entry<'a, K, V, S, L> {
         V: Drop,
         ensures* writes_back { sem 𝓛
             (EntryLends K.row V.row S.row L.row S.Hasher.row self.entry result) }
-        ensures value { result.now ≡ unwrap_or (entry_value self.entry) default }
+        ensures value { result.now ≡ unwrap_or (entry_value (view self.entry)) default }
     {
         match self {
             Entry::Occupied(entry) => entry.into_mut(),
@@ -58,10 +59,10 @@ impl<'a, K: Eq + Hash, V, S: KeyHasher<K>, L: Limit> Entry<'a, K, V, S, L> {
     /// ```
     #[inline(always)]
     pub fn or_insert_with<F: FnOnce() -> V>(self, default: F) -> &'a mut V
-        requires { entry_value self ≡ None → F.pre default }
+        requires { entry_value (view self) ≡ None → F.pre default }
         ensures* writes_back { sem 𝓛
             (EntryLends K.row V.row S.row L.row S.Hasher.row self.entry result) }
-        ensures value { UnwrapsOrElse (entry_value self.entry) (F.post default) result.now }
+        ensures value { UnwrapsOrElse (entry_value (view self.entry)) (F.post default) result.now }
     {
         match self {
             Entry::Occupied(entry) => entry.into_mut(),
@@ -80,7 +81,7 @@ impl<'a, K: Eq + Hash, V, S: KeyHasher<K>, L: Limit> Entry<'a, K, V, S, L> {
         V: Default,
         ensures* writes_back { sem 𝓛
             (EntryLends K.row V.row S.row L.row S.Hasher.row self.entry result) }
-        ensures value { UnwrapsOrElse (entry_value self.entry) V.is_default result.now }
+        ensures value { UnwrapsOrElse (entry_value (view self.entry)) V.is_default result.now }
     {
         match self {
             Entry::Occupied(entry) => entry.into_mut(),
@@ -96,9 +97,10 @@ impl<'a, K: Eq + Hash, V, S: KeyHasher<K>, L: Limit> Entry<'a, K, V, S, L> {
     /// ```
     #[inline(always)]
     pub fn index(&self) -> usize
-        ensures held { is_occupied self.now ≡ true
-            → slice_get (map_of self.now).pairs result ≡ entry_pair self.now }
-        ensures vacant { is_occupied self.now ≡ false → result ≡ length (map_of self.now).pairs }
+        ensures held { is_occupied (view self.now) ≡ true
+            → slice_get (map_of (view self.now)).pairs result ≡ entry_pair (view self.now) }
+        ensures vacant { is_occupied (view self.now) ≡ false
+            → result ≡ length (map_of (view self.now)).pairs }
     {
         match self {
             Entry::Occupied(entry) => entry.index(),
@@ -114,8 +116,9 @@ impl<'a, K: Eq + Hash, V, S: KeyHasher<K>, L: Limit> Entry<'a, K, V, S, L> {
     /// ```
     #[inline(always)]
     pub fn and_modify<F: FnOnce(&mut V)>(self, f: F) -> Entry<'a, K, V, S, L>
-        requires { (lent : MutBor V) → entry_value self ≡ Some lent.now → F.pre f lent }
-        ensures { ModifiesEntry (ModifiesValue F.FnOnce f) self.entry result }
+        requires { (lent : MutBor V) → entry_value (view self) ≡ Some lent.now → F.pre f lent }
+        ensures { ModifiesEntry (ModifiesValue F.FnOnce f (entry_value (view self.entry)))
+            (view self.entry) (view result) }
     {
         match self {
             Entry::Occupied(mut entry) => {

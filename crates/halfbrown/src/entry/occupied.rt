@@ -8,8 +8,8 @@
 ghost use Rattle.std.specs.Prelude.{◌≡◌, ◌<◌, true, Some, IfSome, length, slice_get};
 ghost use Rattle.std.specs.Borrow.{sem};
 ghost use Rattle.half_store.specs.PairLists.{swap_remove_at};
-ghost use Rattle.halfbrown.specs.Entry.{Occupied, entry_key, entry_pair, entry_value, map_of, pairs_without, IsWritten};
-ghost use Rattle.halfbrown.specs.Entry.{HasNewKey, EntryLends, OccupiedLends, OccupiedRests, with_entry_value};
+ghost use Rattle.halfbrown.specs.Entry.{Occupied, occupied, EntryLends, OccupiedLends, OccupiedRests, with_entry_value};
+ghost use Rattle.halfbrown.specs.EntryView.{entry_key, entry_pair, entry_value, map_of, pairs_without, IsWritten, HasNewKey};
 ghost use Rattle.halfbrown.specs.State.{IsValid, WithPairs};
 ghost use Rattle.halfbrown.specs.Updates.{HasKeyReplaced};
 
@@ -25,7 +25,7 @@ impl<'a, K: Eq + Hash, V, S: KeyHasher<K>, L: Limit> OccupiedEntry<'a, K, V, S, 
     /// ```
     #[inline(always)]
     pub fn key(&self) -> &K
-        ensures { entry_key (Occupied self.now) ≡ Some result.now }
+        ensures { entry_key (occupied self.now) ≡ Some result.now }
     {
         self.get_key_value().0
     }
@@ -39,7 +39,7 @@ impl<'a, K: Eq + Hash, V, S: KeyHasher<K>, L: Limit> OccupiedEntry<'a, K, V, S, 
     #[inline(always)]
     pub fn key_mut(&mut self) -> &K
         ensures* unchanged { sem 𝓛 (OccupiedRests K.row V.row S.row L.row S.Hasher.row self.entry) }
-        ensures key { entry_key (Occupied self.old) ≡ Some result.now }
+        ensures key { entry_key (occupied self.old) ≡ Some result.now }
     {
         self.key()
     }
@@ -51,7 +51,7 @@ impl<'a, K: Eq + Hash, V, S: KeyHasher<K>, L: Limit> OccupiedEntry<'a, K, V, S, 
     /// ```
     #[inline(always)]
     pub fn into_key(self) -> &'a K
-        ensures { entry_key (Occupied self.entry) ≡ Some result.now }
+        ensures { entry_key (occupied self.entry) ≡ Some result.now }
     {
         self.into_key_value().0
     }
@@ -63,11 +63,11 @@ impl<'a, K: Eq + Hash, V, S: KeyHasher<K>, L: Limit> OccupiedEntry<'a, K, V, S, 
     /// ```
     #[inline(always)]
     pub fn index(&self) -> usize
-        ensures within { result < length (map_of (Occupied self.now)).pairs }
-        ensures pair { slice_get (map_of (Occupied self.now)).pairs result
-            ≡ entry_pair (Occupied self.now) }
-        ensures pairs_left { swap_remove_at (map_of (Occupied self.now)).pairs result
-            ≡ pairs_without (Occupied self.now) }
+        ensures within { result < length (map_of (occupied self.now)).pairs }
+        ensures pair { slice_get (map_of (occupied self.now)).pairs result
+            ≡ entry_pair (occupied self.now) }
+        ensures pairs_left { swap_remove_at (map_of (occupied self.now)).pairs result
+            ≡ pairs_without (occupied self.now) }
     {
         self.index
     }
@@ -79,7 +79,7 @@ impl<'a, K: Eq + Hash, V, S: KeyHasher<K>, L: Limit> OccupiedEntry<'a, K, V, S, 
     /// ```
     #[inline(always)]
     pub fn get(&self) -> &V
-        ensures { entry_value (Occupied self.now) ≡ Some result.now }
+        ensures { entry_value (occupied self.now) ≡ Some result.now }
     {
         self.get_key_value().1
     }
@@ -94,9 +94,9 @@ impl<'a, K: Eq + Hash, V, S: KeyHasher<K>, L: Limit> OccupiedEntry<'a, K, V, S, 
     pub fn get_mut(&mut self) -> &mut V
         ensures* writes_back { sem 𝓛
             (OccupiedLends K.row V.row S.row L.row S.Hasher.row self.entry result) }
-        ensures value { entry_value (Occupied self.old) ≡ Some result.now }
+        ensures value { entry_value (occupied self.old) ≡ Some result.now }
         ensures written { (w : V)
-            → IsWritten (Occupied self.old) w (Occupied (with_entry_value self.old w)) }
+            → IsWritten (occupied self.old) w (occupied (with_entry_value self.old w)) }
     {
         self.get_key_value_mut().1
     }
@@ -108,11 +108,11 @@ impl<'a, K: Eq + Hash, V, S: KeyHasher<K>, L: Limit> OccupiedEntry<'a, K, V, S, 
     /// assert_eq!(rt; ages.get(&1), Some(&37));
     /// ```
     #[inline(always)]
-    #[tactic(auto, using(crate::proofs::lemmas::entry::Methods::occupied_writes))]
+    #[tactic(auto, unfolding(crate::specs::EntryView::with_value))]
     pub fn into_mut(self) -> &'a mut V
         ensures* writes_back { sem 𝓛
             (EntryLends K.row V.row S.row L.row S.Hasher.row (Occupied self.entry) result) }
-        ensures value { entry_value (Occupied self.entry) ≡ Some result.now }
+        ensures value { entry_value (occupied self.entry) ≡ Some result.now }
     {
         let index = self.index;
         let map = self.map;
@@ -126,7 +126,7 @@ impl<'a, K: Eq + Hash, V, S: KeyHasher<K>, L: Limit> OccupiedEntry<'a, K, V, S, 
     /// ```
     #[inline(always)]
     pub fn get_key_value(&self) -> (&K, &V)
-        ensures { entry_pair (Occupied self.now) ≡ Some (result.0.now, result.1.now) }
+        ensures { entry_pair (occupied self.now) ≡ Some (result.0.now, result.1.now) }
     {
         self.map.pair_at(self.index)
     }
@@ -142,9 +142,9 @@ impl<'a, K: Eq + Hash, V, S: KeyHasher<K>, L: Limit> OccupiedEntry<'a, K, V, S, 
     pub fn get_key_value_mut(&mut self) -> (&K, &mut V)
         ensures* writes_back { sem 𝓛
             (OccupiedLends K.row V.row S.row L.row S.Hasher.row self.entry result.1) }
-        ensures pair { entry_pair (Occupied self.old) ≡ Some (result.0.now, result.1.now) }
+        ensures pair { entry_pair (occupied self.old) ≡ Some (result.0.now, result.1.now) }
         ensures written { (w : V)
-            → IsWritten (Occupied self.old) w (Occupied (with_entry_value self.old w)) }
+            → IsWritten (occupied self.old) w (occupied (with_entry_value self.old w)) }
     {
         let index = self.index;
         self.map.pair_at_mut(index)
@@ -159,7 +159,7 @@ impl<'a, K: Eq + Hash, V, S: KeyHasher<K>, L: Limit> OccupiedEntry<'a, K, V, S, 
     /// ```
     #[inline(always)]
     pub fn into_key_value(self) -> (&'a K, &'a mut V)
-        ensures { entry_pair (Occupied self.entry) ≡ Some (result.0.now, result.1.now) }
+        ensures { entry_pair (occupied self.entry) ≡ Some (result.0.now, result.1.now) }
     {
         let map = self.map;
         map.pair_at_mut(self.index)
@@ -173,9 +173,9 @@ impl<'a, K: Eq + Hash, V, S: KeyHasher<K>, L: Limit> OccupiedEntry<'a, K, V, S, 
     /// ```
     #[inline(always)]
     pub fn insert(&mut self, value: V) -> V
-        ensures old { entry_value (Occupied self.old) ≡ Some result }
-        ensures written { IsWritten (Occupied self.old) value (Occupied self.new) }
-        ensures valid { IsValid K.eq L.LIMIT (map_of (Occupied self.new)) }
+        ensures old { entry_value (occupied self.old) ≡ Some result }
+        ensures written { IsWritten (occupied self.old) value (occupied self.new) }
+        ensures valid { IsValid K.eq L.LIMIT (map_of (occupied self.new)) }
     {
         let old = std::mem::replace(self.get_mut(), value);
         // Of the map that is read here `len` states what holds of every map.
@@ -190,12 +190,12 @@ impl<'a, K: Eq + Hash, V, S: KeyHasher<K>, L: Limit> OccupiedEntry<'a, K, V, S, 
     /// ```
     #[inline(always)]
     pub fn insert_key(&mut self, key: K) -> K
-        requires { IfSome (entry_key (Occupied self.old)) (λ k. K.eq key k ≡ true) }
-        ensures old { entry_key (Occupied self.old) ≡ Some result }
-        ensures new { HasNewKey self.old key self.new }
-        ensures replaced { HasKeyReplaced K.eq (map_of (Occupied self.old)).pairs key
-            (map_of (Occupied self.new)).pairs }
-        ensures valid { IsValid K.eq L.LIMIT (map_of (Occupied self.new)) }
+        requires { IfSome (entry_key (occupied self.old)) (λ k. K.eq key k ≡ true) }
+        ensures old { entry_key (occupied self.old) ≡ Some result }
+        ensures new { HasNewKey (occupied self.old) key (occupied self.new) }
+        ensures replaced { HasKeyReplaced K.eq (map_of (occupied self.old)).pairs key
+            (map_of (occupied self.new)).pairs }
+        ensures valid { IsValid K.eq L.LIMIT (map_of (occupied self.new)) }
     {
         let index = self.index;
         self.map.set_key_at(index, key)
@@ -212,9 +212,9 @@ impl<'a, K: Eq + Hash, V, S: KeyHasher<K>, L: Limit> OccupiedEntry<'a, K, V, S, 
     pub fn remove(self) -> V
     where
         K: Drop,
-        ensures value { entry_value (Occupied self.entry) ≡ Some result }
-        ensures after { WithPairs (map_of (Occupied self.entry))
-            (pairs_without (Occupied self.entry)) self.exit.0.now }
+        ensures value { entry_value (occupied self.entry) ≡ Some result }
+        ensures after { WithPairs (map_of (occupied self.entry))
+            (pairs_without (occupied self.entry)) self.exit.0.now }
         ensures valid { IsValid K.eq L.LIMIT self.exit.0.now }
     {
         self.remove_entry().1
@@ -229,10 +229,10 @@ impl<'a, K: Eq + Hash, V, S: KeyHasher<K>, L: Limit> OccupiedEntry<'a, K, V, S, 
     /// ```
     #[inline]
     pub fn remove_entry(self) -> (K, V)
-        ensures pair { entry_pair (Occupied self.entry) ≡ Some result }
-        ensures value { entry_value (Occupied self.entry) ≡ Some result.1 }
-        ensures after { WithPairs (map_of (Occupied self.entry))
-            (pairs_without (Occupied self.entry)) self.exit.0.now }
+        ensures pair { entry_pair (occupied self.entry) ≡ Some result }
+        ensures value { entry_value (occupied self.entry) ≡ Some result.1 }
+        ensures after { WithPairs (map_of (occupied self.entry))
+            (pairs_without (occupied self.entry)) self.exit.0.now }
         ensures valid { IsValid K.eq L.LIMIT self.exit.0.now }
     {
         let index = self.index;

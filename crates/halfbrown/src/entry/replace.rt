@@ -1,7 +1,8 @@
 //! An entry whose value is handed to a closure.
 ghost use Rattle.std.specs.Prelude.{◌≡◌, Some};
 ghost use Rattle.std.specs.Borrow.{Bor};
-ghost use Rattle.halfbrown.specs.Entry.{Occupied, entry_pair};
+ghost use Rattle.halfbrown.specs.Entry.{occupied, view};
+ghost use Rattle.halfbrown.specs.EntryView.{entry_pair};
 ghost use Rattle.halfbrown.specs.Replacement.{ReplacesOrRemoves, IsReplacementCost};
 
 use super::{Entry, OccupiedEntry, VacantEntry};
@@ -25,9 +26,9 @@ impl<'a, K: Eq + Hash, V, S: KeyHasher<K>, L: Limit> OccupiedEntry<'a, K, V, S, 
     /// ```
     #[inline]
     pub fn replace_entry_with<F: FnOnce(&K, V) -> Option<V>>(self, f: F) -> Entry<'a, K, V, S, L>
-        requires { (key : Bor K) (value : V) → entry_pair (Occupied self) ≡ Some (key.now, value)
+        requires { (key : Bor K) (value : V) → entry_pair (occupied self) ≡ Some (key.now, value)
             → F.pre f key value }
-        ensures { ReplacesOrRemoves L.LIMIT K.eq (F.post f) (Occupied self.entry) result }
+        ensures { ReplacesOrRemoves L.LIMIT K.eq (F.post f) (occupied self.entry) (view result) }
     {
         uncounted!(self.replace_entry_with_counted(f))
     }
@@ -39,10 +40,11 @@ impl<'a, K: Eq + Hash, V, S: KeyHasher<K>, L: Limit> OccupiedEntry<'a, K, V, S, 
         f: F,
         tally: &mut Tally,
     ) -> Entry<'a, K, V, S, L>
-        requires { (key : Bor K) (value : V) → entry_pair (Occupied self) ≡ Some (key.now, value)
+        requires { (key : Bor K) (value : V) → entry_pair (occupied self) ≡ Some (key.now, value)
             → F.pre f key value }
-        ensures replaced { ReplacesOrRemoves L.LIMIT K.eq (F.post f) (Occupied self.entry) result }
-        ensures cost { IsReplacementCost S.hash result tally.old tally.new }
+        ensures replaced { ReplacesOrRemoves L.LIMIT K.eq (F.post f)
+            (occupied self.entry) (view result) }
+        ensures cost { IsReplacementCost S.hash (view result) tally.old tally.new }
     {
         let index = self.index;
         let map = self.map;

@@ -7,7 +7,8 @@
 //! A clause `writes_back` says what the map is once the borrow that the call returns has ended.
 ghost use Rattle.std.specs.Prelude.{◌≡◌, Some, length};
 ghost use Rattle.std.specs.Borrow.{sem};
-ghost use Rattle.halfbrown.specs.Entry.{Vacant, entry_key, map_of, EntryLends};
+ghost use Rattle.halfbrown.specs.Entry.{Vacant, vacant, EntryLends};
+ghost use Rattle.halfbrown.specs.EntryView.{entry_key, map_of};
 
 use super::VacantEntry;
 use crate::{KeyHasher, Limit};
@@ -21,7 +22,7 @@ impl<'a, K: Eq + Hash, V, S: KeyHasher<K>, L: Limit> VacantEntry<'a, K, V, S, L>
     /// ```
     #[inline(always)]
     pub fn key(&self) -> &K
-        ensures { entry_key (Vacant self.now) ≡ Some result.now }
+        ensures { entry_key (vacant self.now) ≡ Some result.now }
     {
         &self.key
     }
@@ -34,8 +35,8 @@ impl<'a, K: Eq + Hash, V, S: KeyHasher<K>, L: Limit> VacantEntry<'a, K, V, S, L>
     /// ```
     #[inline(always)]
     pub fn into_key(self) -> K
-        ensures key { entry_key (Vacant self.entry) ≡ Some result }
-        ensures after { self.exit.0.now ≡ map_of (Vacant self.entry) }
+        ensures key { entry_key (vacant self.entry) ≡ Some result }
+        ensures after { self.exit.0.now ≡ map_of (vacant self.entry) }
     {
         let VacantEntry {
             map: _,
@@ -52,7 +53,7 @@ impl<'a, K: Eq + Hash, V, S: KeyHasher<K>, L: Limit> VacantEntry<'a, K, V, S, L>
     /// ```
     #[inline(always)]
     pub fn index(&self) -> usize
-        ensures { result ≡ length (map_of (Vacant self.now)).pairs }
+        ensures { result ≡ length (map_of (vacant self.now)).pairs }
     {
         self.map.len()
     }

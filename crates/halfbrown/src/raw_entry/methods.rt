@@ -1,12 +1,12 @@
 //! The calls of a raw entry.
-ghost use Rattle.std.specs.Prelude.{◌≡◌, false, None, Some, IfSome, unwrap_or, if◌then◌else◌};
+ghost use Rattle.std.specs.Prelude.{◌≡◌, false, None, Some, IfSome, unwrap_or};
 ghost use Rattle.std.specs.Borrow.{Bor, MutBor};
 ghost use Rattle.std.specs.Option.{UnwrapsOrElse};
-ghost use Rattle.halfbrown.specs.Entry.{Occupied, entry_pair};
+ghost use Rattle.halfbrown.specs.Entry.{occupied, raw_view};
+ghost use Rattle.halfbrown.specs.EntryView.{map_of, is_occupied, entry_pair, entry_value};
+ghost use Rattle.halfbrown.specs.EntryView.{AdmitsKey, PutsEntry, ModifiesEntry};
 ghost use Rattle.halfbrown.specs.Pairs.{holds};
-ghost use Rattle.halfbrown.specs.RawEntry.{raw_map, raw_ref, is_found, found_key, found_value};
-ghost use Rattle.halfbrown.specs.RawEntry.{found_pair, pairs_once_put, without_found, PutsEntry, ModifiesPair, after_adding};
-ghost use Rattle.halfbrown.specs.State.{WithPairs};
+ghost use Rattle.halfbrown.specs.RawEntry.{ModifiesPair, after_putting};
 
 use super::RawEntryMut;
 use crate::{KeyHasher, Limit, OccupiedEntry};
@@ -26,8 +26,8 @@ impl<'a, K: Eq + Hash, V, S: KeyHasher<K>, L: Limit> RawEntryMut<'a, K, V, S, L>
     where
         K: Drop,
         V: Drop,
-        requires { is_found self ≡ false → holds K.eq (raw_map self).pairs key ≡ false }
-        ensures { PutsEntry L.LIMIT K.eq self.entry key value result }
+        requires { AdmitsKey K.eq (raw_view self) key }
+        ensures { PutsEntry L.LIMIT K.eq (raw_view self.entry) key value (occupied result) }
     {
         uncounted!(self.insert_counted(key, value))
     }
@@ -43,10 +43,9 @@ impl<'a, K: Eq + Hash, V, S: KeyHasher<K>, L: Limit> RawEntryMut<'a, K, V, S, L>
     where
         K: Drop,
         V: Drop,
-        requires { is_found self ≡ false → holds K.eq (raw_map self).pairs key ≡ false }
-        ensures puts { PutsEntry L.LIMIT K.eq self.entry key value result }
-        ensures cost { tally.new ≡ (if is_found self.entry
-            then tally.old else after_adding S.hash (raw_map self.entry) key tally.old) }
+        requires { AdmitsKey K.eq (raw_view self) key }
+        ensures puts { PutsEntry L.LIMIT K.eq (raw_view self.entry) key value (occupied result) }
+        ensures cost { tally.new ≡ after_putting S.hash (raw_view self.entry) key tally.old }
     {
         match self {
             RawEntryMut::Occupied(mut entry) => {
@@ -69,9 +68,9 @@ impl<'a, K: Eq + Hash, V, S: KeyHasher<K>, L: Limit> RawEntryMut<'a, K, V, S, L>
     where
         K: Drop,
         V: Drop,
-        requires { is_found self ≡ false → holds K.eq (raw_map self).pairs default_key ≡ false }
-        ensures { PutsEntry L.LIMIT K.eq self.entry default_key
-            (unwrap_or (found_value self.entry) default_value) result }
+        requires { AdmitsKey K.eq (raw_view self) default_key }
+        ensures { PutsEntry L.LIMIT K.eq (raw_view self.entry) default_key
+            (unwrap_or (entry_value (raw_view self.entry)) default_value) (occupied result) }
     {
         uncounted!(self.or_insert_entry_counted(default_key, default_value))
     }
@@ -87,11 +86,11 @@ impl<'a, K: Eq + Hash, V, S: KeyHasher<K>, L: Limit> RawEntryMut<'a, K, V, S, L>
     where
         K: Drop,
         V: Drop,
-        requires { is_found self ≡ false → holds K.eq (raw_map self).pairs default_key ≡ false }
-        ensures puts { PutsEntry L.LIMIT K.eq self.entry default_key
-            (unwrap_or (found_value self.entry) default_value) result }
-        ensures cost { tally.new ≡ (if is_found self.entry
-            then tally.old else after_adding S.hash (raw_map self.entry) default_key tally.old) }
+        requires { AdmitsKey K.eq (raw_view self) default_key }
+        ensures puts { PutsEntry L.LIMIT K.eq (raw_view self.entry) default_key
+            (unwrap_or (entry_value (raw_view self.entry)) default_value) (occupied result) }
+        ensures cost { tally.new
+            ≡ after_putting S.hash (raw_view self.entry) default_key tally.old }
     {
         match self {
             RawEntryMut::Occupied(entry) => {
@@ -118,9 +117,9 @@ impl<'a, K: Eq + Hash, V, S: KeyHasher<K>, L: Limit> RawEntryMut<'a, K, V, S, L>
     where
         K: Drop,
         V: Drop,
-        requires { is_found self ≡ false → holds K.eq (raw_map self).pairs default_key ≡ false }
+        requires { AdmitsKey K.eq (raw_view self) default_key }
         ensures { (result.0.now, result.1.now)
-            ≡ unwrap_or (found_pair self.entry) (default_key, default_value) }
+            ≡ unwrap_or (entry_pair (raw_view self.entry)) (default_key, default_value) }
     {
         uncounted!(self.or_insert_counted(default_key, default_value))
     }
@@ -136,11 +135,11 @@ impl<'a, K: Eq + Hash, V, S: KeyHasher<K>, L: Limit> RawEntryMut<'a, K, V, S, L>
     where
         K: Drop,
         V: Drop,
-        requires { is_found self ≡ false → holds K.eq (raw_map self).pairs default_key ≡ false }
+        requires { AdmitsKey K.eq (raw_view self) default_key }
         ensures pair { (result.0.now, result.1.now)
-            ≡ unwrap_or (found_pair self.entry) (default_key, default_value) }
-        ensures cost { tally.new ≡ (if is_found self.entry
-            then tally.old else after_adding S.hash (raw_map self.entry) default_key tally.old) }
+            ≡ unwrap_or (entry_pair (raw_view self.entry)) (default_key, default_value) }
+        ensures cost { tally.new
+            ≡ after_putting S.hash (raw_view self.entry) default_key tally.old }
     {
         self.or_insert_entry_counted(default_key, default_value, tally)
             .into_key_value()
@@ -154,10 +153,10 @@ impl<'a, K: Eq + Hash, V, S: KeyHasher<K>, L: Limit> RawEntryMut<'a, K, V, S, L>
     /// ```
     #[inline]
     pub fn or_insert_with<F: FnOnce() -> (K, V)>(self, default: F) -> (&'a K, &'a mut V)
-        requires callable { is_found self ≡ false → F.pre default }
-        requires absent { is_found self ≡ false → (pair : K × V) → F.post default pair
-            → holds K.eq (raw_map self).pairs pair.0 ≡ false }
-        ensures { UnwrapsOrElse (found_pair self.entry) (F.post default)
+        requires callable { is_occupied (raw_view self) ≡ false → F.pre default }
+        requires absent { is_occupied (raw_view self) ≡ false → (pair : K × V) → F.post default pair
+            → holds K.eq (map_of (raw_view self)).pairs pair.0 ≡ false }
+        ensures { UnwrapsOrElse (entry_pair (raw_view self.entry)) (F.post default)
             (result.0.now, result.1.now) }
     {
         uncounted!(self.or_insert_with_counted(default))
@@ -170,13 +169,13 @@ impl<'a, K: Eq + Hash, V, S: KeyHasher<K>, L: Limit> RawEntryMut<'a, K, V, S, L>
         default: F,
         tally: &mut Tally,
     ) -> (&'a K, &'a mut V)
-        requires callable { is_found self ≡ false → F.pre default }
-        requires absent { is_found self ≡ false → (pair : K × V) → F.post default pair
-            → holds K.eq (raw_map self).pairs pair.0 ≡ false }
-        ensures pair { UnwrapsOrElse (found_pair self.entry) (F.post default)
+        requires callable { is_occupied (raw_view self) ≡ false → F.pre default }
+        requires absent { is_occupied (raw_view self) ≡ false → (pair : K × V) → F.post default pair
+            → holds K.eq (map_of (raw_view self)).pairs pair.0 ≡ false }
+        ensures pair { UnwrapsOrElse (entry_pair (raw_view self.entry)) (F.post default)
             (result.0.now, result.1.now) }
-        ensures cost { tally.new ≡ (if is_found self.entry
-            then tally.old else after_adding S.hash (raw_map self.entry) result.0.now tally.old) }
+        ensures cost { tally.new
+            ≡ after_putting S.hash (raw_view self.entry) result.0.now tally.old }
     {
         self.or_insert_entry_with(default, tally).into_key_value()
     }
@@ -188,16 +187,15 @@ impl<'a, K: Eq + Hash, V, S: KeyHasher<K>, L: Limit> RawEntryMut<'a, K, V, S, L>
         default: F,
         tally: &mut Tally,
     ) -> OccupiedEntry<'a, K, V, S, L>
-        requires callable { is_found self ≡ false → F.pre default }
-        requires absent { is_found self ≡ false → (pair : K × V) → F.post default pair
-            → holds K.eq (raw_map self).pairs pair.0 ≡ false }
-        ensures puts { IfSome (entry_pair (Occupied result))
-            (λ pair. PutsEntry L.LIMIT K.eq self.entry pair.0 pair.1 result) }
-        ensures pair { IfSome (entry_pair (Occupied result))
-            (UnwrapsOrElse (found_pair self.entry) (F.post default)) }
-        ensures cost { IfSome (entry_pair (Occupied result))
-            (λ pair. tally.new ≡ (if is_found self.entry then tally.old
-            else after_adding S.hash (raw_map self.entry) pair.0 tally.old)) }
+        requires callable { is_occupied (raw_view self) ≡ false → F.pre default }
+        requires absent { is_occupied (raw_view self) ≡ false → (pair : K × V) → F.post default pair
+            → holds K.eq (map_of (raw_view self)).pairs pair.0 ≡ false }
+        ensures puts { IfSome (entry_pair (occupied result))
+            (λ pair. PutsEntry L.LIMIT K.eq (raw_view self.entry) pair.0 pair.1 (occupied result)) }
+        ensures pair { IfSome (entry_pair (occupied result))
+            (UnwrapsOrElse (entry_pair (raw_view self.entry)) (F.post default)) }
+        ensures cost { IfSome (entry_pair (occupied result))
+            (λ pair. tally.new ≡ after_putting S.hash (raw_view self.entry) pair.0 tally.old) }
     {
         match self {
             RawEntryMut::Occupied(entry) => {
@@ -220,18 +218,10 @@ impl<'a, K: Eq + Hash, V, S: KeyHasher<K>, L: Limit> RawEntryMut<'a, K, V, S, L>
     /// ```
     #[inline]
     pub fn and_modify<F: FnOnce(&K, &mut V)>(self, f: F) -> RawEntryMut<'a, K, V, S, L>
-        requires { (key : Bor K) (lent : MutBor V) → found_pair self ≡ Some (key.now, lent.now)
-            → F.pre f key lent }
-        ensures modified { ModifiesPair F.FnOnce f (found_pair self.entry) (found_value result) }
-        ensures same_map { (raw_ref result).ghost_name ≡ (raw_ref self.entry).ghost_name }
-        ensures found { is_found result ≡ is_found self.entry }
-        ensures key { found_key result ≡ found_key self.entry }
-        ensures writes { (key : K) (value : V)
-            → pairs_once_put result key value ≡ pairs_once_put self.entry key value }
-        ensures pairs_left { without_found result ≡ without_found self.entry }
-        ensures vacant { found_value self.entry ≡ None → raw_map result ≡ raw_map self.entry }
-        ensures occupied { (key : K) → IfSome (found_value result) (λ value.
-            WithPairs (raw_map self.entry) (pairs_once_put self.entry key value) (raw_map result)) }
+        requires { (key : Bor K) (lent : MutBor V) →
+            entry_pair (raw_view self) ≡ Some (key.now, lent.now) → F.pre f key lent }
+        ensures { ModifiesEntry (ModifiesPair F.FnOnce f (entry_pair (raw_view self.entry)))
+            (raw_view self.entry) (raw_view result) }
     {
         match self {
             RawEntryMut::Occupied(mut entry) => {

@@ -11,8 +11,9 @@ ghost use Rattle.half_store.specs.Search.{CallableOnKeys};
 ghost use Rattle.half_store.specs.Work.{asked_more};
 ghost use Rattle.halfbrown.specs.Costs.{IsLookupCost, IsHashedLookupCost, switch_asked};
 ghost use Rattle.halfbrown.specs.Lookup.{ReadsMatch, IsMatchCost};
-ghost use Rattle.halfbrown.specs.RawEntry.{found_pair, map_in, prepared_map, MakesBuilder, RestsIfUnready, ReadsPair};
-ghost use Rattle.halfbrown.specs.RawEntry.{FindsEntry, FindsEntryByMatch};
+ghost use Rattle.halfbrown.specs.Entry.{raw_view};
+ghost use Rattle.halfbrown.specs.EntryView.{entry_pair, FindsEntry, FindsEntryByMatch};
+ghost use Rattle.halfbrown.specs.RawEntry.{map_in, prepared_map, prepared_ref, MakesBuilder, RestsIfUnready, ReadsPair};
 
 use super::{Prepared, RawEntryBuilder, RawEntryBuilderMut, RawEntryMut, RawVacantEntryMut};
 use crate::{Equivalent, KeyHasher, Limit, LimitedHashMap, OccupiedEntry};
@@ -188,7 +189,8 @@ impl<'a, K: Eq + Hash, V, S: KeyHasher<K>, L: Limit> RawEntryBuilderMut<'a, K, V
     /// ```
     #[inline]
     pub fn from_key<Q: Equivalent<K>>(self, key: Q) -> RawEntryMut<'a, K, V, S, L>
-        ensures { FindsEntry L.LIMIT K.eq (Q.equivalent key) self.entry result }
+        ensures { FindsEntry L.LIMIT K.eq (Q.equivalent key)
+            (prepared_ref self.entry) (raw_view result) }
     {
         uncounted!(self.from_key_counted(key))
     }
@@ -200,7 +202,8 @@ impl<'a, K: Eq + Hash, V, S: KeyHasher<K>, L: Limit> RawEntryBuilderMut<'a, K, V
         key: Q,
         tally: &mut Tally,
     ) -> RawEntryMut<'a, K, V, S, L>
-        ensures searches { FindsEntry L.LIMIT K.eq (Q.equivalent key) self.entry result }
+        ensures searches { FindsEntry L.LIMIT K.eq (Q.equivalent key)
+            (prepared_ref self.entry) (raw_view result) }
         ensures cost { IsLookupCost S.hash (S.hash_writes (prepared_map self.entry).builder
             (Q.hash_input key)) (Q.equivalent key) (prepared_map self.entry) tally.old tally.new }
     {
@@ -228,7 +231,8 @@ impl<'a, K: Eq + Hash, V, S: KeyHasher<K>, L: Limit> RawEntryBuilderMut<'a, K, V
         key: Q,
     ) -> RawEntryMut<'a, K, V, S, L>
         requires { hash ≡ S.hash_writes (prepared_map self).builder (Q.hash_input key) }
-        ensures { FindsEntry L.LIMIT K.eq (Q.equivalent key) self.entry result }
+        ensures { FindsEntry L.LIMIT K.eq (Q.equivalent key)
+            (prepared_ref self.entry) (raw_view result) }
     {
         uncounted!(self.from_key_hashed_nocheck_counted(hash, key))
     }
@@ -242,7 +246,8 @@ impl<'a, K: Eq + Hash, V, S: KeyHasher<K>, L: Limit> RawEntryBuilderMut<'a, K, V
         tally: &mut Tally,
     ) -> RawEntryMut<'a, K, V, S, L>
         requires { hash ≡ S.hash_writes (prepared_map self).builder (Q.hash_input key) }
-        ensures searches { FindsEntry L.LIMIT K.eq (Q.equivalent key) self.entry result }
+        ensures searches { FindsEntry L.LIMIT K.eq (Q.equivalent key)
+            (prepared_ref self.entry) (raw_view result) }
         ensures cost { IsHashedLookupCost S.hash (S.hash_writes (prepared_map self.entry).builder
             (Q.hash_input key)) (Q.equivalent key) (prepared_map self.entry) tally.old tally.new }
     {
@@ -271,7 +276,7 @@ impl<'a, K: Eq + Hash, V, S: KeyHasher<K>, L: Limit> RawEntryBuilderMut<'a, K, V
     pub fn from_hash<F: Fn(&K) -> bool>(self, hash: u64, is_match: F) -> RawEntryMut<'a, K, V, S, L>
         requires { CallableOnKeys (F.pre is_match) (keys_of (prepared_map self).pairs) }
         ensures { FindsEntryByMatch L.LIMIT K.eq (FnReturnsAt F.Fn is_match)
-            S.hash hash self.entry result }
+            S.hash hash (prepared_ref self.entry) (raw_view result) }
     {
         uncounted!(self.from_hash_counted(hash, is_match))
     }
@@ -286,9 +291,9 @@ impl<'a, K: Eq + Hash, V, S: KeyHasher<K>, L: Limit> RawEntryBuilderMut<'a, K, V
     ) -> RawEntryMut<'a, K, V, S, L>
         requires { CallableOnKeys (F.pre is_match) (keys_of (prepared_map self).pairs) }
         ensures searches { FindsEntryByMatch L.LIMIT K.eq (FnReturnsAt F.Fn is_match)
-            S.hash hash self.entry result }
-        ensures cost { IsMatchCost S.hash hash (prepared_map self.entry) (found_pair result)
-            tally.old tally.new }
+            S.hash hash (prepared_ref self.entry) (raw_view result) }
+        ensures cost { IsMatchCost S.hash hash (prepared_map self.entry)
+            (entry_pair (raw_view result)) tally.old tally.new }
     {
         let RawEntryBuilderMut::Ready(ready) = self;
         match ready.map.find_match(hash, &is_match, Scan::ByKey, tally) {

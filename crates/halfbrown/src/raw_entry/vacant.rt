@@ -6,7 +6,9 @@
 //! ```
 ghost use Rattle.std.specs.Prelude.{◌≡◌, false};
 ghost use Rattle.halfbrown.specs.Pairs.{holds};
-ghost use Rattle.halfbrown.specs.RawEntry.{Vacant, raw_map, AddsEntry, LendsPair, after_adding, after_probe};
+ghost use Rattle.halfbrown.specs.Entry.{occupied, raw_vacant};
+ghost use Rattle.halfbrown.specs.EntryView.{map_of, AddsEntry};
+ghost use Rattle.halfbrown.specs.RawEntry.{LendsPair, after_adding, after_probe};
 
 use super::RawVacantEntryMut;
 use crate::{KeyHasher, Limit, OccupiedEntry};
@@ -23,7 +25,7 @@ impl<'a, K: Eq + Hash, V, S: KeyHasher<K>, L: Limit> RawVacantEntryMut<'a, K, V,
     /// ```
     #[inline]
     pub fn insert(self, key: K, value: V) -> (&'a K, &'a mut V)
-        requires { holds K.eq (raw_map (Vacant self)).pairs key ≡ false }
+        requires { holds K.eq (map_of (raw_vacant self)).pairs key ≡ false }
         ensures { LendsPair key value result }
     {
         uncounted!(self.insert_counted(key, value))
@@ -32,9 +34,10 @@ impl<'a, K: Eq + Hash, V, S: KeyHasher<K>, L: Limit> RawVacantEntryMut<'a, K, V,
     /// `insert`, with its work counted: one hash and one insertion probe in a table, and nothing in a vector.
     #[inline]
     pub fn insert_counted(self, key: K, value: V, tally: &mut Tally) -> (&'a K, &'a mut V)
-        requires { holds K.eq (raw_map (Vacant self)).pairs key ≡ false }
+        requires { holds K.eq (map_of (raw_vacant self)).pairs key ≡ false }
         ensures lends { LendsPair key value result }
-        ensures cost { tally.new ≡ after_adding S.hash (raw_map (Vacant self.entry)) key tally.old }
+        ensures cost { tally.new
+            ≡ after_adding S.hash (map_of (raw_vacant self.entry)) key tally.old }
     {
         self.insert_entry_counted(key, value, tally)
             .into_key_value()
@@ -48,8 +51,8 @@ impl<'a, K: Eq + Hash, V, S: KeyHasher<K>, L: Limit> RawVacantEntryMut<'a, K, V,
     /// ```
     #[inline]
     pub fn insert_entry(self, key: K, value: V) -> OccupiedEntry<'a, K, V, S, L>
-        requires { holds K.eq (raw_map (Vacant self)).pairs key ≡ false }
-        ensures { AddsEntry L.LIMIT K.eq (Vacant self.entry) key value result }
+        requires { holds K.eq (map_of (raw_vacant self)).pairs key ≡ false }
+        ensures { AddsEntry L.LIMIT K.eq (raw_vacant self.entry) key value (occupied result) }
     {
         uncounted!(self.insert_entry_counted(key, value))
     }
@@ -62,9 +65,10 @@ impl<'a, K: Eq + Hash, V, S: KeyHasher<K>, L: Limit> RawVacantEntryMut<'a, K, V,
         value: V,
         tally: &mut Tally,
     ) -> OccupiedEntry<'a, K, V, S, L>
-        requires { holds K.eq (raw_map (Vacant self)).pairs key ≡ false }
-        ensures adds { AddsEntry L.LIMIT K.eq (Vacant self.entry) key value result }
-        ensures cost { tally.new ≡ after_adding S.hash (raw_map (Vacant self.entry)) key tally.old }
+        requires { holds K.eq (map_of (raw_vacant self)).pairs key ≡ false }
+        ensures adds { AddsEntry L.LIMIT K.eq (raw_vacant self.entry) key value (occupied result) }
+        ensures cost { tally.new
+            ≡ after_adding S.hash (map_of (raw_vacant self.entry)) key tally.old }
     {
         let hash = self.map.hash_in_table(&key, tally);
         self.add(hash, key, value, tally)
@@ -78,8 +82,8 @@ impl<'a, K: Eq + Hash, V, S: KeyHasher<K>, L: Limit> RawVacantEntryMut<'a, K, V,
     /// ```
     #[inline]
     pub fn insert_hashed_nocheck(self, hash: u64, key: K, value: V) -> (&'a K, &'a mut V)
-        requires hash { hash ≡ S.hash (raw_map (Vacant self)).builder key }
-        requires absent { holds K.eq (raw_map (Vacant self)).pairs key ≡ false }
+        requires hash { hash ≡ S.hash (map_of (raw_vacant self)).builder key }
+        requires absent { holds K.eq (map_of (raw_vacant self)).pairs key ≡ false }
         ensures { LendsPair key value result }
     {
         uncounted!(self.insert_hashed_nocheck_counted(hash, key, value))
@@ -94,10 +98,11 @@ impl<'a, K: Eq + Hash, V, S: KeyHasher<K>, L: Limit> RawVacantEntryMut<'a, K, V,
         value: V,
         tally: &mut Tally,
     ) -> (&'a K, &'a mut V)
-        requires hash { hash ≡ S.hash (raw_map (Vacant self)).builder key }
-        requires absent { holds K.eq (raw_map (Vacant self)).pairs key ≡ false }
+        requires hash { hash ≡ S.hash (map_of (raw_vacant self)).builder key }
+        requires absent { holds K.eq (map_of (raw_vacant self)).pairs key ≡ false }
         ensures lends { LendsPair key value result }
-        ensures cost { tally.new ≡ after_probe S.hash (raw_map (Vacant self.entry)) hash tally.old }
+        ensures cost { tally.new
+            ≡ after_probe S.hash (map_of (raw_vacant self.entry)) hash tally.old }
     {
         self.insert_entry_hashed_nocheck_counted(hash, key, value, tally)
             .into_key_value()
@@ -116,9 +121,9 @@ impl<'a, K: Eq + Hash, V, S: KeyHasher<K>, L: Limit> RawVacantEntryMut<'a, K, V,
         key: K,
         value: V,
     ) -> OccupiedEntry<'a, K, V, S, L>
-        requires hash { hash ≡ S.hash (raw_map (Vacant self)).builder key }
-        requires absent { holds K.eq (raw_map (Vacant self)).pairs key ≡ false }
-        ensures { AddsEntry L.LIMIT K.eq (Vacant self.entry) key value result }
+        requires hash { hash ≡ S.hash (map_of (raw_vacant self)).builder key }
+        requires absent { holds K.eq (map_of (raw_vacant self)).pairs key ≡ false }
+        ensures { AddsEntry L.LIMIT K.eq (raw_vacant self.entry) key value (occupied result) }
     {
         uncounted!(self.insert_entry_hashed_nocheck_counted(hash, key, value))
     }
@@ -132,10 +137,11 @@ impl<'a, K: Eq + Hash, V, S: KeyHasher<K>, L: Limit> RawVacantEntryMut<'a, K, V,
         value: V,
         tally: &mut Tally,
     ) -> OccupiedEntry<'a, K, V, S, L>
-        requires hash { hash ≡ S.hash (raw_map (Vacant self)).builder key }
-        requires absent { holds K.eq (raw_map (Vacant self)).pairs key ≡ false }
-        ensures adds { AddsEntry L.LIMIT K.eq (Vacant self.entry) key value result }
-        ensures cost { tally.new ≡ after_probe S.hash (raw_map (Vacant self.entry)) hash tally.old }
+        requires hash { hash ≡ S.hash (map_of (raw_vacant self)).builder key }
+        requires absent { holds K.eq (map_of (raw_vacant self)).pairs key ≡ false }
+        ensures adds { AddsEntry L.LIMIT K.eq (raw_vacant self.entry) key value (occupied result) }
+        ensures cost { tally.new
+            ≡ after_probe S.hash (map_of (raw_vacant self.entry)) hash tally.old }
     {
         self.add(hash, key, value, tally)
     }
@@ -154,8 +160,8 @@ impl<'a, K: Eq + Hash, V, S: KeyHasher<K>, L: Limit> RawVacantEntryMut<'a, K, V,
         value: V,
         hasher: F,
     ) -> (&'a K, &'a mut V)
-        requires hash { hash ≡ S.hash (raw_map (Vacant self)).builder key }
-        requires absent { holds K.eq (raw_map (Vacant self)).pairs key ≡ false }
+        requires hash { hash ≡ S.hash (map_of (raw_vacant self)).builder key }
+        requires absent { holds K.eq (map_of (raw_vacant self)).pairs key ≡ false }
         ensures { LendsPair key value result }
     {
         uncounted!(self.insert_with_hasher_counted(hash, key, value, hasher))
@@ -171,10 +177,11 @@ impl<'a, K: Eq + Hash, V, S: KeyHasher<K>, L: Limit> RawVacantEntryMut<'a, K, V,
         _hasher: F,
         tally: &mut Tally,
     ) -> (&'a K, &'a mut V)
-        requires hash { hash ≡ S.hash (raw_map (Vacant self)).builder key }
-        requires absent { holds K.eq (raw_map (Vacant self)).pairs key ≡ false }
+        requires hash { hash ≡ S.hash (map_of (raw_vacant self)).builder key }
+        requires absent { holds K.eq (map_of (raw_vacant self)).pairs key ≡ false }
         ensures lends { LendsPair key value result }
-        ensures cost { tally.new ≡ after_probe S.hash (raw_map (Vacant self.entry)) hash tally.old }
+        ensures cost { tally.new
+            ≡ after_probe S.hash (map_of (raw_vacant self.entry)) hash tally.old }
     {
         self.insert_hashed_nocheck_counted(hash, key, value, tally)
     }
@@ -182,11 +189,12 @@ impl<'a, K: Eq + Hash, V, S: KeyHasher<K>, L: Limit> RawVacantEntryMut<'a, K, V,
     // Adds a pair whose key is not held, under its hash, at which a vector does not look.
     #[inline(always)]
     fn add(self, hash: u64, key: K, value: V, tally: &mut Tally) -> OccupiedEntry<'a, K, V, S, L>
-        requires hash { (raw_map (Vacant self)).is_vec ≡ false
-            → hash ≡ S.hash (raw_map (Vacant self)).builder key }
-        requires absent { holds K.eq (raw_map (Vacant self)).pairs key ≡ false }
-        ensures adds { AddsEntry L.LIMIT K.eq (Vacant self.entry) key value result }
-        ensures cost { tally.new ≡ after_probe S.hash (raw_map (Vacant self.entry)) hash tally.old }
+        requires hash { (map_of (raw_vacant self)).is_vec ≡ false
+            → hash ≡ S.hash (map_of (raw_vacant self)).builder key }
+        requires absent { holds K.eq (map_of (raw_vacant self)).pairs key ≡ false }
+        ensures adds { AddsEntry L.LIMIT K.eq (raw_vacant self.entry) key value (occupied result) }
+        ensures cost { tally.new
+            ≡ after_probe S.hash (map_of (raw_vacant self.entry)) hash tally.old }
     {
         let map = self.map;
         let vacancy = map.vacancy_for(hash, tally);

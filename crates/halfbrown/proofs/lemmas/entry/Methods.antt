@@ -1,24 +1,32 @@
--- What an entry of a key is, what is written and removed through it, and what it is after a closure had its value.
+-- What an entry is, of a key or a raw one, what is written, put and removed through it, and what it is after a closure had its value.
 use Rattle.std.proofs.Common.{◌≡◌, ℕ, ◌<◌, Bool, List, [], ◌∷◌, ◌++◌, length, slice_get, Some, refl, sym, ap, subst, ◌∙◌, arith}
-use Rattle.std.proofs.Common.{◌-◌, true, false, take, set, Option, None, MatchOption}
+use Rattle.std.proofs.Common.{◌-◌, true, false, take, set, Option, None, IfSome, MatchOption, true≢false}
 use Rattle.std.proofs.lemmas.Grind.{common_steps}
+use Rattle.std.proofs.lemmas.Map.Entries.{length-values_of}
 use Rattle.std.specs.Borrow.{MutBor, Bor}
 use Rattle.std.specs.Coded.{le_prop}
 use Rattle.std.specs.Cmp.{IsEquivalence}
 use Rattle.std.specs.List.{IsDistinct}
 use Rattle.std.specs.Map.{keys_of, values_of}
 use Rattle.std.specs.Option.{option_map}
-use Rattle.half_store.specs.PairLists.{set_value_at, swap_remove_at, length-set_value_at}
+use Rattle.half_store.specs.PairLists.{set_key_at, set_value_at, swap_remove_at, length-set_value_at}
+use Rattle.half_store.specs.declared.store.find.Vacancy.{Vacancy}
 use Rattle.halfbrown.specs.declared.entry.OccupiedEntry.{OccupiedEntry}
 use Rattle.halfbrown.specs.declared.entry.VacantEntry.{VacantEntry}
-use Rattle.halfbrown.specs.Entry.{Occupied, Vacant, with_value, pairs_with_key, IsEntryOf, PutsThroughEntry, RemovesKey, IsWritten, HasNewKey, with_entry_value}
+use Rattle.halfbrown.specs.Entry.{occupied, vacant, with_entry_value}
+use Rattle.halfbrown.specs.EntryView.{EntryView, entry_value, map_of, pairs_with, with_value}
+use Rattle.halfbrown.specs.EntryView.{IsEntryOf, PutsThroughEntry, IsRawEntryOf, IsWritten, ModifiesEntry, HasNewKey}
 use Rattle.halfbrown.specs.Growth.{insert_needs}
 use Rattle.halfbrown.specs.Lookup.{IsIndexOf, IsAbsent}
 use Rattle.halfbrown.specs.Insertion.{Prepares, pushed}
+use Rattle.halfbrown.specs.Pairs.{take_out_by}
 use Rattle.halfbrown.specs.State.{State, with_pairs, WithPairs}
-use Rattle.halfbrown.proofs.CallerLemmas.{has_put, has_removed}
+use Rattle.halfbrown.specs.Updates.{HasRemovedBy}
+use Rattle.halfbrown.proofs.CallerLemmas.{has_put, has_removed_by}
 use Rattle.half_store.proofs.lemmas.store.States.{length-set_key_at, kept_value, lost_pair}
 use Rattle.halfbrown.proofs.lemmas.map.Layout.{keys_of-set_value_at}
+use Rattle.halfbrown.proofs.lemmas.pairs.Indices.{first_of_index, some_is_not_none}
+use Rattle.halfbrown.proofs.lemmas.pairs.SetBy.{has_put_by, has_set_by, passes_at}
 use Rattle.halfbrown.proofs.lemmas.pairs.Changes.{values_of-set_key_at, key-set_key_at, swap_remove_at-set_key_at, key_of-pair, set_value_at-twice}
 use Rattle.halfbrown.proofs.lemmas.pairs.Changes.{value-set_value_at, swap_remove_at-set_value_at, set_value_at-last, value-last, pair-last}
 use Rattle.halfbrown.proofs.lemmas.pairs.Changes.{length-swap_remove_at}
@@ -30,47 +38,75 @@ use Rattle.std.specs.declared.hash.Hash as hash
 use Rattle.halfbrown.specs.declared.key_hasher.KeyHasher as hashers
 use Rattle.halfbrown.specs.declared.limit.Limit as limits
 
-module _ {K V S L H : Type 0} {e : eq.Ghosts K} {h : hash.Ghosts K} {b : hashers.Ghosts S K H} {l : limits.Ghosts L}
-    (limit : ℕ) (same : K → K → Bool) (laws : IsEquivalence same) (old : State K V S) where
-  -- of a held key
-  module _ (k : K) (o : OccupiedEntry K V S L H e h b l) (prepared : Prepares limit old (insert_needs limit same old k) o.map.now)
-      (at : IsIndexOf (same k) o.map.now.pairs o.index) where
-    pub found_entry : IsEntryOf same old.pairs k (Occupied o)
-    found_entry = grind (arith, common_steps, key_of-pair)
+module _ {K V S : Type 0} (same : K → K → Bool) (laws : IsEquivalence same) (m : MutBor (State K V S)) (distinct : IsDistinct same (keys_of m.now.pairs)) where
+  module _ (test : K → Bool) (one_class : (k other : K) → test k ≡ true → test other ≡ same k other) where
+    removed : HasRemovedBy same test m.now.pairs (take_out_by test m.now.pairs)
+    removed = has_removed_by same laws test one_class m.now.pairs distinct
 
-    pub found_writes : PutsThroughEntry limit same old k (Occupied o)
+    -- the key that passes is held at this index
+    module _ (index : ℕ) (at : IsIndexOf test m.now.pairs index) where
+      pub found_entry : IsEntryOf same test m.now.pairs (record { map = m; index = Some index; vacant = None })
+      found_entry =
+          let passes = passes_at same laws test one_class (keys_of m.now.pairs) index (first_of_index test (keys_of m.now.pairs) index at.index_is) in
+          grind (arith, common_steps, key_of-pair, at.take_is, removed, passes)
+
+      pub found_raw : IsRawEntryOf same test m.now (record { map = m; index = Some index; vacant = None })
+      unfolding with_value
+      found_raw = record {
+        map = refl;
+        entry = found_entry;
+        puts = λ k v. sym (at.put_is k v);
+        put = λ k v. has_put_by same laws test one_class m.now.pairs (set_value_at m.now.pairs index v) k v (sym (at.put_is k v));
+        writes = λ occupied v. record { pairs = sym (at.set_is v); form = refl; capacity = refl; builder = refl };
+        written = λ occupied v. has_set_by same laws test one_class m.now.pairs index v at;
+      }
+
+    -- no key that passes is held; the key that the entry was made for, if any, passes
+    module _ (absent : IsAbsent test m.now.pairs) where
+      pub missing_entry : (new : Option (K × Vacancy)) → IfSome (option_map (λ (n : K × Vacancy). n.0) new) (λ k. test k ≡ true)
+          → IsEntryOf same test m.now.pairs (record { map = m; index = None; vacant = new })
+      missing_entry new passes = grind (arith, common_steps, absent.take_is, removed, passes)
+
+      pub missing_raw : IsRawEntryOf same test m.now (record { map = m; index = None; vacant = None })
+      missing_raw = record {
+        map = refl;
+        entry = missing_entry None tt;
+        puts = λ k v. sym (absent.put_is k v);
+        put = λ k v. has_put_by same laws test one_class m.now.pairs (m.now.pairs ++ (k, v) ∷ []) k v (sym (absent.put_is k v));
+        writes = λ occupied. absurd (true≢false (sym occupied));
+        written = λ occupied. absurd (true≢false (sym occupied));
+      }
+
+module _ {K V S : Type 0} (limit : ℕ) (same : K → K → Bool) (laws : IsEquivalence same) (old : State K V S) (k : K) (m : MutBor (State K V S))
+    (prepared : Prepares limit old (insert_needs limit same old k) m.now) (distinct : IsDistinct same (keys_of m.now.pairs)) where
+  -- the entry of a held key, and what is written through it
+  module _ (index : ℕ) (at : IsIndexOf (same k) m.now.pairs index) where
+    pub found_key : IsEntryOf same (same k) old.pairs (record { map = m; index = Some index; vacant = None })
+    found_key = subst (λ pairs. IsEntryOf same (same k) pairs (record { map = m; index = Some index; vacant = None })) prepared.pairs
+        (found_entry same laws m distinct (same k) (laws.congr k) index at)
+
+    pub found_writes : PutsThroughEntry limit same old k (record { map = m; index = Some index; vacant = None })
     unfolding with_value
     found_writes = record {
       puts = λ v. grind (arith, common_steps, at.put_is k v);
       put = λ v. grind (arith, common_steps, at.put_is k v, has_put same laws old.pairs k v);
     }
 
-    pub found_removes : IsDistinct same (keys_of o.map.now.pairs) → RemovesKey same old.pairs k (Occupied o)
-    found_removes distinct = grind (arith, common_steps, at.take_is, has_removed same laws o.map.now.pairs distinct k)
+  -- of one that is not held
+  module _ (vacancy : Vacancy) (absent : IsAbsent (same k) m.now.pairs) where
+    pub missing_key : IsEntryOf same (same k) old.pairs (record { map = m; index = None; vacant = Some (k, vacancy) })
+    missing_key = subst (λ pairs. IsEntryOf same (same k) pairs (record { map = m; index = None; vacant = Some (k, vacancy) })) prepared.pairs
+        (missing_entry same laws m distinct (same k) (laws.congr k) absent (Some (k, vacancy)) (laws.refl k))
 
-  -- of a key that is not held
-  module _ (v : VacantEntry K V S L H e h b l) (prepared : Prepares limit old (insert_needs limit same old v.key) v.map.now)
-      (absent : IsAbsent (same v.key) v.map.now.pairs) where
-    pub missing_entry : IsEntryOf same old.pairs v.key (Vacant v)
-    missing_entry = grind (arith, common_steps)
-
-    pub missing_writes : PutsThroughEntry limit same old v.key (Vacant v)
+    pub missing_writes : PutsThroughEntry limit same old k (record { map = m; index = None; vacant = Some (k, vacancy) })
     unfolding with_value
     missing_writes = record {
-      puts = λ value. grind (arith, common_steps, absent.put_is v.key value);
-      put = λ value. grind (arith, common_steps, absent.put_is v.key value, has_put same laws old.pairs v.key value);
+      puts = λ v. grind (arith, common_steps, absent.put_is k v);
+      put = λ v. grind (arith, common_steps, absent.put_is k v, has_put same laws old.pairs k v);
     }
-
-    pub missing_removes : IsDistinct same (keys_of v.map.now.pairs) → RemovesKey same old.pairs v.key (Vacant v)
-    missing_removes distinct = grind (arith, common_steps, absent.take_is, has_removed same laws v.map.now.pairs distinct v.key)
 
 module _ {K V S L H : Type 0} {e : eq.Ghosts K} {h : hash.Ghosts K} {b : hashers.Ghosts S K H} {l : limits.Ghosts L}
     (o : OccupiedEntry K V S L H e h b l) where
-  -- the map with this value
-  pub occupied_writes : (value : V) → with_pairs o.map.now (set_value_at o.map.now.pairs o.index value) ≡ with_value (Occupied o) value
-  unfolding with_value
-  occupied_writes value = refl
-
   -- the entry with this value, however it was shown that its index is within
   pub lent_entry : (value : V) (within : o.index < length (set_value_at o.map.now.pairs o.index value))
       → record {
@@ -86,44 +122,61 @@ module _ {K V S L H : Type 0} {e : eq.Ghosts K} {h : hash.Ghosts K} {b : hashers
         within = le_prop within (with_entry_value o value).within i;
       }
 
-  pub lent_within : (value : V) → o.index < length (set_value_at o.map.now.pairs o.index value)
+  -- the entry with this value is the same one, written
+  pub written_entry : (value : V) → IsWritten (occupied o) value (occupied (with_entry_value o value))
   unfolding with_value
-  lent_within value = (with_entry_value o value).within
-
-  -- the entry where its map has this value, however it was shown that its index is within
-  pub written_as : (value left : V) (within : o.index < length (with_value (Occupied o) left).pairs) → left ≡ value
-      → IsWritten (Occupied o) value
-      (Occupied (record { map = record o.map { now = with_value (Occupied o) left }; index = o.index; within = within }))
-  unfolding with_value
-  written_as value left within is = record {
+  written_entry value = record {
     same_map = refl;
-    map = ap (λ v. with_pairs o.map.now (set_value_at o.map.now.pairs o.index v)) is;
-    value_is = value-set_value_at o.map.now.pairs o.index left o.within ∙ ap Some is;
-    key = ap (λ ks. slice_get ks o.index) (keys_of-set_value_at o.map.now.pairs o.index left);
-    writes = λ v. ap (with_pairs o.map.now) (set_value_at-twice o.map.now.pairs o.index left v);
-    pairs_left = swap_remove_at-set_value_at o.map.now.pairs o.index left;
+    map = refl;
+    value_is = value-set_value_at o.map.now.pairs o.index value o.within;
+    key = ap (λ ks. slice_get ks o.index) (keys_of-set_value_at o.map.now.pairs o.index value);
+    writes = λ v. ap (with_pairs o.map.now) (set_value_at-twice o.map.now.pairs o.index value v);
+    pairs_left = swap_remove_at-set_value_at o.map.now.pairs o.index value;
   }
 
-  -- the entry with this value is the same one, written
-  pub written_entry : (value : V) → IsWritten (Occupied o) value (Occupied (with_entry_value o value))
-  written_entry value = written_as value value (with_entry_value o value).within refl
+  -- the pair has a value
+  held_value : entry_value (occupied o) ≡ None → ⊥
+  held_value none = some_is_not_none (values_of o.map.now.pairs) o.index (omega (arith, length-values_of o.map.now.pairs, o.within)) none
+
+  -- of the map with this value only the pairs are new
+  pub held_with_pairs : (key : K) (value : V) → WithPairs o.map.now (pairs_with (occupied o) key value) (with_value (occupied o) value)
+  unfolding with_value
+  held_with_pairs key value = record { pairs = refl; form = refl; capacity = refl; builder = refl }
+
+  -- a value that is written again
+  held_twice : (key : K) (value again : V) → pairs_with (occupied (with_entry_value o value)) key again ≡ pairs_with (occupied o) key again
+  unfolding with_value
+  held_twice key value again = set_value_at-twice o.map.now.pairs o.index value again
+
+  -- a closure had the pair, and left this value
+  pub modified_entry : (modifies : Option V → Type 0) (left : V) → modifies (Some left)
+      → ModifiesEntry modifies (occupied o) (occupied (with_entry_value o left))
+  modified_entry modifies left holds =
+      let written = written_entry left in
+      let at : (P : Option V → Type 0) → P (Some left) → P (entry_value (occupied (with_entry_value o left))) = λ P. subst P (sym written.value_is) in
+      record {
+        same_map = refl;
+        value = at modifies holds;
+        found = refl;
+        occupied = at (λ v. IfSome v (λ value. with_value (occupied o) left ≡ with_value (occupied o) value)) refl;
+        pairs = λ key. at (λ v. IfSome v (λ value. WithPairs o.map.now (pairs_with (occupied o) key value) (with_value (occupied o) left)))
+            (held_with_pairs key left);
+        vacant = λ none. absurd (held_value none);
+        key = written.key;
+        writes = written.writes;
+        puts = λ key value. held_twice key left value;
+        pairs_left = written.pairs_left;
+      }
 
   -- the index is within where the map has the pairs with another key
-  pub rekeyed_within : (key : K) (m : State K V S) → WithPairs o.map.now (pairs_with_key o key) m → o.index < length m.pairs
+  pub rekeyed_within : (key : K) (m : State K V S) → WithPairs o.map.now (set_key_at o.map.now.pairs o.index key) m → o.index < length m.pairs
   rekeyed_within key m after = omega (arith, ap length after.pairs, length-set_key_at o.map.now.pairs o.index key, o.within)
 
   -- the entry where its map has the pairs with another key
-  pub rekeyed_entry : (key : K) (map : MutBor (State K V S)) (within : o.index < length map.now.pairs) → map.ghost_name ≡ o.map.ghost_name
-      → WithPairs o.map.now (pairs_with_key o key) map.now
-      → HasNewKey o key (record { map = map; index = o.index; within = within })
-  rekeyed_entry key map within same after = grind (arith, common_steps, key-set_key_at, slice_get, swap_remove_at-set_key_at, values_of-set_key_at)
-
-module _ {K V S L H : Type 0} {e : eq.Ghosts K} {h : hash.Ghosts K} {b : hashers.Ghosts S K H} {l : limits.Ghosts L}
-    (v : VacantEntry K V S L H e h b l) where
-  -- the map with this pair more
-  pub vacant_writes : (value : V) → pushed v.map.now v.key value v.vacancy ≡ with_value (Vacant v) value
-  unfolding with_value
-  vacant_writes value = refl
+  pub rekeyed_entry : (key : K) (map : MutBor (State K V S)) → map.ghost_name ≡ o.map.ghost_name
+      → WithPairs o.map.now (set_key_at o.map.now.pairs o.index key) map.now
+      → HasNewKey (occupied o) key (record { map = map; index = Some o.index; vacant = None })
+  rekeyed_entry key map same after = grind (arith, common_steps, o.within, key-set_key_at, slice_get, swap_remove_at-set_key_at, values_of-set_key_at)
 
 front_of : {X : Type 0} (xs : List X) (x y : X) (n : ℕ) → n ≡ length xs → take n (set (xs ++ x ∷ []) (length xs) y) ≡ xs
 front_of xs x y n is = grind (arith, common_steps)
@@ -182,14 +235,26 @@ module _ {K V : Type 0} where
 
 module _ {K V S L H : Type 0} {e : eq.Ghosts K} {h : hash.Ghosts K} {b : hashers.Ghosts S K H} {l : limits.Ghosts L}
     {returns : Bor K → V → Option V → Type 0} (o : OccupiedEntry K V S L H e h b l) where
+  replaced_entry : {ps : List (K × V)} {gone : Option K} (r : ReplacesValue returns o.map.now.is_vec o.map.now.pairs o.index ps gone)
+      (result : EntryView K V S) (answer : Option V) → r.answer ≡ answer
+      → MatchOption answer (IsLost (occupied o) r.key result) (λ v. HasNewValue (occupied o) r.key v result) → ReplacesEntry returns (occupied o) result
+  replaced_entry r result answer is after = record {
+    key = r.key;
+    value = r.value;
+    answer = r.answer;
+    pair = r.pair;
+    answered = r.answered;
+    after = subst (λ a. MatchOption a (IsLost (occupied o) r.key result) (λ v. HasNewValue (occupied o) r.key v result)) (sym is) after;
+  }
+
   -- the pair is gone
-  pub loses_pair : (v : VacantEntry K V S L H e h b l) → ReplacesValue returns o.map.now.is_vec o.map.now.pairs o.index v.map.now.pairs (Some v.key)
-      → WithPairs o.map.now v.map.now.pairs v.map.now
-      → ReplacesEntry returns (Occupied o) (Vacant v)
+  pub loses_pair : (map : MutBor (State K V S)) (key : K) (vacancy : Vacancy)
+      → ReplacesValue returns o.map.now.is_vec o.map.now.pairs o.index map.now.pairs (Some key) → WithPairs o.map.now map.now.pairs map.now
+      → ReplacesEntry returns (occupied o) (record { map = map; index = None; vacant = Some (key, vacancy) })
   unfolding with_value
-  loses_pair v r after =
+  loses_pair map key vacancy r after =
       let lost = lost_pair r in
-      let loss : IsLost (Occupied o) r.key (Vacant v) = record {
+      replaced_entry r _ None lost.0 (record {
         key_is = ap Some (sym lost.2);
         no_value = refl;
         map = record { pairs = lost.1; form = after.form; capacity = after.capacity; builder = after.builder };
@@ -200,39 +265,21 @@ module _ {K V S L H : Type 0} {e : eq.Ghosts K} {h : hash.Ghosts K} {b : hashers
           builder = after.builder;
         };
         pairs_left = lost.1;
-      } in
-      record {
-        key = r.key;
-        value = r.value;
-        answer = r.answer;
-        pair = r.pair;
-        answered = r.answered;
-        after = subst (λ answer. MatchOption answer (IsLost (Occupied o) r.key (Vacant v))
-            (λ value. HasNewValue (Occupied o) r.key value (Vacant v))) (sym lost.0) loss;
-      }
+      })
 
   -- the pair has another value
-  pub keeps_pair : (p : OccupiedEntry K V S L H e h b l) → ReplacesValue returns o.map.now.is_vec o.map.now.pairs o.index p.map.now.pairs None
-      → p.index ≡ kept_index o.map.now.is_vec o.map.now.pairs o.index → WithPairs o.map.now p.map.now.pairs p.map.now
-      → ReplacesEntry returns (Occupied o) (Occupied p)
+  pub keeps_pair : (map : MutBor (State K V S)) (index : ℕ) → ReplacesValue returns o.map.now.is_vec o.map.now.pairs o.index map.now.pairs None
+      → index ≡ kept_index o.map.now.is_vec o.map.now.pairs o.index → WithPairs o.map.now map.now.pairs map.now
+      → ReplacesEntry returns (occupied o) (record { map = map; index = Some index; vacant = None })
   unfolding with_value
-  keeps_pair p r at after =
+  keeps_pair map index r at after =
       let kept = kept_value r in
       let there = kept_there o.within r at in
-      let keep : HasNewValue (Occupied o) r.key kept.0 (Occupied p) = record {
+      replaced_entry r _ (Some kept.0) kept.1 (record {
         pair = there.pair;
-        key_is = key_of-pair p.map.now.pairs p.index ∙ ap (option_map (λ (q : K × V). q.0)) there.pair;
+        key_is = key_of-pair map.now.pairs index ∙ ap (option_map (λ (q : K × V). q.0)) there.pair;
         value_is = there.value;
         map = record { pairs = kept.2; form = after.form; capacity = after.capacity; builder = after.builder };
         writes = λ u. record { pairs = there.writes u; form = after.form; capacity = after.capacity; builder = after.builder };
         pairs_left = there.left;
-      } in
-      record {
-        key = r.key;
-        value = r.value;
-        answer = r.answer;
-        pair = r.pair;
-        answered = r.answered;
-        after = subst (λ answer. MatchOption answer (IsLost (Occupied o) r.key (Occupied p))
-            (λ value. HasNewValue (Occupied o) r.key value (Occupied p))) (sym kept.1) keep;
-      }
+      })

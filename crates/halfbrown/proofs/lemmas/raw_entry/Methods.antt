@@ -1,33 +1,32 @@
--- What the raw entry of a key is where a search found it and where none is held, and once its pair is written or added.
+-- What a raw entry is once its pair is written or added, and where a match found it.
 use Rattle.std.proofs.Common.{◌≡◌, ℕ, ◌<◌, List, [], ◌∷◌, ◌++◌, length, slice_get, None, Some, IfSome, unwrap_or, refl, sym, ap}
-use Rattle.std.proofs.Common.{subst, ◌∙◌, arith, Bool, true, is_some, false, Option, true≢false}
+use Rattle.std.proofs.Common.{subst, ◌∙◌, arith, Bool, true, is_some, false, Option}
 use Rattle.std.proofs.lemmas.Map.Entries.{length-keys_of, length-values_of}
 use Rattle.std.proofs.lemmas.Option.{slice_get_cases}
+use Rattle.std.specs.Borrow.{MutBor}
 use Rattle.std.specs.Map.{keys_of, values_of}
 use Rattle.half_store.specs.PairLists.{set_value_at, swap_remove_at}
 use Rattle.halfbrown.specs.declared.entry.OccupiedEntry.{OccupiedEntry}
 use Rattle.halfbrown.specs.declared.raw_entry.RawEntryMut.{RawEntryMut}
+use Rattle.halfbrown.specs.declared.raw_entry.RawEntryMut.TheVariants.{Occupied, Vacant}
 use Rattle.halfbrown.specs.declared.raw_entry.RawVacantEntryMut.{RawVacantEntryMut}
-use Rattle.halfbrown.specs.Entry.{entry_key, entry_value, map_of, with_value, IsWritten}
-use Rattle.halfbrown.specs.RawEntry.{Occupied, Vacant, found_key, found_pair, found_value, pairs_once_put, PutsThroughRawEntry, PutsEntry}
-use Rattle.halfbrown.specs.RawEntry.{AddsThroughRawEntry, IsRawEntryOf}
+use Rattle.halfbrown.specs.Entry.{occupied, raw_vacant, raw_view}
+use Rattle.halfbrown.specs.EntryView.{EntryView, entry_key, entry_pair, entry_value, map_of, pairs_with, with_value, IsWritten}
+use Rattle.halfbrown.specs.EntryView.{FindsEntry, FindsEntryByMatch, PutsEntry, AddsEntry}
 use Rattle.halfbrown.specs.State.{IsValid, WithPairs, State}
-use Rattle.halfbrown.proofs.lemmas.pairs.Changes.{key_of-pair, value_of-pair, set_value_at-last, value-last, key-last, set_value_at-twice}
-use Rattle.halfbrown.proofs.lemmas.entry.Methods.{swap_remove_at-last}
+use Rattle.halfbrown.proofs.lemmas.pairs.Changes.{key_of-pair, value_of-pair, set_value_at-last, value-last, key-last}
+use Rattle.halfbrown.proofs.lemmas.entry.Methods.{swap_remove_at-last, held_with_pairs, found_raw, missing_raw}
 use Rattle.std.proofs.lemmas.Grind.{common_steps}
 use Rattle.std.specs.Cmp.{IsEquivalence}
-use Rattle.std.specs.List.{IsDistinct}
 use Rattle.halfbrown.specs.Lookup.{IsIndexOf, IsAbsent, IsMatch, ReadsMatch}
 use Rattle.halfbrown.specs.Pairs.{holds}
-use Rattle.halfbrown.specs.Updates.{HasPut, HasRemovedBy}
-use Rattle.halfbrown.proofs.CallerLemmas.{has_put, has_removed_by}
-use Rattle.halfbrown.proofs.lemmas.pairs.Indices.{index_of_pair, absent_of_unheld, first_of_index, some_is_not_none}
-use Rattle.halfbrown.proofs.lemmas.pairs.SetBy.{has_put_by, has_set_by, passes_at}
+use Rattle.halfbrown.specs.Updates.{HasPut}
+use Rattle.halfbrown.proofs.CallerLemmas.{has_put}
+use Rattle.halfbrown.proofs.lemmas.pairs.Indices.{index_of_pair, absent_of_unheld, some_is_not_none}
 use Rattle.std.specs.declared.cmp.PartialEq as eq
 use Rattle.std.specs.declared.hash.Hash as hash
 use Rattle.halfbrown.specs.declared.key_hasher.KeyHasher as hashers
 use Rattle.halfbrown.specs.declared.limit.Limit as limits
-use Rattle.halfbrown.specs.Entry as entries
 
 -- the key and the value of a pair that is lent are those of its entry
 pub lent_key : {K V : Type 0} (ps : List (K × V)) (i : ℕ) (k key : K) (v : V) → slice_get ps i ≡ Some (k, v)
@@ -72,49 +71,54 @@ module _ {K V : Type 0} where
   pair_is P ps i k v key value holds = grind (arith, common_steps, slice_get_cases, key_of-pair ps i, value_of-pair ps i)
 
 module _ {K V S L H : Type 0} {e : eq.Ghosts K} {h : hash.Ghosts K} {b : hashers.Ghosts S K H} {l : limits.Ghosts L}
-    (o : OccupiedEntry K V S L H e h b l) where
-  -- the pair has a value
-  pub held_value : entry_value (entries.Occupied o) ≡ None → ⊥
-  held_value none = some_is_not_none (values_of o.map.now.pairs) o.index (omega (arith, length-values_of o.map.now.pairs, o.within)) none
+    (limit : ℕ) (same : K → K → Bool) where
+  module _ (o : OccupiedEntry K V S L H e h b l) where
+    -- the pair has a key
+    key_there : (key : K) → entry_key (occupied o) ≡ Some (unwrap_or (entry_key (occupied o)) key)
+    key_there key = some_at (keys_of o.map.now.pairs) o.index key (omega (arith, length-keys_of o.map.now.pairs, o.within))
 
-  -- of the map with this value only the pairs are new
-  pub held_with_pairs : (key : K) (value : V)
-      → WithPairs (map_of (entries.Occupied o)) (pairs_once_put (Occupied o) key value) (with_value (entries.Occupied o) value)
-  unfolding with_value
-  held_with_pairs key value = record { pairs = refl; form = refl; capacity = refl; builder = refl }
+    -- a pair that is found and written is the one that is put
+    pub written_puts : (key : K) (value : V) (written : EntryView K V S) → IsWritten (occupied o) value written
+        → IsValid same limit (map_of written) → PutsEntry limit same (occupied o) key value written
+    written_puts key value written is valid = record {
+      same_map = is.same_map;
+      map = subst (WithPairs o.map.now (set_value_at o.map.now.pairs o.index value)) (sym is.map) (held_with_pairs o key value);
+      key_is = is.key ∙ key_there key;
+      value_is = is.value_is;
+      writes = λ v. subst (WithPairs o.map.now (set_value_at o.map.now.pairs o.index v)) (sym (is.writes v)) (held_with_pairs o key v);
+      pairs_left = is.pairs_left;
+      valid = valid;
+    }
 
-  -- a value that is written again
-  pub held_twice : (key : K) (value again : V)
-      → set_value_at (with_value (entries.Occupied o) value).pairs o.index again ≡ pairs_once_put (Occupied o) key again
-  unfolding with_value
-  held_twice key value again = set_value_at-twice o.map.now.pairs o.index value again
+    -- a pair that is found and left is put with its own value
+    pub held_puts : (key : K) (value : V) → IsValid same limit o.map.now
+        → PutsEntry limit same (occupied o) key (unwrap_or (entry_value (occupied o)) value) (occupied o)
+    held_puts key value valid = record {
+      same_map = refl;
+      map = record { pairs = sym (set_value_at-held o.map.now.pairs o.index value); form = refl; capacity = refl; builder = refl };
+      key_is = key_there key;
+      value_is = some_at (values_of o.map.now.pairs) o.index value (omega (arith, length-values_of o.map.now.pairs, o.within));
+      writes = held_with_pairs o key;
+      pairs_left = refl;
+      valid = valid;
+    }
 
-  -- the pair has a key
-  key_there : (key : K) → entry_key (entries.Occupied o) ≡ Some (unwrap_or (entry_key (entries.Occupied o)) key)
-  key_there key = some_at (keys_of o.map.now.pairs) o.index key (omega (arith, length-keys_of o.map.now.pairs, o.within))
+    -- and with its own key
+    pub held_puts_pair : IsValid same limit o.map.now
+        → IfSome (entry_pair (occupied o)) (λ pair. PutsEntry limit same (occupied o) pair.0 pair.1 (occupied o))
+    held_puts_pair valid = pair_there _ o.map.now.pairs o.index (λ pair held.
+        subst (λ value. PutsEntry limit same (occupied o) pair.0 value (occupied o)) held (held_puts pair.0 pair.1 valid))
 
-  -- a pair that is found and written is the one that is put
-  pub written_puts : (key : K) (value : V) (written : OccupiedEntry K V S L H e h b l)
-      → IsWritten (entries.Occupied o) value (entries.Occupied written) → PutsThroughRawEntry (Occupied o) key value written
-  written_puts key value written is = record {
-    same_map = is.same_map;
-    map = subst (WithPairs o.map.now (set_value_at o.map.now.pairs o.index value)) (sym is.map) (held_with_pairs key value);
-    key_is = is.key ∙ key_there key;
-    value_is = is.value_is;
-    writes = λ v. subst (WithPairs o.map.now (set_value_at o.map.now.pairs o.index v)) (sym (is.writes v)) (held_with_pairs key v);
-    pairs_left = is.pairs_left;
-  }
-
-module _ {K V S L H : Type 0} {e : eq.Ghosts K} {h : hash.Ghosts K} {b : hashers.Ghosts S K H} {l : limits.Ghosts L}
-    (v : RawVacantEntryMut K V S L H e h b l) (key : K) (value : V) where
+module _ {K V S : Type 0} (limit : ℕ) (same : K → K → Bool) (ready map : MutBor (State K V S)) (key : K) (value : V) (index : ℕ)
+    (same_map : map.ghost_name ≡ ready.ghost_name) (last : index ≡ length ready.now.pairs)
+    (after : WithPairs ready.now (ready.now.pairs ++ (key, value) ∷ []) map.now) (valid : IsValid same limit map.now) where
   -- the pair that is appended is the one that is put
-  pub added_puts : (o : OccupiedEntry K V S L H e h b l) → o.map.ghost_name ≡ v.map.ghost_name → o.index ≡ length v.map.now.pairs
-      → WithPairs v.map.now (v.map.now.pairs ++ (key, value) ∷ []) o.map.now → PutsThroughRawEntry (Vacant v) key value o
+  added_puts : PutsEntry limit same (record { map = ready; index = None; vacant = None }) key value (record { map = map; index = Some index; vacant = None })
   unfolding with_value
-  added_puts o same last after =
-      let ps = v.map.now.pairs in
+  added_puts =
+      let ps = ready.now.pairs in
       record {
-        same_map = same;
+        same_map = same_map;
         map = after;
         key_is = (λ i. slice_get (keys_of (after.pairs i)) (last i)) ∙ key-last ps key value;
         value_is = (λ i. slice_get (values_of (after.pairs i)) (last i)) ∙ value-last ps key value;
@@ -125,130 +129,51 @@ module _ {K V S L H : Type 0} {e : eq.Ghosts K} {h : hash.Ghosts K} {b : hashers
           builder = after.builder;
         };
         pairs_left = (λ i. swap_remove_at (after.pairs i) (last i)) ∙ swap_remove_at-last ps (key, value);
+        valid = valid;
       }
 
-module _ {K V S L H : Type 0} {e : eq.Ghosts K} {h : hash.Ghosts K} {b : hashers.Ghosts S K H} {l : limits.Ghosts L}
-  where
-    -- a pair that is left is put with its own value
-    held_puts_at : (o : OccupiedEntry K V S L H e h b l) (key : K) (value : V) (within : o.index < length o.map.now.pairs)
-        → PutsThroughRawEntry (Occupied o) key (unwrap_or (found_value (Occupied o)) value)
-        (record { map = o.map; index = o.index; within = within })
-    held_puts_at o key value within = record {
-      same_map = refl;
-      map = record {
-        pairs = sym (set_value_at-held o.map.now.pairs o.index value);
-        form = refl;
-        capacity = refl;
-        builder = refl;
-      };
-      key_is = key_there o key;
-      value_is = some_at (values_of o.map.now.pairs) o.index value (omega (arith, length-values_of o.map.now.pairs, o.within));
-      writes = λ v. held_with_pairs (record { map = o.map; index = o.index; within = within }) key v;
-      pairs_left = refl;
-    }
-
-    -- a pair that is found and left is put with its own value, however it was shown that its index is within
-    pub held_puts : (entry : RawEntryMut K V S L H e h b l) (o : OccupiedEntry K V S L H e h b l) → entry ≡ Occupied o
-        → (key : K) (value : V) (within : o.index < length o.map.now.pairs)
-        → PutsThroughRawEntry entry key (unwrap_or (found_value entry) value) (record { map = o.map; index = o.index; within = within })
-    held_puts entry o is key value within =
-        subst (λ found. PutsThroughRawEntry found key (unwrap_or (found_value found) value)
-        (record { map = o.map; index = o.index; within = within })) (sym is) (held_puts_at o key value within)
-
-    -- the key and the value that are held once a pair is added where none was found
-    pub found_or : (entry : RawEntryMut K V S L H e h b l) (key : K) (value : V)
-        → (unwrap_or (found_key entry) key, unwrap_or (found_value entry) value) ≡ unwrap_or (found_pair entry) (key, value)
-    found_or (Occupied o) key value = pair_or o.map.now.pairs o.index key value
-    found_or (Vacant v) key value = refl
-
-    -- a pair that is found and left is put with its own key and value
-    pub held_puts_pair : (limit : ℕ) (same : K → K → Bool) (entry : RawEntryMut K V S L H e h b l) (o : OccupiedEntry K V S L H e h b l)
-        → entry ≡ Occupied o → (within : o.index < length o.map.now.pairs) → IsValid same limit o.map.now
-        → IfSome (slice_get o.map.now.pairs o.index)
-        (λ pair. PutsEntry limit same entry pair.0 pair.1 (record { map = o.map; index = o.index; within = within }))
-    held_puts_pair limit same entry o is within state = pair_there _ o.map.now.pairs o.index (λ pair held. record {
-      puts = subst (λ value. PutsThroughRawEntry entry pair.0 value (record { map = o.map; index = o.index; within = within }))
-          (ap (λ found. unwrap_or (found_value found) pair.1) is ∙ held) (held_puts entry o is pair.0 pair.1 within);
-      valid = state;
-    })
-
-module _ {K : Type 0} (same : K → K → Bool) (laws : IsEquivalence same) (test : K → Bool)
-    (one_class : (k other : K) → test k ≡ true → test other ≡ same k other) where
-  module _ {V S L H : Type 0} {e : eq.Ghosts K} {h : hash.Ghosts K} {b : hashers.Ghosts S K H} {l : limits.Ghosts L}
-      (m : State K V S) where
-    -- where a search of the map found the key
-    pub found_entry : (o : OccupiedEntry K V S L H e h b l) → m ≡ o.map.now → IsDistinct same (keys_of o.map.now.pairs)
-        → IsIndexOf test o.map.now.pairs o.index → IsRawEntryOf same test m (Occupied o)
-    unfolding entries.with_value
-    found_entry o is distinct at = subst (λ n. IsRawEntryOf same test n (Occupied o)) (sym is) (record {
-      map = refl;
-      occupied = sym at.held;
-      pair = sym at.pair;
-      value = sym at.value;
-      equal = passes_at same laws test one_class (keys_of o.map.now.pairs) o.index (first_of_index test (keys_of o.map.now.pairs) o.index at.index_is);
-      puts = λ k v. sym (at.put_is k v);
-      put = λ k v. has_put_by same laws test one_class o.map.now.pairs (set_value_at o.map.now.pairs o.index v) k v (sym (at.put_is k v));
-      writes = λ occupied v. record { pairs = sym (at.set_is v); form = refl; capacity = refl; builder = refl };
-      written = λ occupied v. has_set_by same laws test one_class o.map.now.pairs o.index v at;
-      takes = sym at.take_is;
-      removed = subst (HasRemovedBy same test o.map.now.pairs) at.take_is
-          (has_removed_by same laws test one_class o.map.now.pairs distinct);
-    })
-
-    -- where it found none
-    pub missing_entry : (v : RawVacantEntryMut K V S L H e h b l) → m ≡ v.map.now → IsDistinct same (keys_of v.map.now.pairs)
-        → IsAbsent test v.map.now.pairs → IsRawEntryOf same test m (Vacant v)
-    missing_entry v is distinct absent = subst (λ n. IsRawEntryOf same test n (Vacant v)) (sym is) (record {
-      map = refl;
-      occupied = sym absent.held;
-      pair = sym absent.pair;
-      value = sym absent.value;
-      equal = tt;
-      puts = λ k value. sym (absent.put_is k value);
-      put = λ k value. has_put_by same laws test one_class v.map.now.pairs (v.map.now.pairs ++ (k, value) ∷ []) k value (sym (absent.put_is k value));
-      writes = λ occupied. absurd (true≢false (sym occupied));
-      written = λ occupied. absurd (true≢false (sym occupied));
-      takes = sym absent.take_is;
-      removed = subst (HasRemovedBy same test v.map.now.pairs) absent.take_is
-          (has_removed_by same laws test one_class v.map.now.pairs distinct);
-    })
-
-module _ {K V S L H : Type 0} {e : eq.Ghosts K} {h : hash.Ghosts K} {b : hashers.Ghosts S K H} {l : limits.Ghosts L}
-    (same : K → K → Bool) (laws : IsEquivalence same) where
   -- where the key was not held its pair is put
-  pub adds_pair : (v : RawVacantEntryMut K V S L H e h b l) (key : K) (value : V)
-      (result : OccupiedEntry K V S L H e h b l) → holds same v.map.now.pairs key ≡ false
-      → PutsThroughRawEntry (Vacant v) key value result → AddsThroughRawEntry same v.map.now.pairs key value result
-  adds_pair v key value result unheld puts =
-      let absent = absent_of_unheld (same key) v.map.now.pairs unheld in
+  pub adds_pair : IsEquivalence same → holds same ready.now.pairs key ≡ false
+      → AddsEntry limit same (record { map = ready; index = None; vacant = None }) key value (record { map = map; index = Some index; vacant = None })
+  adds_pair laws unheld =
+      let absent = absent_of_unheld (same key) ready.now.pairs unheld in
       record {
-        put = subst (HasPut same v.map.now.pairs key value) (absent.put_is key value ∙ sym puts.map.pairs)
-            (has_put same laws v.map.now.pairs key value);
-        written = λ written. subst (HasPut same v.map.now.pairs key written) (absent.put_is key written ∙ sym (puts.writes written).pairs)
-            (has_put same laws v.map.now.pairs key written);
+        puts = added_puts;
+        put = subst (HasPut same ready.now.pairs key value) (absent.put_is key value ∙ sym added_puts.map.pairs)
+            (has_put same laws ready.now.pairs key value);
+        written = λ v. subst (HasPut same ready.now.pairs key v) (absent.put_is key v ∙ sym (added_puts.writes v).pairs)
+            (has_put same laws ready.now.pairs key v);
       }
 
-  found_at : (m : State K V S) (o : OccupiedEntry K V S L H e h b l) → m ≡ o.map.now → IsDistinct same (keys_of o.map.now.pairs)
-      → (found : Option (K × V)) → slice_get o.map.now.pairs o.index ≡ found
-      → IfSome found (λ pair. IsRawEntryOf same (same pair.0) m (Occupied o))
-  found_at m o is distinct None at = tt
-  found_at m o is distinct (Some pair) at =
-      found_entry same laws (same pair.0) (λ k other alike. laws.congr pair.0 k other alike) m o is distinct
-      (index_of_pair same laws o.map.now.pairs o.index pair distinct at)
+-- the key and the value that are held once a pair is added where none was found
+pub found_or : {K V S L H : Type 0} {e : eq.Ghosts K} {h : hash.Ghosts K} {b : hashers.Ghosts S K H} {l : limits.Ghosts L}
+    (entry : RawEntryMut K V S L H e h b l) (key : K) (value : V)
+    → (unwrap_or (entry_key (raw_view entry)) key, unwrap_or (entry_value (raw_view entry)) value) ≡ unwrap_or (entry_pair (raw_view entry)) (key, value)
+found_or (Occupied o) key value = pair_or o.map.now.pairs o.index key value
+found_or (Vacant v) key value = refl
 
-  -- the entry of a pair that a match found is that of the pair's key
-  pub found_by_match : (m : State K V S) (o : OccupiedEntry K V S L H e h b l) → m ≡ o.map.now
-      → IsDistinct same (keys_of o.map.now.pairs)
-      → IfSome (slice_get o.map.now.pairs o.index) (λ pair. IsRawEntryOf same (same pair.0) m (Occupied o))
-  found_by_match m o is distinct = found_at m o is distinct (slice_get o.map.now.pairs o.index) refl
+module _ {K V S : Type 0} (limit : ℕ) (same : K → K → Bool) (laws : IsEquivalence same) (m : MutBor (State K V S)) (valid : IsValid same limit m.now) where
+  -- the raw entry of the key which passes the test
+  module _ (test : K → Bool) (one_class : (k other : K) → test k ≡ true → test other ≡ same k other) where
+    pub finds_held : (index : ℕ) → IsIndexOf test m.now.pairs index → FindsEntry limit same test m (record { map = m; index = Some index; vacant = None })
+    finds_held index at = record { same_map = refl; finds = found_raw same laws m valid.distinct test one_class index at; valid = valid }
 
-module _ {K V S : Type 0} (returns : K → Bool → Type 0) (hash_of : S → K → ℕ) (wanted : ℕ) where
-  match_at : (m : State K V S) (index : ℕ) (found : Option (K × V)) → slice_get m.pairs index ≡ found
-      → IsMatch returns hash_of wanted m index → ReadsMatch returns hash_of wanted m found
-  match_at m index None at is = absurd (some_is_not_none m.pairs index is.within at)
-  match_at m index (Some pair) at is = (index, at, is)
+    pub finds_none : IsAbsent test m.now.pairs → FindsEntry limit same test m (record { map = m; index = None; vacant = None })
+    finds_none absent = record { same_map = refl; finds = missing_raw same laws m valid.distinct test one_class absent; valid = valid }
 
-  -- the pair at the index that a match found, in the map that was ready
-  pub found_match : (ready m : State K V S) (index : ℕ) → ready ≡ m → IsMatch returns hash_of wanted m index
-      → ReadsMatch returns hash_of wanted ready (slice_get m.pairs index)
-  found_match ready m index is at = grind (arith, common_steps, match_at, slice_get)
+  -- the raw entry of the pair at the index that a match found
+  module _ (returns : K → Bool → Type 0) (hash : S → K → ℕ) (wanted index : ℕ) (at : IsMatch returns hash wanted m.now index) where
+    reads_match : (found : Option (K × V)) → slice_get m.now.pairs index ≡ found → ReadsMatch returns hash wanted m.now found
+    reads_match None is = absurd (some_is_not_none m.now.pairs index at.within is)
+    reads_match (Some pair) is = (index, is, at)
+
+    pub finds_match : FindsEntryByMatch limit same returns hash wanted m (record { map = m; index = Some index; vacant = None })
+    finds_match = record {
+      same_map = refl;
+      map = refl;
+      found = reads_match (slice_get m.now.pairs index) refl;
+      entry = if_some (slice_get m.now.pairs index) (λ pair is.
+          found_raw same laws m valid.distinct (same pair.0) (laws.congr pair.0) index
+          (index_of_pair same laws m.now.pairs index pair valid.distinct is));
+      valid = valid;
+    }

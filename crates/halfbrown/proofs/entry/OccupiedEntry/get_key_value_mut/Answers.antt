@@ -1,9 +1,12 @@
 use Rattle.std.proofs.Common.{refl}
-use Rattle.halfbrown.proofs.lemmas.entry.Methods.{lent_within, lent_entry, written_entry}
+use Rattle.halfbrown.specs.Entry.{with_entry_value}
+use Rattle.halfbrown.specs.EntryView.{with_value}
+use Rattle.halfbrown.proofs.lemmas.entry.Methods.{lent_entry, written_entry}
 use Rattle.halfbrown.proofs.entry.OccupiedEntry.get_key_value_mut.Goals as goal
 
 pub invariant_of-self-lent : goal.invariant_of-self-lent
-invariant_of-self-lent g c w = (lent_within c.args.self.now w, tt)
+unfolding with_value
+invariant_of-self-lent g c w = ((with_entry_value c.args.self.now w).within, tt)
 
 pub returns : goal.returns
 returns g c =

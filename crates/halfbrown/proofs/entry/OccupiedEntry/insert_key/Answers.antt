@@ -6,4 +6,4 @@ pub invariant_of-self : goal.invariant_of-self
 invariant_of-self g c = record { within = rekeyed_within c.args.self.now c.args.key c.set_key_at.new.self c.set_key_at.ensures.after }
 
 pub returns-clause-new : goal.returns-clause-new
-returns-clause-new g c = rekeyed_entry c.args.self.now c.args.key _ _ refl c.set_key_at.ensures.after
+returns-clause-new g c = rekeyed_entry c.args.self.now c.args.key _ refl c.set_key_at.ensures.after

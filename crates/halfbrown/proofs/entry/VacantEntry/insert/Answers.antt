@@ -3,7 +3,7 @@ use Rattle.std.proofs.lemmas.Grind.{common_steps}
 use Rattle.std.proofs.Math.Logic.{∥∥₁_elim}
 use Rattle.std.proofs.lemmas.Option.{same_Some}
 use Rattle.halfbrown.specs.State.{contents_of}
-use Rattle.halfbrown.proofs.lemmas.entry.Methods.{vacant_writes}
+use Rattle.halfbrown.specs.EntryView.{with_value}
 use Rattle.halfbrown.proofs.lemmas.pairs.Changes.{set_value_at-last, value-last}
 use Rattle.halfbrown.proofs.lemmas.map.Find.{vacancy-prop}
 use Rattle.halfbrown.proofs.entry.VacantEntry.insert.Goals as goal
@@ -16,4 +16,5 @@ push-requires-clause-vacant g c =
     (g.S.KeyHasher.hash m.builder v.key) v.vacancy) (λ known. known)
 
 pub returns : goal.returns
-returns g c = grind (arith, common_steps, same_Some, set_value_at-last, slice_get, vacant_writes, value-last)
+unfolding with_value
+returns g c = grind (arith, common_steps, same_Some, set_value_at-last, slice_get, value-last)

@@ -9,7 +9,7 @@ pub returns : goal.returns
 returns g c =
     let entry = c.or_insert_entry_counted.result in
     let pair = c.into_key_value.ensures in
-    let puts = c.or_insert_entry_counted.ensures.puts.puts in
+    let puts = c.or_insert_entry_counted.ensures.puts in
     record {
       pair = (λ i. (
         lent_key entry.map.now.pairs entry.index _ _ _ pair puts.key_is i,

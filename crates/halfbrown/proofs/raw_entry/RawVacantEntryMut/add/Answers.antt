@@ -1,7 +1,7 @@
 use Rattle.std.proofs.Common.{[], ◌∷◌, length, refl, ap, arith}
 use Rattle.std.proofs.Math.ListN.{length-append}
 use Rattle.halfbrown.proofs.lemmas.map.Find.{vacancy_for}
-use Rattle.halfbrown.proofs.lemmas.raw_entry.Methods.{added_puts, adds_pair}
+use Rattle.halfbrown.proofs.lemmas.raw_entry.Methods.{adds_pair}
 use Rattle.halfbrown.proofs.raw_entry.RawVacantEntryMut.add.Goals as goal
 
 pub push-requires-clause-vacant : goal.push-requires-clause-vacant
@@ -17,14 +17,7 @@ invariant_of-result g c = record {
   );
 }
 
-pub returns : goal.returns
-returns g c =
-    let puts = added_puts c.args.self c.args.key c.args.value _ refl c.len-index.ensures.len c.push.ensures.after in
-    record {
-      adds = record {
-        puts = puts;
-        adds = adds_pair g.K.PartialEq.eq g.met.K.Eq.laws c.args.self c.args.key c.args.value _ c.requires.absent puts;
-        valid = c.push.ensures.valid;
-      };
-      cost = c.vacancy_for-vacancy.ensures.work;
-    }
+pub returns-clause-adds : goal.returns-clause-adds
+returns-clause-adds g c =
+    adds_pair _ _ c.args.self.map _ c.args.key c.args.value _ refl c.len-index.ensures.len c.push.ensures.after c.push.ensures.valid
+    g.met.K.Eq.laws c.requires.absent
