@@ -42,10 +42,19 @@ module _ {K V S L H : Type 0} {e : eq.Ghosts K} {h : hash.Ghosts K} {b : hashers
   abbrev pub raw_vacant : RawVacantEntryMut K V S L H e h b l → EntryView K V S
   raw_vacant v = record { map = v.map; index = None; vacant = None }
 
-  -- of an entry of a key
+  -- the reference to the map
+  abbrev pub map_ref : Entry K V S L H e h b l → MutBor (State K V S)
+  map_ref (Occupied o) = o.map
+  map_ref (Vacant v) = v.map
+
+  -- by its variant
+  abbrev pub variant_view : Entry K V S L H e h b l → EntryView K V S
+  variant_view (Occupied o) = occupied o
+  variant_view (Vacant v) = vacant v
+
+  -- of an entry of a key; its reference to the map stands by itself, as what is lent of it does
   abbrev pub view : Entry K V S L H e h b l → EntryView K V S
-  view (Occupied o) = occupied o
-  view (Vacant v) = vacant v
+  view entry = record (variant_view entry) { map = map_ref entry }
 
   -- of a raw entry
   abbrev pub raw_view : RawEntryMut K V S L H e h b l → EntryView K V S
@@ -74,7 +83,7 @@ module _ {K V S L H : Type 0} {e : eq.Ghosts K} {h : hash.Ghosts K} {b : hashers
 module _ (K V S L H : RattleType) {e : eq.Ghosts K.Denot} {h : hash.Ghosts K.Denot} {b : hashers.Ghosts S.Denot K.Denot H.Denot} {l : limits.Ghosts L.Denot} where
   -- the map has the last value written through the reference, for the entry's key
   abbrev pub EntryLends : Entry K.Denot V.Denot S.Denot L.Denot H.Denot e h b l → MutBor V.Denot → Fml
-  EntryLends entry r = follows (the_row K V S L H e h b l) V (view entry).map.ghost_name r.ghost_name (with_value (view entry))
+  EntryLends entry r = follows (the_row K V S L H e h b l) V (map_ref entry).ghost_name r.ghost_name (with_value (view entry))
 
   -- where no entry was made the map is as it was, and else it ends as the entry's map does
   abbrev pub RestsIfRefused : {E : Type 0} → MutBor (State K.Denot V.Denot S.Denot) → Result (Entry K.Denot V.Denot S.Denot L.Denot H.Denot e h b l) E → Fml

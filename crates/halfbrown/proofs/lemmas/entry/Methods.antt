@@ -20,7 +20,7 @@ use Rattle.halfbrown.specs.Growth.{insert_needs}
 use Rattle.halfbrown.specs.Lookup.{IsIndexOf, IsAbsent}
 use Rattle.halfbrown.specs.Insertion.{Prepares, pushed}
 use Rattle.halfbrown.specs.Pairs.{take_out_by}
-use Rattle.halfbrown.specs.State.{State, map_with_pairs, WithPairs}
+use Rattle.halfbrown.specs.State.{State, with_pairs, WithPairs}
 use Rattle.halfbrown.specs.Updates.{HasRemovedBy}
 use Rattle.halfbrown.proofs.CallerLemmas.{has_put, has_removed_by}
 use Rattle.half_store.proofs.lemmas.store.States.{length-set_key_at, kept_value, lost_pair}
@@ -130,7 +130,7 @@ module _ {K V S L H : Type 0} {e : eq.Ghosts K} {h : hash.Ghosts K} {b : hashers
     map = refl;
     value_is = value-set_value_at o.map.now.pairs o.index value o.within;
     key = ap (λ ks. slice_get ks o.index) (keys_of-set_value_at o.map.now.pairs o.index value);
-    writes = λ v. ap (map_with_pairs o.map.now) (set_value_at-twice o.map.now.pairs o.index value v);
+    writes = λ v. ap (with_pairs o.map.now) (set_value_at-twice o.map.now.pairs o.index value v);
     pairs_left = swap_remove_at-set_value_at o.map.now.pairs o.index value;
   }
 
@@ -237,24 +237,24 @@ module _ {K V S L H : Type 0} {e : eq.Ghosts K} {h : hash.Ghosts K} {b : hashers
     {returns : Bor K → V → Option V → Type 0} (o : OccupiedEntry K V S L H e h b l) where
   replaced_entry : {ps : List (K × V)} {gone : Option K} (r : ReplacesValue returns o.map.now.is_vec o.map.now.pairs o.index ps gone)
       (result : EntryView K V S) (answer : Option V) → r.answer ≡ answer
-      → MatchOption answer (IsVacated (occupied o) r.key result) (λ v. HasNewValue (occupied o) r.key v result) → ReplacesEntry returns (occupied o) result
+      → MatchOption answer (IsLost (occupied o) r.key result) (λ v. HasNewValue (occupied o) r.key v result) → ReplacesEntry returns (occupied o) result
   replaced_entry r result answer is after = record {
     key = r.key;
     value = r.value;
     answer = r.answer;
     pair = r.pair;
     answered = r.answered;
-    after = subst (λ a. MatchOption a (IsVacated (occupied o) r.key result) (λ v. HasNewValue (occupied o) r.key v result)) (sym is) after;
+    after = subst (λ a. MatchOption a (IsLost (occupied o) r.key result) (λ v. HasNewValue (occupied o) r.key v result)) (sym is) after;
   }
 
   -- the pair is gone
-  pub loses_pair : (v : VacantEntry K V S L H e h b l) → ReplacesValue returns o.map.now.is_vec o.map.now.pairs o.index v.map.now.pairs (Some v.key)
-      → WithPairs o.map.now v.map.now.pairs v.map.now
-      → ReplacesEntry returns (occupied o) (vacant v)
+  pub loses_pair : (map : MutBor (State K V S)) (key : K) (vacancy : Vacancy)
+      → ReplacesValue returns o.map.now.is_vec o.map.now.pairs o.index map.now.pairs (Some key) → WithPairs o.map.now map.now.pairs map.now
+      → ReplacesEntry returns (occupied o) (record { map = map; index = None; vacant = Some (key, vacancy) })
   unfolding with_value
-  loses_pair v r after =
+  loses_pair map key vacancy r after =
       let lost = lost_pair r in
-      replaced_entry r (vacant v) None lost.0 (record {
+      replaced_entry r _ None lost.0 (record {
         key_is = ap Some (sym lost.2);
         no_value = refl;
         map = record { pairs = lost.1; form = after.form; capacity = after.capacity; builder = after.builder };
@@ -268,16 +268,16 @@ module _ {K V S L H : Type 0} {e : eq.Ghosts K} {h : hash.Ghosts K} {b : hashers
       })
 
   -- the pair has another value
-  pub keeps_pair : (p : OccupiedEntry K V S L H e h b l) → ReplacesValue returns o.map.now.is_vec o.map.now.pairs o.index p.map.now.pairs None
-      → p.index ≡ kept_index o.map.now.is_vec o.map.now.pairs o.index → WithPairs o.map.now p.map.now.pairs p.map.now
-      → ReplacesEntry returns (occupied o) (occupied p)
+  pub keeps_pair : (map : MutBor (State K V S)) (index : ℕ) → ReplacesValue returns o.map.now.is_vec o.map.now.pairs o.index map.now.pairs None
+      → index ≡ kept_index o.map.now.is_vec o.map.now.pairs o.index → WithPairs o.map.now map.now.pairs map.now
+      → ReplacesEntry returns (occupied o) (record { map = map; index = Some index; vacant = None })
   unfolding with_value
-  keeps_pair p r at after =
+  keeps_pair map index r at after =
       let kept = kept_value r in
       let there = kept_there o.within r at in
-      replaced_entry r (occupied p) (Some kept.0) kept.1 (record {
+      replaced_entry r _ (Some kept.0) kept.1 (record {
         pair = there.pair;
-        key_is = key_of-pair p.map.now.pairs p.index ∙ ap (option_map (λ (q : K × V). q.0)) there.pair;
+        key_is = key_of-pair map.now.pairs index ∙ ap (option_map (λ (q : K × V). q.0)) there.pair;
         value_is = there.value;
         map = record { pairs = kept.2; form = after.form; capacity = after.capacity; builder = after.builder };
         writes = λ u. record { pairs = there.writes u; form = after.form; capacity = after.capacity; builder = after.builder };

@@ -1,7 +1,12 @@
-use Rattle.std.proofs.Common.{Some, refl, sym, subst}
+use Rattle.std.proofs.Common.{Some, refl, sym, ap, subst, ◌∙◌}
 use Rattle.std.specs.Map.Calls.{MayWrite, ModifiesValue}
+use Rattle.halfbrown.specs.Entry.{view}
+use Rattle.halfbrown.specs.EntryView.{entry_value}
 use Rattle.halfbrown.proofs.lemmas.entry.Methods.{modified_entry}
 use Rattle.halfbrown.proofs.entry.Entry.and_modify.Goals as goal
+
+pub f-requires : goal.f-requires
+f-requires g c = c.requires _ (ap (λ entry. entry_value (view entry)) c.in-Occupied.is ∙ c.get_mut.ensures.value)
 
 pub returns-in-Occupied : goal.returns-in-Occupied
 returns-in-Occupied g c =
