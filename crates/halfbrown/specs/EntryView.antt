@@ -9,7 +9,7 @@ use Rattle.halfbrown.specs.Growth.{insert_needs}
 use Rattle.halfbrown.specs.Insertion.{Puts, pushed}
 use Rattle.halfbrown.specs.Lookup.{ReadsMatch}
 use Rattle.halfbrown.specs.Pairs.{holds, holds_by, set_by, put_by, take_out_by}
-use Rattle.halfbrown.specs.State.{State, IsValid, WithPairs, with_pairs}
+use Rattle.halfbrown.specs.State.{State, IsValid, WithPairs, map_with_pairs}
 use Rattle.halfbrown.specs.Updates.{HasPut, HasSetBy, HasRemovedBy}
 
 -- the reference to the map, the index of the entry's pair, where it has one, and of the vacant entry of a key that key and where its pair goes
@@ -41,7 +41,7 @@ module _ {K V S : Type 0} where
 
   -- the map once the entry's key has this value; a vacant raw entry writes nothing
   unfoldable pub with_value : EntryView K V S → V → State K V S
-  with_value entry value = option_map_or (λ index. with_pairs (map_of entry) (set_value_at (map_of entry).pairs index value)) entry.index
+  with_value entry value = option_map_or (λ index. map_with_pairs (map_of entry) (set_value_at (map_of entry).pairs index value)) entry.index
       (option_map_or (λ new. pushed (map_of entry) new.0 value new.1) entry.vacant (map_of entry))
 
   -- the pairs once the entry's pair has this value, or, where it has none, the pair of this key is appended
@@ -107,7 +107,7 @@ module _ {K V S : Type 0} where
     pub same_map : entry.map.ghost_name ≡ m.ghost_name
     pub map : map_of entry ≡ m.now
     pub pair : entry_pair entry ≡ slice_get m.now.pairs index
-    pub writes : (value : V) → with_value entry value ≡ with_pairs m.now (set_value_at m.now.pairs index value)
+    pub writes : (value : V) → with_value entry value ≡ map_with_pairs m.now (set_value_at m.now.pairs index value)
 
   -- the entry is the same one, and its pair has this key
   pub record HasNewKey (entry : EntryView K V S) (key : K) (rekeyed : EntryView K V S) : Type 0 where

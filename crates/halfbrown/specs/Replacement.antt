@@ -22,7 +22,7 @@ module _ {K V S : Type 0} where
     pub pairs_left : pairs_without result ≡ pairs_without entry
 
   -- the pair is gone, and the entry is vacant, with the stored key
-  pub record IsLost (entry : EntryView K V S) (key : K) (result : EntryView K V S) : Type 0 where
+  pub record IsVacated (entry : EntryView K V S) (key : K) (result : EntryView K V S) : Type 0 where
     pub key_is : entry_key result ≡ Some key
     pub no_value : entry_value result ≡ None
     pub map : WithPairs (map_of entry) (pairs_without entry) (map_of result)

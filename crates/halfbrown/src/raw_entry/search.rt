@@ -204,8 +204,8 @@ impl<'a, K: Eq + Hash, V, S: KeyHasher<K>, L: Limit> RawEntryBuilderMut<'a, K, V
     ) -> RawEntryMut<'a, K, V, S, L>
         ensures searches { FindsEntry L.LIMIT K.eq (Q.equivalent key)
             (prepared_ref self.entry) (raw_view result) }
-        ensures cost { IsLookupCost S.hash (S.hash_writes (prepared_map self.entry).builder
-            (Q.hash_input key)) (Q.equivalent key) (prepared_map self.entry) tally.old tally.new }
+        ensures cost { IsLookupCost S.KeyHasher Q.Hash Q.Equivalent key (prepared_map self.entry)
+            tally.old tally.new }
     {
         let RawEntryBuilderMut::Ready(ready) = self;
         match ready.map.find(key, tally) {
@@ -248,8 +248,8 @@ impl<'a, K: Eq + Hash, V, S: KeyHasher<K>, L: Limit> RawEntryBuilderMut<'a, K, V
         requires { hash ≡ S.hash_writes (prepared_map self).builder (Q.hash_input key) }
         ensures searches { FindsEntry L.LIMIT K.eq (Q.equivalent key)
             (prepared_ref self.entry) (raw_view result) }
-        ensures cost { IsHashedLookupCost S.hash (S.hash_writes (prepared_map self.entry).builder
-            (Q.hash_input key)) (Q.equivalent key) (prepared_map self.entry) tally.old tally.new }
+        ensures cost { IsHashedLookupCost S.KeyHasher Q.Hash Q.Equivalent key (prepared_map self.entry)
+            tally.old tally.new }
     {
         let RawEntryBuilderMut::Ready(ready) = self;
         match ready.map.find_hashed(hash, key, tally) {

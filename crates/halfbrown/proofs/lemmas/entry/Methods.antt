@@ -20,7 +20,7 @@ use Rattle.halfbrown.specs.Growth.{insert_needs}
 use Rattle.halfbrown.specs.Lookup.{IsIndexOf, IsAbsent}
 use Rattle.halfbrown.specs.Insertion.{Prepares, pushed}
 use Rattle.halfbrown.specs.Pairs.{take_out_by}
-use Rattle.halfbrown.specs.State.{State, with_pairs, WithPairs}
+use Rattle.halfbrown.specs.State.{State, map_with_pairs, WithPairs}
 use Rattle.halfbrown.specs.Updates.{HasRemovedBy}
 use Rattle.halfbrown.proofs.CallerLemmas.{has_put, has_removed_by}
 use Rattle.half_store.proofs.lemmas.store.States.{length-set_key_at, kept_value, lost_pair}
@@ -130,7 +130,7 @@ module _ {K V S L H : Type 0} {e : eq.Ghosts K} {h : hash.Ghosts K} {b : hashers
     map = refl;
     value_is = value-set_value_at o.map.now.pairs o.index value o.within;
     key = ap (λ ks. slice_get ks o.index) (keys_of-set_value_at o.map.now.pairs o.index value);
-    writes = λ v. ap (with_pairs o.map.now) (set_value_at-twice o.map.now.pairs o.index value v);
+    writes = λ v. ap (map_with_pairs o.map.now) (set_value_at-twice o.map.now.pairs o.index value v);
     pairs_left = swap_remove_at-set_value_at o.map.now.pairs o.index value;
   }
 
@@ -237,14 +237,14 @@ module _ {K V S L H : Type 0} {e : eq.Ghosts K} {h : hash.Ghosts K} {b : hashers
     {returns : Bor K → V → Option V → Type 0} (o : OccupiedEntry K V S L H e h b l) where
   replaced_entry : {ps : List (K × V)} {gone : Option K} (r : ReplacesValue returns o.map.now.is_vec o.map.now.pairs o.index ps gone)
       (result : EntryView K V S) (answer : Option V) → r.answer ≡ answer
-      → MatchOption answer (IsLost (occupied o) r.key result) (λ v. HasNewValue (occupied o) r.key v result) → ReplacesEntry returns (occupied o) result
+      → MatchOption answer (IsVacated (occupied o) r.key result) (λ v. HasNewValue (occupied o) r.key v result) → ReplacesEntry returns (occupied o) result
   replaced_entry r result answer is after = record {
     key = r.key;
     value = r.value;
     answer = r.answer;
     pair = r.pair;
     answered = r.answered;
-    after = subst (λ a. MatchOption a (IsLost (occupied o) r.key result) (λ v. HasNewValue (occupied o) r.key v result)) (sym is) after;
+    after = subst (λ a. MatchOption a (IsVacated (occupied o) r.key result) (λ v. HasNewValue (occupied o) r.key v result)) (sym is) after;
   }
 
   -- the pair is gone
