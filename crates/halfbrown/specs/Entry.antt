@@ -87,7 +87,7 @@ module _ (K V S L H : RattleType) {e : eq.Ghosts K.Denot} {h : hash.Ghosts K.Den
 
   -- where no entry was made the map is as it was, and else it ends as the entry's map does
   abbrev pub RestsIfRefused : {E : Type 0} → MutBor (State K.Denot V.Denot S.Denot) → Result (Entry K.Denot V.Denot S.Denot L.Denot H.Denot e h b l) E → Fml
-  RestsIfRefused m r = RestsIfErr (the_row K V S L H e h b l) m (λ entry. (view entry).map.ghost_name) r (λ n. n ≡ m.now)
+  RestsIfRefused m r = RestsIfErr (the_row K V S L H e h b l) m (λ entry. (map_ref entry).ghost_name) r (λ n. n ≡ m.now)
 
   -- where there is no entry the map is as it was, and else it ends as the entry's map does
   abbrev pub RestsIfNoEntry : MutBor (State K.Denot V.Denot S.Denot) → Option (OccupiedEntry K.Denot V.Denot S.Denot L.Denot H.Denot e h b l) → Fml
