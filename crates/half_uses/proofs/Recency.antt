@@ -1,10 +1,10 @@
 -- What a bounded cache keeps, and what a look-up finds in it.
-use Rattle.std.proofs.Common.{◌≡◌, ℕ, ◌+◌, ◌-◌, ◌<◌, ◌≤◌, Bool, true, false, List, [], ◌∷◌, ◌++◌, drop, length, Option, None, Some, is_some, refl, sym, ap, ◌∙◌, arith}
+use Rattle.std.proofs.Common.{◌≡◌, ℕ, ◌+◌, ◌-◌, ◌<◌, ◌≤◌, Bool, true, false, List, [], ◌∷◌, ◌++◌, drop, length, None, Some, is_some, refl, ap, ◌∙◌, arith}
 use Rattle.std.proofs.lemmas.Grind.{common_steps}
 use Rattle.std.proofs.lemmas.List.{drop-append-le, length-append}
 use Rattle.std.specs.Cmp.{IsEquivalence}
 use Rattle.std.specs.HashMap.Eq.{lookup_congr}
-use Rattle.std.specs.Map.{lookup, lookup_entry, remove_entry}
+use Rattle.std.specs.Map.{lookup, lookup_entry}
 use Rattle.halfbrown.specs.Pairs.{IsForm, value_of, holds, holds_by}
 use Rattle.halfbrown.specs.Updates.{HasPut, HasRemovedBy}
 use Rattle.half_uses.specs.BoundedCache.{newest, refreshed, making_way}
@@ -67,5 +67,15 @@ module _ {K V : Type 0} {eq : K → K → Bool} (laws : IsEquivalence eq) (test 
       let passes = entry_passes test old p found in
       let value = entry_value test old p found in
       let same : test p.0 ≡ true → lookup test old ≡ lookup (eq p.0) old = λ h i. lookup (λ x. form p.0 x h i) old in
-      grind (arith, common_steps, passes, value, same passes, form p.0 any passes, lookup_congr eq laws.congr old p.0 any, put.equals any,
-      put.others any, removed.others any)
+      grind (
+        arith,
+        common_steps,
+        passes,
+        value,
+        same passes,
+        form p.0 any passes,
+        lookup_congr eq laws.congr old p.0 any,
+        put.equals any,
+        put.others any,
+        removed.others any,
+      )

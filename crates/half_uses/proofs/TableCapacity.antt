@@ -1,5 +1,5 @@
 -- A table that is made for this many pairs has capacity for them.
-use Rattle.std.proofs.Common.{◌≡◌, ℕ, zero, suc, ◌≤◌, arith}
+use Rattle.std.proofs.Common.{ℕ, zero, suc, ◌≤◌, arith}
 use Rattle.std.proofs.lemmas.Grind.{common_steps}
 use Rattle.halfbrown.specs.Capacity.{capacity_of, buckets_for, buckets_for_more, capacity_for}
 

@@ -1,6 +1,6 @@
 -- Equal sets of labels have the same number: the sums over pairs that are equal as maps are equal.
 use Rattle.std.proofs.Common.{◌≡◌, ℕ, ◌+◌, ◌%◌, ◌^◌, Bool, true, false, cond, List, [], ◌∷◌, ◌++◌, fold, Option, None, Some, sum_by, refl}
-use Rattle.std.proofs.Common.{sym, ap, ◌∙◌, arith, string_bytes}
+use Rattle.std.proofs.Common.{ap, arith, string_bytes}
 use Rattle.std.proofs.lemmas.Grind.{common_steps}
 use Rattle.std.proofs.lemmas.List.Sums.{sum_by-append}
 use Rattle.std.proofs.lemmas.Map.{lookup-remove_entry, lookup-none}

@@ -9,6 +9,6 @@ use Rattle.std.specs.declared.string.String.{String}
 abbrev pub label_hash : String Global × String Global → ℕ
 label_hash label = finish (fold write initial (fed.str (string_bytes label.0) ++ fed.str (string_bytes label.1)))
 
--- the sum of these, without what exceeds 64 bits
+-- the sum of these, of which 64 bits are kept
 abbrev pub labels_number : List (String Global × String Global) → ℕ
 labels_number labels = sum_by label_hash labels % 2 ^ 64

@@ -1,7 +1,7 @@
 //! A cache of a bounded size, which forgets the pair that was used longest ago.
 ghost use Rattle.std.specs.Map.{lookup, remove_entry};
 ghost use Rattle.std.specs.Option.{option_copied};
-ghost use Rattle.std.specs.Prelude.{◌≡◌, ◌-◌, ◌<◌, ◌≤◌, true, false, None, Some, [], ◌∷◌, ◌++◌, length, IfErr, IfOk, IfSome, OnSome};
+ghost use Rattle.std.specs.Prelude.{◌≡◌, ◌+◌, ◌-◌, ◌<◌, ◌≤◌, true, false, None, Some, [], ◌∷◌, ◌++◌, length, IfErr, IfOk, IfSome, OnSome};
 ghost use Rattle.halfbrown.specs.Pairs.{value_of, holds, holds_by};
 ghost use Rattle.halfbrown.specs.Refusal.{refusal_of};
 ghost use Rattle.halfbrown.specs.Updates.{HasPut};
@@ -181,6 +181,7 @@ fn insert_within<K: Eq + Hash + Drop, V: Drop>(held: &mut HashMap<K, V>, key: K,
     requires new { holds K.eq held.old.pairs key ≡ false }
     requires room { length held.old.pairs < held.old.capacity }
     ensures pairs { held.new.pairs ≡ held.old.pairs ++ (key, value) ∷ [] }
+    ensures len { length held.new.pairs ≡ length held.old.pairs + 1 }
     ensures put { HasPut K.eq held.old.pairs key value held.new.pairs }
     ensures capacity { held.new.capacity ≡ held.old.capacity }
     ensures form { length held.old.pairs < 32 → held.new.is_vec ≡ held.old.is_vec }

@@ -1,4 +1,4 @@
-//! Sets of labels as keys, to sum by them what a program measures.
+//! Sets of labels as keys, by which a program sums what it measures.
 ghost use Rattle.std.specs.Map.{keys_of, values_of, lookup};
 ghost use Rattle.std.specs.List.{IsDistinct};
 ghost use Rattle.std.specs.Option.{option_copied};
@@ -13,8 +13,10 @@ use halfbrown::{DefaultHashBuilder, Equivalent, HashMap, Refusal, Refused};
 use std::alloc::Global;
 use std::hash::{BuildHasher, Hash, Hasher};
 
-/// Labels of a measurement: a text for each name, such as `method` and `GET`. They are keys: two sets are equal where they have the
-/// same texts for the same names, in whatever order these were set, and equal sets hash alike.
+/// Labels of a measurement: a text for each name, such as `GET` for `method`. They are keys: two sets are equal where each name has
+/// the same text in both, in whatever order these were set, and equal sets hash alike.
+///
+/// A set is hashed where it is searched for in a table, and then each of its labels is, by the default builder.
 ///
 /// ```
 /// let mut labels = Labels::new(alloc);
@@ -26,12 +28,16 @@ use std::hash::{BuildHasher, Hash, Hasher};
 #[derive(Drop)]
 pub struct Labels {
     texts: HashMap<String, String>,
-    // Of a list with a name twice the hash would say more than `==` does.
+    // A name that stood twice would count twice in the hash, and once in `==`.
     ghost distinct: { IsDistinct string_eq (keys_of texts.pairs) } by { Prim.hlevel props },
 }
 
 impl Labels {
     /// No labels. It takes no memory.
+    ///
+    /// ```
+    /// let labels = Labels::new(alloc);
+    /// ```
     pub fn new(alloc: Global) -> Labels
         ensures { result.texts.pairs ≡ [] }
     {
@@ -47,15 +53,28 @@ impl Labels {
         self.texts.len()
     }
 
-    /// The text of a name, where there is one.
+    /// The text of a name, where there is one. It costs one search.
+    ///
+    /// ```
+    /// let method = labels.get("method").map(|text| text.as_str());
+    /// ```
     pub fn get<Q: Equivalent<String>>(&self, name: Q) -> Option<&String>
         ensures { option_copied result ≡ lookup (Q.equivalent name) self.now.texts.pairs }
     {
         self.texts.get(name)
     }
 
-    /// Gives a name its text, and returns the one that it had. Fails as the map's `insert` does, and then nothing changes.
-    pub fn set(&mut self, name: String, text: String) -> Result<Option<String>, Refused<String, String>>
+    /// Gives a name its text, and returns the one that it had. It costs one search. Fails where the map's `insert` does, and then
+    /// nothing changes, and the error has name and text.
+    ///
+    /// ```
+    /// let before = labels.set(String::from_str(alloc, "status")?, String::from_str(alloc, "404")?)?;
+    /// ```
+    pub fn set(
+        &mut self,
+        name: String,
+        text: String,
+    ) -> Result<Option<String>, Refused<String, String>>
         ensures before { IfOk result (λ old. old ≡ value_of string_eq self.old.texts.pairs name) }
         ensures after { OnOk result (self.new.texts.pairs ≡ put string_eq self.old.texts.pairs name text) }
         ensures err { OnErr result (self.new.texts ≡ self.old.texts) }
@@ -64,12 +83,12 @@ impl Labels {
         self.texts.insert(name, text)
     }
 
-    // A number that does not depend on the order of the labels: the sum of what each hashes to, without what exceeds 64 bits.
+    // A number that does not depend on the order of the labels: the sum of what each hashes to, of which 64 bits are kept.
     fn number(&self) -> u64
         ensures { result ≡ labels_number self.now.texts.pairs }
     {
         let builder = DefaultHashBuilder::new();
-        let mut number = 0u64;
+        let mut number: u64 = 0;
         for (name, text) in &self.texts {
             number = number.wrapping_add(builder.hash_one((name, text)));
         }
@@ -84,7 +103,8 @@ impl PartialEq for Labels {
 
     ghost eq = { λ a b. same_pairs string_eq string_eq a.texts.pairs b.texts.pairs };
 
-    ghost laws = { on_per (λ labels. labels.texts) (same_maps_per string_eq string_eq string_eq_equiv (partial_equiv_from_equiv string_eq_equiv)) };
+    ghost laws = { on_per (λ labels. labels.texts)
+        (same_maps_per string_eq string_eq string_eq_equiv (partial_equiv_from_equiv string_eq_equiv)) };
 
     /// Whether both have the same texts for the same names, in any order.
     fn eq(&self, other: &Labels) -> bool {
@@ -97,7 +117,8 @@ impl Eq for Labels {
     ghost use Rattle.std.specs.String.{string_eq_equiv};
     ghost use Rattle.halfbrown.specs.Equality.{same_maps_equiv};
 
-    ghost laws = { on_equiv (λ labels. labels.texts) (same_maps_equiv string_eq string_eq string_eq_equiv string_eq_equiv) };
+    ghost laws = { on_equiv (λ labels. labels.texts)
+        (same_maps_equiv string_eq string_eq string_eq_equiv string_eq_equiv) };
 }
 
 impl Hash for Labels {
@@ -113,10 +134,18 @@ impl Hash for Labels {
     }
 }
 
-/// Adds a value to the sum of its key, as of its labels. Then the sum over all keys is larger by exactly this value, which has to fit.
-/// It costs one search. Fails only where the map needs memory, and then nothing changes.
+/// Adds a value to the sum of its key, such as its labels. Then the sum over all keys is larger by exactly this value, and has to
+/// fit. It costs one search. Fails only where the map needs memory, and then nothing changes.
+///
+/// ```
+/// add_to(&mut bytes, labels, 512)?;
+/// ```
 #[tactic(auto, using(halfbrown::proofs::ValueFacts::value_facts))]
-pub fn add_to<K: Eq + Hash + Drop>(sums: &mut HashMap<K, u64>, key: K, value: u64) -> Result<(), Refusal>
+pub fn add_to<K: Eq + Hash + Drop>(
+    sums: &mut HashMap<K, u64>,
+    key: K,
+    value: u64,
+) -> Result<(), Refusal>
     requires fits { sum (values_of sums.old.pairs) + value < 2 ^ 64 }
     ensures total { OnOk result (sum (values_of sums.new.pairs) ≡ sum (values_of sums.old.pairs) + value) }
     ensures key { OnOk result (sums.new.pairs

@@ -1,4 +1,4 @@
-use Rattle.std.proofs.Common.{◌≤◌, ◌-◌, length, sym, ap, ◌∙◌, arith}
+use Rattle.std.proofs.Common.{◌-◌, length, sym, ap, ◌∙◌, arith}
 use Rattle.half_uses.proofs.Recency.{newest_all, out, way_of_held}
 use Rattle.half_uses.proofs.bounded_cache.BoundedCache.make_way.Goals as goal
 

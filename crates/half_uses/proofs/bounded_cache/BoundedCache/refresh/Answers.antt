@@ -1,4 +1,5 @@
-use Rattle.std.proofs.Common.{[], ◌∷◌, length, length-append, sym, ap, ◌∙◌, arith}
+use Rattle.std.proofs.Common.{◌<◌, length, sym, ◌∙◌, arith}
+use Rattle.std.proofs.lemmas.Grind.{common_steps}
 use Rattle.half_uses.proofs.Recency.{out, put_back}
 use Rattle.half_uses.proofs.bounded_cache.BoundedCache.refresh.Goals as goal
 
@@ -17,8 +18,7 @@ pub invariant_of-self-clause-within : goal.invariant_of-self-clause-within
 invariant_of-self-clause-within g c =
     let out = out g.met.K.Eq.laws (g.Q.Equivalent.equivalent c.args.key) (g.met.Q.Equivalent.stands_for_equals c.args.key) _ _ _
     (sym c.shift_remove_entry.ensures.gives ∙ c.in-Some.is) c.shift_remove_entry.ensures.removed in
-    omega (arith, out.len, c.args.self.now.within, ap length c.insert_within.ensures.pairs
-    ∙ length-append c.shift_remove_entry.new.self.pairs ((c.in-Some.held, c.in-Some.value) ∷ []))
+    omega (arith, out.len, c.args.self.now.within, c.insert_within.ensures.len)
 
 pub returns-in-Some-clause-held : goal.returns-in-Some-clause-held
 returns-in-Some-clause-held g c =
@@ -34,5 +34,5 @@ pub invariant_of-self-clause-vector : goal.invariant_of-self-clause-vector
 invariant_of-self-clause-vector g c small =
     let out = out g.met.K.Eq.laws (g.Q.Equivalent.equivalent c.args.key) (g.met.Q.Equivalent.stands_for_equals c.args.key) _ _ _
     (sym c.shift_remove_entry.ensures.gives ∙ c.in-Some.is) c.shift_remove_entry.ensures.removed in
-    c.insert_within.ensures.form (omega (arith, out.len, c.args.self.now.within, small)) ∙ c.shift_remove_entry.ensures.after.form
-    ∙ c.args.self.now.vector small
+    let few : length c.shift_remove_entry.new.self.pairs < 32 = omega (arith, out.len, c.args.self.now.within, small) in
+    grind (arith, common_steps, c.insert_within.ensures.form few, c.shift_remove_entry.ensures.after.form, c.args.self.now.vector small)
