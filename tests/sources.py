@@ -14,61 +14,61 @@ import re
 import sys
 
 TOP = pathlib.Path(__file__).resolve().parent.parent / "crates"
-CRATES = "half_store halfbrown half_set json_value half_uses word_count halfmap".split()
-NONE = "0 0 0 0 0 0 0"
+CRATES = "half_store halfbrown half_set half_serde json_value half_uses word_count halfmap".split()
+NONE = "0 0 0 0 0 0 0 0"
 WORK = r"hash_one|hash_key|compare|word_at|search|first_(?:match\w*|empty)|find|find_\w+|vacancy_for|\w+_probe|same_text"
 
 RULES = (
     ("Nothing is forgotten.", NONE, r"\bforget\b|ManuallyDrop|\bleak|\binto_raw"),
-    ("A tally is made by the macro `uncounted` alone, is never copied, and each part of it goes up by one.", "24 0 0 0 0 0 0",
+    ("A tally is made by the macro `uncounted` alone, is never copied, and each part of it goes up by one.", "24 0 0 0 0 0 0 0",
      r"(?<!&mut )\bTally\b|\bTally::|\bCount\b|\bSelf::new\b|(?<!-> )\bSelf \{"
      r"|derive\([^)]*(?:Clone|Copy|Default)[^)]*\)\] pub struct (?:Tally|Count)\b"
      r"|add_(\w+)\(&mut self\) \{ let next = self\.\1\.plus_one\(\); self\.\1 = next; \}"),
-    ("Only types have a second name, in these places.", "0 23 5 0 3 0 1", r"\bas (?!u\d|usize|BuildHasher>)|\btype \w+"),
+    ("Only types have a second name, in these places.", "0 23 5 1 0 3 0 1", r"\bas (?!u\d|usize|BuildHasher>)|\btype \w+"),
     ("What is not counted: the buckets that growth and the switch fill, what a removal reads beside its search, `from_array`.",
-     "6 2 0 0 0 0 0", r"\buncounted\b"),
-    ("`uncounted!` lends its spare tally to one of these functions, which does that one thing.", "0 0 0 0 0 0 0",
+     "6 2 0 0 0 0 0 0", r"\buncounted\b"),
+    ("`uncounted!` lends its spare tally to one of these functions, which does that one thing.", "0 0 0 0 0 0 0 0",
      r"uncounted!\((?!(?:table\.(?:(?:shift_)?remove\(index|take\(self\.columns\.keys\(\), hash, matches, tally|add\(hash)"
      r"|first_empty\(&held, hashes\[index\]|LimitedHashMap::collect\(alloc, N, pairs\.into_iter\(\))\)\))"),
-    ("A counted form is a method, except for `from_iter_counted` and `run_counted`.", "0 2 0 0 0 0 0",
+    ("A counted form is a method, except for `from_iter_counted` and `run_counted`.", "0 2 0 0 0 0 0 0",
      r"fn \w+_counted\b(?:<(?:[^()]|\([^()]*\))*?>)?\((?! ?&?(?:mut )?self\b)"),
-    ("The map makes no plain call of its own: these are of entries, tables, std's traits, and of its users.", "7 21 6 9 31 0 3",
+    ("The map makes no plain call of its own: these are of entries, tables, std's traits, and of its users.", "7 21 6 2 9 31 0 3",
      r"(?<!fn )\b(?:PLAIN)(?:::<[^()]*>)?\(|::(?:PLAIN)\b(?!\()"),
-    ("Slices are indexed, and no map.", "19 0 0 0 0 0 4", r"[\w\])]\["),
-    ("What compares keys is handed on, and only `compare` calls it.", "28 10 0 0 0 0 0", r"\b(?:matches|is_match)\b"),
+    ("Slices are indexed, and no map.", "22 0 0 0 0 0 0 4", r"[\w\])]\["),
+    ("What compares keys is handed on, and only `compare` calls it.", "32 10 0 0 0 0 0 0", r"\b(?:matches|is_match)\b"),
     ("No hasher is built: a key is hashed by `hash_one`.", NONE, r"(?:\.|::)(?:hash(?:_slice)?\(|build_hasher\b)|::hash\b"),
-    ("Keys, values and numbers are found equal in these places, and nothing is sorted.", "11 12 4 6 3 0 9",
+    ("Keys, values and numbers are found equal in these places, and nothing is sorted.", "12 12 4 0 6 3 0 9",
      r"[!=]=|(?:\.|::)(?:eq|ne|\w*cmp|equivalent|contains|(?:start|end)s_with|strip_\w+|(?:sort|dedup|binary)\w*)\b"),
-    ("Sizes are compared, and ranges end, in these places.", "33 19 0 7 2 0 9",
+    ("Sizes are compared, and ranges end, in these places.", "34 19 0 5 7 2 0 9",
      r"(?<![-=]) [<>]=? ?(?=[\w(&*-])|[<>]=|\)[<>](?=[\w(]\w*[^\w(,>])|\b[a-z]\w*[<>](?!const)(?=[a-z\d])|\.\."
      r"|\b(?:min|max|clamp|[lg][te]|nth\w*|skip\w*|step_by|chunks\w*|windows|split_at\w*|(?:checked|saturating)_\w+)\b"),
-    ("Numbers beside 0 and 1, constants, products, shifts, casts and sizes of types stand in these places.", "51 19 0 2 3 4 12",
+    ("Numbers beside 0 and 1, constants, products, shifts, casts and sizes of types stand in these places.", "57 19 0 4 2 3 4 12",
      r"(?<![\w.])(?![01]\b)\d\w*|\b[A-Z][A-Z_]{2,}\b|\w+_of(?:_val\(|::)|[\w)](?: [*/%^&+] (?=[a-z(])| ?<< ?|[*/%^](?=\w))"
      r"| >> |>>\d|[*/%&|^]= |\bas [a-z]\w*|\w*(?:pow|ilog|isqrt|_mul|_sh[lr]|_zeros|_ones)\w*|\btry_(?:from|into)\b"),
-    ("Work is repeated, handed to a closure or broken off in these places.", "41 18 5 18 11 0 13",
+    ("Work is repeated, handed to a closure or broken off in these places.", "42 18 5 7 18 11 0 13",
      r"\b(?:while|loop|break|continue|return)\b|\bfor [^{}]*? in |(?:[=(,] ?|move )\|"
      r"|\.(?:all|any|map\w*|and_then|for_each|\w*fold|rev|\w*position|filter\w*|zip|chain|sum|chars|bytes|split\w*)(?:\(|::<)"),
-    ("Operators, drops and macros are written in these places; no comment is in a line, nothing is shared.", "1 6 0 0 0 0 0",
-     r"\bfn drop\b|macro_rules|\b(?!(?:prove|write|writeln|uncounted|unreachable|eprintln)!)\w+! ?[(\[{]|/\*"
+    ("Operators, drops and macros are written in these places; no comment is in a line, nothing is shared.", "2 6 0 0 0 0 0 0",
+     r"\bfn drop\b|macro_rules|\b(?!(?:prove|write|writeln|uncounted|of_either_size|unreachable|eprintln)!)\w+! ?[(\[{]|/\*"
      r"|\b(?:Add|Sub|Mul|Div|Rem|Neg|Not|Bit\w+|Sh[lr]|\w+Assign|Deref\w*|Index\w*|Fn\w*|AsRef|Borrow)\b(?:<[^{}]*>)? for\b"
      r"|(?<!')\bstatic\b|\bunsafe\b|\b(?:Ref)?Cell\b|\bAtomic"),
-    ("Counted work is done in these places.", "36 65 0 0 8 0 0", rf"\b(?:{WORK}|read|\w+_counted)\("),
-    ("What does work is called by its name alone: nothing stands between that and its bracket.", "10 6 0 0 0 0 0",
+    ("Counted work is done in these places.", "37 65 0 0 0 8 0 0", rf"\b(?:{WORK}|read|\w+_counted)\("),
+    ("What does work is called by its name alone: nothing stands between that and its bracket.", "10 6 0 0 0 0 0 0",
      rf"(?<!mod )\b(?:{WORK})\b(?!\()|[.:]read\b(?!\()|[=(,:] ?(?=\w+_)(?:HELPER)\b(?!\()|[\w>]::[a-z]\w*(?![\w:(!])"),
-    ("What no user can call, and what goes through a text or a map, is called in these places.", "118 80 7 22 12 5 25",
+    ("What no user can call, and what goes through a text or a map, is called in these places.", "113 79 7 2 22 12 5 25",
      r"(?<!fn )\b(?:HELPER|count_words|report|pointer|parse|from_utf8|flush|into|move_to|retain)(?:::<[^()]*>)?\("),
-    ("The words of buckets are read by `word_at` alone.", "44 0 0 0 0 0 0", r"(?<!mod )\bwords\b"),
-    ("An allocator is named `alloc`.", "1 1 0 0 0 0 0", r"(?<!\balloc: )\bGlobal\b"),
-    ("Memory is taken, and values are cloned, in these places.", "100 64 5 24 35 8 18",
+    ("The words of buckets are read by `word_at` alone.", "42 0 0 0 0 0 0 0", r"(?<!mod )\bwords\b"),
+    ("An allocator is named `alloc`.", "1 1 0 1 0 0 0 0", r"(?<!\balloc: )\bGlobal\b"),
+    ("Memory is taken, and values are cloned, in these places.", "99 66 5 12 24 35 8 18",
      r"\balloc(?:ator)?\b|\b(?:clone_all|grow\w*)\(|\bBox::\w|\bwrite(?:ln)?!|[.:](?:push\w*|reserve\w*|extend\w*|append"
      r"|resize\w*|clone\w*|cop(?:y|ied)|collect|with_cap\w*|shrink_to\w*|from_[as]\w+|to_[osv]\w+|new_table)\b"),
-    ("A refusal is made, handed on or looked at in these places.", "34 39 0 30 6 10 22",
+    ("A refusal is made, handed on or looked at in these places.", "34 37 0 4 30 6 10 22",
      r"\bErr\b|\b(?:Refusal|Error|Declined|Failure)::\w|\b(?:AllocError|Stopped|NoRoom)\b(?!>)|\b(?:check_size|ok_or)\w*\("),
-    ("Where no clause says when a call fails, these words do: memory was refused, counts differ, u64 ends.", "1 3 0 0 0 0 2",
+    ("Where no clause says when a call fails, these words do: memory was refused, counts differ, u64 ends.", "1 3 0 2 0 0 0 2",
      r"if words\.capacity\(\) == words\.len\(\) \{ Ok\(WordVec \{ words \}\) \} else \{ Err\(AllocError\)"
      r"|let Ok\((?:mut )?\w+\) = Vec::\w+\(alloc, [\w.()]+\) else \{ return Err\("
      r"|match LimitedHashMap::extend\(self, items\) \{ Ok\(\(\)\) => Ok\(\(\)\), Err\(_\) =>|0\.\.u64::MAX"),
-    ("A raw call that lends the key is a call that returns the entry, and one loan.", "0 5 0 0 0 0 0",
+    ("A raw call that lends the key is a call that returns the entry, and one loan.", "0 5 0 0 0 0 0 0",
      r"mut V\) (?:where[^{}]*)?\{ self ?\.(?:or_)?insert_\w+\([\w, ]*\) ?(?:\.into_key_value\(\) )?\}"),
 )
 
@@ -83,9 +83,11 @@ half_store/src/buckets read..{ match self.buckets.word_at(bucket, tally) { \
 half_store/src/tally uncounted { ($of:ident.$call:ident($($given:expr),*)) => { \
 $of.$call($($given,)* &mut $crate::Tally::new()) }; ($($call:ident)::+($($given:expr),*)) => { \
 $($call)::+($($given,)* &mut $crate::Tally::new()) }; }
+half_store/src/words of_either_size { ($array:expr, $words:ident => $call:expr) => { match $array { \
+$crate::words::WordArray::FourBytes($words) => $call, $crate::words::WordArray::EightBytes($words) => $call, } }; }
 halfbrown/src/key_hasher hash_key..{ counting::hash_one(self, key, tally) }
 halfbrown/src/equivalent same_text..{ left == right }
-halfbrown/src/map/growth shrink_to_fit..{ let _ = self.store.shrink_to_fit(L::LIMIT); }
+halfbrown/src/map/capacity shrink_to_fit..{ let _ = self.store.shrink_to_fit(L::LIMIT); }
 halfbrown/src/entry/occupied into_key(..{ self.into_key_value().0 }
 halfbrown/src/entry/occupied into_key_value..{ let map = self.map; map.pair_at_mut(self.index) }
 halfbrown/src/entry drop..{ let VacantEntry { map: _, key, vacancy: _, } = self; drop(key); }
