@@ -26,11 +26,11 @@ pub fn serialize<K: Serialize + Eq + Hash, V: Serialize, H: BuildHasher, L: Limi
     out.end_map()
 }
 
-/// Reads a map, with the default of the builder's type. Each entry of the text is inserted, in order. Refused memory is the
-/// format's own error for that.
+/// Reads a map, with the default of the builder's type. Each entry of the text is inserted, in order. Where memory is
+/// refused, it fails with what the format has for that.
 ///
-/// The clause says that each entry that begins gives a pair. Which pair that is, is for the impls of the key and the value
-/// to say, and no clause of `serde` speaks of it.
+/// The clause says that each entry that begins gives a pair. Which pair that is, no clause says: it is what the impls of
+/// the key and of the value read.
 #[tactic(auto, using(crate::proofs::Reading::reads_none))]
 pub fn deserialize<
     'de,
