@@ -23,7 +23,7 @@ use Rattle.halfbrown.specs.Refusal.{refusal_of}
 use Rattle.halfbrown.specs.State.{State}
 use Rattle.halfbrown.specs.declared.Refusal.{Refusal}
 use Rattle.halfbrown.specs.Pairs.{value_of}
-use Rattle.halfbrown.proofs.CallerFacts.{holds_by-any, keys_taken}
+use Rattle.halfbrown.proofs.callers.Keys.{holds_by-any, keys_taken}
 use Rattle.halfbrown.specs.Updates.{HasRemovedBy}
 use Rattle.half_set.specs.Sets.{same_values, with_nothing}
 

@@ -1,5 +1,5 @@
 //! The set, over a map whose values are nothing.
-#![tactic(auto, using(halfbrown::proofs::CallerFacts::map_facts, crate::proofs::Sets::set_facts))]
+#![tactic(auto, using(halfbrown::proofs::callers::Keys::map_facts, crate::proofs::Sets::set_facts))]
 
 ghost use Rattle.std.specs.Prelude.{◌≡◌, ◌↔◌, ◌+◌, ◌^◌, ◌<◌, List, [], ◌∷◌, ◌++◌, true, not, filter, length, All};
 ghost use Rattle.std.specs.Prelude.{IsTrue, IfOk, IfErr, OnOk, OnErr};

@@ -59,7 +59,7 @@ impl<A: Eq + Hash> Bank<A> {
     }
 
     /// Opens an account, which must be new. Fails only where no capacity is left, and then nothing changes.
-    #[tactic(auto, using(halfbrown::proofs::ValueFacts::value_facts))]
+    #[tactic(auto, using(halfbrown::proofs::callers::Values::value_facts))]
     pub fn open(&mut self, account: A, balance: u64) -> Result<(), Refused<A, u64>>
         requires new { holds A.eq self.old.balances.pairs account ≡ false }
         requires fits { sum (values_of self.old.balances.pairs) + balance < 2 ^ 64 }
@@ -74,7 +74,7 @@ impl<A: Eq + Hash> Bank<A> {
     }
 
     /// Closes an account, and returns its balance, or none where there is no such account.
-    #[tactic(auto, using(halfbrown::proofs::ValueFacts::value_facts))]
+    #[tactic(auto, using(halfbrown::proofs::callers::Values::value_facts))]
     pub fn close(&mut self, account: &A) -> Option<u64>
     where
         A: Drop,
@@ -88,7 +88,7 @@ impl<A: Eq + Hash> Bank<A> {
 
     /// Moves an amount from one account to another. The sum of all balances stays. An account that is unknown, or has less than
     /// the amount, declines it, and then nothing changes.
-    #[tactic(auto, using(halfbrown::proofs::ValueFacts::value_facts))]
+    #[tactic(auto, using(halfbrown::proofs::callers::Values::value_facts))]
     pub fn transfer(&mut self, from: &A, to: &A, amount: u64) -> Result<(), Declined>
         ensures total { sum (values_of self.new.balances.pairs) ≡ sum (values_of self.old.balances.pairs) }
         ensures known { OnOk result (are_known A.eq self.old.balances.pairs from.now to.now ≡ true) }

@@ -140,7 +140,7 @@ impl Hash for Labels {
 /// ```
 /// add_to(&mut bytes, labels, 512)?;
 /// ```
-#[tactic(auto, using(halfbrown::proofs::ValueFacts::value_facts))]
+#[tactic(auto, using(halfbrown::proofs::callers::Values::value_facts))]
 pub fn add_to<K: Eq + Hash + Drop>(
     sums: &mut HashMap<K, u64>,
     key: K,

@@ -1,6 +1,2 @@
-pub mod CallerFacts
-pub mod CallerLemmas
-pub mod CostFacts
-pub mod TextFacts
-pub mod ValueFacts
+pub mod callers
 pub mod lemmas

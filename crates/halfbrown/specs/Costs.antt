@@ -1,8 +1,7 @@
 -- What the calls cost: how often a key is hashed, how many keys are compared, and how many buckets are read.
 use Rattle.std.specs.Prelude.{◌≡◌, ℕ, ◌+◌, ◌-◌, ◌≤◌, Bool, true, false, not, ◌&&◌, List, [], ◌∷◌, length, map, count_by, Option, IfSome, is_some, ◌==◌, nat_lt, if◌then◌else◌}
 use Rattle.std.specs.Map.{keys_of}
-use Rattle.std.specs.declared.hash.Hash as hash
-use Rattle.halfbrown.specs.declared.equivalent.Equivalent as Equivalent
+use Rattle.std.specs.Hash.{HashWrites}
 use Rattle.halfbrown.specs.declared.key_hasher.KeyHasher as hashers
 use Rattle.half_store.specs.PairLists.{index_of}
 use Rattle.half_store.specs.Reach.{reach, filling_reach, HomesApart}
@@ -126,17 +125,18 @@ pub record IsSearchCost {K V S : Type 0} (hash : S → K → ℕ) (wanted : ℕ)
   pub hits : m.is_vec ≡ false → all_hit_reads m ≡ filling_reads (hash m.builder) m.capacity m.pairs
   pub short : probe_length (hash m.builder) m.is_vec m.capacity m.pairs wanted ≤ length m.pairs + 1
 
--- what one search in the map for a key, or by a form of one, cost, by the tally before it and after
-module _ {Q K V S H : Type 0} (hashes : hashers.Ghosts S K H) (writes : hash.Ghosts Q) (forms : Equivalent.Ghosts Q K) (key : Q) (m : State K V S) where
+-- what one search in the map for a key, or by a form of one, cost, by the tally before it and after: `writes` is what a form feeds a hasher, and
+-- `test` which keys it stands for
+module _ {Q K V S H : Type 0} (hashes : hashers.Ghosts S K H) (writes : Q → HashWrites) (test : Q → K → Bool) (key : Q) (m : State K V S) where
   -- where the search hashed it, as it does in a table
   abbrev pub IsLookupCost : Work → Work → Type 0
-  IsLookupCost before after = IsSearchCost hashes.hash (hashes.hash_writes m.builder (writes.hash_input key)) m
-      (index_of (forms.equivalent key) (keys_of m.pairs)) (search_asked m.is_vec) before after
+  IsLookupCost before after = IsSearchCost hashes.hash (hashes.hash_writes m.builder (writes key)) m
+      (index_of (test key) (keys_of m.pairs)) (search_asked m.is_vec) before after
 
   -- where its hash was handed in: the builder is not asked
   abbrev pub IsHashedLookupCost : Work → Work → Type 0
-  IsHashedLookupCost before after = IsSearchCost hashes.hash (hashes.hash_writes m.builder (writes.hash_input key)) m
-      (index_of (forms.equivalent key) (keys_of m.pairs)) 0 before after
+  IsHashedLookupCost before after = IsSearchCost hashes.hash (hashes.hash_writes m.builder (writes key)) m
+      (index_of (test key) (keys_of m.pairs)) 0 before after
 
 -- the buckets that an insertion probe of a new key k reads, where the capacity is enough for it
 abbrev pub insertion_reads : {K V S : Type 0} → (S → K → ℕ) → State K V S → K → ℕ

@@ -5,7 +5,7 @@ ghost use Rattle.halfbrown.specs.Pairs.{holds};
 ghost use Rattle.halfbrown.specs.State.{contents_of};
 
 mod debug;
-mod find;
+mod make;
 mod methods;
 mod occupied;
 mod replace;

@@ -9,7 +9,7 @@ use Rattle.std.specs.Str.{bytes_eq}
 use Rattle.std.specs.String.{string_bytes, string_eq}
 use Rattle.std.specs.declared.alloc.Global.{Global}
 use Rattle.std.specs.declared.string.String.{String}
-use Rattle.halfbrown.proofs.TextFacts.{keyed_by-put}
+use Rattle.halfbrown.proofs.callers.Texts.{keyed_by-put}
 use Rattle.halfbrown.specs.FromIter.{put_all}
 use Rattle.halfbrown.specs.CallerLoops.{keyed_by}
 use Rattle.halfbrown.specs.Pairs.{put, set_by, holds}

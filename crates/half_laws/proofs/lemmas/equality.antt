@@ -14,7 +14,7 @@ use Rattle.halfbrown.specs.Equality.{same_pairs, holds_pair, keys_while_same, se
 use Rattle.half_laws.specs.ComparisonLaws.{OrderLaw, PairsLaw, ComparisonLaw}
 use Rattle.halfbrown.proofs.lemmas.map.Equality.{same_pairs-by_pairs, all_searched, none_searched}
 use Rattle.halfbrown.specs.Pairs.{value_of}
-use Rattle.halfbrown.proofs.CallerLemmas.{lookup_permuted}
+use Rattle.halfbrown.proofs.callers.Pairs.{lookup_permuted}
 use Rattle.std.proofs.Math.Nat.{mul-le-mul_left}
 use Rattle.half_store.specs.PairLists.{index_of}
 use Rattle.half_store.specs.Work.{Work}

@@ -31,7 +31,7 @@ pub fn remove_by_index<K: Eq + Hash + Drop, V: Drop, S: BuildHasher, L: Limit>(
 }
 
 /// Sets the value of the pair at an index, where there is one, and else changes nothing.
-#[tactic(auto, using(halfbrown::proofs::ValueFacts::index_facts))]
+#[tactic(auto, using(halfbrown::proofs::callers::Values::index_facts))]
 pub fn set_at<K: Eq + Hash, S: BuildHasher, L: Limit>(
     map: &mut LimitedHashMap<K, u64, S, L>,
     index: usize,

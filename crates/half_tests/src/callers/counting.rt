@@ -51,7 +51,7 @@ pub fn count_texts(alloc: Global, words: &[&str]) -> Result<HashMap<String, u64>
 }
 
 /// Stores a pair. Its key is among the keys then, at the end where none equal to it was held.
-#[tactic(auto, using(halfbrown::proofs::CallerFacts::map_facts))]
+#[tactic(auto, using(halfbrown::proofs::callers::Keys::map_facts))]
 pub fn store<K: Eq + Hash + Drop, V: Drop>(
     map: &mut HashMap<K, V>,
     key: K,

@@ -19,7 +19,7 @@ pub fn store_named(ages: &mut HashMap<String, u32>, name: String, age: u32) -> R
 }
 
 /// Stores an age under a copy of a name that is lent. Every other text has the age that it had.
-#[tactic(auto, using(halfbrown::proofs::TextFacts::text_facts))]
+#[tactic(auto, using(halfbrown::proofs::callers::Texts::text_facts))]
 pub fn store_copied(
     alloc: Global,
     ages: &mut HashMap<String, u32>,
@@ -36,7 +36,7 @@ pub fn store_copied(
 }
 
 /// Writes an age to a name that is held, and returns whether it is. Every other text has the age that it had.
-#[tactic(auto, using(halfbrown::proofs::TextFacts::text_facts))]
+#[tactic(auto, using(halfbrown::proofs::callers::Texts::text_facts))]
 pub fn correct_named(ages: &mut HashMap<String, u32>, name: &str, age: u32) -> bool
     ensures written { result ≡ true
         → value_of bytes_eq (keyed_by string_bytes ages.new.pairs) name.now ≡ Some age }

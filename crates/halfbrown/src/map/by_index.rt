@@ -148,7 +148,7 @@ impl<K: Eq + Hash, V, S: KeyHasher<K>, L: Limit> LimitedHashMap<K, V, S, L> {
     pub fn get_index_of_counted<Q: Equivalent<K>>(&self, key: Q, tally: &mut Tally) -> Option<usize>
         ensures index { result ≡ index_of (Q.equivalent key) (keys_of self.now.pairs) }
         ensures found { FindsIndex (Q.equivalent key) self.now.pairs result }
-        ensures cost { IsLookupCost S.KeyHasher Q.Hash Q.Equivalent key self.now
+        ensures cost { IsLookupCost S.KeyHasher Q.hash_input Q.equivalent key self.now
             tally.old tally.new }
         ensures valid { IsValid K.eq L.LIMIT self.now }
     {

@@ -20,7 +20,7 @@ impl<K: Eq + Hash, V, S: KeyHasher<K>, L: Limit> LimitedHashMap<K, V, S, L> {
     pub(crate) fn find<Q: Equivalent<K>>(&self, key: Q, tally: &mut Tally) -> Result<usize, Vacancy>
         ensures found { KeySearch (Q.equivalent key)
             (S.hash_writes self.now.builder (Q.hash_input key)) self.now result }
-        ensures cost { IsLookupCost S.KeyHasher Q.Hash Q.Equivalent key self.now
+        ensures cost { IsLookupCost S.KeyHasher Q.hash_input Q.equivalent key self.now
             tally.old tally.new }
         ensures valid { IsValid K.eq L.LIMIT self.now }
     {
@@ -40,7 +40,7 @@ impl<K: Eq + Hash, V, S: KeyHasher<K>, L: Limit> LimitedHashMap<K, V, S, L> {
             → hash ≡ S.hash_writes self.now.builder (Q.hash_input key) }
         ensures found { KeySearch (Q.equivalent key)
             (S.hash_writes self.now.builder (Q.hash_input key)) self.now result }
-        ensures cost { IsHashedLookupCost S.KeyHasher Q.Hash Q.Equivalent key self.now
+        ensures cost { IsHashedLookupCost S.KeyHasher Q.hash_input Q.equivalent key self.now
             tally.old tally.new }
         ensures valid { IsValid K.eq L.LIMIT self.now }
     {

@@ -39,7 +39,7 @@ impl<K: Eq + Hash, V, S: KeyHasher<K>, L: Limit> LimitedHashMap<K, V, S, L> {
     #[inline(always)]
     pub fn get_counted<Q: Equivalent<K>>(&self, key: Q, tally: &mut Tally) -> Option<&V>
         ensures value { option_copied result ≡ lookup (Q.equivalent key) self.now.pairs }
-        ensures cost { IsLookupCost S.KeyHasher Q.Hash Q.Equivalent key self.now
+        ensures cost { IsLookupCost S.KeyHasher Q.hash_input Q.equivalent key self.now
             tally.old tally.new }
         ensures valid { IsValid K.eq L.LIMIT self.now }
     {
@@ -70,7 +70,7 @@ impl<K: Eq + Hash, V, S: KeyHasher<K>, L: Limit> LimitedHashMap<K, V, S, L> {
     ) -> Option<(&K, &V)>
         ensures pair { option_map deref_pair result
             ≡ lookup_entry (Q.equivalent key) self.now.pairs }
-        ensures cost { IsLookupCost S.KeyHasher Q.Hash Q.Equivalent key self.now
+        ensures cost { IsLookupCost S.KeyHasher Q.hash_input Q.equivalent key self.now
             tally.old tally.new }
         ensures valid { IsValid K.eq L.LIMIT self.now }
     {
@@ -107,7 +107,7 @@ impl<K: Eq + Hash, V, S: KeyHasher<K>, L: Limit> LimitedHashMap<K, V, S, L> {
         ensures value { option_copied_mut result ≡ lookup (Q.equivalent key) self.old.pairs }
         ensures written { OnSome result ((written : V) → HasSetBy K.eq (Q.equivalent key)
             self.old.pairs written (set_by (Q.equivalent key) self.old.pairs written)) }
-        ensures cost { IsLookupCost S.KeyHasher Q.Hash Q.Equivalent key self.old
+        ensures cost { IsLookupCost S.KeyHasher Q.hash_input Q.equivalent key self.old
             tally.old tally.new }
         ensures valid { IsValid K.eq L.LIMIT self.old }
     {
@@ -134,7 +134,7 @@ impl<K: Eq + Hash, V, S: KeyHasher<K>, L: Limit> LimitedHashMap<K, V, S, L> {
     #[inline(always)]
     pub fn contains_key_counted<Q: Equivalent<K>>(&self, key: Q, tally: &mut Tally) -> bool
         ensures held { result ≡ holds_by (Q.equivalent key) self.now.pairs }
-        ensures cost { IsLookupCost S.KeyHasher Q.Hash Q.Equivalent key self.now
+        ensures cost { IsLookupCost S.KeyHasher Q.hash_input Q.equivalent key self.now
             tally.old tally.new }
         ensures valid { IsValid K.eq L.LIMIT self.now }
     {
@@ -146,7 +146,7 @@ impl<K: Eq + Hash, V, S: KeyHasher<K>, L: Limit> LimitedHashMap<K, V, S, L> {
     pub fn index_counted<Q: Equivalent<K>>(&self, key: Q, tally: &mut Tally) -> &V
         requires { IsTrue (holds_by (Q.equivalent key) self.now.pairs) }
         ensures value { lookup (Q.equivalent key) self.now.pairs ≡ Some result.now }
-        ensures cost { IsLookupCost S.KeyHasher Q.Hash Q.Equivalent key self.now
+        ensures cost { IsLookupCost S.KeyHasher Q.hash_input Q.equivalent key self.now
             tally.old tally.new }
     {
         match self.get_counted(key, tally) {

@@ -35,7 +35,7 @@ impl<K: Eq + Hash, V, S: KeyHasher<K>, L: Limit> LimitedHashMap<K, V, S, L> {
         K: Drop,
         ensures removes { Removes L.LIMIT K.eq (Q.equivalent key) self.old
             (lookup (Q.equivalent key) self.old.pairs) result self.new }
-        ensures cost { IsLookupCost S.KeyHasher Q.Hash Q.Equivalent key self.old
+        ensures cost { IsLookupCost S.KeyHasher Q.hash_input Q.equivalent key self.old
             tally.old tally.new }
     {
         let (_, value) = self.remove_entry_counted(key, tally)?;
@@ -65,7 +65,7 @@ impl<K: Eq + Hash, V, S: KeyHasher<K>, L: Limit> LimitedHashMap<K, V, S, L> {
     ) -> Option<(K, V)>
         ensures removes { Removes L.LIMIT K.eq (Q.equivalent key) self.old
             (lookup_entry (Q.equivalent key) self.old.pairs) result self.new }
-        ensures cost { IsLookupCost S.KeyHasher Q.Hash Q.Equivalent key self.old
+        ensures cost { IsLookupCost S.KeyHasher Q.hash_input Q.equivalent key self.old
             tally.old tally.new }
     {
         let hash = self.hash_in_table(&key, tally);
@@ -107,7 +107,7 @@ impl<K: Eq + Hash, V, S: KeyHasher<K>, L: Limit> LimitedHashMap<K, V, S, L> {
             (lookup_entry (Q.equivalent key) self.old.pairs) result self.new }
         ensures value { option_map (λ pair. pair.1) result
             ≡ lookup (Q.equivalent key) self.old.pairs }
-        ensures cost { IsHashedLookupCost S.KeyHasher Q.Hash Q.Equivalent key self.old
+        ensures cost { IsHashedLookupCost S.KeyHasher Q.hash_input Q.equivalent key self.old
             tally.old tally.new }
     {
         self.remove_hashed(hash, key, tally)
@@ -127,7 +127,7 @@ impl<K: Eq + Hash, V, S: KeyHasher<K>, L: Limit> LimitedHashMap<K, V, S, L> {
             (lookup_entry (Q.equivalent key) self.old.pairs) result self.new }
         ensures value { option_map (λ pair. pair.1) result
             ≡ lookup (Q.equivalent key) self.old.pairs }
-        ensures cost { IsHashedLookupCost S.KeyHasher Q.Hash Q.Equivalent key self.old
+        ensures cost { IsHashedLookupCost S.KeyHasher Q.hash_input Q.equivalent key self.old
             tally.old tally.new }
     {
         let matches = move |held: &K| -> bool
@@ -163,7 +163,7 @@ impl<K: Eq + Hash, V, S: KeyHasher<K>, L: Limit> LimitedHashMap<K, V, S, L> {
         K: Drop,
         ensures removes { ShiftRemoves L.LIMIT K.eq (Q.equivalent key) self.old
             (lookup (Q.equivalent key) self.old.pairs) result self.new }
-        ensures cost { IsLookupCost S.KeyHasher Q.Hash Q.Equivalent key self.old
+        ensures cost { IsLookupCost S.KeyHasher Q.hash_input Q.equivalent key self.old
             tally.old tally.new }
     {
         let (_, value) = self.shift_remove_entry_counted(key, tally)?;
@@ -193,7 +193,7 @@ impl<K: Eq + Hash, V, S: KeyHasher<K>, L: Limit> LimitedHashMap<K, V, S, L> {
     ) -> Option<(K, V)>
         ensures removes { ShiftRemoves L.LIMIT K.eq (Q.equivalent key) self.old
             (lookup_entry (Q.equivalent key) self.old.pairs) result self.new }
-        ensures cost { IsLookupCost S.KeyHasher Q.Hash Q.Equivalent key self.old
+        ensures cost { IsLookupCost S.KeyHasher Q.hash_input Q.equivalent key self.old
             tally.old tally.new }
     {
         let index = self.get_index_of_counted(key, tally)?;

@@ -92,7 +92,7 @@ impl<'a, K: Eq + Hash, V, S: KeyHasher<K>, L: Limit> RawEntryBuilder<'a, K, V, S
         tally: &mut Tally,
     ) -> Option<(&'a K, &'a V)>
         ensures reads { ReadsPair (Q.equivalent key) (map_in self.entry) result }
-        ensures cost { IsLookupCost S.KeyHasher Q.Hash Q.Equivalent key (map_in self.entry)
+        ensures cost { IsLookupCost S.KeyHasher Q.hash_input Q.equivalent key (map_in self.entry)
             tally.old tally.new }
     {
         match self.map.find(key, tally) {
@@ -129,7 +129,7 @@ impl<'a, K: Eq + Hash, V, S: KeyHasher<K>, L: Limit> RawEntryBuilder<'a, K, V, S
     ) -> Option<(&'a K, &'a V)>
         requires { hash ≡ S.hash_writes (map_in self).builder (Q.hash_input key) }
         ensures reads { ReadsPair (Q.equivalent key) (map_in self.entry) result }
-        ensures cost { IsHashedLookupCost S.KeyHasher Q.Hash Q.Equivalent key (map_in self.entry)
+        ensures cost { IsHashedLookupCost S.KeyHasher Q.hash_input Q.equivalent key (map_in self.entry)
             tally.old tally.new }
     {
         match self.map.find_hashed(hash, key, tally) {
@@ -204,7 +204,7 @@ impl<'a, K: Eq + Hash, V, S: KeyHasher<K>, L: Limit> RawEntryBuilderMut<'a, K, V
     ) -> RawEntryMut<'a, K, V, S, L>
         ensures searches { FindsEntry L.LIMIT K.eq (Q.equivalent key)
             (prepared_ref self.entry) (raw_view result) }
-        ensures cost { IsLookupCost S.KeyHasher Q.Hash Q.Equivalent key (prepared_map self.entry)
+        ensures cost { IsLookupCost S.KeyHasher Q.hash_input Q.equivalent key (prepared_map self.entry)
             tally.old tally.new }
     {
         let RawEntryBuilderMut::Ready(ready) = self;
@@ -248,7 +248,7 @@ impl<'a, K: Eq + Hash, V, S: KeyHasher<K>, L: Limit> RawEntryBuilderMut<'a, K, V
         requires { hash ≡ S.hash_writes (prepared_map self).builder (Q.hash_input key) }
         ensures searches { FindsEntry L.LIMIT K.eq (Q.equivalent key)
             (prepared_ref self.entry) (raw_view result) }
-        ensures cost { IsHashedLookupCost S.KeyHasher Q.Hash Q.Equivalent key (prepared_map self.entry)
+        ensures cost { IsHashedLookupCost S.KeyHasher Q.hash_input Q.equivalent key (prepared_map self.entry)
             tally.old tally.new }
     {
         let RawEntryBuilderMut::Ready(ready) = self;

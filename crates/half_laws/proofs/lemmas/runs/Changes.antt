@@ -13,7 +13,7 @@ use Rattle.halfbrown.specs.Insertion.{Puts}
 use Rattle.halfbrown.specs.Pairs.{holds}
 use Rattle.halfbrown.specs.State.{State}
 use Rattle.halfbrown.specs.Run.{Step, Executes, IsValidStep, Leaves, is_shrink}
-use Rattle.halfbrown.proofs.CallerLemmas.{len_taken}
+use Rattle.halfbrown.proofs.callers.Pairs.{len_taken}
 use Rattle.half_laws.specs.RunLaws.{is_reserve}
 
 not_less : (a b : ℕ) → nat_lt a b ≡ false → b ≤ a

@@ -10,7 +10,7 @@ use Rattle.halfbrown.specs.Growth.{is_full, HasCapacityAfter}
 use Rattle.halfbrown.specs.Pairs.{put}
 use Rattle.halfbrown.specs.Run.{StepsLead, has_shrink, commands_of, Step, IsValidStep, is_shrink}
 use Rattle.halfbrown.specs.State.{State, IsValid, IsTableCapacity}
-use Rattle.halfbrown.proofs.CallerLemmas.{len_put}
+use Rattle.halfbrown.proofs.callers.Pairs.{len_put}
 use Rattle.halfbrown.proofs.lemmas.map.Growth.{full_len, form_stays, and_false}
 use Rattle.halfbrown.proofs.lemmas.run.Runs.{neither}
 use Rattle.half_laws.specs.RunLaws.{MovesLaw, is_reserve, has_reserve, moved}

@@ -1,7 +1,7 @@
 use Rattle.std.proofs.Common.{length, unwrap_or, ◌+◌, ◌<◌, ◌^◌, ap, ◌∙◌, arith, rules}
 use Rattle.std.proofs.lemmas.Grind.{common_steps}
 use Rattle.std.specs.Str.Iter.{split_whitespace_rest}
-use Rattle.halfbrown.proofs.CallerFacts.{count_fits, counted_more}
+use Rattle.halfbrown.proofs.callers.Keys.{count_fits, counted_more}
 use Rattle.halfbrown.specs.Pairs.{value_of}
 use Rattle.half_uses.proofs.TextWords.{same_word_laws, nonempty_before_word, words_between}
 use Rattle.half_uses.proofs.words.count_words.Goals as goal

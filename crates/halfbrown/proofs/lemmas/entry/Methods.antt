@@ -22,7 +22,7 @@ use Rattle.halfbrown.specs.Insertion.{Prepares, pushed}
 use Rattle.halfbrown.specs.Pairs.{take_out_by}
 use Rattle.halfbrown.specs.State.{State, map_with_pairs, WithPairs}
 use Rattle.halfbrown.specs.Updates.{HasRemovedBy}
-use Rattle.halfbrown.proofs.CallerLemmas.{has_put, has_removed_by}
+use Rattle.halfbrown.proofs.callers.Pairs.{has_put, has_removed_by}
 use Rattle.half_store.proofs.lemmas.store.States.{length-set_key_at, kept_value, lost_pair}
 use Rattle.halfbrown.proofs.lemmas.map.Layout.{keys_of-set_value_at}
 use Rattle.halfbrown.proofs.lemmas.pairs.Indices.{first_of_index, some_is_not_none}

@@ -9,8 +9,8 @@ use Rattle.std.specs.Option.{option_or}
 use Rattle.halfbrown.specs.FromIter.{put_all, collected, last_value_of, InsertsAll, Extends, Collects, RefusedInsert}
 use Rattle.halfbrown.specs.FromIter.{RefusedCollect, insertions_cost, refused_cost}
 use Rattle.halfbrown.specs.Pairs.{value_of, put}
-use Rattle.halfbrown.proofs.CallerFacts.{holds_by-any}
-use Rattle.halfbrown.proofs.CallerLemmas.{keys_put, lookup_put}
+use Rattle.halfbrown.proofs.callers.Keys.{holds_by-any}
+use Rattle.halfbrown.proofs.callers.Pairs.{keys_put, lookup_put}
 use Rattle.halfbrown.specs.CallerLoops.{add_keys}
 use Rattle.std.specs.Iterator.{Yields}
 use Rattle.std.specs.Vec.Iter.{into_iter_items, into_iter_steps}

@@ -7,20 +7,15 @@ use Rattle.halfbrown.specs.Growth.{insert_needs, new_key_needs}
 use Rattle.halfbrown.specs.Insertion.{Inserts, InsertsAt, InsertsNewKey, Prepares}
 use Rattle.halfbrown.specs.Pairs.{index_of, put, value_of}
 use Rattle.halfbrown.specs.State.{State, IsValid, WithPairs}
-use Rattle.halfbrown.proofs.CallerLemmas.{has_put}
+use Rattle.halfbrown.proofs.callers.Pairs.{has_put}
 
 module _ {K V S : Type 0} (limit : ℕ) (eq : K → K → Bool) (laws : IsEquivalence eq) (old middle new : State K V S) (k : K) (v : V)
     (ps : List (K × V)) (written : WithPairs middle ps new) (put_is : put eq middle.pairs k v ≡ ps) where
-  -- a granted insertion, by the value that the key had in the map that was prepared
-  pub inserted : Prepares limit old (insert_needs limit eq old k) middle → (before : Option V) → before ≡ value_of eq middle.pairs k
-      → IsValid eq limit new → Inserts limit eq old k v (Ok before) new
-  inserted prepared before was now = grind (arith, common_steps, has_put eq laws old.pairs k v)
-
-  -- the same, and the index of its pair
+  -- a granted insertion, by the index of the pair and the value that the key had in the map that was prepared
   pub inserted_at : Prepares limit old (insert_needs limit eq old k) middle → (index : ℕ) (before : Option V)
       → before ≡ value_of eq middle.pairs k → index_of (eq k) (keys_of ps) ≡ Some index
       → IsValid eq limit new → InsertsAt limit eq old k v (Ok (index, before)) new
-  inserted_at prepared index before was at now = grind (arith, common_steps, inserted prepared before was now)
+  inserted_at prepared index before was at now = grind (arith, common_steps, has_put eq laws old.pairs k v)
 
   -- a granted insertion without a search
   pub inserted_unchecked : Prepares limit old (new_key_needs limit old) middle → IsValid eq limit new

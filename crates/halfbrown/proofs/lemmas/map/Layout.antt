@@ -28,7 +28,7 @@ use Rattle.std.specs.Option.{option_map}
 use Rattle.std.specs.Result.{result_err}
 use Rattle.half_store.specs.ValueReplacement.{kept_pairs, ReplacesValue}
 use Rattle.halfbrown.specs.Pairs.{holds}
-use Rattle.halfbrown.proofs.CallerLemmas.{has_removed}
+use Rattle.halfbrown.proofs.callers.Pairs.{has_removed}
 
 module _ {K V : Type 0} where
   pub keys_of-set_value_at : (ps : List (K × V)) (i : ℕ) (v : V) → keys_of (set_value_at ps i v) ≡ keys_of ps

@@ -18,7 +18,7 @@ use Rattle.halfbrown.specs.Pairs.{take_out_by}
 use Rattle.halfbrown.specs.Removal.{Removes, RemovesAt, ShiftRemoves, ShiftRemovesAt}
 use Rattle.halfbrown.specs.State.{State, IsValid, WithPairs}
 use Rattle.halfbrown.specs.Updates.{HasRemovedBy}
-use Rattle.halfbrown.proofs.CallerLemmas.{has_left, has_all, has_removed_by}
+use Rattle.halfbrown.proofs.callers.Pairs.{has_left, has_all, has_removed_by}
 use Rattle.halfbrown.proofs.lemmas.map.Layout.{kept_taken, state_of, kept_as}
 use Rattle.halfbrown.proofs.lemmas.pairs.Indices.{value_of_entry, index_of_pair, last_taken, some_is_not_none}
 use Rattle.std.proofs.lemmas.Map.Entries.{length-keys_of}

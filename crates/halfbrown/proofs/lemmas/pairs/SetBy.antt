@@ -7,7 +7,7 @@ use Rattle.half_store.specs.PairLists.{set_value_at}
 use Rattle.halfbrown.specs.Lookup.{IsIndexOf}
 use Rattle.halfbrown.specs.Pairs.{put_by}
 use Rattle.halfbrown.specs.Updates.{HasPut, HasSetBy}
-use Rattle.halfbrown.proofs.CallerLemmas.{has_put}
+use Rattle.halfbrown.proofs.callers.Pairs.{has_put}
 use Rattle.halfbrown.proofs.lemmas.pairs.Indices.{IsFirst, first_of_index, first_passes}
 
 module _ {K : Type 0} (same : K → K → Bool) (laws : IsEquivalence same) (test : K → Bool)

@@ -21,7 +21,7 @@ use Rattle.std.specs.Cmp.{IsEquivalence}
 use Rattle.halfbrown.specs.Lookup.{IsIndexOf, IsAbsent, IsMatch, ReadsMatch}
 use Rattle.halfbrown.specs.Pairs.{holds}
 use Rattle.halfbrown.specs.Updates.{HasPut}
-use Rattle.halfbrown.proofs.CallerLemmas.{has_put}
+use Rattle.halfbrown.proofs.callers.Pairs.{has_put}
 use Rattle.halfbrown.proofs.lemmas.pairs.Indices.{index_of_pair, absent_of_unheld, some_is_not_none}
 use Rattle.std.specs.declared.cmp.PartialEq as eq
 use Rattle.std.specs.declared.hash.Hash as hash

@@ -1,6 +1,6 @@
 use Rattle.std.proofs.Common.{sym, ap, ◌∙◌}
 use Rattle.std.specs.Map.{keys_of}
-use Rattle.halfbrown.proofs.CallerLemmas.{keys_set}
+use Rattle.halfbrown.proofs.callers.Pairs.{keys_set}
 use Rattle.half_tests.proofs.callers.by_index.set_by_index.Goals as goal
 
 pub returns-in-Some-get_index_mut-clause-keys : goal.returns-in-Some-get_index_mut-clause-keys

@@ -1,7 +1,7 @@
 use Rattle.std.proofs.Common.{refl, sym, ◌∙◌}
 use Rattle.std.proofs.lemmas.List.{map-id}
 use Rattle.std.proofs.lemmas.Map.Iter.{iter_end}
-use Rattle.halfbrown.proofs.CallerFacts.{last_is_value}
+use Rattle.halfbrown.proofs.callers.Keys.{last_is_value}
 use Rattle.half_tests.proofs.callers.collections.merge.Goals as goal
 
 pub returns-clause-keys : goal.returns-clause-keys

@@ -1,6 +1,6 @@
 use Rattle.std.proofs.Common.{◌+◌, [], arith, rules}
 use Rattle.std.proofs.lemmas.Grind.{common_steps}
-use Rattle.halfbrown.proofs.TextFacts.{count_text_fits, counted_text_step}
+use Rattle.halfbrown.proofs.callers.Texts.{count_text_fits, counted_text_step}
 use Rattle.half_tests.proofs.callers.counting.count_texts.Goals as goal
 
 pub overflow_add-counts : goal.overflow_add-counts

@@ -1,6 +1,6 @@
 use Rattle.std.proofs.Common.{◌+◌, arith, rules}
 use Rattle.std.proofs.lemmas.Grind.{common_steps}
-use Rattle.halfbrown.proofs.CallerFacts.{count_fits, counted_step}
+use Rattle.halfbrown.proofs.callers.Keys.{count_fits, counted_step}
 use Rattle.half_tests.proofs.callers.counting.count_words.Goals as goal
 
 pub overflow_add-counts : goal.overflow_add-counts

@@ -1,5 +1,5 @@
 use Rattle.std.proofs.Common.{rules, Vec, Global}
-use Rattle.halfbrown.proofs.CallerFacts.{grouped_step}
+use Rattle.halfbrown.proofs.callers.Keys.{grouped_step}
 use Rattle.half_tests.proofs.callers.counting.group.Goals as goal
 
 pub loop-key-preserved : goal.loop-key-preserved

@@ -1,6 +1,6 @@
 use Rattle.std.proofs.Common.{arith}
 use Rattle.std.proofs.lemmas.Grind.{common_steps}
-use Rattle.halfbrown.proofs.TextFacts.{lookup_set_text}
+use Rattle.halfbrown.proofs.callers.Texts.{lookup_set_text}
 use Rattle.half_tests.proofs.callers.texts.correct_named.Goals as goal
 
 pub returns-clause-others : goal.returns-clause-others

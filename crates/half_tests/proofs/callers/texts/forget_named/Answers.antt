@@ -1,4 +1,4 @@
-use Rattle.halfbrown.proofs.TextFacts.{has_removed_text}
+use Rattle.halfbrown.proofs.callers.Texts.{has_removed_text}
 use Rattle.half_tests.proofs.callers.texts.forget_named.Goals as goal
 
 pub returns : goal.returns

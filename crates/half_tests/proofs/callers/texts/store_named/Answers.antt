@@ -1,4 +1,4 @@
-use Rattle.halfbrown.proofs.TextFacts.{has_put_text}
+use Rattle.halfbrown.proofs.callers.Texts.{has_put_text}
 use Rattle.half_tests.proofs.callers.texts.store_named.Goals as goal
 
 pub returns : goal.returns

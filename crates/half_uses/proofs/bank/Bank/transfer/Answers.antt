@@ -1,6 +1,6 @@
 use Rattle.std.proofs.Common.{ap, sym}
 use Rattle.halfbrown.specs.State.{map_with_pairs}
-use Rattle.halfbrown.proofs.CallerFacts.{set_same}
+use Rattle.halfbrown.proofs.callers.Keys.{set_same}
 use Rattle.half_uses.proofs.bank.Bank.transfer.Goals as goal
 
 pub returns-then-balance-amount-clause-err : goal.returns-then-balance-amount-clause-err

@@ -31,8 +31,8 @@ returns g c =
     record {
       found = subst (λ (m : State g.row.K.Denot g.row.V.Denot g.row.S.Denot). KeySearch test
           (g.S.KeyHasher.hash_writes m.builder (g.Q.Hash.hash_input c.args.key)) m c.find.result) c.self.view_is found;
-      cost = subst (λ (m : State g.row.K.Denot g.row.V.Denot g.row.S.Denot). IsHashedLookupCost g.S.KeyHasher g.Q.Hash
-          g.Q.Equivalent c.args.key m c.args.tally.now c.find.new.tally) c.self.view_is
+      cost = subst (λ (m : State g.row.K.Denot g.row.V.Denot g.row.S.Denot). IsHashedLookupCost g.S.KeyHasher g.Q.Hash.hash_input
+          g.Q.Equivalent.equivalent c.args.key m c.args.tally.now c.find.new.tally) c.self.view_is
           (subst (λ index. IsSearchCost hashing own was index 0 c.args.tally.now c.find.new.tally)
           (found_is_index test own was c.find.result found)
           (costs_for_other hashing c.args.hash own was c.args.tally.now c.find.new.tally (result_ok c.find.result) known spent));

@@ -45,8 +45,8 @@ returns g c =
     record {
       removes = removes;
       value = ap (option_map (λ pair. pair.1)) removes.gives ∙ value_of_entry test c.args.self.now.pairs;
-      cost = subst (λ (m : State g.row.K.Denot g.row.V.Denot g.row.S.Denot). IsHashedLookupCost g.S.KeyHasher g.Q.Hash
-          g.Q.Equivalent c.args.key m c.args.tally.now c.take.new.tally) c.self.view_is
+      cost = subst (λ (m : State g.row.K.Denot g.row.V.Denot g.row.S.Denot). IsHashedLookupCost g.S.KeyHasher g.Q.Hash.hash_input
+          g.Q.Equivalent.equivalent c.args.key m c.args.tally.now c.take.new.tally) c.self.view_is
           (subst (λ index. IsSearchCost hashing own was index 0 c.args.tally.now c.take.new.tally)
           (found_is_index test own was told.search found)
           (costs_for_other hashing c.args.hash own was c.args.tally.now c.take.new.tally (result_ok told.search) known spent));

@@ -18,7 +18,7 @@ use Rattle.half_store.specs.PairLists.{index_of, swap_remove_at}
 use Rattle.halfbrown.specs.FromIter.{last_value_of}
 use Rattle.halfbrown.specs.Pairs.{IsForm, value_of, holds, holds_by, put, set_by, take_out_by}
 use Rattle.halfbrown.specs.Updates.{HasPut}
-use Rattle.halfbrown.proofs.CallerLemmas.{value_of_equal, lookup_permuted}
+use Rattle.halfbrown.proofs.callers.Pairs.{value_of_equal, lookup_permuted}
 use Rattle.halfbrown.proofs.lemmas.pairs.Indices.{value_of_entry}
 use Rattle.halfbrown.proofs.lemmas.pairs.Changes.{map-swap_remove_at}
 use Rattle.halfbrown.specs.CallerLoops.{add_key, CountsEach, GroupsEach}

@@ -17,10 +17,10 @@ use Rattle.halfbrown.specs.Insertion.{Puts}
 use Rattle.halfbrown.specs.Removal.{Removes}
 use Rattle.halfbrown.specs.State.{State}
 use Rattle.halfbrown.specs.Updates.{HasPut, HasRemoved}
-use Rattle.halfbrown.proofs.CallerLemmas.{has_put, has_removed}
+use Rattle.halfbrown.proofs.callers.Pairs.{has_put, has_removed}
 use Rattle.halfbrown.proofs.lemmas.pairs.Changes.{map-swap_remove_at}
 use Rattle.halfbrown.specs.CallerLoops.{CountsEach, keyed_by}
-use Rattle.halfbrown.proofs.CallerFacts.{count_fits, counted_more, lookup_set}
+use Rattle.halfbrown.proofs.callers.Keys.{count_fits, counted_more, lookup_set}
 
 module _ {K B V : Type 0} (read : K → B) (test : B → Bool) where
   -- what a test of what is read finds

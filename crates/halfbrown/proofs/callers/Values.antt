@@ -13,8 +13,8 @@ use Rattle.std.specs.Map.{keys_of, values_of, lookup}
 use Rattle.std.specs.Option.{option_map}
 use Rattle.half_store.specs.PairLists.{index_of, set_value_at, swap_remove_at, length-set_value_at}
 use Rattle.halfbrown.specs.Pairs.{holds_by, value_of, put, set_by, take_out_by}
-use Rattle.halfbrown.proofs.CallerFacts.{set_same}
-use Rattle.halfbrown.proofs.CallerLemmas.{lookup_put}
+use Rattle.halfbrown.proofs.callers.Keys.{set_same}
+use Rattle.halfbrown.proofs.callers.Pairs.{lookup_put}
 use Rattle.halfbrown.proofs.lemmas.map.Layout.{keys_of-set_value_at}
 use Rattle.halfbrown.proofs.lemmas.pairs.Indices.{absent_of_index, index_found, index_of_pair}
 use Rattle.halfbrown.proofs.lemmas.pairs.Changes.{IsPermutation-swap_remove_at}
