@@ -100,7 +100,7 @@ def words():
 def quoted(call):
     """The signature of a call, and what stands before each clause and in it, without those that the page leaves out."""
     kind, _, name = call.rpartition("::")
-    files = ["entry/methods.rt"] if kind else ["map.rt", "map/*.rt", "drain.rt", "entry/find.rt"]
+    files = ["entry/methods.rt"] if kind else ["map.rt", "map/*.rt", "drain.rt", "entry/make.rt"]
     found = re.search(rf"^    pub fn {name}\b(.*?)^    {{$", "\n".join(texts(*(f"src/{it}" for it in files))), re.M | re.S)[1]
     head, *clauses = re.split(r"(?=\b(?:requires|ensures)\b)", " ".join(re.sub("//.*", "", found).split()))
     yield f"fn {call}{head.strip().rstrip(',')}".replace("( ", "(").replace(", )", ")"), ""
