@@ -12,13 +12,12 @@ use Rattle.std.specs.Option.{option_map}
 use Rattle.half_store.specs.PairLists.{set_key_at, set_value_at, swap_remove_at, length-set_value_at}
 use Rattle.half_store.specs.declared.store.find.Vacancy.{Vacancy}
 use Rattle.halfbrown.specs.declared.entry.OccupiedEntry.{OccupiedEntry}
-use Rattle.halfbrown.specs.declared.entry.VacantEntry.{VacantEntry}
-use Rattle.halfbrown.specs.Entry.{occupied, vacant, with_entry_value}
-use Rattle.halfbrown.specs.EntryView.{EntryView, entry_value, map_of, pairs_with, with_value}
+use Rattle.halfbrown.specs.Entry.{occupied, with_entry_value}
+use Rattle.halfbrown.specs.EntryView.{EntryView, entry_value, pairs_with, with_value}
 use Rattle.halfbrown.specs.EntryView.{IsEntryOf, PutsThroughEntry, IsRawEntryOf, IsWritten, ModifiesEntry, HasNewKey}
 use Rattle.halfbrown.specs.Growth.{insert_needs}
 use Rattle.halfbrown.specs.Lookup.{IsIndexOf, IsAbsent}
-use Rattle.halfbrown.specs.Insertion.{Prepares, pushed}
+use Rattle.halfbrown.specs.Insertion.{Prepares}
 use Rattle.halfbrown.specs.Pairs.{take_out_by}
 use Rattle.halfbrown.specs.State.{State, map_with_pairs, WithPairs}
 use Rattle.halfbrown.specs.Updates.{HasRemovedBy}

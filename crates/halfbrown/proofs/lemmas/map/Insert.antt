@@ -4,7 +4,7 @@ use Rattle.std.proofs.lemmas.Grind.{common_steps}
 use Rattle.std.specs.Cmp.{IsEquivalence}
 use Rattle.std.specs.Map.{keys_of}
 use Rattle.halfbrown.specs.Growth.{insert_needs, new_key_needs}
-use Rattle.halfbrown.specs.Insertion.{Inserts, InsertsAt, InsertsNewKey, Prepares}
+use Rattle.halfbrown.specs.Insertion.{InsertsAt, InsertsNewKey, Prepares}
 use Rattle.halfbrown.specs.Pairs.{index_of, put, value_of}
 use Rattle.halfbrown.specs.State.{State, IsValid, WithPairs}
 use Rattle.halfbrown.proofs.callers.Pairs.{has_put}

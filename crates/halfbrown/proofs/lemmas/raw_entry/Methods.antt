@@ -1,5 +1,5 @@
 -- What a raw entry is once its pair is written or added, and where a match found it.
-use Rattle.std.proofs.Common.{◌≡◌, ℕ, ◌<◌, List, [], ◌∷◌, ◌++◌, length, slice_get, None, Some, IfSome, unwrap_or, refl, sym, ap}
+use Rattle.std.proofs.Common.{◌≡◌, ℕ, ◌<◌, List, [], ◌∷◌, ◌++◌, length, slice_get, None, Some, IfSome, unwrap_or, refl, sym}
 use Rattle.std.proofs.Common.{subst, ◌∙◌, arith, Bool, true, is_some, false, Option}
 use Rattle.std.proofs.lemmas.Map.Entries.{length-keys_of, length-values_of}
 use Rattle.std.proofs.lemmas.Option.{slice_get_cases}
@@ -9,9 +9,8 @@ use Rattle.half_store.specs.PairLists.{set_value_at, swap_remove_at}
 use Rattle.halfbrown.specs.declared.entry.OccupiedEntry.{OccupiedEntry}
 use Rattle.halfbrown.specs.declared.raw_entry.RawEntryMut.{RawEntryMut}
 use Rattle.halfbrown.specs.declared.raw_entry.RawEntryMut.TheVariants.{Occupied, Vacant}
-use Rattle.halfbrown.specs.declared.raw_entry.RawVacantEntryMut.{RawVacantEntryMut}
-use Rattle.halfbrown.specs.Entry.{occupied, raw_vacant, raw_view}
-use Rattle.halfbrown.specs.EntryView.{EntryView, entry_key, entry_pair, entry_value, map_of, pairs_with, with_value, IsWritten}
+use Rattle.halfbrown.specs.Entry.{occupied, raw_view}
+use Rattle.halfbrown.specs.EntryView.{EntryView, entry_key, entry_pair, entry_value, map_of, with_value, IsWritten}
 use Rattle.halfbrown.specs.EntryView.{FindsEntry, FindsEntryByMatch, PutsEntry, AddsEntry}
 use Rattle.halfbrown.specs.State.{IsValid, WithPairs, State}
 use Rattle.halfbrown.proofs.lemmas.pairs.Changes.{key_of-pair, value_of-pair, set_value_at-last, value-last, key-last}
