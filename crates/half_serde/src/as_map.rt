@@ -29,8 +29,8 @@ pub fn serialize<K: Serialize + Eq + Hash, V: Serialize, H: BuildHasher, L: Limi
 /// Reads a map, with the default of the builder's type. Each entry of the text is inserted, in order. Where memory is
 /// refused, it fails with what the format has for that.
 ///
-/// The clause says that each entry that begins gives a pair. Which pair that is, no clause says: it is what the impls of
-/// the key and of the value read.
+/// The clause says that each entry that begins gives a pair. Which pair that is, no clause says: it is what the impls
+/// of the key and of the value read.
 #[tactic(auto, using(crate::proofs::Reading::reads_none))]
 pub fn deserialize<
     'de,
