@@ -35,7 +35,7 @@ LINK = re.compile(r"\[[^\]]*\]\(((?!\w+://)[^)\s]+)\)")
 PATH = re.compile(r"[\w.-]+/[\w./-]*|[\w-]+\.(?:antt|c|edits|md|py|rt|sh|svg|txt)")
 IMPORT = re.compile(r"^ *(?:ghost )?use (Rattle[\w.]*)\.\{(.*)\};?\n", re.M)
 CALLERS = ("half_tests/src/callers/*.rt", "half_uses/s*/*.*", "json_value/src/*.rt", "half_tests/proofs/*/*/*/*.antt")
-COPIED = "half_store halfbrown half_set half_uses json_value".split()
+COPIED = "half_store halfbrown half_set half_serde half_uses json_value".split()
 USES = {  # The crates whose examples run, and what their tests import.
     "halfbrown": "use halfbrown::{run::run, *}; use std::hash::{BuildHasher, RandomState}; use std::test::Fail;",
     "half_set": "use half_set::*; use std::test::Fail;",
@@ -76,12 +76,13 @@ def named(page, tree):
 
 def readme(page):
     proved = re.search(r"^ghost use.*?^}\n", *texts("half_tests/src/callers/first_example.rt"), re.M | re.S)[0]
-    shown = re.findall(r"^```rust\n(.*?)^```$", page, re.M | re.S)  # What is plain Rust, and then the rest.
-    contract = re.compile(r"^ghost use .*\n\n?|^    ensures .*\n", re.M)
-    yield "the first example", shown == [contract.sub("", proved).replace("\n{", " {"), "".join(contract.findall(proved))]
-    lines, answers = re.search(r"^    \$ printf '(.*)' \| make run\n((?:    .*\n)+)", page, re.M).groups()
+    shown = re.findall(r"^```rust\n(.*?)^```$", page, re.M | re.S)  # It is plain Rust, and its clause is told below.
+    contract = re.compile(r"^ghost use .*\n\n?|^    (ensures .*)\n", re.M)
+    told = all(f"`{clause}`" in page for clause in contract.findall(proved) if clause)
+    yield "the first example", told and shown == [contract.sub("", proved).replace("\n{", " {")]
+    lines, last, answers = re.search(r"^    \$ printf '(.*)' \| make run \| tail -n (\d+)\n((?:    .*\n)+)", page, re.M).groups()
     ran = subprocess.run(["env", HALFMAP], input=lines.replace("\\n", "\n"), capture_output=True, text=True)
-    yield "the answers of halfmap", ran.stdout == answers.replace("    ", "")
+    yield "the answers of halfmap", ran.stdout.splitlines()[-int(last) :] == answers.replace("    ", "").splitlines()
 
 
 def packed(text):
