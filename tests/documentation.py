@@ -105,7 +105,7 @@ def using(page):
         if not re.search(r"\S {3,}(?!//)\S", snippet):  # A table has a second column.
             yield from ((it, packed(it) in code) for it in ([snippet] if "{" in snippet else snippet.splitlines()))
     for module, listed in re.findall(r"^    ([A-Z]\w+)\n((?:      .*\n)+)", page, re.M):
-        defined = re.findall(r"^ *pub ([\w-]+) :", *texts(f"halfbrown/proofs/{module}.antt"), re.M)
+        defined = re.findall(r"^ *pub ([\w-]+) :", *texts(f"halfbrown/proofs/callers/{module}.antt"), re.M)
         names = ", ".join(line.strip().split("  ")[0] for line in listed.splitlines())
         yield from ((name, name in defined) for name in names.split(", "))
 
