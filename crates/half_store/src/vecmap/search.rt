@@ -57,9 +57,6 @@ fn first_match_by_block<K, F: Fn(&K) -> bool>(
     ensures first { IsFirstMatch (FnReturnsAt F.Fn matches.now) keys.now result }
     ensures work { ComparesInOrder ByBlock result (length keys.now) tally.old tally.new }
 {
-    if keys.len() == 3 {
-        return first_match_of_three(keys, matches, tally);
-    }
     // Most vectors are one block, and a loop over it would take a quarter longer.
     if keys.len() <= BLOCK {
         let found = first_match_between(keys, 0, keys.len(), matches, tally);
@@ -69,12 +66,7 @@ fn first_match_by_block<K, F: Fn(&K) -> bool>(
             None
         };
     }
-    // The compiler knows how long the first block is.
-    let found = first_match_between(keys, 0, BLOCK, matches, tally);
-    if found < BLOCK {
-        return Some(found);
-    }
-    let mut start = BLOCK;
+    let mut start = 0;
     while start < keys.len() {
         let end = start + BLOCK.min(keys.len() - start);
         let found = first_match_between(keys, start, end, matches, tally);
@@ -84,32 +76,6 @@ fn first_match_by_block<K, F: Fn(&K) -> bool>(
         start = end;
     }
     None
-}
-
-// Three keys are compared without a loop.
-#[inline(always)]
-fn first_match_of_three<K, F: Fn(&K) -> bool>(
-    keys: &[K],
-    matches: &F,
-    tally: &mut Tally,
-) -> Option<usize>
-    requires three { length keys.now ≡ 3 }
-    requires callable { CallableOnKeys (F.pre matches.now) keys.now }
-    ensures first { IsFirstMatch (FnReturnsAt F.Fn matches.now) keys.now result }
-    ensures work { ComparesInOrder ByBlock result 3 tally.old tally.new }
-{
-    let third = counting::compare(matches, &keys[2], tally);
-    let second = counting::compare(matches, &keys[1], tally);
-    let first = counting::compare(matches, &keys[0], tally);
-    if first {
-        Some(0)
-    } else if second {
-        Some(1)
-    } else if third {
-        Some(2)
-    } else {
-        None
-    }
 }
 
 // The index of the first key that matches from `start` on, or `end`. It compares all keys between, so that no branch depends

@@ -2,7 +2,7 @@ use Rattle.std.proofs.Common.{◌+◌, below_more, arith, refl, ap, ◌∙◌}
 use Rattle.std.specs.Fn.{FnReturnsAt}
 use Rattle.half_store.specs.Work.{compared_more}
 use Rattle.half_store.proofs.lemmas.counting.{returned_at}
-use Rattle.half_store.proofs.lemmas.vecmap.Search.{compared_both, in_order}
+use Rattle.half_store.proofs.lemmas.vecmap.Search.{compared_again, in_order}
 use Rattle.half_store.proofs.vecmap.search.first_match.Goals as goal
 
 pub returns-clause-first : goal.returns-clause-first
@@ -24,7 +24,7 @@ returns-then-compare-clause-first g c = record {
 
 pub returns-then-compare-clause-work : goal.returns-then-compare-clause-work
 returns-then-compare-clause-work g c =
-    in_order (compared_both c.loop-index.index 1 (c.loop-index.index + 1) c.args.tally.now c.loop-index.tally _ refl
+    in_order (compared_again c.loop-index.index (c.loop-index.index + 1) c.args.tally.now c.loop-index.tally _ refl
     c.loop-index.invariant.work c.if-compare.ensures.counted) refl (omega (arith, c.loop-index-test.true))
 
 pub loop-index-preserved : goal.loop-index-preserved
@@ -32,7 +32,7 @@ loop-index-preserved g c = record {
   none_so_far = below_more _ _ c.loop-index.invariant.none_so_far
       (returned_at (FnReturnsAt g.F.Fn c.args.matches.now) c.args.keys.now c.loop-index.index c.index-keys-index.result _
       c.index-keys-index.is c.if-compare.ensures.answer);
-  work = compared_both c.loop-index.index 1 (c.loop-index.index + 1) c.args.tally.now c.loop-index.tally _ refl
+  work = compared_again c.loop-index.index (c.loop-index.index + 1) c.args.tally.now c.loop-index.tally _ refl
       c.loop-index.invariant.work c.if-compare.ensures.counted;
 }
 

@@ -2,7 +2,7 @@ use Rattle.std.proofs.Common.{◌-◌, arith, false}
 use Rattle.std.specs.Fn.{FnReturnsAt}
 use Rattle.half_store.specs.Search.{ReturnsAt}
 use Rattle.half_store.proofs.lemmas.counting.{returned_at}
-use Rattle.half_store.proofs.lemmas.vecmap.Search.{from_before, compared_both}
+use Rattle.half_store.proofs.lemmas.vecmap.Search.{from_before, compared_again}
 use Rattle.half_store.proofs.vecmap.search.first_match_between.Goals as goal
 
 pub loop-index-preserved-then-compare : goal.loop-index-preserved-then-compare
@@ -13,7 +13,7 @@ loop-index-preserved-then-compare g c = record {
   at = λ _. returned_at (FnReturnsAt g.F.Fn c.args.matches.now) c.args.keys.now (c.loop-index.index - 1) c.index-keys-index.result _
       c.index-keys-index.is c.if-compare.ensures.answer;
   none_before = λ earlier from before. absurd (omega (arith, from, before));
-  work = compared_both (c.args.end - c.loop-index.index) 1 _ _ c.loop-index.tally _ (omega (arith, c.loop-index.auto.index, c.loop-index-test.true))
+  work = compared_again (c.args.end - c.loop-index.index) _ _ c.loop-index.tally _ (omega (arith, c.loop-index.auto.index, c.loop-index-test.true))
       c.loop-index.invariant.work c.if-compare.ensures.counted;
 }
 
@@ -27,7 +27,7 @@ loop-index-preserved g c = record {
       c.loop-index.found (omega (arith, c.loop-index-test.true)) c.loop-index.invariant.none_before
       (returned_at (FnReturnsAt g.F.Fn c.args.matches.now) c.args.keys.now (c.loop-index.index - 1) c.index-keys-index.result _
       c.index-keys-index.is c.if-compare.ensures.answer);
-  work = compared_both (c.args.end - c.loop-index.index) 1 _ _ c.loop-index.tally _ (omega (arith, c.loop-index.auto.index, c.loop-index-test.true))
+  work = compared_again (c.args.end - c.loop-index.index) _ _ c.loop-index.tally _ (omega (arith, c.loop-index.auto.index, c.loop-index-test.true))
       c.loop-index.invariant.work c.if-compare.ensures.counted;
 }
 

@@ -1,7 +1,7 @@
-use Rattle.std.proofs.Common.{◌+◌, ◌-◌, false, arith}
+use Rattle.std.proofs.Common.{◌+◌, false, arith}
 use Rattle.std.specs.Fn.{FnReturnsAt}
 use Rattle.half_store.specs.Search.{ReturnsAt}
-use Rattle.half_store.proofs.lemmas.vecmap.Search.{below_and_from, compared_both, compared_none, in_blocks}
+use Rattle.half_store.proofs.lemmas.vecmap.Search.{below_and_from, compared_all}
 use Rattle.half_store.proofs.vecmap.search.first_match_by_block.Goals as goal
 
 pub returns-then-found-keys-clause-first : goal.returns-then-found-keys-clause-first
@@ -21,24 +21,6 @@ returns-else-found-keys-clause-first g c = record {
       c.first_match_between-found.ensures.none_before index (omega arith) (omega (arith, within, c.if-found-keys.false));
 }
 
-pub returns-then-found-lt-BLOCK-clause-first : goal.returns-then-found-lt-BLOCK-clause-first
-returns-then-found-lt-BLOCK-clause-first g c =
-    let told = c.first_match_between-found-2.ensures in
-    record {
-      found = (omega (arith, c.if-found-lt-BLOCK.true, c.if-keys-le-BLOCK.false), told.found c.if-found-lt-BLOCK.true);
-      none_before = λ earlier before. told.none_before earlier (omega arith) before;
-      absent = tt;
-    }
-
-pub loop-start-init : goal.loop-start-init
-loop-start-init g c = record {
-  from = omega arith;
-  within = omega (arith, c.if-keys-le-BLOCK.false);
-  none_so_far = λ earlier before. c.first_match_between-found-2.ensures.none_before earlier (omega arith)
-      (omega (arith, before, c.if-found-lt-BLOCK.false));
-  work = compared_none c.first_match_between-found-2.new.tally;
-}
-
 pub returns-then-found-end-clause-first : goal.returns-then-found-end-clause-first
 returns-then-found-end-clause-first g c =
     let told = c.first_match_between-found-in-loop-start.ensures in
@@ -49,22 +31,13 @@ returns-then-found-end-clause-first g c =
       absent = tt;
     }
 
-pub returns-then-found-end-clause-work : goal.returns-then-found-end-clause-work
-returns-then-found-end-clause-work g c =
-    in_blocks (compared_both c.loop-start.start _ (c.loop-start.start + c.min.result) c.args.tally.now c.loop-start.tally _ (omega arith)
-    (compared_both 16 (c.loop-start.start - 16) _ _ _ _ (omega (arith, c.loop-start.invariant.from)) c.first_match_between-found-2.ensures.work
-    c.loop-start.invariant.work) c.first_match_between-found-in-loop-start.ensures.work)
-    (omega (arith, c.if-found-end.true)) (omega (arith, c.min.ensures, c.loop-start-test.true))
-
 pub loop-start-preserved : goal.loop-start-preserved
 loop-start-preserved g c = record {
-  from = omega (arith, c.loop-start.invariant.from);
   within = omega (arith, c.min.ensures, c.loop-start-test.true);
   none_so_far = below_and_from (λ k. ReturnsAt (FnReturnsAt g.F.Fn c.args.matches.now) c.args.keys.now k false) c.loop-start.start
       (c.loop-start.start + c.min.result) c.loop-start.invariant.none_so_far
       (λ k from within. c.first_match_between-found-in-loop-start.ensures.none_before k from (omega (arith, within, c.if-found-end.false)));
-  work = compared_both (c.loop-start.start - 16) _ _ _ _ _ (omega (arith, c.loop-start.invariant.from)) c.loop-start.invariant.work
-      c.first_match_between-found-in-loop-start.ensures.work;
+  work = compared_all c.loop-start.start c.min.result _ _ _ c.loop-start.invariant.work c.first_match_between-found-in-loop-start.ensures.work;
 }
 
 pub returns-clause-first : goal.returns-clause-first
@@ -73,8 +46,3 @@ returns-clause-first g c = record {
   none_before = tt;
   absent = λ index within. c.loop-start.invariant.none_so_far index (omega (arith, within, c.loop-start-test.false));
 }
-
-pub returns-clause-work : goal.returns-clause-work
-returns-clause-work g c =
-    in_blocks (compared_both 16 (c.loop-start.start - 16) c.loop-start.start _ _ _ (omega (arith, c.loop-start.invariant.from))
-    c.first_match_between-found-2.ensures.work c.loop-start.invariant.work) (omega (arith, c.loop-start-test.false)) c.loop-start.invariant.within

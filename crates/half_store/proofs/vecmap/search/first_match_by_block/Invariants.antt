@@ -1,4 +1,4 @@
--- No key before `start` matched, and each after the first block was compared once.
+-- No key before `start` matched, and each was compared once.
 use Rattle.std.proofs.Common.{◌≡◌, ℕ, ◌-◌, ◌<◌, ◌≤◌, false, length}
 use Rattle.std.specs.Fn.{FnReturnsAt}
 use Rattle.half_store.specs.Search.{ReturnsAt}
@@ -7,10 +7,9 @@ use Rattle.half_store.proofs.vecmap.search.first_match_by_block.Given as goal
 
 abbrev pub invariant-loop-start : goal.invariant-loop-start
 invariant-loop-start g l = record {
-  from : 16 ≤ l.start;
   within : l.start ≤ length l.keys;
   none_so_far : (earlier : ℕ) → earlier < l.start → ReturnsAt (FnReturnsAt g.F.Fn l.matches) l.keys earlier false;
-  work : l.tally ≡ compared_more (l.start - 16) l.initial.tally;
+  work : l.tally ≡ compared_more l.start l.initial.tally;
 }
 
 abbrev pub decreases-loop-start : goal.decreases-loop-start
