@@ -150,7 +150,11 @@ fn values_are_summed_by_labels(rt: HostRuntime) -> Result<(), Fail> {
     }
     assert_same(sums.len(), 40, "one for each path")?;
     let last = labels_of(alloc, &[("path", "/39"), ("method", "GET")])?;
-    assert_same(last.get("path").map(|text| text.as_str()), Some("/39"), "set")?;
+    assert_same(
+        last.get("path").map(|text| text.as_str()),
+        Some("/39"),
+        "set",
+    )?;
     assert_same(last.len(), 2, "each once")?;
     assert_same(sums.get(&last).copied(), Some(40), "39 and 1")
 }
