@@ -158,7 +158,7 @@ fn values_are_summed_by_labels(rt: HostRuntime) -> Result<(), Fail> {
         assert_same_at(number, sums.get(&swapped), None, "other labels")?;
     }
     assert_same(sums.total(), 820, "0 to 39, and 40")?;
-    assert_same(sums.iter().count(), 40, "one for each path")?;
+    assert_same(sums.iter().next().map(|group| *group.1), Some(1), "0 and 1")?;
     let last = labels_of(alloc, &[("path", "/39"), ("method", "GET")])?;
     assert_same(
         last.get("path").map(|text| text.as_str()),
