@@ -21,6 +21,7 @@ use Rattle.half_uses.specs.Labels.{label_hash, labels_number}
 
 -- ---- a pair that is taken out
 
+-- a sum, from the front
 sum_by-cons : {X : Type 0} (f : X → ℕ) (x : X) (xs : List X) → sum_by f (x ∷ xs) ≡ f x + sum_by f xs
 sum_by-cons f x xs = omega (arith, sum_by-append f (x ∷ []) xs)
 
@@ -88,16 +89,22 @@ module _ {K V : Type 0} (eq : K → K → Bool) (value_eq : V → V → Bool) (l
       let same = lookup_congr eq laws.congr xs p.0 k in
       grind (arith, common_steps, left, none, same, agree k, laws.symm p.0 k)
 
-  sums_alike : (xs ys : List (K × V)) → IsDistinct eq (keys_of xs) → IsDistinct eq (keys_of ys) → Agree xs ys → sum_by f xs ≡ sum_by f ys
+  agreeing_sums : (xs ys : List (K × V)) → IsDistinct eq (keys_of xs) → IsDistinct eq (keys_of ys) → Agree xs ys → sum_by f xs ≡ sum_by f ys
   unfolding Agree IsDistinct
-  sums_alike [] [] distinct others agree = refl
-  sums_alike [] (q ∷ ys) distinct others agree = absurd (grind (arith, common_steps, agree q.0, laws.refl q.0))
-  sums_alike (p ∷ xs) ys distinct others agree =
+  agreeing_sums [] [] distinct others agree = refl
+  agreeing_sums [] (q ∷ ys) distinct others agree = absurd (grind (arith, common_steps, agree q.0, laws.refl q.0))
+  agreeing_sums (p ∷ xs) ys distinct others agree =
       let found = matched value_eq p.1 (lookup (eq p.0) ys) (grind (arith, common_steps, agree p.0, laws.refl p.0)) in
       let out = taken (eq p.0) f ys found.0 found.1 in
-      let rest = sums_alike xs (remove_entry (eq p.0) ys) distinct.1 (distinct_kept (eq p.0) eq ys others)
+      let rest = agreeing_sums xs (remove_entry (eq p.0) ys) distinct.1 (distinct_kept (eq p.0) eq ys others)
       (agree_on p xs ys distinct others agree) in
       grind (arith, common_steps, out.sum_is, rest, sum_by-cons f p xs, alike p.0 out.key p.1 found.0 out.passes found.2)
+
+  -- lists of distinct keys that are equal as maps have equal sums, of what f makes of each pair
+  pub sums_alike : (xs ys : List (K × V)) → IsDistinct eq (keys_of xs) → IsDistinct eq (keys_of ys) → same_pairs eq value_eq xs ys ≡ true
+      → sum_by f xs ≡ sum_by f ys
+  unfolding Agree
+  sums_alike xs ys distinct others same = agreeing_sums xs ys distinct others ((same_pairs-Decides eq value_eq laws xs ys).0 same)
 
 -- ---- labels
 
@@ -111,8 +118,5 @@ label_alike k q v w names texts =
 -- equal sets of labels feed a hasher alike
 pub equal_alike : (xs ys : List (String Global × String Global)) → IsDistinct string_eq (keys_of xs) → IsDistinct string_eq (keys_of ys)
     → same_pairs string_eq string_eq xs ys ≡ true → fed.u64 (labels_number xs) ≡ fed.u64 (labels_number ys)
-unfolding Agree
 equal_alike xs ys distinct others same =
-    ap (λ sum. fed.u64 (sum % 2 ^ 64))
-    (sums_alike string_eq string_eq string_eq_equiv label_hash label_alike xs ys distinct others
-    ((same_pairs-Decides string_eq string_eq string_eq_equiv xs ys).0 same))
+    ap (λ sum. fed.u64 (sum % 2 ^ 64)) (sums_alike string_eq string_eq string_eq_equiv label_hash label_alike xs ys distinct others same)

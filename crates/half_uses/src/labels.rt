@@ -2,14 +2,15 @@
 ghost use Rattle.std.specs.Map.{keys_of, values_of, lookup};
 ghost use Rattle.std.specs.List.{IsDistinct};
 ghost use Rattle.std.specs.Option.{option_copied};
-ghost use Rattle.std.specs.Prelude.{◌≡◌, ◌≢◌, ◌+◌, ◌^◌, ◌<◌, false, None, [], length, sum, unwrap_or, IfErr, IfOk, OnErr, OnOk};
+ghost use Rattle.std.specs.Prelude.{◌≡◌, ◌≢◌, ◌+◌, ◌^◌, ◌<◌, false, None, [], length, sum, IfErr, IfOk, OnErr, OnOk};
 ghost use Rattle.std.specs.String.{string_eq};
 ghost use Rattle.std.proofs.Props.{props};
 ghost use Rattle.halfbrown.specs.Growth.{insert_needs};
+ghost use Rattle.halfbrown.specs.Iter.{pairs_left};
 ghost use Rattle.halfbrown.specs.Pairs.{value_of, put};
-ghost use Rattle.half_uses.specs.Labels.{labels_number};
+ghost use Rattle.half_uses.specs.Labels.{labels_number, with_more};
 
-use halfbrown::{DefaultHashBuilder, Equivalent, HashMap, Refusal, Refused};
+use halfbrown::{DefaultHashBuilder, Equivalent, HashMap, Iter, Refusal, Refused};
 use std::alloc::Global;
 use std::hash::{BuildHasher, Hash, Hasher};
 
@@ -22,8 +23,8 @@ use std::hash::{BuildHasher, Hash, Hasher};
 /// let mut labels = Labels::new(alloc);
 /// labels.set(String::from_str(alloc, "method")?, String::from_str(alloc, "GET")?)?;
 /// labels.set(String::from_str(alloc, "status")?, String::from_str(alloc, "200")?)?;
-/// let mut requests = HashMap::<Labels, u64>::new(alloc);
-/// add_to(&mut requests, labels, 1)?;
+/// let mut users = HashMap::<Labels, u64>::new(alloc);
+/// users.insert(labels, 7)?;
 /// ```
 #[derive(Drop)]
 pub struct Labels {
@@ -134,22 +135,105 @@ impl Hash for Labels {
     }
 }
 
-/// Adds a value to the sum of its key, such as its labels. Then the sum over all keys is larger by exactly this value, and has to
-/// fit. It costs one search. Fails only where the map needs memory, and then nothing changes.
+/// Values that are summed by key, such as by labels, and the sum of them all.
 ///
 /// ```
-/// add_to(&mut bytes, labels, 512)?;
+/// let mut requests = Sums::<Labels>::new(alloc);
+/// if requests.total() < u64::MAX {
+///     requests.add(labels, 1)?;
+/// }
 /// ```
+#[derive(Drop)]
+pub struct Sums<K: Eq + Hash> {
+    by_key: HashMap<K, u64>,
+    total: u64,
+    ghost adds_up: { total ≡ sum (values_of by_key.pairs) },
+}
+
+impl<K: Eq + Hash> Sums<K> {
+    /// No sums. It takes no memory.
+    ///
+    /// ```
+    /// let sums = Sums::<Labels>::new(alloc);
+    /// ```
+    pub fn new(alloc: Global) -> Sums<K>
+        ensures { result.by_key.pairs ≡ [] }
+    {
+        Sums {
+            by_key: HashMap::new(alloc),
+            total: 0,
+        }
+    }
+
+    /// The sum over all keys. It takes one step.
+    ///
+    /// ```
+    /// let fits = sums.total() <= u64::MAX - 512;
+    /// ```
+    pub fn total(&self) -> u64
+        ensures { result ≡ sum (values_of self.now.by_key.pairs) }
+    {
+        self.total
+    }
+
+    /// The sum of a key, where a value was added to it. It costs one search.
+    ///
+    /// ```
+    /// let sum = sums.get(&labels).unwrap_or(0);
+    /// ```
+    pub fn get(&self, key: &K) -> Option<u64>
+        ensures { result ≡ value_of K.eq self.now.by_key.pairs key.now }
+    {
+        self.by_key.get(key).copied()
+    }
+
+    /// Each key with its sum, in the order in which they first came.
+    ///
+    /// ```
+    /// for (labels, sum) in sums.iter() {
+    ///     report(labels, *sum)?;
+    /// }
+    /// ```
+    pub fn iter(&self) -> Iter<'_, K, u64>
+        ensures { pairs_left result ≡ self.now.by_key.pairs }
+    {
+        self.by_key.iter()
+    }
+
+    /// Adds a value to the sum of its key. Then `total` is larger by exactly this value, and has to fit. It costs one search. Fails
+    /// only where the map needs memory, and then nothing changes.
+    ///
+    /// ```
+    /// sums.add(labels, 512)?;
+    /// ```
+    pub fn add(&mut self, key: K, value: u64) -> Result<(), Refusal>
+    where
+        K: Drop,
+        requires { sum (values_of self.old.by_key.pairs) + value < 2 ^ 64 }
+        ensures total { OnOk result (sum (values_of self.new.by_key.pairs)
+            ≡ sum (values_of self.old.by_key.pairs) + value) }
+        ensures key { OnOk result (self.new.by_key.pairs ≡ with_more K.eq self.old.by_key.pairs key value) }
+        ensures others { OnOk result ((other : K) → K.eq key other ≡ false
+            → value_of K.eq self.new.by_key.pairs other ≡ value_of K.eq self.old.by_key.pairs other) }
+        ensures needs { OnErr result (insert_needs 32 K.eq self.old.by_key key ≢ None) }
+        ensures err { OnErr result (self.new.by_key ≡ self.old.by_key) }
+    {
+        add_to(&mut self.by_key, key, value)?;
+        self.total += value;
+        Ok(())
+    }
+}
+
+// Adds a value to the sum of its key.
 #[tactic(auto, using(halfbrown::proofs::callers::Values::value_facts))]
-pub fn add_to<K: Eq + Hash + Drop>(
+fn add_to<K: Eq + Hash + Drop>(
     sums: &mut HashMap<K, u64>,
     key: K,
     value: u64,
 ) -> Result<(), Refusal>
-    requires fits { sum (values_of sums.old.pairs) + value < 2 ^ 64 }
+    requires { sum (values_of sums.old.pairs) + value < 2 ^ 64 }
     ensures total { OnOk result (sum (values_of sums.new.pairs) ≡ sum (values_of sums.old.pairs) + value) }
-    ensures key { OnOk result (sums.new.pairs
-        ≡ put K.eq sums.old.pairs key (unwrap_or (value_of K.eq sums.old.pairs key) 0 + value)) }
+    ensures key { OnOk result (sums.new.pairs ≡ with_more K.eq sums.old.pairs key value) }
     ensures others { OnOk result ((other : K) → K.eq key other ≡ false
         → value_of K.eq sums.new.pairs other ≡ value_of K.eq sums.old.pairs other) }
     ensures needs { OnErr result (insert_needs 32 K.eq sums.old key ≢ None) }

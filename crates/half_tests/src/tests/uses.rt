@@ -5,11 +5,11 @@ use half_uses::bank::{Bank, Declined};
 use half_uses::bounded_cache::BoundedCache;
 use half_uses::cache::Cache;
 use half_uses::interner::Interner;
-use half_uses::labels::{Labels, add_to};
+use half_uses::labels::{Labels, Sums};
 use half_uses::object::Object;
 use half_uses::scopes::Scopes;
 use half_uses::words::{count_words, report};
-use halfbrown::{HashMap, Refusal, Tally};
+use halfbrown::{Refusal, Tally};
 use std::alloc::Global;
 use std::cell::Cell;
 use std::test::Fail;
@@ -134,21 +134,31 @@ fn labels_of(alloc: Global, pairs: &[(&str, &str)]) -> Result<Labels, Refusal> {
     Ok(labels)
 }
 
+// Adds a value where the sum of all still fits.
+fn add_where_it_fits(sums: &mut Sums<Labels>, labels: Labels, value: u64) -> Result<(), Fail> {
+    if sums.total() > u64::MAX - value {
+        return assert_true(false, "the sum fits");
+    }
+    sums.add(labels, value)?;
+    Ok(())
+}
+
 // Of forty groups, so that the sums become a table. Each is found by its labels in the other order.
 #[test]
 fn values_are_summed_by_labels(rt: HostRuntime) -> Result<(), Fail> {
     let alloc = rt.alloc();
-    let mut sums = HashMap::<Labels, u64>::new(alloc);
+    let mut sums = Sums::<Labels>::new(alloc);
     for number in 0..40u64 {
         let path = format!(in alloc; "/{number}")?;
         let labels = labels_of(alloc, &[("method", "GET"), ("path", path.as_str())])?;
-        add_to(&mut sums, labels, number)?;
+        add_where_it_fits(&mut sums, labels, number)?;
         let again = labels_of(alloc, &[("path", path.as_str()), ("method", "GET")])?;
-        add_to(&mut sums, again, 1)?;
+        add_where_it_fits(&mut sums, again, 1)?;
         let swapped = labels_of(alloc, &[("method", path.as_str()), ("path", "GET")])?;
-        assert_same_at(number, sums.get(&swapped).copied(), None, "other labels")?;
+        assert_same_at(number, sums.get(&swapped), None, "other labels")?;
     }
-    assert_same(sums.len(), 40, "one for each path")?;
+    assert_same(sums.total(), 820, "0 to 39, and 40")?;
+    assert_same(sums.iter().next().map(|group| *group.1), Some(1), "0 and 1")?;
     let last = labels_of(alloc, &[("path", "/39"), ("method", "GET")])?;
     assert_same(
         last.get("path").map(|text| text.as_str()),
@@ -156,7 +166,7 @@ fn values_are_summed_by_labels(rt: HostRuntime) -> Result<(), Fail> {
         "set",
     )?;
     assert_same(last.len(), 2, "each once")?;
-    assert_same(sums.get(&last).copied(), Some(40), "39 and 1")
+    assert_same(sums.get(&last), Some(40), "39 and 1")
 }
 
 #[test]
