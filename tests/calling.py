@@ -13,6 +13,8 @@ import textwrap
 CRATE = pathlib.Path(__file__).resolve().parent.parent / "crates/halfbrown"
 # A clause of such a name is not quoted, and a field is not printed.
 LEFT_OUT = ("cost", "keeps", "runs", "same_map", "small", "valid", "values_run")
+# Of such a record no field is printed: a line by hand says which items a refused collection has inserted.
+NOT_OPENED = ("RefusedCollectIter", "RefusedExtendIter")
 CALL = re.compile(r"^fn ([\w:]+)(?:.*\n)(?:  [^|\n].*\n)*((?:  \|.*\n)*)", re.M)
 LIST = re.compile(r"(^## (Words|All calls)\n(?:[^`]|`(?!``))*```text\n)([^`]*)", re.M)
 NAME = r"(?<![\w.'])[A-Za-z][\w']*"
@@ -114,7 +116,7 @@ class Page:
     """What the page has to show."""
 
     def __init__(self, text):
-        self.words = words()
+        self.words = {name: word for name, word in words().items() if name not in NOT_OPENED}
         self.quotes = {it[1]: [*quoted(it[1])] for it in CALL.finditer(text)}
         clauses = [said for quotes in self.quotes.values() for _, said in quotes]
         heads = [self.head(said)[1] for said in clauses]

@@ -7,7 +7,8 @@
 - The folders of crates that users copy (COPIED) have a page and the licences, which are those at the top. A page has the line of
   crates.txt.
 - README's first example stands in half_tests, where it is proved with its clause, and halfmap, the program HALFMAP, answers its lines as it says.
-- USING's imports stand in the crates, its snippets in callers, which are proved, or in examples, and its lemmas in their modules.
+- The imports of USING and PROOFS stand in the crates, their snippets in callers, which are proved, or in examples, and the lemmas in
+  their modules.
 - CALLING has the clauses of its calls, the fields that these name and the list of all calls as they stand in the sources and specs
   (calling.py). `tests/documentation.py --write` prints them there anew.
 - docs/speed.svg shows the figures of SPEED.
@@ -160,16 +161,16 @@ def examples():
     yield from ((f"the example {name}", f"test {name} ... ok\n" in ran.stdout) for name in names)
 
 
-CALLING, USING = (TOP / f"crates/halfbrown/{it}.md" for it in ("CALLING", "USING"))
+CALLING, USING, PROOFS = (TOP / f"crates/halfbrown/{it}.md" for it in ("CALLING", "USING", "PROOFS"))
 if sys.argv[1:] == ["--write"]:
     sys.exit(not CALLING.write_text(calling.written(CALLING.read_text())))
 git = subprocess.run(["git", "ls-files", "-co", "--exclude-standard"], cwd=TOP, capture_output=True, text=True, check=True)
 files = [it for it in git.stdout.splitlines() if (TOP / it).exists()]
 tree = "\n".join(f"/{it}" for it in files)
 claims = [(f"{it}: {what}", stands) for it in files if it.endswith(".md") for what, stands in named(TOP / it, tree)]
-claims += [*readme((TOP / "README.md").read_text()), *using(USING.read_text())]
+claims += [*readme((TOP / "README.md").read_text()), *using(USING.read_text()), *using(PROOFS.read_text())]
 claims += [*calling.claims(CALLING.read_text()), *callers(CALLING.read_text()), *copied()]
-claims += [it for page in (CALLING, USING) for it in imports(page.read_text())]
+claims += [it for page in (CALLING, USING, PROOFS) for it in imports(page.read_text())]
 drawn = picture.picture(*picture.figures((TOP / "docs/SPEED.md").read_text()))
 claims.append(("the picture of SPEED", drawn == (TOP / "docs/speed.svg").read_text()))
 claims += examples()
