@@ -1,4 +1,4 @@
-"""The lines of docs/SCRIPTS.md: the table of calls, and how the words of a line are read."""
+"""The lines of docs/SCRIPTS.md, as a table of calls, and how the words of a line are read."""
 
 import dataclasses
 import re
