@@ -54,7 +54,7 @@ says() (
         yes f | head -n 1000000 | make run | head -n 1
         echo "make: ${PIPESTATUS[2]}"
         rm -r out && touch out
-        make run
+        ! make run
     } 2>&1 | sed 's/^.*\*\*\* //' | diff - <(
         echo "rt is not on the path"
         echo "python3 is not on the path"
