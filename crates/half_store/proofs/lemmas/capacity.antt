@@ -1,11 +1,10 @@
 -- Bucket counts and capacities: which count comes next, and which is the least that serves.
-use Rattle.std.proofs.Common.{◌≡◌, ℕ, zero, suc, ◌+◌, ◌-◌, ◌*◌, ◌^◌, ◌<◌, ◌≤◌, inl, inr, refl, sym, ap, ◌∙◌, arith}
+use Rattle.half_store.proofs.Common.{◌≡◌, ◌≤◌, ◌+◌, ◌*◌, inr, refl, ◌∙◌, arith, ℕ, ◌-◌, ◌^◌, ◌<◌, zero, suc, inl, sym, ap, cases_lt, nat_tests, capacity_of}
+use Rattle.half_store.proofs.Common.{IsBucketCount, buckets_of}
 use Rattle.std.proofs.Math.Nat.{pow-le-pow_right}
 use Rattle.std.proofs.lemmas.Nat.{pow_pos, pow-add}
 use Rattle.std.proofs.lemmas.Grind.{pow_more}
-use Rattle.std.proofs.lemmas.Bool.{cases_lt}
-use Rattle.std.proofs.lemmas.Bool.Decides.{nat_tests}
-use Rattle.half_store.specs.Capacity.{capacity_of, buckets_of, IsBucketCount, more_buckets, buckets_for_more, buckets_for, IsLeastFor}
+use Rattle.half_store.specs.Capacity.{more_buckets, buckets_for_more, buckets_for, IsLeastFor}
 use Rattle.half_store.specs.Capacity.{capacity_for}
 
 -- a bucket count that is not 0 is at least 4

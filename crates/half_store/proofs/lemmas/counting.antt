@@ -1,9 +1,7 @@
 -- What a comparison says that was made with the key at an index.
-use Rattle.std.proofs.Common.{◌≡◌, ℕ, ◌-◌, ◌<◌, ◌≤◌, Bool, List, Some, length, get_or, slice_get, slice_index, sym, ap, ◌∙◌, arith}
-use Rattle.std.proofs.lemmas.Grind.{common_steps}
-use Rattle.std.proofs.lemmas.Option.{get_or_from_slice_get, slice_get-get_or, slice_get_within}
-use Rattle.half_store.specs.Slots.{slots_from, slot_at}
-use Rattle.half_store.specs.Search.{ReturnsAt}
+use Rattle.half_store.proofs.Common.{◌≡◌, ◌≤◌, length, ◌∙◌, arith, ℕ, ◌-◌, ◌<◌, sym, ap, Bool, List, Some, get_or, slice_index, common_steps}
+use Rattle.half_store.proofs.Common.{get_or_from_slice_get, slice_get-get_or, slice_get_within, ReturnsAt, slots_from, slot_at}
+use Rattle.std.proofs.Common.{slice_get}
 use Rattle.half_store.proofs.lemmas.table.Buckets.{word_of_slot}
 
 -- the match returned it at this index

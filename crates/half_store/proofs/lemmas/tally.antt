@@ -1,7 +1,5 @@
 -- Work that is added up.
-use Rattle.std.proofs.Common.{◌≡◌, ℕ, ◌+◌, ◌-◌, refl, arith}
-use Rattle.std.proofs.lemmas.Grind.{common_steps}
-use Rattle.half_store.specs.Work.{looked_more, ReadsWithin, Work}
+use Rattle.half_store.proofs.Common.{◌≡◌, ◌+◌, refl, arith, ℕ, ◌-◌, common_steps, Work, looked_more, ReadsWithin}
 
 pub same_work : (a b : Work) → a.asked ≡ b.asked → a.compared ≡ b.compared → a.looked ≡ b.looked → a ≡ b
 same_work a b x y z = λ i. record { asked = x i; compared = y i; looked = z i }

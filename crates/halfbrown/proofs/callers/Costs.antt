@@ -1,10 +1,8 @@
 -- What an insertion hashes, for callers that count.
-use Rattle.std.proofs.Common.{◌≡◌, ℕ, ◌+◌, ◌<◌, ◌≤◌, Bool, true, false, length, arith}
-use Rattle.std.proofs.lemmas.Grind.{common_steps}
+use Rattle.halfbrown.proofs.Common.{◌≡◌, ℕ, ◌+◌, ◌<◌, ◌≤◌, Bool, true, false, length, arith, common_steps, State}
 use Rattle.std.proofs.lemmas.Bool.Decides.{nat_tests}
 use Rattle.halfbrown.specs.Costs.{insert_asked}
 use Rattle.halfbrown.specs.Growth.{is_vec_after}
-use Rattle.halfbrown.specs.State.{State}
 
 module _ {K V S : Type 0} (limit : ℕ) (m : State K V S) where
   -- a vector below its limit stays one

@@ -1,23 +1,20 @@
 -- What follows of changed lists of pairs, for callers: the set `map_facts` has those that `grind` applies, and `using` takes it.
-use Rattle.std.proofs.Common.{◌≡◌, ℕ, suc, ◌+◌, ◌<◌, ◌≤◌, Bool, true, false, cond, ◌⊎◌, List, [], ◌∷◌, ◌++◌, length, take}
-use Rattle.std.proofs.Common.{reverse, get_or, slice_get, Option, Some, unwrap_or, count_by, refl, ap, ◌∙◌}
-use Rattle.std.proofs.Common.{append-nil, arith}
-use Rattle.std.proofs.lemmas.Grind.{common_steps}
-use Rattle.std.specs.Cmp.{IsEquivalence}
-use Rattle.std.specs.List.{IsDistinct, filter, list_any}
-use Rattle.std.specs.Map.{keys_of, values_of, lookup, lookup_entry}
-use Rattle.std.specs.Option.{option_map, option_map_or}
+use Rattle.halfbrown.proofs.Common.{◌≡◌, ℕ, ◌+◌, ◌<◌, ◌≤◌, Bool, true, false, length, arith, suc, cond, List, [], ◌∷◌, ◌++◌, take, get_or, slice_get, Option}
+use Rattle.halfbrown.proofs.Common.{Some, unwrap_or, refl, ap, ◌∙◌, common_steps, map-append, take_more, IsDistinct-tail, IsEquivalence, IsDistinct, keys_of}
+use Rattle.halfbrown.proofs.Common.{values_of, lookup, lookup_entry, option_map, index_of, swap_remove_at, value_of, holds, holds_by, put, set_by, take_out_by}
+use Rattle.halfbrown.proofs.Common.{HasPut}
+use Rattle.std.proofs.Common.{◌⊎◌}
+use Rattle.std.proofs.Common.{reverse, count_by}
+use Rattle.std.proofs.Common.{append-nil}
+use Rattle.std.specs.List.{filter, list_any}
+use Rattle.std.specs.Option.{option_map_or}
 use Rattle.std.proofs.lemmas.Cmp.{nat_eq_equiv}
-use Rattle.std.proofs.lemmas.List.{map-append, take_more}
 use Rattle.std.proofs.lemmas.List.Sorted.{IsPermutation-reverse}
 use Rattle.std.proofs.lemmas.List.Sums.{count_by-le-length, fold_push}
 use Rattle.std.proofs.lemmas.Map.Entries.{none_past_head, option_filter}
 use Rattle.std.proofs.lemmas.Map.{lookup-none}
-use Rattle.std.proofs.lemmas.Map.Keys.{IsDistinct-tail}
-use Rattle.half_store.specs.PairLists.{index_of, swap_remove_at}
 use Rattle.halfbrown.specs.FromIter.{last_value_of}
-use Rattle.halfbrown.specs.Pairs.{IsForm, value_of, holds, holds_by, put, set_by, take_out_by}
-use Rattle.halfbrown.specs.Updates.{HasPut}
+use Rattle.halfbrown.specs.Pairs.{IsForm}
 use Rattle.halfbrown.proofs.callers.Pairs.{value_of_equal, lookup_permuted}
 use Rattle.halfbrown.proofs.lemmas.pairs.Indices.{value_of_entry}
 use Rattle.halfbrown.proofs.lemmas.pairs.Changes.{map-swap_remove_at}

@@ -1,23 +1,17 @@
 -- What callers read off a list of pairs after a put or a removal: which key has which value, and how many pairs there are.
-use Rattle.std.proofs.Common.{◌≡◌, ℕ, ◌+◌, Bool, true, false, cond, List, [], ◌∷◌, ◌++◌, length, get_or, Option, None, Some, is_some, refl}
-use Rattle.std.proofs.Common.{sym, ap, ◌∙◌, arith}
-use Rattle.std.proofs.lemmas.Grind.{common_steps}
-use Rattle.std.specs.Cmp.{IsEquivalence}
-use Rattle.std.specs.List.{IsDistinct}
+use Rattle.halfbrown.proofs.Common.{◌≡◌, ℕ, ◌+◌, Bool, true, false, length, arith, cond, List, [], ◌∷◌, ◌++◌, get_or, Option, Some, refl, ap, ◌∙◌, None}
+use Rattle.halfbrown.proofs.Common.{is_some, sym, common_steps, map-append, get_or_default, slice_get_within, get_or_from_slice_get, IsEquivalence, IsDistinct}
+use Rattle.halfbrown.proofs.Common.{keys_of, lookup, index_of, swap_remove_at, IsIndexOf, IsAbsent, value_of, holds, put, set_by, take_out_by, HasPut}
+use Rattle.halfbrown.proofs.Common.{HasRemovedBy}
 use Rattle.std.specs.List.Sorted.{IsPermutation}
-use Rattle.std.specs.Map.{keys_of, lookup}
 use Rattle.std.proofs.Math.ListN.{get_or-map}
-use Rattle.std.proofs.lemmas.List.{get_or_default, map-append}
 use Rattle.std.proofs.lemmas.List.Sorted.{IsPermutation-map, IsPermutation-sym, Contains-permutation, length_permutation}
 use Rattle.std.proofs.lemmas.Map.{lookup-none}
 use Rattle.std.proofs.lemmas.Map.Entries.{place_from_lookup, none_past_head}
 use Rattle.std.proofs.lemmas.Map.Keys.{IsDistinct-IsPermutation}
 use Rattle.std.proofs.lemmas.Map.Views.{lookup-from_Contains}
-use Rattle.std.proofs.lemmas.Option.{slice_get_within, get_or_from_slice_get}
-use Rattle.half_store.specs.PairLists.{index_of, swap_remove_at}
-use Rattle.halfbrown.specs.Pairs.{IsForm, value_of, holds, put, take_out, set_by, take_out_by}
-use Rattle.halfbrown.specs.Lookup.{IsIndexOf, IsAbsent}
-use Rattle.halfbrown.specs.Updates.{HasPut, HasRemoved, HasRemovedBy}
+use Rattle.halfbrown.specs.Pairs.{IsForm, take_out}
+use Rattle.halfbrown.specs.Updates.{HasRemoved}
 use Rattle.halfbrown.proofs.lemmas.pairs.Indices.{first_of_index, first_passes, index_found, absent_of_index}
 use Rattle.halfbrown.proofs.lemmas.pairs.Changes.{IsPermutation-swap_remove_at, length-swap_remove_at}
 

@@ -1,22 +1,15 @@
 -- Pairs under what is read of their keys, as texts under their bytes: a look-up, a put, a set value and a removal there.
-use Rattle.std.proofs.Common.{◌≡◌, ℕ, ◌+◌, ◌<◌, ◌≤◌, length, String, arith, take, get_or, unwrap_or, subst, Bool, false, cond, List}
-use Rattle.std.proofs.Common.{[], ◌∷◌, ◌++◌, map, Option, Some, refl, sym, ap, ◌∙◌}
-use Rattle.std.proofs.lemmas.Grind.{common_steps}
-use Rattle.std.specs.Cmp.{IsEquivalence}
+use Rattle.halfbrown.proofs.Common.{◌≡◌, ℕ, ◌+◌, ◌<◌, ◌≤◌, Bool, false, length, arith, cond, List, [], ◌∷◌, ◌++◌, take, get_or, Option, Some, unwrap_or, refl}
+use Rattle.halfbrown.proofs.Common.{ap, ◌∙◌, sym, subst, map, common_steps, map-append, take_more, IsEquivalence, AllByRecursion, keys_of, lookup, option_map}
+use Rattle.halfbrown.proofs.Common.{index_of, value_of, put, set_by, take_out_by, Removes, State, HasPut}
+use Rattle.std.proofs.Common.{String}
 use Rattle.std.specs.Cmp.Lexicographic.{nat_list_eq_equiv}
-use Rattle.std.specs.List.{IsDistinct, AllByRecursion}
-use Rattle.std.specs.Map.{keys_of, lookup}
-use Rattle.std.specs.Option.{option_map}
+use Rattle.std.specs.List.{IsDistinct}
 use Rattle.std.specs.Str.{bytes_eq}
 use Rattle.std.specs.String.{string_bytes, string_eq}
-use Rattle.std.proofs.lemmas.List.{map-append, take_more}
 use Rattle.std.proofs.Math.ListN.{length-map}
-use Rattle.half_store.specs.PairLists.{index_of}
-use Rattle.halfbrown.specs.Pairs.{value_of, put, set_by, take_out_by}
 use Rattle.halfbrown.specs.Insertion.{Puts}
-use Rattle.halfbrown.specs.Removal.{Removes}
-use Rattle.halfbrown.specs.State.{State}
-use Rattle.halfbrown.specs.Updates.{HasPut, HasRemoved}
+use Rattle.halfbrown.specs.Updates.{HasRemoved}
 use Rattle.halfbrown.proofs.callers.Pairs.{has_put, has_removed}
 use Rattle.halfbrown.proofs.lemmas.pairs.Changes.{map-swap_remove_at}
 use Rattle.halfbrown.specs.CallerLoops.{CountsEach, keyed_by}

@@ -1,18 +1,14 @@
 -- What callers read off the values of a list of pairs after a change: their sum, and the pairs once a value is set by its index.
 -- `using` takes the sets at the end.
-use Rattle.std.proofs.Common.{◌≡◌, ℕ, ◌+◌, ◌-◌, ◌≤◌, Bool, cond, List, [], ◌∷◌, ◌++◌, length, slice_get, get_or, Option, None, Some}
-use Rattle.std.proofs.Common.{unwrap_or, sum, refl, sym, ap, ◌∙◌, arith}
-use Rattle.std.proofs.lemmas.Grind.{common_steps}
-use Rattle.std.proofs.lemmas.List.{get_or_default, map_push}
+use Rattle.halfbrown.proofs.Common.{◌≡◌, ℕ, ◌+◌, ◌≤◌, Bool, length, arith, cond, List, [], ◌∷◌, ◌++◌, get_or, slice_get, Option, Some, unwrap_or, refl, ap, ◌∙◌}
+use Rattle.halfbrown.proofs.Common.{None, sym, ◌-◌, common_steps, get_or_default, slice_get-get_or, slice_get-map, IsEquivalence, IsDistinct, keys_of}
+use Rattle.halfbrown.proofs.Common.{values_of, lookup, option_map, index_of, swap_remove_at, set_value_at, length-set_value_at, value_of, holds_by, put, set_by}
+use Rattle.halfbrown.proofs.Common.{take_out_by}
+use Rattle.std.proofs.Common.{sum}
+use Rattle.std.proofs.lemmas.List.{map_push}
 use Rattle.std.proofs.lemmas.List.Sums.{sum_by-cons, fold_push}
 use Rattle.std.proofs.lemmas.Map.Entries.{sum_by_values_permutation}
-use Rattle.std.proofs.lemmas.Option.{slice_get-get_or, slice_get-map}
-use Rattle.std.specs.Cmp.{IsEquivalence}
-use Rattle.std.specs.List.{IsDistinct, sum_by}
-use Rattle.std.specs.Map.{keys_of, values_of, lookup}
-use Rattle.std.specs.Option.{option_map}
-use Rattle.half_store.specs.PairLists.{index_of, set_value_at, swap_remove_at, length-set_value_at}
-use Rattle.halfbrown.specs.Pairs.{holds_by, value_of, put, set_by, take_out_by}
+use Rattle.std.specs.List.{sum_by}
 use Rattle.halfbrown.proofs.callers.Keys.{set_same}
 use Rattle.halfbrown.proofs.callers.Pairs.{lookup_put}
 use Rattle.halfbrown.proofs.lemmas.map.Layout.{keys_of-set_value_at}

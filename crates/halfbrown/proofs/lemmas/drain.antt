@@ -1,14 +1,11 @@
 -- What each step of a `Drain` gives and leaves, along a run.
+use Rattle.halfbrown.proofs.Common.{◌≡◌, ◌<◌, ◌≤◌, true, false, length, arith, [], ◌∷◌, refl, ap, subst, common_steps, StoreState, IsTableCapacity}
 use mathlib.Core.HLevel.{is_prop→PathP}
-use Rattle.std.proofs.Common.{arith, ◌≡◌, ◌<◌, ◌≤◌, true, false, [], ◌∷◌, length, refl, ap, subst}
-use Rattle.std.proofs.lemmas.Grind.{common_steps}
 use Rattle.std.proofs.Props.{props}
 use Rattle.std.proofs.iter.runs.Sources.{as_is, from_front}
 use Rattle.std.specs.Iterator.Runs.{YieldsInOrder}
-use Rattle.half_store.specs.Store.{StoreState}
 use Rattle.halfbrown.specs.Drain.{DrainsSameMap, KeepsAlong, DrainSteps, rest}
 use Rattle.halfbrown.specs.declared.drain.Drain.{Drain}
-use Rattle.halfbrown.specs.State.{IsTableCapacity}
 use Rattle.std.specs.declared.cmp.PartialEq as eq
 use Rattle.std.specs.declared.hash.Hash as hash
 use Rattle.halfbrown.specs.declared.key_hasher.KeyHasher as hashers

@@ -1,6 +1,5 @@
 -- What was cloned are the first elements, in order; the capacity stays.
-use Rattle.std.proofs.Common.{◌≡◌, ◌≤◌, length, take, vec_len, vec_capacity}
-use Rattle.std.specs.List.{AllZip}
+use Rattle.half_store.proofs.Common.{◌≡◌, ◌≤◌, length, take, vec_len, vec_capacity, AllZip}
 use Rattle.half_store.proofs.blocks.clone_all.Given as goal
 
 abbrev pub invariant-loop-item : goal.invariant-loop-item

@@ -1,5 +1,5 @@
 -- What was moved and what is left are all elements, in order; the capacity stays.
-use Rattle.std.proofs.Common.{◌≡◌, ◌+◌, ◌++◌, vec_len, vec_capacity}
+use Rattle.half_store.proofs.Common.{◌≡◌, vec_len, vec_capacity, ◌+◌, ◌++◌}
 use Rattle.std.specs.Vec.Iter.{into_iter_items, into_iter_len}
 use Rattle.half_store.proofs.blocks.move_to.Given as goal
 

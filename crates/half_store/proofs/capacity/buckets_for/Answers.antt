@@ -1,5 +1,4 @@
-use Rattle.std.proofs.Common.{◌≡◌, ◌*◌, inr, refl, ◌∙◌, arith}
-use Rattle.std.proofs.lemmas.Grind.{common_steps}
+use Rattle.half_store.proofs.Common.{◌≡◌, ◌*◌, inr, refl, ◌∙◌, arith, common_steps}
 use Rattle.half_store.specs.Capacity.{more_buckets, buckets_for}
 use Rattle.half_store.proofs.lemmas.capacity.{buckets_for-is, four-le_count, more_buckets-count, more_buckets-some, more_buckets-least}
 use Rattle.half_store.proofs.lemmas.capacity.{capacity_of-below}

@@ -1,5 +1,4 @@
-use Rattle.std.proofs.Common.{ℕ, ◌-◌, ◌^◌, ◌<◌, ◌≤◌}
-use Rattle.half_store.specs.Capacity.{capacity_of, IsBucketCount}
+use Rattle.half_store.proofs.Common.{◌≤◌, ℕ, ◌-◌, ◌^◌, ◌<◌, capacity_of, IsBucketCount}
 use Rattle.half_store.proofs.capacity.buckets_for.Given as goal
 
 -- the count is one of the series, and no smaller one serves

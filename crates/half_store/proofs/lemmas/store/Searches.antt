@@ -1,17 +1,14 @@
 -- What a search of the columns or of the index says of the store over them.
-use Rattle.std.proofs.Common.{◌≡◌, ℕ, ◌+◌, ◌≤◌, Option, Bool, List, length, None, Some, Ok, Err, refl, sym, ap, subst, ◌∙◌, arith, true≢false}
-use Rattle.std.proofs.lemmas.Map.Entries.{length-keys_of}
-use Rattle.std.proofs.lemmas.Option.{slice_get_within}
-use Rattle.std.specs.List.{slice_get}
+use Rattle.half_store.proofs.Common.{◌≡◌, ◌≤◌, length, ◌+◌, refl, ◌∙◌, arith, ℕ, sym, ap, Bool, List, Some, Option, None, subst, length-keys_of}
+use Rattle.half_store.proofs.Common.{slice_get_within, slice_get, ColumnsState, reach, filling_reach, ReturnsAt, vector_of, table_of, TableState, TableSearch}
+use Rattle.half_store.proofs.Common.{Work}
+use Rattle.std.proofs.Common.{Ok, Err, true≢false}
 use Rattle.std.specs.Map.{keys_of}
 use Rattle.half_store.specs.declared.store.find.Vacancy.{Vacancy}
 use Rattle.half_store.specs.declared.vecmap.search.Scan.{Scan}
-use Rattle.half_store.specs.Columns.{ColumnsState}
-use Rattle.half_store.specs.Reach.{reach, filling_reach}
-use Rattle.half_store.specs.Search.{ReturnsAt, IsFirstMatch, StoreSearch, ComparesInOrder, IsStoreSearchCost}
-use Rattle.half_store.specs.Store.{StoreState, IsTableOver, vector_of, table_of}
-use Rattle.half_store.specs.Table.{TableState, TableSearch}
-use Rattle.half_store.specs.Work.{Work, IsTableHitCost, after_missing}
+use Rattle.half_store.specs.Search.{IsFirstMatch, StoreSearch, ComparesInOrder, IsStoreSearchCost}
+use Rattle.half_store.specs.Store.{StoreState, IsTableOver}
+use Rattle.half_store.specs.Work.{IsTableHitCost, after_missing}
 
 module _ {K V : Type 0} (columns : ColumnsState K V) {keys : List K} (same : keys ≡ keys_of columns.pairs) where
   -- a key of the columns is the one that was read

@@ -1,17 +1,14 @@
 -- What stays true of a store whose columns change.
-use Rattle.std.proofs.Common.{◌≡◌, ℕ, zero, suc, Bool, List, [], ◌∷◌, length, Option, None, Some, is_none, if◌then◌else◌, refl, sym, arith, ap, subst}
-use Rattle.std.proofs.Common.{◌∙◌}
-use Rattle.std.proofs.lemmas.Grind.{common_steps}
-use Rattle.std.proofs.lemmas.Option.{same_Some}
-use Rattle.std.proofs.lemmas.Map.Entries.{length-keys_of}
+use Rattle.half_store.proofs.Common.{◌≡◌, length, refl, ◌∙◌, arith, ℕ, zero, suc, sym, ap, Bool, List, Some, Option, None, subst, [], ◌∷◌, if◌then◌else◌}
+use Rattle.half_store.proofs.Common.{common_steps, length-keys_of, same_Some, ColumnsState, set_key_at, set_value_at, set_values, swap_remove_at, vector_of}
+use Rattle.half_store.proofs.Common.{table_of, TableState}
+use Rattle.std.proofs.Common.{is_none}
 use Rattle.half_store.proofs.lemmas.vecmap.Zip.{length-zip}
 use Rattle.std.specs.Borrow.{Bor}
 use Rattle.std.specs.Global.{Box}
-use Rattle.half_store.specs.Columns.{ColumnsState}
-use Rattle.half_store.specs.PairLists.{set_key_at, set_value_at, set_values, swap_remove_at, length-set_value_at}
+use Rattle.half_store.specs.PairLists.{length-set_value_at}
 use Rattle.half_store.specs.ValueReplacement.{kept_pairs, with_answer, ReplacesValue}
-use Rattle.half_store.specs.Store.{StoreState, IsStore, IsTableOver, SameFormAndCapacity, vector_of, table_of, store_of}
-use Rattle.half_store.specs.Table.{TableState}
+use Rattle.half_store.specs.Store.{StoreState, IsStore, IsTableOver, SameFormAndCapacity, store_of}
 
 module _ {K V : Type 0} where
   pub length-set_key_at : (ps : List (K × V)) (i : ℕ) (k : K) → length (set_key_at ps i k) ≡ length ps

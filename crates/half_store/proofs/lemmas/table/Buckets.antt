@@ -1,15 +1,15 @@
 -- The words of the buckets: the hashes that they stand for, and that each entry index stands in one of them.
-use Rattle.std.proofs.Common.{◌≡◌, ◌≢◌, ℕ, zero, suc, ◌+◌, ◌-◌, ◌<◌, ◌≤◌, Bool, true, false, ◌==◌, inl, inr, refl, sym, ap, ◌∙◌, arith}
-use Rattle.std.proofs.Common.{List, [], ◌∷◌, length, set, slice_index, replicate, count_by, Some, None}
-use Rattle.std.proofs.lemmas.Grind.{common_steps}
-use Rattle.std.specs.List.{All, slice_get}
-use Rattle.std.proofs.lemmas.Bool.{cases_lt, cases_eq, cases_Bool, eq-eqb, ne_eqb}
-use Rattle.std.proofs.lemmas.List.{length-map, length-set, map-set, get_or-set_same, get_or-set_other, get_or_past, ext_get_or}
+use Rattle.half_store.proofs.Common.{◌≡◌, ◌≤◌, length, ◌+◌, inr, refl, ◌∙◌, arith, ℕ, ◌-◌, ◌<◌, zero, suc, inl, sym, ap, Bool, List, Some, slice_index, None}
+use Rattle.half_store.proofs.Common.{[], ◌∷◌, ◌≢◌, true, false, ◌==◌, set, replicate, count_by, cases_lt, cases_eq, eq-eqb, ne_eqb, common_steps, length-set}
+use Rattle.half_store.proofs.Common.{get_or-set_same, get_or-set_other, get_or_past, sum_by-cons, slice_get-get_or, slice_get, slots_from, slot_at}
+use Rattle.half_store.proofs.Common.{hash_of_word, EachOnce}
+use Rattle.std.specs.List.{All}
+use Rattle.std.proofs.lemmas.Bool.{cases_Bool}
+use Rattle.std.proofs.lemmas.List.{length-map, map-set, ext_get_or}
 use Rattle.std.proofs.lemmas.List.Elements.{All-from_get_or, All-set, All-replicate}
-use Rattle.std.proofs.lemmas.List.Sums.{sum_by-cons, sum_by-set, get_or-le-sum_by}
-use Rattle.std.proofs.lemmas.Option.{slice_get-get_or}
+use Rattle.std.proofs.lemmas.List.Sums.{sum_by-set, get_or-le-sum_by}
 use borrow.Author.Tests.{eqb-true}
-use Rattle.half_store.specs.Slots.{hash_of_word, slots_from, WithinHashes, EachOnce, slot_at}
+use Rattle.half_store.specs.Slots.{WithinHashes}
 use Rattle.half_store.proofs.lemmas.table.Counts.{tick, tick_yes, tick_no, count_to, count_to-none, count_by-count_to}
 use Rattle.half_store.proofs.lemmas.table.Slots.{some≢none}
 use Rattle.std.proofs.Math.ListN as lists

@@ -1,6 +1,5 @@
 -- Distances round the buckets, where the first follows the last.
-use Rattle.std.proofs.Common.{◌≡◌, ℕ, suc, ◌+◌, ◌-◌, ◌<◌, ◌≤◌, ◌⊎◌, arith}
-use Rattle.std.proofs.lemmas.Bool.Decides.{nat_tests}
+use Rattle.half_store.proofs.Common.{◌≡◌, ◌≤◌, ◌+◌, arith, ℕ, ◌-◌, ◌<◌, suc, ◌⊎◌, nat_tests}
 use Rattle.half_store.specs.Reach.{probe_distance, bucket_after}
 
 -- what `probe_distance` is

@@ -1,11 +1,9 @@
 -- Counting the buckets that pass a test.
-use Rattle.std.proofs.Common.{◌≡◌, ◌≢◌, ℕ, zero, suc, ◌+◌, ◌-◌, ◌<◌, ◌≤◌, Bool, true, false, cond, ltb, ◌⊎◌, inl, inr, refl, sym, ap, ◌∙◌}
-use Rattle.std.proofs.lemmas.Grind.{common_steps}
-use Rattle.std.proofs.Common.{arith, List, length, get_or, take, min, count_by}
-use Rattle.std.proofs.lemmas.Bool.{cases_lt, cases_eq, lt-ltb, le-ltb}
-use Rattle.std.proofs.lemmas.List.{take_all}
+use Rattle.half_store.proofs.Common.{◌≡◌, ◌≤◌, length, take, ◌+◌, inr, refl, ◌∙◌, arith, ℕ, ◌-◌, ◌<◌, zero, suc, inl, sym, ap, Bool, List, get_or, ◌≢◌, true}
+use Rattle.half_store.proofs.Common.{false, count_by, ◌⊎◌, cond, cases_lt, cases_eq, lt-ltb, le-ltb, common_steps, take_all, probe_distance}
+use Rattle.std.proofs.Common.{ltb}
+use Rattle.std.proofs.Common.{min}
 use Rattle.std.proofs.lemmas.List.Sums.{sum_by_more}
-use Rattle.half_store.specs.Reach.{probe_distance}
 use Rattle.half_store.proofs.lemmas.table.Circle.{distance_is}
 
 -- 1 where a test passes

@@ -1,13 +1,9 @@
 -- Backward-shift deletion: what holds while the probe goes on, and that the order is whole again at its end.
-use Rattle.std.proofs.Common.{◌≡◌, ◌≢◌, ℕ, ◌+◌, ◌-◌, ◌<◌, ◌≤◌, ◌⊎◌, inl, inr, sym, ap, ◌∙◌, subst, arith, List, length, set, slice_index}
-use Rattle.std.proofs.Common.{Option, Some, None}
-use Rattle.std.proofs.lemmas.Grind.{common_steps}
-use Rattle.std.proofs.lemmas.Bool.{cases_eq}
-use Rattle.std.proofs.lemmas.List.{length-set, set-set}
-use Rattle.std.proofs.lemmas.Option.{same_Some}
-use Rattle.half_store.specs.Slots.{hash_of_word, slots_from, EachOnce, slot_at, HasVacantSlot, ProbeInvariant}
-use Rattle.half_store.specs.Reach.{home, probe_distance, bucket_after}
-use Rattle.half_store.specs.Table.{HasGap, IsIndexedButFor, IsEmptyBeside}
+use Rattle.half_store.proofs.Common.{◌≡◌, ◌≤◌, length, ◌+◌, inr, ◌∙◌, arith, ℕ, ◌-◌, ◌<◌, inl, sym, ap, List, Some, slice_index, Option, None, subst, ◌≢◌, set}
+use Rattle.half_store.proofs.Common.{◌⊎◌, cases_eq, common_steps, length-set, same_Some, probe_distance, bucket_after, home, slots_from, slot_at, hash_of_word}
+use Rattle.half_store.proofs.Common.{EachOnce, HasVacantSlot, ProbeInvariant, IsIndexedButFor, IsEmptyBeside}
+use Rattle.std.proofs.lemmas.List.{set-set}
+use Rattle.half_store.specs.Table.{HasGap}
 use Rattle.half_store.proofs.lemmas.table.Buckets.{length-slots_from, hash_of_word-at, slot_of_word, slot_of_zero, word_set, word_other, within-at}
 use Rattle.half_store.proofs.lemmas.table.Buckets.{EachOnce-move}
 use Rattle.half_store.proofs.lemmas.table.Circle.{distance_is, after_is, next_farther, probe_distance-lt, distance_same}

@@ -1,12 +1,10 @@
 -- A table that insertions fill, and what searches for its pairs read.
-use Rattle.std.proofs.Common.{◌≡◌, ℕ, ◌-◌, ◌<◌, ◌≤◌, Bool, true, inl, inr, refl, sym, ap, ◌∙◌, subst, arith, List, [], ◌∷◌, length, set, replicate, Option, Some, None}
-use Rattle.std.proofs.lemmas.Bool.{cases_lt}
-use Rattle.std.proofs.lemmas.List.{length-set, length-replicate, get_or-replicate, get_or_past}
+use Rattle.half_store.proofs.Common.{◌≡◌, ◌≤◌, length, inr, refl, ◌∙◌, arith, ℕ, ◌-◌, ◌<◌, inl, sym, ap, Bool, List, Some, Option, None, subst, [], ◌∷◌, true}
+use Rattle.half_store.proofs.Common.{set, replicate, cases_lt, length-set, get_or_past, length-replicate, get_or-replicate, sum_by-cons, count_by-le-length}
+use Rattle.half_store.proofs.Common.{reach, filling_reach, probe_distance, bucket_after, home, slot_at, HasVacantSlot, ProbeInvariant, stored, IsSlotVacancy}
+use Rattle.half_store.proofs.Common.{probe_reads}
 use Rattle.std.proofs.lemmas.List.Folds.{sum_by-replicate}
-use Rattle.std.proofs.lemmas.List.Sums.{sum_by-cons, sum_by-set, count_by-le-length}
-use Rattle.half_store.specs.Reach.{home, probe_distance, bucket_after, reach, filling_reach}
-use Rattle.half_store.specs.Slots.{slot_at, stored, IsSlotVacancy, HasVacantSlot, ProbeInvariant}
-use Rattle.half_store.specs.Work.{probe_reads}
+use Rattle.std.proofs.lemmas.List.Sums.{sum_by-set}
 use Rattle.half_store.proofs.lemmas.table.Circle.{bucket_after-probe_distance}
 use Rattle.half_store.proofs.lemmas.table.Counts.{count_to-le, count_to-all, count_by-count_to, tick}
 use Rattle.half_store.proofs.lemmas.table.Layout.{ordered-add}

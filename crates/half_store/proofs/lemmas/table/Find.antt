@@ -1,15 +1,13 @@
 -- What a search of a table finds, and what a probe costs.
-use Rattle.std.proofs.Common.{◌≡◌, ◌≢◌, ℕ, ◌+◌, ◌-◌, ◌<◌, ◌≤◌, Bool, true, false, refl, sym, ap, ◌∙◌, subst, arith, List, length, slice_index}
-use Rattle.std.proofs.Common.{Option, Some, count_by, ◌==◌}
-use Rattle.std.proofs.lemmas.Grind.{common_steps}
-use Rattle.std.specs.List.{slice_get, swap_remove}
+use Rattle.half_store.proofs.Common.{◌≡◌, ◌≤◌, length, ◌+◌, refl, ◌∙◌, arith, ℕ, ◌-◌, ◌<◌, sym, ap, Bool, List, Some, slice_index, Option, subst, ◌≢◌, true}
+use Rattle.half_store.proofs.Common.{false, ◌==◌, count_by, common_steps, count_by-le-length, get_or_from_slice_get, slice_get_within, slice_get, swap_remove}
+use Rattle.half_store.proofs.Common.{reach, probe_distance, slots_from, slot_at, stored, IsSlotVacancy, distance_from_home, TableState, TableSearch}
+use Rattle.half_store.proofs.Common.{state_of_words, table_contents, IsIndexed, Work, probe_reads, looked_more, ReadsWithin, removal_reads}
 use Rattle.std.specs.Prelude.{Result, Ok, Err, IfOk, IfErr, OnOk, OnErr}
-use Rattle.std.proofs.lemmas.List.Sums.{count_by-le-length}
-use Rattle.std.proofs.lemmas.Option.{slice_get_within, get_or_from_slice_get}
-use Rattle.half_store.specs.Slots.{slots_from, slot_at, stored, IsSlotVacancy, EndsAtPair, distance_from_home}
-use Rattle.half_store.specs.Reach.{probe_distance, reach, HomesApart}
-use Rattle.half_store.specs.Work.{after_missing, looked_more, ReadsWithin, removal_reads, Work, probe_reads}
-use Rattle.half_store.specs.Table.{TableState, state_of_words, table_contents, IsIndexed, TableSearch, RemovesFromTable, hit_reads_in}
+use Rattle.half_store.specs.Slots.{EndsAtPair}
+use Rattle.half_store.specs.Reach.{HomesApart}
+use Rattle.half_store.specs.Work.{after_missing}
+use Rattle.half_store.specs.Table.{RemovesFromTable, hit_reads_in}
 use Rattle.half_store.proofs.lemmas.table.Buckets.{length-slots_from, slot_of_word, slot_of_zero, some_bucket}
 use Rattle.half_store.proofs.lemmas.table.Circle.{distance_self}
 use Rattle.half_store.proofs.lemmas.capacity.{buckets_of-capacity_of, capacity_for-capacity_of}

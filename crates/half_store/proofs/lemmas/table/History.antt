@@ -1,8 +1,9 @@
 -- The order of the held hashes does not matter to a probe, nor does which hashes of a home they are.
-use Rattle.std.proofs.Common.{◌≡◌, ℕ, zero, suc, ◌-◌, nat_lt, inl, inr, refl, sym, ap, ◌∙◌, arith, List, IsPermutation}
-use Rattle.std.proofs.lemmas.Bool.{cases_lt}
+use Rattle.half_store.proofs.Common.{◌≡◌, inr, refl, ◌∙◌, arith, ℕ, ◌-◌, zero, suc, inl, sym, ap, List, nat_lt, cases_lt, reach, probe_distance, bucket_after}
+use Rattle.half_store.proofs.Common.{home}
+use Rattle.std.proofs.Common.{IsPermutation}
 use Rattle.std.proofs.lemmas.List.Sorted.{sum_by-IsPermutation}
-use Rattle.half_store.specs.Reach.{home, probe_distance, bucket_after, load, loaded_within, loaded_run, reach}
+use Rattle.half_store.specs.Reach.{load, loaded_within, loaded_run}
 use Rattle.half_store.proofs.lemmas.table.Counts.{tick}
 use Rattle.half_store.proofs.lemmas.table.Reach.{reach-none, reach-some}
 

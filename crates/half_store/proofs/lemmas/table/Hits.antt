@@ -1,14 +1,15 @@
 -- What searches read that find their pairs: all together as much as insertions do that fill an empty table.
-use Rattle.std.proofs.Common.{◌≡◌, ℕ, zero, suc, ◌+◌, ◌<◌, ◌≤◌, Bool, true, false, cond, ◌==◌, inl, inr, refl, sym, ap, ◌∙◌, subst, arith}
-use Rattle.std.proofs.Common.{List, [], ◌∷◌, length, slice_index, Option, Some, None, sum_by}
-use Rattle.std.proofs.lemmas.Bool.{cases_lt, ne_eqb, eq-eqb, cond-true, cond-false, both_ways, false≢true}
+use Rattle.half_store.proofs.Common.{◌≡◌, ◌≤◌, length, ◌+◌, inr, refl, ◌∙◌, arith, ℕ, ◌<◌, zero, suc, inl, sym, ap, Bool, List, Some, slice_index, Option, None}
+use Rattle.half_store.proofs.Common.{subst, [], ◌∷◌, true, false, ◌==◌, cond, cases_lt, eq-eqb, ne_eqb, filling_reach, probe_distance, home, bucket_is_loaded}
+use Rattle.half_store.proofs.Common.{slots_from, slot_at, HasVacantSlot, ProbeInvariant, state_of_words, table_contents, IsIndexed, probe_reads}
+use Rattle.std.proofs.Common.{sum_by}
+use Rattle.std.proofs.lemmas.Bool.{cond-true, cond-false, both_ways, false≢true}
 use Rattle.std.proofs.lemmas.List.Sums.{fails_before_first, passes_at_first}
 use Rattle.std.specs.List.{position_or_len}
 use borrow.Author.Tests.{eqb-true}
-use Rattle.half_store.specs.Reach.{home, probe_distance, bucket_is_loaded, filling_reach}
-use Rattle.half_store.specs.Slots.{slots_from, slot_at, bucket_of, HasVacantSlot, ProbeInvariant}
-use Rattle.half_store.specs.Table.{IsIndexed, state_of_words, table_contents, hit_reads_in, all_hit_reads_in}
-use Rattle.half_store.specs.Work.{probe_reads, sum_below}
+use Rattle.half_store.specs.Slots.{bucket_of}
+use Rattle.half_store.specs.Table.{hit_reads_in, all_hit_reads_in}
+use Rattle.half_store.specs.Work.{sum_below}
 use Rattle.half_store.proofs.lemmas.capacity.{four-le_count}
 use Rattle.half_store.proofs.lemmas.table.Buckets.{length-slots_from, slot_of_word, slot_of_zero, within-at, some_bucket, same_bucket}
 use Rattle.half_store.proofs.lemmas.table.Circle.{distance_is, probe_distance-lt}

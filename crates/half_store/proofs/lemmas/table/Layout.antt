@@ -1,22 +1,17 @@
 -- The index of a table: what its buckets say of its hashes, a pair that is added, one that is removed, and no pair at all.
-use Rattle.std.proofs.Common.{◌≡◌, ◌≢◌, ℕ, zero, suc, ◌+◌, ◌<◌, ◌≤◌, Bool, true, inl, inr, refl, sym, ap, ◌∙◌, subst, arith, List, [], ◌∷◌}
-use Rattle.std.proofs.Common.{◌++◌, length, set, slice_index, replicate, Option, Some, None}
-use Rattle.std.proofs.lemmas.Grind.{common_steps}
-use Rattle.std.specs.List.{swap_remove}
-use Rattle.std.proofs.lemmas.Bool.{cases_lt, cases_eq}
-use Rattle.std.proofs.lemmas.List.{length-set, length_push, length-replicate, get_or_append_left, get_or_push}
-use Rattle.std.proofs.lemmas.List.{get_or-replicate, get_or_past}
-use Rattle.std.proofs.lemmas.List.Sums.{count_by-le-length}
-use Rattle.std.proofs.lemmas.Option.{same_Some, slice_get-get_or, slice_get_within, get_or_from_slice_get}
-use Rattle.half_store.specs.Slots.{hash_of_word, slots_from, EachOnce, slot_at, stored, IsSlotVacancy, HasVacantSlot, ProbeInvariant}
-use Rattle.half_store.specs.Capacity.{capacity_of, buckets_of, IsBucketCount}
-use Rattle.half_store.specs.Reach.{home, probe_distance, reach, IsNearer, HomesApart}
-use Rattle.half_store.specs.Table.{TableState, state_of_words, HasGap, IsIndexed, IsIndexedButFor, IsTable, IsEmptyBeside}
+use Rattle.half_store.proofs.Common.{◌≡◌, ◌≤◌, length, ◌+◌, ◌++◌, inr, refl, ◌∙◌, arith, ℕ, ◌<◌, zero, suc, inl, sym, ap, Bool, List, Some, slice_index, Option}
+use Rattle.half_store.proofs.Common.{None, subst, [], ◌∷◌, ◌≢◌, true, set, replicate, cases_lt, cases_eq, common_steps, length-set, get_or_past}
+use Rattle.half_store.proofs.Common.{length-replicate, get_or-replicate, get_or_append_left, get_or_push, count_by-le-length, get_or_from_slice_get}
+use Rattle.half_store.proofs.Common.{slice_get-get_or, slice_get_within, same_Some, swap_remove, capacity_of, IsBucketCount, buckets_of, reach, probe_distance}
+use Rattle.half_store.proofs.Common.{home, slots_from, slot_at, hash_of_word, EachOnce, HasVacantSlot, ProbeInvariant, stored, IsSlotVacancy, TableState}
+use Rattle.half_store.proofs.Common.{IsIndexedButFor, IsEmptyBeside, state_of_words, IsIndexed, AreWordsFor}
+use Rattle.std.proofs.lemmas.List.{length_push}
+use Rattle.half_store.specs.Reach.{IsNearer, HomesApart}
+use Rattle.half_store.specs.Table.{HasGap, IsTable}
 use Rattle.half_store.proofs.lemmas.table.Buckets.{length-slots_from, hash_of_word-at, slots_from-set, slots_from-same, slot_of_word, slot_of_zero}
 use Rattle.half_store.proofs.lemmas.table.Buckets.{word_of_slot, zero_of_slot, word_set, word_other, word-lt, within-at, same_bucket}
 use Rattle.half_store.proofs.lemmas.table.Buckets.{EachOnce-add, EachOnce-remove, EachOnce-empty, length-remove, remove-at, remove-last}
 use Rattle.half_store.proofs.lemmas.table.Buckets.{remove-other, count_each}
-use Rattle.half_store.specs.Words.{AreWordsFor}
 use Rattle.half_store.proofs.lemmas.table.Mask.{count-le_half}
 use Rattle.half_store.proofs.lemmas.tally.{looked_more-zero}
 use Rattle.half_store.proofs.lemmas.capacity.{four-le_count, buckets_of-capacity_of}

@@ -1,11 +1,9 @@
 -- Masks of bucket counts, which are powers of two.
-use Rattle.std.proofs.Common.{◌≡◌, ℕ, ◌+◌, ◌-◌, ◌%◌, ◌^◌, ◌<◌, ◌≤◌, bit_and, inl, inr, ap, sym, ◌∙◌, arith}
-use Rattle.std.proofs.lemmas.Grind.{common_steps}
+use Rattle.half_store.proofs.Common.{◌≡◌, ◌≤◌, ◌+◌, inr, ◌∙◌, arith, ℕ, ◌-◌, ◌^◌, ◌<◌, inl, sym, ap, cases_lt, common_steps, IsBucketCount, probe_distance}
+use Rattle.half_store.proofs.Common.{bucket_after}
+use Rattle.std.proofs.Common.{◌%◌, bit_and}
 use Rattle.std.proofs.Math.Nat.{pow-le-pow_right, mod-eq_of_lt}
-use Rattle.std.proofs.lemmas.Bool.{cases_lt}
 use Rattle.std.proofs.lemmas.Nat.{and_mask}
-use Rattle.half_store.specs.Capacity.{IsBucketCount}
-use Rattle.half_store.specs.Reach.{probe_distance, bucket_after}
 use Rattle.half_store.proofs.lemmas.table.Circle.{distance_is, after_is}
 
 -- the mask of a power of two is the remainder

@@ -1,19 +1,18 @@
 -- Where probes end, and what they read and compare, over the held hashes alone.
-use Rattle.std.proofs.Common.{◌≡◌, ◌≢◌, ℕ, ◌+◌, ◌-◌, ◌<◌, ◌≤◌, Bool, true, false, nat_lt, ◌==◌, ◌&&◌, inl, inr, refl, sym, ap, ◌∙◌}
-use Rattle.std.proofs.Common.{arith, List, length, Option, Some, None, count_by}
-use Rattle.std.proofs.lemmas.Grind.{common_steps}
-use Rattle.std.proofs.lemmas.Bool.{cases_Bool, lt-ltb, le-ltb, eq-eqb, ne_eqb, and_parts, and_from, and_left, and_right}
-use Rattle.std.proofs.lemmas.Option.{same_Some}
-use Rattle.std.proofs.lemmas.List.Sums.{count_by-le-length}
+use Rattle.half_store.proofs.Common.{◌≡◌, ◌≤◌, length, ◌+◌, inr, refl, ◌∙◌, arith, ℕ, ◌-◌, ◌<◌, inl, sym, ap, Bool, List, Some, Option, None, ◌≢◌, true, false}
+use Rattle.half_store.proofs.Common.{◌==◌, count_by, nat_lt, eq-eqb, ne_eqb, lt-ltb, le-ltb, common_steps, count_by-le-length, same_Some, reach, probe_distance}
+use Rattle.half_store.proofs.Common.{bucket_after, home, bucket_is_loaded, slot_at, HasVacantSlot, ProbeInvariant, stored, IsSlotVacancy, distance_from_home}
+use Rattle.half_store.proofs.Common.{Work, looked_more, compared_more}
+use Rattle.std.proofs.Common.{◌&&◌}
+use Rattle.std.proofs.lemmas.Bool.{cases_Bool, and_parts, and_from, and_left, and_right}
 use borrow.Author.Tests.{ltb-true, eqb-true}
-use Rattle.half_store.specs.Reach.{home, probe_distance, bucket_after, load, bucket_is_loaded, reach}
-use Rattle.half_store.specs.Slots.{slot_at, stored, FullBefore, IsSlotVacancy, HasVacantSlot, ProbeInvariant, distance_from_home}
+use Rattle.half_store.specs.Reach.{load}
+use Rattle.half_store.specs.Slots.{FullBefore}
 use Rattle.half_store.proofs.lemmas.table.Circle.{probe_distance-lt, bucket_after-lt, probe_distance-bucket_after}
 use Rattle.half_store.proofs.lemmas.table.Circle.{bucket_after-probe_distance, distance_same}
 use Rattle.half_store.proofs.lemmas.table.Counts.{count_to, count_to-same, count_to-le, count_to_more, count_to-none, count_by-count_to}
 use Rattle.half_store.proofs.lemmas.table.Counts.{ahead_size}
 use Rattle.half_store.proofs.lemmas.table.Reach.{bucket_is_loaded-yes, bucket_is_loaded-no, loaded_run-is, reach-some}
-use Rattle.half_store.specs.Work.{Work, looked_more, compared_more}
 use Rattle.half_store.proofs.lemmas.table.Mask.{mask_mod}
 use Rattle.half_store.proofs.lemmas.table.Buckets.{length-slots_from}
 use Rattle.half_store.proofs.lemmas.tally.{looked_more-zero}

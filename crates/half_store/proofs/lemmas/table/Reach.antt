@@ -1,7 +1,9 @@
 -- How far a probe goes, said of loads alone.
-use Rattle.std.proofs.Common.{◌≡◌, ℕ, zero, suc, ◌-◌, ◌<◌, ◌≤◌, true, false, leb, inl, inr, refl, ap, subst, arith, List}
-use Rattle.std.proofs.lemmas.Bool.{cases_eq, le-leb, lt-leb, ne_eqb, or_from, or_left, or_right}
-use Rattle.half_store.specs.Reach.{home, bucket_after, load, loaded_within, bucket_is_loaded, loaded_run, reach, IsLoaded}
+use Rattle.half_store.proofs.Common.{◌≡◌, ◌≤◌, inr, refl, arith, ℕ, ◌-◌, ◌<◌, zero, suc, inl, ap, List, subst, true, false, cases_eq, ne_eqb, bucket_after}
+use Rattle.half_store.proofs.Common.{home, load, bucket_is_loaded}
+use Rattle.std.proofs.Common.{leb}
+use Rattle.std.proofs.lemmas.Bool.{le-leb, lt-leb, or_from, or_left, or_right}
+use Rattle.half_store.specs.Reach.{loaded_within, loaded_run, reach, IsLoaded}
 use Rattle.half_store.proofs.lemmas.table.Circle.{bucket_after-zero, after_next, bucket_after-lt}
 
 module _ (hashes : List ℕ) (m : ℕ) where

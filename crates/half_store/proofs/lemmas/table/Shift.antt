@@ -1,20 +1,14 @@
 -- A pair that becomes the last one: the buckets contain what they did, and then it is removed.
-use Rattle.std.proofs.Common.{◌≡◌, ℕ, zero, suc, ◌+◌, ◌-◌, ◌<◌, ◌≤◌, ◌==◌, nat_lt, if◌then◌else◌, inl, inr, refl, sym, ap, ◌∙◌, subst, arith}
-use Rattle.std.proofs.Common.{List, [], ◌∷◌, ◌++◌, length, slice_index, Some, IsPermutation, ◌*◌}
-use Rattle.std.proofs.lemmas.Bool.{cases_lt, cases_eq}
-use Rattle.std.proofs.lemmas.Bool.Decides.{nat_tests}
-use Rattle.std.proofs.lemmas.List.{length_push, get_or_append_left, get_or_push, get_or_default}
+use Rattle.half_store.proofs.Common.{◌≡◌, ◌≤◌, length, ◌+◌, ◌++◌, ◌*◌, inr, refl, ◌∙◌, arith, ℕ, ◌-◌, ◌<◌, zero, suc, inl, sym, ap, List, Some, slice_index}
+use Rattle.half_store.proofs.Common.{subst, [], ◌∷◌, if◌then◌else◌, ◌==◌, nat_lt, cases_lt, cases_eq, nat_tests, get_or_append_left, get_or_push}
+use Rattle.half_store.proofs.Common.{get_or_default, slice_get-get_or, remove, capacity_of, IsBucketCount, reach, slots_from, hash_of_word, EachOnce}
+use Rattle.half_store.proofs.Common.{ProbeInvariant, IsIndexed, removal_reads}
+use Rattle.std.proofs.Common.{IsPermutation}
+use Rattle.std.proofs.lemmas.List.{length_push}
 use Rattle.std.proofs.lemmas.List.Edits.{length-remove, get_or-remove_below, get_or-remove_above}
 use Rattle.std.proofs.lemmas.List.Elements.{All-from_get_or}
 use Rattle.std.proofs.lemmas.List.Sorted.{IsPermutation-append_comm, IsPermutation-remove, IsPermutation-trans}
-use Rattle.std.proofs.lemmas.Option.{slice_get-get_or}
-use Rattle.std.specs.List.{remove}
-use Rattle.half_store.specs.Slots.{hash_of_word, slots_from, EachOnce, ProbeInvariant}
-use Rattle.half_store.specs.Capacity.{capacity_of, IsBucketCount}
-use Rattle.half_store.specs.Work.{removal_reads}
-use Rattle.half_store.specs.Reach.{reach}
 use Rattle.half_store.specs.StoreRemoval.{moved_word, MovesLast}
-use Rattle.half_store.specs.Table.{IsIndexed}
 use Rattle.half_store.proofs.lemmas.table.Buckets.{slots_from-same, within-at}
 use Rattle.half_store.proofs.lemmas.table.Counts.{count_to, count_to-same, count_by-count_to}
 use Rattle.half_store.proofs.lemmas.table.History.{reach-permutation}

@@ -1,14 +1,15 @@
 -- Full buckets are loaded, empty ones are not; so a probe ends where `reach` says.
-use Rattle.std.proofs.Common.{◌≡◌, ◌≢◌, ℕ, zero, suc, ◌+◌, ◌-◌, ◌<◌, ◌≤◌, Bool, true, false, ltb, nat_lt, ◌⊎◌, inl, inr, refl, sym, ap, ◌∙◌}
-use Rattle.std.proofs.Common.{subst, arith, List, length, set, Option, Some, None, is_some, count_by}
-use Rattle.std.proofs.lemmas.Grind.{common_steps}
-use Rattle.std.proofs.lemmas.Bool.{cases_lt, cases_eq, lt-ltb, false≢true}
+use Rattle.half_store.proofs.Common.{◌≡◌, ◌≤◌, length, ◌+◌, inr, refl, ◌∙◌, arith, ℕ, ◌-◌, ◌<◌, zero, suc, inl, sym, ap, Bool, List, Some, Option, None, subst}
+use Rattle.half_store.proofs.Common.{◌≢◌, true, false, set, count_by, ◌⊎◌, nat_lt, cases_lt, cases_eq, lt-ltb, common_steps, get_or-set_same, get_or-set_other}
+use Rattle.half_store.proofs.Common.{get_or_past, probe_distance, bucket_after, home, slot_at, HasVacantSlot, ProbeInvariant, stored, IsSlotVacancy}
+use Rattle.half_store.proofs.Common.{distance_from_home}
+use Rattle.std.proofs.Common.{ltb}
+use Rattle.std.proofs.Common.{is_some}
+use Rattle.std.proofs.lemmas.Bool.{false≢true}
 use Rattle.std.proofs.lemmas.Nat.{mod_below}
-use Rattle.std.proofs.lemmas.List.{get_or_past, get_or-set_same, get_or-set_other}
 use borrow.Author.Tests.{ltb-true}
 use Rattle.std.specs.Prelude.{option_map}
-use Rattle.half_store.specs.Reach.{home, probe_distance, bucket_after}
-use Rattle.half_store.specs.Slots.{slot_at, stored, FullBefore, IsSlotVacancy, HasVacantSlot, ProbeInvariant, distance_from_home}
+use Rattle.half_store.specs.Slots.{FullBefore}
 use Rattle.half_store.proofs.lemmas.table.Circle.{probe_distance-lt, distance_self, bucket_after-lt, next_farther}
 use Rattle.half_store.proofs.lemmas.table.Circle.{probe_distance-bucket_after, bucket_after-probe_distance, distance_same, down-lt}
 use Rattle.half_store.proofs.lemmas.table.Circle.{probe_distance-down, down-probe_distance, home_in_stretch, nearer_than_home, after_is}

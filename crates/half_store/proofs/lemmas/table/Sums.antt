@@ -1,11 +1,9 @@
 -- Sums over buckets and over the hashes in them.
-use Rattle.std.proofs.Common.{◌≡◌, ◌≢◌, ℕ, zero, suc, ◌+◌, ◌*◌, ◌<◌, ◌≤◌, Bool, nat_lt, inl, inr, refl, sym, ap, ◌∙◌, arith}
-use Rattle.std.proofs.Common.{List, [], ◌∷◌, length, get_or, Option, Some, None, sum_by, count_by, min}
-use Rattle.std.proofs.lemmas.Grind.{common_steps}
-use Rattle.std.proofs.lemmas.Bool.{cases_eq, cases_lt, lt-ltb, le-ltb}
-use Rattle.std.proofs.lemmas.List.Sums.{sum_by-cons}
-use Rattle.half_store.specs.Slots.{slot_at, stored}
-use Rattle.half_store.specs.Work.{probe_reads, sum_below}
+use Rattle.half_store.proofs.Common.{◌≡◌, ◌≤◌, length, ◌+◌, ◌*◌, inr, refl, ◌∙◌, arith, ℕ, ◌<◌, zero, suc, inl, sym, ap, Bool, List, Some, get_or, Option, None}
+use Rattle.half_store.proofs.Common.{[], ◌∷◌, ◌≢◌, count_by, nat_lt, cases_lt, cases_eq, lt-ltb, le-ltb, common_steps, sum_by-cons, slot_at, stored}
+use Rattle.half_store.proofs.Common.{probe_reads}
+use Rattle.std.proofs.Common.{sum_by, min}
+use Rattle.half_store.specs.Work.{sum_below}
 use Rattle.half_store.proofs.lemmas.table.Counts.{tick, tick_yes, tick_no}
 use Rattle.half_store.proofs.lemmas.table.Probe.{SameCounts}
 

@@ -1,14 +1,12 @@
 -- What the two columns of a `Columns` are to its list of pairs.
-use Rattle.std.proofs.Common.{◌≡◌, ℕ, ◌<◌, List, length, get_or, Some, sym, ap, ◌∙◌, arith}
-use Rattle.std.proofs.lemmas.Grind.{common_steps}
+use Rattle.half_store.proofs.Common.{◌≡◌, length, ◌∙◌, arith, ℕ, ◌<◌, sym, ap, List, Some, get_or, common_steps, slice_get, zip, ColumnsState, set_values}
 use Rattle.std.proofs.lemmas.Map.Made.{keys_of-zip}
 use Rattle.std.proofs.lemmas.Slice.Zip.{seconds-zip}
-use Rattle.std.specs.List.{zip, slice_get, refill}
+use Rattle.std.specs.List.{refill}
 use Rattle.std.specs.declared.vec.Vec.{Vec}
 use Rattle.std.specs.Map.{keys_of, values_of}
 use Rattle.half_store.proofs.lemmas.vecmap.Zip.{length-zip, zip-refill, slice_get-zip, zip_push, zip-swap_remove_at, zip-set_key_at, zip-set_value_at, slice_get_at}
-use Rattle.half_store.specs.Columns.{ColumnsState, AreEven, columns_with}
-use Rattle.half_store.specs.PairLists.{set_values}
+use Rattle.half_store.specs.Columns.{AreEven, columns_with}
 
 module _ {K V Z : Type 0} where
   -- what a map sees of its columns

@@ -1,9 +1,8 @@
 -- A list from which one element was taken, and to which another came in its place.
-use Rattle.std.proofs.Common.{◌≡◌, ◌≢◌, ℕ, ◌-◌, ◌<◌, inl, inr, List, [], ◌∷◌, ◌++◌, length, take, set, get_or, sym, ap, ◌∙◌, arith}
-use Rattle.std.proofs.lemmas.Bool.{cases_lt, cases_eq}
-use Rattle.std.proofs.lemmas.List.{length-set, length-take-le, ext_get_or, get_or-take, get_or-set_same, get_or-set_other}
-use Rattle.std.proofs.lemmas.List.{get_or_append_left, get_or_push, get_or_default}
-use Rattle.std.specs.List.{SwappedAt, swap_remove}
+use Rattle.half_store.proofs.Common.{◌≡◌, length, take, ◌++◌, inr, ◌∙◌, arith, ℕ, ◌-◌, ◌<◌, inl, sym, ap, List, get_or, [], ◌∷◌, ◌≢◌, set, cases_lt, cases_eq}
+use Rattle.half_store.proofs.Common.{length-set, get_or-set_same, get_or-set_other, get_or_append_left, get_or_push, get_or_default, swap_remove}
+use Rattle.std.proofs.lemmas.List.{length-take-le, ext_get_or, get_or-take}
+use Rattle.std.specs.List.{SwappedAt}
 
 before_last : (i n : ℕ) → i < n → i ≢ n - 1 → i < n - 1
 before_last i n within apart = elim (cases_lt i (n - 1)) [ inl l ↦ l | inr ge ↦ absurd (apart (omega arith)) ]

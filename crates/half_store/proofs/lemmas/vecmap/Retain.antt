@@ -1,11 +1,10 @@
 -- What the loop of `retain` keeps: the pairs before an index were asked of, and those that stay are the first.
-use Rattle.std.proofs.Common.{◌≡◌, ℕ, zero, suc, ◌+◌, ◌<◌, ◌≤◌, Bool, true, false, cond, List, [], ◌∷◌, ◌++◌, length, get_or, set, map}
-use Rattle.std.proofs.Common.{take, drop, refl, sym, ap, ◌∙◌, subst, arith}
-use Rattle.std.proofs.lemmas.Grind.{common_steps}
+use Rattle.half_store.proofs.Common.{◌≡◌, ◌≤◌, length, take, ◌+◌, ◌++◌, refl, ◌∙◌, arith, ℕ, ◌<◌, zero, suc, sym, ap, Bool, List, get_or, subst, [], ◌∷◌, true}
+use Rattle.half_store.proofs.Common.{false, set, cond, map, drop, common_steps, zip, set_value_at}
 use Rattle.std.proofs.lemmas.List.{append-nil, append_assoc, drop_all, drop-set-lt, set-get_or}
-use Rattle.std.specs.List.{swap, zip}
+use Rattle.std.specs.List.{swap}
 use Rattle.std.specs.Map.Calls.{CallableOnEachPair, RetainsPairs}
-use Rattle.half_store.specs.PairLists.{set_value_at, length-set_value_at}
+use Rattle.half_store.specs.PairLists.{length-set_value_at}
 use Rattle.half_store.proofs.lemmas.vecmap.Zip.{get_or-zip, zip-set}
 
 module _ {X : Type 0} where

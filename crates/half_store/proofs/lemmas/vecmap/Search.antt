@@ -1,8 +1,7 @@
 -- A search that goes down from the end.
-use Rattle.std.proofs.Common.{◌≡◌, ◌∙◌, ap, Option, ℕ, ◌+◌, ◌-◌, ◌<◌, ◌≤◌, subst, ⊎_elim, eq-or-lt_of_le, arith}
-use Rattle.std.proofs.lemmas.Bool.{cases_lt}
-use Rattle.std.proofs.lemmas.Grind.{common_steps}
-use Rattle.half_store.specs.Work.{Work, compared_more, first_match_cost}
+use Rattle.half_store.proofs.Common.{◌≡◌, ◌≤◌, ◌+◌, ◌∙◌, arith, ℕ, ◌-◌, ◌<◌, ap, Option, subst, cases_lt, common_steps, Work, compared_more}
+use Rattle.std.proofs.Common.{⊎_elim, eq-or-lt_of_le}
+use Rattle.half_store.specs.Work.{first_match_cost}
 use Rattle.half_store.specs.Search.{ComparesInOrder}
 use Rattle.half_store.specs.declared.vecmap.search.Scan.{Scan}
 

@@ -1,10 +1,8 @@
 -- Two columns side by side as one list of pairs.
-use Rattle.std.proofs.Common.{◌≡◌, ℕ, zero, suc, ◌<◌, List, [], ◌∷◌, ◌++◌, length, get_or, take, Some, sym, refl, ap, ◌∙◌, arith}
-use Rattle.std.proofs.lemmas.Grind.{common_steps}
+use Rattle.half_store.proofs.Common.{◌≡◌, length, take, ◌++◌, refl, ◌∙◌, arith, ℕ, ◌<◌, zero, suc, sym, ap, List, Some, get_or, [], ◌∷◌, common_steps, take_all}
+use Rattle.half_store.proofs.Common.{AllZip, slice_get, swap_remove, remove, zip, set_key_at, set_value_at, set_values, swap_remove_at}
 use Rattle.std.proofs.Math.ListN.{set}
-use Rattle.std.proofs.lemmas.List.{take_all}
-use Rattle.std.specs.List.{AllZip, zip, slice_get, remove, swap_remove, refill}
-use Rattle.half_store.specs.PairLists.{set_key_at, set_value_at, set_values, swap_remove_at}
+use Rattle.std.specs.List.{refill}
 
 pub get_or_within : {X : Type 0} (xs : List X) (i : ℕ) (d e : X) → i < length xs → get_or xs i d ≡ get_or xs i e
 get_or_within [] i d e within = absurd (omega arith)

@@ -1,26 +1,15 @@
 -- What an entry is, of a key or a raw one, what is written, put and removed through it, and what it is after a closure had its value.
-use Rattle.std.proofs.Common.{◌≡◌, ℕ, ◌<◌, Bool, List, [], ◌∷◌, ◌++◌, length, slice_get, Some, refl, sym, ap, subst, ◌∙◌, arith}
-use Rattle.std.proofs.Common.{◌-◌, true, false, take, set, Option, None, IfSome, MatchOption, true≢false}
-use Rattle.std.proofs.lemmas.Grind.{common_steps}
+use Rattle.halfbrown.proofs.Common.{◌≡◌, ℕ, ◌<◌, Bool, true, false, length, arith, List, [], ◌∷◌, ◌++◌, take, slice_get, Option, Some, refl, ap, ◌∙◌, None, sym}
+use Rattle.halfbrown.proofs.Common.{subst, ◌-◌, IfSome, length-append, common_steps, Bor, IsEquivalence, IsDistinct, keys_of, values_of, option_map}
+use Rattle.halfbrown.proofs.Common.{swap_remove_at, set_value_at, length-set_value_at, set_key_at, Vacancy, with_entry_value, occupied, entry_value, IsWritten}
+use Rattle.halfbrown.proofs.Common.{insert_needs, Prepares, IsIndexOf, IsAbsent, take_out_by, State, map_with_pairs, WithPairs, HasRemovedBy}
+use Rattle.std.proofs.Common.{set, MatchOption, true≢false}
 use Rattle.std.proofs.lemmas.Map.Entries.{length-values_of}
-use Rattle.std.specs.Borrow.{MutBor, Bor}
+use Rattle.std.specs.Borrow.{MutBor}
 use Rattle.std.specs.Coded.{le_prop}
-use Rattle.std.specs.Cmp.{IsEquivalence}
-use Rattle.std.specs.List.{IsDistinct}
-use Rattle.std.specs.Map.{keys_of, values_of}
-use Rattle.std.specs.Option.{option_map}
-use Rattle.half_store.specs.PairLists.{set_key_at, set_value_at, swap_remove_at, length-set_value_at}
-use Rattle.half_store.specs.declared.store.find.Vacancy.{Vacancy}
 use Rattle.halfbrown.specs.declared.entry.OccupiedEntry.{OccupiedEntry}
-use Rattle.halfbrown.specs.Entry.{occupied, with_entry_value}
-use Rattle.halfbrown.specs.EntryView.{EntryView, entry_value, pairs_with, with_value}
-use Rattle.halfbrown.specs.EntryView.{IsEntryOf, PutsThroughEntry, IsRawEntryOf, IsWritten, ModifiesEntry, HasNewKey}
-use Rattle.halfbrown.specs.Growth.{insert_needs}
-use Rattle.halfbrown.specs.Lookup.{IsIndexOf, IsAbsent}
-use Rattle.halfbrown.specs.Insertion.{Prepares}
-use Rattle.halfbrown.specs.Pairs.{take_out_by}
-use Rattle.halfbrown.specs.State.{State, map_with_pairs, WithPairs}
-use Rattle.halfbrown.specs.Updates.{HasRemovedBy}
+use Rattle.halfbrown.specs.EntryView.{EntryView, pairs_with, with_value}
+use Rattle.halfbrown.specs.EntryView.{IsEntryOf, PutsThroughEntry, IsRawEntryOf, ModifiesEntry, HasNewKey}
 use Rattle.halfbrown.proofs.callers.Pairs.{has_put, has_removed_by}
 use Rattle.half_store.proofs.lemmas.store.States.{length-set_key_at, kept_value, lost_pair}
 use Rattle.halfbrown.proofs.lemmas.map.Layout.{keys_of-set_value_at}
@@ -29,7 +18,6 @@ use Rattle.halfbrown.proofs.lemmas.pairs.SetBy.{has_put_by, has_set_by, passes_a
 use Rattle.halfbrown.proofs.lemmas.pairs.Changes.{values_of-set_key_at, key-set_key_at, swap_remove_at-set_key_at, key_of-pair, set_value_at-twice}
 use Rattle.halfbrown.proofs.lemmas.pairs.Changes.{value-set_value_at, swap_remove_at-set_value_at, set_value_at-last, value-last, pair-last}
 use Rattle.halfbrown.proofs.lemmas.pairs.Changes.{length-swap_remove_at}
-use Rattle.std.proofs.Math.ListN.{length-append}
 use Rattle.half_store.specs.ValueReplacement.{kept_index, kept_pairs, ReplacesValue}
 use Rattle.halfbrown.specs.Replacement.{ReplacesEntry, HasNewValue, IsVacated}
 use Rattle.std.specs.declared.cmp.PartialEq as eq

@@ -1,27 +1,23 @@
 -- What becomes of items that are put one after another: of which keys the pairs are, and with which values.
-use Rattle.std.proofs.Common.{◌≡◌, Bool, true, false, not, List, [], ◌∷◌, ◌++◌, Option, Some, reverse, refl, sym, ap, ◌∙◌}
-use Rattle.std.proofs.Common.{ℕ, Result, IsErr, IsErrAnd, IfErr, OnOk, subst, nat_le, inl, inr, arith}
-use Rattle.std.proofs.lemmas.Grind.{common_steps}
+use Rattle.halfbrown.proofs.Common.{◌≡◌, ℕ, Bool, true, false, arith, List, [], ◌∷◌, ◌++◌, Option, Some, refl, ap, ◌∙◌, sym, subst, not, inl, inr, common_steps}
+use Rattle.halfbrown.proofs.Common.{IsEquivalence, keys_of, into_iter_items, Work, GrewBy, add_costs, insert_needs, value_of, put, State, IsValid}
+use Rattle.std.proofs.Common.{reverse}
+use Rattle.std.proofs.Common.{Result, IsErr, IsErrAnd, IfErr, OnOk, nat_le}
 use Rattle.std.proofs.lemmas.List.{reverse-append}
-use Rattle.std.specs.Cmp.{IsEquivalence}
-use Rattle.std.specs.Map.{keys_of}
 use Rattle.std.specs.Option.{option_or}
 use Rattle.halfbrown.specs.FromIter.{put_all, collected, last_value_of, InsertsAll, Extends, Collects, RefusedInsert}
 use Rattle.halfbrown.specs.FromIter.{RefusedCollect, insertions_cost, refused_cost}
-use Rattle.halfbrown.specs.Pairs.{value_of, put}
 use Rattle.halfbrown.proofs.callers.Keys.{holds_by-any}
 use Rattle.halfbrown.proofs.callers.Pairs.{keys_put, lookup_put}
 use Rattle.halfbrown.specs.CallerLoops.{add_keys}
 use Rattle.std.specs.Iterator.{Yields}
-use Rattle.std.specs.Vec.Iter.{into_iter_items, into_iter_steps}
+use Rattle.std.specs.Vec.Iter.{into_iter_steps}
 use Rattle.std.specs.declared.vec.IntoIter.{IntoIter}
-use Rattle.half_store.specs.Work.{Work}
 use Rattle.half_store.specs.declared.refusal.Refusal.{Refusal}
-use Rattle.halfbrown.specs.Costs.{GrewBy, no_cost, add_costs, insert_cost}
-use Rattle.halfbrown.specs.Growth.{insert_needs, IsRefusal}
+use Rattle.halfbrown.specs.Costs.{no_cost, insert_cost}
+use Rattle.halfbrown.specs.Growth.{IsRefusal}
 use Rattle.halfbrown.specs.Insertion.{Puts}
 use Rattle.halfbrown.specs.Making.{IsMade}
-use Rattle.halfbrown.specs.State.{State, IsValid}
 use Rattle.halfbrown.proofs.lemmas.map.Costs.{costs_assoc, none_more, more_none, spent_both}
 
 module _ {K V : Type 0} (eq : K → K → Bool) where

@@ -1,16 +1,13 @@
 -- What was spent at one time and at another is spent in all: what a search for a key spent, and what a granted insertion.
-use Rattle.std.proofs.Common.{◌≡◌, ◌∙◌, ◌+◌, ◌==◌, ◌&&◌, ℕ, Bool, ap, IfSome, sym, subst, arith, zero-add, add-zero, add_assoc, true, false, ◌<◌}
-use Rattle.std.proofs.Common.{length, if◌then◌else◌}
-use Rattle.std.proofs.lemmas.Grind.{common_steps}
-use Rattle.half_store.specs.Work.{Work, asked_more, looked_more}
-use Rattle.halfbrown.specs.Costs.{Cost, GrewBy, no_cost, add_costs, IsSearchCost, IsKeySearchCost, search_asked, switch_asked, capacity_after_switch}
+use Rattle.halfbrown.proofs.Common.{◌≡◌, ℕ, ◌+◌, ◌<◌, Bool, true, false, length, arith, ap, ◌∙◌, sym, subst, IfSome, ◌&&◌, common_steps, keys_of, index_of}
+use Rattle.halfbrown.proofs.Common.{Work, GrewBy, add_costs, IsSearchCost, is_full, Prepares, holds, State}
+use Rattle.std.proofs.Common.{◌==◌, zero-add, add-zero, add_assoc}
+use Rattle.std.proofs.Common.{if◌then◌else◌}
+use Rattle.half_store.specs.Work.{asked_more, looked_more}
+use Rattle.halfbrown.specs.Costs.{Cost, no_cost, IsKeySearchCost, search_asked, switch_asked, capacity_after_switch}
 use Rattle.halfbrown.specs.Costs.{IsInsertCost, raw_insert_cost, hit_reads}
-use Rattle.half_store.specs.PairLists.{index_of}
-use Rattle.std.specs.Map.{keys_of}
-use Rattle.halfbrown.specs.State.{State}
-use Rattle.halfbrown.specs.Growth.{is_full, is_vec_after, new_key_needs}
-use Rattle.halfbrown.specs.Pairs.{holds}
-use Rattle.halfbrown.specs.Insertion.{second_probe_reads, Prepares}
+use Rattle.halfbrown.specs.Growth.{is_vec_after, new_key_needs}
+use Rattle.halfbrown.specs.Insertion.{second_probe_reads}
 use Rattle.halfbrown.proofs.lemmas.pairs.Indices.{found_where_held}
 use Rattle.halfbrown.specs.RawEntry.{after_adding}
 

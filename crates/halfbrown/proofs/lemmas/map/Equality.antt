@@ -1,27 +1,21 @@
 -- When two lists of pairs of distinct keys are equal as maps: they are of one length, and the right holds each pair of the left.
-use Rattle.std.proofs.Common.{◌≡◌, ℕ, ◌≤◌, Bool, true, false, List, [], ◌∷◌, length, get_or, slice_get, Option, None, not}
-use Rattle.std.proofs.Common.{Some, is_some, refl, sym, ap, ◌∙◌, arith, drop, ◌+◌}
-use Rattle.std.proofs.lemmas.Grind.{common_steps}
+use Rattle.halfbrown.proofs.Common.{◌≡◌, ℕ, ◌+◌, ◌≤◌, Bool, true, false, length, arith, List, [], ◌∷◌, get_or, slice_get, Option, Some, refl, ap, ◌∙◌, None}
+use Rattle.halfbrown.proofs.Common.{is_some, sym, not, common_steps, length-keys_of, slice_get_within, get_or_from_slice_get, slice_get-get_or, Bor}
+use Rattle.halfbrown.proofs.Common.{IsEquivalence, IsDistinct, AllByRecursion, keys_of, lookup, Work, holds_pair, value_of, State}
+use Rattle.std.proofs.Common.{drop}
 use Rattle.std.specs.Bool.{Decides}
-use Rattle.std.specs.Borrow.{Bor}
-use Rattle.std.specs.Cmp.{IsEquivalence}
 use Rattle.std.specs.HashMap.Eq.{lookup_congr}
-use Rattle.std.specs.List.{AllByRecursion, IsDistinct, list_all}
-use Rattle.std.specs.Map.{keys_of, lookup}
+use Rattle.std.specs.List.{list_all}
 use Rattle.std.specs.Option.{option_copied, option_eq}
 use Rattle.std.proofs.lemmas.List.Sums.{AllPass-from_list_all, list_all-from_AllPass}
-use Rattle.std.proofs.lemmas.Map.Entries.{place_from_lookup, lookup_from_place, length-keys_of}
+use Rattle.std.proofs.lemmas.Map.Entries.{place_from_lookup, lookup_from_place}
 use Rattle.std.proofs.lemmas.Map.Keys.{IsDistinct-cons}
 use Rattle.std.proofs.lemmas.Map.Made.{is_some-lookup}
 use Rattle.std.proofs.lemmas.Map.Steps.{length-le_from_keys}
-use Rattle.std.proofs.lemmas.Option.{slice_get-get_or, slice_get_within, get_or_from_slice_get}
-use Rattle.halfbrown.specs.Equality.{same_value, same_pairs, holds_pair, keys_while_same, searched_keys, equal_has_same, same_pairs-Decides}
-use Rattle.halfbrown.specs.Pairs.{value_of}
+use Rattle.halfbrown.specs.Equality.{same_value, same_pairs, keys_while_same, searched_keys, equal_has_same, same_pairs-Decides}
 use Rattle.std.proofs.Math.ListN.{drop_of_length-le}
 use Rattle.std.proofs.Math.Seq.{drop-cons}
-use Rattle.half_store.specs.Work.{Work}
 use Rattle.halfbrown.specs.Costs.{IsKeySearchCost, AreSearchCosts}
-use Rattle.halfbrown.specs.State.{State}
 
 module _ {K V : Type 0} (eq : K → K → Bool) where
   -- no held key is equal to one that has no value

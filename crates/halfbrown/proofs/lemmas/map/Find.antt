@@ -1,27 +1,18 @@
 -- What a search costs.
-use Rattle.std.proofs.Common.{◌≡◌, ℕ, ◌+◌, ◌≤◌, Bool, true, false, List, length, map, Option}
-use Rattle.std.proofs.Common.{IfNone, IfSome, arith, ◌<◌, get_or, slice_get}
-use Rattle.std.proofs.lemmas.Grind.{common_steps}
-use Rattle.std.proofs.lemmas.Map.Entries.{length-keys_of}
-use Rattle.std.specs.Map.{keys_of}
+use Rattle.halfbrown.proofs.Common.{◌≡◌, ℕ, ◌+◌, ◌<◌, ◌≤◌, Bool, true, false, length, arith, List, get_or, slice_get, Option, map, IfSome, common_steps}
+use Rattle.halfbrown.proofs.Common.{length-keys_of, slice_get-get_or, slice_get-map, same_Some, IsDistinct, keys_of, result_ok, index_of, StoreState, Work}
+use Rattle.halfbrown.proofs.Common.{Vacancy, IsSearchCost, state_in, IsIndexOf, IsAbsent, KeySearch, State, contents_of}
+use Rattle.std.proofs.Common.{IfNone}
 use Rattle.half_store.specs.Reach.{reach, filling_reach}
 use Rattle.half_store.specs.Capacity.{buckets_of}
-use Rattle.half_store.specs.Work.{IsTableHitCost, after_missing, Work}
-use Rattle.halfbrown.specs.Costs.{IsSearchCost}
-use Rattle.halfbrown.specs.State.{State, contents_of}
+use Rattle.half_store.specs.Work.{IsTableHitCost, after_missing}
 use Rattle.std.proofs.Props.{props}
-use Rattle.half_store.specs.Store.{IsVacancy, StoreState}
+use Rattle.half_store.specs.Store.{IsVacancy}
 use Rattle.half_store.specs.Table.{Contents, hit_reads_in, all_hit_reads_in}
-use Rattle.half_store.specs.declared.store.find.Vacancy.{Vacancy}
 use Rattle.half_store.specs.declared.vecmap.search.Scan.{Scan}
-use Rattle.std.proofs.lemmas.Option.{same_Some, slice_get-get_or, slice_get-map}
-use Rattle.std.specs.List.{IsDistinct}
 use Rattle.std.specs.Prelude.{Result}
-use Rattle.std.specs.Result.{result_ok}
-use Rattle.half_store.specs.PairLists.{index_of}
 use Rattle.half_store.specs.Search.{StoreSearch, ComparesInOrder}
-use Rattle.halfbrown.specs.Layout.{state_in}
-use Rattle.halfbrown.specs.Lookup.{IsIndexOf, IsAbsent, KeySearch, IsMatch, HasNoMatch, MatchSearch}
+use Rattle.halfbrown.specs.Lookup.{IsMatch, HasNoMatch, MatchSearch}
 use Rattle.halfbrown.proofs.lemmas.pairs.Indices.{first_matched, index_of_first, none_at, absent_of_none}
 
 module _ {K V S : Type 0} (hash : S → K → ℕ) (wanted : ℕ) (m : State K V S) (before after : Work) where

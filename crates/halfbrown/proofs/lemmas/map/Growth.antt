@@ -1,13 +1,10 @@
 -- A full vector holds as many pairs as the limit allows, and a form that is not full stays.
-use Rattle.std.proofs.Common.{◌≡◌, ℕ, ◌+◌, Bool, true, false, ◌&&◌, length, arith, not}
-use Rattle.std.proofs.lemmas.Grind.{common_steps}
+use Rattle.halfbrown.proofs.Common.{◌≡◌, ℕ, ◌+◌, Bool, true, false, length, arith, not, ◌&&◌, common_steps, is_full, Prepares, State}
 use Rattle.std.proofs.lemmas.Bool.Decides.{nat_tests}
 use Rattle.std.specs.Prelude.{Some, None, if◌then◌else◌}
 use Rattle.half_store.specs.Capacity.{capacity_for}
 use Rattle.halfbrown.specs.Costs.{capacity_after_switch}
-use Rattle.halfbrown.specs.Growth.{is_full, switch_needs, Grants}
-use Rattle.halfbrown.specs.Insertion.{Prepares}
-use Rattle.halfbrown.specs.State.{State}
+use Rattle.halfbrown.specs.Growth.{switch_needs, Grants}
 
 pub and_false : (b : Bool) → (b && false) ≡ false
 and_false b = grind (arith, common_steps)

@@ -1,12 +1,10 @@
 -- Insertions: what was prepared for a pair, and the pair put then.
-use Rattle.std.proofs.Common.{◌≡◌, ℕ, Bool, List, Option, Some, Ok, arith}
-use Rattle.std.proofs.lemmas.Grind.{common_steps}
-use Rattle.std.specs.Cmp.{IsEquivalence}
-use Rattle.std.specs.Map.{keys_of}
-use Rattle.halfbrown.specs.Growth.{insert_needs, new_key_needs}
-use Rattle.halfbrown.specs.Insertion.{InsertsAt, InsertsNewKey, Prepares}
-use Rattle.halfbrown.specs.Pairs.{index_of, put, value_of}
-use Rattle.halfbrown.specs.State.{State, IsValid, WithPairs}
+use Rattle.halfbrown.proofs.Common.{◌≡◌, ℕ, Bool, arith, List, Option, Some, common_steps, IsEquivalence, keys_of, insert_needs, Prepares, value_of, put, State}
+use Rattle.halfbrown.proofs.Common.{WithPairs, IsValid}
+use Rattle.std.proofs.Common.{Ok}
+use Rattle.halfbrown.specs.Growth.{new_key_needs}
+use Rattle.halfbrown.specs.Insertion.{InsertsAt, InsertsNewKey}
+use Rattle.halfbrown.specs.Pairs.{index_of}
 use Rattle.halfbrown.proofs.callers.Pairs.{has_put}
 
 module _ {K V S : Type 0} (limit : ℕ) (eq : K → K → Bool) (laws : IsEquivalence eq) (old middle new : State K V S) (k : K) (v : V)

@@ -1,11 +1,10 @@
 -- Pairs whose values are written.
-use Rattle.std.proofs.Common.{◌≡◌, ℕ, ◌<◌, ◌^◌, Bool, List, [], ◌∷◌, length, zip, refl, ap, subst, arith}
-use Rattle.std.specs.Map.{keys_of, values_of}
+use Rattle.halfbrown.proofs.Common.{◌≡◌, ℕ, ◌<◌, Bool, length, arith, List, [], ◌∷◌, refl, ap, subst, zip, keys_of, values_of, StoreState, state_in}
+use Rattle.halfbrown.proofs.Common.{IsMapInvariant, State, map_with_pairs, IsValid}
+use Rattle.std.proofs.Common.{◌^◌}
 use Rattle.half_store.proofs.lemmas.store.States.{length-set_values}
 use Rattle.half_store.specs.PairLists.{set_values}
-use Rattle.half_store.specs.Store.{StoreState, store_with_pairs}
-use Rattle.halfbrown.specs.Layout.{IsMapInvariant, state_in}
-use Rattle.halfbrown.specs.State.{State, IsValid, map_with_pairs}
+use Rattle.half_store.specs.Store.{store_with_pairs}
 use Rattle.halfbrown.specs.Updates.{HasValues, KeepsKeys}
 use Rattle.halfbrown.proofs.lemmas.map.Layout.{kept_keys, state_of}
 use Rattle.std.proofs.iter.runs.Sources.{from_front, as_is}

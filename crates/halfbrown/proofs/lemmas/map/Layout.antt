@@ -1,33 +1,21 @@
 -- What the fields of a map keep, from call to call.
-use Rattle.std.proofs.Common.{◌≡◌, ℕ, suc, ◌<◌, ◌≤◌, Bool, true, false, List, [], ◌∷◌, ◌++◌, length, slice_get, Some, map, sym}
-use Rattle.std.proofs.Common.{refl, ap, subst, ◌∙◌, arith, true≢false, cond, Option, Result, Ok, Err, IfErr, OnOk}
-use Rattle.std.proofs.lemmas.Grind.{common_steps}
-use Rattle.std.proofs.lemmas.List.{map-append}
-use Rattle.std.proofs.Math.ListN.{length-append}
-use Rattle.std.specs.Cmp.{IsEquivalence}
-use Rattle.std.specs.List.{IsDistinct, AllByRecursion, AllZip, Contains}
-use Rattle.std.specs.Map.{keys_of}
-use Rattle.std.proofs.lemmas.Map.Entries.{length-keys_of}
-use Rattle.std.proofs.lemmas.Map.Keys.{IsDistinct-push, IsDistinct-head, IsDistinct-tail, IsDistinct-cons}
+use Rattle.halfbrown.proofs.Common.{◌≡◌, ℕ, ◌<◌, ◌≤◌, Bool, true, false, length, arith, suc, cond, List, [], ◌∷◌, ◌++◌, slice_get, Option, Some, refl, ap, ◌∙◌}
+use Rattle.halfbrown.proofs.Common.{sym, subst, map, length-append, common_steps, map-append, length-keys_of, IsDistinct-tail, slice_get-map, Bor}
+use Rattle.halfbrown.proofs.Common.{IsEquivalence, AllByRecursion, keys_of, option_map, swap_remove_at, set_value_at, length-set_value_at, set_key_at}
+use Rattle.halfbrown.proofs.Common.{StoreState, Vacancy, state_in, IsMapInvariant, IsIndexOf, IsAbsent, holds, IsTableCapacity, IsValid}
+use Rattle.std.proofs.Common.{true≢false, Result, Ok, Err, IfErr, OnOk}
+use Rattle.std.specs.List.{IsDistinct, AllZip, Contains}
+use Rattle.std.proofs.lemmas.Map.Keys.{IsDistinct-push, IsDistinct-head, IsDistinct-cons}
 use Rattle.half_store.proofs.lemmas.store.States.{length-set_key_at, kept_value as value_kept, lost_pair}
 use Rattle.half_store.specs.Columns.{no_pairs}
-use Rattle.half_store.specs.PairLists.{set_key_at, set_value_at, swap_remove_at, length-set_value_at}
-use Rattle.half_store.specs.Store.{StoreState, SameFormAndCapacity, store_pushed, store_with_pairs, vector_of}
-use Rattle.half_store.specs.declared.store.find.Vacancy.{Vacancy}
-use Rattle.halfbrown.specs.Layout.{IsMapInvariant, state_in}
-use Rattle.halfbrown.specs.Lookup.{IsAbsent, IsIndexOf}
-use Rattle.halfbrown.specs.State.{IsValid, IsTableCapacity}
+use Rattle.half_store.specs.Store.{SameFormAndCapacity, store_pushed, store_with_pairs, vector_of}
 use Rattle.halfbrown.proofs.lemmas.pairs.Changes.{keys_of-set_key_at, map-set_alike, IsDistinct-set, map-swap_remove_at, length-swap_remove_at}
 use Rattle.halfbrown.proofs.lemmas.pairs.Changes.{IsDistinct-swap_remove_at}
 use Rattle.halfbrown.proofs.lemmas.pairs.Indices.{none_of_index, any_of_none, absent_of_unheld, index_of_pair}
 use Rattle.std.specs.Map.Calls.{RetainsPairs}
 use Rattle.halfbrown.specs.Clone.{ArePairClones}
-use Rattle.std.proofs.lemmas.Option.{slice_get-map}
-use Rattle.std.specs.Borrow.{Bor}
-use Rattle.std.specs.Option.{option_map}
 use Rattle.std.specs.Result.{result_err}
 use Rattle.half_store.specs.ValueReplacement.{kept_pairs, ReplacesValue}
-use Rattle.halfbrown.specs.Pairs.{holds}
 use Rattle.halfbrown.proofs.callers.Pairs.{has_removed}
 
 module _ {K V : Type 0} where

@@ -1,27 +1,17 @@
 -- Removals: what the map is without the pair that was found.
-use Rattle.std.specs.Map.{lookup, lookup_entry}
-use Rattle.std.proofs.Common.{arith, ◌≡◌, ℕ, ◌-◌, ◌≤◌, Bool, true, ◌++◌, length, slice_get, Option, None, Some, option_to_list}
-use Rattle.std.proofs.Common.{refl, sym, subst, ◌∙◌, map}
-use Rattle.std.proofs.lemmas.Grind.{common_steps}
-use Rattle.std.specs.Cmp.{IsEquivalence}
+use Rattle.halfbrown.proofs.Common.{◌≡◌, ℕ, ◌≤◌, Bool, true, length, arith, ◌++◌, slice_get, Option, Some, refl, ◌∙◌, None, sym, subst, map, ◌-◌, common_steps}
+use Rattle.halfbrown.proofs.Common.{length-keys_of, slice_get_within, IsEquivalence, lookup, lookup_entry, option_map, swap_remove_at, StoreState, Vacancy}
+use Rattle.halfbrown.proofs.Common.{state_in, IsMapInvariant, KeySearch, take_out_by, Removes, State, WithPairs, IsValid, HasRemovedBy}
+use Rattle.std.proofs.Common.{option_to_list}
 use Rattle.std.proofs.lemmas.List.{append-nil}
-use Rattle.std.proofs.lemmas.Option.{slice_get_past, slice_get_within}
-use Rattle.std.specs.Option.{option_map}
+use Rattle.std.proofs.lemmas.Option.{slice_get_past}
 use Rattle.std.specs.Prelude.{Result, Ok, Err, IfNone}
-use Rattle.half_store.specs.PairLists.{swap_remove_at}
 use Rattle.half_store.specs.StoreRemoval.{RemovesFound, StoreShiftRemoves}
-use Rattle.half_store.specs.Store.{StoreState}
-use Rattle.half_store.specs.declared.store.find.Vacancy.{Vacancy}
-use Rattle.halfbrown.specs.Layout.{IsMapInvariant, state_in}
-use Rattle.halfbrown.specs.Lookup.{KeySearch, FindsIndex}
-use Rattle.halfbrown.specs.Pairs.{take_out_by}
-use Rattle.halfbrown.specs.Removal.{Removes, RemovesAt, ShiftRemoves, ShiftRemovesAt}
-use Rattle.halfbrown.specs.State.{State, IsValid, WithPairs}
-use Rattle.halfbrown.specs.Updates.{HasRemovedBy}
+use Rattle.halfbrown.specs.Lookup.{FindsIndex}
+use Rattle.halfbrown.specs.Removal.{RemovesAt, ShiftRemoves, ShiftRemovesAt}
 use Rattle.halfbrown.proofs.callers.Pairs.{has_left, has_all, has_removed_by}
 use Rattle.halfbrown.proofs.lemmas.map.Layout.{kept_taken, state_of, kept_as}
 use Rattle.halfbrown.proofs.lemmas.pairs.Indices.{value_of_entry, index_of_pair, last_taken, some_is_not_none}
-use Rattle.std.proofs.lemmas.Map.Entries.{length-keys_of}
 use Rattle.std.proofs.lemmas.List.Edits.{length-remove}
 use Rattle.std.proofs.lemmas.List.Sorted.{IsPermutation-remove}
 use Rattle.std.specs.List.{remove}

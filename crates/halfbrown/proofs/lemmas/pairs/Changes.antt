@@ -1,20 +1,18 @@
 -- Lists of pairs of which one has another key, another value, or is gone.
-use Rattle.std.proofs.Common.{◌≡◌, ℕ, zero, suc, ◌+◌, ◌<◌, Bool, List, [], ◌∷◌, length, map, take, get_or, refl, ap, subst, arith}
-use Rattle.std.proofs.Common.{◌++◌, set, slice_get, Some, ◌∙◌, true, false, Option, IfSome, sym, None}
-use Rattle.std.proofs.lemmas.Grind.{common_steps}
+use Rattle.halfbrown.proofs.Common.{◌≡◌, ℕ, ◌+◌, ◌<◌, Bool, true, false, length, arith, suc, List, [], ◌∷◌, ◌++◌, take, get_or, slice_get, Option, Some, refl}
+use Rattle.halfbrown.proofs.Common.{ap, ◌∙◌, None, sym, subst, map, IfSome, zero, common_steps, get_or_default, IsDistinct-tail, slice_get-map, same_Some}
+use Rattle.halfbrown.proofs.Common.{slice_get_cases, IsEquivalence, AllByRecursion, keys_of, values_of, option_map, index_of, swap_remove_at, set_value_at}
+use Rattle.halfbrown.proofs.Common.{set_key_at, value_of}
+use Rattle.std.proofs.Common.{set}
 use Rattle.std.proofs.Math.ListN.{set, length-map, get_or-map}
-use Rattle.std.proofs.lemmas.List.{map-set, set-set, get_or_default, length-set, take-set-le, get_or-set_other}
+use Rattle.std.proofs.lemmas.List.{map-set, set-set, length-set, take-set-le, get_or-set_other}
 use Rattle.std.proofs.lemmas.List.Sorted.{IsPermutation-swap_remove, IsPermutation-remove}
-use Rattle.std.proofs.lemmas.Map.Keys.{IsDistinct-IsPermutation, IsDistinct-tail}
-use Rattle.std.specs.Cmp.{IsEquivalence}
-use Rattle.std.specs.List.{IsDistinct, swap_remove, AllByRecursion, remove}
+use Rattle.std.proofs.lemmas.Map.Keys.{IsDistinct-IsPermutation}
+use Rattle.std.specs.List.{IsDistinct, swap_remove, remove}
 use Rattle.std.specs.List.Sorted.{IsPermutation}
-use Rattle.half_store.specs.PairLists.{swap_remove_at, set_value_at, set_key_at, index_of}
-use Rattle.std.specs.Map.{keys_of, values_of, remove_entry}
-use Rattle.std.specs.Option.{option_map}
-use Rattle.std.proofs.lemmas.Option.{same_Some, slice_get_cases, slice_get-map}
+use Rattle.std.specs.Map.{remove_entry}
 use Rattle.half_store.proofs.lemmas.store.States.{length-set_key_at}
-use Rattle.halfbrown.specs.Pairs.{value_of, pair_of}
+use Rattle.halfbrown.specs.Pairs.{pair_of}
 use Rattle.halfbrown.specs.Updates.{HasKeyReplaced}
 use Rattle.halfbrown.proofs.lemmas.pairs.Indices.{IsFirst, first_of_index}
 

@@ -1,18 +1,12 @@
 -- Where a key stands among pairs of distinct keys, and what that says of reading and changing them.
-use Rattle.std.proofs.Common.{◌≡◌, ℕ, zero, suc, ◌<◌, Bool, true, false, List, [], ◌∷◌, ◌++◌, length, get_or, slice_get}
-use Rattle.std.proofs.Common.{None, Some, is_some, sym, refl, ap, ◌∙◌, arith, ◌-◌, take}
-use Rattle.std.proofs.lemmas.Grind.{common_steps}
+use Rattle.halfbrown.proofs.Common.{◌≡◌, ℕ, ◌<◌, Bool, true, false, length, arith, suc, List, [], ◌∷◌, ◌++◌, take, get_or, slice_get, Some, refl, ap, ◌∙◌, None}
+use Rattle.halfbrown.proofs.Common.{is_some, sym, ◌-◌, zero, common_steps, slice_get_within, get_or_from_slice_get, slice_get-map, slice_get_cases}
+use Rattle.halfbrown.proofs.Common.{IsEquivalence, IsDistinct, keys_of, lookup, lookup_entry, option_map, index_of, swap_remove_at, IsIndexOf, IsAbsent}
+use Rattle.halfbrown.proofs.Common.{holds_by}
 use Rattle.std.proofs.lemmas.List.{take-set-le}
-use Rattle.std.specs.Option.{option_map}
-use Rattle.std.specs.List.{IsDistinct, list_any}
-use Rattle.std.specs.Map.{keys_of, lookup, lookup_entry}
+use Rattle.std.specs.List.{list_any}
 use Rattle.std.proofs.lemmas.Map.Keys.{apart_from_distinct}
-use Rattle.half_store.specs.PairLists.{index_of, swap_remove_at}
-use Rattle.halfbrown.specs.Pairs.{holds_by}
-use Rattle.halfbrown.specs.Lookup.{IsIndexOf, IsAbsent}
 use Rattle.std.proofs.Math.Seq.{take-suc, take-length}
-use Rattle.std.proofs.lemmas.Option.{get_or_from_slice_get, slice_get_cases, slice_get-map, slice_get_within}
-use Rattle.std.specs.Cmp.{IsEquivalence}
 
 module _ {K : Type 0} (test : K → Bool) where
   -- the key at the index is the first that passes

@@ -1,12 +1,8 @@
 -- What a put, and a set value, are for the key that passes a test.
-use Rattle.std.specs.Map.{keys_of}
-use Rattle.std.proofs.Common.{arith, ◌≡◌, ℕ, zero, suc, Bool, true, List, [], ◌∷◌, get_or, slice_get, IfSome, sym, ap, subst, ◌∙◌}
-use Rattle.std.proofs.lemmas.Grind.{common_steps}
-use Rattle.std.specs.Cmp.{IsEquivalence}
-use Rattle.half_store.specs.PairLists.{set_value_at}
-use Rattle.halfbrown.specs.Lookup.{IsIndexOf}
+use Rattle.halfbrown.proofs.Common.{◌≡◌, ℕ, Bool, true, arith, suc, List, [], ◌∷◌, get_or, slice_get, ap, ◌∙◌, sym, subst, IfSome, zero, common_steps}
+use Rattle.halfbrown.proofs.Common.{IsEquivalence, keys_of, set_value_at, IsIndexOf, HasPut}
 use Rattle.halfbrown.specs.Pairs.{put_by}
-use Rattle.halfbrown.specs.Updates.{HasPut, HasSetBy}
+use Rattle.halfbrown.specs.Updates.{HasSetBy}
 use Rattle.halfbrown.proofs.callers.Pairs.{has_put}
 use Rattle.halfbrown.proofs.lemmas.pairs.Indices.{IsFirst, first_of_index, first_passes}
 

@@ -1,25 +1,19 @@
 -- What a raw entry is once its pair is written or added, and where a match found it.
-use Rattle.std.proofs.Common.{◌≡◌, ℕ, ◌<◌, List, [], ◌∷◌, ◌++◌, length, slice_get, None, Some, IfSome, unwrap_or, refl, sym}
-use Rattle.std.proofs.Common.{subst, ◌∙◌, arith, Bool, true, is_some, false, Option}
-use Rattle.std.proofs.lemmas.Map.Entries.{length-keys_of, length-values_of}
-use Rattle.std.proofs.lemmas.Option.{slice_get_cases}
+use Rattle.halfbrown.proofs.Common.{◌≡◌, ℕ, ◌<◌, Bool, true, false, length, arith, List, [], ◌∷◌, ◌++◌, slice_get, Option, Some, unwrap_or, refl, ◌∙◌, None}
+use Rattle.halfbrown.proofs.Common.{is_some, sym, subst, IfSome, common_steps, length-keys_of, slice_get_cases, IsEquivalence, keys_of, values_of}
+use Rattle.halfbrown.proofs.Common.{swap_remove_at, set_value_at, occupied, entry_value, IsWritten, IsIndexOf, IsAbsent, holds, State, WithPairs, IsValid}
+use Rattle.halfbrown.proofs.Common.{HasPut}
+use Rattle.std.proofs.lemmas.Map.Entries.{length-values_of}
 use Rattle.std.specs.Borrow.{MutBor}
-use Rattle.std.specs.Map.{keys_of, values_of}
-use Rattle.half_store.specs.PairLists.{set_value_at, swap_remove_at}
 use Rattle.halfbrown.specs.declared.entry.OccupiedEntry.{OccupiedEntry}
 use Rattle.halfbrown.specs.declared.raw_entry.RawEntryMut.{RawEntryMut}
 use Rattle.halfbrown.specs.declared.raw_entry.RawEntryMut.TheVariants.{Occupied, Vacant}
-use Rattle.halfbrown.specs.Entry.{occupied, raw_view}
-use Rattle.halfbrown.specs.EntryView.{EntryView, entry_key, entry_pair, entry_value, map_of, with_value, IsWritten}
+use Rattle.halfbrown.specs.Entry.{raw_view}
+use Rattle.halfbrown.specs.EntryView.{EntryView, entry_key, entry_pair, map_of, with_value}
 use Rattle.halfbrown.specs.EntryView.{FindsEntry, FindsEntryByMatch, PutsEntry, AddsEntry}
-use Rattle.halfbrown.specs.State.{IsValid, WithPairs, State}
 use Rattle.halfbrown.proofs.lemmas.pairs.Changes.{key_of-pair, value_of-pair, set_value_at-last, value-last, key-last}
 use Rattle.halfbrown.proofs.lemmas.entry.Methods.{swap_remove_at-last, held_with_pairs, found_raw, missing_raw}
-use Rattle.std.proofs.lemmas.Grind.{common_steps}
-use Rattle.std.specs.Cmp.{IsEquivalence}
-use Rattle.halfbrown.specs.Lookup.{IsIndexOf, IsAbsent, IsMatch, ReadsMatch}
-use Rattle.halfbrown.specs.Pairs.{holds}
-use Rattle.halfbrown.specs.Updates.{HasPut}
+use Rattle.halfbrown.specs.Lookup.{IsMatch, ReadsMatch}
 use Rattle.halfbrown.proofs.callers.Pairs.{has_put}
 use Rattle.halfbrown.proofs.lemmas.pairs.Indices.{index_of_pair, absent_of_unheld, some_is_not_none}
 use Rattle.std.specs.declared.cmp.PartialEq as eq

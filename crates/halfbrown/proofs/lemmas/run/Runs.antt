@@ -1,13 +1,11 @@
 -- A run so far, and one step more.
-use Rattle.std.proofs.Common.{◌≡◌, ◌∙◌, ℕ, Bool, false, ◌||◌, List, [], ◌∷◌, ◌++◌, length, ap, sym, refl, subst, arith, append_assoc, append-nil}
-use Rattle.std.proofs.lemmas.Grind.{common_steps}
-use Rattle.std.proofs.lemmas.List.{length-map, map-append}
-use Rattle.half_store.specs.Work.{Work}
+use Rattle.halfbrown.proofs.Common.{◌≡◌, ℕ, Bool, false, length, arith, List, [], ◌∷◌, ◌++◌, refl, ap, ◌∙◌, sym, subst, common_steps, map-append, Work, GrewBy}
+use Rattle.halfbrown.proofs.Common.{add_costs, Step, State, IsValid}
+use Rattle.std.proofs.Common.{◌||◌, append_assoc, append-nil}
+use Rattle.std.proofs.lemmas.List.{length-map}
 use Rattle.halfbrown.specs.declared.run.Command.{Command}
 use Rattle.halfbrown.specs.declared.run.Reply.{Reply}
-use Rattle.halfbrown.specs.State.{State, IsValid}
-use Rattle.halfbrown.specs.Run.{Step, IsValidStep, is_shrink, StepsLead, Runs, has_shrink, commands_of, replies_of, step_cost, cost_of}
-use Rattle.halfbrown.specs.Costs.{GrewBy, add_costs}
+use Rattle.halfbrown.specs.Run.{IsValidStep, is_shrink, StepsLead, Runs, has_shrink, commands_of, replies_of, step_cost, cost_of}
 use Rattle.halfbrown.proofs.lemmas.map.Costs.{none_more, more_none, costs_assoc, spent_none, spent_both}
 use Rattle.halfbrown.proofs.lemmas.run.Steps.{PaysTwo, switch_left, step_pays_two}
 

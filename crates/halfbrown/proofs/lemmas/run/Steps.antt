@@ -1,7 +1,7 @@
 -- What one step does to the form, and how often it hashes.
-use Rattle.std.proofs.Common.{◌≡◌, ℕ, ◌+◌, ◌*◌, ◌≤◌, Bool, true, false, not, ◌&&◌, unwrap_or, arith, if◌then◌else◌}
-use Rattle.std.proofs.lemmas.Grind.{common_steps}
-use Rattle.halfbrown.specs.Run.{step_cost, is_shrink, Step, IsValidStep, switches, form_changed}
+use Rattle.halfbrown.proofs.Common.{◌≡◌, ℕ, ◌+◌, ◌≤◌, Bool, true, false, arith, unwrap_or, not, ◌&&◌, common_steps, Step}
+use Rattle.std.proofs.Common.{◌*◌, if◌then◌else◌}
+use Rattle.halfbrown.specs.Run.{step_cost, is_shrink, IsValidStep, switches, form_changed}
 
 -- the most keys that a command hashes: two, but none in a vector, and all at the switch
 abbrev pub most_asked : ℕ → Bool → Bool → ℕ

@@ -1,5 +1,4 @@
-use Rattle.std.proofs.Common.{refl, sym, subst, ◌∙◌}
-use Rattle.halfbrown.specs.Costs.{GrewBy}
+use Rattle.halfbrown.proofs.Common.{refl, ◌∙◌, sym, subst, GrewBy}
 use Rattle.halfbrown.specs.declared.run.Command.TheVariants.{InsertNew}
 use Rattle.halfbrown.proofs.lemmas.map.Costs.{key_costs, spent_both, more_none}
 use Rattle.halfbrown.proofs.run.insert_new.Goals as goal

@@ -1,4 +1,4 @@
-use Rattle.std.proofs.Common.{cond, rules, ◌∙◌}
+use Rattle.halfbrown.proofs.Common.{cond, ◌∙◌, rules}
 use Rattle.halfbrown.specs.RawEntry.{after_adding, prepared_map}
 use Rattle.halfbrown.proofs.lemmas.map.Costs.{key_costs, raw_costs}
 use Rattle.halfbrown.proofs.run.raw_or_insert.Goals as goal

@@ -1,8 +1,5 @@
-use Rattle.std.proofs.Common.{◌≡◌, [], refl, rules, sym, subst, arith}
-use Rattle.std.proofs.lemmas.Grind.{common_steps}
+use Rattle.halfbrown.proofs.Common.{◌≡◌, arith, [], refl, sym, subst, rules, common_steps, into_iter_items, Step}
 use Rattle.std.proofs.lemmas.List.{nil_from_length}
-use Rattle.std.specs.Vec.Iter.{into_iter_items}
-use Rattle.halfbrown.specs.Run.{Step}
 use Rattle.halfbrown.proofs.lemmas.run.Runs.{RunSoFar, no_step, step_more, run_ended, run_pays_two, table_stays}
 use Rattle.halfbrown.proofs.lemmas.run.Steps.{switch_left_most}
 use Rattle.halfbrown.proofs.run.run_counted.Goals as goal

@@ -1,6 +1,7 @@
 -- The run so far, and capacity for a reply to each command that is left, and for no more.
-use Rattle.std.proofs.Common.{◌≡◌, ◌+◌, ◌≤◌, length, vec_len, vec_capacity}
-use Rattle.std.specs.Vec.Iter.{into_iter_items, into_iter_len}
+use Rattle.halfbrown.proofs.Common.{◌≡◌, ◌+◌, ◌≤◌, length, into_iter_items}
+use Rattle.std.proofs.Common.{vec_len, vec_capacity}
+use Rattle.std.specs.Vec.Iter.{into_iter_len}
 use Rattle.halfbrown.proofs.lemmas.run.Runs.{RunSoFar}
 use Rattle.halfbrown.proofs.run.run_counted.Given as goal
 

@@ -1,4 +1,4 @@
-use Rattle.std.proofs.Common.{refl, ap, ◌∙◌}
+use Rattle.halfbrown.proofs.Common.{refl, ap, ◌∙◌}
 use Rattle.halfbrown.specs.declared.run.Reply.TheVariants.{Form, Found, Length, Removed}
 use Rattle.halfbrown.proofs.lemmas.map.Costs.{key_costs, spent_none}
 use Rattle.halfbrown.proofs.run.step.Goals as goal

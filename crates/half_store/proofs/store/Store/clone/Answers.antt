@@ -1,7 +1,5 @@
-use Rattle.std.proofs.Common.{length, subst, sym, ap, ◌∙◌, if◌then◌else◌}
+use Rattle.half_store.proofs.Common.{length, ◌∙◌, sym, ap, subst, if◌then◌else◌, AllZip, capacity_of}
 use Rattle.std.proofs.lemmas.List.Elements.{length_all_zip}
-use Rattle.std.specs.List.{AllZip}
-use Rattle.half_store.specs.Capacity.{capacity_of}
 use Rattle.half_store.proofs.lemmas.store.States.{vector_view, table_view, table_over}
 use Rattle.half_store.proofs.store.Store.clone.Goals as goal
 

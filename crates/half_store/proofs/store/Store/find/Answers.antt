@@ -1,4 +1,4 @@
-use Rattle.std.proofs.Common.{ap}
+use Rattle.half_store.proofs.Common.{ap}
 use Rattle.half_store.proofs.lemmas.store.Searches.{vector_accepts, vector_refuses, vector_cost, held, hashed_within}
 use Rattle.half_store.proofs.lemmas.store.Searches.{table_accepts, table_refuses, table_accepts_cost, table_refuses_cost}
 use Rattle.half_store.proofs.lemmas.store.States.{vector_view, table_view, table_over}

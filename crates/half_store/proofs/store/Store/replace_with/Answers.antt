@@ -1,4 +1,4 @@
-use Rattle.std.proofs.Common.{◌∷◌, ◌++◌, [], None, Some, refl, ap, ◌∙◌}
+use Rattle.half_store.proofs.Common.{◌++◌, refl, ◌∙◌, ap, Some, None, [], ◌∷◌}
 use Rattle.half_store.proofs.lemmas.store.States.{pairs_of-store, replaces_in, vector_view}
 use Rattle.half_store.proofs.store.Store.replace_with.Goals as goal
 

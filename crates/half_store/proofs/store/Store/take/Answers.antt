@@ -1,9 +1,6 @@
-use Rattle.std.proofs.Common.{◌≡◌, Ok, Err, length, slice_get, refl, sym, ap, ◌∙◌, arith, true≢false}
-use Rattle.std.proofs.lemmas.Grind.{common_steps}
-use Rattle.std.proofs.lemmas.Map.Entries.{length-keys_of}
-use Rattle.std.proofs.lemmas.Option.{slice_get_within}
-use Rattle.half_store.specs.PairLists.{swap_remove_at}
-use Rattle.half_store.specs.Store.{vector_of, table_of}
+use Rattle.half_store.proofs.Common.{◌≡◌, length, refl, ◌∙◌, arith, sym, ap, common_steps, length-keys_of, slice_get_within, swap_remove_at, vector_of}
+use Rattle.half_store.proofs.Common.{table_of}
+use Rattle.std.proofs.Common.{Ok, Err, slice_get, true≢false}
 use Rattle.half_store.proofs.lemmas.store.Searches.{vector_accepts, vector_refuses, vector_cost, held, hashed_within}
 use Rattle.half_store.proofs.lemmas.store.Searches.{table_accepts, table_refuses, table_accepts_cost, table_refuses_cost}
 use Rattle.half_store.proofs.lemmas.store.States.{vector_view, table_view, table_over, table_keeps_form}

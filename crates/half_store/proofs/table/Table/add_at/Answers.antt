@@ -1,9 +1,6 @@
-use Rattle.std.proofs.Common.{◌≡◌, ◌+◌, ◌<◌, ◌∙◌, suc, length, set, sym, ap, subst, arith}
-use Rattle.std.proofs.lemmas.List.{length-set}
-use Rattle.half_store.specs.Slots.{IsSlotVacancy}
-use Rattle.half_store.specs.Capacity.{capacity_of}
-use Rattle.half_store.specs.Table.{table_slots, table_contents, state_of_words, with_hash_in}
-use Rattle.half_store.specs.Words.{words_of, AreWordsFor}
+use Rattle.half_store.proofs.Common.{◌≡◌, length, ◌+◌, ◌∙◌, arith, ◌<◌, suc, sym, ap, subst, set, length-set, capacity_of, IsSlotVacancy, state_of_words}
+use Rattle.half_store.proofs.Common.{table_contents, AreWordsFor, words_of}
+use Rattle.half_store.specs.Table.{table_slots, with_hash_in}
 use Rattle.half_store.proofs.lemmas.table.Layout.{IsIndexed-add, IsTable-as, count_seen}
 use Rattle.half_store.proofs.table.Table.add_at.Goals as goal
 

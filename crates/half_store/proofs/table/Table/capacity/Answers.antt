@@ -1,5 +1,5 @@
-use Rattle.std.proofs.Common.{◌∙◌, sym, ap}
-use Rattle.half_store.specs.Capacity.{capacity_of, capacity_for, buckets_of}
+use Rattle.half_store.proofs.Common.{◌∙◌, sym, ap, capacity_of, buckets_of}
+use Rattle.half_store.specs.Capacity.{capacity_for}
 use Rattle.half_store.proofs.lemmas.capacity.{capacity_for-capacity_of}
 use Rattle.half_store.proofs.lemmas.table.Layout.{count_seen, buckets_seen}
 use Rattle.half_store.proofs.table.Table.capacity.Goals as goal

@@ -1,7 +1,4 @@
-use Rattle.std.proofs.Common.{ℕ, length, sym, ap, subst, arith}
-use Rattle.std.proofs.lemmas.List.{length-replicate}
-use Rattle.half_store.specs.Capacity.{capacity_of}
-use Rattle.half_store.specs.Words.{words_of, AreWordsFor}
+use Rattle.half_store.proofs.Common.{length, arith, ℕ, sym, ap, subst, length-replicate, capacity_of, AreWordsFor, words_of}
 use Rattle.half_store.proofs.lemmas.table.Layout.{IsIndexed-empty, IsTable-as}
 use Rattle.half_store.proofs.table.Table.clear.Goals as goal
 

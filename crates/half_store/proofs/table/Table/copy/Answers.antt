@@ -1,6 +1,5 @@
-use Rattle.std.proofs.Common.{◌∙◌, sym, ap, arith}
+use Rattle.half_store.proofs.Common.{◌∙◌, arith, sym, ap, capacity_of}
 use Rattle.std.specs.List.{each_same}
-use Rattle.half_store.specs.Capacity.{capacity_of}
 use Rattle.half_store.proofs.lemmas.table.Layout.{IsTable-as, count_seen, view_lent}
 use Rattle.half_store.proofs.table.Table.copy.Goals as goal
 

@@ -1,7 +1,4 @@
-use Rattle.std.proofs.Common.{ℕ, refl, sym, ap, subst, arith}
-use Rattle.std.proofs.lemmas.List.{length-replicate}
-use Rattle.half_store.specs.Capacity.{capacity_of}
-use Rattle.half_store.specs.Words.{AreWordsFor}
+use Rattle.half_store.proofs.Common.{refl, arith, ℕ, sym, ap, subst, length-replicate, capacity_of, AreWordsFor}
 use Rattle.half_store.proofs.lemmas.table.Layout.{IsIndexed-empty, IsTable-as}
 use Rattle.half_store.proofs.table.Table.empty.Goals as goal
 

@@ -1,5 +1,4 @@
-use Rattle.std.proofs.Common.{ap}
-use Rattle.half_store.specs.Words.{words_of}
+use Rattle.half_store.proofs.Common.{ap, words_of}
 use Rattle.half_store.proofs.lemmas.table.Find.{search_seen}
 use Rattle.half_store.proofs.table.Table.find.Goals as goal
 

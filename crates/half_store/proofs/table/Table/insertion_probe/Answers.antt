@@ -1,5 +1,4 @@
-use Rattle.std.proofs.Common.{length, sym, ap, arith}
-use Rattle.half_store.specs.Words.{words_of}
+use Rattle.half_store.proofs.Common.{length, arith, sym, ap, words_of}
 use Rattle.half_store.proofs.lemmas.table.Find.{probe_seen}
 use Rattle.half_store.proofs.lemmas.table.Layout.{IsIndexed-as, index-vacant, count_seen, buckets_seen}
 use Rattle.half_store.proofs.table.Table.insertion_probe.Goals as goal

@@ -1,7 +1,5 @@
-use Rattle.std.proofs.Common.{◌≡◌, ◌∙◌, ℕ, List, length, replicate, arith}
-use Rattle.std.proofs.lemmas.Grind.{common_steps}
-use Rattle.std.proofs.lemmas.List.{get_or-replicate, length-replicate, same_lists}
-use Rattle.half_store.specs.Slots.{EachOnce}
+use Rattle.half_store.proofs.Common.{◌≡◌, length, ◌∙◌, arith, ℕ, List, replicate, common_steps, length-replicate, get_or-replicate, EachOnce}
+use Rattle.std.proofs.lemmas.List.{same_lists}
 use Rattle.half_store.proofs.lemmas.table.Layout.{count_seen}
 use Rattle.half_store.proofs.table.Table.move_to.Goals as goal
 

@@ -1,7 +1,7 @@
-use Rattle.std.proofs.Common.{◌≡◌, ℕ, ◌≤◌, List, ◌++◌, length, take, drop, replicate, refl, sym, ap, subst, ◌∙◌, arith}
-use Rattle.std.proofs.lemmas.List.{take_at, take_all, length-replicate}
-use Rattle.half_store.specs.Capacity.{capacity_of, IsBucketCount}
-use Rattle.half_store.specs.Words.{AreWordsFor, words_of, most_of}
+use Rattle.half_store.proofs.Common.{◌≡◌, ◌≤◌, length, take, ◌++◌, refl, ◌∙◌, arith, ℕ, sym, ap, List, subst, replicate, drop, take_all, length-replicate}
+use Rattle.half_store.proofs.Common.{capacity_of, IsBucketCount, AreWordsFor, words_of}
+use Rattle.std.proofs.lemmas.List.{take_at}
+use Rattle.half_store.specs.Words.{most_of}
 use Rattle.half_store.proofs.lemmas.table.Layout.{IsTable-as, count_seen}
 use Rattle.half_store.proofs.table.Table.retain.Given as given
 use Rattle.half_store.proofs.table.Table.retain.Goals as goal

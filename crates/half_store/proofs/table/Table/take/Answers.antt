@@ -1,8 +1,4 @@
-use Rattle.std.proofs.Common.{refl, ap, subst}
-use Rattle.std.specs.Fn.{FnReturnsAt}
-use Rattle.half_store.specs.Search.{ReturnsAt}
-use Rattle.half_store.specs.Table.{TableSearch}
-use Rattle.half_store.specs.Words.{words_of}
+use Rattle.half_store.proofs.Common.{refl, ap, subst, FnReturnsAt, ReturnsAt, TableSearch, words_of}
 use Rattle.half_store.proofs.lemmas.table.Find.{taken_removes, taken_cost, taken_none}
 use Rattle.half_store.proofs.lemmas.table.Layout.{view_lent}
 use Rattle.half_store.proofs.table.Table.take.Goals as goal

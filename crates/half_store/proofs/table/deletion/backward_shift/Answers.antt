@@ -1,11 +1,6 @@
-use Rattle.std.proofs.Common.{◌≡◌, ◌≢◌, ◌-◌, ◌^◌, ◌<◌, ◌≤◌, ◌∙◌, ℕ, List, inl, inr, length, set, slice_index, refl, sym, ap, subst, arith}
-use Rattle.std.proofs.lemmas.Bool.{cases_lt}
-use Rattle.std.proofs.lemmas.Grind.{common_steps}
-use Rattle.std.proofs.lemmas.List.{length-set, set-get_or}
-use Rattle.half_store.specs.Capacity.{capacity_of, IsBucketCount}
-use Rattle.half_store.specs.Work.{looked_more, Work}
-use Rattle.half_store.specs.Reach.{home, probe_distance}
-use Rattle.half_store.specs.Table.{IsIndexed}
+use Rattle.half_store.proofs.Common.{◌≡◌, ◌≤◌, length, inr, refl, ◌∙◌, arith, ℕ, ◌-◌, ◌^◌, ◌<◌, inl, sym, ap, List, slice_index, subst, ◌≢◌, set, cases_lt}
+use Rattle.half_store.proofs.Common.{common_steps, length-set, capacity_of, IsBucketCount, probe_distance, home, IsIndexed, Work, looked_more}
+use Rattle.std.proofs.lemmas.List.{set-get_or}
 use Rattle.half_store.proofs.lemmas.table.Circle.{probe_distance-lt}
 use Rattle.half_store.proofs.lemmas.table.Deletion.{Shifts, Ahead, Shifts-start, Ahead-start, word_within, gap_distance, first_distance, one_farther}
 use Rattle.half_store.proofs.lemmas.table.Deletion.{fewer_ahead, Shifts-end, Shifts-stay, Ahead-stay, Shifts-move, Ahead-move}

@@ -1,8 +1,4 @@
-use Rattle.std.proofs.Common.{◌≡◌, ℕ, ◌-◌, set, slice_index}
-use Rattle.half_store.specs.Slots.{slots_from}
-use Rattle.half_store.specs.Work.{looked_more}
-use Rattle.half_store.specs.Reach.{probe_distance}
-use Rattle.half_store.specs.Table.{IsEmptyBeside}
+use Rattle.half_store.proofs.Common.{◌≡◌, ℕ, ◌-◌, slice_index, set, probe_distance, slots_from, IsEmptyBeside, looked_more}
 use Rattle.half_store.proofs.lemmas.table.Deletion.{Shifts, Ahead}
 use Rattle.half_store.proofs.table.deletion.backward_shift.Given as goal
 

@@ -1,7 +1,4 @@
-use Rattle.std.proofs.Common.{◌≡◌, ◌∙◌, ℕ, suc, ◌+◌, ◌<◌, length, slice_index, sym, ap, arith}
-use Rattle.std.proofs.lemmas.Grind.{common_steps}
-use Rattle.half_store.specs.Work.{looked_more}
-use Rattle.half_store.specs.Reach.{home, probe_distance}
+use Rattle.half_store.proofs.Common.{◌≡◌, length, ◌+◌, ◌∙◌, arith, ℕ, ◌<◌, suc, sym, ap, slice_index, common_steps, probe_distance, home, looked_more}
 use Rattle.half_store.proofs.lemmas.table.Buckets.{word-lt, some_bucket}
 use Rattle.half_store.proofs.lemmas.table.Circle.{distance_same, next_farther, probe_distance-lt}
 use Rattle.half_store.proofs.lemmas.table.Layout.{deletion_steps}

@@ -1,6 +1,4 @@
-use Rattle.std.proofs.Common.{◌≡◌, ℕ, suc, ◌-◌, ◌<◌, ◌≤◌, length, slice_index}
-use Rattle.half_store.specs.Work.{looked_more}
-use Rattle.half_store.specs.Reach.{home, probe_distance}
+use Rattle.half_store.proofs.Common.{◌≡◌, ◌≤◌, length, ℕ, ◌-◌, ◌<◌, suc, slice_index, probe_distance, home, looked_more}
 use Rattle.half_store.proofs.table.deletion.bucket_of.Given as goal
 
 -- the pair's bucket is still ahead

@@ -1,4 +1,4 @@
-use Rattle.std.proofs.Common.{arith}
+use Rattle.half_store.proofs.Common.{arith}
 use Rattle.half_store.proofs.lemmas.table.Mask.{mask_distance, count-le_half}
 use Rattle.half_store.proofs.table.deletion.probe_distance.Goals as goal
 

@@ -1,12 +1,8 @@
-use Rattle.std.proofs.Common.{◌≡◌, ◌+◌, ◌-◌, ◌<◌, ◌∙◌, ℕ, suc, List, length, set, slice_index, take, refl, sym, ap, subst, arith}
-use Rattle.std.specs.List.{swap_remove}
-use Rattle.std.proofs.lemmas.List.{get_or_default, length-set}
+use Rattle.half_store.proofs.Common.{◌≡◌, length, take, ◌+◌, refl, ◌∙◌, arith, ℕ, ◌-◌, ◌<◌, suc, sym, ap, List, slice_index, subst, set, length-set}
+use Rattle.half_store.proofs.Common.{get_or_default, swap_remove, probe_distance, slots_from, IsIndexedButFor, IsEmptyBeside, IsIndexed, Work, ReadsWithin}
 use Rattle.std.proofs.lemmas.Option.{slice_get_read}
-use Rattle.half_store.specs.Slots.{slots_from}
-use Rattle.half_store.specs.Reach.{probe_distance}
-use Rattle.half_store.specs.Work.{Work, ReadsWithin, removal_reads_left}
+use Rattle.half_store.specs.Work.{removal_reads_left}
 use Rattle.half_store.specs.StoreRemoval.{Renames, ShiftsUpTo}
-use Rattle.half_store.specs.Table.{IsIndexed, IsIndexedButFor, IsEmptyBeside}
 use Rattle.half_store.proofs.lemmas.table.Layout.{IsIndexed-remove, vacant-remove}
 use Rattle.half_store.proofs.table.deletion.remove_at.Goals as goal
 

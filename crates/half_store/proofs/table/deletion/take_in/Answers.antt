@@ -1,5 +1,4 @@
-use Rattle.std.proofs.Common.{◌<◌, length, refl, subst}
-use Rattle.std.proofs.lemmas.Option.{slice_get_within}
+use Rattle.half_store.proofs.Common.{length, refl, ◌<◌, subst, slice_get_within}
 use Rattle.half_store.proofs.lemmas.table.Find.{search_seen}
 use Rattle.half_store.proofs.lemmas.tally.{looked_less}
 use Rattle.half_store.proofs.table.deletion.take_in.Goals as goal

@@ -1,7 +1,5 @@
-use Rattle.std.proofs.Common.{◌≡◌, ◌+◌, ◌<◌, ◌∙◌, suc, length, set, take, slice_index, ap, arith}
-use Rattle.std.proofs.lemmas.Grind.{common_steps}
-use Rattle.std.proofs.lemmas.List.{length-take, length-set, take_more}
-use Rattle.half_store.specs.Capacity.{capacity_of}
+use Rattle.half_store.proofs.Common.{◌≡◌, length, take, ◌+◌, ◌∙◌, arith, ◌<◌, suc, ap, slice_index, set, common_steps, length-set, capacity_of}
+use Rattle.std.proofs.lemmas.List.{length-take, take_more}
 use Rattle.half_store.proofs.lemmas.table.Layout.{index-vacant, IsIndexed-empty, IsIndexed-add, IsIndexed-as}
 use Rattle.half_store.proofs.table.memory.rehash.Goals as goal
 

@@ -1,5 +1,4 @@
-use Rattle.std.proofs.Common.{◌≡◌, length, take}
-use Rattle.half_store.specs.Table.{IsIndexed}
+use Rattle.half_store.proofs.Common.{◌≡◌, length, take, IsIndexed}
 use Rattle.half_store.proofs.table.memory.rehash.Given as goal
 
 -- the first pairs have their buckets

@@ -1,6 +1,4 @@
-use Rattle.std.proofs.Common.{◌∙◌, sym, arith}
-use Rattle.std.specs.Fn.{FnReturnsAt}
-use Rattle.half_store.specs.Search.{ReturnsAt}
+use Rattle.half_store.proofs.Common.{◌∙◌, arith, sym, FnReturnsAt, ReturnsAt}
 use Rattle.half_store.proofs.lemmas.table.Layout.{index-vacant}
 use Rattle.half_store.proofs.lemmas.table.Find.{finds_none, finds, index_at, word_found}
 use Rattle.half_store.proofs.table.probe.find_in.Goals as goal

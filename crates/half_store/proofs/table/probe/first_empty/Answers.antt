@@ -1,7 +1,4 @@
-use Rattle.std.proofs.Common.{sym, ap, ◌∙◌, arith}
-use Rattle.std.proofs.lemmas.Grind.{common_steps}
-use Rattle.half_store.specs.Work.{looked_more}
-use Rattle.half_store.specs.Reach.{bucket_after}
+use Rattle.half_store.proofs.Common.{◌∙◌, arith, sym, ap, common_steps, bucket_after, looked_more}
 use Rattle.half_store.proofs.lemmas.table.Buckets.{length-slots_from}
 use Rattle.half_store.proofs.lemmas.table.Slots.{some_read, home_distance, Probes-distance, Probes-next, Probes-ahead}
 use Rattle.half_store.proofs.lemmas.tally.{looked_more-zero, looked_more-one}

@@ -1,6 +1,4 @@
-use Rattle.std.proofs.Common.{◌≡◌, ◌-◌, length}
-use Rattle.half_store.specs.Slots.{slots_from, distance_from_home}
-use Rattle.half_store.specs.Work.{looked_more}
+use Rattle.half_store.proofs.Common.{◌≡◌, length, ◌-◌, slots_from, distance_from_home, looked_more}
 use Rattle.half_store.proofs.lemmas.table.Slots.{Probes}
 use Rattle.half_store.proofs.table.probe.first_empty.Given as goal
 

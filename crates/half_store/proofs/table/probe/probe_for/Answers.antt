@@ -1,10 +1,5 @@
-use Rattle.std.proofs.Common.{◌-◌, false, slice_index, Some, sym, ap, subst, ◌∙◌, arith}
-use Rattle.std.proofs.lemmas.Grind.{common_steps}
-use Rattle.std.specs.Fn.{FnReturnsAt}
-use Rattle.half_store.specs.Slots.{slots_from}
-use Rattle.half_store.specs.Reach.{home, bucket_after}
-use Rattle.half_store.specs.Search.{ReturnsAt}
-use Rattle.half_store.specs.Work.{Work, compared_more}
+use Rattle.half_store.proofs.Common.{◌∙◌, arith, ◌-◌, sym, ap, Some, slice_index, subst, false, common_steps, FnReturnsAt, bucket_after, home, ReturnsAt}
+use Rattle.half_store.proofs.Common.{slots_from, Work, compared_more}
 use Rattle.half_store.proofs.lemmas.counting.{returned_at, key_in_bucket, key_within}
 use Rattle.half_store.proofs.lemmas.table.Buckets.{length-slots_from}
 use Rattle.half_store.proofs.lemmas.table.Slots.{full_from, Probes-ahead}

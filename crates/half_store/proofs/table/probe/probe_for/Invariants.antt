@@ -1,7 +1,4 @@
-use Rattle.std.proofs.Common.{◌-◌, false, length, slice_index}
-use Rattle.std.specs.Fn.{FnReturnsAt}
-use Rattle.half_store.specs.Slots.{slots_from, distance_from_home}
-use Rattle.half_store.specs.Search.{ReturnsAt}
+use Rattle.half_store.proofs.Common.{length, ◌-◌, slice_index, false, FnReturnsAt, ReturnsAt, slots_from, distance_from_home}
 use Rattle.half_store.proofs.lemmas.table.Probe.{SearchedTo}
 use Rattle.half_store.proofs.table.probe.probe_for.Given as goal
 

@@ -1,5 +1,4 @@
-use Rattle.std.proofs.Common.{◌≡◌, ℕ, ◌<◌, ◌≤◌, length, slice_index}
-use Rattle.half_store.specs.Work.{looked_more}
+use Rattle.half_store.proofs.Common.{◌≡◌, ◌≤◌, length, ℕ, ◌<◌, slice_index, looked_more}
 use Rattle.half_store.specs.StoreRemoval.{moved_word}
 use Rattle.half_store.proofs.table.shift.move_last.Given as goal
 

@@ -1,9 +1,6 @@
-use Rattle.std.proofs.Common.{◌≡◌, ℕ, suc, [], ◌∷◌, ◌++◌, List, length, sym, ap, subst, ◌∙◌, arith}
-use Rattle.std.proofs.lemmas.Grind.{common_steps}
-use Rattle.std.proofs.lemmas.List.{get_or_default}
-use Rattle.half_store.specs.Work.{ReadsWithin, removal_reads}
+use Rattle.half_store.proofs.Common.{◌≡◌, length, ◌++◌, ◌∙◌, arith, ℕ, suc, sym, ap, List, subst, [], ◌∷◌, common_steps, get_or_default, IsIndexed, ReadsWithin}
+use Rattle.half_store.proofs.Common.{removal_reads}
 use Rattle.half_store.specs.StoreRemoval.{MovesLast}
-use Rattle.half_store.specs.Table.{IsIndexed}
 use Rattle.half_store.proofs.lemmas.table.Shift.{IsIndexed-moved, reads-moved}
 use Rattle.half_store.proofs.table.shift.shift_in.Goals as goal
 

@@ -1,5 +1,5 @@
 -- `new` makes the struct without bytes, and picks 0 for its number.
-use Rattle.std.proofs.Common.{[], ◌∷◌, refl}
+use Rattle.half_store.proofs.Common.{refl, [], ◌∷◌}
 use Rattle.std.proofs.raw_atomic.Walks.{proved}
 use mir.Val.{vstruct, vnil}
 use base.Fml.{ftrue}

@@ -1,5 +1,5 @@
 -- `plus_one` makes the struct without bytes, and picks one more than the number of the other.
-use Rattle.std.proofs.Common.{[], ◌∷◌, ◌+◌, refl}
+use Rattle.half_store.proofs.Common.{◌+◌, refl, [], ◌∷◌}
 use Rattle.std.proofs.raw_atomic.Walks.{proved}
 use mir.Syntax.{named}
 use mir.Val.{vstruct, vnil, vptr}

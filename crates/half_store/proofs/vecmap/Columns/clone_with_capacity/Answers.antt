@@ -1,5 +1,4 @@
-use Rattle.std.proofs.Common.{length, subst, ap, arith}
-use Rattle.std.specs.List.{AllZip, zip}
+use Rattle.half_store.proofs.Common.{length, arith, ap, subst, AllZip, zip}
 use Rattle.half_store.proofs.lemmas.vecmap.Columns.{opened}
 use Rattle.half_store.proofs.lemmas.vecmap.Zip.{all_zip-zip}
 use Rattle.half_store.proofs.vecmap.Columns.clone_with_capacity.Goals as goal

@@ -1,9 +1,8 @@
-use Rattle.std.proofs.Common.{◌≡◌, ◌-◌, ◌<◌, ◌∷◌, ◌++◌, [], length, None, Some, refl, sym, ap, subst, ◌∙◌, arith}
-use Rattle.std.specs.List.{zip, SwappedAt}
+use Rattle.half_store.proofs.Common.{◌≡◌, length, ◌++◌, refl, ◌∙◌, arith, ◌-◌, ◌<◌, sym, ap, Some, None, subst, [], ◌∷◌, zip, set_value_at, swap_remove_at}
+use Rattle.std.specs.List.{SwappedAt}
 use Rattle.half_store.proofs.lemmas.vecmap.Columns.{columns_steps, opened, pair_read}
 use Rattle.half_store.proofs.lemmas.vecmap.Replace.{restored}
 use Rattle.half_store.proofs.lemmas.vecmap.Zip.{zip-swap_remove_at, zip-set_value_at, get_or_within}
-use Rattle.half_store.specs.PairLists.{set_value_at, swap_remove_at}
 use Rattle.half_store.proofs.vecmap.Columns.replace_with.Goals as goal
 
 pub f-requires : goal.f-requires

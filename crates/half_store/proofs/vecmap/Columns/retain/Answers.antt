@@ -1,8 +1,6 @@
-use Rattle.std.proofs.Common.{◌≡◌, ◌∙◌, length, map, take, drop, arith}
-use Rattle.std.proofs.lemmas.Grind.{common_steps}
+use Rattle.half_store.proofs.Common.{◌≡◌, length, take, ◌∙◌, arith, map, drop, common_steps, zip}
 use Rattle.std.proofs.lemmas.List.{take_at}
 use Rattle.std.proofs.lemmas.Map.Made.{keys_of-zip}
-use Rattle.std.specs.List.{zip}
 use Rattle.half_store.proofs.lemmas.vecmap.Columns.{opened}
 use Rattle.half_store.proofs.lemmas.vecmap.Zip.{length-zip}
 use Rattle.half_store.proofs.vecmap.Columns.retain.Given as given

@@ -1,8 +1,6 @@
-use Rattle.std.proofs.Common.{get_or, refl, sym, ap, ◌∙◌, arith}
-use Rattle.std.specs.List.{slice_get}
+use Rattle.half_store.proofs.Common.{refl, ◌∙◌, arith, sym, ap, get_or, slice_get, set_key_at}
 use Rattle.half_store.proofs.lemmas.vecmap.Columns.{opened, pairs_are}
 use Rattle.half_store.proofs.lemmas.vecmap.Zip.{slice_get_at, zip-set_key_at}
-use Rattle.half_store.specs.PairLists.{set_key_at}
 use Rattle.half_store.proofs.vecmap.Columns.set_key_at.Goals as goal
 
 pub index_mut-requires : goal.index_mut-requires

@@ -1,5 +1,4 @@
-use Rattle.std.proofs.Common.{ap, ◌∙◌, arith}
-use Rattle.std.specs.List.{zip, remove}
+use Rattle.half_store.proofs.Common.{◌∙◌, arith, ap, remove, zip}
 use Rattle.half_store.proofs.lemmas.vecmap.Columns.{opened, pairs_are, pair_read, columns_steps}
 use Rattle.half_store.proofs.lemmas.vecmap.Zip.{zip-remove}
 use Rattle.half_store.proofs.vecmap.Columns.shift_remove.Goals as goal

@@ -1,11 +1,10 @@
-use Rattle.std.proofs.Common.{◌≡◌, ◌<◌, ◌+◌, ◌∙◌, true, false, sym, ap, subst, refl, arith, length, map, take, set, get_or}
-use Rattle.std.proofs.lemmas.Grind.{common_steps}
-use Rattle.std.specs.List.{zip, swap}
+use Rattle.half_store.proofs.Common.{◌≡◌, length, take, ◌+◌, refl, ◌∙◌, arith, ◌<◌, sym, ap, get_or, subst, true, false, set, map, common_steps, length-set}
+use Rattle.half_store.proofs.Common.{zip, set_value_at}
+use Rattle.std.specs.List.{swap}
 use Rattle.std.specs.Map.Calls.{CalledAtPair, TakesPair}
-use Rattle.std.proofs.lemmas.List.{take-map, length-map, length-set}
+use Rattle.std.proofs.lemmas.List.{take-map, length-map}
 use Rattle.half_store.proofs.lemmas.vecmap.Retain.{Sifting, Sifting-asks, Sifting-rejected, Sifting-accepted, Sifting-ends, map-swap}
 use Rattle.half_store.proofs.lemmas.vecmap.Retain.{zip-swap, swap-self}
-use Rattle.half_store.specs.PairLists.{set_value_at}
 use Rattle.half_store.proofs.lemmas.vecmap.Zip.{length-zip, zip-take, get_or-zip, zip-set_value_at}
 use Rattle.half_store.proofs.vecmap.retain.retain_in_columns.Goals.{then-f, then-index-hashes, else-index-hashes, else-f}
 use Rattle.half_store.proofs.vecmap.retain.retain_in_columns.Goals as goal

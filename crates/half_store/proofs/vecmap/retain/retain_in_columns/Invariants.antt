@@ -1,5 +1,4 @@
-use Rattle.std.proofs.Common.{◌≡◌, ℕ, ◌≤◌, map}
-use Rattle.std.specs.List.{zip}
+use Rattle.half_store.proofs.Common.{◌≡◌, ◌≤◌, ℕ, map, zip}
 use Rattle.std.specs.Map.Calls.{CalledAtPair, TakesPair}
 use Rattle.half_store.proofs.lemmas.vecmap.Retain.{Sifting}
 use Rattle.half_store.proofs.vecmap.retain.retain_in_columns.Given as goal

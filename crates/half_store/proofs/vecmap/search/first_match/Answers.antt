@@ -1,6 +1,5 @@
-use Rattle.std.proofs.Common.{◌+◌, below_more, arith, refl, ap, ◌∙◌}
-use Rattle.std.specs.Fn.{FnReturnsAt}
-use Rattle.half_store.specs.Work.{compared_more}
+use Rattle.half_store.proofs.Common.{◌+◌, refl, ◌∙◌, arith, ap, FnReturnsAt, compared_more}
+use Rattle.std.proofs.Common.{below_more}
 use Rattle.half_store.proofs.lemmas.counting.{returned_at}
 use Rattle.half_store.proofs.lemmas.vecmap.Search.{compared_again, in_order}
 use Rattle.half_store.proofs.vecmap.search.first_match.Goals as goal

@@ -1,8 +1,5 @@
 -- No key so far matched, and each was compared once.
-use Rattle.std.proofs.Common.{◌≡◌, ℕ, ◌<◌, false}
-use Rattle.std.specs.Fn.{FnReturnsAt}
-use Rattle.half_store.specs.Search.{ReturnsAt}
-use Rattle.half_store.specs.Work.{compared_more}
+use Rattle.half_store.proofs.Common.{◌≡◌, ℕ, ◌<◌, false, FnReturnsAt, ReturnsAt, compared_more}
 use Rattle.half_store.proofs.vecmap.search.first_match.Given as goal
 
 abbrev pub invariant-loop-index : goal.invariant-loop-index

@@ -1,6 +1,4 @@
-use Rattle.std.proofs.Common.{◌-◌, arith, false}
-use Rattle.std.specs.Fn.{FnReturnsAt}
-use Rattle.half_store.specs.Search.{ReturnsAt}
+use Rattle.half_store.proofs.Common.{arith, ◌-◌, false, FnReturnsAt, ReturnsAt}
 use Rattle.half_store.proofs.lemmas.counting.{returned_at}
 use Rattle.half_store.proofs.lemmas.vecmap.Search.{from_before, compared_again}
 use Rattle.half_store.proofs.vecmap.search.first_match_between.Goals as goal

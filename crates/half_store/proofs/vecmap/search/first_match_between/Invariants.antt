@@ -1,8 +1,5 @@
 -- From `index` on no key before `found` matched, and each was compared once.
-use Rattle.std.proofs.Common.{◌≡◌, ℕ, ◌-◌, ◌<◌, ◌≤◌, true, false}
-use Rattle.std.specs.Fn.{FnReturnsAt}
-use Rattle.half_store.specs.Search.{ReturnsAt}
-use Rattle.half_store.specs.Work.{compared_more}
+use Rattle.half_store.proofs.Common.{◌≡◌, ◌≤◌, ℕ, ◌-◌, ◌<◌, true, false, FnReturnsAt, ReturnsAt, compared_more}
 use Rattle.half_store.proofs.vecmap.search.first_match_between.Given as goal
 
 abbrev pub invariant-loop-index : goal.invariant-loop-index

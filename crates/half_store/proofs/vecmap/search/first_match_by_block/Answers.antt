@@ -1,6 +1,4 @@
-use Rattle.std.proofs.Common.{◌+◌, false, arith}
-use Rattle.std.specs.Fn.{FnReturnsAt}
-use Rattle.half_store.specs.Search.{ReturnsAt}
+use Rattle.half_store.proofs.Common.{◌+◌, arith, false, FnReturnsAt, ReturnsAt}
 use Rattle.half_store.proofs.lemmas.vecmap.Search.{below_and_from, compared_all}
 use Rattle.half_store.proofs.vecmap.search.first_match_by_block.Goals as goal
 

@@ -1,8 +1,5 @@
 -- No key before `start` matched, and each was compared once.
-use Rattle.std.proofs.Common.{◌≡◌, ℕ, ◌-◌, ◌<◌, ◌≤◌, false, length}
-use Rattle.std.specs.Fn.{FnReturnsAt}
-use Rattle.half_store.specs.Search.{ReturnsAt}
-use Rattle.half_store.specs.Work.{compared_more}
+use Rattle.half_store.proofs.Common.{◌≡◌, ◌≤◌, length, ℕ, ◌-◌, ◌<◌, false, FnReturnsAt, ReturnsAt, compared_more}
 use Rattle.half_store.proofs.vecmap.search.first_match_by_block.Given as goal
 
 abbrev pub invariant-loop-start : goal.invariant-loop-start

@@ -1,4 +1,4 @@
-use Rattle.std.proofs.Common.{◌≡◌, ◌-◌, ◌≤◌, replicate, vec_len, vec_capacity}
+use Rattle.half_store.proofs.Common.{◌≡◌, ◌≤◌, vec_len, vec_capacity, ◌-◌, replicate}
 use Rattle.half_store.proofs.words.WordVec.of.Given as goal
 
 -- all words that are there are this one, and the block has room for the rest

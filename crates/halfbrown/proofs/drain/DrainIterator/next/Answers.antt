@@ -1,4 +1,4 @@
-use Rattle.std.proofs.Common.{refl}
+use Rattle.halfbrown.proofs.Common.{refl}
 use Rattle.halfbrown.proofs.lemmas.drain.{same_drain}
 use Rattle.halfbrown.proofs.drain.DrainIterator.next.Goals as goal
 

@@ -1,7 +1,6 @@
-use Rattle.std.proofs.Common.{Some, refl, sym, ap, subst, ◌∙◌}
+use Rattle.halfbrown.proofs.Common.{Some, refl, ap, ◌∙◌, sym, subst, entry_value}
 use Rattle.std.specs.Map.Calls.{MayWrite, ModifiesValue}
 use Rattle.halfbrown.specs.Entry.{view}
-use Rattle.halfbrown.specs.EntryView.{entry_value}
 use Rattle.halfbrown.proofs.lemmas.entry.Methods.{modified_entry}
 use Rattle.halfbrown.proofs.entry.Entry.and_modify.Goals as goal
 

@@ -1,5 +1,4 @@
-use Rattle.std.proofs.Common.{refl}
-use Rattle.halfbrown.specs.Entry.{with_entry_value}
+use Rattle.halfbrown.proofs.Common.{refl, with_entry_value}
 use Rattle.halfbrown.specs.EntryView.{with_value}
 use Rattle.halfbrown.proofs.lemmas.entry.Methods.{lent_entry, written_entry}
 use Rattle.halfbrown.proofs.entry.OccupiedEntry.get_key_value_mut.Goals as goal

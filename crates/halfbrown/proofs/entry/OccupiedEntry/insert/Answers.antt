@@ -1,6 +1,4 @@
-use Rattle.std.proofs.Common.{subst, arith}
-use Rattle.halfbrown.specs.Entry.{occupied, with_entry_value}
-use Rattle.halfbrown.specs.EntryView.{IsWritten}
+use Rattle.halfbrown.proofs.Common.{arith, subst, with_entry_value, occupied, IsWritten}
 use Rattle.halfbrown.proofs.lemmas.entry.Methods.{written_entry}
 use Rattle.halfbrown.proofs.entry.OccupiedEntry.insert.Goals as goal
 

@@ -1,4 +1,4 @@
-use Rattle.std.proofs.Common.{refl}
+use Rattle.halfbrown.proofs.Common.{refl}
 use Rattle.halfbrown.proofs.lemmas.entry.Methods.{rekeyed_within, rekeyed_entry}
 use Rattle.halfbrown.proofs.entry.OccupiedEntry.insert_key.Goals as goal
 

@@ -1,5 +1,4 @@
-use Rattle.std.proofs.Common.{refl, arith}
-use Rattle.std.proofs.lemmas.Grind.{common_steps}
+use Rattle.halfbrown.proofs.Common.{arith, refl, common_steps}
 use Rattle.halfbrown.proofs.lemmas.entry.Methods.{keeps_pair, kept_within, loses_pair}
 use Rattle.halfbrown.proofs.lemmas.map.Find.{vacancy_for}
 use Rattle.halfbrown.proofs.entry.OccupiedEntry.replace_entry_with_counted.Goals as goal

@@ -1,8 +1,5 @@
-use Rattle.std.proofs.Common.{slice_get, arith}
-use Rattle.std.proofs.lemmas.Grind.{common_steps}
+use Rattle.halfbrown.proofs.Common.{arith, slice_get, common_steps, same_Some, contents_of}
 use Rattle.std.proofs.Math.Logic.{∥∥₁_elim}
-use Rattle.std.proofs.lemmas.Option.{same_Some}
-use Rattle.halfbrown.specs.State.{contents_of}
 use Rattle.halfbrown.specs.EntryView.{with_value}
 use Rattle.halfbrown.proofs.lemmas.pairs.Changes.{set_value_at-last, value-last}
 use Rattle.halfbrown.proofs.lemmas.map.Find.{vacancy-prop}

@@ -1,4 +1,4 @@
-use Rattle.std.proofs.Common.{sym, ◌∙◌}
+use Rattle.halfbrown.proofs.Common.{◌∙◌, sym}
 use Rattle.half_store.proofs.lemmas.vecmap.Zip.{length-zip}
 use Rattle.halfbrown.proofs.iter.IterExactSizeIterator.len.Goals as goal
 

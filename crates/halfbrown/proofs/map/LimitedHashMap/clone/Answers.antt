@@ -1,5 +1,4 @@
-use Rattle.std.proofs.Common.{◌≡◌, sym, subst, rules}
-use Rattle.std.proofs.lemmas.Result.{IfOk-weaker}
+use Rattle.halfbrown.proofs.Common.{◌≡◌, sym, subst, rules, IfOk-weaker}
 use Rattle.halfbrown.specs.Clone.{IsCloneOf}
 use Rattle.halfbrown.proofs.map.LimitedHashMap.clone.Goals as goal
 

@@ -1,10 +1,8 @@
-use Rattle.std.proofs.Common.{◌≡◌, true, false, map, rules, refl, ap, sym, subst, ◌∙◌}
+use Rattle.halfbrown.proofs.Common.{◌≡◌, true, false, refl, ap, ◌∙◌, sym, subst, map, rules, keys_of, state_in}
 use Rattle.std.proofs.lemmas.Map.Entries.{entries_from_clone}
 use Rattle.std.proofs.lemmas.Slice.Zip.{AllZip-long}
 use Rattle.std.specs.List.{AllZip}
-use Rattle.std.specs.Map.{keys_of}
 use Rattle.halfbrown.specs.Clone.{ClonesEqualKeys, HashesAlike, IsCloneOf}
-use Rattle.halfbrown.specs.Layout.{state_in}
 use Rattle.halfbrown.proofs.lemmas.map.Layout.{keys_zip, zip_held, map-zip, kept_cloned, state_of}
 use Rattle.halfbrown.proofs.map.LimitedHashMap.clone_with.Goals as goal
 

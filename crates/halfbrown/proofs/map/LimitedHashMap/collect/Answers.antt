@@ -1,8 +1,7 @@
-use Rattle.std.proofs.Common.{nat_le, inl, inr, sym, subst, arith}
-use Rattle.std.proofs.lemmas.Grind.{common_steps}
+use Rattle.halfbrown.proofs.Common.{arith, sym, subst, inl, inr, common_steps, GrewBy, Gives}
+use Rattle.std.proofs.Common.{nat_le}
 use Rattle.std.specs.Iterator.{Drains}
-use Rattle.halfbrown.specs.Costs.{GrewBy}
-use Rattle.halfbrown.specs.FromIter.{Gives, RefusedInsert, refused_cost}
+use Rattle.halfbrown.specs.FromIter.{RefusedInsert, refused_cost}
 use Rattle.halfbrown.specs.Making.{IsMade}
 use Rattle.halfbrown.proofs.lemmas.map.Collect.{at_error, collection_of, inserts_asked, inserts_state}
 use Rattle.halfbrown.proofs.lemmas.map.Costs.{spent_none}

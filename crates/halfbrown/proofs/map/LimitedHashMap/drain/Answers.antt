@@ -1,4 +1,4 @@
-use Rattle.std.proofs.Common.{refl}
+use Rattle.halfbrown.proofs.Common.{refl}
 use Rattle.halfbrown.proofs.lemmas.drain.{runs, keeps_along}
 use Rattle.halfbrown.proofs.map.LimitedHashMap.drain.Goals as goal
 

@@ -1,4 +1,4 @@
-use Rattle.std.proofs.Common.{refl, subst}
+use Rattle.halfbrown.proofs.Common.{refl, subst}
 use Rattle.halfbrown.specs.Insertion.{IsPreparedFor}
 use Rattle.halfbrown.proofs.lemmas.entry.Methods.{found_key, found_writes, missing_key, missing_writes}
 use Rattle.halfbrown.proofs.map.LimitedHashMap.entry_counted.Goals as goal

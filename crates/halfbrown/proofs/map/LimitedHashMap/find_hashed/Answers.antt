@@ -1,10 +1,6 @@
-use Rattle.std.proofs.Common.{◌≡◌, false, sym, ap, subst, ◌∙◌}
-use Rattle.std.specs.Result.{result_ok}
+use Rattle.halfbrown.proofs.Common.{◌≡◌, false, ap, ◌∙◌, sym, subst, result_ok, IsSearchCost, state_in, KeySearch, State, IsValid}
 use Rattle.half_store.specs.declared.vecmap.search.Scan.TheVariants.{ByBlock}
-use Rattle.halfbrown.specs.Costs.{IsHashedLookupCost, IsSearchCost}
-use Rattle.halfbrown.specs.Layout.{state_in}
-use Rattle.halfbrown.specs.Lookup.{KeySearch}
-use Rattle.halfbrown.specs.State.{State, IsValid}
+use Rattle.halfbrown.specs.Costs.{IsHashedLookupCost}
 use Rattle.halfbrown.proofs.lemmas.map.Find.{costs_for_other, found_is_index, looks_up, match_costs, matches_of}
 use Rattle.halfbrown.proofs.lemmas.map.Layout.{state_of}
 use Rattle.halfbrown.proofs.map.LimitedHashMap.find_hashed.Goals as goal

@@ -1,11 +1,5 @@
-use Rattle.std.proofs.Common.{arith}
-use Rattle.std.proofs.lemmas.Grind.{common_steps}
-use Rattle.std.proofs.Common.{subst}
-use Rattle.std.specs.Result.{result_ok}
+use Rattle.halfbrown.proofs.Common.{arith, subst, common_steps, result_ok, IsSearchCost, state_in, State}
 use Rattle.half_store.specs.declared.vecmap.search.Scan.TheVariants.{ByKey}
-use Rattle.halfbrown.specs.Costs.{IsSearchCost}
-use Rattle.halfbrown.specs.Layout.{state_in}
-use Rattle.halfbrown.specs.State.{State}
 use Rattle.halfbrown.proofs.lemmas.map.Find.{match_costs, matches_of}
 use Rattle.halfbrown.proofs.map.LimitedHashMap.find_match.Goals as goal
 

@@ -1,8 +1,8 @@
-use Rattle.std.proofs.Common.{List, sym, subst, inr, ◌∙◌}
+use Rattle.halfbrown.proofs.Common.{List, ◌∙◌, sym, subst, inr, IfOk-weaker, into_iter_items, Gives}
 use Rattle.std.proofs.IntoIterSteps.{All-taken}
-use Rattle.std.proofs.lemmas.Result.{IfOk-weaker, IfErr-weaker}
-use Rattle.std.specs.Vec.Iter.{into_iter_items, into_iter_steps}
-use Rattle.halfbrown.specs.FromIter.{AreFirst, Gives, Collects}
+use Rattle.std.proofs.lemmas.Result.{IfErr-weaker}
+use Rattle.std.specs.Vec.Iter.{into_iter_steps}
+use Rattle.halfbrown.specs.FromIter.{AreFirst, Collects}
 use Rattle.halfbrown.proofs.lemmas.map.Collect.{gave_first, refusal_given}
 use Rattle.halfbrown.proofs.map.LimitedHashMap.from_array.Goals as goal
 

@@ -1,4 +1,5 @@
-use Rattle.std.proofs.lemmas.Result.{IfOk-weaker, IfErr-weaker}
+use Rattle.halfbrown.proofs.Common.{IfOk-weaker}
+use Rattle.std.proofs.lemmas.Result.{IfErr-weaker}
 use Rattle.halfbrown.proofs.map.LimitedHashMap.from_iter_counted.Goals as goal
 
 pub returns-clause-collected : goal.returns-clause-collected

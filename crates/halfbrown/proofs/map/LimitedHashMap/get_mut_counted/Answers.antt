@@ -1,5 +1,4 @@
-use Rattle.std.proofs.Common.{inl, sym, subst, ◌∙◌}
-use Rattle.halfbrown.specs.State.{map_with_pairs}
+use Rattle.halfbrown.proofs.Common.{◌∙◌, sym, subst, inl, map_with_pairs}
 use Rattle.halfbrown.specs.Updates.{HasSetBy}
 use Rattle.halfbrown.proofs.lemmas.pairs.SetBy.{has_set_by}
 use Rattle.halfbrown.proofs.map.LimitedHashMap.get_mut_counted.Goals as goal

@@ -1,5 +1,4 @@
-use Rattle.std.proofs.Common.{None, Some, ap, sym, subst, ◌∙◌}
-use Rattle.half_store.specs.PairLists.{index_of}
+use Rattle.halfbrown.proofs.Common.{Some, ap, ◌∙◌, None, sym, subst, index_of}
 use Rattle.halfbrown.specs.Insertion.{IsPreparedFor}
 use Rattle.halfbrown.proofs.lemmas.map.Insert.{inserted_at}
 use Rattle.halfbrown.proofs.lemmas.map.Layout.{keys_of-set_value_at}

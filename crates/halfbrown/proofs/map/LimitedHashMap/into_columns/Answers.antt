@@ -1,5 +1,4 @@
-use Rattle.std.proofs.lemmas.Grind.{common_steps}
-use Rattle.std.proofs.Common.{arith}
+use Rattle.halfbrown.proofs.Common.{arith, common_steps}
 use Rattle.halfbrown.proofs.lemmas.map.Layout.{state_of}
 use Rattle.halfbrown.proofs.map.LimitedHashMap.into_columns.Goals as goal
 

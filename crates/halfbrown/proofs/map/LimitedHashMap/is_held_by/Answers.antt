@@ -1,6 +1,4 @@
-use Rattle.std.proofs.Common.{not, slice_get, ap, ◌∙◌, arith}
-use Rattle.std.proofs.lemmas.Grind.{common_steps}
-use Rattle.halfbrown.specs.Equality.{holds_pair}
+use Rattle.halfbrown.proofs.Common.{arith, slice_get, ap, ◌∙◌, not, common_steps, holds_pair}
 use Rattle.halfbrown.proofs.lemmas.map.Costs.{key_costs}
 use Rattle.halfbrown.proofs.lemmas.map.Equality.{held_unless, all_on, all_ends, costs_done, costs_on, costs_last}
 use Rattle.halfbrown.proofs.map.LimitedHashMap.is_held_by.Goals as goal

@@ -1,9 +1,9 @@
 -- The pairs so far are held: all are where the rest is, and the searches for the rest go on from here.
-use Rattle.std.proofs.Common.{◌≡◌, drop}
+use Rattle.halfbrown.proofs.Common.{◌≡◌, Work, holds_pair}
+use Rattle.std.proofs.Common.{drop}
 use Rattle.std.specs.List.{list_all}
-use Rattle.half_store.specs.Work.{Work}
 use Rattle.halfbrown.specs.Costs.{AreSearchCosts}
-use Rattle.halfbrown.specs.Equality.{holds_pair, keys_while_same}
+use Rattle.halfbrown.specs.Equality.{keys_while_same}
 use Rattle.halfbrown.proofs.map.LimitedHashMap.is_held_by.Given as goal
 
 abbrev pub invariant-loop-index : goal.invariant-loop-index

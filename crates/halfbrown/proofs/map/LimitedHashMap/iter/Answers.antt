@@ -1,6 +1,4 @@
-use Rattle.std.proofs.Common.{zip}
-use Rattle.std.proofs.Common.{arith}
-use Rattle.std.proofs.lemmas.Grind.{common_steps}
+use Rattle.halfbrown.proofs.Common.{arith, zip, common_steps}
 use Rattle.halfbrown.proofs.lemmas.map.Iter.{shows_pairs_in_order, zip_columns}
 use Rattle.halfbrown.proofs.map.LimitedHashMap.iter.Goals as goal
 

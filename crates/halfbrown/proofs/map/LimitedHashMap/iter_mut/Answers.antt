@@ -1,4 +1,4 @@
-use Rattle.std.proofs.Common.{zip, sym, ◌∙◌}
+use Rattle.halfbrown.proofs.Common.{◌∙◌, sym, zip}
 use Rattle.halfbrown.proofs.lemmas.map.Iter.{lends_values_in_order, kept_written, lent_values, zip_columns}
 use Rattle.halfbrown.proofs.map.LimitedHashMap.iter_mut.Goals as goal
 

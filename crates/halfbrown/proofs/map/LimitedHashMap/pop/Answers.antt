@@ -1,4 +1,4 @@
-use Rattle.std.proofs.Common.{rules, ◌≡◌, ◌-◌, length, subst}
+use Rattle.halfbrown.proofs.Common.{◌≡◌, length, subst, ◌-◌, rules}
 use Rattle.halfbrown.specs.Removal.{RemovesAt}
 use Rattle.halfbrown.proofs.lemmas.map.Remove.{last_removed}
 use Rattle.halfbrown.proofs.map.LimitedHashMap.pop.Goals as goal

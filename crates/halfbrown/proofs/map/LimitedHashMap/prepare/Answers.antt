@@ -1,9 +1,6 @@
-use Rattle.std.proofs.lemmas.Grind.{common_steps}
-use Rattle.std.proofs.Common.{◌≡◌, false, sym, ap, ◌∙◌, arith}
+use Rattle.halfbrown.proofs.Common.{◌≡◌, false, arith, ap, ◌∙◌, sym, common_steps, is_full, holds}
 use Rattle.std.proofs.lemmas.Result.{err_from_is_err_and}
 use Rattle.halfbrown.specs.Costs.{IsInsertCost}
-use Rattle.halfbrown.specs.Growth.{is_full}
-use Rattle.halfbrown.specs.Pairs.{holds}
 use Rattle.halfbrown.proofs.lemmas.map.Costs.{key_costs, held_costs, missing_costs, unmade_costs}
 use Rattle.halfbrown.proofs.lemmas.map.Growth.{switched_capacity}
 use Rattle.halfbrown.proofs.map.LimitedHashMap.prepare.Goals as goal

@@ -1,6 +1,4 @@
-use Rattle.std.proofs.Common.{sym, ap, ◌∙◌}
-use Rattle.halfbrown.specs.Pairs.{holds}
-use Rattle.halfbrown.specs.State.{contents_of}
+use Rattle.halfbrown.proofs.Common.{ap, ◌∙◌, sym, holds, contents_of}
 use Rattle.halfbrown.proofs.lemmas.map.Growth.{form_stays}
 use Rattle.halfbrown.proofs.lemmas.pairs.Indices.{absent_of_unheld}
 use Rattle.halfbrown.proofs.lemmas.map.Find.{vacancy_for}

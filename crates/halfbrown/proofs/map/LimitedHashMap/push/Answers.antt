@@ -1,8 +1,5 @@
-use Rattle.std.proofs.Common.{◌<◌, length, sym, ap, subst, arith}
+use Rattle.halfbrown.proofs.Common.{◌<◌, length, arith, ap, sym, subst, IsMapInvariant, IsAbsent, contents_of}
 use Rattle.half_store.specs.Store.{IsVacancy}
-use Rattle.halfbrown.specs.Layout.{IsMapInvariant}
-use Rattle.halfbrown.specs.Lookup.{IsAbsent}
-use Rattle.halfbrown.specs.State.{contents_of}
 use Rattle.halfbrown.proofs.lemmas.pairs.Indices.{absent_of_unheld}
 use Rattle.halfbrown.proofs.lemmas.map.Layout.{kept_pushed, state_of}
 use Rattle.halfbrown.proofs.map.LimitedHashMap.push.Goals as goal

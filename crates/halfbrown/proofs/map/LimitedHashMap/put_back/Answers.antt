@@ -1,6 +1,4 @@
-use Rattle.std.proofs.Common.{◌<◌, sym, subst, ◌∙◌}
-use Rattle.std.proofs.Common.{arith}
-use Rattle.halfbrown.specs.State.{IsTableCapacity}
+use Rattle.halfbrown.proofs.Common.{◌<◌, arith, ◌∙◌, sym, subst, IsTableCapacity}
 use Rattle.halfbrown.proofs.lemmas.map.Layout.{kept_made, state_of}
 use Rattle.halfbrown.proofs.map.LimitedHashMap.put_back.Goals as goal
 

@@ -1,4 +1,4 @@
-use Rattle.std.proofs.Common.{refl}
+use Rattle.halfbrown.proofs.Common.{refl}
 use Rattle.halfbrown.proofs.lemmas.map.Remove.{removed_value}
 use Rattle.halfbrown.proofs.map.LimitedHashMap.remove_counted.Goals as goal
 

@@ -1,13 +1,6 @@
-use Rattle.std.proofs.Common.{◌≡◌, false, sym, ap, subst, ◌∙◌}
-use Rattle.std.specs.Map.{lookup_entry}
-use Rattle.std.specs.Option.{option_map}
-use Rattle.std.specs.Result.{result_ok}
+use Rattle.halfbrown.proofs.Common.{◌≡◌, false, ap, ◌∙◌, sym, subst, lookup_entry, option_map, result_ok, IsSearchCost, state_in, KeySearch, Removes, State}
 use Rattle.half_store.specs.declared.vecmap.search.Scan.TheVariants.{ByKey}
-use Rattle.halfbrown.specs.Costs.{IsHashedLookupCost, IsSearchCost}
-use Rattle.halfbrown.specs.Layout.{state_in}
-use Rattle.halfbrown.specs.Lookup.{KeySearch}
-use Rattle.halfbrown.specs.Removal.{Removes}
-use Rattle.halfbrown.specs.State.{State}
+use Rattle.halfbrown.specs.Costs.{IsHashedLookupCost}
 use Rattle.halfbrown.proofs.lemmas.map.Find.{costs_for_other, found_is_index, looks_up, match_costs, matches_of}
 use Rattle.halfbrown.proofs.lemmas.map.Remove.{kept_found, removes_found}
 use Rattle.halfbrown.proofs.lemmas.pairs.Indices.{value_of_entry}

@@ -1,4 +1,4 @@
-use Rattle.std.proofs.Common.{◌<◌, length, ap, arith}
+use Rattle.halfbrown.proofs.Common.{◌<◌, length, arith, ap}
 use Rattle.halfbrown.proofs.lemmas.map.Layout.{state_of, kept_replaced, own_hash, absent_replaced}
 use Rattle.halfbrown.proofs.map.LimitedHashMap.replace_at.Goals as goal
 

@@ -1,5 +1,4 @@
-use Rattle.std.proofs.Common.{arith}
-use Rattle.std.proofs.lemmas.Grind.{common_steps}
+use Rattle.halfbrown.proofs.Common.{arith, common_steps}
 use Rattle.halfbrown.proofs.lemmas.map.Equality.{all_is_same, unequal_lengths, all_searched, costs_none, none_searched}
 use Rattle.halfbrown.proofs.map.LimitedHashMap.same_pairs_counted.Goals as goal
 

@@ -1,6 +1,4 @@
-use Rattle.std.proofs.Common.{◌≡◌, true, slice_get, sym, ap, subst, ◌∙◌}
-use Rattle.std.specs.Map.{keys_of}
-use Rattle.halfbrown.specs.Layout.{IsMapInvariant}
+use Rattle.halfbrown.proofs.Common.{◌≡◌, true, slice_get, ap, ◌∙◌, sym, subst, keys_of, IsMapInvariant}
 use Rattle.halfbrown.specs.Updates.{HasKeyReplaced}
 use Rattle.halfbrown.proofs.lemmas.map.Layout.{kept_key, state_of}
 use Rattle.halfbrown.proofs.lemmas.pairs.Changes.{equal_at, has_key_replaced}

@@ -1,6 +1,4 @@
-use Rattle.std.proofs.Common.{arith}
-use Rattle.std.proofs.lemmas.Grind.{common_steps}
-use Rattle.std.proofs.Common.{refl}
+use Rattle.halfbrown.proofs.Common.{arith, refl, common_steps}
 use Rattle.halfbrown.proofs.lemmas.map.Remove.{value_in_order}
 use Rattle.halfbrown.proofs.map.LimitedHashMap.shift_remove_counted.Goals as goal
 

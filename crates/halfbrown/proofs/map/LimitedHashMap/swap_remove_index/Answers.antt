@@ -1,4 +1,4 @@
-use Rattle.std.proofs.Common.{rules}
+use Rattle.halfbrown.proofs.Common.{rules}
 use Rattle.halfbrown.proofs.lemmas.map.Remove.{removed_at, none_removed_at}
 use Rattle.halfbrown.proofs.map.LimitedHashMap.swap_remove_index.Goals as goal
 

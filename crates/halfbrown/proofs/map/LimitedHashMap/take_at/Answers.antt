@@ -1,5 +1,4 @@
-use Rattle.std.proofs.Common.{◌<◌, length, ap, arith}
-use Rattle.std.proofs.lemmas.Grind.{common_steps}
+use Rattle.halfbrown.proofs.Common.{◌<◌, length, arith, ap, common_steps}
 use Rattle.halfbrown.proofs.lemmas.map.Layout.{kept_taken, state_of}
 use Rattle.halfbrown.proofs.lemmas.pairs.Changes.{value_of-pair}
 use Rattle.halfbrown.proofs.map.LimitedHashMap.take_at.Goals as goal

@@ -1,5 +1,4 @@
-use Rattle.std.proofs.Common.{sym, ap, ◌∙◌}
-use Rattle.std.specs.Map.{values_of}
+use Rattle.halfbrown.proofs.Common.{ap, ◌∙◌, sym, values_of}
 use Rattle.halfbrown.proofs.lemmas.map.Iter.{values_lend_in_order, kept_written, lent_values}
 use Rattle.halfbrown.proofs.map.LimitedHashMap.values_mut.Goals as goal
 

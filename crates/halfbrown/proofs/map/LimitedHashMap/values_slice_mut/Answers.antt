@@ -1,5 +1,4 @@
-use Rattle.std.proofs.Common.{refl, ap, ◌∙◌}
-use Rattle.std.specs.Map.{values_of}
+use Rattle.halfbrown.proofs.Common.{refl, ap, ◌∙◌, values_of}
 use Rattle.halfbrown.proofs.lemmas.map.Iter.{kept_written, lent_values}
 use Rattle.halfbrown.proofs.map.LimitedHashMap.values_slice_mut.Goals as goal
 

@@ -1,6 +1,4 @@
-use Rattle.std.proofs.Common.{rules, arith}
-use Rattle.std.proofs.lemmas.Grind.{common_steps}
-use Rattle.std.proofs.lemmas.List.{map-append, take_more}
+use Rattle.halfbrown.proofs.Common.{arith, rules, common_steps, map-append, take_more}
 use Rattle.halfbrown.proofs.map.switch.store_hashes.Goals as goal
 
 pub loop-key-preserved : goal.loop-key-preserved

@@ -1,5 +1,5 @@
 -- The hashes of the keys so far are stored, and the builder was called once for each.
-use Rattle.std.proofs.Common.{◌≡◌, map, take}
+use Rattle.halfbrown.proofs.Common.{◌≡◌, take, map}
 use Rattle.half_store.specs.Work.{asked_more}
 use Rattle.halfbrown.proofs.map.switch.store_hashes.Given as goal
 

@@ -1,5 +1,4 @@
-use Rattle.std.proofs.Common.{arith}
-use Rattle.std.proofs.lemmas.Grind.{common_steps}
+use Rattle.halfbrown.proofs.Common.{arith, common_steps}
 use Rattle.halfbrown.proofs.lemmas.raw_entry.Methods.{finds_match, is_some_within}
 use Rattle.halfbrown.proofs.raw_entry.RawEntryBuilderMut.from_hash_counted.Goals as goal
 

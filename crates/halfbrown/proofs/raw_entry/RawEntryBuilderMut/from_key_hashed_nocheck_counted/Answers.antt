@@ -1,4 +1,4 @@
-use Rattle.std.proofs.Common.{ap, ◌∙◌}
+use Rattle.halfbrown.proofs.Common.{ap, ◌∙◌}
 use Rattle.halfbrown.specs.RawEntry.{prepared_map}
 use Rattle.halfbrown.proofs.lemmas.raw_entry.Methods.{finds_held, finds_none}
 use Rattle.halfbrown.proofs.raw_entry.RawEntryBuilderMut.from_key_hashed_nocheck_counted.Goals as goal

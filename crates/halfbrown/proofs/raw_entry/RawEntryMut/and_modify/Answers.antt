@@ -1,4 +1,4 @@
-use Rattle.std.proofs.Common.{Some, refl, sym, subst}
+use Rattle.halfbrown.proofs.Common.{Some, refl, sym, subst}
 use Rattle.halfbrown.specs.RawEntry.{MayWritePair, ModifiesPair}
 use Rattle.halfbrown.proofs.lemmas.entry.Methods.{modified_entry}
 use Rattle.halfbrown.proofs.raw_entry.RawEntryMut.and_modify.Goals as goal

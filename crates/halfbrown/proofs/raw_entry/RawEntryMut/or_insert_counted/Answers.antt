@@ -1,4 +1,4 @@
-use Rattle.std.proofs.Common.{◌∙◌}
+use Rattle.halfbrown.proofs.Common.{◌∙◌}
 use Rattle.halfbrown.proofs.lemmas.raw_entry.Methods.{lent_key, lent_value, found_or}
 use Rattle.halfbrown.proofs.raw_entry.RawEntryMut.or_insert_counted.Goals as goal
 

@@ -1,8 +1,7 @@
-use Rattle.std.proofs.Common.{◌≡◌, false, slice_get, refl, ap, subst}
+use Rattle.halfbrown.proofs.Common.{◌≡◌, false, slice_get, refl, ap, subst, holds}
 use Rattle.halfbrown.proofs.lemmas.raw_entry.Methods.{held_puts_pair, if_some, pair_is}
 use Rattle.halfbrown.specs.Entry.{raw_view}
 use Rattle.halfbrown.specs.EntryView.{map_of, is_occupied}
-use Rattle.halfbrown.specs.Pairs.{holds}
 use Rattle.halfbrown.proofs.raw_entry.RawEntryMut.or_insert_entry_with.Goals as goal
 
 pub insert_entry_counted-requires : goal.insert_entry_counted-requires

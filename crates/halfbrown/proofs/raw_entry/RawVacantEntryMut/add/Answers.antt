@@ -1,5 +1,4 @@
-use Rattle.std.proofs.Common.{[], ◌∷◌, length, refl, ap, arith}
-use Rattle.std.proofs.Math.ListN.{length-append}
+use Rattle.halfbrown.proofs.Common.{length, arith, [], ◌∷◌, refl, ap, length-append}
 use Rattle.halfbrown.proofs.lemmas.map.Find.{vacancy_for}
 use Rattle.halfbrown.proofs.lemmas.raw_entry.Methods.{adds_pair}
 use Rattle.halfbrown.proofs.raw_entry.RawVacantEntryMut.add.Goals as goal

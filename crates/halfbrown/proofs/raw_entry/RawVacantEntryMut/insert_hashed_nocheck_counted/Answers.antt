@@ -1,5 +1,4 @@
-use Rattle.std.proofs.Common.{arith}
-use Rattle.std.proofs.lemmas.Grind.{common_steps}
+use Rattle.halfbrown.proofs.Common.{arith, common_steps}
 use Rattle.halfbrown.proofs.lemmas.raw_entry.Methods.{lent_key, lent_value}
 use Rattle.halfbrown.proofs.raw_entry.RawVacantEntryMut.insert_hashed_nocheck_counted.Goals as goal
 

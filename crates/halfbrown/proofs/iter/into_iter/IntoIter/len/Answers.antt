@@ -1,4 +1,4 @@
-use Rattle.std.proofs.Common.{length, sym, ap, ◌∙◌}
+use Rattle.halfbrown.proofs.Common.{length, ap, ◌∙◌, sym}
 use Rattle.half_store.proofs.lemmas.vecmap.Zip.{length-zip}
 use Rattle.halfbrown.proofs.iter.into_iter.IntoIter.len.Goals as goal
 

@@ -1,5 +1,4 @@
-use Rattle.std.proofs.Common.{arith}
-use Rattle.std.proofs.lemmas.Grind.{common_steps}
+use Rattle.halfbrown.proofs.Common.{arith, common_steps}
 use Rattle.std.proofs.lemmas.Slice.Zip.{length-zip}
 use Rattle.halfbrown.proofs.iter.iter_mut.IterMutExactSizeIterator.len.Goals as goal
 

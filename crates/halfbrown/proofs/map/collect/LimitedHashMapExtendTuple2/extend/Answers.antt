@@ -1,5 +1,4 @@
-use Rattle.std.proofs.Common.{arith}
-use Rattle.std.proofs.lemmas.Grind.{common_steps}
+use Rattle.halfbrown.proofs.Common.{arith, common_steps}
 use Rattle.halfbrown.proofs.lemmas.map.Collect.{extends_of, yields_front}
 use Rattle.halfbrown.proofs.map.collect.LimitedHashMapExtendTuple2.extend.Goals as goal
 

@@ -1,4 +1,4 @@
-use Rattle.std.proofs.Common.{zip, ◌∙◌}
+use Rattle.halfbrown.proofs.Common.{◌∙◌, zip}
 use Rattle.halfbrown.proofs.lemmas.map.Iter.{gives_in_order, shows_values_in_order, zip_columns}
 use Rattle.halfbrown.proofs.map.into_iter.LimitedHashMapIntoIterator.into_iter.Goals as goal
 
