@@ -8,6 +8,19 @@ use Rattle.halfbrown.specs.Equality.{same_pairs, same_value, holds_pair, searche
 use Rattle.halfbrown.specs.State.{State}
 
 module _ {K V : Type 0} (eq : K → K → Bool) (value_eq : V → V → Bool) where
+  -- a list is equal to itself, where each value is
+  abbrev pub ReflexiveLaw : Type 0
+  ReflexiveLaw = ((v : V) → IsTrue (value_eq v v)) → (pairs : List (K × V)) → IsTrue (same_pairs eq value_eq pairs pairs)
+
+  -- the sides do not matter
+  abbrev pub SymmetricLaw : Type 0
+  SymmetricLaw = (left right : List (K × V)) → same_pairs eq value_eq left right ≡ same_pairs eq value_eq right left
+
+  -- two lists that are equal to a third are equal
+  abbrev pub TransitiveLaw : Type 0
+  TransitiveLaw = (left middle right : List (K × V)) → IsTrue (same_pairs eq value_eq left middle)
+      → IsTrue (same_pairs eq value_eq middle right) → IsTrue (same_pairs eq value_eq left right)
+
   -- two lists are equal exactly where each key has equal values in both
   abbrev pub ValuesLaw : Type 0
   ValuesLaw = (left right : List (K × V)) → IsTrue (same_pairs eq value_eq left right) ↔ ((k : K) → IsTrue (same_value eq value_eq left right k))

@@ -1,6 +1,6 @@
 -- What holds of every run: what becomes of the form, what decides the replies, how often keys are hashed, how much capacity is left, how
 -- many pairs are moved, and that runs can be split and joined.
-use Rattle.std.specs.Prelude.{◌≡◌, ℕ, ◌+◌, ◌*◌, ◌≤◌, max, Bool, true, false, not, ◌&&◌, ◌==◌, List, ◌++◌, length, map, fold, sum_by, count_by, Option, None, unwrap_or, if◌then◌else◌}
+use Rattle.std.specs.Prelude.{◌≡◌, ℕ, ◌+◌, ◌*◌, ◌≤◌, max, Bool, true, false, not, ◌&&◌, ◌==◌, List, ◌++◌, length, map, fold, sum_by, count_by, Option, None, Some, unwrap_or, if◌then◌else◌}
 use Rattle.std.specs.List.{list_any}
 use Rattle.std.specs.Option.{option_or}
 use Rattle.half_store.specs.declared.refusal.Refusal.{Refusal}
@@ -9,7 +9,8 @@ use Rattle.halfbrown.specs.declared.run.Command.TheVariants.{Reserve}
 use Rattle.halfbrown.specs.declared.run.Reply.{Reply}
 use Rattle.halfbrown.specs.Costs.{Cost, add_costs}
 use Rattle.half_store.specs.Arrays.{bytes}
-use Rattle.halfbrown.specs.Run.{StepsLead, RunsAtCost, has_shrink, commands_of, replies_of, cost_of, Step, refusal_in, says_vec, is_shrink, switches, form_changed}
+use Rattle.halfbrown.specs.declared.run.Reply.TheVariants.{Form}
+use Rattle.halfbrown.specs.Run.{StepsLead, Runs, has_shrink, commands_of, replies_of, cost_of, Step, refusal_in, is_shrink, switches}
 use Rattle.halfbrown.specs.State.{State, IsValid}
 
 -- whether the command is `Reserve`
@@ -21,12 +22,25 @@ is_reserve command = false
 abbrev pub has_reserve : {K V : Type 0} → List (Command K V) → Bool
 has_reserve commands = list_any is_reserve commands
 
+-- whether the reply is that the form is the vector
+abbrev pub says_vec : {K V : Type 0} → Reply K V → Bool
+says_vec (Form is_vec) = is_vec
+says_vec reply = false
+
 -- two states have the same form, and the same pairs in the same order
 pub record IsAlike {K V S : Type 0} (a b : State K V S) : Type 0 where
   pub form : a.is_vec ≡ b.is_vec
   pub pairs : a.pairs ≡ b.pairs
 
 module _ {K V S : Type 0} where
+  -- whether the step made a table a vector: it is a `Shrink`, and says so
+  abbrev pub goes_back : Step K V S → Bool
+  goes_back s = is_shrink s.command && not s.before.is_vec && says_vec s.reply
+
+  -- whether the form is the vector after a step that changed it; none where the step did not
+  abbrev pub form_changed : ℕ → Step K V S → Option Bool
+  form_changed limit s = if switches limit s then Some false else if goes_back s then Some true else None
+
   -- whether the form is the vector after the last step that changed it; none where no step did
   abbrev pub last_change : ℕ → List (Step K V S) → Option Bool
   last_change limit steps = fold (λ earlier s. option_or (form_changed limit s) earlier) None steps
@@ -110,6 +124,12 @@ module _ {K : Type 0} (V S : Type 0) (limit : ℕ) (eq : K → K → Bool) where
         → (cost_of limit eq hash steps).asked ≤ 2 * length steps + limit)
 
 module _ {K V S : Type 0} (limit : ℕ) (eq : K → K → Bool) (hash : S → K → ℕ) where
+  -- a run whose steps together have this cost
+  pub record RunsAtCost (old : State K V S) (commands : List (Command K V)) (replies : List (Reply K V)) (new : State K V S)
+      (cost : Cost) : Type 0 where
+    pub run : Runs limit eq old commands replies new
+    pub cost_is : cost ≡ cost_of limit eq hash run.steps
+
   -- from old to new the first commands run, and then the second ones; the replies are those of both, and the cost is their sum
   pub record RunsInTwo (old : State K V S) (first second : List (Command K V)) (replies : List (Reply K V)) (new : State K V S)
       (cost : Cost) : Type 0 where
@@ -118,8 +138,8 @@ module _ {K V S : Type 0} (limit : ℕ) (eq : K → K → Bool) (hash : S → K 
     pub second_replies : List (Reply K V)
     pub first_cost : Cost
     pub second_cost : Cost
-    pub first_runs : RunsAtCost limit eq hash old first first_replies between first_cost
-    pub second_runs : RunsAtCost limit eq hash between second second_replies new second_cost
+    pub first_runs : RunsAtCost old first first_replies between first_cost
+    pub second_runs : RunsAtCost between second second_replies new second_cost
     pub replies_are : replies ≡ first_replies ++ second_replies
     pub cost_is : cost ≡ add_costs first_cost second_cost
 

@@ -1,6 +1,6 @@
 //! What holds of equality. These functions do nothing: the laws are their contracts.
-ghost use Rattle.halfbrown.specs.Equality.{ReflexiveLaw, SymmetricLaw, TransitiveLaw};
-ghost use Rattle.half_laws.specs.ComparisonLaws.{ValuesLaw, PairsLaw, OrderLaw, ComparisonLaw};
+ghost use Rattle.half_laws.specs.ComparisonLaws.{ReflexiveLaw, SymmetricLaw, TransitiveLaw, ValuesLaw};
+ghost use Rattle.half_laws.specs.ComparisonLaws.{PairsLaw, OrderLaw, ComparisonLaw};
 
 use halfbrown::KeyHasher;
 use std::hash::Hash;

@@ -35,18 +35,6 @@ module _ {K V : Type 0} (eq : K → K → Bool) (value_eq : V → V → Bool) wh
   abbrev pub searched_keys : List (K × V) → List (K × V) → List K
   searched_keys left right = if length left == length right then keys_while_same left right else []
 
-  -- a list is equal to itself, where each value is
-  abbrev pub ReflexiveLaw : Type 0
-  ReflexiveLaw = ((v : V) → IsTrue (value_eq v v)) → (pairs : List (K × V)) → IsTrue (same_pairs pairs pairs)
-
-  -- the sides do not matter
-  abbrev pub SymmetricLaw : Type 0
-  SymmetricLaw = (left right : List (K × V)) → same_pairs left right ≡ same_pairs right left
-
-  -- two lists that are equal to a third are equal
-  abbrev pub TransitiveLaw : Type 0
-  TransitiveLaw = (left middle right : List (K × V)) → IsTrue (same_pairs left middle) → IsTrue (same_pairs middle right) → IsTrue (same_pairs left right)
-
 module _ {K V : Type 0} (eq : K → K → Bool) (value_eq : V → V → Bool) (keys : IsEquivalence eq) where
   -- an equal key has the same values
   pub equal_has_same : (left right : List (K × V)) (k q : K) → eq k q ≡ true → same_value eq value_eq left right k ≡ same_value eq value_eq left right q
@@ -56,13 +44,14 @@ module _ {K V : Type 0} (eq : K → K → Bool) (value_eq : V → V → Bool) (k
   same_pairs-Decides left right =
       (get_from_hash_map_eq eq value_eq keys (as_map left) (as_map right), hash_map_eq_from_get eq value_eq (as_map left) (as_map right))
 
-  pub reflexive : ReflexiveLaw eq value_eq
+  pub reflexive : ((v : V) → IsTrue (value_eq v v)) → (pairs : List (K × V)) → IsTrue (same_pairs eq value_eq pairs pairs)
   reflexive each pairs = hash_map_eq_refl eq value_eq each (as_map pairs)
 
-  pub symmetric : IsPartialEquivalence value_eq → SymmetricLaw eq value_eq
+  pub symmetric : IsPartialEquivalence value_eq → (left right : List (K × V)) → same_pairs eq value_eq left right ≡ same_pairs eq value_eq right left
   symmetric values left right = hash_map_eq_symm eq value_eq values.symm (as_map left) (as_map right)
 
-  pub transitive : IsPartialEquivalence value_eq → TransitiveLaw eq value_eq
+  pub transitive : IsPartialEquivalence value_eq → (left middle right : List (K × V))
+      → IsTrue (same_pairs eq value_eq left middle) → IsTrue (same_pairs eq value_eq middle right) → IsTrue (same_pairs eq value_eq left right)
   transitive values left middle right = hash_map_eq_trans eq value_eq keys values.trans (as_map left) (as_map middle) (as_map right)
 
   -- whether two maps hold the same pairs

@@ -74,11 +74,6 @@ says_put Added = true
 says_put (Value value) = true
 says_put reply = false
 
--- whether the reply is that the form is the vector
-abbrev pub says_vec : {K V : Type 0} → Reply K V → Bool
-says_vec (Form is_vec) = is_vec
-says_vec reply = false
-
 -- whether the command is `Shrink`
 abbrev pub is_shrink : {K V : Type 0} → Command K V → Bool
 is_shrink Shrink = true
@@ -99,14 +94,6 @@ module _ {K V S : Type 0} (limit : ℕ) where
   -- whether the step put a pair into a full vector, and so made it a table
   abbrev pub switches : Step K V S → Bool
   switches s = says_put s.reply && is_full limit s.before
-
-  -- whether the step made a table a vector: it is a `Shrink`, and says so
-  abbrev pub goes_back : Step K V S → Bool
-  goes_back s = is_shrink s.command && not s.before.is_vec && says_vec s.reply
-
-  -- whether the form is the vector after a step that changed it; none where the step did not
-  abbrev pub form_changed : Step K V S → Option Bool
-  form_changed s = if switches s then Some false else if goes_back s then Some true else None
 
 -- whether `Shrink` is among the commands
 abbrev pub has_shrink : {K V : Type 0} → List (Command K V) → Bool
@@ -159,9 +146,3 @@ module _ {K V S : Type 0} (limit : ℕ) (eq : K → K → Bool) where
     abbrev pub cost_of : List (Step K V S) → Cost
     cost_of [] = no_cost
     cost_of (s ∷ steps) = add_costs (step_cost s) (cost_of steps)
-
-    -- such steps, which together have this cost
-    pub record RunsAtCost (old : State K V S) (commands : List (Command K V)) (replies : List (Reply K V)) (new : State K V S)
-        (cost : Cost) : Type 0 where
-      pub run : Runs old commands replies new
-      pub cost_is : cost ≡ cost_of run.steps

@@ -5,12 +5,12 @@ use Rattle.std.proofs.lemmas.Grind.{common_steps}
 use Rattle.std.specs.List.{list_any}
 use Rattle.std.specs.Option.{option_or}
 use Rattle.std.proofs.lemmas.List.Sums.{sum_by-cons}
-use Rattle.halfbrown.specs.Run.{StepsLead, has_shrink, commands_of, cost_of, Step, says_put, is_shrink, switches, goes_back, form_changed}
+use Rattle.halfbrown.specs.Run.{StepsLead, has_shrink, commands_of, cost_of, Step, IsValidStep, says_put, is_shrink, switches}
 use Rattle.halfbrown.specs.State.{State}
 use Rattle.halfbrown.proofs.lemmas.map.Growth.{form_stays}
 use Rattle.halfbrown.proofs.lemmas.run.Runs.{neither, steps_pay_two, table_stays}
-use Rattle.halfbrown.proofs.lemmas.run.Steps.{form_of_step, form_unshrunk, asked_of_step, most_asked, switch_left_most}
-use Rattle.half_laws.specs.RunLaws.{FormLaw, SwitchLaw, TableLaw, OneSwitchLaw, UnswitchedLaw, NothingHashedLaw, HashesLaw, AmortizedHashesLaw}
+use Rattle.halfbrown.proofs.lemmas.run.Steps.{form_unshrunk, asked_of_step, most_asked, switch_left_most}
+use Rattle.half_laws.specs.RunLaws.{form_changed, goes_back, FormLaw, SwitchLaw, TableLaw, OneSwitchLaw, UnswitchedLaw, NothingHashedLaw, HashesLaw, AmortizedHashesLaw}
 
 -- the last change counts
 last_of_both : (last earlier : Option Bool) (first : Bool)
@@ -44,13 +44,16 @@ once_most true = omega arith
 once_most false = omega arith
 
 module _ {K V S : Type 0} (limit : ℕ) (eq : K → K → Bool) where
+  pub form_of_step : (s : Step K V S) → IsValidStep limit eq s → s.after.is_vec ≡ unwrap_or (form_changed limit s) s.before.is_vec
+  form_of_step s step = grind (arith, common_steps)
+
   form_after : (first : Bool) (old new : State K V S) (steps : List (Step K V S)) (earlier : Option Bool) → StepsLead limit eq old steps new
       → old.is_vec ≡ unwrap_or earlier first
       → new.is_vec ≡ unwrap_or (fold (λ earlier s. option_or (form_changed limit s) earlier) earlier steps) first
   form_after first old new [] earlier lead form = ap (λ m. m.is_vec) lead ∙ form
   form_after first old new (s ∷ steps) earlier lead form =
       form_after first s.after new steps (option_or (form_changed limit s) earlier) lead.3
-      (form_of_step limit eq s lead.1 ∙ ap (unwrap_or (form_changed limit s)) (ap (λ m. m.is_vec) lead.0 ∙ form)
+      (form_of_step s lead.1 ∙ ap (unwrap_or (form_changed limit s)) (ap (λ m. m.is_vec) lead.0 ∙ form)
       ∙ last_of_both (form_changed limit s) earlier first)
 
   pub form_law : FormLaw V S limit eq
@@ -112,9 +115,9 @@ module _ {K V S : Type 0} (limit : ℕ) (eq : K → K → Bool) where
     unswitched_law old new (s ∷ steps) lead form none =
         let parts = neither (switches limit s) (list_any (switches limit) steps) none in
         let was = ap (λ m. m.is_vec) lead.0 ∙ form in
-        let stays : unwrap_or (form_changed limit s) s.before.is_vec ≡ unwrap_or (if goes_back limit s then Some true else None) true =
-        λ i. unwrap_or (if parts.0 i then Some false else if goes_back limit s then Some true else None) (was i) in
-        let next : s.after.is_vec ≡ true = form_of_step limit eq s lead.1 ∙ stays ∙ vector_stays (goes_back limit s) in
+        let stays : unwrap_or (form_changed limit s) s.before.is_vec ≡ unwrap_or (if goes_back s then Some true else None) true =
+        λ i. unwrap_or (if parts.0 i then Some false else if goes_back s then Some true else None) (was i) in
+        let next : s.after.is_vec ≡ true = form_of_step s lead.1 ∙ stays ∙ vector_stays (goes_back s) in
         let nothing : most_asked limit (switches limit s) s.before.is_vec ≡ 0 = λ i. most_asked limit (parts.0 i) (was i) in
         let rest = unswitched_law s.after new steps lead.3 next parts.1 in
         (rest.0, omega (arith, asked_of_step limit eq hash s lead.1, nothing, rest.1))

@@ -8,9 +8,9 @@ use Rattle.halfbrown.specs.declared.run.Reply.{Reply}
 use Rattle.halfbrown.specs.declared.run.Reply.TheVariants.{Refused}
 use Rattle.halfbrown.specs.Pairs.{holds, put, take_out}
 use Rattle.halfbrown.specs.State.{State}
-use Rattle.halfbrown.specs.Run.{Step, Executes, IsValidStep, Leaves, value_or, granted_reply, refusal_in, says_vec, is_shrink}
-use Rattle.halfbrown.proofs.lemmas.run.Steps.{form_of_step}
-use Rattle.half_laws.specs.RunLaws.{IsAlike, RepliesLaw, outcomes_of}
+use Rattle.halfbrown.specs.Run.{Step, Executes, IsValidStep, Leaves, value_or, granted_reply, refusal_in, is_shrink}
+use Rattle.half_laws.proofs.lemmas.runs.Laws.{form_of_step}
+use Rattle.half_laws.specs.RunLaws.{says_vec, IsAlike, RepliesLaw, outcomes_of}
 
 module _ {K V : Type 0} (limit : ℕ) (eq : K → K → Bool) where
   -- the pairs after a granted command

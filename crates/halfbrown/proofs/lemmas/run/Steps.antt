@@ -1,7 +1,7 @@
 -- What one step does to the form, and how often it hashes.
-use Rattle.halfbrown.proofs.Common.{◌≡◌, ℕ, ◌+◌, ◌≤◌, Bool, true, false, arith, unwrap_or, not, ◌&&◌, common_steps, Step}
+use Rattle.halfbrown.proofs.Common.{◌≡◌, ℕ, ◌+◌, ◌≤◌, Bool, true, false, arith, not, ◌&&◌, common_steps, Step}
 use Rattle.std.proofs.Common.{◌*◌, if◌then◌else◌}
-use Rattle.halfbrown.specs.Run.{step_cost, is_shrink, IsValidStep, switches, form_changed}
+use Rattle.halfbrown.specs.Run.{step_cost, is_shrink, IsValidStep, switches}
 
 -- the most keys that a command hashes: two, but none in a vector, and all at the switch
 abbrev pub most_asked : ℕ → Bool → Bool → ℕ
@@ -20,9 +20,6 @@ pub record PaysTwo (limit count asked : ℕ) (was is : Bool) : Type 0 where
   pub all : asked + switch_left limit is ≤ 2 * count + switch_left limit was
 
 module _ {K V S : Type 0} (limit : ℕ) (eq : K → K → Bool) where
-  pub form_of_step : (s : Step K V S) → IsValidStep limit eq s → s.after.is_vec ≡ unwrap_or (form_changed limit s) s.before.is_vec
-  form_of_step s step = grind (arith, common_steps)
-
   -- without `Shrink` a step leaves a vector where it found one and did not switch
   pub form_unshrunk : (s : Step K V S) → IsValidStep limit eq s → is_shrink s.command ≡ false
       → s.after.is_vec ≡ (s.before.is_vec && not (switches limit s))
