@@ -212,7 +212,7 @@ class Page:
                 yield wrapped(f"{head} = {' '.join(self.fields(name))}", "    ")
 
     def all_calls(self):
-        """The calls of each module, by the type that has them; a star stands behind each that has a counted form."""
+        """The calls of each module, by the type that has them; a star stands behind each that has a counted call."""
         for path in sorted(CRATE.glob("src/**/*.rt"), key=lambda it: it.with_suffix("").parts):
             text, calls = path.read_text(), {}
             for it in re.finditer(r"^( *)pub fn (\w+)", text, re.M):

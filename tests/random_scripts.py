@@ -33,12 +33,12 @@ MORE_OFTEN += ("extend_by ITEMS", "hashmap ITEMS")
 WEIGHTS = dict.fromkeys(CALLS, 1) | dict.fromkeys(EMPTYING, 0.7) | dict.fromkeys(MORE_OFTEN, 3) | {"run COMMANDS": 10}
 # Each with a held key and with a new one, refused memory and not.
 DECK = list(itertools.product(CALLS, (True, False), (True, False)))
-SUMS = list(itertools.accumulate(WEIGHTS[form] for form, *_ in DECK))
+SUMS = list(itertools.accumulate(WEIGHTS[pattern] for pattern, *_ in DECK))
 GOLDEN = (5**0.5 - 1) / 2
 # In a tenth of the scripts most calls are refused the request of one of these numbers. In the others fewer are refused all.
 REQUESTS = (1, 2, 2, 3, 3, 3, 4, 4, 5, 5, 6)
 # The calls after which a map of many pairs has many still.
-KEEPING = tuple(form for form in CALLS if form not in (*EMPTYING, "swap", "retain M N *"))
+KEEPING = tuple(pattern for pattern in CALLS if pattern not in (*EMPTYING, "swap", "retain M N *"))
 NO_CALLS = (
     "", " iter", "iter ", "iter 1", "insert 1", "insert  1 2", "insert +1 2", "insert 1 -2", "get", "get x", "GET 1",
     "insert 1 18446744073709551616", "insert 1#2#3 4", "insert # 4", "entry 1", "entry 1 or_insert", "entry 1 take",
@@ -113,9 +113,9 @@ class Script:
             steps.pop()
         return " ".join(step.replace(":N", f":{self.chance.randrange(5)}") for step in steps)
 
-    def written(self, form, id_=None):
-        """A line of this form. A given ID is that of its keys."""
-        choice, places = self.chance.choice, places_of(form)
+    def written(self, pattern, id_=None):
+        """A line of this pattern. A given ID is that of its keys."""
+        choice, places = self.chance.choice, places_of(pattern)
         id_ = choice((self.any_id, self.held_id))() if id_ is None else id_
         words = {
             "KEY": lambda: self.key(id_),
@@ -129,17 +129,17 @@ class Script:
             "LIMIT": lambda: choice(OTHER_LIMITS),
             "RULE": lambda: choice(tuple(RULES)),
             "MAKER": lambda: choice((*PLAIN_MAKERS, *(f"{maker}:{self.size()}" for maker in MAKERS_FOR))),
-            "ITEMS": lambda: self.items(3 if form.startswith("hashmap") else 4),
+            "ITEMS": lambda: self.items(3 if pattern.startswith("hashmap") else 4),
             "COMMANDS": lambda: " ".join(self.written(choice(tuple(COMMANDS))) for _ in range(self.chance.randrange(9))),
             "STEPS": lambda: self.steps(places[1]),
         }
         said = [str(words[place]()) if place in words else place for place in places]
         return " ".join(word for word in said if word)
 
-    def call(self, forms, id_=None, may_be_refused=False):
+    def call(self, patterns, id_=None, may_be_refused=False):
         before = "refused " * (may_be_refused and self.chance.random() < self.share_refused)
-        forms = [form for form in forms if self.kind in WITH_NUMBERS or not form.startswith("run")]
-        self.add(before + self.written(self.chance.choice(forms), id_))
+        patterns = [pattern for pattern in patterns if self.kind in WITH_NUMBERS or not pattern.startswith("run")]
+        self.add(before + self.written(self.chance.choice(patterns), id_))
 
     def draw(self):
         """A call of the deck. In each state all come evenly: each lies apart from those before it, by the golden ratio."""
@@ -147,16 +147,16 @@ class Script:
         self.drawn[state] += 1
         return DECK[bisect.bisect(SUMS, self.drawn[state] * GOLDEN % 1 * SUMS[-1])]
 
-    def any_call(self, form, is_held, is_refused):
+    def any_call(self, pattern, is_held, is_refused):
         """A call, and often all pairs after it."""
         chance, id_ = self.chance, self.held_id() if is_held else self.new_id()
-        is_refused = (is_refused or self.refuse != ALL) and form not in WITH_TEXT
-        self.add("refused " * is_refused + self.written(form, id_))
+        is_refused = (is_refused or self.refuse != ALL) and pattern not in WITH_TEXT
+        self.add("refused " * is_refused + self.written(pattern, id_))
         if self.wanted[-1].startswith("refused") or chance.random() < 0.15:
             self.add("pairs")
-        if form == "clone":
+        if pattern == "clone":
             self.change_one()
-        if form == "clone" or chance.random() < 0.01:
+        if pattern == "clone" or chance.random() < 0.01:
             self.call(COMPARING)
         if chance.random() < 0.01:
             self.add(chance.choice(NO_CALLS))
@@ -221,8 +221,8 @@ class Script:
 
     def run_at_length(self, count):
         """One run of as many commands, which seldom clear the map."""
-        forms = [form for form in COMMANDS for _ in range(1 if form == "clear" else 10)]
-        self.add("run " + " ".join(self.written(forms[37 * number % len(forms)]) for number in range(count)))
+        patterns = [pattern for pattern in COMMANDS for _ in range(1 if pattern == "clear" else 10)]
+        self.add("run " + " ".join(self.written(patterns[37 * number % len(patterns)]) for number in range(count)))
 
 
 # Long scripts: a first line, and what is done.

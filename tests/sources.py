@@ -3,7 +3,7 @@
 nobody keeps, refusals without a reason, and what is done or given up at a size that no test reaches.
 
 A rule is a sentence, how often its pattern stands in each of CRATES, and the pattern. Comments, clauses, `use` lines and tests
-are left out, and so is each plain call whose body is its counted form in `uncounted!`; white space is one space. PLAIN stands
+are left out, and so is each plain call whose body is its counted call in `uncounted!`; white space is one space. PLAIN stands
 for the names of plain calls, HELPER for functions that no user can call. Who adds a place reads the sentence, and changes the
 number if it still holds. Each line of QUOTED stands once, word for word; `..` is the rest of a signature. The last line is
 "N passed, M failed".
@@ -30,7 +30,7 @@ RULES = (
     ("`uncounted!` lends its spare tally to one of these functions, which does that one thing.", "0 0 0 0 0 0 0 0",
      r"uncounted!\((?!(?:table\.(?:(?:shift_)?remove\(index|take\(self\.columns\.keys\(\), hash, matches, tally|add\(hash)"
      r"|first_empty\(&held, hashes\[index\]|LimitedHashMap::collect\(alloc, N, pairs\.into_iter\(\))\)\))"),
-    ("A counted form is a method, except for `from_iter_counted` and `run_counted`.", "0 2 0 0 0 0 0 0",
+    ("A counted call is a method, except for `from_iter_counted` and `run_counted`.", "0 2 0 0 0 0 0 0",
      r"fn \w+_counted\b(?:<(?:[^()]|\([^()]*\))*?>)?\((?! ?&?(?:mut )?self\b)"),
     ("The map makes no plain call of its own: these are of entries, tables, std's traits, and of its users.", "7 21 6 2 9 32 0 3",
      r"(?<!fn )\b(?:PLAIN)(?:::<[^()]*>)?\(|::(?:PLAIN)\b(?!\()"),

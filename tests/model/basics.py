@@ -22,7 +22,7 @@ class Refused(Exception):
 
 @dataclasses.dataclass(frozen=True)
 class Key:
-    """Keys are equal where their IDs are equal. A form that only stands for a key has no mark."""
+    """Keys are equal where their IDs are equal. A query has no mark."""
 
     id: int
     mark: int = dataclasses.field(default=1, compare=False)

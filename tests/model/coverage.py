@@ -28,7 +28,7 @@ SMALL_KEYS = ("small keys, held", "small keys, held past 16", "small keys, new")
 # What calls may answer.
 ANSWERS = dict.fromkeys(COMPARING, ("true, in one order", "true, in another", "false, of one length", "false, of others"))
 ANSWERS |= dict.fromkeys(AT_AN_INDEX, ("none", "a pair")) | dict.fromkeys(MAKING, ("vec", "map"))
-ROWS = [*CALLS, *(f"run {form}" for form in COMMANDS)]
+ROWS = [*CALLS, *(f"run {pattern}" for pattern in COMMANDS)]
 
 
 def asked(state):
@@ -44,8 +44,8 @@ def at_request(word, request):
     return f"{word} at request {request}"
 
 
-def row_of(form, is_held):
-    return f"{form}, {'held' if is_held else 'new'}" if is_on_a_key(form) else form
+def row_of(pattern, is_held):
+    return f"{pattern}, {'held' if is_held else 'new'}" if is_on_a_key(pattern) else pattern
 
 
 def small_keys_row(key, a):
@@ -55,26 +55,26 @@ def small_keys_row(key, a):
 
 def met_by(call, a):
     """The pairs of a row and a column that a call on `a` meets, before it is made. The first is of its state."""
-    key = call.said[-1] if call.form.endswith(" WHICH") else call.said[0] if is_on_a_key(call.form) else None
+    key = call.said[-1] if call.pattern.endswith(" WHICH") else call.said[0] if is_on_a_key(call.pattern) else None
     is_held = a.holds(key) if isinstance(key, Key) else any(key in (it.key.id, "any") for it in a.pairs)
-    met = [(row_of(call.form, is_held), state) for state in a.states()]
-    met += [(call.form, STOOD_FOR)] * (isinstance(key, Key) and key.mark is None)
+    met = [(row_of(call.pattern, is_held), state) for state in a.states()]
+    met += [(call.pattern, STOOD_FOR)] * (isinstance(key, Key) and key.mark is None)
     if isinstance(key, Key) and a.is_vec and a.work.are_small:
         met += [(small_keys_row(key, a), state) for state in a.states()]
-    met += [(f"raw calls at limit {a.limit}", MANY)] * (call.form.startswith("raw") and MANY in a.states())
-    if call.form.endswith(" STEPS"):
-        met += [(f"{call.form.removesuffix(' STEPS')} {step}", MET) for step, _ in call.said[0]]
-    elif call.form == "made MAKER ITEMS":
+    met += [(f"raw calls at limit {a.limit}", MANY)] * (call.pattern.startswith("raw") and MANY in a.states())
+    if call.pattern.endswith(" STEPS"):
+        met += [(f"{call.pattern.removesuffix(' STEPS')} {step}", MET) for step, _ in call.said[0]]
+    elif call.pattern == "made MAKER ITEMS":
         met.append((f"made {call.said[0][0]}", MET))
     return met
 
 
 def kind_of(call, maps, answer):
     """Which of its answers a call gave."""
-    if call.form in COMPARING:
+    if call.pattern in COMPARING:
         a, b = ([pair.key for pair in it.pairs] for it in (maps.a, maps.b))
-        return ANSWERS[call.form][a != b if answer == "true" else 2 + (len(a) != len(b))]
-    return answer.split(" ")[0] if call.form in MAKING else "none" if answer == "none" else "a pair"
+        return ANSWERS[call.pattern][a != b if answer == "true" else 2 + (len(a) != len(b))]
+    return answer.split(" ")[0] if call.pattern in MAKING else "none" if answer == "none" else "a pair"
 
 
 def answered_by(call, met, maps, answer):
@@ -82,25 +82,25 @@ def answered_by(call, met, maps, answer):
     (row, state), work = met[0], maps.a.work
     done = [(row, ASKED), (row, asked(state))] * (work.requests > 0)
     done += [(row, MEMORY), (row, refused(state))] * (MEMORY in work.refusals)
-    done += [(call.form, LATER)] * (work.refused_at > 1)
-    done += [(at_request(it, work.refused_at), state) for it in ENTRIES if work.refused_at and call.form.startswith(it)]
-    done += [(call.form, SIZE)] * (SIZE in work.refusals) + [("run reserve SIZE", SIZE)] * ("refused size reserve" in answer)
-    done += [(f"run {row_of(form, is_held)}", state) for form, is_held, states in work.commands for state in states]
-    return done + [(f"{call.form}: {kind_of(call, maps, answer)}", MET)] * (call.form in ANSWERS)
+    done += [(call.pattern, LATER)] * (work.refused_at > 1)
+    done += [(at_request(it, work.refused_at), state) for it in ENTRIES if work.refused_at and call.pattern.startswith(it)]
+    done += [(call.pattern, SIZE)] * (SIZE in work.refusals) + [("run reserve SIZE", SIZE)] * ("refused size reserve" in answer)
+    done += [(f"run {row_of(pattern, is_held)}", state) for pattern, is_held, states in work.commands for state in states]
+    return done + [(f"{call.pattern}: {kind_of(call, maps, answer)}", MET)] * (call.pattern in ANSWERS)
 
 
 def demanded(met):
     """The pairs that have to be met. A call that asks for memory has to be refused it, in each state in which it often asks."""
-    wanted = [(row, state) for form in ROWS for row in {row_of(form, True), row_of(form, False)} for state in STATES]
+    wanted = [(row, state) for pattern in ROWS for row in {row_of(pattern, True), row_of(pattern, False)} for state in STATES]
     often = [it for it in met if met[it] > 12]
     wanted += [(row, refused(state)) for row, column in often for state in STATES if column == asked(state)]
     wanted += [(row, MEMORY) for row, column in met if column == ASKED]
     wanted += [(at_request(word, 1 + it), state) for word in ENTRIES for state in GROWTH for it in range(GROWTH[state])]
-    wanted += [(form, LATER) for form in (*COLLECTING, *MAKING, "clone", "run COMMANDS")]
+    wanted += [(pattern, LATER) for pattern in (*COLLECTING, *MAKING, "clone", "run COMMANDS")]
     wanted += [(f"raw calls at limit {limit}", MANY) for limit in (32, 64)] + [(row, MANY) for row in SMALL_KEYS]
-    wanted += [(form, SIZE) for form in ROWS if {"SIZE", "MAKER"} & set(places_of(form))]
-    wanted += [(form, STOOD_FOR) for form in CALLS if "QUERY" in places_of(form)]
+    wanted += [(pattern, SIZE) for pattern in ROWS if {"SIZE", "MAKER"} & set(places_of(pattern))]
+    wanted += [(pattern, STOOD_FOR) for pattern in CALLS if "QUERY" in places_of(pattern)]
     wanted += [(f"{kind} {limit}", column) for kind in LIMITS for limit in LIMITS[kind] for column in (MET, SIZE)]
     wanted += [(f"walk {kind} {step}", MET) for kind in KINDS for step in steps_of(kind)]
-    wanted += [(f"{form}: {answer}", MET) for form, answers in ANSWERS.items() for answer in answers]
+    wanted += [(f"{pattern}: {answer}", MET) for pattern, answers in ANSWERS.items() for answer in answers]
     return wanted + [(f"made {maker}", MET) for maker in PLAIN_MAKERS + MAKERS_FOR]

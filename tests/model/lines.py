@@ -20,18 +20,18 @@ MOST_ITEMS = {"from_array ITEMS": 4, "hashmap ITEMS": 3}
 # Their text takes memory of the program's own.
 WITH_TEXT = ("debug_pretty", "debug_iter_pretty")
 OF_NUMBERS, WITH_NUMBERS = ("run COMMANDS", "entry KEY or_default"), ("map", "small")
-# Each is handed `a`, or the session, which has both maps, and what the line says. A form with `*` hands in a closure.
+# Each is handed `a`, or the session, which has both maps, and what the line says. A pattern with `*` hands in a closure.
 CALLS_ON_A = ONE_KEY_CALLS | OF_A_CALLS | {"run COMMANDS": run}
 CALLS = CALLS_ON_A | BOTH_CALLS | WALK_CALLS
 
 
-def places_of(form):
-    """The words of a form. Those in capitals are the places of others. A SIZE is a number that may be refused."""
-    return form.removesuffix(" *").split(" ")
+def places_of(pattern):
+    """The words of a pattern. Those in capitals are the places of others. A SIZE is a number that may be refused."""
+    return pattern.removesuffix(" *").split(" ")
 
 
-def is_on_a_key(form):
-    return not {"KEY", "QUERY", "WHICH"}.isdisjoint(places_of(form))
+def is_on_a_key(pattern):
+    return not {"KEY", "QUERY", "WHICH"}.isdisjoint(places_of(pattern))
 
 
 def name_of(words):
@@ -41,8 +41,8 @@ def name_of(words):
     return " ".join(words[:2]) if words[0] in ("error", "walk") else words[0]
 
 
-FORMS = {name_of(places_of(form)): form for form in CALLS}
-COMMAND_FORMS = {places_of(form)[0]: form for form in COMMANDS}
+PATTERNS = {name_of(places_of(pattern)): pattern for pattern in CALLS}
+COMMAND_PATTERNS = {places_of(pattern)[0]: pattern for pattern in COMMANDS}
 
 
 def keys_in(said):
@@ -54,15 +54,15 @@ def keys_in(said):
 
 @dataclasses.dataclass
 class Call:
-    """A line: the form of its call, what its words say, and whether it may be refused memory."""
+    """A line: the pattern of its call, what its words say, and whether it may be refused memory."""
 
-    form: str
+    pattern: str
     said: list
     is_refused: bool
 
     def values(self):
         """How many values are made of what the words say."""
-        places = places_of(self.form)
+        places = places_of(self.pattern)
         return places.count("V") + (len(self.said[-1]) if places[-1] == "ITEMS" else 0)
 
 
@@ -115,31 +115,31 @@ def read_places(places, words):
     return [PLACES[place](word) for place, word in zip(places, words) if place in PLACES]
 
 
-def read_items(form, words):
+def read_items(pattern, words):
     """The pairs of KEY V KEY V .."""
-    if len(words) % 2 != 0 or len(words) // 2 > MOST_ITEMS.get(form, len(words)):
+    if len(words) % 2 != 0 or len(words) // 2 > MOST_ITEMS.get(pattern, len(words)):
         raise BadLine
     return [(read_key(key), read_number(value)) for key, value in zip(words[::2], words[1::2])]
 
 
 def read_commands(_, words):
-    """The commands, each by its form and what it says."""
+    """The commands, each by its pattern and what it says."""
     commands = []
     while words:
-        form = look_up(COMMAND_FORMS, words[0])
-        count = len(places_of(form))
-        commands.append((form, read_places(places_of(form), words[:count])))
+        pattern = look_up(COMMAND_PATTERNS, words[0])
+        count = len(places_of(pattern))
+        commands.append((pattern, read_places(places_of(pattern), words[:count])))
         words = words[count:]
     return commands
 
 
-def read_steps(form, words):
-    """The steps, each by its form and what it says."""
+def read_steps(pattern, words):
+    """The steps, each by its pattern and what it says."""
     steps = []
     for word in words:
         name, colon, number = word.partition(":")
         step = f"{name}:N" if colon else name
-        if step not in steps_of(places_of(form)[1]) or (steps and steps[-1][0].startswith("each")):
+        if step not in steps_of(places_of(pattern)[1]) or (steps and steps[-1][0].startswith("each")):
             raise BadLine
         steps.append((step, [read_number(number)] if colon else []))
     return steps
@@ -157,17 +157,17 @@ REST = {"ITEMS": read_items, "COMMANDS": read_commands, "STEPS": read_steps}
 def read_call(line, kind):
     """The call of a line, which `refused` may stand before, on maps of this kind."""
     words = line.removeprefix("refused ").split(" ")
-    form = look_up(FORMS, name_of(words))
-    if kind not in WITH_NUMBERS and form in OF_NUMBERS:
+    pattern = look_up(PATTERNS, name_of(words))
+    if kind not in WITH_NUMBERS and pattern in OF_NUMBERS:
         raise BadLine
-    *places, last = places_of(form)
+    *places, last = places_of(pattern)
     if last in REST:
-        said = read_places(places, words[: len(places)]) + [REST[last](form, words[len(places) :])]
+        said = read_places(places, words[: len(places)]) + [REST[last](pattern, words[len(places) :])]
     else:
         said = read_places([*places, last], words)
     if kind == "unit":
         said = [no_value(place, it) for place, it in zip(filter(str.isupper, [*places, last]), said)]
-    return Call(form, said, line.startswith("refused "))
+    return Call(pattern, said, line.startswith("refused "))
 
 
 def read_first(line):

@@ -8,11 +8,11 @@ from model.map import Map
 
 def refusal_of(call, why):
     """What a refused call is answered, with what it hands back."""
-    if call.form.startswith("insert"):
+    if call.pattern.startswith("insert"):
         return f"refused {why} {Pair(*call.said)}"
-    if call.form.startswith("entry"):
+    if call.pattern.startswith("entry"):
         return f"refused {why} {call.said[0]}"
-    return "refused" if call.form in ("extend ITEMS", "extend_by ITEMS", "collect ITEMS") else f"refused {why}"
+    return "refused" if call.pattern in ("extend ITEMS", "extend_by ITEMS", "collect ITEMS") else f"refused {why}"
 
 
 class Session:
@@ -49,15 +49,15 @@ class Session:
         work = self.a.work = self.b.work = Work(self.refuse if call.is_refused else NONE, self.kind == "small")
         met, held = met_by(call, self.a), self.held()
         try:
-            answer = CALLS[call.form](self.a if call.form in CALLS_ON_A else self, *call.said)
+            answer = CALLS[call.pattern](self.a if call.pattern in CALLS_ON_A else self, *call.said)
             answer = "done" if answer is None else str(answer)
         except Refused as why:
             answer = refusal_of(call, why)
         self.met += met + answered_by(call, met, self, answer)
         gone = held + work.cloned - self.held()
         dropped = f"dropped {keys_in(call.said) + gone} {call.values() + gone if self.kind == 'owning' else 0}"
-        called = f" | called {work.called}" if call.form.endswith(" *") else ""
-        requests = "0..1000" if call.form in WITH_TEXT else work.requests
+        called = f" | called {work.called}" if call.pattern.endswith(" *") else ""
+        requests = "0..1000" if call.pattern in WITH_TEXT else work.requests
         return f"{answer} | {work} | {self.a} | {dropped}{called} | requests {requests}"
 
 

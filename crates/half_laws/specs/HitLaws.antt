@@ -13,7 +13,7 @@ use Rattle.halfbrown.specs.State.{State, IsValid, IsTableCapacity}
 use Rattle.half_laws.specs.MapLaws.{HoldSamePairs}
 
 module _ {K : Type 0} (V : Type 0) {S : Type 0} (hash : S → K → ℕ) where
-  -- in a table a search that finds the pair at this index, by any form of its key, reads as many buckets each time
+  -- in a table a search that finds the pair at this index, by any query for its key, reads as many buckets each time
   abbrev pub HitLaw : Type 0
   HitLaw = (m : State K V S) (test : K → Bool) (wanted asked index : ℕ) (before after : Work) → m.is_vec ≡ false
       → index_of test (keys_of m.pairs) ≡ Some index

@@ -7,6 +7,7 @@ pub mod RunLaws
 -- What callers need of the words below, so that they list this crate alone.
 pub use Rattle.half_store.specs.Capacity
 pub use Rattle.half_store.specs.Work
+pub use Rattle.halfbrown.specs.CostRanges
 pub use Rattle.halfbrown.specs.Costs
 pub use Rattle.halfbrown.specs.Growth
 pub use Rattle.halfbrown.specs.Pairs

@@ -7,7 +7,8 @@ use Rattle.half_laws.specs.ProbeLaws.{IsCrowded}
 use Rattle.half_store.specs.Work.{Work}
 use Rattle.halfbrown.specs.declared.run.Command.{Command}
 use Rattle.halfbrown.specs.declared.run.Command.TheVariants.{Insert, InsertNew, EntryOrInsert, RawOrInsert, Get, Remove}
-use Rattle.halfbrown.specs.Costs.{probe_length, addition_grows, capacity_after_switch, capacity_after_growth, new_key_cost, GrewBy, IsSearchCost, IsInsertCost}
+use Rattle.halfbrown.specs.CostRanges.{GrewBy}
+use Rattle.halfbrown.specs.Costs.{probe_length, addition_grows, capacity_after_switch, capacity_after_growth, new_key_cost, IsSearchCost, IsInsertCost}
 use Rattle.halfbrown.specs.Growth.{is_vec_after}
 use Rattle.halfbrown.specs.Pairs.{holds, holds_by}
 use Rattle.halfbrown.specs.Run.{command_cost}
@@ -67,7 +68,7 @@ module _ {K : Type 0} (V : Type 0) {S : Type 0} (hash : S → K → ℕ) where
       → IsCrowdedAround (hash builder) capacity pairs wanted passed
 
   -- in two maps that hold the same pairs in any order, a search that finds none hashes as often, compares as many keys and reads as many
-  -- buckets, exactly, whatever was inserted and removed before: by a key or any form of one, hashed by it or under a hash that is known
+  -- buckets, exactly, whatever was inserted and removed before: by a key or any query for one, hashed by it or under a hash that is known
   abbrev pub HistoryLaw : Type 0
   HistoryLaw = (a b : State K V S) (test : K → Bool) (wanted asked : ℕ) (a_before a_after b_before b_after : Work) → HoldSamePairs a b → holds_by test a.pairs ≡ false
       → IsSearchCost hash wanted a (index_of test (keys_of a.pairs)) asked a_before a_after
@@ -98,7 +99,7 @@ module _ {K : Type 0} (V : Type 0) {S : Type 0} (limit : ℕ) (eq : K → K → 
   CommandBucketsLaw = (a b : State K V S) (command : Command K V) (refused : Bool) → HoldSamePairs a b
       → (command_cost limit eq hash a command refused).looked ≡ (command_cost limit eq hash b command refused).looked
 
-  -- a search in a table, by any form of a key or by a match, passes only buckets that are crowded, whether it finds one or not
+  -- a search in a table, by any query for a key or by a match, passes only buckets that are crowded, whether it finds one or not
   abbrev pub CrowdedSearchLaw : Type 0
   CrowdedSearchLaw = (m : State K V S) (wanted : ℕ) (found : Option ℕ) (asked : ℕ) (before after : Work) (passed : ℕ)
       → IsValid eq limit m → m.is_vec ≡ false → IsSearchCost hash wanted m found asked before after → before.looked + passed < after.looked

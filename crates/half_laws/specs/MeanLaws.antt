@@ -20,7 +20,7 @@ miss_reads capacity hashes wanted = reach hashes (buckets_of capacity) wanted
 abbrev pub total_misses : (hashes capacity held : ℕ) → ℕ
 total_misses hashes capacity held = sum_lists hashes held (λ list. sum_below hashes (λ wanted. miss_reads capacity list wanted))
 
--- that is what a search in a table reads, by any form of a key, where it finds none
+-- that is what a search in a table reads, by any query for a key, where it finds none
 abbrev pub MissLaw : {K : Type 0} (V : Type 0) {S : Type 0} (hash : S → K → ℕ) → Type 0
 MissLaw {K} V {S} hash = (m : State K V S) (test : K → Bool) (wanted asked : ℕ) (before after : Work) → m.is_vec ≡ false → holds_by test m.pairs ≡ false
     → IsSearchCost hash wanted m (index_of test (keys_of m.pairs)) asked before after

@@ -7,7 +7,7 @@ use Rattle.half_store.specs.declared.refusal.Refusal.{Refusal}
 use Rattle.halfbrown.specs.declared.run.Command.{Command}
 use Rattle.halfbrown.specs.declared.run.Command.TheVariants.{Reserve}
 use Rattle.halfbrown.specs.declared.run.Reply.{Reply}
-use Rattle.halfbrown.specs.Costs.{Cost, add_costs}
+use Rattle.halfbrown.specs.CostRanges.{Cost, add_costs}
 use Rattle.half_store.specs.Arrays.{bytes}
 use Rattle.halfbrown.specs.declared.run.Reply.TheVariants.{Form}
 use Rattle.halfbrown.specs.Run.{StepsLead, Runs, has_shrink, commands_of, replies_of, cost_of, Step, refusal_in, is_shrink, switches}

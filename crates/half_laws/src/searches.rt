@@ -8,7 +8,7 @@ use halfbrown::{KeyHasher, Limit};
 use std::hash::Hash;
 
 /// In two maps of the same form, capacity and builder that hold the same pairs in any order, a search that finds
-/// nothing costs exactly the same, whatever was inserted and removed before: by a key or any form of one, and also by a
+/// nothing costs exactly the same, whatever was inserted and removed before: by a key or any query for one, and also by a
 /// known hash. So does an insertion of a key that is not held. A command's cost has the same bounds in both, unless it
 /// finds its key in a vector: then the order of the pairs decides how many keys are compared, and nothing else.
 pub fn cost_without_history<K: Eq + Hash, V, S: KeyHasher<K>, L: Limit>()
@@ -19,7 +19,7 @@ pub fn cost_without_history<K: Eq + Hash, V, S: KeyHasher<K>, L: Limit>()
     ensures buckets { CommandBucketsLaw V L.LIMIT K.eq S.hash }
 {}
 
-/// The buckets that a search in a table passes, by any form of a key, lie in a stretch of neighbouring buckets, not of
+/// The buckets that a search in a table passes, by any query for a key, lie in a stretch of neighbouring buckets, not of
 /// all of them, that is home to at least as many held pairs as it has buckets. So do those that an insertion passes. An
 /// insertion that makes the table grow reads two unsuccessful probes, one before the growth and one after it, and both
 /// pass only such buckets.
@@ -31,7 +31,7 @@ pub fn crowding_of_a_search<K: Eq + Hash, V, S: KeyHasher<K>, L: Limit>()
     ensures probe { CrowdedProbeLaw V S.hash }
 {}
 
-/// How many buckets a search that finds nothing reads on average, by any form of a key, where all lists of the hashes of held
+/// How many buckets a search that finds nothing reads on average, by any query for a key, where all lists of the hashes of held
 /// keys are equally likely, and all searched hashes: at most 2.5 in a table that is half full, and 8.5 in any table.
 /// The hashes alone appear in it, and no keys. `mean_of_a_probe` of `half_mean` has the exact mean.
 pub fn mean_of_a_miss<K: Eq + Hash, V, S: KeyHasher<K>>()
@@ -41,7 +41,7 @@ pub fn mean_of_a_miss<K: Eq + Hash, V, S: KeyHasher<K>>()
     ensures within_capacity { CapacityMissLaw 17 2 }
 {}
 
-/// A search in a table that finds its key reads as many buckets each time, by any form of the key. The searches for all held
+/// A search in a table that finds its key reads as many buckets each time, by any query for the key. The searches for all held
 /// keys, one each, read together exactly as many as the insertions of the pairs into an empty table of the same capacity, in
 /// any order. So they read as many in two maps of the same capacity and builder that hold the same pairs in any order, whatever
 /// was inserted and removed before.

@@ -2,6 +2,7 @@ pub mod Arrays
 pub mod Capacity
 pub mod Columns
 pub mod Drained
+pub mod FormerNames
 pub mod Hash
 pub mod PairLists
 pub mod Reach
@@ -16,7 +17,6 @@ pub mod ValueReplacement
 pub mod Words
 pub mod Work
 pub mod formers
--- What the files in `formers` have in common, those of the map too, and what its equality has in common with that of std's.
-pub use Rattle.std_collections.specs.Layout.Former
+-- What the map's equality has in common with that of std's.
 pub use Rattle.std_collections.specs.Layout.HashMap
 pub use Rattle.std_collections.specs.formers.hash_map.HashMap as HashMapFormer

@@ -13,7 +13,8 @@ use Rattle.half_store.specs.Reach.{reach, home, HomesApart}
 use Rattle.half_store.specs.Capacity.{buckets_of, capacity_for}
 use Rattle.half_store.specs.PairLists.{index_of}
 use Rattle.half_store.specs.Work.{Work}
-use Rattle.halfbrown.specs.Costs.{IsKeySearchCost, IsInsertCost, Cost, GrewBy, GrewWithin, exactly, between, add_ranges, key_search_cost}
+use Rattle.halfbrown.specs.CostRanges.{Cost, GrewBy, GrewWithin, exactly, between, add_ranges}
+use Rattle.halfbrown.specs.Costs.{IsKeySearchCost, IsInsertCost, key_search_cost}
 use Rattle.halfbrown.specs.Costs.{insert_cost, KeyHomesApart, search_cost}
 use Rattle.halfbrown.specs.Lookup.{ReadsMatch, IsMatchCost}
 use Rattle.halfbrown.specs.Pairs.{holds}
@@ -51,7 +52,7 @@ work_is a b asked compared looked i = record { asked = asked i; compared = compa
 
 -- where the least and the most are the same
 pub grew_exactly : (n before after : ℕ) → GrewWithin (exactly n) before after → after ≡ before + n
-grew_exactly n before after grew = omega (arith, grew.least, grew.most)
+grew_exactly n before after grew = omega (arith, grew.at_least, grew.at_most)
 
 -- the hash of a number by a rule
 abbrev pub number_hash : Rule → ℕ → ℕ
@@ -136,7 +137,7 @@ module _ (rule : Rule) (held : List (ℕ × ℕ)) (capacity : ℕ) (k : ℕ) whe
           → are_distinct (map (home (buckets_of capacity)) hashes_of) ≡ true → after ≡ more_work 1 1 1 before
       found_at_home present alone apart =
           let grew = grew_by true present in
-          work_is _ _ grew.asked (omega (arith, grew.compared.least, grew.compared.most, alone))
+          work_is _ _ grew.asked (omega (arith, grew.compared.at_least, grew.compared.at_most, alone))
           (cost.looked_once table.form (found_is present) (apart_is apart))
 
     insert_cost_is : insert_cost 0 eqb builder_hash m k true

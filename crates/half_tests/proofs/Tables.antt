@@ -9,7 +9,7 @@ use Rattle.std.proofs.lemmas.Map.Keys.{apart_from_distinct}
 use Rattle.std.specs.List.{IsDistinct}
 use Rattle.std.specs.Map.{keys_of}
 use Rattle.half_store.specs.Capacity.{capacity_of, more_buckets, buckets_for, capacity_for, generous_capacity}
-use Rattle.halfbrown.specs.Growth.{is_full, is_vec_after, insert_needs, reserve_needs, HasCapacityAfter, Reserves}
+use Rattle.halfbrown.specs.Growth.{is_full, is_vec_after, insert_needs, reserve_needs, HasCapacityAfter, IsReserved}
 use Rattle.halfbrown.specs.Lookup.{IsAbsent}
 use Rattle.halfbrown.specs.Pairs.{holds, put, take_out}
 use Rattle.halfbrown.specs.State.{State, WithPairs, make_state, contents_of}
@@ -157,14 +157,13 @@ module _ (rule : Rule) (held : List (ℕ × ℕ)) (capacity : ℕ) (k : ℕ) (ol
       }
 
   -- after capacity for more pairs was reserved, which the table had not
-  pub table_reserved : (additional : ℕ) → nat_lt capacity (length held + additional) ≡ true → Reserves 0 old additional new
+  pub table_reserved : (additional : ℕ) → nat_lt capacity (length held + additional) ≡ true → IsReserved 0 old additional new
       → IsTableOf rule held (capacity_for (length held + additional)) new
   table_reserved additional less reserved =
       let still = reserved.granted.form ∙ table.form in
       let total = length held + additional in
-      let needs : reserve_needs 0 old (length old.pairs + additional) ≡ (if nat_lt capacity total then Some total else None) =
-      λ i. reserve_needs 0 (make_state (table.form i) (table.pairs i) (table.capacity i) old.builder (contents_of old))
-      (length (table.pairs i) + additional) in
+      let needs : reserve_needs 0 old additional ≡ (if nat_lt capacity total then Some total else None) =
+      λ i. reserve_needs 0 (make_state (table.form i) (table.pairs i) (table.capacity i) old.builder (contents_of old)) additional in
       let needed = needs ∙ ap (λ b. if b then Some total else None) less in
       record {
         form = still;

@@ -1,7 +1,7 @@
 //! What no contract and no script says, run as tests.
 
 mod callers;
-mod forms_of_keys;
+mod queries;
 mod refused_clones;
 mod rust_crate;
 mod sizes;

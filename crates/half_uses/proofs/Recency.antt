@@ -5,7 +5,7 @@ use Rattle.std.proofs.lemmas.List.{drop-append-le, length-append}
 use Rattle.std.specs.Cmp.{IsEquivalence}
 use Rattle.std.specs.HashMap.Eq.{lookup_congr}
 use Rattle.std.specs.Map.{lookup, lookup_entry}
-use Rattle.halfbrown.specs.Pairs.{IsForm, value_of, holds, holds_by}
+use Rattle.halfbrown.specs.Pairs.{IsQuery, value_of, holds, holds_by}
 use Rattle.halfbrown.specs.Updates.{HasPut, HasRemovedBy}
 use Rattle.half_uses.specs.BoundedCache.{newest, refreshed, making_way}
 
@@ -43,7 +43,7 @@ pub way_of_held : {K V : Type 0} (eq : K → K → Bool) (bound : ℕ) (ps : Lis
     → Some p ≡ making_way eq bound ps k
 way_of_held eq bound ps k p found = grind (arith, common_steps, found, entry_value (eq k) ps p found)
 
-module _ {K V : Type 0} {eq : K → K → Bool} (laws : IsEquivalence eq) (test : K → Bool) (form : IsForm eq test) where
+module _ {K V : Type 0} {eq : K → K → Bool} (laws : IsEquivalence eq) (test : K → Bool) (query : IsQuery eq test) where
   -- once a pair is out its key is not held
   pub record IsOut (old new : List (K × V)) (p : K × V) : Type 0 where
     pub absent : holds eq new p.0 ≡ false
@@ -66,14 +66,14 @@ module _ {K V : Type 0} {eq : K → K → Bool} (laws : IsEquivalence eq) (test 
   put_back old mid new p found removed put any =
       let passes = entry_passes test old p found in
       let value = entry_value test old p found in
-      let same : test p.0 ≡ true → lookup test old ≡ lookup (eq p.0) old = λ h i. lookup (λ x. form p.0 x h i) old in
+      let same : test p.0 ≡ true → lookup test old ≡ lookup (eq p.0) old = λ h i. lookup (λ x. query p.0 x h i) old in
       grind (
         arith,
         common_steps,
         passes,
         value,
         same passes,
-        form p.0 any passes,
+        query p.0 any passes,
         lookup_congr eq laws.congr old p.0 any,
         put.equals any,
         put.others any,

@@ -18,7 +18,8 @@ pub use Rattle.half_store.specs.PairLists.{index_of, swap_remove_at, set_value_a
 pub use Rattle.half_store.specs.Store.{StoreState}
 pub use Rattle.half_store.specs.Work.{Work}
 pub use Rattle.half_store.specs.declared.store.find.Vacancy.{Vacancy}
-pub use Rattle.halfbrown.specs.Costs.{GrewBy, add_costs, IsSearchCost}
+pub use Rattle.halfbrown.specs.CostRanges.{GrewBy, add_costs}
+pub use Rattle.halfbrown.specs.Costs.{IsSearchCost}
 pub use Rattle.halfbrown.specs.Entry.{with_entry_value, occupied}
 pub use Rattle.halfbrown.specs.EntryView.{entry_value, with_value, IsWritten}
 pub use Rattle.halfbrown.specs.Equality.{holds_pair}

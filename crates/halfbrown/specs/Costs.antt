@@ -2,68 +2,16 @@
 use Rattle.std.specs.Prelude.{◌≡◌, ℕ, ◌+◌, ◌-◌, ◌≤◌, Bool, true, false, not, ◌&&◌, List, [], ◌∷◌, length, map, count_by, Option, IfSome, is_some, ◌==◌, nat_lt, if◌then◌else◌}
 use Rattle.std.specs.Map.{keys_of}
 use Rattle.std.specs.Hash.{HashWrites}
-use Rattle.halfbrown.specs.declared.key_hasher.KeyHasher as hashers
+use Rattle.halfbrown.specs.Ghosts.{HasherGhosts}
 use Rattle.half_store.specs.PairLists.{index_of}
 use Rattle.half_store.specs.Reach.{reach, filling_reach, HomesApart}
 use Rattle.half_store.specs.Capacity.{buckets_of, capacity_for}
 use Rattle.half_store.specs.Table.{hit_reads_in, all_hit_reads_in}
 use Rattle.half_store.specs.Work.{Work, first_match_cost}
+use Rattle.halfbrown.specs.CostRanges.{Cost, Range, GrewBy, no_cost, plus_asked, plus_looked, unless_refused, exactly, between}
 use Rattle.halfbrown.specs.State.{State, make_state, contents_of}
 use Rattle.halfbrown.specs.Pairs.{holds}
 use Rattle.halfbrown.specs.Growth.{is_full, is_vec_after}
-
--- a least number and a greatest one
-pub record Range : Type 0 where
-  pub least : ℕ
-  pub most : ℕ
-
-abbrev pub exactly : ℕ → Range
-exactly n = record { least = n; most = n }
-
-abbrev pub between : ℕ → ℕ → Range
-between least most = record { least = least; most = most }
-
-abbrev pub add_ranges : Range → Range → Range
-add_ranges a b = between (a.least + b.least) (a.most + b.most)
-
--- how often a key is hashed, exactly; how many keys are compared and how many buckets are read, exactly where nothing is found
-pub record Cost : Type 0 where
-  pub asked : ℕ
-  pub compared : Range
-  pub looked : Range
-
-abbrev pub no_cost : Cost
-no_cost = record { asked = 0; compared = exactly 0; looked = exactly 0 }
-
-abbrev pub add_costs : Cost → Cost → Cost
-add_costs a b = record { asked = a.asked + b.asked; compared = add_ranges a.compared b.compared; looked = add_ranges a.looked b.looked }
-
--- a cost, once this many more keys were hashed
-abbrev pub plus_asked : ℕ → Cost → Cost
-plus_asked n cost = record cost { asked = n + cost.asked }
-
--- a cost, once exactly this many more buckets were read
-abbrev pub plus_looked : ℕ → Cost → Cost
-plus_looked n cost = record cost { looked = add_ranges cost.looked (exactly n) }
-
--- a cost, but none where the call was refused before it did anything
-abbrev pub unless_refused : Bool → Cost → Cost
-unless_refused refused cost = record {
-  asked = if refused then 0 else cost.asked;
-  compared = if refused then exactly 0 else cost.compared;
-  looked = if refused then exactly 0 else cost.looked;
-}
-
--- a number grew by a number in this range
-pub record GrewWithin (range : Range) (before after : ℕ) : Type 0 where
-  pub least : before + range.least ≤ after
-  pub most : after ≤ before + range.most
-
--- a tally grew by this cost
-pub record GrewBy (cost : Cost) (before after : Work) : Type 0 where
-  pub asked : after.asked ≡ before.asked + cost.asked
-  pub compared : GrewWithin cost.compared before.compared after.compared
-  pub looked : GrewWithin cost.looked before.looked after.looked
 
 -- how often a search hashes its key: never in a vector, once in a table
 abbrev pub search_asked : Bool → ℕ
@@ -125,9 +73,9 @@ pub record IsSearchCost {K V S : Type 0} (hash : S → K → ℕ) (wanted : ℕ)
   pub hits : m.is_vec ≡ false → all_hit_reads m ≡ filling_reads (hash m.builder) m.capacity m.pairs
   pub short : probe_length (hash m.builder) m.is_vec m.capacity m.pairs wanted ≤ length m.pairs + 1
 
--- what one search in the map for a key, or by a form of one, cost, by the tally before it and after: `writes` is what a form feeds a hasher, and
+-- what one search in the map for a key, or by a query for one, cost, by the tally before it and after: `writes` is what it feeds a hasher, and
 -- `test` which keys it stands for
-module _ {Q K V S H : Type 0} (hashes : hashers.Ghosts S K H) (writes : Q → HashWrites) (test : Q → K → Bool) (key : Q) (m : State K V S) where
+module _ {Q K V S H : Type 0} (hashes : HasherGhosts S K H) (writes : Q → HashWrites) (test : Q → K → Bool) (key : Q) (m : State K V S) where
   -- where the search hashed it, as it does in a table
   abbrev pub IsLookupCost : Work → Work → Type 0
   IsLookupCost before after = IsSearchCost hashes.hash (hashes.hash_writes m.builder (writes key)) m

@@ -3,22 +3,19 @@ use Rattle.std.specs.Prelude.{◌≡◌, List, [], ◌∷◌, Option, MatchOptio
 use Rattle.std.specs.Borrow.{GName}
 use Rattle.std.specs.Iterator.{Yields}
 use Rattle.std.specs.Iterator.Runs.{YieldsInOrder}
-use Rattle.std.specs.declared.cmp.PartialEq as eq
-use Rattle.std.specs.declared.hash.Hash as hash
-use Rattle.halfbrown.specs.declared.key_hasher.KeyHasher as hashers
+use Rattle.halfbrown.specs.Ghosts.{EqGhosts, HashGhosts, HasherGhosts, LimitGhosts}
 use Rattle.half_store.specs.declared.store.drain.IntoStore as taken
 use Rattle.half_store.specs.Store.{StoreState}
 use Rattle.halfbrown.specs.declared.drain.Drain.{Drain}
-use Rattle.halfbrown.specs.declared.limit.Limit as limits
 use Rattle.halfbrown.specs.Layout.{state_in}
 use Rattle.halfbrown.specs.State.{State, map_with_pairs}
 
 -- the map as it is once the `Drain` is dropped: its own store again, with no pair
-abbrev pub map_after : {K V S L P H : Type 0} {e : eq.Ghosts K} {h : hash.Ghosts K} {b : hashers.Ghosts S K H} {l : limits.Ghosts L} {p : taken.Ghosts P K V}
+abbrev pub map_after : {K V S L P H : Type 0} {e : EqGhosts K} {h : HashGhosts K} {b : HasherGhosts S K H} {l : LimitGhosts L} {p : taken.Ghosts P K V}
     → Drain K V S L P H e h b l p → State K V S
 map_after {p} d = map_with_pairs (state_in (p.store d.pairs) d.map.now.builder) []
 
-module _ {K V S L H : Type 0} {e : eq.Ghosts K} {h : hash.Ghosts K} {b : hashers.Ghosts S K H} {l : limits.Ghosts L} {p : taken.Ghosts (StoreState K V) K V} where
+module _ {K V S L H : Type 0} {e : EqGhosts K} {h : HashGhosts K} {b : HasherGhosts S K H} {l : LimitGhosts L} {p : taken.Ghosts (StoreState K V) K V} where
   -- the pairs that are still to come, first to last
   abbrev pub rest : Drain K V S L (StoreState K V) H e h b l p → List (K × V)
   rest d = d.pairs.pairs

@@ -2,14 +2,11 @@
 pub use Rattle.halfbrown.specs.declared.entry.Entry.TheVariants.{Occupied, Vacant}
 use Rattle.std.specs.Prelude.{◌≡◌, ℕ, Bool, false, Option, None, Some, Result, IfOk, IfErr, ◌<◌, [], length, ⊤}
 use Rattle.std.specs.Borrow.{MutBor, Fml, RattleType, follows, follows_so, RestsIfErr, RestsIfNone}
-use Rattle.std.specs.declared.cmp.PartialEq as eq
-use Rattle.std.specs.declared.hash.Hash as hash
-use Rattle.halfbrown.specs.declared.key_hasher.KeyHasher as hashers
+use Rattle.halfbrown.specs.Ghosts.{EqGhosts, HashGhosts, HasherGhosts, LimitGhosts}
 use Rattle.half_store.specs.PairLists.{length-set_value_at}
 use Rattle.halfbrown.specs.declared.entry.Entry.{Entry}
 use Rattle.halfbrown.specs.declared.entry.OccupiedEntry.{OccupiedEntry}
 use Rattle.halfbrown.specs.declared.entry.VacantEntry.{VacantEntry}
-use Rattle.halfbrown.specs.declared.limit.Limit as limits
 use Rattle.halfbrown.specs.declared.raw_entry.RawEntryMut.{RawEntryMut}
 use Rattle.halfbrown.specs.declared.raw_entry.RawEntryMut.TheVariants as raw
 use Rattle.halfbrown.specs.declared.raw_entry.RawVacantEntryMut.{RawVacantEntryMut}
@@ -29,7 +26,7 @@ pub record HandsBackKey {K : Type 0} (k : K) (needs : Option ℕ) (refused : Ref
   pub why : IsRefusal needs refused.why
   pub key : refused.key ≡ k
 
-module _ {K V S L H : Type 0} {e : eq.Ghosts K} {h : hash.Ghosts K} {b : hashers.Ghosts S K H} {l : limits.Ghosts L} where
+module _ {K V S L H : Type 0} {e : EqGhosts K} {h : HashGhosts K} {b : HasherGhosts S K H} {l : LimitGhosts L} where
   -- the view of an occupied entry
   abbrev pub occupied : OccupiedEntry K V S L H e h b l → EntryView K V S
   occupied o = record { map = o.map; index = Some o.index; vacant = None }
@@ -61,7 +58,7 @@ module _ {K V S L H : Type 0} {e : eq.Ghosts K} {h : hash.Ghosts K} {b : hashers
   raw_view (raw.Occupied o) = occupied o
   raw_view (raw.Vacant v) = raw_vacant v
 
-  -- what `entry` returns for k: where it is granted the entry of k, in the map that is ready for its pair (a full vector is a table now);
+  -- what `entry` returns for k: where it is granted the entry of k, in the map with capacity for its pair (a full vector is a table now);
   -- where it is refused the key and the reason
   pub record MakesEntry (limit : ℕ) (eq : K → K → Bool) (m : MutBor (State K V S)) (k : K) (result : Result (Entry K V S L H e h b l) (RefusedKey K)) : Type 0 where
     pub same_map : IfOk result (λ entry. (view entry).map.ghost_name ≡ m.ghost_name)
@@ -80,7 +77,7 @@ module _ {K V S L H : Type 0} {e : eq.Ghosts K} {h : hash.Ghosts K} {b : hashers
   abbrev pub with_entry_value : OccupiedEntry K V S L H e h b l → V → OccupiedEntry K V S L H e h b l
   with_entry_value o value = record { map = record o.map { now = with_value (occupied o) value }; index = o.index; within = still_within o value }
 
-module _ (K V S L H : RattleType) {e : eq.Ghosts K.Denot} {h : hash.Ghosts K.Denot} {b : hashers.Ghosts S.Denot K.Denot H.Denot} {l : limits.Ghosts L.Denot} where
+module _ (K V S L H : RattleType) {e : EqGhosts K.Denot} {h : HashGhosts K.Denot} {b : HasherGhosts S.Denot K.Denot H.Denot} {l : LimitGhosts L.Denot} where
   -- the map has the last value written through the reference, for the entry's key
   abbrev pub EntryLends : Entry K.Denot V.Denot S.Denot L.Denot H.Denot e h b l → MutBor V.Denot → Fml
   EntryLends entry r = follows (the_row K V S L H e h b l) V (map_ref entry).ghost_name r.ghost_name (with_value (view entry))

@@ -45,8 +45,8 @@ module _ {K V S : Type 0} where
       (option_map_or (λ new. pushed (map_of entry) new.0 value new.1) entry.vacant (map_of entry))
 
   -- the pairs once the entry's pair has this value, or, where it has none, the pair of this key is appended
-  abbrev pub pairs_with : EntryView K V S → K → V → List (K × V)
-  pairs_with entry key value = option_map_or (λ index. set_value_at (map_of entry).pairs index value) entry.index ((map_of entry).pairs ++ (key, value) ∷ [])
+  abbrev pub pairs_with_value : EntryView K V S → K → V → List (K × V)
+  pairs_with_value entry key value = option_map_or (λ index. set_value_at (map_of entry).pairs index value) entry.index ((map_of entry).pairs ++ (key, value) ∷ [])
 
   -- the pairs once the entry's pair is taken out
   abbrev pub pairs_without : EntryView K V S → List (K × V)
@@ -75,8 +75,8 @@ module _ {K V S : Type 0} where
   pub record IsRawEntryOf (eq : K → K → Bool) (test : K → Bool) (m : State K V S) (raw : EntryView K V S) : Type 0 where
     pub map : map_of raw ≡ m
     pub entry : IsEntryOf eq test m.pairs raw
-    pub puts : (k : K) (v : V) → pairs_with raw k v ≡ put_by test m.pairs k v
-    pub put : (k : K) (v : V) → test k ≡ true → HasPut eq m.pairs k v (pairs_with raw k v)
+    pub puts : (k : K) (v : V) → pairs_with_value raw k v ≡ put_by test m.pairs k v
+    pub put : (k : K) (v : V) → test k ≡ true → HasPut eq m.pairs k v (pairs_with_value raw k v)
     pub writes : is_occupied raw ≡ true → (v : V) → WithPairs m (set_by test m.pairs v) (with_value raw v)
     pub written : is_occupied raw ≡ true → (v : V) → HasSetBy eq test m.pairs v (with_value raw v).pairs
 
@@ -95,11 +95,11 @@ module _ {K V S : Type 0} where
     pub value : modifies (entry_value modified)
     pub found : is_occupied modified ≡ is_occupied entry
     pub occupied : IfSome (entry_value modified) (λ value. map_of modified ≡ with_value entry value)
-    pub pairs : (key : K) → IfSome (entry_value modified) (λ value. WithPairs (map_of entry) (pairs_with entry key value) (map_of modified))
+    pub pairs : (key : K) → IfSome (entry_value modified) (λ value. WithPairs (map_of entry) (pairs_with_value entry key value) (map_of modified))
     pub vacant : entry_value entry ≡ None → map_of modified ≡ map_of entry
     pub key : entry_key modified ≡ entry_key entry
     pub writes : (value : V) → with_value modified value ≡ with_value entry value
-    pub puts : (key : K) (value : V) → pairs_with modified key value ≡ pairs_with entry key value
+    pub puts : (key : K) (value : V) → pairs_with_value modified key value ≡ pairs_with_value entry key value
     pub pairs_left : pairs_without modified ≡ pairs_without entry
 
   -- the entry is that of the pair at this index
@@ -121,10 +121,10 @@ module _ {K V S : Type 0} where
     -- the entry's pair has this value, or, where it has none, the pair of this key is added; the result is its entry, in a map that is whole
     pub record PutsEntry (entry : EntryView K V S) (key : K) (value : V) (result : EntryView K V S) : Type 0 where
       pub same_map : result.map.ghost_name ≡ entry.map.ghost_name
-      pub map : WithPairs (map_of entry) (pairs_with entry key value) (map_of result)
+      pub map : WithPairs (map_of entry) (pairs_with_value entry key value) (map_of result)
       pub key_is : entry_key result ≡ Some (unwrap_or (entry_key entry) key)
       pub value_is : entry_value result ≡ Some value
-      pub writes : (v : V) → WithPairs (map_of entry) (pairs_with entry key v) (with_value result v)
+      pub writes : (v : V) → WithPairs (map_of entry) (pairs_with_value entry key v) (with_value result v)
       pub pairs_left : pairs_without result ≡ pairs_without entry
       pub valid : IsValid eq limit (map_of result)
 
@@ -134,16 +134,16 @@ module _ {K V S : Type 0} where
       pub put : HasPut eq (map_of entry).pairs key value (map_of result).pairs
       pub written : (v : V) → HasPut eq (map_of entry).pairs key v (with_value result v).pairs
 
-    -- the raw entry is that of the key which passes the test, in the map that was ready
-    pub record FindsEntry (test : K → Bool) (ready : MutBor (State K V S)) (entry : EntryView K V S) : Type 0 where
-      pub same_map : entry.map.ghost_name ≡ ready.ghost_name
-      pub finds : IsRawEntryOf eq test ready.now entry
+    -- the raw entry is that of the key which passes the test, in the prepared map
+    pub record FindsEntry (test : K → Bool) (prepared : MutBor (State K V S)) (entry : EntryView K V S) : Type 0 where
+      pub same_map : entry.map.ghost_name ≡ prepared.ghost_name
+      pub finds : IsRawEntryOf eq test prepared.now entry
       pub valid : IsValid eq limit (map_of entry)
 
-    -- the raw entry is that of a pair which the match accepts, under this hash, in the map that was ready
-    pub record FindsEntryByMatch (returns : K → Bool → Type 0) (hash : S → K → ℕ) (wanted : ℕ) (ready : MutBor (State K V S)) (raw : EntryView K V S) : Type 0 where
-      pub same_map : raw.map.ghost_name ≡ ready.ghost_name
-      pub map : map_of raw ≡ ready.now
-      pub found : ReadsMatch returns hash wanted ready.now (entry_pair raw)
-      pub entry : IfSome (entry_pair raw) (λ pair. IsRawEntryOf eq (eq pair.0) ready.now raw)
+    -- the raw entry is that of a pair which the match accepts, under this hash, in the prepared map
+    pub record FindsEntryByMatch (returns : K → Bool → Type 0) (hash : S → K → ℕ) (wanted : ℕ) (prepared : MutBor (State K V S)) (raw : EntryView K V S) : Type 0 where
+      pub same_map : raw.map.ghost_name ≡ prepared.ghost_name
+      pub map : map_of raw ≡ prepared.now
+      pub found : ReadsMatch returns hash wanted prepared.now (entry_pair raw)
+      pub entry : IfSome (entry_pair raw) (λ pair. IsRawEntryOf eq (eq pair.0) prepared.now raw)
       pub valid : IsValid eq limit (map_of raw)

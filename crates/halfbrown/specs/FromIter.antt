@@ -6,7 +6,8 @@ use Rattle.std.specs.Map.{keys_of}
 use Rattle.std.specs.Option.{option_or}
 use mathlib.Core.Logic.{inl, inr}
 use Rattle.half_store.specs.declared.refusal.Refusal.{Refusal}
-use Rattle.halfbrown.specs.Costs.{Cost, no_cost, add_costs, insert_cost}
+use Rattle.halfbrown.specs.CostRanges.{Cost, no_cost, add_costs}
+use Rattle.halfbrown.specs.Costs.{insert_cost}
 use Rattle.halfbrown.specs.CallerLoops.{add_keys, first_of_each}
 use Rattle.halfbrown.specs.Growth.{making_needs, insert_needs, IsRefusal}
 use Rattle.halfbrown.specs.Insertion.{Puts}

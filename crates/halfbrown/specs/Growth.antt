@@ -1,11 +1,11 @@
 -- Where a call needs more capacity, how much, and what the capacity is afterwards. A call is granted where it returns `Ok`, and refused where
 -- it returns `Err`. A switching call, an insertion, `entry` or `raw_entry_mut`, makes a full vector a table first, also where the key is held.
-use Rattle.std.specs.Prelude.{◌≡◌, ℕ, ◌+◌, ◌^◌, ◌<◌, ◌≤◌, ◌⊎◌, Bool, not, ◌&&◌, ◌==◌, nat_lt, length, Option, None, Some, IfNone, IfSome, MatchBool, MatchOption, if◌then◌else◌}
+use Rattle.std.specs.Prelude.{◌≡◌, ℕ, ◌+◌, ◌^◌, ◌<◌, ◌≤◌, ◌⊎◌, Bool, not, ◌&&◌, ◌==◌, nat_lt, length, Option, None, Some, IfNone, IfSome, MatchBool, MatchOption, Result, OnOk, OnErr, IfErr, if◌then◌else◌}
 use Rattle.half_store.specs.declared.refusal.Refusal.{Refusal}
 use Rattle.half_store.specs.Refusal.{refusal_of}
 use Rattle.half_store.specs.Capacity.{capacity_for, generous_capacity, vec_shrunk, shrunk_capacity}
 use Rattle.half_store.specs.Store.{capped}
-use Rattle.halfbrown.specs.State.{State}
+use Rattle.halfbrown.specs.State.{State, IsValid}
 use Rattle.halfbrown.specs.Pairs.{holds}
 
 -- the capacity that one pair more needs, where no capacity is left for it; else none
@@ -18,9 +18,10 @@ HasCapacityAfter limit old needs new =
     MatchOption needs (new.capacity ≡ old.capacity)
     (λ n. MatchBool new.is_vec (new.capacity ≡ generous_capacity limit old.capacity n) (new.capacity ≡ capacity_for n))
 
--- the capacity that a reservation for this many pairs in all needs, or none where there is enough
+-- the capacity that a reservation for this many pairs more needs, or none where there is enough
 abbrev pub reserve_needs : {K V S : Type 0} → ℕ → State K V S → ℕ → Option ℕ
-reserve_needs limit m total = let most = capped limit m.is_vec total in if nat_lt m.capacity most then Some most else None
+reserve_needs limit m additional =
+    let wanted = capped limit m.is_vec (length m.pairs + additional) in if nat_lt m.capacity wanted then Some wanted else None
 
 -- the capacity that a constructor for this many pairs needs
 abbrev pub making_needs : ℕ → Option ℕ
@@ -64,9 +65,16 @@ module _ {K V S : Type 0} (limit : ℕ) where
     pub builder : new.builder ≡ old.builder
 
   -- a granted reservation for this many pairs more: the capacity is enough for them; in a vector for no more pairs in all than the limit
-  pub record Reserves (old : State K V S) (additional : ℕ) (new : State K V S) : Type 0 where
-    pub granted : Grants old.is_vec old (reserve_needs limit old (length old.pairs + additional)) new
+  pub record IsReserved (old : State K V S) (additional : ℕ) (new : State K V S) : Type 0 where
+    pub granted : Grants old.is_vec old (reserve_needs limit old additional) new
     pub enough : capped limit old.is_vec (length old.pairs + additional) ≤ new.capacity
+
+  -- a reservation for this many pairs more: it is granted, or it is refused and nothing has changed
+  pub record Reserves (eq : K → K → Bool) (old : State K V S) (additional : ℕ) (result : Result (Unit {0}) Refusal) (new : State K V S) : Type 0 where
+    pub ok : OnOk result (IsReserved old additional new)
+    pub refused : IfErr result (IsRefusal (reserve_needs limit old additional))
+    pub err : OnErr result (new ≡ old)
+    pub valid : IsValid eq limit new
 
   -- capacity is given back, and so is the table where the limit allows the pairs
   pub record IsShrunk (old new : State K V S) : Type 0 where

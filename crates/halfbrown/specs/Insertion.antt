@@ -85,7 +85,7 @@ module _ {K V S : Type 0} where
       pub capacity : length m.pairs < m.capacity
       pub vacant : IsVacancy m.is_vec (contents_of m) (hash m.builder k) vacancy
 
-    -- all is ready for an insertion of k: its index is found, or a vacancy for its pair
+    -- an insertion of k needs no more: its index is found, or a vacancy for its pair
     abbrev pub IsPreparedFor : State K V S → K → Place → Type 0
     IsPreparedFor m k (Held index) = IsIndexOf (eq k) m.pairs index
     IsPreparedFor m k (Vacant vacancy) = MayInsertAt m k vacancy

@@ -3,17 +3,16 @@ use Rattle.std.specs.Prelude.{◌≡◌, ℕ, Bool, Option, ⊤}
 use Rattle.std.specs.Borrow.{Fml, GName, RattleType, MutBor, Array, Lends, LendsIf, follows, follows_so}
 use Rattle.std.specs.HashMap.Lent.{HashMembers}
 use mathlib.Core.Option.{none}
-use Rattle.halfbrown.specs.declared.key_hasher.KeyHasher as hashers
+use Rattle.halfbrown.specs.Ghosts.{HasherGhosts, LimitGhosts}
 use Rattle.half_store.specs.PairLists.{set_value_at, set_values}
-use Rattle.halfbrown.specs.declared.limit.Limit as limits
 use Rattle.halfbrown.specs.Pairs.{set_by}
 use Rattle.halfbrown.specs.State.{State, map_with_pairs}
 use Rattle.halfbrown.specs.contracts.map.LimitedHashMap.{the_row}
 
-module _ (K V S L H : RattleType) (key : HashMembers K.Denot) (build : hashers.Ghosts S.Denot K.Denot H.Denot) (most : limits.Ghosts L.Denot) where
+module _ (K V S L H : RattleType) (key : HashMembers K.Denot) (build : HasherGhosts S.Denot K.Denot H.Denot) (limit : LimitGhosts L.Denot) where
   -- the map's type, as the logic holds it
   abbrev pub map_row : RattleType
-  map_row = the_row K V S L H (record { eq = key.eq }) (record { hash_input = key.hash_input }) build most
+  map_row = the_row K V S L H (record { eq = key.eq }) (record { hash_input = key.hash_input }) build limit
 
   module _ (m : MutBor (State K.Denot V.Denot S.Denot)) where
     -- the pair at this index has the last value written through the reference

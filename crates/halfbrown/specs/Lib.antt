@@ -1,11 +1,13 @@
 pub mod CallerLoops
 pub mod Clone
+pub mod CostRanges
 pub mod Costs
 pub mod Drain
 pub mod Entry
 pub mod EntryView
 pub mod Equality
 pub mod FromIter
+pub mod Ghosts
 pub mod Growth
 pub mod Insertion
 pub mod Iter

@@ -4,9 +4,9 @@ use Rattle.std.specs.Option.{option_map_or}
 use Rattle.std.specs.Map.{keys_of, lookup, lookup_entry}
 pub use Rattle.half_store.specs.PairLists.{index_of, set_key_at, set_value_at, set_values, swap_remove_at}
 
--- the test of a lawful form of a key, as that of a text among keys that are strings: once it accepts a key, it accepts exactly its equals
-abbrev pub IsForm : {K : Type 0} → (K → K → Bool) → (K → Bool) → Type 0
-IsForm {K} eq form = (k other : K) → form k ≡ true → form other ≡ eq k other
+-- the test of a lawful query for a key, as that of a text among keys that are strings: once it accepts a key, it accepts exactly its equals
+abbrev pub IsQuery : {K : Type 0} → (K → K → Bool) → (K → Bool) → Type 0
+IsQuery {K} eq test = (k other : K) → test k ≡ true → test other ≡ eq k other
 
 module _ {K V : Type 0} (test : K → Bool) where
   -- whether a key that passes is held

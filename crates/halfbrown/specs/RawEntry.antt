@@ -3,11 +3,8 @@ use Rattle.std.specs.Map.{lookup, lookup_entry}
 use Rattle.std.specs.Prelude.{◌≡◌, ℕ, Bool, Option, None, Some, IsSomeAnd, ◌<◌, length, Result, IfOk, IfErr, if◌then◌else◌}
 use Rattle.std.specs.Borrow.{Bor, MutBor, Fml, RattleType, RestsIfErr}
 use Rattle.std.specs.Fn.{Once}
-use Rattle.std.specs.declared.cmp.PartialEq as eq
-use Rattle.std.specs.declared.hash.Hash as hash
-use Rattle.halfbrown.specs.declared.key_hasher.KeyHasher as hashers
+use Rattle.halfbrown.specs.Ghosts.{EqGhosts, HashGhosts, HasherGhosts, LimitGhosts}
 use Rattle.half_store.specs.Work.{looked_more, Work, asked_more}
-use Rattle.halfbrown.specs.declared.limit.Limit as limits
 use Rattle.halfbrown.specs.Costs.{probe_length, search_asked}
 use Rattle.halfbrown.specs.EntryView.{EntryView, map_of, is_occupied}
 use Rattle.halfbrown.specs.State.{State, IsValid}
@@ -16,7 +13,7 @@ use Rattle.std.specs.Option.{option_map}
 use Rattle.half_store.specs.declared.refusal.Refusal.{Refusal}
 use Rattle.halfbrown.specs.declared.raw_entry.RawEntryBuilder.{RawEntryBuilder}
 use Rattle.halfbrown.specs.declared.raw_entry.RawEntryBuilderMut.{RawEntryBuilderMut}
-use Rattle.halfbrown.specs.declared.raw_entry.RawEntryBuilderMut.TheVariants.{Ready}
+use Rattle.halfbrown.specs.declared.raw_entry.RawEntryBuilderMut.TheVariants.{Prepared}
 use Rattle.halfbrown.specs.contracts.map.LimitedHashMap.{the_row}
 use Rattle.halfbrown.specs.Growth.{new_key_needs, IsRefusal}
 use Rattle.halfbrown.specs.Insertion.{Prepares}
@@ -25,10 +22,10 @@ use Rattle.halfbrown.specs.Insertion.{Prepares}
 abbrev pub map_in : {K V S L H : Type 0} → RawEntryBuilder K V S L H → State K V S
 map_in builder = builder.map.now
 
-module _ {K V S L H : Type 0} {e : eq.Ghosts K} {h : hash.Ghosts K} {b : hashers.Ghosts S K H} {l : limits.Ghosts L} where
-  -- the reference to the map that is ready for one pair more
+module _ {K V S L H : Type 0} {e : EqGhosts K} {h : HashGhosts K} {b : HasherGhosts S K H} {l : LimitGhosts L} where
+  -- the reference to the map with capacity for one pair more
   abbrev pub prepared_ref : RawEntryBuilderMut K V S L H e h b l → MutBor (State K V S)
-  prepared_ref (Ready prepared) = prepared.map
+  prepared_ref (Prepared prepared) = prepared.map
 
   -- that map, as it is
   abbrev pub prepared_map : RawEntryBuilderMut K V S L H e h b l → State K V S
@@ -73,16 +70,16 @@ pub record ReadsPair {K V S : Type 0} (test : K → Bool) (m : State K V S) (len
   pub pair : option_map deref_pair lent ≡ lookup_entry test m.pairs
   pub value : option_map (λ pair. pair.1.now) lent ≡ lookup test m.pairs
 
-module _ {K V S L H : Type 0} {e : eq.Ghosts K} {h : hash.Ghosts K} {b : hashers.Ghosts S K H} {l : limits.Ghosts L} (limit : ℕ) (eq : K → K → Bool) where
-  -- what `raw_entry_mut` returns: where it is granted the same map, ready for one pair more; where it is refused the reason
+module _ {K V S L H : Type 0} {e : EqGhosts K} {h : HashGhosts K} {b : HasherGhosts S K H} {l : LimitGhosts L} (limit : ℕ) (eq : K → K → Bool) where
+  -- what `raw_entry_mut` returns: where it is granted the same map, with capacity for one pair more; where it is refused the reason
   pub record MakesBuilder (m : MutBor (State K V S)) (result : Result (RawEntryBuilderMut K V S L H e h b l) Refusal) : Type 0 where
-    pub same_map : IfOk result (λ ready. (prepared_ref ready).ghost_name ≡ m.ghost_name)
-    pub ok : IfOk result (λ ready. Prepares limit m.now (new_key_needs limit m.now) (prepared_map ready))
-    pub capacity : IfOk result (λ ready. length (prepared_map ready).pairs < (prepared_map ready).capacity)
+    pub same_map : IfOk result (λ prepared. (prepared_ref prepared).ghost_name ≡ m.ghost_name)
+    pub ok : IfOk result (λ prepared. Prepares limit m.now (new_key_needs limit m.now) (prepared_map prepared))
+    pub capacity : IfOk result (λ prepared. length (prepared_map prepared).pairs < (prepared_map prepared).capacity)
     pub refused : IfErr result (IsRefusal (new_key_needs limit m.now))
-    pub valid : IfOk result (λ ready. IsValid eq limit (prepared_map ready))
+    pub valid : IfOk result (λ prepared. IsValid eq limit (prepared_map prepared))
 
-module _ (K V S L H : RattleType) {e : eq.Ghosts K.Denot} {h : hash.Ghosts K.Denot} {b : hashers.Ghosts S.Denot K.Denot H.Denot} {l : limits.Ghosts L.Denot} where
+module _ (K V S L H : RattleType) {e : EqGhosts K.Denot} {h : HashGhosts K.Denot} {b : HasherGhosts S.Denot K.Denot H.Denot} {l : LimitGhosts L.Denot} where
   -- where the capacity was refused the map is as it was
-  abbrev pub RestsIfUnready : {E : Type 0} → MutBor (State K.Denot V.Denot S.Denot) → Result (RawEntryBuilderMut K.Denot V.Denot S.Denot L.Denot H.Denot e h b l) E → Fml
-  RestsIfUnready m r = RestsIfErr (the_row K V S L H e h b l) m (λ ready. (prepared_ref ready).ghost_name) r (λ n. n ≡ m.now)
+  abbrev pub RestsIfUnprepared : {E : Type 0} → MutBor (State K.Denot V.Denot S.Denot) → Result (RawEntryBuilderMut K.Denot V.Denot S.Denot L.Denot H.Denot e h b l) E → Fml
+  RestsIfUnprepared m r = RestsIfErr (the_row K V S L H e h b l) m (λ prepared. (prepared_ref prepared).ghost_name) r (λ n. n ≡ m.now)

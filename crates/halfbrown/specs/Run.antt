@@ -5,12 +5,13 @@ use Rattle.halfbrown.specs.declared.run.Command.{Command}
 use Rattle.halfbrown.specs.declared.run.Command.TheVariants.{Insert, InsertNew, EntryOrInsert, RawOrInsert, Get, Remove, Clear, Reserve, Shrink, IsVec, Len}
 use Rattle.halfbrown.specs.declared.run.Reply.{Reply}
 use Rattle.halfbrown.specs.State.{State, IsValid, WithPairs}
-use Rattle.halfbrown.specs.Costs.{Cost, no_cost, add_costs, GrewBy, key_search_cost, insert_cost, raw_insert_cost, new_key_cost}
+use Rattle.halfbrown.specs.CostRanges.{Cost, no_cost, add_costs, GrewBy}
+use Rattle.halfbrown.specs.Costs.{key_search_cost, insert_cost, raw_insert_cost, new_key_cost}
 use Rattle.halfbrown.specs.Pairs.{holds, value_of, pair_of, take_out}
 use Rattle.half_store.specs.Work.{Work}
 use Rattle.half_store.specs.declared.refusal.Refusal.{Refusal}
 use Rattle.halfbrown.specs.declared.run.Reply.TheVariants.{Was, Added, Present, Value, Found, Removed, Done, Form, Length, Refused}
-use Rattle.halfbrown.specs.Growth.{is_full, insert_needs, new_key_needs, reserve_needs, IsRefusal, Reserves, Shrinks}
+use Rattle.halfbrown.specs.Growth.{is_full, insert_needs, new_key_needs, reserve_needs, IsRefusal, IsReserved, Shrinks}
 use Rattle.halfbrown.specs.Insertion.{Puts}
 
 -- the value of k where it is held, else v: putting it changes no pair that is held
@@ -38,7 +39,7 @@ module _ {K V S : Type 0} (limit : ℕ) (eq : K → K → Bool) where
   command_needs m (InsertNew k v) = if holds eq m.pairs k then None else new_key_needs limit m
   command_needs m (EntryOrInsert k v) = insert_needs limit eq m k
   command_needs m (RawOrInsert k v) = new_key_needs limit m
-  command_needs m (Reserve additional) = reserve_needs limit m (length m.pairs + additional)
+  command_needs m (Reserve additional) = reserve_needs limit m additional
   command_needs m command = None
 
   -- what a granted command leaves
@@ -49,7 +50,7 @@ module _ {K V S : Type 0} (limit : ℕ) (eq : K → K → Bool) where
   Leaves old (RawOrInsert k v) new = Puts limit eq old k (value_or eq old.pairs k v) (new_key_needs limit old) new
   Leaves old (Remove k) new = WithPairs old (take_out eq old.pairs k) new
   Leaves old Clear new = WithPairs old [] new
-  Leaves old (Reserve additional) new = Reserves limit old additional new
+  Leaves old (Reserve additional) new = IsReserved limit old additional new
   Leaves old Shrink new = Shrinks limit old new
   Leaves old command new = new ≡ old
 

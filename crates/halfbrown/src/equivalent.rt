@@ -1,4 +1,4 @@
-//! The forms by which a key is looked up.
+//! The queries by which a key is looked up.
 ghost use Rattle.std.specs.Prelude.{◌≡◌, Bool, IsTrue};
 ghost use Rattle.std.proofs.Common.{ap};
 ghost use Rattle.std.specs.Box.{boxed_slice_items, boxed_str_bytes};
@@ -16,7 +16,7 @@ use std::boxed::{BoxedSlice, BoxedStr};
 use std::hash::Hash;
 use std::rc::RcStr;
 
-/// A form by which a key is looked up: what `get`, `remove` and similar calls take.
+/// A query for a key: what `get`, `remove` and similar calls take.
 ///
 /// A `&K` is one for any keys, a `&str` for text keys, and a `&[T]` for keys that own a slice. So in a map of `String`
 /// keys a text is looked up without an allocation:
@@ -33,7 +33,7 @@ pub trait Equivalent<K: Eq + Hash>: Copy + Hash {
     // What `equivalent` returns.
     ghost equivalent: { Self → K → Bool };
 
-    /// Returns whether this form stands for the key.
+    /// Returns whether this query stands for the key.
     ///
     /// ```
     /// let name = String::from_str(alloc, "Ada")?;
@@ -43,20 +43,20 @@ pub trait Equivalent<K: Eq + Hash>: Copy + Hash {
         ensures { result ≡ equivalent self.now key.now };
 
     // It is hashed as a key that it stands for.
-    ghost hashes_alike: { (form : Self) (k : K) → IsTrue (equivalent form k)
-        → Self.hash_input form ≡ K.hash_input k };
+    ghost hashes_alike: { (query : Self) (k : K) → IsTrue (equivalent query k)
+        → Self.hash_input query ≡ K.hash_input k };
 
     // It stands for the equals of such a key, and for no other.
-    ghost stands_for_equals: { (form : Self) (k other : K) → IsTrue (equivalent form k)
-        → equivalent form other ≡ K.eq k other };
+    ghost stands_for_equals: { (query : Self) (k other : K) → IsTrue (equivalent query k)
+        → equivalent query other ≡ K.eq k other };
 }
 
 impl<K: Eq + Hash> Equivalent<K> for &K {
-    ghost equivalent = { λ form. K.eq form.now };
+    ghost equivalent = { λ query. K.eq query.now };
 
-    ghost hashes_alike = { λ form. K.respects_eq form.now };
+    ghost hashes_alike = { λ query. K.respects_eq query.now };
 
-    ghost stands_for_equals = { λ form. K.Eq.laws.congr form.now };
+    ghost stands_for_equals = { λ query. K.Eq.laws.congr query.now };
 
     #[inline(always)]
     fn equivalent(&self, key: &K) -> bool {
@@ -73,11 +73,11 @@ fn same_text<'t>(left: &'t str, right: &'t str) -> bool
 }
 
 impl<'k> Equivalent<&'k str> for &str {
-    ghost equivalent = { λ form k. bytes_eq form.now k.now };
+    ghost equivalent = { λ query k. bytes_eq query.now k.now };
 
-    ghost hashes_alike = { λ form k same. ap writes.str ((bytes_decides form.now k.now).0 same) };
+    ghost hashes_alike = { λ query k same. ap writes.str ((bytes_decides query.now k.now).0 same) };
 
-    ghost stands_for_equals = { λ form k other. nat_list_eq_equiv.congr form.now k.now other.now };
+    ghost stands_for_equals = { λ query k other. nat_list_eq_equiv.congr query.now k.now other.now };
 
     fn equivalent(&self, key: &&'k str) -> bool {
         same_text(*self, *key)
@@ -85,13 +85,13 @@ impl<'k> Equivalent<&'k str> for &str {
 }
 
 impl<A: Allocator> Equivalent<String<A>> for &str {
-    ghost equivalent = { λ form k. bytes_eq form.now (string_bytes k) };
+    ghost equivalent = { λ query k. bytes_eq query.now (string_bytes k) };
 
-    ghost hashes_alike = { λ form k same.
-        ap writes.str ((bytes_decides form.now (string_bytes k)).0 same) };
+    ghost hashes_alike = { λ query k same.
+        ap writes.str ((bytes_decides query.now (string_bytes k)).0 same) };
 
-    ghost stands_for_equals = { λ form k other.
-        nat_list_eq_equiv.congr form.now (string_bytes k) (string_bytes other) };
+    ghost stands_for_equals = { λ query k other.
+        nat_list_eq_equiv.congr query.now (string_bytes k) (string_bytes other) };
 
     fn equivalent(&self, key: &String<A>) -> bool {
         same_text(*self, key.as_str())
@@ -99,13 +99,13 @@ impl<A: Allocator> Equivalent<String<A>> for &str {
 }
 
 impl<A: Allocator> Equivalent<BoxedStr<A>> for &str {
-    ghost equivalent = { λ form k. bytes_eq form.now (boxed_str_bytes k) };
+    ghost equivalent = { λ query k. bytes_eq query.now (boxed_str_bytes k) };
 
-    ghost hashes_alike = { λ form k same.
-        ap writes.str ((bytes_decides form.now (boxed_str_bytes k)).0 same) };
+    ghost hashes_alike = { λ query k same.
+        ap writes.str ((bytes_decides query.now (boxed_str_bytes k)).0 same) };
 
-    ghost stands_for_equals = { λ form k other.
-        nat_list_eq_equiv.congr form.now (boxed_str_bytes k) (boxed_str_bytes other) };
+    ghost stands_for_equals = { λ query k other.
+        nat_list_eq_equiv.congr query.now (boxed_str_bytes k) (boxed_str_bytes other) };
 
     fn equivalent(&self, key: &BoxedStr<A>) -> bool {
         same_text(*self, key.as_str())
@@ -113,13 +113,13 @@ impl<A: Allocator> Equivalent<BoxedStr<A>> for &str {
 }
 
 impl<A: Allocator> Equivalent<RcStr<A>> for &str {
-    ghost equivalent = { λ form k. bytes_eq form.now (rc_str_bytes k) };
+    ghost equivalent = { λ query k. bytes_eq query.now (rc_str_bytes k) };
 
-    ghost hashes_alike = { λ form k same.
-        ap writes.str ((bytes_decides form.now (rc_str_bytes k)).0 same) };
+    ghost hashes_alike = { λ query k same.
+        ap writes.str ((bytes_decides query.now (rc_str_bytes k)).0 same) };
 
-    ghost stands_for_equals = { λ form k other.
-        nat_list_eq_equiv.congr form.now (rc_str_bytes k) (rc_str_bytes other) };
+    ghost stands_for_equals = { λ query k other.
+        nat_list_eq_equiv.congr query.now (rc_str_bytes k) (rc_str_bytes other) };
 
     fn equivalent(&self, key: &RcStr<A>) -> bool {
         same_text(*self, key.as_str())
@@ -127,13 +127,13 @@ impl<A: Allocator> Equivalent<RcStr<A>> for &str {
 }
 
 impl<'k, A: Allocator> Equivalent<CowStr<'k, A>> for &str {
-    ghost equivalent = { λ form k. bytes_eq form.now (cow_str_bytes k) };
+    ghost equivalent = { λ query k. bytes_eq query.now (cow_str_bytes k) };
 
-    ghost hashes_alike = { λ form k same.
-        ap writes.str ((bytes_decides form.now (cow_str_bytes k)).0 same) };
+    ghost hashes_alike = { λ query k same.
+        ap writes.str ((bytes_decides query.now (cow_str_bytes k)).0 same) };
 
-    ghost stands_for_equals = { λ form k other.
-        nat_list_eq_equiv.congr form.now (cow_str_bytes k) (cow_str_bytes other) };
+    ghost stands_for_equals = { λ query k other.
+        nat_list_eq_equiv.congr query.now (cow_str_bytes k) (cow_str_bytes other) };
 
     fn equivalent(&self, key: &CowStr<'k, A>) -> bool {
         same_text(*self, key.as_str())
@@ -141,13 +141,13 @@ impl<'k, A: Allocator> Equivalent<CowStr<'k, A>> for &str {
 }
 
 impl<'k, T: Eq + Hash> Equivalent<&'k [T]> for &[T] {
-    ghost equivalent = { λ form k. pointwise T.eq form.now k.now };
+    ghost equivalent = { λ query k. pointwise T.eq query.now k.now };
 
-    ghost hashes_alike = { λ form k.
-        (items_Alike (record { fed = T.respects_eq })).fed form.now k.now };
+    ghost hashes_alike = { λ query k.
+        (items_Alike (record { fed = T.respects_eq })).fed query.now k.now };
 
-    ghost stands_for_equals = { λ form k other.
-        (lists_equiv T.Eq.laws).congr form.now k.now other.now };
+    ghost stands_for_equals = { λ query k other.
+        (lists_equiv T.Eq.laws).congr query.now k.now other.now };
 
     fn equivalent(&self, key: &&'k [T]) -> bool {
         *self == *key
@@ -155,13 +155,13 @@ impl<'k, T: Eq + Hash> Equivalent<&'k [T]> for &[T] {
 }
 
 impl<T: Eq + Hash, A: Allocator> Equivalent<Vec<T, A>> for &[T] {
-    ghost equivalent = { λ form k. pointwise T.eq form.now k.items };
+    ghost equivalent = { λ query k. pointwise T.eq query.now k.items };
 
-    ghost hashes_alike = { λ form k.
-        (items_Alike (record { fed = T.respects_eq })).fed form.now k.items };
+    ghost hashes_alike = { λ query k.
+        (items_Alike (record { fed = T.respects_eq })).fed query.now k.items };
 
-    ghost stands_for_equals = { λ form k other.
-        (lists_equiv T.Eq.laws).congr form.now k.items other.items };
+    ghost stands_for_equals = { λ query k other.
+        (lists_equiv T.Eq.laws).congr query.now k.items other.items };
 
     fn equivalent(&self, key: &Vec<T, A>) -> bool {
         *self == key.as_slice()
@@ -169,13 +169,13 @@ impl<T: Eq + Hash, A: Allocator> Equivalent<Vec<T, A>> for &[T] {
 }
 
 impl<T: Eq + Hash, A: Allocator> Equivalent<BoxedSlice<T, A>> for &[T] {
-    ghost equivalent = { λ form k. pointwise T.eq form.now (boxed_slice_items k) };
+    ghost equivalent = { λ query k. pointwise T.eq query.now (boxed_slice_items k) };
 
-    ghost hashes_alike = { λ form k.
-        (items_Alike (record { fed = T.respects_eq })).fed form.now (boxed_slice_items k) };
+    ghost hashes_alike = { λ query k.
+        (items_Alike (record { fed = T.respects_eq })).fed query.now (boxed_slice_items k) };
 
-    ghost stands_for_equals = { λ form k other.
-        (lists_equiv T.Eq.laws).congr form.now (boxed_slice_items k) (boxed_slice_items other) };
+    ghost stands_for_equals = { λ query k other.
+        (lists_equiv T.Eq.laws).congr query.now (boxed_slice_items k) (boxed_slice_items other) };
 
     fn equivalent(&self, key: &BoxedSlice<T, A>) -> bool {
         *self == key.as_slice()
@@ -183,13 +183,13 @@ impl<T: Eq + Hash, A: Allocator> Equivalent<BoxedSlice<T, A>> for &[T] {
 }
 
 impl<'k, T: Eq + Hash, A: Allocator> Equivalent<CowSlice<'k, T, A>> for &[T] {
-    ghost equivalent = { λ form k. pointwise T.eq form.now (cow_slice_items k) };
+    ghost equivalent = { λ query k. pointwise T.eq query.now (cow_slice_items k) };
 
-    ghost hashes_alike = { λ form k.
-        (items_Alike (record { fed = T.respects_eq })).fed form.now (cow_slice_items k) };
+    ghost hashes_alike = { λ query k.
+        (items_Alike (record { fed = T.respects_eq })).fed query.now (cow_slice_items k) };
 
-    ghost stands_for_equals = { λ form k other.
-        (lists_equiv T.Eq.laws).congr form.now (cow_slice_items k) (cow_slice_items other) };
+    ghost stands_for_equals = { λ query k other.
+        (lists_equiv T.Eq.laws).congr query.now (cow_slice_items k) (cow_slice_items other) };
 
     fn equivalent(&self, key: &CowSlice<'k, T, A>) -> bool {
         *self == key.as_slice()

@@ -28,10 +28,10 @@ pub trait KeyHasher<K: Hash> {
     // The hash of a key, which `hash_one` returns.
     ghost hash: { Self → K → ℕ };
 
-    // The hash of what a key, or a form of one, writes into a hasher.
+    // The hash of what a key, or a query for one, writes into a hasher.
     ghost hash_writes: { Self → HashWrites → ℕ };
 
-    /// Returns what `hash_one` returns for a key, or for a form of one, and counts the hash.
+    /// Returns what `hash_one` returns for a key, or for a query for one, and counts the hash.
     fn hash_key<Q: Hash>(&self, key: &Q, tally: &mut Tally) -> u64
         ensures hash { result ≡ hash_writes self.now (Q.hash_input key.now) }
         ensures counted { tally.new ≡ asked_more 1 tally.old };

@@ -9,9 +9,9 @@
 //!
 //! Every example of this crate begins with these lines: `rt` is the `HostRuntime`, and `ages` holds two pairs.
 //!
-//! Each call of a map or of a raw entry that searches for a key or adds pairs has a counted form too, such as
+//! Each call of a map or of a raw entry that searches for a key or adds pairs has a counted call too, such as
 //! `get_counted` for `get`; that of `[]` is `index_counted`. Only `from_array`, `==` and std's traits have none. Of an
-//! entry `replace_entry_with` has one, which may probe for a bucket. A counted form does the same, and its contract states
+//! entry `replace_entry_with` has one, which may probe for a bucket. A counted call does the same, and its contract states
 //! how much work that is, in the numbers of a `Tally`. The buckets that other work reads, such as a removal after its
 //! search, or growth, are not counted. When the program runs a tally takes no bytes, and counting costs nothing.
 //!

@@ -46,7 +46,7 @@ pub enum RawEntryBuilderMut<
     L: Limit = AtMost<32>,
 > {
     #[doc(hidden)]
-    Ready(Prepared<'a, K, V, S, L>),
+    Prepared(Prepared<'a, K, V, S, L>),
 }
 
 /// A map with capacity for one pair more.

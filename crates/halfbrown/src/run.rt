@@ -1,6 +1,6 @@
 //! Whole runs: a list of commands, done one after another, with a reply to each.
 ghost use Rattle.std.specs.Prelude.{◌≡◌, ◌+◌, ◌*◌, ◌≤◌, true, false, [], length, vec_capacity, IsOk, IfOk, IfErr, OnErr};
-ghost use Rattle.halfbrown.specs.Costs.{GrewBy};
+ghost use Rattle.halfbrown.specs.CostRanges.{GrewBy};
 ghost use Rattle.halfbrown.specs.Run.{Runs, cost_of, has_shrink, Executes, ExecutesAtCost};
 
 use crate::{KeyHasher, Limit, LimitedHashMap, Refused};

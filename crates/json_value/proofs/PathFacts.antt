@@ -14,7 +14,7 @@ use Rattle.json_value.proofs.Placed.{put_at_other, put_other, put_same, put_step
 use Rattle.json_value.proofs.Pointer.{index_of-decimal}
 use Rattle.json_value.specs.Members.{by_kind_in, is_named}
 use Rattle.json_value.specs.Pointer.{child, descendant, index_of, member_place, name_of, place, put_at, put_child, put_steps, value_at}
-use Rattle.json_value.specs.Pointer.{is_plain, paths_part, steps_part, Part, PathsPart}
+use Rattle.json_value.specs.Pointer.{is_plain, paths_differ, steps_differ, Part, PathsPart}
 use Rattle.json_value.specs.declared.value.Value.{Value}
 use Rattle.json_value.specs.declared.value.Value.TheOpen.{Value-F}
 use Rattle.json_value.specs.declared.value.Value.TheViews.{out-Value}
@@ -61,22 +61,22 @@ places_apart v step other led apart e =
     true≢false (sym (option_eq-self (name_of other)) ∙ ap (λ n. option_eq bytes_eq n (name_of other)) (sym named) ∙ apart)
 
 module _ (v : Value) (step other : List ℕ) (steps others : List (List ℕ))
-    (more : (x : Value) → descendant x steps ≢ None → steps_part steps others ≡ true → Part x steps others) where
+    (more : (x : Value) → descendant x steps ≢ None → steps_differ steps others ≡ true → Part x steps others) where
   part_here : (same : Bool) → bytes_eq step other ≡ same → (o : Option Value) → child v step ≡ o
       → option_and_then (λ w. descendant w steps) o ≢ None
-      → cond same (steps_part steps others) (not (option_eq bytes_eq (name_of step) (name_of other))) ≡ true
+      → cond same (steps_differ steps others) (not (option_eq bytes_eq (name_of step) (name_of other))) ≡ true
       → Part v (step ∷ steps) (other ∷ others)
   part_here same is None led there part = absurd (there refl)
   part_here true is (Some x) led there part = inr (ap (place v) ((bytes_eq-Decides step other).0 is), x, led, more x there part)
   part_here false is (Some x) led there part = inl (places_apart v step other (λ none. absurd (cc)) (grind (arith, nat_tests)))
 
-part_by : (v : Value) (steps others : List (List ℕ)) → descendant v steps ≢ None → steps_part steps others ≡ true → Part v steps others
+part_by : (v : Value) (steps others : List (List ℕ)) → descendant v steps ≢ None → steps_differ steps others ≡ true → Part v steps others
 part_by v [] others there part = absurd cc
 part_by v (step ∷ steps) [] there part = absurd cc
 part_by v (step ∷ steps) (other ∷ others) there part =
     part_here v step other steps others (λ x. part_by x steps others) (bytes_eq step other) refl (child v step) refl there part
 
-paths_apart : (v : Value) (path other : List ℕ) → value_at v path ≢ None → paths_part path other ≡ true → PathsPart v path other
+paths_apart : (v : Value) (path other : List ℕ) → value_at v path ≢ None → paths_differ path other ≡ true → PathsPart v path other
 paths_apart v [] other there part = absurd cc
 paths_apart v (c ∷ path) [] there part = absurd cc
 paths_apart v (c ∷ path) (d ∷ other) there part =
@@ -84,16 +84,16 @@ paths_apart v (c ∷ path) (d ∷ other) there part =
     (slashes.0, slashes.1, part_by v _ _ (rw slashes.0 at there) (rw (slashes.0, slashes.1) at part))
 
 -- a path that leads to a value and another of different names part
-pub parts : (v : Value) (path other : List ℕ) {had : Value} → value_at v path ≡ Some had → paths_part path other ≡ true → PathsPart v path other
+pub parts : (v : Value) (path other : List ℕ) {had : Value} → value_at v path ≡ Some had → paths_differ path other ≡ true → PathsPart v path other
 parts v path other there part = paths_apart v path other (λ none. absurd cc) part
 
 -- once a value is put at a path, another of different names leads where it led
-pub other_kept : (v : Value) (path other : List ℕ) (w : Value) → value_at v path ≢ None → paths_part path other ≡ true
+pub other_kept : (v : Value) (path other : List ℕ) (w : Value) → value_at v path ≢ None → paths_differ path other ≡ true
     → value_at (put_at v path w) other ≡ value_at v other
 other_kept v path other w there part = put_at_other v path other w (paths_apart v path other there part)
 
 -- the same of steps, and of one step, to which paths that are written out compute
-pub steps_kept : (v : Value) (steps others : List (List ℕ)) (w : Value) → descendant v steps ≢ None → steps_part steps others ≡ true
+pub steps_kept : (v : Value) (steps others : List (List ℕ)) (w : Value) → descendant v steps ≢ None → steps_differ steps others ≡ true
     → descendant (put_steps v steps w) others ≡ descendant v others
 steps_kept v steps others w there part = put_steps_other v steps others w (part_by v steps others there part)
 
@@ -109,7 +109,7 @@ plain_step (c ∷ name) plain = grind (arith, nat_tests, plain_step name)
 
 -- two such names part
 pub names_part : (a b : List ℕ) → is_plain a ≡ true → is_plain b ≡ true → a ≢ b
-    → steps_part (slice_split (λ b. b == 47) a) (slice_split (λ b. b == 47) b) ≡ true
+    → steps_differ (slice_split (λ b. b == 47) a) (slice_split (λ b. b == 47) b) ≡ true
 names_part a b one two apart =
     let alone = plain_step a one in
     let other = plain_step b two in
@@ -129,14 +129,14 @@ split-append (c ∷ first) path =
     let some : 0 < length (slice_split (λ b. b == 47) first) = omega (arith, length-slice_split (λ b. b == 47) first) in
     rw (split-append first path) (pushed-append (c == 47) c _ _ some)
 
-steps_part-append : (first steps others : List (List ℕ)) → steps_part (first ++ steps) (first ++ others) ≡ steps_part steps others
+steps_part-append : (first steps others : List (List ℕ)) → steps_differ (first ++ steps) (first ++ others) ≡ steps_differ steps others
 steps_part-append [] steps others = refl
 steps_part-append (step ∷ first) steps others = rw ((bytes_eq-Decides step step).1 refl) (steps_part-append first steps others)
 
 -- behind a common first part two paths part as the rest of them does
 pub first_part : (first path other : List ℕ)
-    → steps_part (slice_split (λ b. b == 47) (first ++ 47 ∷ path)) (slice_split (λ b. b == 47) (first ++ 47 ∷ other))
-    ≡ steps_part (slice_split (λ b. b == 47) path) (slice_split (λ b. b == 47) other)
+    → steps_differ (slice_split (λ b. b == 47) (first ++ 47 ∷ path)) (slice_split (λ b. b == 47) (first ++ 47 ∷ other))
+    ≡ steps_differ (slice_split (λ b. b == 47) path) (slice_split (λ b. b == 47) other)
 first_part first path other =
     rw (split-append first path, split-append first other) (steps_part-append (slice_split (λ b. b == 47) first) _ _)
 

@@ -103,18 +103,18 @@ PathsPart v (c ∷ path) (d ∷ other) =
 -- ---- what shows that paths part
 
 -- whether two lists of steps come to different names, before either ends
-abbrev pub steps_part : List (List ℕ) → List (List ℕ) → Bool
-steps_part [] others = false
-steps_part (step ∷ steps) [] = false
-steps_part (step ∷ steps) (other ∷ others) =
-    if bytes_eq step other then steps_part steps others else not (option_eq bytes_eq (name_of step) (name_of other))
+abbrev pub steps_differ : List (List ℕ) → List (List ℕ) → Bool
+steps_differ [] others = false
+steps_differ (step ∷ steps) [] = false
+steps_differ (step ∷ steps) (other ∷ others) =
+    if bytes_eq step other then steps_differ steps others else not (option_eq bytes_eq (name_of step) (name_of other))
 
 -- the same of two paths
-abbrev pub paths_part : List ℕ → List ℕ → Bool
-paths_part [] other = false
-paths_part (c ∷ path) [] = false
-paths_part (c ∷ path) (d ∷ other) =
-    c == 47 && d == 47 && steps_part (slice_split (λ b. b == 47) path) (slice_split (λ b. b == 47) other)
+abbrev pub paths_differ : List ℕ → List ℕ → Bool
+paths_differ [] other = false
+paths_differ (c ∷ path) [] = false
+paths_differ (c ∷ path) (d ∷ other) =
+    c == 47 && d == 47 && steps_differ (slice_split (λ b. b == 47) path) (slice_split (λ b. b == 47) other)
 
 -- whether a name stands for itself as a step: it has neither `/` nor `~`
 abbrev pub is_plain : List ℕ → Bool

@@ -1,4 +1,4 @@
-//! Keys that are equal by their number alone, and count how often they are compared and dropped, and a form that stands for one.
+//! Keys that are equal by their number alone, and count how often they are compared and dropped, and a query for one.
 ghost use Rattle.std.specs.Prelude.{◌≡◌, ◌==◌};
 ghost use Rattle.std.specs.Hash as fed;
 ghost use Rattle.std.specs.Cmp.Rules.{comparing, hashing};

@@ -1,4 +1,4 @@
-//! Searches by a form of a key, and by a hash and a match.
+//! Searches by a query for a key, and by a hash and a match.
 ghost use Rattle.std.specs.Prelude.{◌≡◌};
 ghost use Rattle.halfbrown.specs.Pairs.{holds_by};
 

@@ -18,7 +18,8 @@ use Rattle.halfbrown.proofs.callers.Pairs.{lookup_permuted}
 use Rattle.std.proofs.Math.Nat.{mul-le-mul_left}
 use Rattle.half_store.specs.PairLists.{index_of}
 use Rattle.half_store.specs.Work.{Work}
-use Rattle.halfbrown.specs.Costs.{Range, between, key_hash_count, exactly, probe_length, search_asked, IsKeySearchCost, AreSearchCosts}
+use Rattle.halfbrown.specs.CostRanges.{Range, between, exactly}
+use Rattle.halfbrown.specs.Costs.{key_hash_count, probe_length, search_asked, IsKeySearchCost, AreSearchCosts}
 use Rattle.halfbrown.specs.State.{State}
 
 module _ {K V : Type 0} (eq : K → K → Bool) (value_eq : V → V → Bool) (laws : IsEquivalence eq) where
@@ -37,14 +38,14 @@ module _ {K V : Type 0} (eq : K → K → Bool) (value_eq : V → V → Bool) (l
 
 -- a search compares at most all keys
 compares_most : (is_vec held : Bool) (in_order key_hash_count most : ℕ) → key_hash_count ≤ most
-    → (cond is_vec (between in_order most) (cond held (between 1 key_hash_count) (exactly key_hash_count))).most ≤ most
+    → (cond is_vec (between in_order most) (cond held (between 1 key_hash_count) (exactly key_hash_count))).greatest ≤ most
 compares_most is_vec held in_order key_hash_count most table = grind (arith, common_steps)
 
-looks_most : (is_vec held : Bool) (probe : ℕ) → (cond is_vec (exactly 0) (cond held (between 1 (probe - 1)) (exactly probe))).most ≤ probe
+looks_most : (is_vec held : Bool) (probe : ℕ) → (cond is_vec (exactly 0) (cond held (between 1 (probe - 1)) (exactly probe))).greatest ≤ probe
 looks_most is_vec held probe = grind (arith, common_steps)
 
-looks_none : (is_vec : Bool) (searched : Range) → is_vec ≡ true → (cond is_vec (exactly 0) searched).most ≡ 0
-looks_none is_vec searched vector = ap (λ b. (cond b (exactly 0) searched).most) vector
+looks_none : (is_vec : Bool) (searched : Range) → is_vec ≡ true → (cond is_vec (exactly 0) searched).greatest ≡ 0
+looks_none is_vec searched vector = ap (λ b. (cond b (exactly 0) searched).greatest) vector
 
 module _ {K V S : Type 0} (eq : K → K → Bool) (hash : S → K → ℕ) (m : State K V S) where
   none_cost : (before after : Work) → AreSearchCosts eq hash m [] before after → after ≡ before
@@ -86,7 +87,7 @@ module _ {K V S : Type 0} (eq : K → K → Bool) (hash : S → K → ℕ) (m : 
   looked_in_vector vector (k ∷ ks) before after costs =
       let probe = probe_length (hash m.builder) m.is_vec m.capacity m.pairs (hash m.builder k) in
       let none = looks_none m.is_vec (cond (is_some (index_of (eq k) (keys_of m.pairs))) (between 1 (probe - 1)) (exactly probe)) vector in
-      omega (arith, costs.1.grew.looked.least, costs.1.grew.looked.most, none, looked_in_vector vector ks costs.0 after costs.2)
+      omega (arith, costs.1.grew.looked.at_least, costs.1.grew.looked.at_most, none, looked_in_vector vector ks costs.0 after costs.2)
 
 module _ {K V : Type 0} (eq : K → K → Bool) (value_eq : V → V → Bool) where
   shorter_by : (held : Bool) (ks : List K) (n : ℕ) → length ks ≤ n → length (cond held ks []) ≤ n

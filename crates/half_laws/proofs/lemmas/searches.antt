@@ -17,7 +17,8 @@ use Rattle.half_store.proofs.lemmas.capacity.{four-le_count, buckets_for-least, 
 use Rattle.half_laws.proofs.lemmas.probes.{history_law as reach_history, crowding_law}
 use Rattle.halfbrown.specs.declared.run.Command.{Command}
 use Rattle.halfbrown.specs.declared.run.Command.TheVariants.{Insert, InsertNew, EntryOrInsert, RawOrInsert}
-use Rattle.halfbrown.specs.Costs.{Range, Cost, GrewBy, GrewWithin, exactly, between, add_ranges, no_cost, search_asked, key_hash_count}
+use Rattle.halfbrown.specs.CostRanges.{Range, Cost, GrewBy, GrewWithin, exactly, between, add_ranges, no_cost}
+use Rattle.halfbrown.specs.Costs.{search_asked, key_hash_count}
 use Rattle.halfbrown.specs.Costs.{probe_length, search_compares, search_reads, search_cost, key_search_cost, switched, grown, insertion_reads}
 use Rattle.halfbrown.specs.Costs.{insert_cost, raw_insert_cost, new_key_cost, is_switch_refused, capacity_after_switch, capacity_after_growth}
 use Rattle.halfbrown.specs.Costs.{addition_grows, IsSearchCost, IsInsertCost}
@@ -41,12 +42,12 @@ buckets-more capacity is some =
     omega arith
 
 -- a search in a table reads at most an unsuccessful probe
-looks_most : (held : Bool) (probe : ℕ) → (if held then between 1 (probe - 1) else exactly probe).most ≤ probe
+looks_most : (held : Bool) (probe : ℕ) → (if held then between 1 (probe - 1) else exactly probe).greatest ≤ probe
 looks_most held probe = grind (arith, common_steps)
 
 -- a range of one number
 abbrev IsExact : Range → Type 0
-IsExact range = range.least ≡ range.most
+IsExact range = range.least ≡ range.greatest
 
 exact_unless_refused : (refused : Bool) (range : Range) → IsExact range → IsExact (if refused then exactly 0 else range)
 exact_unless_refused true range exact = refl
@@ -60,14 +61,14 @@ grew_exactly : (cost : Cost) (before after : Work) → IsExact cost.compared →
     → GrewExactlyBy (least_work cost) before after
 grew_exactly cost before after compared looked grew = record {
   asked = grew.asked;
-  compared = omega (arith, compared, grew.compared.least, grew.compared.most);
-  looked = omega (arith, looked, grew.looked.least, grew.looked.most);
+  compared = omega (arith, compared, grew.compared.at_least, grew.compared.at_most);
+  looked = omega (arith, looked, grew.looked.at_least, grew.looked.at_most);
 }
 
 -- an insertion that makes no capacity grow reads no more than its search
 insertion_most : (refused grows : Bool) (searched : Range) (probe before after : ℕ) → grows ≡ false
     → GrewWithin (if refused then exactly 0 else add_ranges searched (exactly (if grows then probe else 0))) before after
-    → after ≤ before + searched.most
+    → after ≤ before + searched.greatest
 insertion_most refused grows searched probe before after none grew = grind (arith, common_steps, grew)
 
 -- one that makes the capacity grow for its key has searched in vain, and reads one more probe

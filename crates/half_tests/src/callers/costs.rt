@@ -1,6 +1,7 @@
 //! What callers say of the work that a call does.
 ghost use Rattle.std.specs.Prelude.{◌≡◌, ◌≤◌, ◌+◌, true, OnOk};
-ghost use Rattle.halfbrown.specs.Costs.{GrewBy, insert_cost};
+ghost use Rattle.halfbrown.specs.CostRanges.{GrewBy};
+ghost use Rattle.halfbrown.specs.Costs.{insert_cost};
 
 use halfbrown::{KeyHasher, Limit, LimitedHashMap, Refusal, Tally};
 use std::hash::{BuildHasher, Hash};

@@ -14,7 +14,7 @@ use Rattle.std.proofs.lemmas.List.Sums.{count_by-le-length, fold_push}
 use Rattle.std.proofs.lemmas.Map.Entries.{none_past_head, option_filter}
 use Rattle.std.proofs.lemmas.Map.{lookup-none}
 use Rattle.halfbrown.specs.FromIter.{last_value_of}
-use Rattle.halfbrown.specs.Pairs.{IsForm}
+use Rattle.halfbrown.specs.Pairs.{IsQuery}
 use Rattle.halfbrown.proofs.callers.Pairs.{value_of_equal, lookup_permuted}
 use Rattle.halfbrown.proofs.lemmas.pairs.Indices.{value_of_entry}
 use Rattle.halfbrown.proofs.lemmas.pairs.Changes.{map-swap_remove_at}
@@ -75,12 +75,12 @@ module _ {K V : Type 0} (eq : K → K → Bool) where
 
 -- ---- after a value was set
 
-module _ {K V : Type 0} (eq : K → K → Bool) (laws : IsEquivalence eq) (test : K → Bool) (form : IsForm eq test) where
+module _ {K V : Type 0} (eq : K → K → Bool) (laws : IsEquivalence eq) (test : K → Bool) (query : IsQuery eq test) where
   -- a key that the test accepts has the value where it had one, and each other key what it had
   pub lookup_set : (ps : List (K × V)) (v : V) (q : K)
       → value_of eq (set_by test ps v) q ≡ cond (test q) (option_map (λ _. v) (value_of eq ps q)) (value_of eq ps q)
   lookup_set [] v q = grind (arith, common_steps)
-  lookup_set (p ∷ ps) v q = grind (arith, common_steps, form p.0 q, form q p.0, laws.symm q p.0, lookup_set ps v q)
+  lookup_set (p ∷ ps) v q = grind (arith, common_steps, query p.0 q, query q p.0, laws.symm q p.0, lookup_set ps v q)
 
 -- ---- a filter, as `retain` leaves
 

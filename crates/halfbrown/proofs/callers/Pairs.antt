@@ -10,7 +10,7 @@ use Rattle.std.proofs.lemmas.Map.{lookup-none}
 use Rattle.std.proofs.lemmas.Map.Entries.{place_from_lookup, none_past_head}
 use Rattle.std.proofs.lemmas.Map.Keys.{IsDistinct-IsPermutation}
 use Rattle.std.proofs.lemmas.Map.Views.{lookup-from_Contains}
-use Rattle.halfbrown.specs.Pairs.{IsForm, take_out}
+use Rattle.halfbrown.specs.Pairs.{IsQuery, take_out}
 use Rattle.halfbrown.specs.Updates.{HasRemoved}
 use Rattle.halfbrown.proofs.lemmas.pairs.Indices.{first_of_index, first_passes, index_found, absent_of_index}
 use Rattle.halfbrown.proofs.lemmas.pairs.Changes.{IsPermutation-swap_remove_at, length-swap_remove_at}
@@ -40,9 +40,9 @@ module _ {K V : Type 0} (eq : K → K → Bool) where
   len_taken ps k = grind (arith, common_steps, absent_of_index (eq k) ps, index_found (eq k) ps, length-swap_remove_at)
 
 module _ {K : Type 0} (eq : K → K → Bool) (laws : IsEquivalence eq) where
-  -- a form that does not stand for a key stands for none of its equals
-  pub form_apart : (test : K → Bool) → IsForm eq test → (k : K) → test k ≡ false → (x : K) → eq k x ≡ true → test x ≡ false
-  form_apart test form k fails x same = grind (arith, common_steps, form x k)
+  -- a query that does not stand for a key stands for none of its equals
+  pub query_apart : (test : K → Bool) → IsQuery eq test → (k : K) → test k ≡ false → (x : K) → eq k x ≡ true → test x ≡ false
+  query_apart test query k fails x same = grind (arith, common_steps, query x k)
 
 module _ {K V : Type 0} (eq : K → K → Bool) (laws : IsEquivalence eq) where
   -- equal keys have the same value
@@ -55,27 +55,27 @@ module _ {K V : Type 0} (eq : K → K → Bool) (laws : IsEquivalence eq) where
   distinct_permuted xs ys distinct permuted =
       IsDistinct-IsPermutation eq laws.symm (keys_of xs) (keys_of ys) (IsPermutation-map (λ p. p.0) xs ys permuted) distinct
 
-  found_permuted : (xs ys : List (K × V)) → IsDistinct eq (keys_of xs) → IsPermutation xs ys → (test : K → Bool) → IsForm eq test → (v : V)
+  found_permuted : (xs ys : List (K × V)) → IsDistinct eq (keys_of xs) → IsPermutation xs ys → (test : K → Bool) → IsQuery eq test → (v : V)
       → lookup test xs ≡ Some v → lookup test ys ≡ Some v
-  found_permuted xs ys distinct permuted test form v found =
+  found_permuted xs ys distinct permuted test query v found =
       let at = place_from_lookup test xs v found in
       let p : K × V = (at.1, v) in
       let held = Contains-permutation xs ys p permuted (at.0, slice_get_within xs at.0 p at.2, get_or_from_slice_get xs at.0 p p at.2) in
-      ap (λ (t : K → Bool). lookup t ys) (λ i x. form at.1 x at.3 i)
+      ap (λ (t : K → Bool). lookup t ys) (λ i x. query at.1 x at.3 i)
       ∙ lookup-from_Contains laws at.1 v ys (distinct_permuted xs ys distinct permuted) held
 
-  -- what a form finds does not depend on the order of distinct pairs
-  pub form_permuted : (xs ys : List (K × V)) → IsDistinct eq (keys_of xs) → IsPermutation xs ys → (test : K → Bool) → IsForm eq test
+  -- what a query finds does not depend on the order of distinct pairs
+  pub query_permuted : (xs ys : List (K × V)) → IsDistinct eq (keys_of xs) → IsPermutation xs ys → (test : K → Bool) → IsQuery eq test
       → lookup test ys ≡ lookup test xs
-  form_permuted xs ys distinct permuted test form =
-      let there = found_permuted xs ys distinct permuted test form in
-      let back = found_permuted ys xs (distinct_permuted xs ys distinct permuted) (IsPermutation-sym xs ys permuted) test form in
+  query_permuted xs ys distinct permuted test query =
+      let there = found_permuted xs ys distinct permuted test query in
+      let back = found_permuted ys xs (distinct_permuted xs ys distinct permuted) (IsPermutation-sym xs ys permuted) test query in
       grind (arith, common_steps, there, back)
 
   -- nor does a look-up
   pub lookup_permuted : (xs ys : List (K × V)) → IsDistinct eq (keys_of xs) → IsPermutation xs ys → (q : K)
       → lookup (eq q) ys ≡ lookup (eq q) xs
-  lookup_permuted xs ys distinct permuted q = form_permuted xs ys distinct permuted (eq q) (laws.congr q)
+  lookup_permuted xs ys distinct permuted q = query_permuted xs ys distinct permuted (eq q) (laws.congr q)
 
   -- ---- a put
 
@@ -102,15 +102,15 @@ module _ {K V : Type 0} (eq : K → K → Bool) (laws : IsEquivalence eq) where
   pub other_of_put : (ps : List (K × V)) (k : K) (v : V) (q : K) → eq k q ≡ false → value_of eq (put eq ps k v) q ≡ value_of eq ps q
   other_of_put ps k v q other = lookup_put ps k v q ∙ ap (λ b. cond b (Some v) (value_of eq ps q)) other
 
-  -- a form that stands for the key finds the value
-  pub put_same : (ps : List (K × V)) (k : K) (v : V) (test : K → Bool) → IsForm eq test → test k ≡ true
+  -- a query that stands for the key finds the value
+  pub put_same : (ps : List (K × V)) (k : K) (v : V) (test : K → Bool) → IsQuery eq test → test k ≡ true
       → lookup test (put eq ps k v) ≡ Some v
-  put_same ps k v test form passes = grind (arith, common_steps, value_of_put)
+  put_same ps k v test query passes = grind (arith, common_steps, value_of_put)
 
-  -- what any form finds after a put
-  pub form_put : (ps : List (K × V)) (k : K) (v : V) (test : K → Bool) → IsForm eq test
+  -- what any query finds after a put
+  pub query_put : (ps : List (K × V)) (k : K) (v : V) (test : K → Bool) → IsQuery eq test
       → lookup test (put eq ps k v) ≡ cond (test k) (Some v) (lookup test ps)
-  form_put ps k v test form = grind (arith, common_steps, form_apart eq laws test form k, put_other ps k v test, put_same ps k v test form)
+  query_put ps k v test query = grind (arith, common_steps, query_apart eq laws test query k, put_other ps k v test, put_same ps k v test query)
 
   pub has_put : (ps : List (K × V)) (k : K) (v : V) → HasPut eq ps k v (put eq ps k v)
   has_put ps k v = grind (arith, common_steps, equal_of_put, held_put, keys_put, len_put, other_of_put, value_of_put)
@@ -126,7 +126,7 @@ module _ {K V : Type 0} (eq : K → K → Bool) (laws : IsEquivalence eq) where
         ∙ first_passes test (keys_of (q ∷ ps)) i q.0 (first_of_index test (keys_of (q ∷ ps)) i at.index_is),
   )
 
-  module _ (test : K → Bool) (form : IsForm eq test) (ps : List (K × V)) (distinct : IsDistinct eq (keys_of ps)) where
+  module _ (test : K → Bool) (query : IsQuery eq test) (ps : List (K × V)) (distinct : IsDistinct eq (keys_of ps)) where
     -- the pairs are the one whose key passes and those that are left, in another order
     pub has_left : (i : ℕ) → IsIndexOf test ps i → (left : List (K × V))
         → ((p : K × V) → p ≡ get_or ps i p → IsPermutation ps (p ∷ left)) → HasRemovedBy eq test ps left
@@ -136,12 +136,12 @@ module _ {K V : Type 0} (eq : K → K → Bool) (laws : IsEquivalence eq) where
         let order = orders p found.1 in
         let none = lookup-none (eq p.0) left
         (none_past_head laws p.0 p left (distinct_permuted ps (p ∷ left) distinct order) (laws.refl p.0)) in
-        let lost : lookup test left ≡ None = ap (λ t. lookup t left) (λ i x. form p.0 x found.2 i) ∙ none in
+        let lost : lookup test left ≡ None = ap (λ t. lookup t left) (λ i x. query p.0 x found.2 i) ∙ none in
         record {
           not_held = ap is_some lost;
           no_value = lost;
-          equals = λ q passes. ap (λ t. lookup t left) (λ i x. sym (form q x passes) i) ∙ lost;
-          others = λ q fails. grind (arith, common_steps, form p.0 q found.2, laws.symm q p.0, lookup_permuted ps (p ∷ left) distinct order q);
+          equals = λ q passes. ap (λ t. lookup t left) (λ i x. sym (query q x passes) i) ∙ lost;
+          others = λ q fails. grind (arith, common_steps, query p.0 q found.2, laws.symm q p.0, lookup_permuted ps (p ∷ left) distinct order q);
           len = rw at.held (grind (arith, common_steps, length_permutation ps (p ∷ left) order));
         }
 
@@ -150,7 +150,7 @@ module _ {K V : Type 0} (eq : K → K → Bool) (laws : IsEquivalence eq) where
     has_all absent = record {
       not_held = absent.held;
       no_value = absent.value;
-      equals = λ q passes. ap (λ t. lookup t ps) (λ i x. sym (form q x passes) i) ∙ absent.value;
+      equals = λ q passes. ap (λ t. lookup t ps) (λ i x. sym (query q x passes) i) ∙ absent.value;
       others = λ q fails. refl;
       len = rw absent.held refl;
     }
@@ -173,16 +173,16 @@ module _ {K V : Type 0} (eq : K → K → Bool) (laws : IsEquivalence eq) where
     pub lookup_taken : (q : K) → value_of eq (take_out eq ps k) q ≡ cond (eq k q) None (value_of eq ps q)
     lookup_taken q = grind (arith, common_steps, has_removed.equals q, has_removed.others q)
 
-    form_found : (test : K → Bool) → IsForm eq test → ((q : K) → eq k q ≡ true → test q ≡ false) → (q : K) → test q ≡ true
+    query_found : (test : K → Bool) → IsQuery eq test → ((q : K) → eq k q ≡ true → test q ≡ false) → (q : K) → test q ≡ true
         → lookup test (take_out eq ps k) ≡ lookup test ps
-    form_found test form apart q passes =
-        let same : test ≡ eq q = λ i x. form q x passes i in
+    query_found test query apart q passes =
+        let same : test ≡ eq q = λ i x. query q x passes i in
         rw same (has_removed.others q (grind (arith, common_steps, apart q)))
 
-    -- a form that stands for no equal of the key finds what it found
-    pub form_taken : (test : K → Bool) → IsForm eq test → ((q : K) → eq k q ≡ true → test q ≡ false)
+    -- a query that stands for no equal of the key finds what it found
+    pub query_taken : (test : K → Bool) → IsQuery eq test → ((q : K) → eq k q ≡ true → test q ≡ false)
         → lookup test (take_out eq ps k) ≡ lookup test ps
-    form_taken test form apart =
+    query_taken test query apart =
         let there = place_from_lookup test (take_out eq ps k) in
         let was = place_from_lookup test ps in
-        grind (arith, common_steps, form_found test form apart, there, was)
+        grind (arith, common_steps, query_found test query apart, there, was)

@@ -6,13 +6,10 @@ use Rattle.std.proofs.iter.runs.Sources.{as_is, from_front}
 use Rattle.std.specs.Iterator.Runs.{YieldsInOrder}
 use Rattle.halfbrown.specs.Drain.{DrainsSameMap, KeepsAlong, DrainSteps, rest}
 use Rattle.halfbrown.specs.declared.drain.Drain.{Drain}
-use Rattle.std.specs.declared.cmp.PartialEq as eq
-use Rattle.std.specs.declared.hash.Hash as hash
-use Rattle.halfbrown.specs.declared.key_hasher.KeyHasher as hashers
+use Rattle.halfbrown.specs.Ghosts.{EqGhosts, HashGhosts, HasherGhosts, LimitGhosts}
 use Rattle.half_store.specs.declared.store.drain.IntoStore as taken
-use Rattle.halfbrown.specs.declared.limit.Limit as limits
 
-module _ {K V S L H : Type 0} {e : eq.Ghosts K} {h : hash.Ghosts K} {b : hashers.Ghosts S K H} {l : limits.Ghosts L}
+module _ {K V S L H : Type 0} {e : EqGhosts K} {h : HashGhosts K} {b : HasherGhosts S K H} {l : LimitGhosts L}
     {p : taken.Ghosts (StoreState K V) K V} where
   -- of the same map and with the same pairs it is the same
   pub same_drain : (s t : Drain K V S L (StoreState K V) H e h b l p) → t.map ≡ s.map → t.pairs ≡ s.pairs → t ≡ s

@@ -1,6 +1,5 @@
 //! Growing and shrinking the capacity.
-ghost use Rattle.std.specs.Prelude.{◌≡◌, ◌+◌, length, OnOk, OnErr, IfErr};
-ghost use Rattle.halfbrown.specs.Growth.{reserve_needs, IsRefusal, Reserves, Shrinks};
+ghost use Rattle.halfbrown.specs.Growth.{Reserves, Shrinks};
 ghost use Rattle.halfbrown.specs.State.{IsValid};
 
 use super::LimitedHashMap;
@@ -23,11 +22,7 @@ impl<K: Eq + Hash, V, S: KeyHasher<K>, L: Limit> LimitedHashMap<K, V, S, L> {
     /// ```
     #[inline(never)]
     pub fn reserve(&mut self, additional: usize) -> Result<(), Refusal>
-        ensures ok { OnOk result (Reserves L.LIMIT self.old additional self.new) }
-        ensures refused { IfErr result (IsRefusal (reserve_needs L.LIMIT self.old
-            (length self.old.pairs + additional))) }
-        ensures err { OnErr result (self.new ≡ self.old) }
-        ensures valid { IsValid K.eq L.LIMIT self.new }
+        ensures { Reserves L.LIMIT K.eq self.old additional result self.new }
     {
         self.store.reserve(additional, L::LIMIT)
     }

@@ -4,7 +4,7 @@ ghost use Rattle.std.specs.Iterator.{IsFinite, IsFiniteIterable, Drains, DrainsI
 ghost use Rattle.halfbrown.specs.FromIter.{Gives, AreFirst, Extends, ExtendsIter, RefusedExtendIter};
 ghost use Rattle.halfbrown.specs.FromIter.{Collects, CollectsIter, RefusedCollect, RefusedCollectIter};
 ghost use Rattle.halfbrown.specs.FromIter.{insertions_cost, refused_cost, collection_cost, refused_collection_cost};
-ghost use Rattle.halfbrown.specs.Costs.{GrewBy};
+ghost use Rattle.halfbrown.specs.CostRanges.{GrewBy};
 ghost use Rattle.halfbrown.specs.State.{IsValid};
 
 use super::LimitedHashMap;

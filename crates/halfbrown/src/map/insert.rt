@@ -1,6 +1,7 @@
 //! Insertion, and what it writes: a value replaced, or a pair added whose key is not held.
 ghost use Rattle.std.specs.Prelude.{◌≡◌, ◌<◌, false, Some, is_ok};
-ghost use Rattle.halfbrown.specs.Costs.{new_key_cost, GrewBy, IsInsertCost};
+ghost use Rattle.halfbrown.specs.CostRanges.{GrewBy};
+ghost use Rattle.halfbrown.specs.Costs.{new_key_cost, IsInsertCost};
 ghost use Rattle.halfbrown.specs.Insertion.{Inserts, InsertsAt, InsertsNewKey};
 ghost use Rattle.halfbrown.specs.Pairs.{holds};
 

@@ -2,7 +2,8 @@
 ghost use Rattle.std.specs.Prelude.{◌≡◌, ◌<◌, false, length, OnOk, IfOk, is_ok, if◌then◌else◌};
 ghost use Rattle.half_store.specs.Work.{looked_more, asked_more};
 ghost use Rattle.half_store.specs.Store.{IsVacancy};
-ghost use Rattle.halfbrown.specs.Costs.{switch_asked, new_key_cost, GrewBy, IsInsertCost};
+ghost use Rattle.halfbrown.specs.CostRanges.{GrewBy};
+ghost use Rattle.halfbrown.specs.Costs.{switch_asked, new_key_cost, IsInsertCost};
 ghost use Rattle.halfbrown.specs.Growth.{is_full, addition_needs, insert_needs, new_key_needs};
 ghost use Rattle.halfbrown.specs.Pairs.{holds};
 ghost use Rattle.halfbrown.specs.Insertion.{IsPreparedFor, MayInsertAt, PreparesOrRefuses, second_probe_reads};
@@ -27,7 +28,7 @@ impl<K: Eq + Hash, V, S: KeyHasher<K>, L: Limit> LimitedHashMap<K, V, S, L> {
     pub(crate) fn prepare(&mut self, key: &K, tally: &mut Tally) -> Result<Place, Refusal>
         ensures prepares { PreparesOrRefuses L.LIMIT K.eq self.old
             (insert_needs L.LIMIT K.eq self.old key.now) result self.new }
-        ensures ready { IfOk result (IsPreparedFor K.eq S.hash self.new key.now) }
+        ensures place { IfOk result (IsPreparedFor K.eq S.hash self.new key.now) }
         ensures cost { IsInsertCost L.LIMIT K.eq S.hash self.old key.now (is_ok result)
             tally.old tally.new }
     {
@@ -45,7 +46,7 @@ impl<K: Eq + Hash, V, S: KeyHasher<K>, L: Limit> LimitedHashMap<K, V, S, L> {
         requires { holds K.eq self.old.pairs key.now ≡ false }
         ensures prepares { PreparesOrRefuses L.LIMIT K.eq self.old
             (new_key_needs L.LIMIT self.old) result self.new }
-        ensures ready { IfOk result (MayInsertAt K.eq S.hash self.new key.now) }
+        ensures vacancy { IfOk result (MayInsertAt K.eq S.hash self.new key.now) }
         ensures cost { GrewBy (new_key_cost L.LIMIT K.eq S.hash self.old key.now (is_ok result))
             tally.old tally.new }
     {

@@ -13,7 +13,7 @@ ghost use Rattle.halfbrown.specs.Costs.{IsLookupCost, IsHashedLookupCost, switch
 ghost use Rattle.halfbrown.specs.Lookup.{ReadsMatch, IsMatchCost};
 ghost use Rattle.halfbrown.specs.Entry.{raw_view};
 ghost use Rattle.halfbrown.specs.EntryView.{entry_pair, FindsEntry, FindsEntryByMatch};
-ghost use Rattle.halfbrown.specs.RawEntry.{map_in, prepared_map, prepared_ref, MakesBuilder, RestsIfUnready, ReadsPair};
+ghost use Rattle.halfbrown.specs.RawEntry.{map_in, prepared_map, prepared_ref, MakesBuilder, RestsIfUnprepared, ReadsPair};
 
 use super::{Prepared, RawEntryBuilder, RawEntryBuilderMut, RawEntryMut, RawVacantEntryMut};
 use crate::{Equivalent, KeyHasher, Limit, LimitedHashMap, OccupiedEntry};
@@ -46,7 +46,7 @@ impl<K: Eq + Hash, V, S: KeyHasher<K>, L: Limit> LimitedHashMap<K, V, S, L> {
     #[inline]
     pub fn raw_entry_mut(&mut self) -> Result<RawEntryBuilderMut<'_, K, V, S, L>, Refusal>
         ensures* unchanged { sem 𝓛
-            (RestsIfUnready K.row V.row S.row L.row S.Hasher.row self.entry result) }
+            (RestsIfUnprepared K.row V.row S.row L.row S.Hasher.row self.entry result) }
         ensures makes { MakesBuilder L.LIMIT K.eq self.entry result }
     {
         uncounted!(self.raw_entry_mut_counted())
@@ -59,13 +59,13 @@ impl<K: Eq + Hash, V, S: KeyHasher<K>, L: Limit> LimitedHashMap<K, V, S, L> {
         tally: &mut Tally,
     ) -> Result<RawEntryBuilderMut<'_, K, V, S, L>, Refusal>
         ensures* unchanged { sem 𝓛
-            (RestsIfUnready K.row V.row S.row L.row S.Hasher.row self.entry result) }
+            (RestsIfUnprepared K.row V.row S.row L.row S.Hasher.row self.entry result) }
         ensures makes { MakesBuilder L.LIMIT K.eq self.entry result }
         ensures cost { tally.new ≡ (if is_ok result
             then asked_more (switch_asked L.LIMIT self.old) tally.old else tally.old) }
     {
         match self.prepare_any(tally) {
-            Ok(()) => Ok(RawEntryBuilderMut::Ready(Prepared { map: self })),
+            Ok(()) => Ok(RawEntryBuilderMut::Prepared(Prepared { map: self })),
             Err(why) => Err(why),
         }
     }
@@ -207,13 +207,13 @@ impl<'a, K: Eq + Hash, V, S: KeyHasher<K>, L: Limit> RawEntryBuilderMut<'a, K, V
         ensures cost { IsLookupCost S.KeyHasher Q.hash_input Q.equivalent key (prepared_map self.entry)
             tally.old tally.new }
     {
-        let RawEntryBuilderMut::Ready(ready) = self;
-        match ready.map.find(key, tally) {
+        let RawEntryBuilderMut::Prepared(prepared) = self;
+        match prepared.map.find(key, tally) {
             Ok(index) => RawEntryMut::Occupied(OccupiedEntry {
-                map: ready.map,
+                map: prepared.map,
                 index,
             }),
-            Err(_) => RawEntryMut::Vacant(RawVacantEntryMut { map: ready.map }),
+            Err(_) => RawEntryMut::Vacant(RawVacantEntryMut { map: prepared.map }),
         }
     }
 
@@ -251,13 +251,13 @@ impl<'a, K: Eq + Hash, V, S: KeyHasher<K>, L: Limit> RawEntryBuilderMut<'a, K, V
         ensures cost { IsHashedLookupCost S.KeyHasher Q.hash_input Q.equivalent key (prepared_map self.entry)
             tally.old tally.new }
     {
-        let RawEntryBuilderMut::Ready(ready) = self;
-        match ready.map.find_hashed(hash, key, tally) {
+        let RawEntryBuilderMut::Prepared(prepared) = self;
+        match prepared.map.find_hashed(hash, key, tally) {
             Ok(index) => RawEntryMut::Occupied(OccupiedEntry {
-                map: ready.map,
+                map: prepared.map,
                 index,
             }),
-            Err(_) => RawEntryMut::Vacant(RawVacantEntryMut { map: ready.map }),
+            Err(_) => RawEntryMut::Vacant(RawVacantEntryMut { map: prepared.map }),
         }
     }
 
@@ -295,13 +295,13 @@ impl<'a, K: Eq + Hash, V, S: KeyHasher<K>, L: Limit> RawEntryBuilderMut<'a, K, V
         ensures cost { IsMatchCost S.hash hash (prepared_map self.entry)
             (entry_pair (raw_view result)) tally.old tally.new }
     {
-        let RawEntryBuilderMut::Ready(ready) = self;
-        match ready.map.find_match(hash, &is_match, tally) {
+        let RawEntryBuilderMut::Prepared(prepared) = self;
+        match prepared.map.find_match(hash, &is_match, tally) {
             Ok(index) => RawEntryMut::Occupied(OccupiedEntry {
-                map: ready.map,
+                map: prepared.map,
                 index,
             }),
-            Err(_) => RawEntryMut::Vacant(RawVacantEntryMut { map: ready.map }),
+            Err(_) => RawEntryMut::Vacant(RawVacantEntryMut { map: prepared.map }),
         }
     }
 }

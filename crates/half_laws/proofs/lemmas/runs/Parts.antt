@@ -2,7 +2,7 @@
 use Rattle.std.proofs.Common.{◌≡◌, ◌∙◌, ℕ, Bool, List, [], ◌∷◌, ◌++◌, ap, refl, sym, subst}
 use Rattle.std.proofs.lemmas.List.{map-append}
 use Rattle.halfbrown.specs.declared.run.Command.{Command}
-use Rattle.halfbrown.specs.Costs.{add_costs}
+use Rattle.halfbrown.specs.CostRanges.{add_costs}
 use Rattle.halfbrown.specs.Run.{StepsLead, commands_of, replies_of, cost_of, Step}
 use Rattle.halfbrown.specs.State.{State}
 use Rattle.halfbrown.proofs.lemmas.run.Runs.{lead_on, cost_of-append}

@@ -1,20 +1,9 @@
 -- `Store` as a type that may contain the type that contains it, by its values.
 use Rattle.std.specs.Prelude.{◌≡◌, ℕ, Bool, List, Option, None, Some}
 use Rattle.std.specs.Global.{Box}
-use Rattle.std.specs.Map.{values_of}
-use Rattle.std_collections.specs.Layout.Former.{entry, on_value, entries_puts, entries_recoded, values_listed}
-use mathlib.Core.Former.{Former, children, const, list, pair, this, via}
-use mathlib.Core.Path.{refl, sym, ap, ◌∙◌}
-use native.Mathlib.Nat.{ℕ_set}
-use lib.ListN.{length-map}
-use base.Stored.{gcons, coded×, coded_ℕ, coded_bool, coded_list}
-use denote.RattleType.{RattleType}
-use denote.Hole.Carrier.{listed}
-use denote.Hole.Fix.{over}
-use denote.HoleLaws.{Alike}
-use denote.HolePlaces.{Recodes, struct_places, laid}
-use denote.Model.Placed.{held, view_places}
-use denote.Param.Weighed.{Weighed, most}
+use Rattle.half_store.specs.FormerNames.{values_of, entry, on_value, entries_puts, entries_recoded, values_listed, Former, children, const, list, pair, this}
+use Rattle.half_store.specs.FormerNames.{via, refl, sym, ap, ◌∙◌, ℕ_set, length-map, gcons, coded×, coded_ℕ, coded_bool, coded_list, RattleType, listed, over}
+use Rattle.half_store.specs.FormerNames.{Alike, Recodes, struct_places, laid, held, view_places, Weighed, most}
 use Rattle.half_store.specs.Columns.{ColumnsState, no_pairs}
 use Rattle.half_store.specs.Store.{StoreState, IsStore, store_of, vector_of}
 use Rattle.half_store.specs.Table.{TableState, Contents, contents_code}

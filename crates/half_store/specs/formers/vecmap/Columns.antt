@@ -1,26 +1,15 @@
 -- `Columns` as a type that may contain the type that contains it, by its values.
 use Rattle.std.specs.Prelude.{◌≡◌, ℕ, List, [], ◌∷◌, length, map, vec_capacity}
 use Rattle.std.specs.List.{zip}
-use Rattle.std.specs.Map.{values_of}
+use Rattle.half_store.specs.FormerNames.{values_of, entry, on_value, entries_puts, entries_recoded, values_listed, Former, children, const, list, one_more}
+use Rattle.half_store.specs.FormerNames.{pair, this, via, refl, sym, ap, ◌∙◌, ℕ_set, length-map, gcons, coded_ℕ, RattleType, listed, over, Alike, Recodes}
+use Rattle.half_store.specs.FormerNames.{struct_places, laid, held, view_places_where, Weighed, most}
 use Rattle.std.specs.declared.alloc.Global.{Global}
 use Rattle.std.specs.declared.vec.Vec.{Vec}
 use Rattle.std.specs.contracts.alloc.Global as heap
 use Rattle.std.specs.contracts.impls.GlobalAllocator.TheImpl.{ghosts}
 use Rattle.std.specs.formers.vec.Vec as vec
-use Rattle.std_collections.specs.Layout.Former.{entry, on_value, entries_puts, entries_recoded, values_listed}
-use mathlib.Core.Former.{Former, children, const, list, one_more, pair, this, via}
-use mathlib.Core.Path.{refl, sym, ap, ◌∙◌}
-use native.Mathlib.Nat.{ℕ_set}
 use native.Mathlib.Omega.{arith}
-use lib.ListN.{length-map}
-use base.Stored.{gcons, coded_ℕ}
-use denote.RattleType.{RattleType}
-use denote.Hole.Carrier.{listed}
-use denote.Hole.Fix.{over}
-use denote.HoleLaws.{Alike}
-use denote.HolePlaces.{Recodes, struct_places, laid}
-use denote.Model.Placed.{held, view_places_where}
-use denote.Param.Weighed.{Weighed, most}
 use Rattle.half_store.specs.Columns.{ColumnsState, AreEven, no_pairs}
 use Rattle.half_store.specs.declared.vecmap.Columns.TheInside.{Inside}
 use Rattle.half_store.specs.declared.vecmap.Columns.TheView.{view, invariant}

@@ -8,7 +8,7 @@ use Rattle.std.proofs.lemmas.Map.Entries.{length-values_of}
 use Rattle.std.specs.Borrow.{MutBor}
 use Rattle.std.specs.Coded.{le_prop}
 use Rattle.halfbrown.specs.declared.entry.OccupiedEntry.{OccupiedEntry}
-use Rattle.halfbrown.specs.EntryView.{EntryView, pairs_with, with_value}
+use Rattle.halfbrown.specs.EntryView.{EntryView, pairs_with_value, with_value}
 use Rattle.halfbrown.specs.EntryView.{IsEntryOf, PutsThroughEntry, IsRawEntryOf, ModifiesEntry, HasNewKey}
 use Rattle.halfbrown.proofs.callers.Pairs.{has_put, has_removed_by}
 use Rattle.half_store.proofs.lemmas.store.States.{length-set_key_at, kept_value, lost_pair}
@@ -20,10 +20,7 @@ use Rattle.halfbrown.proofs.lemmas.pairs.Changes.{value-set_value_at, swap_remov
 use Rattle.halfbrown.proofs.lemmas.pairs.Changes.{length-swap_remove_at}
 use Rattle.half_store.specs.ValueReplacement.{kept_index, kept_pairs, ReplacesValue}
 use Rattle.halfbrown.specs.Replacement.{ReplacesEntry, HasNewValue, IsVacated}
-use Rattle.std.specs.declared.cmp.PartialEq as eq
-use Rattle.std.specs.declared.hash.Hash as hash
-use Rattle.halfbrown.specs.declared.key_hasher.KeyHasher as hashers
-use Rattle.halfbrown.specs.declared.limit.Limit as limits
+use Rattle.halfbrown.specs.Ghosts.{EqGhosts, HashGhosts, HasherGhosts, LimitGhosts}
 
 module _ {K V S : Type 0} (same : K → K → Bool) (laws : IsEquivalence same) (m : MutBor (State K V S)) (distinct : IsDistinct same (keys_of m.now.pairs)) where
   module _ (test : K → Bool) (one_class : (k other : K) → test k ≡ true → test other ≡ same k other) where
@@ -92,7 +89,7 @@ module _ {K V S : Type 0} (limit : ℕ) (same : K → K → Bool) (laws : IsEqui
       put = λ v. grind (arith, common_steps, absent.put_is k v, has_put same laws old.pairs k v);
     }
 
-module _ {K V S L H : Type 0} {e : eq.Ghosts K} {h : hash.Ghosts K} {b : hashers.Ghosts S K H} {l : limits.Ghosts L}
+module _ {K V S L H : Type 0} {e : EqGhosts K} {h : HashGhosts K} {b : HasherGhosts S K H} {l : LimitGhosts L}
     (o : OccupiedEntry K V S L H e h b l) where
   -- the entry with this value, however it was shown that its index is within
   pub lent_entry : (value : V) (within : o.index < length (set_value_at o.map.now.pairs o.index value))
@@ -126,12 +123,12 @@ module _ {K V S L H : Type 0} {e : eq.Ghosts K} {h : hash.Ghosts K} {b : hashers
   held_value none = some_is_not_none (values_of o.map.now.pairs) o.index (omega (arith, length-values_of o.map.now.pairs, o.within)) none
 
   -- of the map with this value only the pairs are new
-  pub held_with_pairs : (key : K) (value : V) → WithPairs o.map.now (pairs_with (occupied o) key value) (with_value (occupied o) value)
+  pub held_with_pairs : (key : K) (value : V) → WithPairs o.map.now (pairs_with_value (occupied o) key value) (with_value (occupied o) value)
   unfolding with_value
   held_with_pairs key value = record { pairs = refl; form = refl; capacity = refl; builder = refl }
 
   -- a value that is written again
-  held_twice : (key : K) (value again : V) → pairs_with (occupied (with_entry_value o value)) key again ≡ pairs_with (occupied o) key again
+  held_twice : (key : K) (value again : V) → pairs_with_value (occupied (with_entry_value o value)) key again ≡ pairs_with_value (occupied o) key again
   unfolding with_value
   held_twice key value again = set_value_at-twice o.map.now.pairs o.index value again
 
@@ -146,7 +143,7 @@ module _ {K V S L H : Type 0} {e : eq.Ghosts K} {h : hash.Ghosts K} {b : hashers
         value = at modifies holds;
         found = refl;
         occupied = at (λ v. IfSome v (λ value. with_value (occupied o) left ≡ with_value (occupied o) value)) refl;
-        pairs = λ key. at (λ v. IfSome v (λ value. WithPairs o.map.now (pairs_with (occupied o) key value) (with_value (occupied o) left)))
+        pairs = λ key. at (λ v. IfSome v (λ value. WithPairs o.map.now (pairs_with_value (occupied o) key value) (with_value (occupied o) left)))
             (held_with_pairs key left);
         vacant = λ none. absurd (held_value none);
         key = written.key;
@@ -220,7 +217,7 @@ module _ {K V : Type 0} where
     pub kept_within : j < length qs
     kept_within = kept_there.within
 
-module _ {K V S L H : Type 0} {e : eq.Ghosts K} {h : hash.Ghosts K} {b : hashers.Ghosts S K H} {l : limits.Ghosts L}
+module _ {K V S L H : Type 0} {e : EqGhosts K} {h : HashGhosts K} {b : HasherGhosts S K H} {l : LimitGhosts L}
     {returns : Bor K → V → Option V → Type 0} (o : OccupiedEntry K V S L H e h b l) where
   replaced_entry : {ps : List (K × V)} {gone : Option K} (r : ReplacesValue returns o.map.now.is_vec o.map.now.pairs o.index ps gone)
       (result : EntryView K V S) (answer : Option V) → r.answer ≡ answer

@@ -14,7 +14,8 @@ use Rattle.std.specs.Iterator.{Yields}
 use Rattle.std.specs.Vec.Iter.{into_iter_steps}
 use Rattle.std.specs.declared.vec.IntoIter.{IntoIter}
 use Rattle.half_store.specs.declared.refusal.Refusal.{Refusal}
-use Rattle.halfbrown.specs.Costs.{no_cost, insert_cost}
+use Rattle.halfbrown.specs.CostRanges.{no_cost}
+use Rattle.halfbrown.specs.Costs.{insert_cost}
 use Rattle.halfbrown.specs.Growth.{IsRefusal}
 use Rattle.halfbrown.specs.Insertion.{Puts}
 use Rattle.halfbrown.specs.Making.{IsMade}

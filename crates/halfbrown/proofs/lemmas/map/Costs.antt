@@ -4,7 +4,8 @@ use Rattle.halfbrown.proofs.Common.{Work, GrewBy, add_costs, IsSearchCost, is_fu
 use Rattle.std.proofs.Common.{◌==◌, zero-add, add-zero, add_assoc}
 use Rattle.std.proofs.Common.{if◌then◌else◌}
 use Rattle.half_store.specs.Work.{asked_more, looked_more}
-use Rattle.halfbrown.specs.Costs.{Cost, no_cost, IsKeySearchCost, search_asked, switch_asked, capacity_after_switch}
+use Rattle.halfbrown.specs.CostRanges.{Cost, no_cost}
+use Rattle.halfbrown.specs.Costs.{IsKeySearchCost, search_asked, switch_asked, capacity_after_switch}
 use Rattle.halfbrown.specs.Costs.{IsInsertCost, raw_insert_cost, hit_reads}
 use Rattle.halfbrown.specs.Growth.{is_vec_after, new_key_needs}
 use Rattle.halfbrown.specs.Insertion.{second_probe_reads}

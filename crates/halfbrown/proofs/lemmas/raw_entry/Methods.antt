@@ -16,10 +16,7 @@ use Rattle.halfbrown.proofs.lemmas.entry.Methods.{swap_remove_at-last, held_with
 use Rattle.halfbrown.specs.Lookup.{IsMatch, ReadsMatch}
 use Rattle.halfbrown.proofs.callers.Pairs.{has_put}
 use Rattle.halfbrown.proofs.lemmas.pairs.Indices.{index_of_pair, absent_of_unheld, some_is_not_none}
-use Rattle.std.specs.declared.cmp.PartialEq as eq
-use Rattle.std.specs.declared.hash.Hash as hash
-use Rattle.halfbrown.specs.declared.key_hasher.KeyHasher as hashers
-use Rattle.halfbrown.specs.declared.limit.Limit as limits
+use Rattle.halfbrown.specs.Ghosts.{EqGhosts, HashGhosts, HasherGhosts, LimitGhosts}
 
 -- the key and the value of a pair that is lent are those of its entry
 pub lent_key : {K V : Type 0} (ps : List (K × V)) (i : ℕ) (k key : K) (v : V) → slice_get ps i ≡ Some (k, v)
@@ -63,7 +60,7 @@ module _ {K V : Type 0} where
       → slice_get (values_of ps) i ≡ Some v → P (k, v) → IfSome (slice_get ps i) P
   pair_is P ps i k v key value holds = grind (arith, common_steps, slice_get_cases, key_of-pair ps i, value_of-pair ps i)
 
-module _ {K V S L H : Type 0} {e : eq.Ghosts K} {h : hash.Ghosts K} {b : hashers.Ghosts S K H} {l : limits.Ghosts L}
+module _ {K V S L H : Type 0} {e : EqGhosts K} {h : HashGhosts K} {b : HasherGhosts S K H} {l : LimitGhosts L}
     (limit : ℕ) (same : K → K → Bool) where
   module _ (o : OccupiedEntry K V S L H e h b l) where
     -- the pair has a key
@@ -102,14 +99,14 @@ module _ {K V S L H : Type 0} {e : eq.Ghosts K} {h : hash.Ghosts K} {b : hashers
     held_puts_pair valid = pair_there _ o.map.now.pairs o.index (λ pair held.
         subst (λ value. PutsEntry limit same (occupied o) pair.0 value (occupied o)) held (held_puts pair.0 pair.1 valid))
 
-module _ {K V S : Type 0} (limit : ℕ) (same : K → K → Bool) (ready map : MutBor (State K V S)) (key : K) (value : V) (index : ℕ)
-    (same_map : map.ghost_name ≡ ready.ghost_name) (last : index ≡ length ready.now.pairs)
-    (after : WithPairs ready.now (ready.now.pairs ++ (key, value) ∷ []) map.now) (valid : IsValid same limit map.now) where
+module _ {K V S : Type 0} (limit : ℕ) (same : K → K → Bool) (prepared map : MutBor (State K V S)) (key : K) (value : V) (index : ℕ)
+    (same_map : map.ghost_name ≡ prepared.ghost_name) (last : index ≡ length prepared.now.pairs)
+    (after : WithPairs prepared.now (prepared.now.pairs ++ (key, value) ∷ []) map.now) (valid : IsValid same limit map.now) where
   -- the pair that is appended is the one that is put
-  added_puts : PutsEntry limit same (record { map = ready; index = None; vacant = None }) key value (record { map = map; index = Some index; vacant = None })
+  added_puts : PutsEntry limit same (record { map = prepared; index = None; vacant = None }) key value (record { map = map; index = Some index; vacant = None })
   unfolding with_value
   added_puts =
-      let ps = ready.now.pairs in
+      let ps = prepared.now.pairs in
       record {
         same_map = same_map;
         map = after;
@@ -126,20 +123,20 @@ module _ {K V S : Type 0} (limit : ℕ) (same : K → K → Bool) (ready map : M
       }
 
   -- where the key was not held its pair is put
-  pub adds_pair : IsEquivalence same → holds same ready.now.pairs key ≡ false
-      → AddsEntry limit same (record { map = ready; index = None; vacant = None }) key value (record { map = map; index = Some index; vacant = None })
+  pub adds_pair : IsEquivalence same → holds same prepared.now.pairs key ≡ false
+      → AddsEntry limit same (record { map = prepared; index = None; vacant = None }) key value (record { map = map; index = Some index; vacant = None })
   adds_pair laws unheld =
-      let absent = absent_of_unheld (same key) ready.now.pairs unheld in
+      let absent = absent_of_unheld (same key) prepared.now.pairs unheld in
       record {
         puts = added_puts;
-        put = subst (HasPut same ready.now.pairs key value) (absent.put_is key value ∙ sym added_puts.map.pairs)
-            (has_put same laws ready.now.pairs key value);
-        written = λ v. subst (HasPut same ready.now.pairs key v) (absent.put_is key v ∙ sym (added_puts.writes v).pairs)
-            (has_put same laws ready.now.pairs key v);
+        put = subst (HasPut same prepared.now.pairs key value) (absent.put_is key value ∙ sym added_puts.map.pairs)
+            (has_put same laws prepared.now.pairs key value);
+        written = λ v. subst (HasPut same prepared.now.pairs key v) (absent.put_is key v ∙ sym (added_puts.writes v).pairs)
+            (has_put same laws prepared.now.pairs key v);
       }
 
 -- the key and the value that are held once a pair is added where none was found
-pub found_or : {K V S L H : Type 0} {e : eq.Ghosts K} {h : hash.Ghosts K} {b : hashers.Ghosts S K H} {l : limits.Ghosts L}
+pub found_or : {K V S L H : Type 0} {e : EqGhosts K} {h : HashGhosts K} {b : HasherGhosts S K H} {l : LimitGhosts L}
     (entry : RawEntryMut K V S L H e h b l) (key : K) (value : V)
     → (unwrap_or (entry_key (raw_view entry)) key, unwrap_or (entry_value (raw_view entry)) value) ≡ unwrap_or (entry_pair (raw_view entry)) (key, value)
 found_or (Occupied o) key value = pair_or o.map.now.pairs o.index key value

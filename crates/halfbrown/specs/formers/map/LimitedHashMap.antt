@@ -1,24 +1,11 @@
 -- `LimitedHashMap` as a type that may contain the type that contains it, by its values.
 use Rattle.std.specs.Prelude.{◌≡◌, ◌≤◌, ℕ, Bool, true, List, [], length, map}
-use Rattle.std.specs.declared.cmp.PartialEq as eq
-use Rattle.std.specs.declared.hash.Hash as hash
-use Rattle.halfbrown.specs.declared.key_hasher.KeyHasher as hashers
+use Rattle.halfbrown.specs.Ghosts.{EqGhosts, HashGhosts, HasherGhosts, LimitGhosts}
 use Rattle.std.specs.List.{IsDistinct, IsDistinct-prop}
-use Rattle.std.specs.Map.{keys_of, values_of}
-use Rattle.half_store.specs.Former.{entry, on_value, entries_puts, entries_recoded, keys_on_values, values_listed}
-use mathlib.Core.Former.{Former, children, const, list, pair, this, via}
-use mathlib.Core.Path.{refl, sym, ap, subst, ◌∙◌}
-use native.Mathlib.Nat.{ℕ_set}
+use Rattle.half_store.specs.FormerNames.{keys_of, values_of, entry, on_value, entries_puts, entries_recoded, keys_on_values, values_listed, Former, children}
+use Rattle.half_store.specs.FormerNames.{const, list, pair, this, via, refl, sym, ap, subst, ◌∙◌, ℕ_set, length-map, gcons, coded×, coded_ℕ, coded_bool}
+use Rattle.half_store.specs.FormerNames.{coded_list, Coded-set, RattleType, listed, over, Alike, Recodes, struct_places, laid, view_places, Weighed, most}
 use native.Mathlib.Bridge.{le_prop}
-use lib.ListN.{length-map}
-use base.Stored.{gcons, coded×, coded_ℕ, coded_bool, coded_list, Coded-set}
-use denote.RattleType.{RattleType}
-use denote.Hole.Carrier.{listed}
-use denote.Hole.Fix.{over}
-use denote.HoleLaws.{Alike}
-use denote.HolePlaces.{Recodes, struct_places, laid}
-use denote.Model.Placed.{view_places}
-use denote.Param.Weighed.{Weighed, most}
 use Rattle.half_store.specs.Store.{StoreState}
 use Rattle.half_store.specs.Table.{Contents, contents_code, no_contents}
 use Rattle.half_store.specs.formers.store.Store as store
@@ -26,7 +13,6 @@ use Rattle.half_store.specs.HashMapFormer.{entries_eq-map}
 use Rattle.halfbrown.specs.Equality.{same_pairs}
 use Rattle.halfbrown.specs.Layout.{IsMapInvariant}
 use Rattle.halfbrown.specs.State.{State, make_state, contents_of}
-use Rattle.halfbrown.specs.declared.limit.Limit as limits
 use Rattle.halfbrown.specs.declared.map.LimitedHashMap.TheInside.{Inside}
 use Rattle.halfbrown.specs.declared.map.LimitedHashMap.TheView.{view, invariant}
 use Rattle.halfbrown.specs.contracts.map.LimitedHashMap as C
@@ -89,8 +75,8 @@ module _ {K X : Type 0} (same : K → K → Bool) (hashed : K → ℕ) (limit : 
       exceeds = p.exceeds;
     }
 
-module _ (K S L T : RattleType) (G : eq.Ghosts K.Denot) (H : hash.Ghosts K.Denot) (B : hashers.Ghosts S.Denot K.Denot T.Denot)
-    (Z : limits.Ghosts L.Denot) (R R' : RattleType) (h : R.Denot → R'.Denot) where
+module _ (K S L T : RattleType) (G : EqGhosts K.Denot) (H : HashGhosts K.Denot) (B : HasherGhosts S.Denot K.Denot T.Denot)
+    (Z : LimitGhosts L.Denot) (R R' : RattleType) (h : R.Denot → R'.Denot) where
   abbrev former : Former {0}
   former = the_former this K.Denot S.Denot L.Denot T.Denot
 
@@ -115,8 +101,8 @@ module _ (K S L T : RattleType) (G : eq.Ghosts K.Denot) (H : hash.Ghosts K.Denot
 
 pub ruleset naturals = (entries_eq-map, refl)
 
-pub the_eq_natural : (K S L T X Y : Type 0) (h : X → Y) (G : eq.Ghosts K) (H : hash.Ghosts K) (V : eq.Ghosts Y) (B : hashers.Ghosts S K T)
-    (Z : limits.Ghosts L) (m n : State K X S)
+pub the_eq_natural : (K S L T X Y : Type 0) (h : X → Y) (G : EqGhosts K) (H : HashGhosts K) (V : EqGhosts Y) (B : HasherGhosts S K T)
+    (Z : LimitGhosts L) (m n : State K X S)
     → same_pairs G.eq V.eq ((the_former this K S L T).map X Y h m).pairs ((the_former this K S L T).map X Y h n).pairs
     ≡ same_pairs G.eq (λ a b. V.eq (h a) (h b)) m.pairs n.pairs
 the_eq_natural K S L T X Y h G H V B Z m n = entries_eq-map G.eq (λ p q. V.eq p.1 q.1) (on_value h) m.pairs n.pairs (λ p. refl)

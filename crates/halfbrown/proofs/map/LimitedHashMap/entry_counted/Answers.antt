@@ -12,7 +12,7 @@ returns-in-Ok-Held g c =
     let key = c.args.key in
     let prepares = c.in-Ok-Held.ensures.prepares in
     let at = subst (IsPreparedFor same g.S.KeyHasher.hash c.prepare.new.self key)
-    c.in-Ok-Held.field-0-is c.in-Ok-Held.ensures.ready in (
+    c.in-Ok-Held.field-0-is c.in-Ok-Held.ensures.place in (
       (refl, λ n. refl, tt),
       record {
         unchanged = tt;
@@ -37,17 +37,17 @@ returns-in-Ok-Vacant g c =
     let old = c.args.self.now in
     let key = c.args.key in
     let prepares = c.in-Ok-Vacant.ensures.prepares in
-    let ready = subst (IsPreparedFor same g.S.KeyHasher.hash c.prepare.new.self key)
-    c.in-Ok-Vacant.field-0-is c.in-Ok-Vacant.ensures.ready in (
+    let place = subst (IsPreparedFor same g.S.KeyHasher.hash c.prepare.new.self key)
+    c.in-Ok-Vacant.field-0-is c.in-Ok-Vacant.ensures.place in (
       (refl, λ n. refl, tt),
       record {
         unchanged = tt;
         makes = record {
           same_map = refl;
           ok = prepares.ok;
-          entry = missing_key limit same laws old key _ prepares.ok prepares.valid.distinct _ ready.absent;
+          entry = missing_key limit same laws old key _ prepares.ok prepares.valid.distinct _ place.absent;
           new_key = λ vacant. refl;
-          writes = missing_writes limit same laws old key _ prepares.ok prepares.valid.distinct _ ready.absent;
+          writes = missing_writes limit same laws old key _ prepares.ok prepares.valid.distinct _ place.absent;
           returned = tt;
           valid = prepares.valid;
         };

@@ -11,11 +11,11 @@ returns-in-Ok-Held-clause-inserts g c =
     let key = c.args.key in
     let middle = c.prepare.new.self in
     let found = c.in-Ok-Held.ensures in
-    let ready = subst (IsPreparedFor eq g.S.KeyHasher.hash middle key) c.in-Ok-Held.field-0-is found.ready in
+    let place = subst (IsPreparedFor eq g.S.KeyHasher.hash middle key) c.in-Ok-Held.field-0-is found.place in
     inserted_at g.L.Limit.LIMIT eq g.met.K.Eq.laws c.args.self.now middle c.set_at.new.self key c.args.value _
-    c.set_at.ensures.after (ready.put_is key c.args.value)
-    found.prepares.ok c.in-Ok-Held.index (Some c.set_at.result) (sym c.set_at.ensures.old ∙ sym ready.value)
-    (ap (index_of (eq key)) (keys_of-set_value_at middle.pairs c.in-Ok-Held.index c.args.value) ∙ ready.index_is) c.set_at.ensures.valid
+    c.set_at.ensures.after (place.put_is key c.args.value)
+    found.prepares.ok c.in-Ok-Held.index (Some c.set_at.result) (sym c.set_at.ensures.old ∙ sym place.value)
+    (ap (index_of (eq key)) (keys_of-set_value_at middle.pairs c.in-Ok-Held.index c.args.value) ∙ place.index_is) c.set_at.ensures.valid
 
 pub returns-in-Ok-Vacant-clause-inserts : goal.returns-in-Ok-Vacant-clause-inserts
 returns-in-Ok-Vacant-clause-inserts g c =
@@ -23,9 +23,9 @@ returns-in-Ok-Vacant-clause-inserts g c =
     let key = c.args.key in
     let middle = c.prepare.new.self in
     let missing = c.in-Ok-Vacant.ensures in
-    let ready = subst (IsPreparedFor eq g.S.KeyHasher.hash middle key) c.in-Ok-Vacant.field-0-is missing.ready in
+    let place = subst (IsPreparedFor eq g.S.KeyHasher.hash middle key) c.in-Ok-Vacant.field-0-is missing.place in
     inserted_at g.L.Limit.LIMIT eq g.met.K.Eq.laws c.args.self.now middle c.push.new.self key c.args.value _ c.push.ensures.after
-    (ready.absent.put_is key c.args.value)
-    missing.prepares.ok c.len-index.result None (sym ready.absent.value)
-    (index_of-added (eq key) middle.pairs key c.args.value ready.absent.index (g.met.K.Eq.laws.refl key) ∙ ap (λ n. Some n) (sym c.len-index.ensures.len))
+    (place.absent.put_is key c.args.value)
+    missing.prepares.ok c.len-index.result None (sym place.absent.value)
+    (index_of-added (eq key) middle.pairs key c.args.value place.absent.index (g.met.K.Eq.laws.refl key) ∙ ap (λ n. Some n) (sym c.len-index.ensures.len))
     c.push.ensures.valid

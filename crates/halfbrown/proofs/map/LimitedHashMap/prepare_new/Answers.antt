@@ -4,8 +4,8 @@ use Rattle.halfbrown.proofs.lemmas.pairs.Indices.{absent_of_unheld}
 use Rattle.halfbrown.proofs.lemmas.map.Find.{vacancy_for}
 use Rattle.halfbrown.proofs.map.LimitedHashMap.prepare_new.Goals as goal
 
-pub returns-clause-ready : goal.returns-clause-ready
-returns-clause-ready g c =
+pub returns-clause-vacancy : goal.returns-clause-vacancy
+returns-clause-vacancy g c =
     let eq = g.K.PartialEq.eq in
     let key = c.args.key.now in
     let hash = g.S.KeyHasher.hash in

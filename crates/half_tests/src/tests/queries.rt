@@ -10,30 +10,30 @@ use std::rc::RcStr;
 use std::test::Fail;
 use test_support::asserts::{assert_same_at, assert_true};
 
-// The form stands for the second of the two keys, in both forms of the map.
+// The query stands for the second of the two keys, in both forms of the map.
 fn assert_found<K: Eq + Hash + Debug + Drop, Q: Equivalent<K>>(
     alloc: Global,
     keys: [(K, K); 2],
-    form: Q,
+    query: Q,
 ) -> Result<(), Fail> {
     let [in_vector, in_table] = keys;
-    assert_found_at::<K, Q, 32>(alloc, in_vector, form)?;
-    assert_found_at::<K, Q, 0>(alloc, in_table, form)
+    assert_found_at::<K, Q, 32>(alloc, in_vector, query)?;
+    assert_found_at::<K, Q, 0>(alloc, in_table, query)
 }
 
 fn assert_found_at<K: Eq + Hash + Debug + Drop, Q: Equivalent<K>, const N: usize>(
     alloc: Global,
     keys: (K, K),
-    form: Q,
+    query: Q,
 ) -> Result<(), Fail> {
     let mut map = SizedHashMap::<K, u64, _, N>::new(alloc);
     map.insert(keys.0, 1)?;
     map.insert(keys.1, 2)?;
-    assert_same_at(N, map.get(form).copied(), Some(2), "get")?;
-    let value = if map.contains_key(form) { map[form] } else { 0 };
+    assert_same_at(N, map.get(query).copied(), Some(2), "get")?;
+    let value = if map.contains_key(query) { map[query] } else { 0 };
     assert_same_at(N, value, 2, "the index")?;
-    assert_same_at(N, map.remove(form), Some(2), "remove")?;
-    assert_true(map.get_key_value(form).is_none(), "it is gone")
+    assert_same_at(N, map.remove(query), Some(2), "remove")?;
+    assert_true(map.get_key_value(query).is_none(), "it is gone")
 }
 
 #[test]
