@@ -38,9 +38,13 @@ capacity_for pairs = capacity_of (buckets_for pairs)
 abbrev pub least_capacity : Bool → ℕ → ℕ
 least_capacity is_vec pairs = if is_vec then pairs else capacity_for pairs
 
+-- whether the form is the vector where a map is made for this many pairs: the limit allows them
+abbrev pub is_vec_for : ℕ → ℕ → Bool
+is_vec_for limit pairs = nat_le pairs limit
+
 -- whether the form is the vector after `shrink_to_fit`: it was one, or the limit allows the pairs. This is the one call that goes back
 abbrev pub vec_shrunk : ℕ → Bool → ℕ → Bool
-vec_shrunk limit is_vec pairs = is_vec || nat_le pairs limit
+vec_shrunk limit is_vec pairs = is_vec || is_vec_for limit pairs
 
 -- the capacity after `shrink_to_fit`
 abbrev pub shrunk_capacity : ℕ → Bool → ℕ → ℕ

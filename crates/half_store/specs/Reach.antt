@@ -24,19 +24,19 @@ module _ (hashes : List ℕ) (buckets : ℕ) where
   abbrev pub IsLoaded : ℕ → Type 0
   IsLoaded last = (size : ℕ) × (1 ≤ size) × (size < buckets) × (size ≤ load last size)
 
-  -- whether a stretch of 1 to `most` buckets that ends with bucket `last` is home to at least as many hashes
+  -- whether a stretch of 1 to `longest` buckets that ends with bucket `last` is home to at least as many hashes
   unfoldable pub loaded_within : ℕ → ℕ → Bool
   loaded_within last zero = false
-  loaded_within last (suc most) = nat_le (suc most) (load last (suc most)) || loaded_within last most
+  loaded_within last (suc longest) = nat_le (suc longest) (load last (suc longest)) || loaded_within last longest
 
   -- whether `IsLoaded` holds, computed
   abbrev pub bucket_is_loaded : ℕ → Bool
   bucket_is_loaded last = loaded_within last (buckets - 1)
 
-  -- how many loaded buckets follow one another from this bucket on, at most `most`
+  -- how many loaded buckets follow one another from this bucket on, at most `longest`
   unfoldable pub loaded_run : ℕ → ℕ → ℕ
   loaded_run zero bucket = 0
-  loaded_run (suc most) bucket = if bucket_is_loaded bucket then suc (loaded_run most (bucket_after buckets bucket 1)) else 0
+  loaded_run (suc longest) bucket = if bucket_is_loaded bucket then suc (loaded_run longest (bucket_after buckets bucket 1)) else 0
 
   -- the length of an unsuccessful probe for this hash: the loaded buckets from its home bucket on, and one more
   unfoldable pub reach : ℕ → ℕ

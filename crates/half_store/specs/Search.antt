@@ -49,8 +49,8 @@ StoreSearch returns hash s =
 -- at most all; key by key it compared no more than it had to
 pub record ComparesInOrder (scan : Scan) (found : Option ℕ) (len : ℕ) (before after : Work) : Type 0 where
   pub asked : after.asked ≡ before.asked
-  pub least : before.compared + first_match_cost found len ≤ after.compared
-  pub most : after.compared ≤ before.compared + len
+  pub at_least : before.compared + first_match_cost found len ≤ after.compared
+  pub at_most : after.compared ≤ before.compared + len
   pub by_key : scan ≡ ByKey → after.compared ≡ before.compared + first_match_cost found len
   pub looked : after.looked ≡ before.looked
 

@@ -1,12 +1,12 @@
 -- What contracts see of a store.
-use Rattle.std.specs.Prelude.{◌≡◌, ℕ, ◌+◌, ◌^◌, ◌<◌, ◌≤◌, Bool, true, false, List, [], ◌∷◌, ◌++◌, length, min, max, nat_le, Option, None, Some, if◌then◌else◌}
+use Rattle.std.specs.Prelude.{◌≡◌, ℕ, ◌+◌, ◌^◌, ◌<◌, ◌≤◌, Bool, true, false, List, [], ◌∷◌, ◌++◌, length, min, max, Option, None, Some, if◌then◌else◌}
 use Rattle.std.specs.Prelude.{Result, IsOk, OnOk, OnErr, IfOk, IfErr}
 use Rattle.std.specs.List.{AllZip}
 use Rattle.std.specs.declared.alloc.AllocError.{AllocError}
 use Rattle.std.specs.Global.{Box}
 use Rattle.half_store.specs.declared.store.find.Vacancy.{Vacancy}
 use Rattle.half_store.specs.declared.refusal.Refusal.{Refusal}
-use Rattle.half_store.specs.Capacity.{capacity_of, capacity_for, generous_capacity, least_capacity, vec_shrunk, shrunk_capacity}
+use Rattle.half_store.specs.Capacity.{capacity_of, capacity_for, generous_capacity, least_capacity, is_vec_for, vec_shrunk, shrunk_capacity}
 use Rattle.half_store.specs.Refusal.{refusal_of}
 use Rattle.half_store.specs.Columns.{ColumnsState}
 use Rattle.half_store.specs.Table.{TableState, Contents, table_contents, no_contents, contents_code, with_hash_in, IsTableVacancy}
@@ -77,7 +77,7 @@ module _ {K V : Type 0} (limit : ℕ) where
 module _ {K V : Type 0} (limit needed : ℕ) where
   -- a store with no pairs and the least capacity of its form for this many: a vector where the limit allows them, else a table
   pub record IsMadeFor (s : StoreState K V) : Type 0 where
-    pub form : s.is_vec ≡ nat_le needed limit
+    pub form : s.is_vec ≡ is_vec_for limit needed
     pub pairs : s.pairs ≡ []
     pub hashes : s.hashes ≡ []
     pub capacity : s.capacity ≡ least_capacity s.is_vec needed

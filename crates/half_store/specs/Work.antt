@@ -30,10 +30,10 @@ abbrev pub looked_more : ℕ → Work → Work
 looked_more n w = record w { looked = w.looked + n }
 
 -- at most this many more buckets were read, and nothing else was done
-pub record ReadsWithin (most : ℕ) (old new : Work) : Type 0 where
+pub record ReadsWithin (reads : ℕ) (old new : Work) : Type 0 where
   pub asked : new.asked ≡ old.asked
   pub compared : new.compared ≡ old.compared
-  pub looked : new.looked ≤ old.looked + most
+  pub looked : new.looked ≤ old.looked + reads
 
 -- how many of the hashes are this one
 abbrev pub hash_count : List ℕ → ℕ → ℕ

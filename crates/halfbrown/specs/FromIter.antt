@@ -1,10 +1,11 @@
 -- What becomes of items that are collected into a map.
-use Rattle.std.specs.Prelude.{◌≡◌, ℕ, nat_le, Bool, true, false, List, [], ◌∷◌, ◌++◌, ◌⊎◌, Option, reverse}
+use Rattle.std.specs.Prelude.{◌≡◌, ℕ, Bool, true, false, List, [], ◌∷◌, ◌++◌, ◌⊎◌, Option, reverse}
 use Rattle.std.specs.Iterator.{Count, Yields, Drains}
 use Rattle.std.specs.Iterator.SizeHint.{IsWithinCount}
 use Rattle.std.specs.Map.{keys_of}
 use Rattle.std.specs.Option.{option_or}
 use mathlib.Core.Logic.{inl, inr}
+use Rattle.half_store.specs.Capacity.{is_vec_for}
 use Rattle.half_store.specs.declared.refusal.Refusal.{Refusal}
 use Rattle.halfbrown.specs.CostRanges.{Cost, no_cost, add_costs}
 use Rattle.halfbrown.specs.Costs.{insert_cost}
@@ -69,13 +70,13 @@ module _ {K V S : Type 0} (limit : ℕ) (eq : K → K → Bool) where
       pub values : (k : K) → value_of eq m.pairs k ≡ last_value_of eq items k
       pub builder : is_default m.builder
       pub made : State K V S
-      pub is_made : IsMade is_default (nat_le needed limit) needed made
+      pub is_made : IsMade is_default (is_vec_for limit needed) needed made
       pub inserted : InsertsAll made items m
 
     -- a map was made with capacity for this many pairs, and then the insertion of an item was refused
     pub record RefusedItem (given : List (K × V) → Type 0) (why : Refusal) : Type 0 where
       pub made : State K V S
-      pub is_made : IsMade is_default (nat_le needed limit) needed made
+      pub is_made : IsMade is_default (is_vec_for limit needed) needed made
       pub reached : State K V S
       pub insertion : RefusedInsert given made why reached
 

@@ -1,6 +1,7 @@
 -- What an insertion does or hands back, and the capacity for one pair more that it makes first.
 use Rattle.std.specs.Prelude.{◌≡◌, ℕ, Bool, Option, Some, Result, Ok, Err, OnOk, OnErr, IfOk, IfErr, ◌+◌, ◌<◌, nat_lt, [], ◌∷◌, ◌++◌, length, if◌then◌else◌}
 use Rattle.std.specs.Map.{keys_of}
+use Rattle.std.specs.Result.{result_map_both}
 use Rattle.halfbrown.specs.declared.refused.Refused.{Refused}
 use Rattle.halfbrown.specs.Growth.{is_vec_after, insert_needs, new_key_needs, IsRefusal, IsGrantable, HasCapacityAfter, Grants}
 use Rattle.halfbrown.specs.Pairs.{index_of, put, value_of}
@@ -14,11 +15,6 @@ use Rattle.halfbrown.specs.declared.map.prepare.Place.{Place}
 use Rattle.halfbrown.specs.declared.map.prepare.Place.TheVariants.{Held, Vacant}
 use Rattle.halfbrown.specs.Costs.{probe_length}
 use Rattle.halfbrown.specs.Lookup.{IsIndexOf, IsAbsent}
-
--- the result without the index in it
-abbrev pub without_index : {V E : Type 0} → Result (ℕ × Option V) E → Result (Option V) E
-without_index (Ok inserted) = Ok inserted.1
-without_index (Err why) = Err why
 
 module _ {K V S : Type 0} where
   -- a granted insertion of (k, v) that needed this much capacity: the pair is put, and a full vector has become a table
@@ -48,7 +44,7 @@ module _ {K V S : Type 0} where
     -- an insertion of (k, v) that returns the index of its pair too
     pub record InsertsAt (result : Result (ℕ × Option V) (Refused K V)) (new : State K V S) : Type 0 where
       pub index : IfOk result (λ inserted. index_of (eq k) (keys_of new.pairs) ≡ Some inserted.0)
-      pub inserts : Inserts (without_index result) new
+      pub inserts : Inserts (result_map_both (λ inserted. inserted.1) (λ refused. refused) result) new
 
     -- an insertion of (k, v) without a search for k, which is not held
     pub record InsertsNewKey (result : Result (Unit {0}) (Refused K V)) (new : State K V S) : Type 0 where

@@ -1,5 +1,4 @@
 pub mod CallerLoops
-pub mod Clone
 pub mod CostRanges
 pub mod Costs
 pub mod Drain
@@ -18,7 +17,6 @@ pub mod Making
 pub mod Pairs
 pub mod RawEntry
 pub mod Refusal
-pub mod Removal
 pub mod Replacement
 pub mod Run
 pub mod State

@@ -1,9 +1,11 @@
--- What callers read off a changed list of pairs: which key has which value.
-use Rattle.std.specs.Prelude.{◌≡◌, ℕ, ◌+◌, ◌^◌, ◌<◌, Bool, true, false, List, [], ◌∷◌, ◌++◌, length, Some, None, if◌then◌else◌}
-use Rattle.std.specs.Map.{keys_of, values_of, lookup}
+-- What a put and a removal leave, by what each key has then; and what calls that remove a pair return.
+use Rattle.std.specs.Prelude.{◌≡◌, ℕ, ◌+◌, ◌^◌, ◌<◌, Bool, true, false, List, [], ◌∷◌, ◌++◌, length, Some, None, if◌then◌else◌, Option, IfSome, IfNone, OnSome, slice_get}
+use Rattle.std.specs.Map.{keys_of, values_of, lookup, remove_entry}
 use Rattle.std.specs.Option.{option_map}
-use Rattle.halfbrown.specs.Pairs.{value_of, pair_of, holds, holds_by, set_values}
-use Rattle.halfbrown.specs.State.{State, IsValid, map_with_pairs}
+use Rattle.halfbrown.specs.Pairs.{value_of, pair_of, holds, holds_by, set_values, take_out_by}
+use Rattle.halfbrown.specs.State.{State, IsValid, map_with_pairs, WithPairs}
+use Rattle.half_store.specs.PairLists.{swap_remove_at}
+use Rattle.std.specs.List.{remove}
 
 -- after these values are written into the pairs: there are as many pairs, with the same keys, and where there are as many values as pairs,
 -- these are their values
@@ -61,3 +63,38 @@ module _ {K V : Type 0} (eq : K → K → Bool) where
     pub others : (q : K) → eq k q ≡ false → pair_of eq new q ≡ pair_of eq old q
     pub len : length new ≡ length old
     pub order : values_of new ≡ values_of old
+
+-- a removal of the pair whose key passes the test: it returns `held`, the value or the pair of that key, and the last pair takes the free
+-- index; or no such key is held, and nothing changes
+pub record Removes {K V S R : Type 0} (limit : ℕ) (eq : K → K → Bool) (test : K → Bool) (old : State K V S) (held result : Option R) (new : State K V S) : Type 0 where
+  pub gives : result ≡ held
+  pub after : WithPairs old (take_out_by test old.pairs) new
+  pub removed : HasRemovedBy eq test old.pairs new.pairs
+  pub unchanged : IfNone result (new ≡ old)
+  pub valid : IsValid eq limit new
+
+-- a removal of the pair at this index returns it, and the last pair takes its index: no key equal to its own is held then; or there is
+-- none, and nothing changes
+pub record RemovesAt {K V S : Type 0} (limit : ℕ) (eq : K → K → Bool) (old : State K V S) (index : ℕ) (result : Option (K × V)) (new : State K V S) : Type 0 where
+  pub gives : result ≡ slice_get old.pairs index
+  pub after : OnSome result (WithPairs old (swap_remove_at old.pairs index) new)
+  pub removed : IfSome result (λ pair. HasRemoved eq old.pairs pair.0 new.pairs)
+  pub unchanged : IfNone result (new ≡ old)
+  pub valid : IsValid eq limit new
+
+-- a removal of the pair whose key passes the test returns this of it, and each pair behind it gets the index before its own; or there is
+-- none, and nothing changes
+pub record ShiftRemoves {K V S R : Type 0} (limit : ℕ) (eq : K → K → Bool) (test : K → Bool) (old : State K V S) (held result : Option R) (new : State K V S) : Type 0 where
+  pub gives : result ≡ held
+  pub after : WithPairs old (remove_entry test old.pairs) new
+  pub removed : HasRemovedBy eq test old.pairs new.pairs
+  pub unchanged : IfNone result (new ≡ old)
+  pub valid : IsValid eq limit new
+
+-- the same of the pair at this index: no key equal to its own is held then
+pub record ShiftRemovesAt {K V S : Type 0} (limit : ℕ) (eq : K → K → Bool) (old : State K V S) (index : ℕ) (result : Option (K × V)) (new : State K V S) : Type 0 where
+  pub gives : result ≡ slice_get old.pairs index
+  pub after : OnSome result (WithPairs old (remove old.pairs index) new)
+  pub removed : IfSome result (λ pair. HasRemoved eq old.pairs pair.0 new.pairs)
+  pub unchanged : IfNone result (new ≡ old)
+  pub valid : IsValid eq limit new

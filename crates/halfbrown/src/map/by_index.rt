@@ -9,7 +9,7 @@ ghost use Rattle.std.specs.Option.{option_copied_mut, option_map};
 ghost use Rattle.half_store.specs.PairLists.{index_of};
 ghost use Rattle.halfbrown.specs.Costs.{IsLookupCost};
 ghost use Rattle.halfbrown.specs.Lookup.{FindsIndex};
-ghost use Rattle.halfbrown.specs.Removal.{RemovesAt};
+ghost use Rattle.halfbrown.specs.Updates.{RemovesAt};
 ghost use Rattle.halfbrown.specs.State.{IsValid};
 
 use super::LimitedHashMap;

@@ -1,6 +1,6 @@
 //! Clones of a map.
 ghost use Rattle.std.specs.Prelude.{◌≡◌, IfOk, IfErr};
-ghost use Rattle.halfbrown.specs.Clone.{ClonesEqualKeys, HashesAlike, IsCloneOf};
+ghost use Rattle.halfbrown.specs.Making.{ClonesEqualKeys, HashesAlike, IsCloneOf};
 ghost use Rattle.halfbrown.specs.State.{IsValid};
 
 use super::LimitedHashMap;

@@ -1,5 +1,6 @@
 //! Making a map.
-ghost use Rattle.std.specs.Prelude.{◌≡◌, true, min, nat_le, IfOk};
+ghost use Rattle.std.specs.Prelude.{◌≡◌, true, min, IfOk};
+ghost use Rattle.half_store.specs.Capacity.{is_vec_for};
 ghost use Rattle.halfbrown.specs.Making.{IsDefaultBuilder, IsNew, Makes};
 ghost use Rattle.halfbrown.specs.State.{IsValid};
 
@@ -37,7 +38,7 @@ impl<K: Eq + Hash, V, L: Limit> LimitedHashMap<K, V, DefaultHashBuilder, L> {
     /// assert!(rt; small.is_vec() && large.is_map());
     /// ```
     pub fn with_capacity(alloc: Global, capacity: usize) -> Result<Self, Refusal>
-        ensures makes { Makes IsDefaultBuilder (nat_le capacity L.LIMIT)
+        ensures makes { Makes IsDefaultBuilder (is_vec_for L.LIMIT capacity)
             capacity result }
         ensures valid { IfOk result (IsValid K.eq L.LIMIT) }
     {
@@ -109,7 +110,7 @@ impl<K: Eq + Hash, V, S: KeyHasher<K>, L: Limit> LimitedHashMap<K, V, S, L> {
     ) -> Result<Self, Refusal>
     where
         S: Drop,
-        ensures makes { Makes (λ b. b ≡ builder) (nat_le capacity L.LIMIT) capacity result }
+        ensures makes { Makes (λ b. b ≡ builder) (is_vec_for L.LIMIT capacity) capacity result }
         ensures valid { IfOk result (IsValid K.eq L.LIMIT) }
     {
         Ok(LimitedHashMap {

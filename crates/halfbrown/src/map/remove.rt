@@ -3,7 +3,7 @@ ghost use Rattle.std.specs.Prelude.{◌≡◌, ◌<◌, false, Some};
 ghost use Rattle.std.specs.Map.{lookup, lookup_entry};
 ghost use Rattle.std.specs.Option.{option_map};
 ghost use Rattle.halfbrown.specs.Costs.{IsLookupCost, IsHashedLookupCost};
-ghost use Rattle.halfbrown.specs.Removal.{Removes, ShiftRemoves, ShiftRemovesAt};
+ghost use Rattle.halfbrown.specs.Updates.{Removes, ShiftRemoves, ShiftRemovesAt};
 
 use super::LimitedHashMap;
 use crate::{Equivalent, KeyHasher, Limit};

@@ -18,6 +18,7 @@ use Rattle.halfbrown.specs.CostRanges.{no_cost}
 use Rattle.halfbrown.specs.Costs.{insert_cost}
 use Rattle.halfbrown.specs.Growth.{IsRefusal}
 use Rattle.halfbrown.specs.Insertion.{Puts}
+use Rattle.half_store.specs.Capacity.{is_vec_for}
 use Rattle.halfbrown.specs.Making.{IsMade}
 use Rattle.halfbrown.proofs.lemmas.map.Costs.{costs_assoc, none_more, more_none, spent_both}
 
@@ -146,7 +147,7 @@ module _ {K V S : Type 0} (limit : ℕ) (eq : K → K → Bool) where
   -- ---- collections
 
   module _ (laws : IsEquivalence eq) (is_default : S → Type 0) (needed : ℕ) where
-    abbrev pub collection_of : (made new : State K V S) (items : List (K × V)) → IsMade is_default (nat_le needed limit) needed made
+    abbrev pub collection_of : (made new : State K V S) (items : List (K × V)) → IsMade is_default (is_vec_for limit needed) needed made
         → InsertsAll limit eq made items new
         → Collects limit eq is_default needed items new
     collection_of made new items is_made inserts =

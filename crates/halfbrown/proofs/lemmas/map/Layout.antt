@@ -13,7 +13,7 @@ use Rattle.halfbrown.proofs.lemmas.pairs.Changes.{keys_of-set_key_at, map-set_al
 use Rattle.halfbrown.proofs.lemmas.pairs.Changes.{IsDistinct-swap_remove_at}
 use Rattle.halfbrown.proofs.lemmas.pairs.Indices.{none_of_index, any_of_none, absent_of_unheld, index_of_pair}
 use Rattle.std.specs.Map.Calls.{RetainsPairs}
-use Rattle.halfbrown.specs.Clone.{ArePairClones}
+use Rattle.halfbrown.specs.Making.{ArePairClones}
 use Rattle.std.specs.Result.{result_err}
 use Rattle.half_store.specs.ValueReplacement.{kept_pairs, ReplacesValue}
 use Rattle.halfbrown.proofs.callers.Pairs.{has_removed}

@@ -8,7 +8,7 @@ use Rattle.std.proofs.lemmas.Option.{slice_get_past}
 use Rattle.std.specs.Prelude.{Result, Ok, Err, IfNone}
 use Rattle.half_store.specs.StoreRemoval.{RemovesFound, StoreShiftRemoves}
 use Rattle.halfbrown.specs.Lookup.{FindsIndex}
-use Rattle.halfbrown.specs.Removal.{RemovesAt, ShiftRemoves, ShiftRemovesAt}
+use Rattle.halfbrown.specs.Updates.{RemovesAt, ShiftRemoves, ShiftRemovesAt}
 use Rattle.halfbrown.proofs.callers.Pairs.{has_left, has_all, has_removed_by}
 use Rattle.halfbrown.proofs.lemmas.map.Layout.{kept_taken, state_of, kept_as}
 use Rattle.halfbrown.proofs.lemmas.pairs.Indices.{value_of_entry, index_of_pair, last_taken, some_is_not_none}

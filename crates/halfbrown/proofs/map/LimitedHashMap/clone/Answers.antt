@@ -1,5 +1,5 @@
 use Rattle.halfbrown.proofs.Common.{◌≡◌, sym, subst, rules, IfOk-weaker}
-use Rattle.halfbrown.specs.Clone.{IsCloneOf}
+use Rattle.halfbrown.specs.Making.{IsCloneOf}
 use Rattle.halfbrown.proofs.map.LimitedHashMap.clone.Goals as goal
 
 pub returns-clause-cloned : goal.returns-clause-cloned

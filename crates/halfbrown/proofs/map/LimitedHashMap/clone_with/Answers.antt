@@ -2,7 +2,7 @@ use Rattle.halfbrown.proofs.Common.{◌≡◌, true, false, refl, ap, ◌∙◌,
 use Rattle.std.proofs.lemmas.Map.Entries.{entries_from_clone}
 use Rattle.std.proofs.lemmas.Slice.Zip.{AllZip-long}
 use Rattle.std.specs.List.{AllZip}
-use Rattle.halfbrown.specs.Clone.{ClonesEqualKeys, HashesAlike, IsCloneOf}
+use Rattle.halfbrown.specs.Making.{ClonesEqualKeys, HashesAlike, IsCloneOf}
 use Rattle.halfbrown.proofs.lemmas.map.Layout.{keys_zip, zip_held, map-zip, kept_cloned, state_of}
 use Rattle.halfbrown.proofs.map.LimitedHashMap.clone_with.Goals as goal
 

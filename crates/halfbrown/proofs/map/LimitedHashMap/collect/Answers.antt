@@ -2,6 +2,7 @@ use Rattle.halfbrown.proofs.Common.{arith, sym, subst, inl, inr, common_steps, G
 use Rattle.std.proofs.Common.{nat_le}
 use Rattle.std.specs.Iterator.{Drains}
 use Rattle.halfbrown.specs.FromIter.{RefusedInsert, refused_cost}
+use Rattle.half_store.specs.Capacity.{is_vec_for}
 use Rattle.halfbrown.specs.Making.{IsMade}
 use Rattle.halfbrown.proofs.lemmas.map.Collect.{at_error, collection_of, inserts_asked, inserts_state}
 use Rattle.halfbrown.proofs.lemmas.map.Costs.{spent_none}
@@ -23,7 +24,7 @@ returns-in_err-extend_counted-clause-refused g c =
     let before = c.args.tally.now in
     let refused = c.in_err-extend_counted.ensures.refused in
     let told = c.in_ok-map.ensures.makes.ok in
-    let is_made : IsMade g.S.Default.is_default (nat_le c.args.capacity L) c.args.capacity made = record {
+    let is_made : IsMade g.S.Default.is_default (is_vec_for L c.args.capacity) c.args.capacity made = record {
       form = told.form;
       pairs = told.pairs;
       capacity = told.capacity;
@@ -43,7 +44,7 @@ returns-clause-collected g c =
     let E = g.K.PartialEq.eq in
     let made = c.in_ok-map.map in
     let told = c.in_ok-map.ensures.makes.ok in
-    let is_made : IsMade g.S.Default.is_default (nat_le c.args.capacity L) c.args.capacity made = record {
+    let is_made : IsMade g.S.Default.is_default (is_vec_for L c.args.capacity) c.args.capacity made = record {
       form = told.form;
       pairs = told.pairs;
       capacity = told.capacity;

@@ -1,5 +1,5 @@
 use Rattle.halfbrown.proofs.Common.{◌≡◌, length, subst, ◌-◌, rules}
-use Rattle.halfbrown.specs.Removal.{RemovesAt}
+use Rattle.halfbrown.specs.Updates.{RemovesAt}
 use Rattle.halfbrown.proofs.lemmas.map.Remove.{last_removed}
 use Rattle.halfbrown.proofs.map.LimitedHashMap.pop.Goals as goal
 

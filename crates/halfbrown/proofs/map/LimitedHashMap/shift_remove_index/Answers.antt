@@ -1,5 +1,5 @@
 use Rattle.halfbrown.proofs.Common.{Some, subst, rules, state_in, State}
-use Rattle.halfbrown.specs.Removal.{ShiftRemovesAt}
+use Rattle.halfbrown.specs.Updates.{ShiftRemovesAt}
 use Rattle.halfbrown.proofs.lemmas.map.Remove.{kept_shifted, none_in_order, removed_in_order}
 use Rattle.halfbrown.proofs.map.LimitedHashMap.shift_remove_index.Goals as goal
 
