@@ -31,8 +31,8 @@ in_order {w = w} work cost within =
     let compared = ap (λ (v : Work). v.compared) work in
     record {
       asked = ap (λ v. v.asked) work;
-      least = omega (arith, compared, cost);
-      most = omega (arith, compared, within);
+      at_least = omega (arith, compared, cost);
+      at_most = omega (arith, compared, within);
       by_key = λ _. compared ∙ ap (λ n. w.compared + n) cost;
       looked = ap (λ v. v.looked) work;
     }
