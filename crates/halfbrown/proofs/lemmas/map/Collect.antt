@@ -2,7 +2,7 @@
 use Rattle.halfbrown.proofs.Common.{◌≡◌, ℕ, Bool, true, false, arith, List, [], ◌∷◌, ◌++◌, Option, Some, refl, ap, ◌∙◌, sym, subst, not, inl, inr, common_steps}
 use Rattle.halfbrown.proofs.Common.{IsEquivalence, keys_of, into_iter_items, Work, GrewBy, add_costs, insert_needs, value_of, put, State, IsValid}
 use Rattle.std.proofs.Common.{reverse}
-use Rattle.std.proofs.Common.{Result, IsErr, IsErrAnd, IfErr, OnOk, nat_le}
+use Rattle.std.proofs.Common.{Result, IsErr, IsErrAnd, IfErr, OnOk}
 use Rattle.std.proofs.lemmas.List.{reverse-append}
 use Rattle.std.specs.Option.{option_or}
 use Rattle.halfbrown.specs.FromIter.{put_all, collected, last_value_of, InsertsAll, Extends, Collects, RefusedInsert}

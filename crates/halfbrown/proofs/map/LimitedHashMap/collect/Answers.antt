@@ -1,5 +1,4 @@
 use Rattle.halfbrown.proofs.Common.{arith, sym, subst, inl, inr, common_steps, GrewBy, Gives}
-use Rattle.std.proofs.Common.{nat_le}
 use Rattle.std.specs.Iterator.{Drains}
 use Rattle.halfbrown.specs.FromIter.{RefusedInsert, refused_cost}
 use Rattle.half_store.specs.Capacity.{is_vec_for}
