@@ -4,7 +4,7 @@ use Rattle.std.specs.List.{IsDistinct, list_all}
 use Rattle.std.specs.Map.{keys_of}
 use Rattle.half_store.specs.Work.{Work}
 use Rattle.halfbrown.specs.Costs.{search_asked, AreSearchCosts}
-use Rattle.halfbrown.specs.Equality.{same_pairs, same_value, holds_pair, searched_keys}
+use Rattle.halfbrown.specs.Equality.{same_pairs, same_lookup, holds_pair, searched_keys}
 use Rattle.halfbrown.specs.State.{State}
 
 module _ {K V : Type 0} (eq : K → K → Bool) (value_eq : V → V → Bool) where
@@ -23,7 +23,7 @@ module _ {K V : Type 0} (eq : K → K → Bool) (value_eq : V → V → Bool) wh
 
   -- two lists are equal exactly where each key has equal values in both
   abbrev pub ValuesLaw : Type 0
-  ValuesLaw = (left right : List (K × V)) → IsTrue (same_pairs eq value_eq left right) ↔ ((k : K) → IsTrue (same_value eq value_eq left right k))
+  ValuesLaw = (left right : List (K × V)) → IsTrue (same_pairs eq value_eq left right) ↔ ((k : K) → IsTrue (same_lookup eq value_eq left right k))
 
   -- two lists of distinct keys are equal exactly where their lengths agree and the right holds each pair of the left
   abbrev pub PairsLaw : Type 0

@@ -17,7 +17,7 @@ use Rattle.std.specs.Map.Iter.{TakesFirst, ShowsInOrder, deref}
 use Rattle.std.specs.Option.{option_eq}
 use Rattle.std.specs.Set.{is_member, remove_key, IsUnion}
 use Rattle.halfbrown.specs.CallerLoops.{add_key, add_keys}
-use Rattle.halfbrown.specs.Equality.{same_value, same_pairs-Decides}
+use Rattle.halfbrown.specs.Equality.{same_lookup, same_pairs-Decides}
 use Rattle.halfbrown.specs.Growth.{IsRefusal, insert_needs}
 use Rattle.halfbrown.specs.Refusal.{refusal_of}
 use Rattle.halfbrown.specs.State.{State}
@@ -69,7 +69,7 @@ module _ {T : Type 0} {eq : T → T → Bool} (laws : IsEquivalence eq) where
   held_member xs q = holds_by-any (eq q) (with_nothing xs) ∙ ap (list_any (eq q)) (keys_of-with_nothing xs)
 
   same_at : (xs ys : List T) (q : T)
-      → (same_value eq (λ x y. true) (with_nothing xs) (with_nothing ys) q ≡ true) ↔ (is_member eq xs q ≡ is_member eq ys q)
+      → (same_lookup eq (λ x y. true) (with_nothing xs) (with_nothing ys) q ≡ true) ↔ (is_member eq xs q ≡ is_member eq ys q)
   same_at xs ys q = rw (← held_member xs q, ← held_member ys q)
       (same_either (value_of eq (with_nothing xs) q) (value_of eq (with_nothing ys) q))
 

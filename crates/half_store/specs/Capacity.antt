@@ -26,29 +26,29 @@ abbrev pub buckets_for_more : ℕ → ℕ → ℕ
 buckets_for_more pairs buckets = if nat_lt pairs (capacity_of buckets) then buckets else more_buckets buckets
 
 -- the least bucket count whose capacity is enough for this many pairs
-unfoldable pub buckets_for : ℕ → ℕ
-buckets_for zero = 0
-buckets_for (suc pairs) = buckets_for_more pairs (buckets_for pairs)
+unfoldable pub least_buckets : ℕ → ℕ
+least_buckets zero = 0
+least_buckets (suc pairs) = buckets_for_more pairs (least_buckets pairs)
 
 -- the least of the capacities 0, 3, 6, 12, 24, .. that is enough for this many pairs
-abbrev pub capacity_for : ℕ → ℕ
-capacity_for pairs = capacity_of (buckets_for pairs)
+abbrev pub least_table_capacity : ℕ → ℕ
+least_table_capacity pairs = capacity_of (least_buckets pairs)
 
 -- the least capacity of a form that is enough for this many pairs: a vector's is their number
 abbrev pub least_capacity : Bool → ℕ → ℕ
-least_capacity is_vec pairs = if is_vec then pairs else capacity_for pairs
+least_capacity is_vec pairs = if is_vec then pairs else least_table_capacity pairs
 
 -- whether the form is the vector where a map is made for this many pairs: the limit allows them
 abbrev pub is_vec_for : ℕ → ℕ → Bool
 is_vec_for limit pairs = nat_le pairs limit
 
 -- whether the form is the vector after `shrink_to_fit`: it was one, or the limit allows the pairs. This is the one call that goes back
-abbrev pub vec_shrunk : ℕ → Bool → ℕ → Bool
-vec_shrunk limit is_vec pairs = is_vec || is_vec_for limit pairs
+abbrev pub is_vec_shrunk : ℕ → Bool → ℕ → Bool
+is_vec_shrunk limit is_vec pairs = is_vec || is_vec_for limit pairs
 
 -- the capacity after `shrink_to_fit`
 abbrev pub shrunk_capacity : ℕ → Bool → ℕ → ℕ
-shrunk_capacity limit is_vec pairs = least_capacity (vec_shrunk limit is_vec pairs) pairs
+shrunk_capacity limit is_vec pairs = least_capacity (is_vec_shrunk limit is_vec pairs) pairs
 
 -- the capacity of a bucket count is enough for this many pairs, and each other count that is enough for them is no smaller
 pub record IsLeastFor (pairs buckets : ℕ) : Type 0 where

@@ -19,7 +19,7 @@ module _ {K V Z : Type 0} (keys : VecDeque K Z) (values : VecDeque V Z) where
   drained_of table = store_of (record { pairs = zip keys.items values.items; capacity = deque_capacity keys }) table
 
   -- the two queues are of one length and one capacity
-  pub record IsDrained (table : Option (Box TableState)) : Type 0 where
+  pub record AreEvenQueues (table : Option (Box TableState)) : Type 0 where
     pub length : length values.items ≡ length keys.items
     pub capacity : deque_capacity values ≡ deque_capacity keys
     pub backed : IsBacked (deque_capacity keys) table

@@ -2,7 +2,7 @@
 use Rattle.std.specs.Prelude.{◌≡◌, ℕ, ◌+◌, ◌<◌, ◌≤◌, Bool, true, false, List, length, slice_get, Option, Some, IfSome, IfNone, Result, Ok, Err, ◌-◌, slice_index}
 use Rattle.std.specs.Map.{keys_of}
 use Rattle.half_store.specs.Capacity.{buckets_of}
-use Rattle.half_store.specs.Work.{IsTableHitCost, after_missing, Work, first_match_cost}
+use Rattle.half_store.specs.Work.{IsTableHitCost, work_after_missing, Work, first_match_cost}
 use Rattle.half_store.specs.Reach.{reach, filling_reach}
 use Rattle.half_store.specs.declared.store.find.Vacancy.{Vacancy}
 use Rattle.half_store.specs.declared.vecmap.search.Scan.{Scan}
@@ -16,7 +16,7 @@ use Rattle.half_store.specs.Slots.{slots_from, slot_at}
 abbrev pub ReturnsAt : {K : Type 0} → (K → Bool → Type 0) → List K → ℕ → Bool → Type 0
 ReturnsAt {K} returns keys index answer = (k : K) → slice_get keys index ≡ Some k → returns k answer
 
--- this is the index of the first key that the match accepts, or none, where it refuses each
+-- this is the index of the first key that the match accepts, or none, where it rejects each
 pub record IsFirstMatch {K : Type 0} (returns : K → Bool → Type 0) (keys : List K) (result : Option ℕ) : Type 0 where
   pub found : IfSome result (λ index. (index < length keys) × ReturnsAt returns keys index true)
   pub none_before : IfSome result (λ index. (earlier : ℕ) → earlier < index → ReturnsAt returns keys earlier false)
@@ -31,9 +31,9 @@ module _ {K V : Type 0} (returns : K → Bool → Type 0) (is_vec : Bool) (pairs
     pub first : is_vec ≡ true → (earlier : ℕ) → earlier < index → ReturnsAt returns (keys_of pairs) earlier false
     pub hashed : is_vec ≡ false → (k : K) → slice_get (keys_of pairs) index ≡ Some k → has_hash index k
 
-  -- the match refuses each held key, in a table each of the hash
+  -- the match rejects each held key, in a table each of the hash
   pub record AcceptsNone : Type 0 where
-    pub refused : (index : ℕ) (k : K) → slice_get (keys_of pairs) index ≡ Some k → (is_vec ≡ false → has_hash index k) → returns k false
+    pub rejected : (index : ℕ) (k : K) → slice_get (keys_of pairs) index ≡ Some k → (is_vec ≡ false → has_hash index k) → returns k false
 
   -- the search found this index, or none, and where there is capacity a pair of the hash may be added here
   abbrev pub SearchOutcome : ℕ → Contents → ℕ → Result ℕ Vacancy → Type 0
@@ -41,8 +41,8 @@ module _ {K V : Type 0} (returns : K → Bool → Type 0) (is_vec : Bool) (pairs
   SearchOutcome capacity contents hash (Err vacancy) = AcceptsNone × (0 < capacity → IsVacancy is_vec contents hash vacancy)
 
 -- a search of a store by the match under this hash
-abbrev pub StoreSearch : {K V : Type 0} → (K → Bool → Type 0) → ℕ → StoreState K V → Result ℕ Vacancy → Type 0
-StoreSearch returns hash s =
+abbrev pub StoreSearch : {K V : Type 0} → (K → Bool → Type 0) → StoreState K V → ℕ → Result ℕ Vacancy → Type 0
+StoreSearch returns s hash =
     SearchOutcome returns s.is_vec s.pairs (λ index k. slice_get s.hashes index ≡ Some hash) s.capacity s.contents hash
 
 -- a search from first to last among this many keys found this index, or none: it compared at least those up to and with the one that it found, and
@@ -59,8 +59,8 @@ pub record IsStoreSearchCost {K V : Type 0} (s : StoreState K V) (hash : ℕ) (s
   pub vector : s.is_vec ≡ true → ComparesInOrder scan index (length s.pairs) before after
   pub found : s.is_vec ≡ false → IfSome index (λ _. IsTableHitCost s.hashes (buckets_of s.capacity) hash before after)
   pub hit : s.is_vec ≡ false → IfSome index (λ at. after.looked ≡ before.looked + hit_reads_in s.contents at)
-  pub hits : s.is_vec ≡ false → all_hit_reads_in (length s.hashes) s.contents ≡ filling_reach (buckets_of s.capacity) s.hashes
-  pub missing : s.is_vec ≡ false → IfNone index (after ≡ after_missing s.hashes (buckets_of s.capacity) hash before)
+  pub hits : s.is_vec ≡ false → all_hit_reads_in s.contents (length s.hashes) ≡ filling_reach (buckets_of s.capacity) s.hashes
+  pub missing : s.is_vec ≡ false → IfNone index (after ≡ work_after_missing s.hashes (buckets_of s.capacity) hash before)
   pub short : s.is_vec ≡ false → reach s.hashes (buckets_of s.capacity) hash ≤ length s.hashes + 1
 
 -- each of these keys
@@ -78,7 +78,7 @@ CallableInBuckets {K} callable hashes words hash keys =
     (key : Bor K) (bucket : ℕ) → slot_at (slots_from hashes words) bucket ≡ Some hash → slice_get keys (slice_index words bucket - 1) ≡ Some key.now
     → callable key
 
--- the test refused each of those
-abbrev pub RefusedInBuckets : {K : Type 0} → (K → Bool → Type 0) → List ℕ → List ℕ → ℕ → List K → Type 0
-RefusedInBuckets returns hashes words hash keys =
+-- the test rejected each of those
+abbrev pub RejectedInBuckets : {K : Type 0} → (K → Bool → Type 0) → List ℕ → List ℕ → ℕ → List K → Type 0
+RejectedInBuckets returns hashes words hash keys =
     (bucket : ℕ) → slot_at (slots_from hashes words) bucket ≡ Some hash → ReturnsAt returns keys (slice_index words bucket - 1) false

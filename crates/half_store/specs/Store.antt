@@ -6,7 +6,7 @@ use Rattle.std.specs.declared.alloc.AllocError.{AllocError}
 use Rattle.std.specs.Global.{Box}
 use Rattle.half_store.specs.declared.store.find.Vacancy.{Vacancy}
 use Rattle.half_store.specs.declared.refusal.Refusal.{Refusal}
-use Rattle.half_store.specs.Capacity.{capacity_of, capacity_for, generous_capacity, least_capacity, is_vec_for, vec_shrunk, shrunk_capacity}
+use Rattle.half_store.specs.Capacity.{capacity_of, least_table_capacity, generous_capacity, least_capacity, is_vec_for, is_vec_shrunk, shrunk_capacity}
 use Rattle.half_store.specs.Refusal.{refusal_of}
 use Rattle.half_store.specs.Columns.{ColumnsState}
 use Rattle.half_store.specs.Table.{TableState, Contents, table_contents, no_contents, contents_code, with_hash_in, IsTableVacancy}
@@ -35,14 +35,14 @@ module _ {K V : Type 0} where
   store_of columns (Some t) = table_of columns t.value
 
   -- a table has a hash for each pair, and the capacity of the columns
-  pub record IsTableOver (columns : ColumnsState K V) (t : TableState) : Type 0 where
+  pub record TableFitsColumns (columns : ColumnsState K V) (t : TableState) : Type 0 where
     pub len : length t.hashes ≡ length columns.pairs
     pub backed : capacity_of t.buckets ≡ columns.capacity
 
   -- what is always true of the columns and the table
   abbrev pub IsStore : ColumnsState K V → Option (Box TableState) → Type 0
   IsStore columns None = Unit {0}
-  IsStore columns (Some t) = IsTableOver columns t.value
+  IsStore columns (Some t) = TableFitsColumns columns t.value
 
   -- clones of the pairs in the same form, with the same stored hashes; a table has the same capacity, and a vector none to spare
   pub record IsStoreClone (key_clone : K → K → Type 0) (value_clone : V → V → Type 0) (old new : StoreState K V) : Type 0 where
@@ -66,13 +66,13 @@ capped limit is_vec capacity = if is_vec then min capacity limit else capacity
 
 module _ {K V : Type 0} (limit : ℕ) where
   -- how many pairs in all a reservation for this many more is for
-  abbrev pub reserved : StoreState K V → ℕ → ℕ
-  reserved s additional = capped limit s.is_vec (length s.pairs + additional)
+  abbrev pub reserve_wanted : StoreState K V → ℕ → ℕ
+  reserve_wanted s additional = capped limit s.is_vec (length s.pairs + additional)
 
   -- the capacity that it makes where there is less: in a table the least of its series that is enough
-  abbrev pub reserved_capacity : StoreState K V → ℕ → ℕ
-  reserved_capacity s additional =
-      if s.is_vec then generous_capacity limit s.capacity (reserved s additional) else capacity_for (reserved s additional)
+  abbrev pub reserve_capacity : StoreState K V → ℕ → ℕ
+  reserve_capacity s additional =
+      if s.is_vec then generous_capacity limit s.capacity (reserve_wanted s additional) else least_table_capacity (reserve_wanted s additional)
 
 module _ {K V : Type 0} (limit needed : ℕ) where
   -- a store with no pairs and the least capacity of its form for this many: a vector where the limit allows them, else a table
@@ -81,7 +81,7 @@ module _ {K V : Type 0} (limit needed : ℕ) where
     pub pairs : s.pairs ≡ []
     pub hashes : s.hashes ≡ []
     pub capacity : s.capacity ≡ least_capacity s.is_vec needed
-    pub series : s.is_vec ≡ false → s.capacity ≡ capacity_for s.capacity
+    pub series : s.is_vec ≡ false → s.capacity ≡ least_table_capacity s.capacity
     pub exceeds : s.is_vec ≡ false → limit < s.capacity
 
   -- such a store, or the reason why its memory was refused; for no pairs it takes none, and is not refused
@@ -96,10 +96,10 @@ pub record MakesTable {K V : Type 0} (old new : StoreState K V) (needed : ℕ) (
   pub form : new.is_vec ≡ true
   pub pairs : new.pairs ≡ old.pairs
   pub hashes : IfOk result (λ t. t.value.hashes ≡ [])
-  pub capacity : IfOk result (λ t. capacity_of t.value.buckets ≡ capacity_for needed)
-  pub enough : OnOk result (needed ≤ capacity_for needed)
-  pub series : OnOk result (capacity_for needed ≡ capacity_for (capacity_for needed))
-  pub columns : OnOk result (new.capacity ≡ max old.capacity (capacity_for needed))
+  pub capacity : IfOk result (λ t. capacity_of t.value.buckets ≡ least_table_capacity needed)
+  pub enough : OnOk result (needed ≤ least_table_capacity needed)
+  pub series : OnOk result (least_table_capacity needed ≡ least_table_capacity (least_table_capacity needed))
+  pub columns : OnOk result (new.capacity ≡ max old.capacity (least_table_capacity needed))
   pub granted : OnOk result (needed ≤ 2 ^ 60)
   pub refused : IfErr result (λ why. why ≡ refusal_of needed)
   pub err : OnErr result (new ≡ old)
@@ -110,23 +110,23 @@ module _ {K V : Type 0} (limit : ℕ) (old new : StoreState K V) where
     pub pairs : new.pairs ≡ old.pairs
     pub form : new.is_vec ≡ old.is_vec
     pub hashes : new.hashes ≡ old.hashes
-    pub enough : OnOk result (reserved limit old additional ≤ new.capacity)
-    pub unneeded : OnOk result (reserved limit old additional ≤ old.capacity → new ≡ old)
-    pub grown : OnOk result (old.capacity < reserved limit old additional → new.capacity ≡ reserved_capacity limit old additional)
+    pub enough : OnOk result (reserve_wanted limit old additional ≤ new.capacity)
+    pub unneeded : OnOk result (reserve_wanted limit old additional ≤ old.capacity → new ≡ old)
+    pub grown : OnOk result (old.capacity < reserve_wanted limit old additional → new.capacity ≡ reserve_capacity limit old additional)
     pub more : old.capacity ≤ new.capacity
-    pub series : new.is_vec ≡ false → new.capacity ≡ capacity_for new.capacity
-    pub granted : OnOk result (old.capacity < reserved limit old additional → reserved limit old additional ≤ 2 ^ 60)
-    pub needed : OnErr result (old.capacity < reserved limit old additional)
-    pub refused : IfErr result (λ why. why ≡ refusal_of (reserved limit old additional))
+    pub series : new.is_vec ≡ false → new.capacity ≡ least_table_capacity new.capacity
+    pub granted : OnOk result (old.capacity < reserve_wanted limit old additional → reserve_wanted limit old additional ≤ 2 ^ 60)
+    pub needed : OnErr result (old.capacity < reserve_wanted limit old additional)
+    pub refused : IfErr result (λ why. why ≡ refusal_of (reserve_wanted limit old additional))
     pub err : OnErr result (new ≡ old)
 
   -- capacity, and a table that is not needed, are given back; only a smaller capacity for some pairs may be refused: then nothing changes
   pub record StoreShrinks (result : Result (Unit {0}) AllocError) : Type 0 where
     pub pairs : new.pairs ≡ old.pairs
-    pub form : OnOk result (new.is_vec ≡ vec_shrunk limit old.is_vec (length old.pairs))
+    pub form : OnOk result (new.is_vec ≡ is_vec_shrunk limit old.is_vec (length old.pairs))
     pub capacity : OnOk result (new.capacity ≡ shrunk_capacity limit old.is_vec (length old.pairs))
     pub hashes : new.is_vec ≡ false → new.hashes ≡ old.hashes
-    pub series : OnOk result (new.is_vec ≡ false → new.capacity ≡ capacity_for new.capacity)
+    pub series : OnOk result (new.is_vec ≡ false → new.capacity ≡ least_table_capacity new.capacity)
     pub fits : OnOk result (length old.pairs ≤ new.capacity)
     pub err : OnErr result (new ≡ old)
     pub some : OnErr result (0 < shrunk_capacity limit old.is_vec (length old.pairs))

@@ -43,18 +43,18 @@ module _ {K V : Type 0} (old new : StoreState K V) where
   -- a search by the match under this hash, and the removal of what it found
   pub record SearchesAndRemoves (returns : K → Bool → Type 0) (hash : ℕ) (result : Option (K × V)) (before after : Work) : Type 0 where
     pub search : Result ℕ Vacancy
-    pub finds : StoreSearch returns hash old search
+    pub finds : StoreSearch returns old hash search
     pub cost : IsStoreSearchCost old hash ByKey (result_ok search) before after
     pub takes : RemovesFound search result
 
 -- the word of a bucket once the pair at this index is the last of `pairs`, and each pair behind it has the index before its own
-abbrev pub moved_word : ℕ → ℕ → ℕ → ℕ
-moved_word pairs index word = if word == suc index then pairs else (if nat_lt index word then word - 1 else word)
+abbrev pub word_once_moved : ℕ → ℕ → ℕ → ℕ
+word_once_moved pairs index word = if word == suc index then pairs else (if nat_lt index word then word - 1 else word)
 
 -- the pair at this index is the last now, as far as the buckets go: each of them has that word
-pub record MovesLast (pairs index : ℕ) (old new : List ℕ) : Type 0 where
+pub record MovesToEnd (pairs index : ℕ) (old new : List ℕ) : Type 0 where
   pub len : length new ≡ length old
-  pub words : (bucket : ℕ) → slice_index new bucket ≡ moved_word pairs index (slice_index old bucket)
+  pub words : (bucket : ℕ) → slice_index new bucket ≡ word_once_moved pairs index (slice_index old bucket)
 
 -- the pair at this index is gone, and each pair behind it has the index before its own
 pub record StoreShiftRemoves {K V : Type 0} (old new : StoreState K V) (index : ℕ) (pair : K × V) : Type 0 where

@@ -6,7 +6,7 @@ use Rattle.half_store.specs.Slots.{IsSlotVacancy, slot_at, distance_from_home, P
 use Rattle.half_store.specs.Capacity.{capacity_of, IsBucketCount, buckets_of}
 use Rattle.half_store.specs.Words.{AreWordsFor}
 use Rattle.std.specs.List.{swap_remove}
-use Rattle.half_store.specs.Work.{after_missing, IsTableHitCost, Work, probe_reads, sum_below}
+use Rattle.half_store.specs.Work.{work_after_missing, IsTableHitCost, Work, probe_reads, sum_below}
 use Rattle.half_store.specs.Reach.{reach, filling_reach}
 
 -- what callers see: the stored hashes by entry index, and how many buckets there are; the words of the buckets are private
@@ -44,8 +44,8 @@ unfoldable pub hit_reads_in : Contents → ℕ → ℕ
 hit_reads_in c index = probe_reads (length c.words) (slice_index c.hashes index) (bucket_of c.words index)
 
 -- how many the searches for the pairs of the first entry indices read, one each
-unfoldable pub all_hit_reads_in : ℕ → Contents → ℕ
-all_hit_reads_in pairs c = sum_below pairs (λ index. hit_reads_in c index)
+unfoldable pub all_hit_reads_in : Contents → ℕ → ℕ
+all_hit_reads_in c pairs = sum_below pairs (λ index. hit_reads_in c index)
 
 abbrev pub contents_code : Coded Contents
 contents_code = coded_via (coded× (coded_list coded_ℕ) (coded_list coded_ℕ)) (λ c. (c.hashes, c.words)) (λ a b e i. record { hashes = (e i).0; words = (e i).1 })
@@ -90,18 +90,18 @@ pub record IsTable (hashes words : List ℕ) (most capacity : ℕ) : Type 0 wher
   pub sized : AreWordsFor most (capacity_of (length words))
   pub exact : capacity ≡ capacity_of (length words)
 
--- the entry index of a pair of this hash that the test accepts, and its bucket; or, where it refuses each, the empty bucket where the probe
+-- the entry index of a pair of this hash that the test accepts, and its bucket; or, where it rejects each, the empty bucket where the probe
 -- ended, if there are buckets. The searches for all pairs, one each, read what insertions of their hashes read (`hits`)
 pub record TableSearch (returns : ℕ → Bool → Type 0) (t : TableState) (hash : ℕ) (result : Result (ℕ × ℕ) ℕ) (old new : Work) : Type 0 where
   pub found : IfOk result (λ pair. slice_get t.hashes pair.0 ≡ Some hash)
   pub at : IfOk result (λ pair. IsFoundAt (table_slots t) hash pair.1)
   pub accepted : IfOk result (λ pair. returns pair.0 true)
-  pub refused : OnErr result ((index : ℕ) → slice_get t.hashes index ≡ Some hash → returns index false)
+  pub rejected : OnErr result ((index : ℕ) → slice_get t.hashes index ≡ Some hash → returns index false)
   pub vacancy : IfErr result (λ bucket. 0 < t.buckets → IsTableVacancy (table_contents t) hash bucket)
-  pub missing_cost : OnErr result (new ≡ after_missing t.hashes t.buckets hash old)
+  pub missing_cost : OnErr result (new ≡ work_after_missing t.hashes t.buckets hash old)
   pub found_cost : IfOk result (λ pair. IsTableHitCost t.hashes t.buckets hash old new)
   pub hit : IfOk result (λ pair. new.looked ≡ old.looked + hit_reads_in (table_contents t) pair.0)
-  pub hits : all_hit_reads_in (length t.hashes) (table_contents t) ≡ filling_reach t.buckets t.hashes
+  pub hits : all_hit_reads_in (table_contents t) (length t.hashes) ≡ filling_reach t.buckets t.hashes
   pub short : reach t.hashes t.buckets hash ≤ length t.hashes + 1
   pub buckets : t.buckets ≡ buckets_of (capacity_of t.buckets)
 

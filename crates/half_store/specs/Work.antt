@@ -40,8 +40,8 @@ abbrev pub hash_count : List ℕ → ℕ → ℕ
 hash_count hashes hash = count_by (λ held. held == hash) hashes
 
 -- after a probe that found none: each held pair of that hash was compared, and exactly `reach` buckets were read
-abbrev pub after_missing : List ℕ → ℕ → ℕ → Work → Work
-after_missing hashes buckets hash w =
+abbrev pub work_after_missing : List ℕ → ℕ → ℕ → Work → Work
+work_after_missing hashes buckets hash w =
     record w { compared = w.compared + hash_count hashes hash; looked = w.looked + reach hashes buckets hash }
 
 -- what a probe that found a pair added

@@ -9,7 +9,7 @@ ghost use Rattle.std.specs.Prelude.{◌≡◌, ℕ, ◌+◌, ◌^◌, ◌<◌, �
 ghost use Rattle.std.specs.Fn.{FnReturnsAt};
 ghost use Rattle.half_store.specs.Search.{CallableOnHash, ReturnsAt};
 ghost use Rattle.half_store.specs.Reach.{reach};
-ghost use Rattle.half_store.specs.Capacity.{capacity_of, IsBucketCount, capacity_for, buckets_of};
+ghost use Rattle.half_store.specs.Capacity.{capacity_of, IsBucketCount, least_table_capacity, buckets_of};
 ghost use Rattle.half_store.specs.Work.{looked_more, ReadsWithin, removal_reads};
 ghost use Rattle.half_store.specs.Table.{table_contents, with_hash_in, IsTableVacancy, TableSearch, RemovesFromTable};
 
@@ -74,7 +74,7 @@ impl Table {
         ensures value { result ≡ capacity_of self.now.buckets }
         ensures within { length self.now.hashes ≤ result }
         ensures count { IsBucketCount self.now.buckets }
-        ensures series { result ≡ capacity_for result }
+        ensures series { result ≡ least_table_capacity result }
         ensures buckets { self.now.buckets ≡ buckets_of result }
     {
         capacity_of(self.buckets.count())

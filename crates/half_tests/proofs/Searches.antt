@@ -10,7 +10,7 @@ use Rattle.std.specs.Hash.{le_bytes}
 use Rattle.std.specs.List.{IsDistinct, AllByRecursion, list_any, slice_get}
 use Rattle.std.specs.Map.{keys_of}
 use Rattle.half_store.specs.Reach.{reach, home, HomesApart}
-use Rattle.half_store.specs.Capacity.{buckets_of, capacity_for}
+use Rattle.half_store.specs.Capacity.{buckets_of, least_table_capacity}
 use Rattle.half_store.specs.PairLists.{index_of}
 use Rattle.half_store.specs.Work.{Work}
 use Rattle.halfbrown.specs.CostRanges.{Cost, GrewBy, GrewWithin, exactly, between, add_ranges}
@@ -88,7 +88,7 @@ module _ (rule : Rule) (held : List (ℕ × ℕ)) (capacity : ℕ) (k : ℕ) whe
   grows = not (nat_lt (length held) capacity)
 
   abbrev grown : ℕ
-  grown = if grows then capacity_for (length held + 1) else capacity
+  grown = if grows then least_table_capacity (length held + 1) else capacity
 
   -- how many buckets the insertion probe of a new k reads: none without growth, where the search for k read them
   abbrev pub insertion_probe : ℕ

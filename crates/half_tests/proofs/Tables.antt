@@ -8,7 +8,7 @@ use Rattle.std.proofs.lemmas.List.{map-append, length-take, get_or-take, get_or_
 use Rattle.std.proofs.lemmas.Map.Keys.{apart_from_distinct}
 use Rattle.std.specs.List.{IsDistinct}
 use Rattle.std.specs.Map.{keys_of}
-use Rattle.half_store.specs.Capacity.{capacity_of, more_buckets, buckets_for, capacity_for, generous_capacity}
+use Rattle.half_store.specs.Capacity.{capacity_of, more_buckets, least_buckets, least_table_capacity, generous_capacity}
 use Rattle.halfbrown.specs.Growth.{is_full, is_vec_after, insert_needs, reserve_needs, HasCapacityAfter, IsReserved}
 use Rattle.halfbrown.specs.Lookup.{IsAbsent}
 use Rattle.halfbrown.specs.Pairs.{holds, put, take_out}
@@ -22,24 +22,24 @@ use Rattle.half_tests.specs.Tables.{IsTableOf, twins}
 pub record IsFilled (rule : Rule) (keys : List ℕ) (m : State ℕ ℕ Counting) : Type 0 where
   pub form : m.is_vec ≡ (length keys == 0)
   pub pairs : m.pairs ≡ twins keys
-  pub capacity : m.capacity ≡ capacity_for (length keys)
+  pub capacity : m.capacity ≡ least_table_capacity (length keys)
   pub builder : m.builder.rule ≡ rule
 
 -- ---- capacities
 
 -- one pair more needs no other capacity where some is left
-capacity_for-more : (n : ℕ) → n < capacity_for n → capacity_for (n + 1) ≡ capacity_for n
-unfolding buckets_for
+capacity_for-more : (n : ℕ) → n < least_table_capacity n → least_table_capacity (n + 1) ≡ least_table_capacity n
+unfolding least_buckets
 capacity_for-more n left =
     let next : n + 1 ≡ suc n = omega arith in
-    ap capacity_for next ∙ ap (λ b. capacity_of (cond b (buckets_for n) (more_buckets (buckets_for n)))) (lt-ltb n (capacity_for n) left)
+    ap least_table_capacity next ∙ ap (λ b. capacity_of (cond b (least_buckets n) (more_buckets (least_buckets n)))) (lt-ltb n (least_table_capacity n) left)
 
 -- the capacity of a table after a granted call
 after_in_table : (old new : State ℕ ℕ Counting) (needs : Option ℕ) → new.is_vec ≡ false → HasCapacityAfter 0 old needs new
-    → MatchOption needs (new.capacity ≡ old.capacity) (λ size. new.capacity ≡ capacity_for size)
+    → MatchOption needs (new.capacity ≡ old.capacity) (λ size. new.capacity ≡ least_table_capacity size)
 after_in_table old new needs form after =
     subst (λ is_vec. MatchOption needs (new.capacity ≡ old.capacity)
-    (λ size. MatchBool is_vec (new.capacity ≡ generous_capacity 0 old.capacity size) (new.capacity ≡ capacity_for size))) form after
+    (λ size. MatchBool is_vec (new.capacity ≡ generous_capacity 0 old.capacity size) (new.capacity ≡ least_table_capacity size))) form after
 
 -- ---- one key more
 
@@ -48,10 +48,10 @@ form_by : (is_vec : Bool) (n : ℕ) → is_vec ≡ (n == 0) → (is_vec && not (
 form_by true n form = ap not (sym form)
 form_by false n form = refl
 
-capacity_by : (full held left : Bool) (n old new : ℕ) → held ≡ false → ltb n old ≡ left → old ≡ capacity_for n → (full ≡ true → n ≡ 0)
-    → MatchOption (cond full (Some (0 + 1)) (cond held None (cond left None (Some (n + 1))))) (new ≡ old) (λ size. new ≡ capacity_for size)
-    → new ≡ capacity_for (n + 1)
-capacity_by true held left n old new unheld test was none after = after ∙ ap capacity_for (let zero = none refl in omega arith)
+capacity_by : (full held left : Bool) (n old new : ℕ) → held ≡ false → ltb n old ≡ left → old ≡ least_table_capacity n → (full ≡ true → n ≡ 0)
+    → MatchOption (cond full (Some (0 + 1)) (cond held None (cond left None (Some (n + 1))))) (new ≡ old) (λ size. new ≡ least_table_capacity size)
+    → new ≡ least_table_capacity (n + 1)
+capacity_by true held left n old new unheld test was none after = after ∙ ap least_table_capacity (let zero = none refl in omega arith)
 capacity_by false true left n old new unheld test was none after = absurd (true≢false unheld)
 capacity_by false false true n old new unheld test was none after = after ∙ was
     ∙ sym (capacity_for-more n (subst (λ r. n < r) was (ltb-true n old test)))
@@ -86,10 +86,10 @@ module _ (rule : Rule) (keys : List ℕ) (k : ℕ) (old new : State ℕ ℕ Coun
   none_held : is_full 0 old ≡ true → length old.pairs ≡ 0
   none_held full = eqb-true _ 0 (and_parts old.is_vec (length old.pairs == 0) full).1
 
-  capacity_is : new.capacity ≡ capacity_for (length old.pairs + 1)
+  capacity_is : new.capacity ≡ least_table_capacity (length old.pairs + 1)
   capacity_is =
       capacity_by (is_full 0 old) (holds eqb old.pairs k) (ltb (length old.pairs) old.capacity) (length old.pairs) old.capacity new.capacity
-      unheld refl (was.capacity ∙ ap capacity_for (sym count)) none_held (after_in_table old new (insert_needs 0 eqb old k) in_table grows)
+      unheld refl (was.capacity ∙ ap least_table_capacity (sym count)) none_held (after_in_table old new (insert_needs 0 eqb old k) in_table grows)
 
   pub filled_more : IsFilled rule (keys ++ k ∷ []) new
   filled_more =
@@ -97,7 +97,7 @@ module _ (rule : Rule) (keys : List ℕ) (k : ℕ) (old new : State ℕ ℕ Coun
       record {
         form = in_table ∙ sym (ne_eqb _ 0 (λ e. omega arith));
         pairs = pairs ∙ ap (λ ps. put eqb ps k k) was.pairs ∙ absent.put_is k k ∙ sym (twins-push keys k);
-        capacity = capacity_is ∙ ap capacity_for (let c = count in omega arith);
+        capacity = capacity_is ∙ ap least_table_capacity (let c = count in omega arith);
         builder = ap (λ b. b.rule) builder ∙ was.builder;
       }
 
@@ -115,8 +115,8 @@ fresh_at keys i distinct within =
 -- ---- a table after a call
 
 with_by : (left : Bool) (n old new : ℕ)
-    → MatchOption (if left then None else Some (n + 1)) (new ≡ old) (λ size. new ≡ capacity_for size)
-    → new ≡ (if left then old else capacity_for (n + 1))
+    → MatchOption (if left then None else Some (n + 1)) (new ≡ old) (λ size. new ≡ least_table_capacity size)
+    → new ≡ (if left then old else least_table_capacity (n + 1))
 with_by true n old new after = after
 with_by false n old new after = after
 
@@ -134,7 +134,7 @@ module _ (rule : Rule) (held : List (ℕ × ℕ)) (capacity : ℕ) (k : ℕ) (ol
   -- after a new key was inserted
   pub table_with : (v : ℕ) → holds eqb held k ≡ false → new.pairs ≡ put eqb old.pairs k v → new.is_vec ≡ is_vec_after 0 old
       → HasCapacityAfter 0 old (insert_needs 0 eqb old k) new → new.builder ≡ old.builder
-      → IsTableOf rule (put eqb held k v) (if nat_lt (length held) capacity then capacity else capacity_for (length held + 1)) new
+      → IsTableOf rule (put eqb held k v) (if nat_lt (length held) capacity then capacity else least_table_capacity (length held + 1)) new
   table_with v absent pairs form grows builder =
       let full : is_full 0 old ≡ false = ap (λ is_vec. is_vec && (length old.pairs == 0)) table.form in
       let table_still : new.is_vec ≡ false = form ∙ ap (λ is_vec. is_vec && not (is_vec && (length old.pairs == 0))) table.form in
@@ -150,15 +150,15 @@ module _ (rule : Rule) (held : List (ℕ × ℕ)) (capacity : ℕ) (k : ℕ) (ol
         pairs = pairs ∙ ap (λ ps. put eqb ps k v) table.pairs;
         capacity =
             with_by (nat_lt (length old.pairs) old.capacity) (length old.pairs) old.capacity new.capacity
-            (subst (λ size. MatchOption size (new.capacity ≡ old.capacity) (λ n. new.capacity ≡ capacity_for n)) needed made)
-            ∙ ap (λ ps. if nat_lt (length ps) old.capacity then old.capacity else capacity_for (length ps + 1)) table.pairs
-            ∙ ap (λ n. if nat_lt (length held) n then n else capacity_for (length held + 1)) table.capacity;
+            (subst (λ size. MatchOption size (new.capacity ≡ old.capacity) (λ n. new.capacity ≡ least_table_capacity n)) needed made)
+            ∙ ap (λ ps. if nat_lt (length ps) old.capacity then old.capacity else least_table_capacity (length ps + 1)) table.pairs
+            ∙ ap (λ n. if nat_lt (length held) n then n else least_table_capacity (length held + 1)) table.capacity;
         builder = ap (λ b. b.rule) builder ∙ table.builder;
       }
 
   -- after capacity for more pairs was reserved, which the table had not
   pub table_reserved : (additional : ℕ) → nat_lt capacity (length held + additional) ≡ true → IsReserved 0 old additional new
-      → IsTableOf rule held (capacity_for (length held + additional)) new
+      → IsTableOf rule held (least_table_capacity (length held + additional)) new
   table_reserved additional less reserved =
       let still = reserved.granted.form ∙ table.form in
       let total = length held + additional in

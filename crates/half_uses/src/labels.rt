@@ -100,12 +100,12 @@ impl Labels {
 impl PartialEq for Labels {
     ghost use Rattle.std.specs.Cmp.{on_per, partial_equiv_from_equiv};
     ghost use Rattle.std.specs.String.{string_eq_equiv};
-    ghost use Rattle.halfbrown.specs.Equality.{same_pairs, same_maps_per};
+    ghost use Rattle.halfbrown.specs.Equality.{same_pairs, equal_maps_per};
 
     ghost eq = { λ a b. same_pairs string_eq string_eq a.texts.pairs b.texts.pairs };
 
     ghost laws = { on_per (λ labels. labels.texts)
-        (same_maps_per string_eq string_eq string_eq_equiv (partial_equiv_from_equiv string_eq_equiv)) };
+        (equal_maps_per string_eq string_eq string_eq_equiv (partial_equiv_from_equiv string_eq_equiv)) };
 
     /// Whether both have the same texts for the same names, in any order.
     fn eq(&self, other: &Labels) -> bool {
@@ -116,10 +116,10 @@ impl PartialEq for Labels {
 impl Eq for Labels {
     ghost use Rattle.std.proofs.lemmas.Cmp.{on_equiv};
     ghost use Rattle.std.specs.String.{string_eq_equiv};
-    ghost use Rattle.halfbrown.specs.Equality.{same_maps_equiv};
+    ghost use Rattle.halfbrown.specs.Equality.{equal_maps_equiv};
 
     ghost laws = { on_equiv (λ labels. labels.texts)
-        (same_maps_equiv string_eq string_eq string_eq_equiv string_eq_equiv) };
+        (equal_maps_equiv string_eq string_eq string_eq_equiv string_eq_equiv) };
 }
 
 impl Hash for Labels {

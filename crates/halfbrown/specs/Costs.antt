@@ -5,7 +5,7 @@ use Rattle.std.specs.Hash.{HashWrites}
 use Rattle.halfbrown.specs.Ghosts.{HasherGhosts}
 use Rattle.half_store.specs.PairLists.{index_of}
 use Rattle.half_store.specs.Reach.{reach, filling_reach, HomesApart}
-use Rattle.half_store.specs.Capacity.{buckets_of, capacity_for}
+use Rattle.half_store.specs.Capacity.{buckets_of, least_table_capacity}
 use Rattle.half_store.specs.Table.{hit_reads_in, all_hit_reads_in}
 use Rattle.half_store.specs.Work.{Work, first_match_cost}
 use Rattle.halfbrown.specs.CostRanges.{Cost, Range, GrewBy, no_cost, plus_asked, plus_looked, unless_refused, exactly, between}
@@ -56,7 +56,7 @@ hit_reads m index = hit_reads_in (contents_of m) index
 
 -- how many the searches read in all that find its pairs, one search for each
 abbrev pub all_hit_reads : {K V S : Type 0} → State K V S → ℕ
-all_hit_reads m = all_hit_reads_in (length m.pairs) (contents_of m)
+all_hit_reads m = all_hit_reads_in (contents_of m) (length m.pairs)
 
 -- how many the insertions read in all that put these pairs into an empty table of this capacity
 abbrev pub filling_reads : {K V : Type 0} → (K → ℕ) → ℕ → List (K × V) → ℕ
@@ -119,7 +119,7 @@ module _ {K V S : Type 0} (limit : ℕ) where
 
   -- the capacity once a granted switch is made
   abbrev pub capacity_after_switch : State K V S → ℕ
-  capacity_after_switch m = if is_full limit m then capacity_for (limit + 1) else m.capacity
+  capacity_after_switch m = if is_full limit m then least_table_capacity (limit + 1) else m.capacity
 
   -- whether one pair more needs growth once the switch is made
   abbrev pub addition_grows : State K V S → Bool
@@ -127,7 +127,7 @@ module _ {K V S : Type 0} (limit : ℕ) where
 
   -- the capacity once it is enough for one pair more
   abbrev pub capacity_after_growth : State K V S → ℕ
-  capacity_after_growth m = if addition_grows m then capacity_for (length m.pairs + 1) else capacity_after_switch m
+  capacity_after_growth m = if addition_grows m then least_table_capacity (length m.pairs + 1) else capacity_after_switch m
 
   -- the map once a granted switch is made, as far as a cost depends on it: not on the contents of its buckets
   abbrev pub switched : State K V S → State K V S

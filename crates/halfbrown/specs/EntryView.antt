@@ -110,7 +110,7 @@ module _ {K V S : Type 0} where
     pub writes : (value : V) → with_value entry value ≡ map_with_pairs m.now (set_value_at m.now.pairs index value)
 
   -- the entry is the same one, and its pair has this key
-  pub record HasNewKey (entry : EntryView K V S) (key : K) (rekeyed : EntryView K V S) : Type 0 where
+  pub record IsRekeyed (entry : EntryView K V S) (key : K) (rekeyed : EntryView K V S) : Type 0 where
     pub same_map : rekeyed.map.ghost_name ≡ entry.map.ghost_name
     pub map : IfSome entry.index (λ index. WithPairs (map_of entry) (set_key_at (map_of entry).pairs index key) (map_of rekeyed))
     pub key_is : entry_key rekeyed ≡ Some key
@@ -135,13 +135,13 @@ module _ {K V S : Type 0} where
       pub written : (v : V) → HasPut eq (map_of entry).pairs key v (with_value result v).pairs
 
     -- the raw entry is that of the key which passes the test, in the prepared map
-    pub record FindsEntry (test : K → Bool) (prepared : MutBor (State K V S)) (entry : EntryView K V S) : Type 0 where
+    pub record FindsRawEntry (test : K → Bool) (prepared : MutBor (State K V S)) (entry : EntryView K V S) : Type 0 where
       pub same_map : entry.map.ghost_name ≡ prepared.ghost_name
       pub finds : IsRawEntryOf eq test prepared.now entry
       pub valid : IsValid eq limit (map_of entry)
 
     -- the raw entry is that of a pair which the match accepts, under this hash, in the prepared map
-    pub record FindsEntryByMatch (returns : K → Bool → Type 0) (hash : S → K → ℕ) (wanted : ℕ) (prepared : MutBor (State K V S)) (raw : EntryView K V S) : Type 0 where
+    pub record FindsRawEntryByMatch (returns : K → Bool → Type 0) (hash : S → K → ℕ) (wanted : ℕ) (prepared : MutBor (State K V S)) (raw : EntryView K V S) : Type 0 where
       pub same_map : raw.map.ghost_name ≡ prepared.ghost_name
       pub map : map_of raw ≡ prepared.now
       pub found : ReadsMatch returns hash wanted prepared.now (entry_pair raw)

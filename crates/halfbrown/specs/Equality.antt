@@ -15,8 +15,8 @@ as_map pairs = hash_map pairs tt 0
 
 module _ {K V : Type 0} (eq : K → K → Bool) (value_eq : V → V → Bool) where
   -- whether the key has equal values in both lists, or is held in neither
-  abbrev pub same_value : List (K × V) → List (K × V) → K → Bool
-  same_value left right k = option_eq value_eq (value_of eq left k) (value_of eq right k)
+  abbrev pub same_lookup : List (K × V) → List (K × V) → K → Bool
+  same_lookup left right k = option_eq value_eq (value_of eq left k) (value_of eq right k)
 
   -- whether each key of either list has equal values in both: what `==` of std's `HashMap`s with these entries returns
   abbrev pub same_pairs : List (K × V) → List (K × V) → Bool
@@ -37,10 +37,10 @@ module _ {K V : Type 0} (eq : K → K → Bool) (value_eq : V → V → Bool) wh
 
 module _ {K V : Type 0} (eq : K → K → Bool) (value_eq : V → V → Bool) (keys : IsEquivalence eq) where
   -- an equal key has the same values
-  pub equal_has_same : (left right : List (K × V)) (k q : K) → eq k q ≡ true → same_value eq value_eq left right k ≡ same_value eq value_eq left right q
+  pub equal_has_same : (left right : List (K × V)) (k q : K) → eq k q ≡ true → same_lookup eq value_eq left right k ≡ same_lookup eq value_eq left right q
   equal_has_same left right k q same = λ i. option_eq value_eq (lookup_congr eq keys.congr left k q same i) (lookup_congr eq keys.congr right k q same i)
 
-  pub same_pairs-Decides : (left right : List (K × V)) → Decides (same_pairs eq value_eq left right) ((k : K) → same_value eq value_eq left right k ≡ true)
+  pub same_pairs-Decides : (left right : List (K × V)) → Decides (same_pairs eq value_eq left right) ((k : K) → same_lookup eq value_eq left right k ≡ true)
   same_pairs-Decides left right =
       (get_from_hash_map_eq eq value_eq keys (as_map left) (as_map right), hash_map_eq_from_get eq value_eq (as_map left) (as_map right))
 
@@ -55,14 +55,14 @@ module _ {K V : Type 0} (eq : K → K → Bool) (value_eq : V → V → Bool) (k
   transitive values left middle right = hash_map_eq_trans eq value_eq keys values.trans (as_map left) (as_map middle) (as_map right)
 
   -- whether two maps hold the same pairs
-  abbrev pub same_maps : {S : Type 0} → State K V S → State K V S → Bool
-  same_maps a b = same_pairs eq value_eq a.pairs b.pairs
+  abbrev pub equal_maps : {S : Type 0} → State K V S → State K V S → Bool
+  equal_maps a b = same_pairs eq value_eq a.pairs b.pairs
 
-  pub same_maps_per : {S : Type 0} → IsPartialEquivalence value_eq → IsPartialEquivalence (same_maps {S = S})
-  same_maps_per values = record {
+  pub equal_maps_per : {S : Type 0} → IsPartialEquivalence value_eq → IsPartialEquivalence (equal_maps {S = S})
+  equal_maps_per values = record {
     symm = λ a b. symmetric values a.pairs b.pairs;
     trans = λ a b c. transitive values a.pairs b.pairs c.pairs;
   }
 
-  pub same_maps_equiv : {S : Type 0} → IsEquivalence value_eq → IsEquivalence (same_maps {S = S})
-  same_maps_equiv values = equiv (same_maps_per (partial_equiv_from_equiv values)) (λ a. reflexive values.refl a.pairs)
+  pub equal_maps_equiv : {S : Type 0} → IsEquivalence value_eq → IsEquivalence (equal_maps {S = S})
+  equal_maps_equiv values = equiv (equal_maps_per (partial_equiv_from_equiv values)) (λ a. reflexive values.refl a.pairs)

@@ -3,20 +3,20 @@
 use Rattle.std.specs.Prelude.{◌≡◌, ℕ, ◌+◌, ◌^◌, ◌<◌, ◌≤◌, ◌⊎◌, Bool, not, ◌&&◌, ◌==◌, nat_lt, length, Option, None, Some, IfNone, IfSome, MatchBool, MatchOption, Result, OnOk, OnErr, IfErr, if◌then◌else◌}
 use Rattle.half_store.specs.declared.refusal.Refusal.{Refusal}
 use Rattle.half_store.specs.Refusal.{refusal_of}
-use Rattle.half_store.specs.Capacity.{capacity_for, generous_capacity, vec_shrunk, shrunk_capacity}
+use Rattle.half_store.specs.Capacity.{least_table_capacity, generous_capacity, is_vec_shrunk, shrunk_capacity}
 use Rattle.half_store.specs.Store.{capped}
 use Rattle.halfbrown.specs.State.{State, IsValid}
 use Rattle.halfbrown.specs.Pairs.{holds}
 
 -- the capacity that one pair more needs, where no capacity is left for it; else none
-abbrev pub addition_needs : {K V S : Type 0} → State K V S → Option ℕ
-addition_needs m = if nat_lt (length m.pairs) m.capacity then None else Some (length m.pairs + 1)
+abbrev pub growth_needs : {K V S : Type 0} → State K V S → Option ℕ
+growth_needs m = if nat_lt (length m.pairs) m.capacity then None else Some (length m.pairs + 1)
 
 -- the capacity after a granted call: the same where it needs no more; else a table's least that is enough, or what a vector grows to
 abbrev pub HasCapacityAfter : {K V S : Type 0} → ℕ → State K V S → Option ℕ → State K V S → Type 0
 HasCapacityAfter limit old needs new =
     MatchOption needs (new.capacity ≡ old.capacity)
-    (λ n. MatchBool new.is_vec (new.capacity ≡ generous_capacity limit old.capacity n) (new.capacity ≡ capacity_for n))
+    (λ n. MatchBool new.is_vec (new.capacity ≡ generous_capacity limit old.capacity n) (new.capacity ≡ least_table_capacity n))
 
 -- the capacity that a reservation for this many pairs more needs, or none where there is enough
 abbrev pub reserve_needs : {K V S : Type 0} → ℕ → State K V S → ℕ → Option ℕ
@@ -50,11 +50,11 @@ module _ {K V S : Type 0} (limit : ℕ) where
 
   -- the capacity that an insertion of a new key needs, where it needs more
   abbrev pub new_key_needs : State K V S → Option ℕ
-  new_key_needs m = if is_full m then Some (limit + 1) else addition_needs m
+  new_key_needs m = if is_full m then Some (limit + 1) else growth_needs m
 
   -- the capacity that an insertion of k needs, where it needs more: for the switch, or for a new key
   abbrev pub insert_needs : (K → K → Bool) → State K V S → K → Option ℕ
-  insert_needs eq m k = if is_full m then Some (limit + 1) else (if holds eq m.pairs k then None else addition_needs m)
+  insert_needs eq m k = if is_full m then Some (limit + 1) else (if holds eq m.pairs k then None else growth_needs m)
 
   -- a granted call that needed this much capacity and changes no pair: the map is a vector exactly where `is_vec` says so
   pub record Grants (is_vec : Bool) (old : State K V S) (needs : Option ℕ) (new : State K V S) : Type 0 where
@@ -79,7 +79,7 @@ module _ {K V S : Type 0} (limit : ℕ) where
   -- capacity is given back, and so is the table where the limit allows the pairs
   pub record IsShrunk (old new : State K V S) : Type 0 where
     pub pairs : new.pairs ≡ old.pairs
-    pub form : new.is_vec ≡ vec_shrunk limit old.is_vec (length old.pairs)
+    pub form : new.is_vec ≡ is_vec_shrunk limit old.is_vec (length old.pairs)
     pub capacity : new.capacity ≡ shrunk_capacity limit old.is_vec (length old.pairs)
     pub builder : new.builder ≡ old.builder
 

@@ -7,7 +7,7 @@ use Rattle.halfbrown.specs.Growth.{is_vec_after, insert_needs, new_key_needs, Is
 use Rattle.halfbrown.specs.Pairs.{index_of, put, value_of}
 use Rattle.halfbrown.specs.State.{State, IsValid, make_state, contents_of}
 use Rattle.halfbrown.specs.Updates.{HasPut}
-use Rattle.half_store.specs.Capacity.{capacity_for}
+use Rattle.half_store.specs.Capacity.{least_table_capacity}
 use Rattle.half_store.specs.Store.{IsVacancy, filled}
 use Rattle.half_store.specs.declared.refusal.Refusal.{Refusal}
 use Rattle.half_store.specs.declared.store.find.Vacancy.{Vacancy}
@@ -61,7 +61,7 @@ module _ {K V S : Type 0} where
   -- the buckets that making capacity for a pair of this hash reads, whose vacancy is known: where the table grows, those of an insertion probe
   abbrev pub second_probe_reads : (K → ℕ) → State K V S → ℕ → Bool → ℕ
   second_probe_reads hash m h granted =
-      if nat_lt (length m.pairs) m.capacity then 0 else (if granted then probe_length hash m.is_vec (capacity_for (length m.pairs + 1)) m.pairs h else 0)
+      if nat_lt (length m.pairs) m.capacity then 0 else (if granted then probe_length hash m.is_vec (least_table_capacity (length m.pairs + 1)) m.pairs h else 0)
 
   -- a granted call that makes capacity for an insertion, which needed this much: the same pairs, and a full vector is a table now
   abbrev pub Prepares : ℕ → State K V S → Option ℕ → State K V S → Type 0

@@ -54,16 +54,16 @@ module _ {F K V R : Type 0} (g : Once F (Bor K × (MutBor V × Unit {0})) (R × 
 
 module _ {K V S : Type 0} (hash : S → K → ℕ) (m : State K V S) where
   -- after one insertion probe for this hash
-  abbrev pub after_probe : ℕ → Work → Work
-  after_probe wanted before = looked_more (probe_length (hash m.builder) m.is_vec m.capacity m.pairs wanted) before
+  abbrev pub work_after_probe : ℕ → Work → Work
+  work_after_probe wanted before = looked_more (probe_length (hash m.builder) m.is_vec m.capacity m.pairs wanted) before
 
   -- after the key was hashed, in a table, and one insertion probe made for it
-  abbrev pub after_adding : K → Work → Work
-  after_adding key before = after_probe (hash m.builder key) (asked_more (search_asked m.is_vec) before)
+  abbrev pub work_after_adding : K → Work → Work
+  work_after_adding key before = work_after_probe (hash m.builder key) (asked_more (search_asked m.is_vec) before)
 
 -- after a pair of this key was put through the entry: nothing where it has a pair
-abbrev pub after_putting : {K V S : Type 0} → (S → K → ℕ) → EntryView K V S → K → Work → Work
-after_putting hash entry key before = if is_occupied entry then before else after_adding hash (map_of entry) key before
+abbrev pub work_after_putting : {K V S : Type 0} → (S → K → ℕ) → EntryView K V S → K → Work → Work
+work_after_putting hash entry key before = if is_occupied entry then before else work_after_adding hash (map_of entry) key before
 
 -- the stored pair of the key that passes the test is lent, to be read
 pub record ReadsPair {K V S : Type 0} (test : K → Bool) (m : State K V S) (lent : Option (Bor K × Bor V)) : Type 0 where

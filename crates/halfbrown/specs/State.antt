@@ -2,7 +2,7 @@
 use Rattle.std.specs.Prelude.{◌≡◌, ℕ, ◌<◌, ◌≤◌, Bool, true, false, List, length}
 use Rattle.std.specs.List.{IsDistinct}
 use Rattle.std.specs.Map.{keys_of}
-use Rattle.half_store.specs.Capacity.{capacity_for}
+use Rattle.half_store.specs.Capacity.{least_table_capacity}
 use Rattle.half_store.specs.Table.{Contents, contents_code}
 use base.Stored.{Coded, coded×, coded_list, coded_ℕ, coded_bool, coded_via}
 
@@ -48,7 +48,7 @@ state_code k v s = coded_via (coded× coded_bool (coded× (coded_list (coded× k
 
 -- a number of the series 0, 3, 6, 12, 24, ..; a map's table never has 0
 abbrev pub IsTableCapacity : ℕ → Type 0
-IsTableCapacity capacity = capacity ≡ capacity_for capacity
+IsTableCapacity capacity = capacity ≡ least_table_capacity capacity
 
 -- what holds of every map: no two held keys are equal, the pairs fit in the capacity, a vector's capacity is at most the limit, and a
 -- table's is more than the limit and one of the series

@@ -8,7 +8,7 @@ use Rattle.std.proofs.Math.ListN.{length-map}
 use Rattle.std.proofs.lemmas.Map.Made.{is_some-lookup}
 use Rattle.std.specs.Map.{keys_of}
 use Rattle.half_store.specs.Reach.{reach}
-use Rattle.half_store.specs.Capacity.{buckets_of, buckets_for}
+use Rattle.half_store.specs.Capacity.{buckets_of, least_buckets}
 use Rattle.half_store.specs.PairLists.{index_of}
 use Rattle.half_store.specs.Table.{Contents}
 use Rattle.half_store.specs.Work.{Work, first_match_cost}
@@ -35,7 +35,7 @@ use Rattle.halfbrown.proofs.lemmas.pairs.Indices.{absent_of_unheld, found_where_
 -- a table with a capacity has more buckets than that
 buckets-more : (capacity : ℕ) → IsTableCapacity capacity → 0 < buckets_of capacity → capacity < buckets_of capacity
 buckets-more capacity is some =
-    let m : ℕ = buckets_for capacity in
+    let m : ℕ = least_buckets capacity in
     let l = buckets_for-least capacity in
     let same : buckets_of capacity ≡ m = ap buckets_of is ∙ buckets_of-capacity_of m l.count in
     let four : 4 ≤ m = four-le_count m l.count (omega arith) in

@@ -4,8 +4,8 @@ use Rattle.half_store.proofs.Common.{IsBucketCount, buckets_of}
 use Rattle.std.proofs.Math.Nat.{pow-le-pow_right}
 use Rattle.std.proofs.lemmas.Nat.{pow_pos, pow-add}
 use Rattle.std.proofs.lemmas.Grind.{pow_more}
-use Rattle.half_store.specs.Capacity.{more_buckets, buckets_for_more, buckets_for, IsLeastFor}
-use Rattle.half_store.specs.Capacity.{capacity_for}
+use Rattle.half_store.specs.Capacity.{more_buckets, buckets_for_more, least_buckets, IsLeastFor}
+use Rattle.half_store.specs.Capacity.{least_table_capacity}
 
 -- a bucket count that is not 0 is at least 4
 pub four-le_count : (m : ℕ) → IsBucketCount m → 0 < m → 4 ≤ m
@@ -68,10 +68,10 @@ IsLeastFor-more n m l =
     ]
 
 -- the function returns the least bucket count that serves
-pub buckets_for-least : (n : ℕ) → IsLeastFor n (buckets_for n)
-unfolding buckets_for
+pub buckets_for-least : (n : ℕ) → IsLeastFor n (least_buckets n)
+unfolding least_buckets
 buckets_for-least zero = record { count = inl refl; serves = omega arith; least = λ o c s. omega arith }
-buckets_for-least (suc n) = IsLeastFor-more n (buckets_for n) (buckets_for-least n)
+buckets_for-least (suc n) = IsLeastFor-more n (least_buckets n) (buckets_for-least n)
 
 -- there is one alone
 pub IsLeastFor-unique : (n a b : ℕ) → IsLeastFor n a → IsLeastFor n b → a ≡ b
@@ -80,8 +80,8 @@ IsLeastFor-unique n a b x y =
     let q = y.least a x.count x.serves in
     omega arith
 
-pub buckets_for-is : (n m : ℕ) → IsLeastFor n m → m ≡ buckets_for n
-buckets_for-is n m l = IsLeastFor-unique n m (buckets_for n) l (buckets_for-least n)
+pub buckets_for-is : (n m : ℕ) → IsLeastFor n m → m ≡ least_buckets n
+buckets_for-is n m l = IsLeastFor-unique n m (least_buckets n) l (buckets_for-least n)
 
 -- a bucket count is a multiple of 4
 pub quarter : (m : ℕ) → IsBucketCount m → (q : ℕ) × (m ≡ 4 * q)
@@ -100,7 +100,7 @@ buckets_of-capacity_of m c =
     rw e (omega arith)
 
 -- where the buckets are just filled, one pair more needs the next bucket count
-pub buckets_for-grown : (m : ℕ) → IsBucketCount m → buckets_for (suc (capacity_of m)) ≡ more_buckets m
+pub buckets_for-grown : (m : ℕ) → IsBucketCount m → least_buckets (suc (capacity_of m)) ≡ more_buckets m
 buckets_for-grown m c =
     let r = capacity_of-more m c in
     sym (buckets_for-is (suc (capacity_of m)) (more_buckets m)
@@ -111,7 +111,7 @@ buckets_for-grown m c =
     })
 
 -- the capacity of a bucket count is one of the series
-pub capacity_for-capacity_of : (m : ℕ) → IsBucketCount m → capacity_of m ≡ capacity_for (capacity_of m)
+pub capacity_for-capacity_of : (m : ℕ) → IsBucketCount m → capacity_of m ≡ least_table_capacity (capacity_of m)
 capacity_for-capacity_of m count =
     ap capacity_of (buckets_for-is (capacity_of m) m record {
       count = count;

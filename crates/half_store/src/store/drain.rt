@@ -20,7 +20,7 @@ pub struct Drained<K, V> {
 }
 
 impl<K, V> Model for Drained<K, V> {
-    ghost use Rattle.half_store.specs.Drained.{drained_of, IsDrained};
+    ghost use Rattle.half_store.specs.Drained.{drained_of, AreEvenQueues};
     ghost use Rattle.half_store.specs.Store.{StoreState, store_code};
 
     ghost Value = { StoreState K V };
@@ -29,7 +29,7 @@ impl<K, V> Model for Drained<K, V> {
 
     ghost view = { λ d. drained_of d.keys d.values d.table };
 
-    ghost invariant = { λ d. IsDrained d.keys d.values d.table };
+    ghost invariant = { λ d. AreEvenQueues d.keys d.values d.table };
 }
 
 /// What becomes a store again: `Drained` alone. A workaround: the prover cannot see through the drop of a struct that owns

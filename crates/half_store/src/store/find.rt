@@ -34,7 +34,7 @@ impl<K, V> Store<K, V> {
         tally: &mut Tally,
     ) -> Result<usize, Vacancy>
         requires { CallableOnKeys (F.pre matches.now) (keys_of self.now.pairs) }
-        ensures found { StoreSearch (FnReturnsAt F.Fn matches.now) hash self.now result }
+        ensures found { StoreSearch (FnReturnsAt F.Fn matches.now) self.now hash result }
         ensures cost { IsStoreSearchCost self.now hash scan (result_ok result) tally.old tally.new }
     {
         // This test comes before the keys are read, so that LLVM can join it to the one before the hash.

@@ -5,7 +5,7 @@ ghost use Rattle.half_store.specs.Store.{IsStoreClone, MakesStore, StoreReserves
 ghost use Rattle.half_store.specs.Capacity.{capacity_of};
 
 use super::Store;
-use crate::capacity::{buckets_for, capacity_of, generous_capacity};
+use crate::capacity::{least_buckets, capacity_of, generous_capacity};
 use crate::refusal::check_size;
 use crate::{Columns, Refusal, Table};
 use std::alloc::{AllocError, Global};
@@ -116,7 +116,7 @@ impl<K, V> Store<K, V> {
             self.table = None;
             return Ok(());
         }
-        let buckets = buckets_for(table.len());
+        let buckets = least_buckets(table.len());
         if capacity_of(buckets) < table.capacity() {
             let fresh = Table::empty(self.columns.allocator(), buckets)?;
             self.columns.shrink_to(fresh.capacity())?;

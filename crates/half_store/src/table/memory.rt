@@ -1,14 +1,14 @@
 //! Making a table, and moving its pairs into another one, by their stored hashes.
 ghost use Rattle.std.specs.Prelude.{◌≡◌, ◌^◌, ◌<◌, ◌≤◌, ◌↔◌, [], length, replicate, Err, IfOk, IsOk};
 ghost use Rattle.half_store.specs.Table.{IsIndexed};
-ghost use Rattle.half_store.specs.Capacity.{capacity_of, buckets_for, buckets_of, IsBucketCount};
+ghost use Rattle.half_store.specs.Capacity.{capacity_of, least_buckets, buckets_of, IsBucketCount};
 ghost use Rattle.half_store.specs.Words.{word_size};
 
 use super::Table;
 use super::probe::first_empty;
 use crate::blocks::{clone_all, move_to};
 use crate::buckets::HashedBuckets;
-use crate::capacity::{buckets_for, capacity_of};
+use crate::capacity::{least_buckets, capacity_of};
 use crate::refusal::check_size;
 use crate::words::{WordArray, Words};
 use crate::{Refusal, uncounted};
@@ -20,13 +20,13 @@ impl Table {
     /// Fails with `Size` exactly for more than 2^60 pairs.
     pub fn with_capacity(alloc: Global, needed: usize) -> Result<Table, Refusal>
         ensures hashes { IfOk result (λ t. t.hashes ≡ []) }
-        ensures buckets { IfOk result (λ t. t.buckets ≡ buckets_for needed) }
+        ensures buckets { IfOk result (λ t. t.buckets ≡ least_buckets needed) }
         ensures capacity { IfOk result (λ t. needed ≤ capacity_of t.buckets) }
         ensures size { (result ≡ Err Refusal.Size) ↔ (2 ^ 60 < needed) }
         ensures granted { needed ≡ 0 → IsOk result }
     {
         check_size(needed)?;
-        Ok(Table::empty(alloc, buckets_for(needed))?)
+        Ok(Table::empty(alloc, least_buckets(needed))?)
     }
 
     /// A table with as many buckets and the same stored hashes.

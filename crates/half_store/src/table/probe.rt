@@ -9,7 +9,7 @@ ghost use Rattle.std.specs.Fn.{FnReturnsAt};
 ghost use Rattle.half_store.specs.Reach.{home, bucket_after};
 ghost use Rattle.half_store.specs.Slots.{slots_from, WithinHashes, distance_from_home, slot_hash_count, IsSlotVacancy, EndsAtPair};
 ghost use Rattle.half_store.specs.Slots.{HasVacantSlot, ProbeInvariant};
-ghost use Rattle.half_store.specs.Search.{CallableInBuckets, CallableOnHash, RefusedInBuckets, ReturnsAt};
+ghost use Rattle.half_store.specs.Search.{CallableInBuckets, CallableOnHash, RejectedInBuckets, ReturnsAt};
 ghost use Rattle.half_store.specs.Table.{state_of_words, IsIndexed, TableSearch};
 ghost use Rattle.half_store.specs.Capacity.{IsBucketCount};
 ghost use Rattle.half_store.specs.Work.{looked_more};
@@ -65,7 +65,7 @@ pub fn probe_for<P: Buckets, K, F: Fn(&K) -> bool>(
         (λ found. ReturnsAt (FnReturnsAt F.Fn matches.now) keys.now found.0 true) }
     ensures vacancy { IfErr result
         (IsSlotVacancy (slots_from (P.hashes buckets.now) (P.words buckets.now)) hash) }
-    ensures refused { OnErr result (RefusedInBuckets (FnReturnsAt F.Fn matches.now)
+    ensures rejected { OnErr result (RejectedInBuckets (FnReturnsAt F.Fn matches.now)
         (P.hashes buckets.now) (P.words buckets.now) hash keys.now) }
     ensures asked { tally.new.asked ≡ tally.old.asked }
     ensures looked_missing { IfErr result (λ bucket. tally.new.looked ≡ tally.old.looked

@@ -3,7 +3,7 @@ ghost use Rattle.std.specs.Prelude.{◌≡◌, ◌+◌, ◌*◌, ◌<◌, ◌≤
 ghost use Rattle.half_store.specs.Slots.{EachOnce};
 ghost use Rattle.half_store.specs.Work.{looked_more, ReadsWithin};
 ghost use Rattle.half_store.specs.Reach.{reach};
-ghost use Rattle.half_store.specs.StoreRemoval.{MovesLast};
+ghost use Rattle.half_store.specs.StoreRemoval.{MovesToEnd};
 ghost use Rattle.half_store.specs.Table.{IsIndexed};
 
 use super::Table;
@@ -54,7 +54,7 @@ fn move_last<B: Words>(buckets: &mut B, index: usize, pairs: usize, tally: &mut 
     requires within { index < pairs }
     requires each { EachOnce pairs (B.words buckets.old) }
     requires fits { pairs ≤ B.most buckets.old }
-    ensures moves { MovesLast pairs index (B.words buckets.old) (B.words buckets.new) }
+    ensures moves { MovesToEnd pairs index (B.words buckets.old) (B.words buckets.new) }
     ensures most { B.most buckets.new ≡ B.most buckets.old }
     ensures cost { tally.new ≡ looked_more (length (B.words buckets.old)) tally.old }
 {

@@ -1,7 +1,7 @@
 //! The capacity of the two columns: making it, and giving it back. All memory is had before anything changes.
 ghost use Rattle.std.specs.Prelude.{◌≡◌, ◌<◌, ◌≤◌, min, [], length, IsOk, IfOk, OnOk, OnErr};
 ghost use Rattle.std.specs.List.{AllZip};
-ghost use Rattle.half_store.specs.Capacity.{capacity_of, capacity_for};
+ghost use Rattle.half_store.specs.Capacity.{capacity_of, least_table_capacity};
 
 use super::Columns;
 use crate::Table;
@@ -103,7 +103,7 @@ impl<K, V> Columns<K, V> {
         ensures ok { OnOk result (self.new.capacity ≡ capacity_of fresh.buckets) }
         ensures hashes { table.new.hashes ≡ table.old.hashes }
         ensures buckets { OnOk result (table.new.buckets ≡ fresh.buckets) }
-        ensures series { OnOk result (self.new.capacity ≡ capacity_for self.new.capacity) }
+        ensures series { OnOk result (self.new.capacity ≡ least_table_capacity self.new.capacity) }
         ensures err { OnErr result ((self.new ≡ self.old) × (table.new ≡ table.old)) }
     {
         let values = grow_with_column(&mut self.keys, fresh.capacity())?;

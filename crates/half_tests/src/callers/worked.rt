@@ -1,7 +1,7 @@
 //! Worked maps, in the order of `tests/scripts/worked`: how many buckets a search that finds nothing reads, by the clause of its
 //! call, how often it hashes, and how many keys it compares.
 ghost use Rattle.std.specs.Prelude.{◌≡◌, ◌<◌, [], ◌∷◌, OnOk, IfOk, IsTrue, None, length};
-ghost use Rattle.half_store.specs.Capacity.{capacity_for};
+ghost use Rattle.half_store.specs.Capacity.{least_table_capacity};
 ghost use Rattle.half_tests.specs.Tables.{IsTableOf, are_distinct, more_work, twins};
 
 use halfbrown::{Refusal, SizedHashMap, Tally};
@@ -21,7 +21,7 @@ pub fn table_of<'a>(
 ) -> Result<Numbers<'a>, Refusal>
     requires some { 0 < length keys.now }
     requires distinct { IsTrue (are_distinct keys.now) }
-    ensures { IfOk result (IsTableOf rule (twins keys.now) (capacity_for (length keys.now))) }
+    ensures { IfOk result (IsTableOf rule (twins keys.now) (least_table_capacity (length keys.now))) }
 {
     let mut map = Numbers::with_hasher(alloc, Counting::new(rule, asked));
     for key in keys {
@@ -33,7 +33,7 @@ pub fn table_of<'a>(
 }
 
 /// Keys 3, 7 and 11, whose home is the last bucket of four. Key 3 has bucket 3, key 7 bucket 0 and key 11 bucket 1.
-#[tactic(auto, unfolding(half_store::specs::Capacity::buckets_for))]
+#[tactic(auto, unfolding(half_store::specs::Capacity::least_buckets))]
 pub fn crowded(alloc: Global, asked: &Cell<u64>) -> Result<Numbers<'_>, Refusal>
     ensures { IfOk result (IsTableOf Rule.Plain (twins (3 ∷ 7 ∷ 11 ∷ [])) 3) }
 {
@@ -86,7 +86,7 @@ pub fn by_another_hash(alloc: Global, asked: &Cell<u64>, tally: &mut Tally) -> R
 }
 
 /// Keys 1, 2 and 3 of hash 0 in four buckets: they have buckets 0, 1 and 2.
-#[tactic(auto, unfolding(half_store::specs::Capacity::buckets_for))]
+#[tactic(auto, unfolding(half_store::specs::Capacity::least_buckets))]
 pub fn one_hash(alloc: Global, asked: &Cell<u64>) -> Result<Numbers<'_>, Refusal>
     ensures { IfOk result (IsTableOf Rule.Zero (twins (1 ∷ 2 ∷ 3 ∷ [])) 3) }
 {

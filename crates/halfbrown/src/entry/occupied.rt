@@ -9,7 +9,7 @@ ghost use Rattle.std.specs.Prelude.{◌≡◌, ◌<◌, true, Some, IfSome, leng
 ghost use Rattle.std.specs.Borrow.{sem};
 ghost use Rattle.half_store.specs.PairLists.{swap_remove_at};
 ghost use Rattle.halfbrown.specs.Entry.{Occupied, occupied, EntryLends, OccupiedLends, OccupiedRests, with_entry_value};
-ghost use Rattle.halfbrown.specs.EntryView.{entry_key, entry_pair, entry_value, map_of, pairs_without, IsWritten, HasNewKey};
+ghost use Rattle.halfbrown.specs.EntryView.{entry_key, entry_pair, entry_value, map_of, pairs_without, IsWritten, IsRekeyed};
 ghost use Rattle.halfbrown.specs.State.{IsValid, WithPairs};
 ghost use Rattle.halfbrown.specs.Updates.{HasKeyReplaced};
 
@@ -192,7 +192,7 @@ impl<'a, K: Eq + Hash, V, S: KeyHasher<K>, L: Limit> OccupiedEntry<'a, K, V, S, 
     pub fn insert_key(&mut self, key: K) -> K
         requires { IfSome (entry_key (occupied self.old)) (λ k. K.eq key k ≡ true) }
         ensures old { entry_key (occupied self.old) ≡ Some result }
-        ensures new { HasNewKey (occupied self.old) key (occupied self.new) }
+        ensures new { IsRekeyed (occupied self.old) key (occupied self.new) }
         ensures replaced { HasKeyReplaced K.eq (map_of (occupied self.old)).pairs key
             (map_of (occupied self.new)).pairs }
         ensures valid { IsValid K.eq L.LIMIT (map_of (occupied self.new)) }

@@ -2,8 +2,8 @@
 ghost use Rattle.std.specs.Prelude.{◌≡◌};
 ghost use Rattle.std.specs.List.{list_all};
 ghost use Rattle.halfbrown.specs.Costs.{AreSearchCosts};
-ghost use Rattle.halfbrown.specs.Equality.{same_pairs, holds_pair, keys_while_same, searched_keys, same_maps_per};
-ghost use Rattle.halfbrown.specs.Equality.{same_maps_equiv};
+ghost use Rattle.halfbrown.specs.Equality.{same_pairs, holds_pair, keys_while_same, searched_keys, equal_maps_per};
+ghost use Rattle.halfbrown.specs.Equality.{equal_maps_equiv};
 
 use super::LimitedHashMap;
 use crate::{KeyHasher, Limit};
@@ -74,7 +74,7 @@ impl<K: Eq + Hash, V: PartialEq, S: KeyHasher<K>, L: Limit> PartialEq
     for LimitedHashMap<K, V, S, L> {
     ghost eq = { λ a b. same_pairs K.eq V.eq a.pairs b.pairs };
 
-    ghost laws = { same_maps_per K.eq V.eq K.Eq.laws V.laws };
+    ghost laws = { equal_maps_per K.eq V.eq K.Eq.laws V.laws };
 
     /// Returns whether both maps hold equal keys with equal values, in any order, as `same_pairs` does.
     ///
@@ -89,5 +89,5 @@ impl<K: Eq + Hash, V: PartialEq, S: KeyHasher<K>, L: Limit> PartialEq
 }
 
 impl<K: Eq + Hash, V: Eq, S: KeyHasher<K>, L: Limit> Eq for LimitedHashMap<K, V, S, L> {
-    ghost laws = { same_maps_equiv K.eq V.eq K.Eq.laws V.Eq.laws };
+    ghost laws = { equal_maps_equiv K.eq V.eq K.Eq.laws V.Eq.laws };
 }

@@ -4,7 +4,7 @@ ghost use Rattle.half_store.specs.Work.{looked_more, asked_more};
 ghost use Rattle.half_store.specs.Store.{IsVacancy};
 ghost use Rattle.halfbrown.specs.CostRanges.{GrewBy};
 ghost use Rattle.halfbrown.specs.Costs.{switch_asked, new_key_cost, IsInsertCost};
-ghost use Rattle.halfbrown.specs.Growth.{is_full, addition_needs, insert_needs, new_key_needs};
+ghost use Rattle.halfbrown.specs.Growth.{is_full, growth_needs, insert_needs, new_key_needs};
 ghost use Rattle.halfbrown.specs.Pairs.{holds};
 ghost use Rattle.halfbrown.specs.Insertion.{IsPreparedFor, MayInsertAt, PreparesOrRefuses, second_probe_reads};
 ghost use Rattle.halfbrown.specs.State.{contents_of};
@@ -74,7 +74,7 @@ impl<K: Eq + Hash, V, S: KeyHasher<K>, L: Limit> LimitedHashMap<K, V, S, L> {
     fn reserve_one(&mut self) -> Result<(), Refusal>
         requires not_full { is_full L.LIMIT self.old ≡ false }
         ensures prepares { PreparesOrRefuses L.LIMIT K.eq self.old
-            (addition_needs self.old) result self.new }
+            (growth_needs self.old) result self.new }
         ensures capacity { OnOk result (length self.new.pairs < self.new.capacity) }
     {
         if self.store.has_capacity_left() {
@@ -94,7 +94,7 @@ impl<K: Eq + Hash, V, S: KeyHasher<K>, L: Limit> LimitedHashMap<K, V, S, L> {
         requires vacant { 0 < self.old.capacity
             → IsVacancy self.old.is_vec (contents_of self.old) vacancy.hash vacancy }
         ensures prepares { PreparesOrRefuses L.LIMIT K.eq self.old
-            (addition_needs self.old) result self.new }
+            (growth_needs self.old) result self.new }
         ensures capacity { OnOk result (length self.new.pairs < self.new.capacity) }
         ensures vacant { IfOk result
             (IsVacancy self.new.is_vec (contents_of self.new) vacancy.hash) }

@@ -6,7 +6,7 @@ ghost use Rattle.halfbrown.specs.Entry.{occupied, raw_view};
 ghost use Rattle.halfbrown.specs.EntryView.{map_of, is_occupied, entry_pair, entry_value};
 ghost use Rattle.halfbrown.specs.EntryView.{AdmitsKey, PutsEntry, ModifiesEntry};
 ghost use Rattle.halfbrown.specs.Pairs.{holds};
-ghost use Rattle.halfbrown.specs.RawEntry.{ModifiesPair, after_putting};
+ghost use Rattle.halfbrown.specs.RawEntry.{ModifiesPair, work_after_putting};
 
 use super::RawEntryMut;
 use crate::{KeyHasher, Limit, OccupiedEntry};
@@ -45,7 +45,7 @@ impl<'a, K: Eq + Hash, V, S: KeyHasher<K>, L: Limit> RawEntryMut<'a, K, V, S, L>
         V: Drop,
         requires { AdmitsKey K.eq (raw_view self) key }
         ensures puts { PutsEntry L.LIMIT K.eq (raw_view self.entry) key value (occupied result) }
-        ensures cost { tally.new ≡ after_putting S.hash (raw_view self.entry) key tally.old }
+        ensures cost { tally.new ≡ work_after_putting S.hash (raw_view self.entry) key tally.old }
     {
         match self {
             RawEntryMut::Occupied(mut entry) => {
@@ -90,7 +90,7 @@ impl<'a, K: Eq + Hash, V, S: KeyHasher<K>, L: Limit> RawEntryMut<'a, K, V, S, L>
         ensures puts { PutsEntry L.LIMIT K.eq (raw_view self.entry) default_key
             (unwrap_or (entry_value (raw_view self.entry)) default_value) (occupied result) }
         ensures cost { tally.new
-            ≡ after_putting S.hash (raw_view self.entry) default_key tally.old }
+            ≡ work_after_putting S.hash (raw_view self.entry) default_key tally.old }
     {
         match self {
             RawEntryMut::Occupied(entry) => {
@@ -139,7 +139,7 @@ impl<'a, K: Eq + Hash, V, S: KeyHasher<K>, L: Limit> RawEntryMut<'a, K, V, S, L>
         ensures pair { (result.0.now, result.1.now)
             ≡ unwrap_or (entry_pair (raw_view self.entry)) (default_key, default_value) }
         ensures cost { tally.new
-            ≡ after_putting S.hash (raw_view self.entry) default_key tally.old }
+            ≡ work_after_putting S.hash (raw_view self.entry) default_key tally.old }
     {
         self.or_insert_entry_counted(default_key, default_value, tally)
             .into_key_value()
@@ -175,7 +175,7 @@ impl<'a, K: Eq + Hash, V, S: KeyHasher<K>, L: Limit> RawEntryMut<'a, K, V, S, L>
         ensures pair { UnwrapsOrElse (entry_pair (raw_view self.entry)) (F.post default)
             (result.0.now, result.1.now) }
         ensures cost { tally.new
-            ≡ after_putting S.hash (raw_view self.entry) result.0.now tally.old }
+            ≡ work_after_putting S.hash (raw_view self.entry) result.0.now tally.old }
     {
         self.or_insert_entry_with(default, tally).into_key_value()
     }
@@ -195,7 +195,7 @@ impl<'a, K: Eq + Hash, V, S: KeyHasher<K>, L: Limit> RawEntryMut<'a, K, V, S, L>
         ensures pair { IfSome (entry_pair (occupied result))
             (UnwrapsOrElse (entry_pair (raw_view self.entry)) (F.post default)) }
         ensures cost { IfSome (entry_pair (occupied result))
-            (λ pair. tally.new ≡ after_putting S.hash (raw_view self.entry) pair.0 tally.old) }
+            (λ pair. tally.new ≡ work_after_putting S.hash (raw_view self.entry) pair.0 tally.old) }
     {
         match self {
             RawEntryMut::Occupied(entry) => {

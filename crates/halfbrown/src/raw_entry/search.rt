@@ -12,7 +12,7 @@ ghost use Rattle.half_store.specs.Work.{asked_more};
 ghost use Rattle.halfbrown.specs.Costs.{IsLookupCost, IsHashedLookupCost, switch_asked};
 ghost use Rattle.halfbrown.specs.Lookup.{ReadsMatch, IsMatchCost};
 ghost use Rattle.halfbrown.specs.Entry.{raw_view};
-ghost use Rattle.halfbrown.specs.EntryView.{entry_pair, FindsEntry, FindsEntryByMatch};
+ghost use Rattle.halfbrown.specs.EntryView.{entry_pair, FindsRawEntry, FindsRawEntryByMatch};
 ghost use Rattle.halfbrown.specs.RawEntry.{map_in, prepared_map, prepared_ref, MakesBuilder, RestsIfUnprepared, ReadsPair};
 
 use super::{Prepared, RawEntryBuilder, RawEntryBuilderMut, RawEntryMut, RawVacantEntryMut};
@@ -189,7 +189,7 @@ impl<'a, K: Eq + Hash, V, S: KeyHasher<K>, L: Limit> RawEntryBuilderMut<'a, K, V
     /// ```
     #[inline]
     pub fn from_key<Q: Equivalent<K>>(self, key: Q) -> RawEntryMut<'a, K, V, S, L>
-        ensures { FindsEntry L.LIMIT K.eq (Q.equivalent key)
+        ensures { FindsRawEntry L.LIMIT K.eq (Q.equivalent key)
             (prepared_ref self.entry) (raw_view result) }
     {
         uncounted!(self.from_key_counted(key))
@@ -202,7 +202,7 @@ impl<'a, K: Eq + Hash, V, S: KeyHasher<K>, L: Limit> RawEntryBuilderMut<'a, K, V
         key: Q,
         tally: &mut Tally,
     ) -> RawEntryMut<'a, K, V, S, L>
-        ensures searches { FindsEntry L.LIMIT K.eq (Q.equivalent key)
+        ensures searches { FindsRawEntry L.LIMIT K.eq (Q.equivalent key)
             (prepared_ref self.entry) (raw_view result) }
         ensures cost { IsLookupCost S.KeyHasher Q.hash_input Q.equivalent key (prepared_map self.entry)
             tally.old tally.new }
@@ -231,7 +231,7 @@ impl<'a, K: Eq + Hash, V, S: KeyHasher<K>, L: Limit> RawEntryBuilderMut<'a, K, V
         key: Q,
     ) -> RawEntryMut<'a, K, V, S, L>
         requires { hash ≡ S.hash_writes (prepared_map self).builder (Q.hash_input key) }
-        ensures { FindsEntry L.LIMIT K.eq (Q.equivalent key)
+        ensures { FindsRawEntry L.LIMIT K.eq (Q.equivalent key)
             (prepared_ref self.entry) (raw_view result) }
     {
         uncounted!(self.from_key_hashed_nocheck_counted(hash, key))
@@ -246,7 +246,7 @@ impl<'a, K: Eq + Hash, V, S: KeyHasher<K>, L: Limit> RawEntryBuilderMut<'a, K, V
         tally: &mut Tally,
     ) -> RawEntryMut<'a, K, V, S, L>
         requires { hash ≡ S.hash_writes (prepared_map self).builder (Q.hash_input key) }
-        ensures searches { FindsEntry L.LIMIT K.eq (Q.equivalent key)
+        ensures searches { FindsRawEntry L.LIMIT K.eq (Q.equivalent key)
             (prepared_ref self.entry) (raw_view result) }
         ensures cost { IsHashedLookupCost S.KeyHasher Q.hash_input Q.equivalent key (prepared_map self.entry)
             tally.old tally.new }
@@ -275,7 +275,7 @@ impl<'a, K: Eq + Hash, V, S: KeyHasher<K>, L: Limit> RawEntryBuilderMut<'a, K, V
     #[inline]
     pub fn from_hash<F: Fn(&K) -> bool>(self, hash: u64, is_match: F) -> RawEntryMut<'a, K, V, S, L>
         requires { CallableOnKeys (F.pre is_match) (keys_of (prepared_map self).pairs) }
-        ensures { FindsEntryByMatch L.LIMIT K.eq (FnReturnsAt F.Fn is_match)
+        ensures { FindsRawEntryByMatch L.LIMIT K.eq (FnReturnsAt F.Fn is_match)
             S.hash hash (prepared_ref self.entry) (raw_view result) }
     {
         uncounted!(self.from_hash_counted(hash, is_match))
@@ -290,7 +290,7 @@ impl<'a, K: Eq + Hash, V, S: KeyHasher<K>, L: Limit> RawEntryBuilderMut<'a, K, V
         tally: &mut Tally,
     ) -> RawEntryMut<'a, K, V, S, L>
         requires { CallableOnKeys (F.pre is_match) (keys_of (prepared_map self).pairs) }
-        ensures searches { FindsEntryByMatch L.LIMIT K.eq (FnReturnsAt F.Fn is_match)
+        ensures searches { FindsRawEntryByMatch L.LIMIT K.eq (FnReturnsAt F.Fn is_match)
             S.hash hash (prepared_ref self.entry) (raw_view result) }
         ensures cost { IsMatchCost S.hash hash (prepared_map self.entry)
             (entry_pair (raw_view result)) tally.old tally.new }

@@ -8,7 +8,7 @@ ghost use Rattle.std.specs.Prelude.{◌≡◌, false};
 ghost use Rattle.halfbrown.specs.Pairs.{holds};
 ghost use Rattle.halfbrown.specs.Entry.{occupied, raw_vacant};
 ghost use Rattle.halfbrown.specs.EntryView.{map_of, AddsEntry};
-ghost use Rattle.halfbrown.specs.RawEntry.{LendsPair, after_adding, after_probe};
+ghost use Rattle.halfbrown.specs.RawEntry.{LendsPair, work_after_adding, work_after_probe};
 
 use super::RawVacantEntryMut;
 use crate::{KeyHasher, Limit, OccupiedEntry};
@@ -37,7 +37,7 @@ impl<'a, K: Eq + Hash, V, S: KeyHasher<K>, L: Limit> RawVacantEntryMut<'a, K, V,
         requires { holds K.eq (map_of (raw_vacant self)).pairs key ≡ false }
         ensures lends { LendsPair key value result }
         ensures cost { tally.new
-            ≡ after_adding S.hash (map_of (raw_vacant self.entry)) key tally.old }
+            ≡ work_after_adding S.hash (map_of (raw_vacant self.entry)) key tally.old }
     {
         self.insert_entry_counted(key, value, tally)
             .into_key_value()
@@ -68,7 +68,7 @@ impl<'a, K: Eq + Hash, V, S: KeyHasher<K>, L: Limit> RawVacantEntryMut<'a, K, V,
         requires { holds K.eq (map_of (raw_vacant self)).pairs key ≡ false }
         ensures adds { AddsEntry L.LIMIT K.eq (raw_vacant self.entry) key value (occupied result) }
         ensures cost { tally.new
-            ≡ after_adding S.hash (map_of (raw_vacant self.entry)) key tally.old }
+            ≡ work_after_adding S.hash (map_of (raw_vacant self.entry)) key tally.old }
     {
         let hash = self.map.hash_in_table(&key, tally);
         self.add(hash, key, value, tally)
@@ -102,7 +102,7 @@ impl<'a, K: Eq + Hash, V, S: KeyHasher<K>, L: Limit> RawVacantEntryMut<'a, K, V,
         requires absent { holds K.eq (map_of (raw_vacant self)).pairs key ≡ false }
         ensures lends { LendsPair key value result }
         ensures cost { tally.new
-            ≡ after_probe S.hash (map_of (raw_vacant self.entry)) hash tally.old }
+            ≡ work_after_probe S.hash (map_of (raw_vacant self.entry)) hash tally.old }
     {
         self.insert_entry_hashed_nocheck_counted(hash, key, value, tally)
             .into_key_value()
@@ -141,7 +141,7 @@ impl<'a, K: Eq + Hash, V, S: KeyHasher<K>, L: Limit> RawVacantEntryMut<'a, K, V,
         requires absent { holds K.eq (map_of (raw_vacant self)).pairs key ≡ false }
         ensures adds { AddsEntry L.LIMIT K.eq (raw_vacant self.entry) key value (occupied result) }
         ensures cost { tally.new
-            ≡ after_probe S.hash (map_of (raw_vacant self.entry)) hash tally.old }
+            ≡ work_after_probe S.hash (map_of (raw_vacant self.entry)) hash tally.old }
     {
         self.add(hash, key, value, tally)
     }
@@ -181,7 +181,7 @@ impl<'a, K: Eq + Hash, V, S: KeyHasher<K>, L: Limit> RawVacantEntryMut<'a, K, V,
         requires absent { holds K.eq (map_of (raw_vacant self)).pairs key ≡ false }
         ensures lends { LendsPair key value result }
         ensures cost { tally.new
-            ≡ after_probe S.hash (map_of (raw_vacant self.entry)) hash tally.old }
+            ≡ work_after_probe S.hash (map_of (raw_vacant self.entry)) hash tally.old }
     {
         self.insert_hashed_nocheck_counted(hash, key, value, tally)
     }
@@ -194,7 +194,7 @@ impl<'a, K: Eq + Hash, V, S: KeyHasher<K>, L: Limit> RawVacantEntryMut<'a, K, V,
         requires absent { holds K.eq (map_of (raw_vacant self)).pairs key ≡ false }
         ensures adds { AddsEntry L.LIMIT K.eq (raw_vacant self.entry) key value (occupied result) }
         ensures cost { tally.new
-            ≡ after_probe S.hash (map_of (raw_vacant self.entry)) hash tally.old }
+            ≡ work_after_probe S.hash (map_of (raw_vacant self.entry)) hash tally.old }
     {
         let map = self.map;
         let vacancy = map.vacancy_for(hash, tally);

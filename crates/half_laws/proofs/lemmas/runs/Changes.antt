@@ -8,7 +8,7 @@ use Rattle.halfbrown.specs.declared.run.Command.{Command}
 use Rattle.halfbrown.specs.declared.run.Command.TheVariants.{InsertNew}
 use Rattle.halfbrown.specs.declared.run.Reply.{Reply}
 use Rattle.halfbrown.specs.declared.run.Reply.TheVariants.{Refused}
-use Rattle.halfbrown.specs.Growth.{addition_needs, new_key_needs, insert_needs, is_full, IsShrunk}
+use Rattle.halfbrown.specs.Growth.{growth_needs, new_key_needs, insert_needs, is_full, IsShrunk}
 use Rattle.halfbrown.specs.Insertion.{Puts}
 use Rattle.halfbrown.specs.Pairs.{holds}
 use Rattle.halfbrown.specs.State.{State}
@@ -28,13 +28,13 @@ module _ {K V S : Type 0} where
   abbrev pub IsDue : State K V S → Option ℕ → Type 0
   IsDue m needs = IfSome needs (λ n. (n ≡ length m.pairs + 1) × (m.capacity ≤ length m.pairs))
 
-  addition_due : (m : State K V S) → IsDue m (addition_needs m)
+  addition_due : (m : State K V S) → IsDue m (growth_needs m)
   addition_due m = by (nat_lt (length m.pairs) m.capacity) (not_less (length m.pairs) m.capacity) where
     by : (few : Bool) → (few ≡ false → m.capacity ≤ length m.pairs) → IsDue m (if few then None else Some (length m.pairs + 1))
     by true h = tt
     by false h = (refl, h refl)
 
-  held_due : (m : State K V S) (held : Bool) → IsDue m (if held then None else addition_needs m)
+  held_due : (m : State K V S) (held : Bool) → IsDue m (if held then None else growth_needs m)
   held_due m true = tt
   held_due m false = addition_due m
 
@@ -70,10 +70,10 @@ module _ {K V S : Type 0} (limit : ℕ) (eq : K → K → Bool) where
   -- by an insertion of k, and of a new key
   puts_any : (old new : State K V S) (k : K) (v : V) → Puts limit eq old k v (insert_needs limit eq old k) new → PutsDue old new
   puts_any old new k v =
-      puts_due old new k v (if holds eq old.pairs k then None else addition_needs old) (held_due old (holds eq old.pairs k))
+      puts_due old new k v (if holds eq old.pairs k then None else growth_needs old) (held_due old (holds eq old.pairs k))
 
   puts_new : (old new : State K V S) (k : K) (v : V) → Puts limit eq old k v (new_key_needs limit old) new → PutsDue old new
-  puts_new old new k v = puts_due old new k v (addition_needs old) (addition_due old)
+  puts_new old new k v = puts_due old new k v (growth_needs old) (addition_due old)
 
   held_changes : (old new : State K V S) (k : K) (v : V) (held : Bool)
       → MatchBool held (new ≡ old) (Puts limit eq old k v (new_key_needs limit old) new) → Changes old (InsertNew k v) new

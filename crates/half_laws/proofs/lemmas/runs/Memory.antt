@@ -3,8 +3,8 @@ use Rattle.std.proofs.Common.{◌≡◌, ℕ, zero, suc, ◌+◌, ◌*◌, ◌�
 use Rattle.std.proofs.Common.{None, Some, sym, ap, refl, subst, arith, if◌then◌else◌}
 use Rattle.std.proofs.lemmas.Grind.{common_steps}
 use Rattle.std.specs.Prelude.{MatchBool}
-use Rattle.half_store.specs.Capacity.{IsBucketCount, capacity_of, buckets_of, buckets_for_more, buckets_for, capacity_for, generous_capacity}
-use Rattle.half_store.specs.Capacity.{least_capacity, vec_shrunk}
+use Rattle.half_store.specs.Capacity.{IsBucketCount, capacity_of, buckets_of, buckets_for_more, least_buckets, least_table_capacity, generous_capacity}
+use Rattle.half_store.specs.Capacity.{least_capacity, is_vec_shrunk}
 use Rattle.half_store.specs.Arrays.{bytes}
 use Rattle.half_store.specs.Words.{word_size}
 use Rattle.half_store.proofs.lemmas.capacity.{buckets_for-least}
@@ -20,10 +20,10 @@ use Rattle.half_laws.proofs.lemmas.runs.Changes.{IsDue, Changes, step_changes}
 more_most : (n m : ℕ) → IsBucketCount m → capacity_of m ≤ 2 * n + 1 → capacity_of (buckets_for_more n m) ≤ 2 * suc n + 1
 more_most n m count few = grind (arith, common_steps)
 
-capacity_for-most : (n : ℕ) → capacity_for n ≤ 2 * n + 1
-unfolding buckets_for
+capacity_for-most : (n : ℕ) → least_table_capacity n ≤ 2 * n + 1
+unfolding least_buckets
 capacity_for-most zero = omega arith
-capacity_for-most (suc n) = more_most n (buckets_for n) (buckets_for-least n).count (capacity_for-most n)
+capacity_for-most (suc n) = more_most n (least_buckets n) (buckets_for-least n).count (capacity_for-most n)
 
 pub first_of_both : (a b : Bool) → (a && b) ≡ true → a ≡ true
 first_of_both true b both = refl
@@ -64,7 +64,7 @@ module _ {K V S : Type 0} (limit : ℕ) (eq : K → K → Bool) where
       → IsModest old new.capacity
   after_most old new None due after = omega (arith, after)
   after_most old new (Some n) due after = by new.is_vec after where
-    by : (is_vec : Bool) → MatchBool is_vec (new.capacity ≡ generous_capacity limit old.capacity n) (new.capacity ≡ capacity_for n)
+    by : (is_vec : Bool) → MatchBool is_vec (new.capacity ≡ generous_capacity limit old.capacity n) (new.capacity ≡ least_table_capacity n)
         → IsModest old new.capacity
     by true e = omega (arith, e, due.0, due.1)
     by false e = omega (arith, e, due.0, capacity_for-most n)
@@ -75,7 +75,7 @@ module _ {K V S : Type 0} (limit : ℕ) (eq : K → K → Bool) where
 
   shrunk_most : (old new : State K V S) → IsShrunk limit old new → IsModest old new.capacity
   shrunk_most old new shrunk =
-      subst (IsModest old) (sym shrunk.capacity) (least_most old (vec_shrunk limit old.is_vec (length old.pairs)))
+      subst (IsModest old) (sym shrunk.capacity) (least_most old (is_vec_shrunk limit old.is_vec (length old.pairs)))
 
   step_most : (s : Step K V S) → IsValid eq limit s.before → IsValidStep limit eq s → is_reserve s.command ≡ false
       → IsModest s.before s.after.capacity

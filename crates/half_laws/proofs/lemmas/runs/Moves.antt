@@ -4,7 +4,7 @@ use Rattle.std.proofs.Common.{[], ◌∷◌, length, sum_by, Option, Some, ap, s
 use Rattle.std.proofs.lemmas.Grind.{common_steps}
 use Rattle.std.proofs.lemmas.Bool.{cases_lt, eq-eqb, le-ltb, MatchBool-at_false}
 use Rattle.std.proofs.lemmas.List.Sums.{sum_by-cons}
-use Rattle.half_store.specs.Capacity.{IsBucketCount, capacity_of, more_buckets, buckets_for, capacity_for, generous_capacity}
+use Rattle.half_store.specs.Capacity.{IsBucketCount, capacity_of, more_buckets, least_buckets, least_table_capacity, generous_capacity}
 use Rattle.half_store.proofs.lemmas.capacity.{more_buckets-some, buckets_for-least, buckets_for-grown, quarter}
 use Rattle.halfbrown.specs.Growth.{is_full, HasCapacityAfter}
 use Rattle.halfbrown.specs.Pairs.{put}
@@ -25,12 +25,12 @@ double m count =
       | inr none ↦ omega arith
     ]
 
-table_doubles : (capacity : ℕ) → IsTableCapacity capacity → 2 * capacity ≤ capacity_for (capacity + 1)
+table_doubles : (capacity : ℕ) → IsTableCapacity capacity → 2 * capacity ≤ least_table_capacity (capacity + 1)
 table_doubles capacity is =
-    let m : ℕ = buckets_for capacity in
+    let m : ℕ = least_buckets capacity in
     let count = (buckets_for-least capacity).count in
     let next : capacity + 1 ≡ suc (capacity_of m) = omega (arith, is) in
-    omega (arith, is, double m count, ap capacity_for next, ap capacity_of (buckets_for-grown m count))
+    omega (arith, is, double m count, ap least_table_capacity next, ap capacity_of (buckets_for-grown m count))
 
 -- what a vector has to pay for: its last growth, and the switch
 abbrev budget : ℕ → Bool → ℕ → ℕ
@@ -73,7 +73,7 @@ module _ {K V S : Type 0} (limit : ℕ) (eq : K → K → Bool) where
     stays_pays form capacity =
         omega (arith, moved_none old new capacity, ap (λ v. budget limit v new.capacity) form, ap (budget limit old.is_vec) capacity)
 
-    switch_pays : is_full limit old ≡ true → new.is_vec ≡ false → new.capacity ≡ capacity_for (limit + 1) → Pays old new
+    switch_pays : is_full limit old ≡ true → new.is_vec ≡ false → new.capacity ≡ least_table_capacity (limit + 1) → Pays old new
     switch_pays full form capacity = grind (arith, common_steps, buckets_for-least, budget_high, first_of_both, full_len, moves)
 
     vector_pays : is_full limit old ≡ false → old.is_vec ≡ true → new.is_vec ≡ old.is_vec → old.capacity ≤ length old.pairs
@@ -81,7 +81,7 @@ module _ {K V S : Type 0} (limit : ℕ) (eq : K → K → Bool) where
     vector_pays full vec form filled capacity = grind (arith, common_steps)
 
     table_pays : old.is_vec ≡ false → new.is_vec ≡ old.is_vec → old.capacity ≤ length old.pairs
-        → new.capacity ≡ capacity_for (length old.pairs + 1) → Pays old new
+        → new.capacity ≡ least_table_capacity (length old.pairs + 1) → Pays old new
     table_pays table form filled capacity = grind (arith, common_steps, moves, table_doubles)
 
     grown_pays : is_full limit old ≡ false → new.is_vec ≡ old.is_vec → (needs : Option ℕ) → IsDue old needs

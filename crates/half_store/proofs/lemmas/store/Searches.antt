@@ -7,8 +7,8 @@ use Rattle.std.specs.Map.{keys_of}
 use Rattle.half_store.specs.declared.store.find.Vacancy.{Vacancy}
 use Rattle.half_store.specs.declared.vecmap.search.Scan.{Scan}
 use Rattle.half_store.specs.Search.{IsFirstMatch, StoreSearch, ComparesInOrder, IsStoreSearchCost}
-use Rattle.half_store.specs.Store.{StoreState, IsTableOver}
-use Rattle.half_store.specs.Work.{IsTableHitCost, after_missing}
+use Rattle.half_store.specs.Store.{StoreState, TableFitsColumns}
+use Rattle.half_store.specs.Work.{IsTableHitCost, work_after_missing}
 
 module _ {K V : Type 0} (columns : ColumnsState K V) {keys : List K} (same : keys ≡ keys_of columns.pairs) where
   -- a key of the columns is the one that was read
@@ -20,7 +20,7 @@ module _ {K V : Type 0} (columns : ColumnsState K V) {keys : List K} (same : key
   held is index at = ap (λ ps. slice_get (keys_of ps) index) (sym is) ∙ ap (λ ks. slice_get ks index) (sym same) ∙ at
 
   -- a table has no more hashes than there are keys
-  pub hashed_within : {t : TableState} → IsTableOver columns t → length t.hashes ≤ length keys
+  pub hashed_within : {t : TableState} → TableFitsColumns columns t → length t.hashes ≤ length keys
   hashed_within kept = omega (arith, kept.len, ap length same, length-keys_of columns.pairs)
 
   -- what a search of a vector costs
@@ -38,9 +38,9 @@ module _ {K V : Type 0} (columns : ColumnsState K V) {keys : List K} (same : key
       })
 
   module _ {returns : K → Bool → Type 0} {hash : ℕ} {s : StoreState K V} where
-    pub vector_accepts : vector_of columns ≡ s → {index : ℕ} → IsFirstMatch returns keys (Some index) → StoreSearch returns hash s (Ok index)
+    pub vector_accepts : vector_of columns ≡ s → {index : ℕ} → IsFirstMatch returns keys (Some index) → StoreSearch returns s hash (Ok index)
     vector_accepts is {index} told =
-        subst (λ (s : StoreState K V). StoreSearch returns hash s (Ok index)) is
+        subst (λ (s : StoreState K V). StoreSearch returns s hash (Ok index)) is
         (record {
           within = omega (arith, told.found, ap length same, length-keys_of columns.pairs);
           accepted = read index told.found.1;
@@ -48,21 +48,21 @@ module _ {K V : Type 0} (columns : ColumnsState K V) {keys : List K} (same : key
           hashed = λ form. absurd (true≢false form);
         })
 
-    pub vector_refuses : vector_of columns ≡ s → {vacancy : Vacancy} → IsFirstMatch returns keys None → StoreSearch returns hash s (Err vacancy)
+    pub vector_refuses : vector_of columns ≡ s → {vacancy : Vacancy} → IsFirstMatch returns keys None → StoreSearch returns s hash (Err vacancy)
     vector_refuses is {vacancy} told =
-        subst (λ (s : StoreState K V). StoreSearch returns hash s (Err vacancy)) is (
+        subst (λ (s : StoreState K V). StoreSearch returns s hash (Err vacancy)) is (
           record {
-            refused = λ index k at hashed. read index
+            rejected = λ index k at hashed. read index
                 (told.absent index (omega (arith, slice_get_within (keys_of columns.pairs) index k at, ap length same))) k at;
           },
           λ some form. absurd (true≢false form),
         )
 
     module _ {t : TableState} (is : table_of columns t ≡ s) {old new : Work} where
-      pub table_accepts : IsTableOver columns t → {index bucket : ℕ} → TableSearch (ReturnsAt returns keys) t hash (Ok (index, bucket)) old new
-          → StoreSearch returns hash s (Ok index)
+      pub table_accepts : TableFitsColumns columns t → {index bucket : ℕ} → TableSearch (ReturnsAt returns keys) t hash (Ok (index, bucket)) old new
+          → StoreSearch returns s hash (Ok index)
       table_accepts kept {index} found =
-          subst (λ (s : StoreState K V). StoreSearch returns hash s (Ok index)) is
+          subst (λ (s : StoreState K V). StoreSearch returns s hash (Ok index)) is
           (record {
             within = omega (arith, slice_get_within t.hashes index hash found.found, kept.len);
             accepted = read index found.accepted;
@@ -71,10 +71,10 @@ module _ {K V : Type 0} (columns : ColumnsState K V) {keys : List K} (same : key
           })
 
       pub table_refuses : {bucket : ℕ} → TableSearch (ReturnsAt returns keys) t hash (Err bucket) old new
-          → StoreSearch returns hash s (Err (record { hash = hash; bucket = bucket }))
+          → StoreSearch returns s hash (Err (record { hash = hash; bucket = bucket }))
       table_refuses {bucket} found =
-          subst (λ (s : StoreState K V). StoreSearch returns hash s (Err (record { hash = hash; bucket = bucket }))) is (
-            record { refused = λ index k at own. read index (found.refused index (own refl)) k at },
+          subst (λ (s : StoreState K V). StoreSearch returns s hash (Err (record { hash = hash; bucket = bucket }))) is (
+            record { rejected = λ index k at own. read index (found.rejected index (own refl)) k at },
             λ some form. (refl, found.vacancy (omega (arith, some))),
           )
 
@@ -101,6 +101,6 @@ module _ {K V : Type 0} (columns : ColumnsState K V) {keys : List K} (same : key
             found = λ form. tt;
             hit = λ form. tt;
             hits = λ form. e.hits ∙ ap (λ b. filling_reach b t.hashes) e.buckets;
-            missing = λ form. subst (λ b. new ≡ after_missing t.hashes b hash old) e.buckets e.missing_cost;
+            missing = λ form. subst (λ b. new ≡ work_after_missing t.hashes b hash old) e.buckets e.missing_cost;
             short = λ form. subst (λ b. reach t.hashes b hash ≤ length t.hashes + 1) e.buckets e.short;
           })

@@ -8,7 +8,7 @@ use Rattle.std.specs.Borrow.{Bor}
 use Rattle.std.specs.Global.{Box}
 use Rattle.half_store.specs.PairLists.{length-set_value_at}
 use Rattle.half_store.specs.ValueReplacement.{kept_pairs, with_answer, ReplacesValue}
-use Rattle.half_store.specs.Store.{StoreState, IsStore, IsTableOver, SameFormAndCapacity, store_of}
+use Rattle.half_store.specs.Store.{StoreState, IsStore, TableFitsColumns, SameFormAndCapacity, store_of}
 
 module _ {K V : Type 0} where
   pub length-set_key_at : (ps : List (K × V)) (i : ℕ) (k : K) → length (set_key_at ps i k) ≡ length ps
@@ -33,8 +33,8 @@ module _ {K V : Type 0} where
 
   -- which has a hash for each pair
   pub table_over : (columns : ColumnsState K V) {t : TableState} {block : Box TableState} {index : Option (Box TableState)}
-      → t ≡ block.value → index ≡ Some block → IsStore columns index → IsTableOver columns t
-  table_over columns inside is kept = subst (IsTableOver columns) (sym inside) (subst (IsStore columns) is kept)
+      → t ≡ block.value → index ≡ Some block → IsStore columns index → TableFitsColumns columns t
+  table_over columns inside is kept = subst (TableFitsColumns columns) (sym inside) (subst (IsStore columns) is kept)
 
   -- a store has the pairs of its columns
   pub pairs_of-store : (columns : ColumnsState K V) (index : Option (Box TableState)) → (store_of columns index).pairs ≡ columns.pairs

@@ -6,7 +6,7 @@ use Rattle.half_store.proofs.Common.{state_of_words, table_contents, IsIndexed, 
 use Rattle.std.specs.Prelude.{Result, Ok, Err, IfOk, IfErr, OnOk, OnErr}
 use Rattle.half_store.specs.Slots.{EndsAtPair}
 use Rattle.half_store.specs.Reach.{HomesApart}
-use Rattle.half_store.specs.Work.{after_missing}
+use Rattle.half_store.specs.Work.{work_after_missing}
 use Rattle.half_store.specs.Table.{RemovesFromTable, hit_reads_in}
 use Rattle.half_store.proofs.lemmas.table.Buckets.{length-slots_from, slot_of_word, slot_of_zero, some_bucket}
 use Rattle.half_store.proofs.lemmas.table.Circle.{distance_self}
@@ -85,7 +85,7 @@ module _ {hashes words : List ℕ} (x : IsIndexed hashes words) (hash : ℕ) whe
         found = ap (slice_get hashes) ends.entry ∙ index_at p ends.found.found;
         at = ends.found;
         accepted = accepted;
-        refused = tt;
+        rejected = tt;
         vacancy = tt;
         missing_cost = tt;
         found_cost = record {
@@ -113,9 +113,9 @@ module _ {hashes words : List ℕ} (x : IsIndexed hashes words) (hash : ℕ) whe
         found = tt;
         at = tt;
         accepted = tt;
-        refused = each_index (λ index. returns index false) refused;
+        rejected = each_index (λ index. returns index false) refused;
         vacancy = λ buckets. vacancy;
-        missing_cost = same_work new (after_missing hashes (length words) hash old) asked (omega arith) (omega arith);
+        missing_cost = same_work new (work_after_missing hashes (length words) hash old) asked (omega arith) (omega arith);
         found_cost = tt;
         hit = tt;
         hits = hits_add_up x;

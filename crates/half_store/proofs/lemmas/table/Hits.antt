@@ -145,7 +145,7 @@ module _ {hashes words : List ℕ} (x : IsIndexed hashes words) where
   table = record { long = length-slots_from hashes words; ordered = x.ordered; counted = index-counted x }
 
   -- the searches for all held pairs read what the insertions of their hashes read
-  pub hits_add_up : all_hit_reads_in (length hashes) (table_contents (state_of_words hashes words)) ≡ filling_reach (length words) hashes
+  pub hits_add_up : all_hit_reads_in (table_contents (state_of_words hashes words)) (length hashes) ≡ filling_reach (length words) hashes
   unfolding all_hit_reads_in hit_reads_in
   hits_add_up =
       let m : ℕ = length words in

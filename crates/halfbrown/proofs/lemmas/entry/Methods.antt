@@ -9,7 +9,7 @@ use Rattle.std.specs.Borrow.{MutBor}
 use Rattle.std.specs.Coded.{le_prop}
 use Rattle.halfbrown.specs.declared.entry.OccupiedEntry.{OccupiedEntry}
 use Rattle.halfbrown.specs.EntryView.{EntryView, pairs_with_value, with_value}
-use Rattle.halfbrown.specs.EntryView.{IsEntryOf, PutsThroughEntry, IsRawEntryOf, ModifiesEntry, HasNewKey}
+use Rattle.halfbrown.specs.EntryView.{IsEntryOf, PutsThroughEntry, IsRawEntryOf, ModifiesEntry, IsRekeyed}
 use Rattle.halfbrown.proofs.callers.Pairs.{has_put, has_removed_by}
 use Rattle.half_store.proofs.lemmas.store.States.{length-set_key_at, kept_value, lost_pair}
 use Rattle.halfbrown.proofs.lemmas.map.Layout.{keys_of-set_value_at}
@@ -159,7 +159,7 @@ module _ {K V S L H : Type 0} {e : EqGhosts K} {h : HashGhosts K} {b : HasherGho
   -- the entry where its map has the pairs with another key
   pub rekeyed_entry : (key : K) (map : MutBor (State K V S)) → map.ghost_name ≡ o.map.ghost_name
       → WithPairs o.map.now (set_key_at o.map.now.pairs o.index key) map.now
-      → HasNewKey (occupied o) key (record { map = map; index = Some o.index; vacant = None })
+      → IsRekeyed (occupied o) key (record { map = map; index = Some o.index; vacant = None })
   rekeyed_entry key map same after = grind (arith, common_steps, o.within, key-set_key_at, slice_get, swap_remove_at-set_key_at, values_of-set_key_at)
 
 front_of : {X : Type 0} (xs : List X) (x y : X) (n : ℕ) → n ≡ length xs → take n (set (xs ++ x ∷ []) (length xs) y) ≡ xs

@@ -10,7 +10,7 @@ use Rattle.halfbrown.specs.Costs.{IsInsertCost, raw_insert_cost, hit_reads}
 use Rattle.halfbrown.specs.Growth.{is_vec_after, new_key_needs}
 use Rattle.halfbrown.specs.Insertion.{second_probe_reads}
 use Rattle.halfbrown.proofs.lemmas.pairs.Indices.{found_where_held}
-use Rattle.halfbrown.specs.RawEntry.{after_adding}
+use Rattle.halfbrown.specs.RawEntry.{work_after_adding}
 
 pub none_more : (more : Cost) → more ≡ add_costs no_cost more
 none_more more = simp zero-add
@@ -64,6 +64,6 @@ module _ {K V S : Type 0} (limit : ℕ) (eq : K → K → Bool) (hash : S → K 
 pub raw_costs : {K V S : Type 0} (limit : ℕ) (eq : K → K → Bool) (hash : S → K → ℕ) (old m : State K V S) (k : K)
     → Prepares limit old (new_key_needs limit old) m → length m.pairs < m.capacity
     → (before between searched after : Work) → between ≡ asked_more (switch_asked limit old) before
-    → IsKeySearchCost eq hash m k between searched → after ≡ (if holds eq m.pairs k then searched else after_adding hash m k searched)
+    → IsKeySearchCost eq hash m k between searched → after ≡ (if holds eq m.pairs k then searched else work_after_adding hash m k searched)
     → GrewBy (raw_insert_cost limit eq hash old k true) before after
 raw_costs limit eq hash old m k prepared left before between searched after spent search is = grind (arith, common_steps)

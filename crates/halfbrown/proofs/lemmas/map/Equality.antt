@@ -12,7 +12,7 @@ use Rattle.std.proofs.lemmas.Map.Entries.{place_from_lookup, lookup_from_place}
 use Rattle.std.proofs.lemmas.Map.Keys.{IsDistinct-cons}
 use Rattle.std.proofs.lemmas.Map.Made.{is_some-lookup}
 use Rattle.std.proofs.lemmas.Map.Steps.{length-le_from_keys}
-use Rattle.halfbrown.specs.Equality.{same_value, same_pairs, keys_while_same, searched_keys, equal_has_same, same_pairs-Decides}
+use Rattle.halfbrown.specs.Equality.{same_lookup, same_pairs, keys_while_same, searched_keys, equal_has_same, same_pairs-Decides}
 use Rattle.std.proofs.Math.ListN.{drop_of_length-le}
 use Rattle.std.proofs.Math.Seq.{drop-cons}
 use Rattle.halfbrown.specs.Costs.{IsKeySearchCost, AreSearchCosts}
@@ -31,7 +31,7 @@ module _ {K V : Type 0} (eq : K → K → Bool) (value_eq : V → V → Bool) (l
 
   module _ (left_distinct : IsDistinct eq (keys_of left)) where
     -- a pair of the left is held on the right exactly where its key has the same value in both
-    held_by_value : (i : ℕ) (p : K × V) → slice_get left i ≡ Some p → same_value eq value_eq left right p.0 ≡ holds_pair eq value_eq right p
+    held_by_value : (i : ℕ) (p : K × V) → slice_get left i ≡ Some p → same_lookup eq value_eq left right p.0 ≡ holds_pair eq value_eq right p
     held_by_value i p at = grind (arith, common_steps, lookup_from_place laws left i p.0 p.1 left_distinct at)
 
     all_held : same_pairs eq value_eq left right ≡ true → list_all (holds_pair eq value_eq right) left ≡ true
@@ -42,7 +42,7 @@ module _ {K V : Type 0} (eq : K → K → Bool) (value_eq : V → V → Bool) (l
 
     -- what is held on the left has the same value on the right
     same_of_held : list_all (holds_pair eq value_eq right) left ≡ true → (k : K) (v : V) → value_of eq left k ≡ Some v
-        → same_value eq value_eq left right k ≡ true
+        → same_lookup eq value_eq left right k ≡ true
     same_of_held all k v found =
         let at = place_from_lookup (eq k) left v found in
         let p : K × V = (at.1, v) in
@@ -62,7 +62,7 @@ module _ {K V : Type 0} (eq : K → K → Bool) (value_eq : V → V → Bool) (l
         absurd (omega (arith, length_most more right distinct has, lengths))
 
     same_by : length left ≡ length right → list_all (holds_pair eq value_eq right) left ≡ true → (k : K) (found : Option V)
-        → value_of eq left k ≡ found → same_value eq value_eq left right k ≡ true
+        → value_of eq left k ≡ found → same_lookup eq value_eq left right k ≡ true
     same_by lengths all k found is = grind (arith, common_steps, none_of_none, same_of_held)
 
     module _ (right_distinct : IsDistinct eq (keys_of right)) where

@@ -5,7 +5,7 @@ use Rattle.halfbrown.proofs.Common.{Vacancy, IsSearchCost, state_in, IsIndexOf, 
 use Rattle.std.proofs.Common.{IfNone}
 use Rattle.half_store.specs.Reach.{reach, filling_reach}
 use Rattle.half_store.specs.Capacity.{buckets_of}
-use Rattle.half_store.specs.Work.{IsTableHitCost, after_missing}
+use Rattle.half_store.specs.Work.{IsTableHitCost, work_after_missing}
 use Rattle.std.proofs.Props.{props}
 use Rattle.half_store.specs.Store.{IsVacancy}
 use Rattle.half_store.specs.Table.{Contents, hit_reads_in, all_hit_reads_in}
@@ -21,9 +21,9 @@ module _ {K V S : Type 0} (hash : S → K → ℕ) (wanted : ℕ) (m : State K V
       → (is_vec ≡ false → hashes ≡ map (hash m.builder) (keys_of m.pairs))
       → (is_vec ≡ true → ComparesInOrder scan index (length m.pairs) before after)
       → (is_vec ≡ false → IfSome index (λ _. IsTableHitCost hashes (buckets_of m.capacity) wanted before after))
-      → (is_vec ≡ false → IfNone index (after ≡ after_missing hashes (buckets_of m.capacity) wanted before))
+      → (is_vec ≡ false → IfNone index (after ≡ work_after_missing hashes (buckets_of m.capacity) wanted before))
       → (is_vec ≡ false → IfSome index (λ at. after.looked ≡ before.looked + hit_reads_in (contents_of m) at))
-      → (is_vec ≡ false → all_hit_reads_in (length hashes) (contents_of m) ≡ filling_reach (buckets_of m.capacity) hashes)
+      → (is_vec ≡ false → all_hit_reads_in (contents_of m) (length hashes) ≡ filling_reach (buckets_of m.capacity) hashes)
       → (is_vec ≡ false → reach hashes (buckets_of m.capacity) wanted ≤ length hashes + 1) → IsSearchCost hash wanted m index 0 before after
   match_costs is_vec form scan index hashes is_map vector found missing hit hits near = grind (arith, common_steps, length-keys_of)
 
@@ -67,7 +67,7 @@ module _ {K V S : Type 0} (test : K → Bool) (returns : K → Bool → Type 0) 
     absent_of_no_match none =
         absent_of_none test m.pairs (none_at test (keys_of m.pairs) (λ j d within.
         let k = get_or (keys_of m.pairs) j d in
-        grind (arith, common_steps, decides k false, hashed k, none.refused j k, slice_get-get_or (keys_of m.pairs) j d within)))
+        grind (arith, common_steps, decides k false, hashed k, none.rejected j k, slice_get-get_or (keys_of m.pairs) j d within)))
 
     -- a search by the match is one for the key, under its own hash
     pub looks_up : (result : Result ℕ Vacancy) → MatchSearch returns hash wanted m result → KeySearch test own m result
@@ -76,6 +76,6 @@ module _ {K V S : Type 0} (test : K → Bool) (returns : K → Bool → Type 0) 
 module _ {K V S : Type 0} (returns : K → Bool → Type 0) (hash : S → K → ℕ) (wanted : ℕ) (s : StoreState K V) (builder : S)
     (hashed : s.is_vec ≡ false → s.hashes ≡ map (hash builder) (keys_of s.pairs)) where
   -- a search of the store by the match is one of the map
-  pub matches_of : (result : Result ℕ Vacancy) → StoreSearch returns wanted s result
+  pub matches_of : (result : Result ℕ Vacancy) → StoreSearch returns s wanted result
       → MatchSearch returns hash wanted (state_in s builder) result
   matches_of result found = grind (arith, common_steps, same_Some, slice_get, slice_get-map)

@@ -2,7 +2,7 @@
 use Rattle.halfbrown.proofs.Common.{◌≡◌, ℕ, ◌+◌, Bool, true, false, length, arith, not, ◌&&◌, common_steps, is_full, Prepares, State}
 use Rattle.std.proofs.lemmas.Bool.Decides.{nat_tests}
 use Rattle.std.specs.Prelude.{Some, None, if◌then◌else◌}
-use Rattle.half_store.specs.Capacity.{capacity_for}
+use Rattle.half_store.specs.Capacity.{least_table_capacity}
 use Rattle.halfbrown.specs.Costs.{capacity_after_switch}
 use Rattle.halfbrown.specs.Growth.{switch_needs, Grants}
 
@@ -17,7 +17,7 @@ form_stays is_vec full e = grind (arith, common_steps)
 
 module _ {K V S : Type 0} (limit : ℕ) (old new : State K V S) where
   capacity_by : (full : Bool) → Grants limit (old.is_vec && not full) old (if full then Some (limit + 1) else None) new
-      → new.capacity ≡ (if full then capacity_for (limit + 1) else old.capacity)
+      → new.capacity ≡ (if full then least_table_capacity (limit + 1) else old.capacity)
   capacity_by full granted = grind (arith, common_steps)
 
   -- the capacity once a granted switch is made

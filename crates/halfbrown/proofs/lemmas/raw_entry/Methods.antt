@@ -10,7 +10,7 @@ use Rattle.halfbrown.specs.declared.raw_entry.RawEntryMut.{RawEntryMut}
 use Rattle.halfbrown.specs.declared.raw_entry.RawEntryMut.TheVariants.{Occupied, Vacant}
 use Rattle.halfbrown.specs.Entry.{raw_view}
 use Rattle.halfbrown.specs.EntryView.{EntryView, entry_key, entry_pair, map_of, with_value}
-use Rattle.halfbrown.specs.EntryView.{FindsEntry, FindsEntryByMatch, PutsEntry, AddsEntry}
+use Rattle.halfbrown.specs.EntryView.{FindsRawEntry, FindsRawEntryByMatch, PutsEntry, AddsEntry}
 use Rattle.halfbrown.proofs.lemmas.pairs.Changes.{key_of-pair, value_of-pair, set_value_at-last, value-last, key-last}
 use Rattle.halfbrown.proofs.lemmas.entry.Methods.{swap_remove_at-last, held_with_pairs, found_raw, missing_raw}
 use Rattle.halfbrown.specs.Lookup.{IsMatch, ReadsMatch}
@@ -145,10 +145,10 @@ found_or (Vacant v) key value = refl
 module _ {K V S : Type 0} (limit : ℕ) (same : K → K → Bool) (laws : IsEquivalence same) (m : MutBor (State K V S)) (valid : IsValid same limit m.now) where
   -- the raw entry of the key which passes the test
   module _ (test : K → Bool) (one_class : (k other : K) → test k ≡ true → test other ≡ same k other) where
-    pub finds_held : (index : ℕ) → IsIndexOf test m.now.pairs index → FindsEntry limit same test m (record { map = m; index = Some index; vacant = None })
+    pub finds_held : (index : ℕ) → IsIndexOf test m.now.pairs index → FindsRawEntry limit same test m (record { map = m; index = Some index; vacant = None })
     finds_held index at = record { same_map = refl; finds = found_raw same laws m valid.distinct test one_class index at; valid = valid }
 
-    pub finds_none : IsAbsent test m.now.pairs → FindsEntry limit same test m (record { map = m; index = None; vacant = None })
+    pub finds_none : IsAbsent test m.now.pairs → FindsRawEntry limit same test m (record { map = m; index = None; vacant = None })
     finds_none absent = record { same_map = refl; finds = missing_raw same laws m valid.distinct test one_class absent; valid = valid }
 
   -- the raw entry of the pair at the index that a match found
@@ -157,7 +157,7 @@ module _ {K V S : Type 0} (limit : ℕ) (same : K → K → Bool) (laws : IsEqui
     reads_match None is = absurd (some_is_not_none m.now.pairs index at.within is)
     reads_match (Some pair) is = (index, is, at)
 
-    pub finds_match : FindsEntryByMatch limit same returns hash wanted m (record { map = m; index = Some index; vacant = None })
+    pub finds_match : FindsRawEntryByMatch limit same returns hash wanted m (record { map = m; index = Some index; vacant = None })
     finds_match = record {
       same_map = refl;
       map = refl;

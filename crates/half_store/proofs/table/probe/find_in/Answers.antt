@@ -28,5 +28,5 @@ pub returns-clause-finds : goal.returns-clause-finds
 returns-clause-finds g c =
     let told = c.probe_for.ensures in
     finds c.requires.indexed c.args.hash (ReturnsAt (FnReturnsAt g.F.Fn c.args.matches.now) c.args.keys.now) c.probe_for.result c.args.tally.now c.probe_for.new.tally
-    told.found told.accepted told.vacancy told.refused told.asked told.looked_missing told.compared_some told.compared_most
+    told.found told.accepted told.vacancy told.rejected told.asked told.looked_missing told.compared_some told.compared_most
     told.compared_all

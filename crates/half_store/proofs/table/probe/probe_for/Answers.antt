@@ -44,8 +44,8 @@ compare-requires g c =
     (key_in_bucket (g.P.Buckets.hashes c.args.buckets.now) (g.P.Buckets.words c.args.buckets.now) c.args.keys.now c.loop-index.bucket
     c.args.hash c.in-Some.index c.requires.keys full c.in-Some.ensures.index c.index-keys-index.result c.index-keys-index.is)
 
-pub returns-in-None-clause-refused : goal.returns-in-None-clause-refused
-returns-in-None-clause-refused g c =
+pub returns-in-None-clause-rejected : goal.returns-in-None-clause-rejected
+returns-in-None-clause-rejected g c =
     λ other is. c.loop-index.invariant.refused other is
     (c.requires.ordered.before other c.loop-index.bucket c.args.hash is c.loop-index.invariant.probe.inside (sym c.in-None.ensures.hash))
 

@@ -1,6 +1,6 @@
 use Rattle.half_store.proofs.Common.{◌≡◌, length, ◌++◌, ◌∙◌, arith, ℕ, suc, sym, ap, List, subst, [], ◌∷◌, common_steps, get_or_default, IsIndexed, ReadsWithin}
 use Rattle.half_store.proofs.Common.{removal_reads}
-use Rattle.half_store.specs.StoreRemoval.{MovesLast}
+use Rattle.half_store.specs.StoreRemoval.{MovesToEnd}
 use Rattle.half_store.proofs.lemmas.table.Shift.{IsIndexed-moved, reads-moved}
 use Rattle.half_store.proofs.table.shift.shift_in.Goals as goal
 
@@ -13,7 +13,7 @@ remove_in-requires-clause-indexed g c =
     let same = c.push_reserved.ensures.items ∙ (λ i. c.remove-hash.ensures.items i ++ hash i ∷ []) in
     subst (λ xs. IsIndexed xs (g.B.Words.words c.move_last.new.buckets)) (sym same)
     (IsIndexed-moved hs index c.requires.within c.requires.indexed
-    (subst (λ n. MovesLast n index (g.B.Words.words c.args.buckets.now) (g.B.Words.words c.move_last.new.buckets)) len c.move_last.ensures.moves))
+    (subst (λ n. MovesToEnd n index (g.B.Words.words c.args.buckets.now) (g.B.Words.words c.move_last.new.buckets)) len c.move_last.ensures.moves))
 
 pub returns-clause-cost : goal.returns-clause-cost
 returns-clause-cost g c =

@@ -1,18 +1,18 @@
 use Rattle.std.proofs.Common.{length, eqb, refl, ap, ◌∙◌}
 use Rattle.std.specs.Hash.{le_bytes}
 use Rattle.half_store.specs.Reach.{probe_distance, bucket_after, load, loaded_within, loaded_run, reach}
-use Rattle.half_store.specs.Capacity.{buckets_for}
+use Rattle.half_store.specs.Capacity.{least_buckets}
 use Rattle.halfbrown.specs.Pairs.{value_of}
 use Rattle.half_tests.proofs.Searches.{inserting}
 use Rattle.half_tests.proofs.Tables.{table_with}
 use Rattle.half_tests.proofs.callers.worked.an_insertion_that_grows.Goals as goal
 
 pub returns-in-Ok-clause-work : goal.returns-in-Ok-clause-work
-unfolding le_bytes probe_distance bucket_after load loaded_within loaded_run reach buckets_for
+unfolding le_bytes probe_distance bucket_after load loaded_within loaded_run reach least_buckets
 returns-in-Ok-clause-work c = inserting _ _ _ 15 c.in_ok-map.map c.in_ok-map.ensures _ _ c.in-Ok.ensures.cost refl
 
 pub returns-in-Ok-clause-returned : goal.returns-in-Ok-clause-returned
-unfolding buckets_for
+unfolding least_buckets
 returns-in-Ok-clause-returned c =
     let old = c.in_ok-map.map in
     let new = c.insert_counted.new.self in

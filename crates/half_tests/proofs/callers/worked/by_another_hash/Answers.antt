@@ -1,14 +1,14 @@
 use Rattle.std.proofs.Common.{◌==◌, ◌∷◌, [], ap, sym, subst, refl}
 use Rattle.std.specs.Hash.{le_bytes}
 use Rattle.half_store.specs.Reach.{probe_distance, bucket_after, load, loaded_within, loaded_run, reach}
-use Rattle.half_store.specs.Capacity.{buckets_for}
+use Rattle.half_store.specs.Capacity.{least_buckets}
 use Rattle.test_support.specs.declared.builders.Rule.{Rule}
 use Rattle.half_tests.specs.Tables.{IsTableOf, twins}
 use Rattle.half_tests.proofs.Searches.{unmatched, number_hash}
 use Rattle.half_tests.proofs.callers.worked.by_another_hash.Goals as goal
 
 pub returns : goal.returns
-unfolding le_bytes probe_distance bucket_after load loaded_within loaded_run reach buckets_for
+unfolding le_bytes probe_distance bucket_after load loaded_within loaded_run reach least_buckets
 returns c =
     let table : IsTableOf Rule.Plain (twins (8 ∷ 16 ∷ [])) 3 c.in_ok-map.map = c.in_ok-map.ensures in
     let seen = subst (IsTableOf Rule.Plain (twins (8 ∷ 16 ∷ [])) 3) (sym c.raw_entry.ensures) table in

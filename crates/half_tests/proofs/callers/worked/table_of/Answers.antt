@@ -1,12 +1,12 @@
 use Rattle.std.proofs.Common.{take, get_or, ap, sym, subst, ◌∙◌}
 use Rattle.std.proofs.lemmas.List.{take_more}
-use Rattle.half_store.specs.Capacity.{buckets_for}
+use Rattle.half_store.specs.Capacity.{least_buckets}
 use Rattle.half_tests.proofs.Tables.{IsFilled, filled_more, fresh_at}
 use Rattle.half_tests.proofs.Searches.{distinct_of}
 use Rattle.half_tests.proofs.callers.worked.table_of.Goals as goal
 
 pub loop-key-init : goal.loop-key-init
-unfolding buckets_for
+unfolding least_buckets
 loop-key-init c =
     let made = c.with_hasher-map.ensures.made in
     record { form = made.form; pairs = made.pairs; capacity = made.capacity; builder = ap (λ b. b.rule) made.builder ∙ c.new.ensures }

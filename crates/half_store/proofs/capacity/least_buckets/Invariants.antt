@@ -1,5 +1,5 @@
 use Rattle.half_store.proofs.Common.{◌≤◌, ℕ, ◌-◌, ◌^◌, ◌<◌, capacity_of, IsBucketCount}
-use Rattle.half_store.proofs.capacity.buckets_for.Given as goal
+use Rattle.half_store.proofs.capacity.least_buckets.Given as goal
 
 -- the count is one of the series, and no smaller one serves
 abbrev pub invariant-loop-buckets : goal.invariant-loop-buckets

@@ -1,11 +1,11 @@
 use Rattle.half_store.proofs.Common.{◌≡◌, ◌*◌, inr, refl, ◌∙◌, arith, common_steps}
-use Rattle.half_store.specs.Capacity.{more_buckets, buckets_for}
+use Rattle.half_store.specs.Capacity.{more_buckets, least_buckets}
 use Rattle.half_store.proofs.lemmas.capacity.{buckets_for-is, four-le_count, more_buckets-count, more_buckets-some, more_buckets-least}
 use Rattle.half_store.proofs.lemmas.capacity.{capacity_of-below}
-use Rattle.half_store.proofs.capacity.buckets_for.Goals as goal
+use Rattle.half_store.proofs.capacity.least_buckets.Goals as goal
 
 pub returns-then-needed-eq0-clause-value : goal.returns-then-needed-eq0-clause-value
-unfolding buckets_for
+unfolding least_buckets
 returns-then-needed-eq0-clause-value c = rw c.if-needed-eq0.true refl
 
 pub loop-buckets-init : goal.loop-buckets-init
