@@ -1,7 +1,7 @@
 """What CALLING shows of the sources: the clauses of its calls, the fields of the records that these name, and a list of all calls.
 
-The fields of a record that one clause alone names stand under it, with the arguments of the clause. The other words that clauses and
-fields name stand in a list, with their parameters. `Ok(x): P` stands for `IfOk result (λ x. P)`, and `Ok: P` for `OnOk result P`.
+The fields of a record that clauses alone name stand under the first, with the arguments of the clause. The other words that clauses
+and fields name stand in a list, with their parameters. `Ok(x): P` stands for `IfOk result (λ x. P)`, and `Ok: P` for `OnOk result P`.
 """
 
 import collections
@@ -13,8 +13,8 @@ import textwrap
 CRATE = pathlib.Path(__file__).resolve().parent.parent / "crates/halfbrown"
 # A clause of such a name is not quoted, and a field is not printed.
 LEFT_OUT = ("cost", "keeps", "runs", "same_map", "small", "valid", "values_run")
-# Of such a record no field is printed: a line by hand says which items a refused collection has inserted.
-NOT_OPENED = ("RefusedCollectIter", "RefusedExtendIter")
+# Of such a record no field is printed: a line by hand says in short what it says.
+NOT_OPENED = ("InsertsAt", "ModifiesEntry", "RefusedCollectIter", "RefusedExtendIter", "ShiftRemoves")
 CALL = re.compile(r"^fn ([\w:]+)(?:.*\n)(?:  [^|\n].*\n)*((?:  \|.*\n)*)", re.M)
 LIST = re.compile(r"(^## (Words|All calls)\n(?:[^`]|`(?!``))*```text\n)([^`]*)", re.M)
 NAME = r"(?<![\w.'])[A-Za-z][\w']*"
@@ -121,7 +121,11 @@ class Page:
         clauses = [said for quotes in self.quotes.values() for _, said in quotes]
         heads = [self.head(said)[1] for said in clauses]
         named = [name for said in clauses for name in self.named(said)]
-        self.under = {name for name in heads if named.count(name) == 1}
+        self.under = {name for name in heads if named.count(name) == heads.count(name)}
+        self.first = {}
+        for call, quotes in self.quotes.items():
+            for _, said in quotes:
+                self.first.setdefault(self.head(said)[1], call)
         self.often = collections.Counter(named)
         self.listed = set()
         for name in named:
@@ -193,7 +197,7 @@ class Page:
             else:
                 lines += [wrapped(what + said)]
             of, name, arguments = self.head(said)
-            if name in self.under:
+            if name in self.under and self.first[name] == found[1]:
                 of = of and f"    {of}({self.words[name].parameters[-1]}):"
                 lines += packed(of, self.fields(name, arguments))
         return "\n".join([*lines, found[2]])

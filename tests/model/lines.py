@@ -1,4 +1,38 @@
-"""The lines of docs/SCRIPTS.md, as a table of calls, and how the words of a line are read."""
+"""The lines of docs/SCRIPTS.md, as a table of calls, and how the words of a line are read.
+
+A line makes the call of its name on `a`. A value that is lent for writing is set to V, or increased by N. These names
+say too little:
+
+    index QUERY                   map[&key]; not held, where it is not called
+    insert_nocheck KEY V          held, where it is not called
+    NAME_hashed QUERY             handed the builder's hash, which is not counted
+    NAME_match HASH WHICH         from_hash; its match accepts the key of the ID WHICH, any or none, and each call of it
+                                  counts as a comparison
+    raw_find QUERY                a search by raw_entry_mut()
+    entry KEY ACTION              a call on the entry, or vacant or occupied, if ACTION is for the other kind
+      and_modify N V              and_modify, and then or_insert(V)
+      replace N, lose, handed     replace_entry_with, whose closure returns value + N, none, or value
+      lose_insert V               lose, and then insert of the vacant entry
+    raw KEY ACTION                the same by raw_entry_mut() and from_key
+      get_mut N, value_mut N      get_key_value_mut, and get_mut
+      handed                      and_modify, which changes nothing
+      write V                     insert of the occupied entry
+      add V, add_hashed V, ..     insert, insert_hashed_nocheck, .. of the vacant entry; a hash is the builder's
+    swap, clone                   a and b are exchanged; b is a clone of a
+    retain M N                    adds N to each value, and removes the pairs where M is not 0 and divides ID + value
+    pairs                         both maps, and `lost KEY` for each key for which get gives another value
+    same, eq                      a.same_pairs(&b), and a == b
+    same_as, same_from LIMIT RULE    same_pairs of a and a map of clones of b's pairs, or of that and a
+    extend, extend_by, collect    refused without WHY; the last two are Extend and FromIterator of std
+    from_iter, made MAKER, ..     the map has the limit of a, or 32 for hashmap; its work counts as 0
+
+`walk KIND STEP ..` makes an iterator, and lists what its steps gave: `[1#1=10; 2]`. The kinds `for`, `for_mut` and
+`for_value` are `into_iter` of `&a`, `&mut a` and `a`. The step `add` is `next`, whose value is increased by 1, and
+`each` or `each:N` is a `for` loop over what is left, or over N items.
+
+`run COMMAND ..` lists the replies: `[was none; length 1; refused memory insert 1#1 10]`. It needs `map` or `small`, as
+`or_default` does.
+"""
 
 import dataclasses
 import re
