@@ -14,7 +14,7 @@ CRATE = pathlib.Path(__file__).resolve().parent.parent / "crates/halfbrown"
 # A clause of such a name is not quoted, and a field is not printed.
 LEFT_OUT = ("cost", "keeps", "runs", "same_map", "small", "valid", "values_run")
 # Of such a record no field is printed: a line by hand says in short what it says.
-NOT_OPENED = ("InsertsAt", "ModifiesEntry", "RefusedCollectIter", "RefusedExtendIter", "ShiftRemoves")
+NOT_OPENED = ("InsertsAt", "IsDefaultBuilder", "ModifiesEntry", "RefusedCollectIter", "RefusedExtendIter", "ShiftRemoves")
 CALL = re.compile(r"^fn ([\w:]+)(?:.*\n)(?:  [^|\n].*\n)*((?:  \|.*\n)*)", re.M)
 LIST = re.compile(r"(^## (Words|All calls)\n(?:[^`]|`(?!``))*```text\n)([^`]*)", re.M)
 NAME = r"(?<![\w.'])[A-Za-z][\w']*"
