@@ -3,6 +3,8 @@
 #
 #   tests/gate.sh            proves what users run, and builds the rest unproved beside that
 #   tests/gate.sh proved     takes what `rt ci` has proved and built
+#
+# As many parts run at once as there are processors, at most four. Each has its line when it ends, so that their order differs.
 set -uo pipefail
 missing=0
 for it in rt python3 cc; do
@@ -10,44 +12,91 @@ for it in rt python3 cc; do
 done
 [ "$missing" -eq 0 ] || { echo "0 passed, 1 failed"; exit 1; }
 cd "$(dirname "$0")/.." || exit 1
+mode=${1:-}
+lanes=$(nproc)
+[ "$lanes" -le 4 ] || lanes=4
 folder=$(mktemp -d) || exit 1
-trap 'rm -rf "$folder"; kill $(jobs -p) 2>/dev/null' EXIT
-passed=0
-failed=0
+waiting=() passed=0 failed=0
+declare -A first=() command=() running=() began=() ended=()
 
-# part NAME COMMAND..: runs a part. Its last line is "N passed, M failed"; where it has none, its status counts.
+# below PROCESS..: these and all that they started. ^C reaches this script alone, since a shell keeps it from what runs beside.
+below() { local it; for it; do echo "$it"; below $(ps -o pid= --ppid "$it"); done; }
+trap 'kill $(below $(jobs -p)) 2>/dev/null; rm -rf "$folder"' EXIT
+
+# part NAME FIRST COMMAND..: a part, which starts when the part FIRST has ended, if there is one of this name.
 part() {
-    local name=$1 log="$folder/$1" began=$SECONDS status counts
-    shift
-    "$@" >"$log" 2>&1
-    status=$?
+    [[ $mode != proved || $3 != @(proofs|build) ]] || return
+    waiting+=("$1") first[$1]=$2 command[$1]=${*:3}
+}
+
+# start NAME: runs a part. The others give way to the proofs, which are long where something has changed.
+start() {
+    began[$1]=$SECONDS
+    (
+        [ "$mode" = proved ] || [ "$1" = proofs ] || renice -n 10 $BASHPID >/dev/null
+        ${command[$1]}
+    ) >"$folder/$1" 2>&1 </dev/null &
+    running[$!]=$1
+}
+
+# finish NAME STATUS: adds up a part. Its last line is "N passed, M failed"; where it has none, or was killed, its status counts.
+finish() {
+    local log="$folder/$1" counts
     counts=$(tail -n 1 "$log" | sed -n -E 's/^([0-9]+) passed, ([0-9]+) failed$/\1 \2/p')
-    [ -n "$counts" ] || counts=$([ "$status" -eq 0 ] && echo 1 0 || echo 0 1)
-    [ "$status" -eq 0 ] || [ "${counts#* }" -gt 0 ] || counts="${counts% *} 1"
+    [ -n "$counts" ] || counts=$([ "$2" -eq 0 ] && echo 1 0 || echo 0 1)
+    [ "$2" -eq 0 ] || [ "${counts#* }" -gt 0 ] || counts="${counts% *} 1"
     [ "${counts#* }" -eq 0 ] || grep -vE '^[0-9]+ passed, [0-9]+ failed$' "$log"
-    echo "$name: ${counts% *} passed, ${counts#* } failed, $((SECONDS - began)) s"
+    echo "$1: ${counts% *} passed, ${counts#* } failed, $((SECONDS - ${began[$1]})) s"
     passed=$((passed + ${counts% *}))
     failed=$((failed + ${counts#* }))
+    ended[$1]=yes
 }
 
-# prints PROGRAM NAME: on its stored input a program prints its stored output.
-prints() {
-    "$1" <"crates/$2/stdin" | diff "crates/$2/stdout" -
+# Runs the parts. Where one more can run, the first that need not wait starts.
+run_parts() {
+    local at it
+    while [ $((${#waiting[@]} + ${#running[@]})) -gt 0 ]; do
+        for at in "${!waiting[@]}"; do
+            [ ${#running[@]} -lt "$lanes" ] || break
+            it=${first[${waiting[at]}]}
+            [ -n "${ended[$it]-}" ] || [ -z "${command[$it]-}" ] || continue
+            start "${waiting[at]}"
+            unset "waiting[at]"
+        done
+        sleep 0.2
+        for it in "${!running[@]}"; do
+            kill -0 "$it" 2>/dev/null || { wait "$it"; finish "${running[$it]}" $?; unset "running[$it]"; }
+        done
+    done
 }
 
-# counts_many PROGRAM: two megabytes of words are counted. They are long, since a program that is not proved counts slowly.
+# What prove.sh says is shown as it comes.
+exec 3>&2
+proofs() { tests/prove.sh 2>&3 && echo "3 passed, 0 failed"; }
+
+# Builds a program unproved. Where that fails, no older one plays in its place.
+build() { make --no-print-directory -s "out/unproved/$1" || { rm -f "out/unproved/$1"; return 1; }; }
+
+# Where it stands, or what `rt ci` has built.
+program() { [ "$mode" = proved ] && echo "$PWD/crates/$1/out/$1" || echo "$PWD/out/unproved/$1"; }
+
+# prints NAME: on its stored input a program prints its stored output.
+prints() { "$(program "$1")" <"crates/$1/stdin" | diff "crates/$1/stdout" -; }
+
+# Two megabytes of words are counted. They are long, since a program that is not proved counts slowly.
 counts_many() {
     local words="internationalization electroencephalographically otorhinolaryngological"
-    "$1" < <(yes "$words" | head -n 28000) | diff <(printf '%s 28000\n' $words) -
+    "$(program word_count)" < <(yes "$words" | head -n 28000) | diff <(printf '%s 28000\n' $words) -
 }
 
-# says PROGRAM: what the gate says where it finds no tools, and `make run` in a copy of the tree, where this program is built and not
-# proved: to a line, where the reader of many answers goes away, and where nothing can be written.
-says() (
-    copy=$folder/copy
+# What the gate says where it finds no tools, and `make run` in a copy of the tree, where halfmap is built and not proved: to a
+# line, where the reader of many answers goes away, and where nothing can be written.
+says() {
+    local copy=$folder/copy not_proved="This halfmap is not proved; make prove proves it."
     unset MAKEFLAGS MAKELEVEL
-    mkdir "$copy" && cp -r --parents Makefile crates.txt tests crates/half{_store,brown,map}/{src,specs,proofs} "$copy" || exit
-    mkdir -p "$copy/out/unproved" && cp "$1" "$copy/out/unproved/halfmap" && cd "$copy" || exit
+    mkdir -p "$copy/out/unproved" || return
+    cp -r --parents Makefile crates.txt tests/*.sh crates/half{_store,brown,map}/{src,specs,proofs} "$copy" || return
+    cp "$HALFMAP" "$copy/out/unproved/halfmap" && cd "$copy" || return
     {
         PATH='' "$BASH" tests/gate.sh
         echo f | make run
@@ -56,18 +105,12 @@ says() (
         rm -r out && touch out
         ! make run
     } 2>&1 | sed 's/^.*\*\*\* //' | diff - <(
-        echo "rt is not on the path"
-        echo "python3 is not on the path"
-        echo "cc is not on the path"
+        printf '%s is not on the path\n' rt python3 cc
         echo "0 passed, 1 failed"
-        echo "This halfmap is not proved; make prove proves it."
-        echo "vec 0"
-        echo "This halfmap is not proved; make prove proves it."
-        echo "vec 0"
-        echo "make: 0"
+        printf '%s\n' "$not_proved" "vec 0" "$not_proved" "vec 0" "make: 0"
         echo "Nothing can be written to this folder: copy it, and run make in the copy.  Stop."
     )
-)
+}
 
 # The tests of a crate, unproved.
 try_tests() {
@@ -79,53 +122,32 @@ try_tests() {
         echo "0 passed, 1 failed"
 }
 
-# Where a program stands, built if need be.
-built() {
-    if [ "$mode" = proved ]; then
-        echo "$PWD/crates/$1/out/$1"
-    else
-        make --no-print-directory -s "out/unproved/$1" >&2 && echo "$PWD/out/unproved/$1"
-    fi
-}
-
-# What needs no proof.
-unproved_parts() {
-    # Where it is not built, no older one plays in its place.
-    WITNESS=$(built witness) || WITNESS=$folder/none
-    export WITNESS
-    part "scripts" tests/scripts.py
-    part "random run" tests/witness.py
-    for program in word_count json_at; do
-        part "$program" prints "$(built "$program")" "$program"
-    done
-    part "many words" counts_many "$(built word_count)"
-    part "documents" env JSON_AT="$(built json_at)" tests/documents.py
-    part "tests of half_tests" try_tests half_tests
-    part "tests of halfmap" try_tests halfmap
-    part "tests of json_value" try_tests json_value
-    part "must not compile" tests/must_not_compile.py
-    part "sources" tests/sources.py
-    part "what make says" says "$(built halfmap)"
-    part "documentation" env HALFMAP="$(built halfmap || echo none)" tests/documentation.py
-    echo "$passed $failed" >"$folder/sum"
-}
-
-mode=${1:-}
 rt version
-if [ "$mode" = proved ]; then
-    unproved_parts
-else
-    echo "Beside the proofs witness, word_count and json_at are built unproved, and tested; the results follow the proofs."
-    (renice -n 10 $BASHPID >/dev/null; unproved_parts) >"$folder/said" 2>&1 &
-    tests/prove.sh && passed=3 || failed=1
-    echo "proofs: $passed passed, $failed failed, $SECONDS s"
-    wait $!
-    cat "$folder/said"
-    read -r more worse <"$folder/sum"
-    passed=$((passed + more))
-    failed=$((failed + worse))
-fi
-part "halfmap" tests/halfmap.py
-
+[ "$mode" = proved ] || echo "Beside the proofs witness, word_count and json_at are built unproved, and tested."
+WITNESS=$(program witness) JSON_AT=$(program json_at) HALFMAP=$(program halfmap)
+export WITNESS JSON_AT HALFMAP
+# The longest first, or what they wait for.
+part "proofs" - proofs
+part "build of witness" - build witness
+part "tests of half_tests" - try_tests half_tests
+part "must not compile" - tests/must_not_compile.py
+part "build of halfmap" - build halfmap
+part "random run" "build of witness" tests/witness.py
+part "documentation" "build of halfmap" tests/documentation.py
+part "scripts" "build of witness" tests/scripts.py
+part "build of json_at" - build json_at
+part "build of word_count" - build word_count
+part "tests of json_value" - try_tests json_value
+part "tests of halfmap" - try_tests halfmap
+part "halfmap" proofs tests/halfmap.py
+part "documents" "build of json_at" tests/documents.py
+part "what make says" "build of halfmap" says
+part "many words" "build of word_count" counts_many
+part "json_at" "build of json_at" prints json_at
+part "word_count" "build of word_count" prints word_count
+part "sources" - tests/sources.py
+run_parts
+# A part that has not ended has failed.
+failed=$((failed + ${#command[@]} - ${#ended[@]}))
 echo "$passed passed, $failed failed"
 [ "$failed" -eq 0 ]
