@@ -146,6 +146,8 @@ part "many words" "build of word_count" counts_many
 part "json_at" "build of json_at" prints json_at
 part "word_count" "build of word_count" prints word_count
 part "sources" - tests/sources.py
+# Its tests are built where all is proved.
+[ "$mode" != proved ] || part "refused reads" - tests/refused_reads.py
 run_parts
 # A part that has not ended has failed.
 failed=$((failed + ${#command[@]} - ${#ended[@]}))

@@ -3,6 +3,7 @@ ghost use Rattle.std.specs.Prelude.{IfOk, OnOk};
 ghost use Rattle.serde.specs.Event.{WritesMap};
 ghost use Rattle.half_serde.specs.Reading.{ReadsMap};
 
+use crate::read::{Borrowing, read_map};
 use halfbrown::{Limit, LimitedHashMap};
 use serde::{Deserialize, Deserializer, Format, Serialize, Serializer};
 use std::alloc::Global;
@@ -31,7 +32,6 @@ pub fn serialize<K: Serialize + Eq + Hash, V: Serialize, H: BuildHasher, L: Limi
 ///
 /// The clause says that each entry that begins gives a pair. Which pair that is, no clause says: it is what the impls
 /// of the key and of the value read.
-#[tactic(auto, using(crate::proofs::Reading::reads_none))]
 pub fn deserialize<
     'de,
     K: Deserialize<'de> + Eq + Hash,
@@ -45,17 +45,5 @@ pub fn deserialize<
 ) -> Result<LimitedHashMap<K, V, H, L>, F::Error>
     ensures { IfOk result (λ map. ReadsMap F.gives K.eq H.is_default from.old map from.new) }
 {
-    from.begin_map()?;
-    let mut map = LimitedHashMap::default(alloc);
-    for _ in 0..u64::MAX {
-        if !from.next_entry()? {
-            return Ok(map);
-        }
-        let key = K::deserialize(alloc, from)?;
-        let value = V::deserialize(alloc, from)?;
-        if map.insert(key, value).is_err() {
-            return Err(from.no_memory());
-        }
-    }
-    Err(from.wrong_len())
+    read_map::<Borrowing, _, _, _, _, _>(alloc, from)
 }

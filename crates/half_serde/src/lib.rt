@@ -22,5 +22,6 @@
 
 pub mod as_map;
 mod map;
+mod read;
 
 pub use map::{Map, Object};

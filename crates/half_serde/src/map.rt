@@ -7,6 +7,7 @@ ghost use Rattle.half_serde.specs.Reading.{ReadsMap};
 mod tests;
 
 use crate::as_map;
+use crate::read::{Owning, read_map};
 use halfbrown::{AtMost, DefaultHashBuilder, KeyHasher, Limit, LimitedHashMap};
 use serde::{
     Described, Deserialize, DeserializeOwned, Deserializer, Format, Serialize, Serializer,
@@ -87,7 +88,6 @@ impl<
     S: BuildHasher + Default + Drop,
     L: Limit,
 > DeserializeOwned for Map<K, V, S, L> {
-    #[tactic(auto, using(crate::proofs::Reading::reads_none))]
     fn deserialize_owned<F: Format>(
         alloc: Global,
         from: &mut Deserializer<'_, '_, F>,
@@ -95,18 +95,6 @@ impl<
         ensures { IfOk result
             (λ map. ReadsMap F.gives K.eq S.is_default from.old map.0 from.new) }
     {
-        from.begin_map()?;
-        let mut map = LimitedHashMap::default(alloc);
-        for _ in 0..u64::MAX {
-            if !from.next_entry()? {
-                return Ok(Map(map));
-            }
-            let key = K::deserialize_owned(alloc, from)?;
-            let value = V::deserialize_owned(alloc, from)?;
-            if map.insert(key, value).is_err() {
-                return Err(from.no_memory());
-            }
-        }
-        Err(from.wrong_len())
+        Ok(Map(read_map::<Owning, _, _, _, _, _>(alloc, from)?))
     }
 }

@@ -1,8 +1,9 @@
 //! Maps that are read from JSON and written again.
 use super::{Map, Object};
-use halfbrown::{DefaultHashBuilder, HashMap, SizedHashMap};
+use halfbrown::{AtMost, DefaultHashBuilder, HashMap, SizedHashMap};
 use serde::{Deserialize, Serialize};
-use serde_json::Value;
+use serde_json::{Category, Error, Value};
+use std::process::Abort;
 use std::test::Fail;
 
 #[derive(Debug, Drop, PartialEq, Serialize, Deserialize)]
@@ -67,4 +68,34 @@ fn a_large_map_is_read_into_a_table(rt: HostRuntime) -> Result<(), Fail> {
     assert_eq!(rt; serde_json::to_string(alloc, &read)?, text);
     assert_eq!(rt; read, squares);
     Ok(())
+}
+
+type Small = Map<u64, u64, DefaultHashBuilder, AtMost<2>>;
+
+// Prints that the five pairs were read, or where memory was refused, which may happen.
+fn tell(rt: &(impl Print + Abort), read: Result<Small, Error>) -> Result<(), Fail> {
+    match read {
+        Ok(map) => {
+            assert_eq!(rt; map.0.len(), 5);
+            println!(rt; "whole")?;
+        }
+        Err(error) => {
+            assert_eq!(rt; error.classify(), Category::Memory);
+            println!(rt; "no memory after {} bytes", error.column())?;
+        }
+    }
+    Ok(())
+}
+
+// `tests/refused_reads.py` refuses each of its requests for memory alone.
+#[test]
+fn a_refused_read_is_an_error_of_memory(rt: HostRuntime) -> Result<(), Fail> {
+    let alloc = rt.alloc();
+    let text = r#"{"5":1,"4":2,"3":3,"2":4,"1":5}"#;
+    tell(&rt, serde_json::from_str(alloc, text))?;
+    let value = Value::from_str(alloc, text);
+    tell(
+        &rt,
+        value.and_then(|value| serde_json::from_value(alloc, value)),
+    )
 }

@@ -5,7 +5,7 @@ ghost use Rattle.half_store.specs.Store.{IsStoreClone, MakesStore, StoreReserves
 ghost use Rattle.half_store.specs.Capacity.{capacity_of};
 
 use super::Store;
-use crate::capacity::{least_buckets, capacity_of, generous_capacity};
+use crate::capacity::{capacity_of, generous_capacity, least_buckets};
 use crate::refusal::check_size;
 use crate::{Columns, Refusal, Table};
 use std::alloc::{AllocError, Global};

@@ -8,7 +8,7 @@ use super::Table;
 use super::probe::first_empty;
 use crate::blocks::{clone_all, move_to};
 use crate::buckets::HashedBuckets;
-use crate::capacity::{least_buckets, capacity_of};
+use crate::capacity::{capacity_of, least_buckets};
 use crate::refusal::check_size;
 use crate::words::{WordArray, Words};
 use crate::{Refusal, uncounted};

@@ -30,7 +30,11 @@ fn assert_found_at<K: Eq + Hash + Debug + Drop, Q: Equivalent<K>, const N: usize
     map.insert(keys.0, 1)?;
     map.insert(keys.1, 2)?;
     assert_same_at(N, map.get(query).copied(), Some(2), "get")?;
-    let value = if map.contains_key(query) { map[query] } else { 0 };
+    let value = if map.contains_key(query) {
+        map[query]
+    } else {
+        0
+    };
     assert_same_at(N, value, 2, "the index")?;
     assert_same_at(N, map.remove(query), Some(2), "remove")?;
     assert_true(map.get_key_value(query).is_none(), "it is gone")

@@ -1,6 +1,6 @@
 -- What was read so far has its pairs in the map.
 use Rattle.half_serde.specs.Reading.{ReadsPairs}
-use Rattle.half_serde.proofs.as_map.deserialize.Given as goal
+use Rattle.half_serde.proofs.read.read_map.Given as goal
 
 abbrev pub invariant-loop : goal.invariant-loop
 invariant-loop g l = ReadsPairs g.F.Format.gives g.K.PartialEq.eq g.H.Default.is_default l.initial.from l.map l.from

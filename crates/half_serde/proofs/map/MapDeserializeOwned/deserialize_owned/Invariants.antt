@@ -1,6 +1,0 @@
--- What was read so far has its pairs in the map.
-use Rattle.half_serde.specs.Reading.{ReadsPairs}
-use Rattle.half_serde.proofs.map.MapDeserializeOwned.deserialize_owned.Given as goal
-
-abbrev pub invariant-loop : goal.invariant-loop
-invariant-loop g l = ReadsPairs g.F.Format.gives g.K.PartialEq.eq g.S.Default.is_default l.initial.from l.map l.from
