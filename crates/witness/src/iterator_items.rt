@@ -199,8 +199,21 @@ impl<K: Eq + Hash + Named + Drop, V: Number + Drop, S: BuildHasher, L: Limit> Wa
         print_items(rt, self, most, of_owned_pair)
     }
 
-    // Written here too, since the proof of the one in the trait does not reach a type that holds a map.
+    // These are written here too: the proof of `add` in the trait does not reach a type that holds a map, and those of the others
+    // take long at one.
     fn add(&mut self) -> Option<Answer> {
         None
+    }
+
+    fn is_at_end(&self) -> bool {
+        false
+    }
+
+    fn print_clone<R: Print>(&self, _rt: &R) -> io::Result<()> {
+        Ok(())
+    }
+
+    fn print_debug<R: Print>(&self, _rt: &R) -> io::Result<()> {
+        Ok(())
     }
 }
