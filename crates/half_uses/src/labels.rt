@@ -2,7 +2,8 @@
 ghost use Rattle.std.specs.Map.{keys_of, values_of, lookup};
 ghost use Rattle.std.specs.List.{IsDistinct};
 ghost use Rattle.std.specs.Option.{option_copied};
-ghost use Rattle.std.specs.Prelude.{◌≡◌, ◌≢◌, ◌+◌, ◌^◌, ◌<◌, false, None, [], length, sum, IfErr, IfOk, OnErr, OnOk};
+ghost use Rattle.std.specs.Prelude.{◌≡◌, ◌≢◌, ◌+◌, ◌^◌, ◌<◌, true, false, None, Some, [], length, sum, unwrap_or};
+ghost use Rattle.std.specs.Prelude.{IfErr, IfOk, OnErr, OnOk};
 ghost use Rattle.std.specs.String.{string_eq};
 ghost use Rattle.std.proofs.Props.{props};
 ghost use Rattle.halfbrown.specs.Growth.{insert_needs};
@@ -213,6 +214,8 @@ impl<K: Eq + Hash> Sums<K> {
         ensures total { OnOk result (sum (values_of self.new.by_key.pairs)
             ≡ sum (values_of self.old.by_key.pairs) + value) }
         ensures key { OnOk result (self.new.by_key.pairs ≡ with_more K.eq self.old.by_key.pairs key value) }
+        ensures equals { OnOk result ((same : K) → K.eq key same ≡ true → value_of K.eq self.new.by_key.pairs same
+            ≡ Some (unwrap_or (value_of K.eq self.old.by_key.pairs key) 0 + value)) }
         ensures others { OnOk result ((other : K) → K.eq key other ≡ false
             → value_of K.eq self.new.by_key.pairs other ≡ value_of K.eq self.old.by_key.pairs other) }
         ensures needs { OnErr result (insert_needs 32 K.eq self.old.by_key key ≢ None) }
@@ -234,6 +237,8 @@ fn add_to<K: Eq + Hash + Drop>(
     requires { sum (values_of sums.old.pairs) + value < 2 ^ 64 }
     ensures total { OnOk result (sum (values_of sums.new.pairs) ≡ sum (values_of sums.old.pairs) + value) }
     ensures key { OnOk result (sums.new.pairs ≡ with_more K.eq sums.old.pairs key value) }
+    ensures equals { OnOk result ((same : K) → K.eq key same ≡ true → value_of K.eq sums.new.pairs same
+        ≡ Some (unwrap_or (value_of K.eq sums.old.pairs key) 0 + value)) }
     ensures others { OnOk result ((other : K) → K.eq key other ≡ false
         → value_of K.eq sums.new.pairs other ≡ value_of K.eq sums.old.pairs other) }
     ensures needs { OnErr result (insert_needs 32 K.eq sums.old key ≢ None) }
