@@ -29,11 +29,11 @@ part() {
     waiting+=("$1") first[$1]=$2 command[$1]=${*:3}
 }
 
-# start NAME: runs a part. The others give way to the proofs, which are long where something has changed.
+# start NAME: runs a part. The others give way to the proofs, which are long where something has changed, and to the longest build.
 start() {
     began[$1]=$SECONDS
     (
-        [ "$mode" = proved ] || [ "$1" = proofs ] || renice -n 10 $BASHPID >/dev/null
+        [[ $mode = proved || $1 = @(proofs|build of witness) ]] || renice -n 10 $BASHPID >/dev/null
         ${command[$1]}
     ) >"$folder/$1" 2>&1 </dev/null &
     running[$!]=$1
