@@ -123,7 +123,7 @@ try_tests() {
 }
 
 rt version
-[ "$mode" = proved ] || echo "Beside the proofs witness, word_count and json_at are built unproved, and tested."
+[ "$mode" = proved ] || echo "Beside the proofs the programs are built unproved, and tested."
 WITNESS=$(program witness) JSON_AT=$(program json_at) HALFMAP=$(program halfmap)
 export WITNESS JSON_AT HALFMAP
 # The longest first, or what they wait for.
