@@ -42,10 +42,6 @@ module _ (hashes : List ℕ) (buckets : ℕ) where
   unfoldable pub reach : ℕ → ℕ
   reach hash = if buckets == 0 then 0 else suc (loaded_run (buckets - 1) (home buckets hash))
 
-  -- a probe for this hash reads fewer buckets up to this one than an unsuccessful probe reads
-  abbrev pub IsNearer : ℕ → ℕ → Type 0
-  IsNearer hash bucket = probe_distance buckets (home buckets hash) bucket + 1 < reach hash
-
   -- no two of the hashes have the same home bucket
   abbrev pub HomesApart : Type 0
   HomesApart = AllPairs (λ one other. home buckets one ≢ home buckets other) hashes

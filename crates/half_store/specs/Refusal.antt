@@ -2,8 +2,8 @@
 use Rattle.std.specs.Prelude.{ℕ, ◌^◌, nat_lt, List, codes, if◌then◌else◌}
 use Rattle.std.specs.declared.io.ErrorKind.{ErrorKind}
 use Rattle.std.specs.declared.io.ErrorKind.TheVariants.{OutOfMemory, InvalidInput}
-use Rattle.half_store.specs.declared.refusal.Refusal.{Refusal}
-use Rattle.half_store.specs.declared.refusal.Refusal.TheVariants.{Memory, Size}
+pub use Rattle.half_store.specs.declared.refusal.Refusal.{Refusal}
+pub use Rattle.half_store.specs.declared.refusal.Refusal.TheVariants.{Memory, Size}
 
 -- why a call that needs capacity for this many pairs is refused, where it is: more than 2^60 are too many for any memory
 abbrev pub refusal_of : ℕ → Refusal

@@ -4,10 +4,9 @@ use Rattle.std.specs.Map.{keys_of}
 use Rattle.half_store.specs.Capacity.{buckets_of}
 use Rattle.half_store.specs.Work.{IsTableHitCost, work_after_missing, Work, first_match_cost}
 use Rattle.half_store.specs.Reach.{reach, filling_reach}
-use Rattle.half_store.specs.declared.store.find.Vacancy.{Vacancy}
 use Rattle.half_store.specs.declared.vecmap.search.Scan.{Scan}
 use Rattle.half_store.specs.declared.vecmap.search.Scan.TheVariants.{ByKey}
-use Rattle.half_store.specs.Store.{StoreState, IsVacancy}
+use Rattle.half_store.specs.Store.{StoreState, Vacancy, IsVacancy}
 use Rattle.half_store.specs.Table.{Contents, hit_reads_in, all_hit_reads_in}
 use Rattle.std.specs.Borrow.{Bor}
 use Rattle.half_store.specs.Slots.{slots_from, slot_at}

@@ -1,13 +1,12 @@
 -- What contracts see of a store.
 use Rattle.std.specs.Prelude.{◌≡◌, ℕ, ◌+◌, ◌^◌, ◌<◌, ◌≤◌, Bool, true, false, List, [], ◌∷◌, ◌++◌, length, min, max, Option, None, Some, if◌then◌else◌}
-use Rattle.std.specs.Prelude.{Result, IsOk, OnOk, OnErr, IfOk, IfErr}
+use Rattle.std.specs.Prelude.{IfSome, Result, IsOk, OnOk, OnErr, IfOk, IfErr}
 use Rattle.std.specs.List.{AllZip}
 use Rattle.std.specs.declared.alloc.AllocError.{AllocError}
 use Rattle.std.specs.Global.{Box}
-use Rattle.half_store.specs.declared.store.find.Vacancy.{Vacancy}
-use Rattle.half_store.specs.declared.refusal.Refusal.{Refusal}
+pub use Rattle.half_store.specs.declared.store.find.Vacancy.{Vacancy}
 use Rattle.half_store.specs.Capacity.{capacity_of, least_table_capacity, generous_capacity, least_capacity, is_vec_for, is_vec_shrunk, shrunk_capacity}
-use Rattle.half_store.specs.Refusal.{refusal_of}
+use Rattle.half_store.specs.Refusal.{Refusal, refusal_of}
 use Rattle.half_store.specs.Columns.{ColumnsState}
 use Rattle.half_store.specs.Table.{TableState, Contents, table_contents, no_contents, contents_code, with_hash_in, IsTableVacancy}
 use base.Stored.{Coded, coded×, coded_list, coded_ℕ, coded_bool, coded_via}
@@ -41,8 +40,7 @@ module _ {K V : Type 0} where
 
   -- what is always true of the columns and the table
   abbrev pub IsStore : ColumnsState K V → Option (Box TableState) → Type 0
-  IsStore columns None = Unit {0}
-  IsStore columns (Some t) = TableFitsColumns columns t.value
+  IsStore columns table = IfSome table (λ t. TableFitsColumns columns t.value)
 
   -- clones of the pairs in the same form, with the same stored hashes; a table has the same capacity, and a vector none to spare
   pub record IsStoreClone (key_clone : K → K → Type 0) (value_clone : V → V → Type 0) (old new : StoreState K V) : Type 0 where
@@ -142,21 +140,11 @@ filled is_vec contents vacancy = if is_vec then contents else with_hash_in conte
 
 -- the store with one pair more, which is added here
 abbrev pub store_pushed : {K V : Type 0} → StoreState K V → K → V → Vacancy → StoreState K V
-store_pushed s k v vacancy = record {
-  is_vec = s.is_vec;
-  pairs = s.pairs ++ (k, v) ∷ [];
-  capacity = s.capacity;
-  hashes = if s.is_vec then s.hashes else s.hashes ++ vacancy.hash ∷ [];
-  contents = filled s.is_vec s.contents vacancy;
-}
+store_pushed s k v vacancy =
+    let hashes = if s.is_vec then s.hashes else s.hashes ++ vacancy.hash ∷ [] in
+    record s { pairs = s.pairs ++ (k, v) ∷ []; hashes = hashes; contents = filled s.is_vec s.contents vacancy }
 
 abbrev pub store_code : {K V : Type 0} → Coded K → Coded V → Coded (StoreState K V)
 store_code k v = coded_via (coded× coded_bool (coded× (coded_list (coded× k v)) (coded× coded_ℕ (coded× (coded_list coded_ℕ) contents_code))))
     (λ s. (s.is_vec, (s.pairs, (s.capacity, (s.hashes, s.contents)))))
-    (λ a b e i. record {
-      is_vec = (e i).0;
-      pairs = (e i).1.0;
-      capacity = (e i).1.1.0;
-      hashes = (e i).1.1.1.0;
-      contents = (e i).1.1.1.1;
-    })
+    (λ a b e i. record { is_vec = (e i).0; pairs = (e i).1.0; capacity = (e i).1.1.0; hashes = (e i).1.1.1.0; contents = (e i).1.1.1.1 })

@@ -1,14 +1,13 @@
 -- What a removal does to a store, in order or by the last pair, and to the buckets before pairs are shifted back.
 use Rattle.std.specs.Prelude.{◌≡◌, ℕ, ◌+◌, ◌-◌, ◌<◌, Bool, false, List, length, slice_get, slice_index, slice_set, Option, Some, None, Result, Ok, Err, suc, ◌==◌, nat_lt, if◌then◌else◌}
 use Rattle.std.specs.Result.{result_ok}
-use Rattle.half_store.specs.declared.store.find.Vacancy.{Vacancy}
 use Rattle.half_store.specs.declared.vecmap.search.Scan.TheVariants.{ByKey}
 use Rattle.half_store.specs.PairLists.{swap_remove_at}
 use Rattle.half_store.specs.Work.{ReadsWithin, probe_reads, Work}
 use Rattle.half_store.specs.Slots.{slots_from}
 use Rattle.half_store.specs.Reach.{reach, probe_distance}
 use Rattle.half_store.specs.Search.{StoreSearch, IsStoreSearchCost}
-use Rattle.half_store.specs.Store.{StoreState, SameFormAndCapacity}
+use Rattle.half_store.specs.Store.{StoreState, Vacancy, SameFormAndCapacity}
 use Rattle.half_store.specs.Table.{IsEmptyBeside}
 use Rattle.std.specs.List.{remove}
 

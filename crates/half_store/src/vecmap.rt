@@ -20,8 +20,8 @@ use std::mem::replace;
 /// Pairs in order, in two vectors of one length and one capacity. A pair's entry index is its index there.
 #[derive(Drop)]
 pub struct Columns<K, V> {
-    keys: Vec<K>,
-    values: Vec<V>,
+    pub(crate) keys: Vec<K>,
+    pub(crate) values: Vec<V>,
 }
 
 impl<K, V> Model for Columns<K, V> {

@@ -2,9 +2,9 @@
 //!
 //! A word takes four bytes where that is enough for as many pairs as the buckets may hold, and eight elsewhere. Nothing lends
 //! the words: each is read by `word_at`, which counts it.
-ghost use Rattle.std.specs.Prelude.{◌≡◌, ℕ, ◌<◌, ◌≤◌, List, [], length, replicate, slice_index, slice_set, IfOk, IsOk};
+ghost use Rattle.std.specs.Prelude.{◌≡◌, ℕ, ◌-◌, ◌^◌, ◌<◌, ◌≤◌, List, [], length, replicate, slice_index, slice_set, IfOk, IsOk};
 ghost use Rattle.half_store.specs.Capacity.{capacity_of, IsBucketCount};
-ghost use Rattle.half_store.specs.Words.{words_of, most_of, most_of_four, most_of_eight, word_size, AreWordsFor};
+ghost use Rattle.half_store.specs.Words.{words_of, most_of, word_size, AreWordsFor};
 ghost use Rattle.half_store.specs.Work.{looked_more};
 
 use crate::Tally;
@@ -86,7 +86,7 @@ impl<T: Copy> WordVec<T> {
 impl Words for WordVec<u32> {
     ghost words = { λ v. v };
 
-    ghost most = { λ v. most_of_four };
+    ghost most = { λ v. 2 ^ 32 - 1 };
 
     #[inline(always)]
     fn count(&self) -> usize {
@@ -108,7 +108,7 @@ impl Words for WordVec<u32> {
 impl Words for WordVec<usize> {
     ghost words = { λ v. v };
 
-    ghost most = { λ v. most_of_eight };
+    ghost most = { λ v. 2 ^ 62 };
 
     #[inline(always)]
     fn count(&self) -> usize {

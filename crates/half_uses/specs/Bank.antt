@@ -1,6 +1,6 @@
 -- What a transfer between accounts does, and why it is declined.
 use Rattle.std.specs.Prelude.{◌≡◌, ℕ, ◌+◌, ◌-◌, ◌<◌, Bool, true, false, ◌&&◌, List, unwrap_or}
-use Rattle.halfbrown.specs.Pairs.{value_of, holds, set_by}
+use Rattle.halfbrown.specs.Pairs.{value_of, holds, set_value}
 use Rattle.half_uses.specs.declared.bank.Declined.{Declined}
 use Rattle.half_uses.specs.declared.bank.Declined.TheVariants.{Unknown, TooLittle}
 
@@ -12,8 +12,8 @@ module _ {A : Type 0} (eq : A → A → Bool) where
   -- the accounts once an amount has gone from one to another
   abbrev pub moved : List (A × ℕ) → A → A → ℕ → List (A × ℕ)
   moved accounts from to amount =
-      let left = set_by (eq from) accounts (balance_of accounts from - amount) in
-      set_by (eq to) left (balance_of left to + amount)
+      let left = set_value (eq from) accounts (balance_of accounts from - amount) in
+      set_value (eq to) left (balance_of left to + amount)
 
   -- whether there are both of these accounts
   abbrev pub are_known : List (A × ℕ) → A → A → Bool

@@ -38,11 +38,7 @@ plus_looked n cost = record cost { looked = add_ranges cost.looked (exactly n) }
 
 -- a cost, but none where the call was refused before it did anything
 abbrev pub unless_refused : Bool → Cost → Cost
-unless_refused refused cost = record {
-  asked = if refused then 0 else cost.asked;
-  compared = if refused then exactly 0 else cost.compared;
-  looked = if refused then exactly 0 else cost.looked;
-}
+unless_refused refused cost = if refused then no_cost else cost
 
 -- a number grew by a number in this range
 pub record GrewWithin (range : Range) (before after : ℕ) : Type 0 where

@@ -3,14 +3,13 @@ use Rattle.std.specs.Prelude.{◌≡◌, ℕ, ◌+◌, ◌-◌, ◌≤◌, Bool,
 use Rattle.std.specs.Map.{keys_of}
 use Rattle.std.specs.Hash.{HashWrites}
 use Rattle.halfbrown.specs.Ghosts.{HasherGhosts}
-use Rattle.half_store.specs.PairLists.{index_of}
 use Rattle.half_store.specs.Reach.{reach, filling_reach, HomesApart}
 use Rattle.half_store.specs.Capacity.{buckets_of, least_table_capacity}
 use Rattle.half_store.specs.Table.{hit_reads_in, all_hit_reads_in}
 use Rattle.half_store.specs.Work.{Work, first_match_cost}
 use Rattle.halfbrown.specs.CostRanges.{Cost, Range, GrewBy, no_cost, plus_asked, plus_looked, unless_refused, exactly, between}
 use Rattle.halfbrown.specs.State.{State, make_state, contents_of}
-use Rattle.halfbrown.specs.Pairs.{holds}
+use Rattle.halfbrown.specs.Pairs.{index_of, holds}
 use Rattle.halfbrown.specs.Growth.{is_full, is_vec_after}
 
 -- how often a search hashes its key: never in a vector, once in a table

@@ -30,13 +30,9 @@ module _ {K V S L H : Type 0} {e : EqGhosts K} {h : HashGhosts K} {b : HasherGho
   abbrev pub DrainSteps : Drain K V S L (StoreState K V) H e h b l p → Option (K × V) → Drain K V S L (StoreState K V) H e h b l p → Type 0
   DrainSteps s r t = MatchOption r ((rest s ≡ []) × (t ≡ s)) (λ x. (rest s ≡ x ∷ rest t) × DrainsSameMap s t)
 
-  -- each state that calls of `next` lead to from s borrows the same map, in the same form and capacity
-  abbrev pub KeepsAlong : Drain K V S L (StoreState K V) H e h b l p → Type 0
-  KeepsAlong s = (ps : List (K × V)) (t : Drain K V S L (StoreState K V) H e h b l p) → Yields DrainSteps s ps t → DrainsSameMap s t
-
   -- s borrows the map of this ghost name; calls of `next` of any `Drain` give the first of the pairs that it had left, in order; and each state
   -- that they lead to from s borrows the same map, in the same form and capacity
   pub record StepsThroughPairs (name : GName) (s : Drain K V S L (StoreState K V) H e h b l p) : Type 0 where
     pub same_map : s.map.ghost_name ≡ name
     pub pairs : YieldsInOrder DrainSteps rest
-    pub keeps : KeepsAlong s
+    pub keeps : (ps : List (K × V)) (t : Drain K V S L (StoreState K V) H e h b l p) → Yields DrainSteps s ps t → DrainsSameMap s t

@@ -3,12 +3,10 @@ use Rattle.std.specs.Prelude.{◌≡◌, ℕ, Bool, true, false, List, [], ◌�
 use Rattle.std.specs.Borrow.{MutBor}
 use Rattle.std.specs.Map.{keys_of, values_of, lookup, lookup_entry}
 use Rattle.std.specs.Option.{option_and_then, option_map, option_map_or}
-use Rattle.half_store.specs.PairLists.{set_key_at, set_value_at, swap_remove_at}
-use Rattle.half_store.specs.declared.store.find.Vacancy.{Vacancy}
 use Rattle.halfbrown.specs.Growth.{insert_needs}
 use Rattle.halfbrown.specs.Insertion.{Puts, pushed}
-use Rattle.halfbrown.specs.Lookup.{ReadsMatch}
-use Rattle.halfbrown.specs.Pairs.{holds, holds_by, set_by, put_by, take_out_by}
+use Rattle.halfbrown.specs.Lookup.{Vacancy, ReadsMatch}
+use Rattle.halfbrown.specs.Pairs.{set_key_at, set_value_at, swap_remove_at, holds, holds_by, set_value, put_by, take_out_by}
 use Rattle.halfbrown.specs.State.{State, IsValid, WithPairs, map_with_pairs}
 use Rattle.halfbrown.specs.Updates.{HasPut, HasSetBy, HasRemovedBy}
 
@@ -77,7 +75,7 @@ module _ {K V S : Type 0} where
     pub entry : IsEntryOf eq test m.pairs raw
     pub puts : (k : K) (v : V) → pairs_with_value raw k v ≡ put_by test m.pairs k v
     pub put : (k : K) (v : V) → test k ≡ true → HasPut eq m.pairs k v (pairs_with_value raw k v)
-    pub writes : is_occupied raw ≡ true → (v : V) → WithPairs m (set_by test m.pairs v) (with_value raw v)
+    pub writes : is_occupied raw ≡ true → (v : V) → WithPairs m (set_value test m.pairs v) (with_value raw v)
     pub written : is_occupied raw ≡ true → (v : V) → HasSetBy eq test m.pairs v (with_value raw v).pairs
 
   -- the entry is the same one, and this value has been written

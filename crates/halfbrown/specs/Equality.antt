@@ -4,7 +4,7 @@ use Rattle.std.specs.Bool.{Decides}
 use Rattle.std.specs.Cmp.{IsEquivalence, IsPartialEquivalence, equiv, partial_equiv_from_equiv}
 use Rattle.std.specs.HashMap.{hash_map_eq}
 use Rattle.half_store.specs.HashMap.{HashMap, hash_map}
-use Rattle.std.specs.HashMap.Eq.{lookup_congr, get_from_hash_map_eq, hash_map_eq_from_get, hash_map_eq_refl, hash_map_eq_symm, hash_map_eq_trans}
+use Rattle.std.specs.HashMap.Eq.{get_from_hash_map_eq, hash_map_eq_from_get, hash_map_eq_refl, hash_map_eq_symm, hash_map_eq_trans}
 use Rattle.std.specs.Option.{option_eq, option_map_or}
 use Rattle.halfbrown.specs.Pairs.{value_of}
 use Rattle.halfbrown.specs.State.{State}
@@ -36,10 +36,6 @@ module _ {K V : Type 0} (eq : K → K → Bool) (value_eq : V → V → Bool) wh
   searched_keys left right = if length left == length right then keys_while_same left right else []
 
 module _ {K V : Type 0} (eq : K → K → Bool) (value_eq : V → V → Bool) (keys : IsEquivalence eq) where
-  -- an equal key has the same values
-  pub equal_has_same : (left right : List (K × V)) (k q : K) → eq k q ≡ true → same_lookup eq value_eq left right k ≡ same_lookup eq value_eq left right q
-  equal_has_same left right k q same = λ i. option_eq value_eq (lookup_congr eq keys.congr left k q same i) (lookup_congr eq keys.congr right k q same i)
-
   pub same_pairs-Decides : (left right : List (K × V)) → Decides (same_pairs eq value_eq left right) ((k : K) → same_lookup eq value_eq left right k ≡ true)
   same_pairs-Decides left right =
       (get_from_hash_map_eq eq value_eq keys (as_map left) (as_map right), hash_map_eq_from_get eq value_eq (as_map left) (as_map right))

@@ -6,11 +6,10 @@ use Rattle.std.specs.Map.{keys_of}
 use Rattle.std.specs.Option.{option_or}
 use mathlib.Core.Logic.{inl, inr}
 use Rattle.half_store.specs.Capacity.{is_vec_for}
-use Rattle.half_store.specs.declared.refusal.Refusal.{Refusal}
 use Rattle.halfbrown.specs.CostRanges.{Cost, no_cost, add_costs}
 use Rattle.halfbrown.specs.Costs.{insert_cost}
 use Rattle.halfbrown.specs.CallerLoops.{add_keys, first_of_each}
-use Rattle.halfbrown.specs.Growth.{making_needs, insert_needs, IsRefusal}
+use Rattle.halfbrown.specs.Growth.{making_needs, insert_needs, Refusal, IsRefusal}
 use Rattle.halfbrown.specs.Insertion.{Puts}
 use Rattle.halfbrown.specs.Making.{IsMade}
 use Rattle.halfbrown.specs.Pairs.{put, value_of}

@@ -1,7 +1,7 @@
 -- Where a call needs more capacity, how much, and what the capacity is afterwards. A call is granted where it returns `Ok`, and refused where
 -- it returns `Err`. A switching call, an insertion, `entry` or `raw_entry_mut`, makes a full vector a table first, also where the key is held.
 use Rattle.std.specs.Prelude.{◌≡◌, ℕ, ◌+◌, ◌^◌, ◌<◌, ◌≤◌, ◌⊎◌, Bool, not, ◌&&◌, ◌==◌, nat_lt, length, Option, None, Some, IfNone, IfSome, MatchBool, MatchOption, Result, OnOk, OnErr, IfErr, if◌then◌else◌}
-use Rattle.half_store.specs.declared.refusal.Refusal.{Refusal}
+pub use Rattle.half_store.specs.declared.refusal.Refusal.{Refusal}
 use Rattle.half_store.specs.Refusal.{refusal_of}
 use Rattle.half_store.specs.Capacity.{least_table_capacity, generous_capacity, is_vec_shrunk, shrunk_capacity}
 use Rattle.half_store.specs.Store.{capped}
@@ -89,5 +89,6 @@ module _ {K V S : Type 0} (limit : ℕ) where
     pub less : shrunk_capacity limit old.is_vec (length old.pairs) < old.capacity
 
   -- after `shrink_to_fit` capacity is given back; or, only where that needs memory, which may be refused, all may be as before
-  abbrev pub Shrinks : State K V S → State K V S → Type 0
-  Shrinks old new = IsShrunk old new ⊎ (NeedsToShrink old × (new ≡ old))
+  pub data Shrinks (old new : State K V S) : Type 0 where
+    GivesBack : IsShrunk old new → Shrinks old new
+    Stays : NeedsToShrink old → new ≡ old → Shrinks old new

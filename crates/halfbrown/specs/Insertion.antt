@@ -3,18 +3,16 @@ use Rattle.std.specs.Prelude.{◌≡◌, ℕ, Bool, Option, Some, Result, OnOk, 
 use Rattle.std.specs.Map.{keys_of}
 use Rattle.std.specs.Result.{result_map_both}
 use Rattle.halfbrown.specs.declared.refused.Refused.{Refused}
-use Rattle.halfbrown.specs.Growth.{is_vec_after, insert_needs, new_key_needs, IsRefusal, IsGrantable, HasCapacityAfter, Grants}
+use Rattle.halfbrown.specs.Growth.{is_vec_after, insert_needs, new_key_needs, Refusal, IsRefusal, IsGrantable, HasCapacityAfter, Grants}
 use Rattle.halfbrown.specs.Pairs.{index_of, put, value_of}
 use Rattle.halfbrown.specs.State.{State, IsValid, make_state, contents_of}
 use Rattle.halfbrown.specs.Updates.{HasPut}
 use Rattle.half_store.specs.Capacity.{least_table_capacity}
 use Rattle.half_store.specs.Store.{IsVacancy, filled}
-use Rattle.half_store.specs.declared.refusal.Refusal.{Refusal}
-use Rattle.half_store.specs.declared.store.find.Vacancy.{Vacancy}
 use Rattle.halfbrown.specs.declared.map.prepare.Place.{Place}
 use Rattle.halfbrown.specs.declared.map.prepare.Place.TheVariants.{Held, Vacant}
 use Rattle.halfbrown.specs.Costs.{probe_length}
-use Rattle.halfbrown.specs.Lookup.{IsIndexOf, IsAbsent}
+use Rattle.halfbrown.specs.Lookup.{Vacancy, IsIndexOf, IsAbsent}
 
 module _ {K V S : Type 0} where
   -- a granted insertion of (k, v) that needed this much capacity: the pair is put, and a full vector has become a table

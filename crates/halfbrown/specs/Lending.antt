@@ -4,8 +4,7 @@ use Rattle.std.specs.Borrow.{Fml, GName, RattleType, MutBor, Array, Lends, Lends
 use Rattle.std.specs.HashMap.Lent.{HashMembers}
 use mathlib.Core.Option.{none}
 use Rattle.halfbrown.specs.Ghosts.{HasherGhosts, LimitGhosts}
-use Rattle.half_store.specs.PairLists.{set_value_at, set_values}
-use Rattle.halfbrown.specs.Pairs.{set_by}
+use Rattle.halfbrown.specs.Pairs.{set_value, set_value_at, set_values}
 use Rattle.halfbrown.specs.State.{State, map_with_pairs}
 use Rattle.halfbrown.specs.contracts.map.LimitedHashMap.{the_row}
 
@@ -25,7 +24,7 @@ module _ (K V S L H : RattleType) (key : HashMembers K.Denot) (build : HasherGho
 
     -- the pair whose key passes the test has the last value written through the reference, and where none is held the map stays as it is
     abbrev pub LendsValueBy : (K.Denot → Bool) → Option (MutBor V.Denot) → Fml
-    LendsValueBy test r = LendsIf map_row V m r (λ w. map_with_pairs m.now (set_by test m.now.pairs w)) m.now
+    LendsValueBy test r = LendsIf map_row V m r (λ w. map_with_pairs m.now (set_value test m.now.pairs w)) m.now
 
     -- once the loan of this name ends, the pairs have the values that were written through it, and the keys that they had; a proof knows
     -- these values where a slice was lent, and not where an iterator was

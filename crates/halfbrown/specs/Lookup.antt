@@ -1,10 +1,9 @@
 -- What a search in a map returns, for a key, or by a match on keys under a hash that was handed in.
 use Rattle.std.specs.Prelude.{◌≡◌, ℕ, ◌<◌, Bool, true, false, List, [], ◌∷◌, ◌++◌, length, slice_get, Option, None, Some, Result, Ok, Err, ◌+◌, is_some}
 use Rattle.std.specs.Map.{keys_of, values_of, lookup, lookup_entry}
-use Rattle.half_store.specs.PairLists.{index_of, set_value_at, swap_remove_at}
 use Rattle.half_store.specs.Store.{IsVacancy}
-use Rattle.half_store.specs.declared.store.find.Vacancy.{Vacancy}
-use Rattle.halfbrown.specs.Pairs.{holds_by, set_by, put_by, take_out_by}
+pub use Rattle.half_store.specs.declared.store.find.Vacancy.{Vacancy}
+use Rattle.halfbrown.specs.Pairs.{index_of, set_value_at, swap_remove_at, holds_by, set_value, put_by, take_out_by}
 use Rattle.halfbrown.specs.State.{State, contents_of}
 use Rattle.std.specs.Option.{option_and_then}
 use Rattle.half_store.specs.Search.{Accepts, AcceptsNone, SearchOutcome}
@@ -19,7 +18,7 @@ module _ {K V : Type 0} (test : K → Bool) (pairs : List (K × V)) where
     pub held : holds_by test pairs ≡ true
     pub value : lookup test pairs ≡ slice_get (values_of pairs) index
     pub pair : lookup_entry test pairs ≡ slice_get pairs index
-    pub set_is : (v : V) → set_by test pairs v ≡ set_value_at pairs index v
+    pub set_is : (v : V) → set_value test pairs v ≡ set_value_at pairs index v
     pub put_is : (k : K) (v : V) → put_by test pairs k v ≡ set_value_at pairs index v
     pub take_is : take_out_by test pairs ≡ swap_remove_at pairs index
 

@@ -4,9 +4,8 @@ use Rattle.std.specs.Hash.BuildHasherDefault.{initial_hasher}
 use Rattle.std.specs.Hash.FoldHasher.{initial}
 use Rattle.std.specs.declared.hash.BuildHasherDefault.{BuildHasherDefault}
 use Rattle.std.specs.declared.hash.FoldHasher.{FoldHasher}
-use Rattle.half_store.specs.declared.refusal.Refusal.{Refusal}
 use Rattle.half_store.specs.Capacity.{least_capacity}
-use Rattle.halfbrown.specs.Growth.{making_needs, IsGrantable, IsRefusal}
+use Rattle.halfbrown.specs.Growth.{making_needs, IsGrantable, Refusal, IsRefusal}
 use Rattle.halfbrown.specs.State.{State}
 use Rattle.std.specs.List.{AllZip}
 use Rattle.std.specs.Map.{keys_of}

@@ -2,6 +2,7 @@
 use Rattle.std.specs.Prelude.{◌≡◌, Bool, true, List, [], ◌∷◌, ◌++◌, Option, is_some, if◌then◌else◌}
 use Rattle.std.specs.Option.{option_map_or}
 use Rattle.std.specs.Map.{keys_of, lookup, lookup_entry}
+pub use Rattle.std.specs.Map.{set_value}
 pub use Rattle.half_store.specs.PairLists.{index_of, set_key_at, set_value_at, set_values, swap_remove_at}
 
 -- the test of a lawful query for a key, as that of a text among keys that are strings: once it accepts a key, it accepts exactly its equals
@@ -13,14 +14,9 @@ module _ {K V : Type 0} (test : K → Bool) where
   abbrev pub holds_by : List (K × V) → Bool
   holds_by pairs = is_some (lookup test pairs)
 
-  -- where a key that passes is held, its pair keeps its key and its index and gets value v; else the same pairs
-  abbrev pub set_by : List (K × V) → V → List (K × V)
-  set_by [] v = []
-  set_by (p ∷ pairs) v = if test p.0 then (p.0, v) ∷ pairs else p ∷ set_by pairs v
-
   -- where a key that passes is held, its pair keeps its key and its index and gets value v; else the pair (k, v) is appended
   abbrev pub put_by : List (K × V) → K → V → List (K × V)
-  put_by pairs k v = if holds_by pairs then set_by pairs v else pairs ++ (k, v) ∷ []
+  put_by pairs k v = if holds_by pairs then set_value test pairs v else pairs ++ (k, v) ∷ []
 
   -- where a key that passes is held, its pair is gone and the last pair takes its index; else the same pairs
   abbrev pub take_out_by : List (K × V) → List (K × V)

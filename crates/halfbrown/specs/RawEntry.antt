@@ -10,12 +10,11 @@ use Rattle.halfbrown.specs.EntryView.{EntryView, map_of, is_occupied}
 use Rattle.halfbrown.specs.State.{State, IsValid}
 use Rattle.std.specs.Map.Iter.{deref_pair}
 use Rattle.std.specs.Option.{option_map}
-use Rattle.half_store.specs.declared.refusal.Refusal.{Refusal}
 use Rattle.halfbrown.specs.declared.raw_entry.RawEntryBuilder.{RawEntryBuilder}
 use Rattle.halfbrown.specs.declared.raw_entry.RawEntryBuilderMut.{RawEntryBuilderMut}
 use Rattle.halfbrown.specs.declared.raw_entry.RawEntryBuilderMut.TheVariants.{Prepared}
 use Rattle.halfbrown.specs.contracts.map.LimitedHashMap.{the_row}
-use Rattle.halfbrown.specs.Growth.{new_key_needs, IsRefusal}
+use Rattle.halfbrown.specs.Growth.{new_key_needs, Refusal, IsRefusal}
 use Rattle.halfbrown.specs.Insertion.{Prepares}
 
 -- the map that is searched
@@ -30,11 +29,6 @@ module _ {K V S L H : Type 0} {e : EqGhosts K} {h : HashGhosts K} {b : HasherGho
   -- that map, as it is
   abbrev pub prepared_map : RawEntryBuilderMut K V S L H e h b l → State K V S
   prepared_map builder = (prepared_ref builder).now
-
--- this key and this value are lent
-pub record LendsPair {K V : Type 0} (k : K) (v : V) (lent : Bor K × MutBor V) : Type 0 where
-  pub key : lent.0.now ≡ k
-  pub value : lent.1.now ≡ v
 
 module _ {F K V R : Type 0} (g : Once F (Bor K × (MutBor V × Unit {0})) (R × (MutBor V × Unit {0}))) (f : F) where
   -- a call of f at a `&` to the key and a `&mut` to the value may leave w there

@@ -1,11 +1,11 @@
 -- What an entry is after its value was handed to a closure, which returned another or none.
 use Rattle.std.specs.Prelude.{◌≡◌, ℕ, Bool, List, [], ◌∷◌, ◌++◌, Option, None, Some, IfSome, MatchOption, if◌then◌else◌}
 use Rattle.std.specs.Borrow.{Bor}
-use Rattle.half_store.specs.Work.{looked_more, Work}
+use Rattle.half_store.specs.Work.{Work}
 use Rattle.half_store.specs.ValueReplacement.{ClosureAnswers}
-use Rattle.halfbrown.specs.Costs.{probe_length}
 use Rattle.halfbrown.specs.EntryView.{EntryView, map_of, is_occupied, entry_key, entry_value, entry_pair, with_value, pairs_without}
-use Rattle.halfbrown.specs.State.{IsValid, WithPairs}
+use Rattle.halfbrown.specs.RawEntry.{work_after_probe}
+use Rattle.halfbrown.specs.State.{WithPairs}
 
 module _ {K V S : Type 0} where
   -- the pairs once the entry's key has the value that was returned: in a vector its pair goes last, in a table it keeps its index
@@ -38,13 +38,7 @@ module _ {K V S : Type 0} where
     pub answered : ClosureAnswers returns key value answer
     pub after : MatchOption answer (IsVacated entry key result) (λ v. HasNewValue entry key v result)
 
-  -- the entry is replaced, in the same map, which is whole
-  pub record ReplacesOrRemoves (limit : ℕ) (same : K → K → Bool) (returns : Bor K → V → Option V → Type 0) (entry result : EntryView K V S) : Type 0 where
-    pub replaces : ReplacesEntry returns entry result
-    pub same_map : result.map.ghost_name ≡ entry.map.ghost_name
-    pub valid : IsValid same limit (map_of result)
-
   -- one insertion probe where the pair is gone, and nothing else
   abbrev pub IsReplacementCost : (S → K → ℕ) → EntryView K V S → Work → Work → Type 0
-  IsReplacementCost hash result before after = IfSome (entry_key result) (λ key. after ≡ looked_more (if is_occupied result then 0 else probe_length (hash (map_of result).builder) (map_of result).is_vec (map_of result).capacity (map_of result).pairs (hash (map_of result).builder key))
-      before)
+  IsReplacementCost hash result before after = IfSome (entry_key result) (λ key.
+      after ≡ (if is_occupied result then before else work_after_probe hash (map_of result) (hash (map_of result).builder key) before))

@@ -9,9 +9,8 @@ use Rattle.halfbrown.specs.CostRanges.{Cost, no_cost, add_costs, GrewBy}
 use Rattle.halfbrown.specs.Costs.{key_search_cost, insert_cost, raw_insert_cost, new_key_cost}
 use Rattle.halfbrown.specs.Pairs.{holds, value_of, pair_of, take_out}
 use Rattle.half_store.specs.Work.{Work}
-use Rattle.half_store.specs.declared.refusal.Refusal.{Refusal}
 use Rattle.halfbrown.specs.declared.run.Reply.TheVariants.{Was, Added, Present, Value, Found, Removed, Done, Form, Length, Refused}
-use Rattle.halfbrown.specs.Growth.{is_full, insert_needs, new_key_needs, reserve_needs, IsRefusal, IsReserved, Shrinks}
+use Rattle.halfbrown.specs.Growth.{is_full, insert_needs, new_key_needs, reserve_needs, Refusal, IsRefusal, IsReserved, Shrinks}
 use Rattle.halfbrown.specs.Insertion.{Puts}
 
 -- the value of k where it is held, else v: putting it changes no pair that is held

@@ -38,13 +38,7 @@ module _ {K V S : Type 0} where
 abbrev pub state_code : {K V S : Type 0} → Coded K → Coded V → Coded S → Coded (State K V S)
 state_code k v s = coded_via (coded× coded_bool (coded× (coded_list (coded× k v)) (coded× coded_ℕ (coded× s contents_code))))
     (λ m. (m.is_vec, (m.pairs, (m.capacity, (m.builder, m.contents)))))
-    (λ a b e i. record {
-      is_vec = (e i).0;
-      pairs = (e i).1.0;
-      capacity = (e i).1.1.0;
-      builder = (e i).1.1.1.0;
-      contents = (e i).1.1.1.1;
-    })
+    (λ a b e i. make_state (e i).0 (e i).1.0 (e i).1.1.0 (e i).1.1.1.0 (e i).1.1.1.1)
 
 -- a number of the series 0, 3, 6, 12, 24, ..; a map's table never has 0
 abbrev pub IsTableCapacity : ℕ → Type 0

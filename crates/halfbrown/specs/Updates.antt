@@ -2,22 +2,17 @@
 use Rattle.std.specs.Prelude.{◌≡◌, ℕ, ◌+◌, ◌^◌, ◌<◌, Bool, true, false, List, [], ◌∷◌, ◌++◌, length, Some, None, if◌then◌else◌, Option, IfSome, IfNone, OnSome, slice_get}
 use Rattle.std.specs.Map.{keys_of, values_of, lookup, remove_entry}
 use Rattle.std.specs.Option.{option_map}
-use Rattle.halfbrown.specs.Pairs.{value_of, pair_of, holds, holds_by, set_values, take_out_by}
+use Rattle.halfbrown.specs.Pairs.{swap_remove_at, value_of, pair_of, holds, holds_by, set_values, take_out_by}
 use Rattle.halfbrown.specs.State.{State, IsValid, map_with_pairs, WithPairs}
-use Rattle.half_store.specs.PairLists.{swap_remove_at}
 use Rattle.std.specs.List.{remove}
 
--- after these values are written into the pairs: there are as many pairs, with the same keys, and where there are as many values as pairs,
--- these are their values
-pub record HasValues {K V : Type 0} (old : List (K × V)) (vs : List V) (new : List (K × V)) : Type 0 where
-  pub keys : keys_of new ≡ keys_of old
-  pub values : length vs ≡ length old → values_of new ≡ vs
-  pub len : length new ≡ length old
-
--- whatever values are written into the pairs of a map: it has as many pairs, fewer than 2^63, with the same keys, and `IsValid` still holds
+-- whatever values are written into the pairs of a map: it has as many pairs, fewer than 2^63, with the same keys, and these values where there
+-- are as many; and `IsValid` still holds
 pub record KeepsKeys {K V S : Type 0} (limit : ℕ) (eq : K → K → Bool) (old : State K V S) : Type 0 where
   pub small : length old.pairs < 2 ^ 63
-  pub written : (vs : List V) → HasValues old.pairs vs (set_values old.pairs vs)
+  pub len : (vs : List V) → length (set_values old.pairs vs) ≡ length old.pairs
+  pub keys : (vs : List V) → keys_of (set_values old.pairs vs) ≡ keys_of old.pairs
+  pub values : (vs : List V) → length vs ≡ length old.pairs → values_of (set_values old.pairs vs) ≡ vs
   pub valid : (vs : List V) → IsValid eq limit (map_with_pairs old (set_values old.pairs vs))
 
 module _ {K V : Type 0} (eq : K → K → Bool) where

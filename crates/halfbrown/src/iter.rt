@@ -1,5 +1,5 @@
 //! The iterators of a map, over its columns of keys and values. Each goes from the first pair to the last.
-ghost use Rattle.std.specs.Prelude.{◌≡◌, Some, length, zip, IfSome};
+ghost use Rattle.std.specs.Prelude.{◌≡◌, Some, length, IfSome};
 ghost use Rattle.std.specs.Iterator.{at_most, UpTo};
 ghost use Rattle.std.specs.Iterator.SizeHint.{IsWithinCount};
 ghost use Rattle.std.specs.Slice.Iter.{iter_rest};
@@ -21,25 +21,9 @@ pub use values_mut::ValuesMut;
 /// The pairs of a map, each as `(&K, &V)`: what `iter` returns.
 #[derive(Drop)]
 pub struct Iter<'a, K, V> {
-    keys: slice::Iter<'a, K>,
-    values: slice::Iter<'a, V>,
+    pub(crate) keys: slice::Iter<'a, K>,
+    pub(crate) values: slice::Iter<'a, V>,
     ghost even: { length (iter_rest values) ≡ length (iter_rest keys) },
-}
-
-impl<'a, K, V> Iter<'a, K, V> {
-    ghost use Rattle.halfbrown.specs.Iter.{pairs_left};
-
-    /// The pairs of these two columns.
-    #[inline(always)]
-    pub(crate) fn new(keys: &'a [K], values: &'a [V]) -> Self
-        requires { length values.now ≡ length keys.now }
-        ensures { pairs_left result ≡ zip keys.now values.now }
-    {
-        Iter {
-            keys: keys.iter(),
-            values: values.iter(),
-        }
-    }
 }
 
 impl<'a, K, V> Iterator for Iter<'a, K, V> {

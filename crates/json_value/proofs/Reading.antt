@@ -12,7 +12,7 @@ use Rattle.std.specs.declared.string.String.{String}
 use Rattle.halfbrown.proofs.callers.Texts.{keyed_by-put}
 use Rattle.halfbrown.specs.FromIter.{put_all}
 use Rattle.halfbrown.specs.CallerLoops.{keyed_by}
-use Rattle.halfbrown.specs.Pairs.{put, set_by, holds}
+use Rattle.halfbrown.specs.Pairs.{put, set_value, holds}
 use Rattle.json.specs.Json.{Json, item}
 use Rattle.json.specs.Value.{value_view, items_view, members_view, items_of}
 use Rattle.json.specs.declared.value.Value as json
@@ -32,19 +32,19 @@ module _ {K X Y : Type 0} (h : X → Y) where
   over_cond true ps qs = refl
   over_cond false ps qs = refl
 
-  set_over : (test : K → Bool) (ps : List (K × X)) (v : X) → map over (set_by test ps v) ≡ set_by test (map over ps) (h v)
+  set_over : (test : K → Bool) (ps : List (K × X)) (v : X) → map over (set_value test ps v) ≡ set_value test (map over ps) (h v)
   set_over test [] v = refl
   set_over test (p ∷ ps) v =
-      over_cond (test p.0) ((p.0, v) ∷ ps) (p ∷ set_by test ps v)
+      over_cond (test p.0) ((p.0, v) ∷ ps) (p ∷ set_value test ps v)
       ∙ ap (λ l. cond (test p.0) ((p.0, h v) ∷ map over ps) (over p ∷ l)) (set_over test ps v)
 
   pub put_over : (eq : K → K → Bool) (ps : List (K × X)) (k : K) (v : X) → map over (put eq ps k v) ≡ put eq (map over ps) k (h v)
   put_over eq ps k v =
       let held = ap is_some (lookup-map_values h (eq k) ps) ∙ is_some_map h (lookup (eq k) ps) in
-      over_cond (holds eq ps k) (set_by (eq k) ps v) (ps ++ (k, v) ∷ [])
+      over_cond (holds eq ps k) (set_value (eq k) ps v) (ps ++ (k, v) ∷ [])
       ∙ ap (λ l. cond (holds eq ps k) l (map over (ps ++ (k, v) ∷ []))) (set_over (eq k) ps v)
-      ∙ ap (λ l. cond (holds eq ps k) (set_by (eq k) (map over ps) (h v)) l) (map-append over ps ((k, v) ∷ []))
-      ∙ ap (λ b. cond b (set_by (eq k) (map over ps) (h v)) (map over ps ++ (k, h v) ∷ [])) (sym held)
+      ∙ ap (λ l. cond (holds eq ps k) (set_value (eq k) (map over ps) (h v)) l) (map-append over ps ((k, v) ∷ []))
+      ∙ ap (λ b. cond b (set_value (eq k) (map over ps) (h v)) (map over ps ++ (k, h v) ∷ [])) (sym held)
 
 -- the members of an object, as JSON
 abbrev pub seen : List (String Global × Value) → List (List ℕ × Json)

@@ -110,7 +110,10 @@ impl<K, V> IntoStore<K, V> for Drained<K, V> {
         keys.clear();
         values.clear();
         Store {
-            columns: Columns::from_columns(keys.into_vec(), values.into_vec()),
+            columns: Columns {
+                keys: keys.into_vec(),
+                values: values.into_vec(),
+            },
             table,
         }
     }

@@ -7,8 +7,8 @@ ghost use Rattle.std.specs.Fn.{FnReturnsAt};
 ghost use Rattle.std.specs.List.{swap_remove};
 ghost use Rattle.half_store.specs.Search.{CallableOnHash, ReturnsAt};
 ghost use Rattle.half_store.specs.Capacity.{IsBucketCount};
-ghost use Rattle.half_store.specs.Work.{looked_more, ReadsWithin, removal_reads_left, removal_reads};
-ghost use Rattle.half_store.specs.Reach.{home, probe_distance, IsNearer};
+ghost use Rattle.half_store.specs.Work.{probe_reads, looked_more, ReadsWithin, removal_reads_left, removal_reads};
+ghost use Rattle.half_store.specs.Reach.{home, probe_distance, reach};
 ghost use Rattle.half_store.specs.StoreRemoval.{Renames, ShiftsUpTo};
 ghost use Rattle.half_store.specs.Table.{state_of_words, IsIndexed, IsIndexedButFor, TableSearch};
 
@@ -143,8 +143,8 @@ fn bucket_of<B: Words>(buckets: &B, hashes: &[u64], index: usize, tally: &mut Ta
     requires within { index < length hashes.now }
     ensures within { result < length (B.words buckets.now) }
     ensures at { slice_index (B.words buckets.now) result ≡ index + 1 }
-    ensures near { IsNearer hashes.now (length (B.words buckets.now)) (slice_index hashes.now index)
-        result }
+    ensures near { probe_reads (length (B.words buckets.now)) (slice_index hashes.now index) result
+        < reach hashes.now (length (B.words buckets.now)) (slice_index hashes.now index) }
     ensures cost { tally.new ≡ looked_more (probe_distance (length (B.words buckets.now))
         (home (length (B.words buckets.now)) (slice_index hashes.now index)) result + 1) tally.old }
 {

@@ -45,15 +45,6 @@ impl<K, V> Columns<K, V> {
         (self.keys.as_slice(), self.values.as_mut_slice())
     }
 
-    /// Pairs of these keys and values, which are as many, in vectors of one capacity.
-    #[inline(always)]
-    pub(crate) fn from_columns(keys: Vec<K>, values: Vec<V>) -> Columns<K, V>
-        requires { AreEven keys values }
-        ensures { result ≡ columns_of keys values }
-    {
-        Columns { keys, values }
-    }
-
     /// The keys and the values, in order, each in a vector of its own.
     #[inline(always)]
     pub fn into_columns(self) -> (Vec<K>, Vec<V>)

@@ -2,7 +2,7 @@
 //! the index that was found, and values that are set by an index that is given, or found.
 ghost use Rattle.std.specs.Prelude.{◌≡◌, ◌<◌, ◌++◌, ℕ, false, true, length, option_to_list, slice_get, Some, IfSome, if◌then◌else◌};
 ghost use Rattle.std.specs.Map.{keys_of};
-ghost use Rattle.halfbrown.specs.Pairs.{value_of, pair_of, holds, set_by, set_value_at, take_out};
+ghost use Rattle.halfbrown.specs.Pairs.{value_of, pair_of, holds, set_value, set_value_at, take_out};
 
 use halfbrown::{Limit, LimitedHashMap};
 use std::hash::{BuildHasher, Hash};
@@ -55,7 +55,7 @@ pub fn set_by_index<K: Eq + Hash, S: BuildHasher, L: Limit>(
     value: u64,
 )
     ensures set { holds K.eq map.old.pairs key.now ≡ true
-        → map.new.pairs ≡ set_by (K.eq key.now) map.old.pairs value }
+        → map.new.pairs ≡ set_value (K.eq key.now) map.old.pairs value }
     ensures keys { keys_of map.new.pairs ≡ keys_of map.old.pairs }
 {
     if let Some(index) = map.get_index_of(key) {

@@ -1,7 +1,7 @@
 -- What follows of changed lists of pairs, for callers: the set `map_facts` has those that `grind` applies, and `using` takes it.
 use Rattle.halfbrown.proofs.Common.{◌≡◌, ℕ, ◌+◌, ◌<◌, ◌≤◌, Bool, true, false, length, arith, suc, cond, List, [], ◌∷◌, ◌++◌, take, get_or, slice_get, Option}
 use Rattle.halfbrown.proofs.Common.{Some, unwrap_or, refl, ap, ◌∙◌, common_steps, map-append, take_more, IsDistinct-tail, IsEquivalence, IsDistinct, keys_of}
-use Rattle.halfbrown.proofs.Common.{values_of, lookup, lookup_entry, option_map, index_of, swap_remove_at, value_of, holds, holds_by, put, set_by, take_out_by}
+use Rattle.halfbrown.proofs.Common.{values_of, lookup, lookup_entry, option_map, index_of, swap_remove_at, value_of, holds, holds_by, put, set_value, take_out_by}
 use Rattle.halfbrown.proofs.Common.{HasPut}
 use Rattle.std.proofs.Common.{◌⊎◌}
 use Rattle.std.proofs.Common.{reverse, count_by}
@@ -55,7 +55,7 @@ module _ {K V : Type 0} (test : K → Bool) where
   place_of_value (p ∷ ps) v found = placed_by p ps v (place_of_value ps v) (test p.0) refl found
 
   -- the value that is held, set again, changes nothing
-  pub set_same : (ps : List (K × V)) (v : V) → lookup test ps ≡ Some v → set_by test ps v ≡ ps
+  pub set_same : (ps : List (K × V)) (v : V) → lookup test ps ≡ Some v → set_value test ps v ≡ ps
   set_same [] v found = refl
   set_same (p ∷ ps) v found = grind (arith, common_steps, set_same ps v)
 
@@ -78,7 +78,7 @@ module _ {K V : Type 0} (eq : K → K → Bool) where
 module _ {K V : Type 0} (eq : K → K → Bool) (laws : IsEquivalence eq) (test : K → Bool) (query : IsQuery eq test) where
   -- a key that the test accepts has the value where it had one, and each other key what it had
   pub lookup_set : (ps : List (K × V)) (v : V) (q : K)
-      → value_of eq (set_by test ps v) q ≡ cond (test q) (option_map (λ _. v) (value_of eq ps q)) (value_of eq ps q)
+      → value_of eq (set_value test ps v) q ≡ cond (test q) (option_map (λ _. v) (value_of eq ps q)) (value_of eq ps q)
   lookup_set [] v q = grind (arith, common_steps)
   lookup_set (p ∷ ps) v q = grind (arith, common_steps, query p.0 q, query q p.0, laws.symm q p.0, lookup_set ps v q)
 

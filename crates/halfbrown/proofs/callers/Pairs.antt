@@ -1,7 +1,7 @@
 -- What callers read off a list of pairs after a put or a removal: which key has which value, and how many pairs there are.
 use Rattle.halfbrown.proofs.Common.{◌≡◌, ℕ, ◌+◌, Bool, true, false, length, arith, cond, List, [], ◌∷◌, ◌++◌, get_or, Option, Some, refl, ap, ◌∙◌, None}
 use Rattle.halfbrown.proofs.Common.{is_some, sym, common_steps, map-append, get_or_default, slice_get_within, get_or_from_slice_get, IsEquivalence, IsDistinct}
-use Rattle.halfbrown.proofs.Common.{keys_of, lookup, index_of, swap_remove_at, IsIndexOf, IsAbsent, value_of, holds, put, set_by, take_out_by, HasPut}
+use Rattle.halfbrown.proofs.Common.{keys_of, lookup, index_of, swap_remove_at, IsIndexOf, IsAbsent, value_of, holds, put, set_value, take_out_by, HasPut}
 use Rattle.halfbrown.proofs.Common.{HasRemovedBy}
 use Rattle.std.specs.List.Sorted.{IsPermutation}
 use Rattle.std.proofs.Math.ListN.{get_or-map}
@@ -17,7 +17,7 @@ use Rattle.halfbrown.proofs.lemmas.pairs.Changes.{IsPermutation-swap_remove_at, 
 
 module _ {K V : Type 0} (test : K → Bool) where
   -- a value that is set leaves the keys
-  pub keys_set : (ps : List (K × V)) (v : V) → keys_of (set_by test ps v) ≡ keys_of ps
+  pub keys_set : (ps : List (K × V)) (v : V) → keys_of (set_value test ps v) ≡ keys_of ps
   keys_set [] v = refl
   keys_set (p ∷ ps) v = grind (arith, common_steps, keys_set ps v)
 

@@ -1,7 +1,7 @@
 -- Pairs under what is read of their keys, as texts under their bytes: a look-up, a put, a set value and a removal there.
 use Rattle.halfbrown.proofs.Common.{◌≡◌, ℕ, ◌+◌, ◌<◌, ◌≤◌, Bool, false, length, arith, cond, List, [], ◌∷◌, ◌++◌, take, get_or, Option, Some, unwrap_or, refl}
 use Rattle.halfbrown.proofs.Common.{ap, ◌∙◌, sym, subst, map, common_steps, map-append, take_more, IsEquivalence, AllByRecursion, keys_of, lookup, option_map}
-use Rattle.halfbrown.proofs.Common.{index_of, value_of, put, set_by, take_out_by, Removes, State, HasPut}
+use Rattle.halfbrown.proofs.Common.{index_of, value_of, put, set_value, take_out_by, Removes, State, HasPut}
 use Rattle.std.proofs.Common.{String}
 use Rattle.std.specs.Cmp.Lexicographic.{nat_list_eq_equiv}
 use Rattle.std.specs.List.{IsDistinct}
@@ -21,7 +21,7 @@ module _ {K B V : Type 0} (read : K → B) (test : B → Bool) where
   lookup-keyed_by [] = refl
   lookup-keyed_by (p ∷ ps) = ap (cond (test (read p.0)) (Some p.1)) (lookup-keyed_by ps)
 
-  pub keyed_by-set : (ps : List (K × V)) (v : V) → keyed_by read (set_by (λ k. test (read k)) ps v) ≡ set_by test (keyed_by read ps) v
+  pub keyed_by-set : (ps : List (K × V)) (v : V) → keyed_by read (set_value (λ k. test (read k)) ps v) ≡ set_value test (keyed_by read ps) v
   keyed_by-set [] v = refl
   keyed_by-set (p ∷ ps) v = grind (arith, common_steps, keyed_by-set ps v)
 
@@ -106,7 +106,7 @@ has_removed_text {old = old} {new = new} text distinct removes =
 
 -- what every text has once this value is written to a held one
 pub lookup_set_text : {V Y : Type 0} (text : List ℕ) (ps : List (String Y × V)) (v : V) (other : List ℕ)
-    → value_of bytes_eq (keyed_by string_bytes (set_by (λ k. bytes_eq text (string_bytes k)) ps v)) other
+    → value_of bytes_eq (keyed_by string_bytes (set_value (λ k. bytes_eq text (string_bytes k)) ps v)) other
     ≡ cond (bytes_eq text other) (option_map (λ _. v) (value_of bytes_eq (keyed_by string_bytes ps) other))
     (value_of bytes_eq (keyed_by string_bytes ps) other)
 lookup_set_text text ps v other =

@@ -2,7 +2,7 @@
 -- `using` takes the sets at the end.
 use Rattle.halfbrown.proofs.Common.{◌≡◌, ℕ, ◌+◌, ◌≤◌, Bool, length, arith, cond, List, [], ◌∷◌, ◌++◌, get_or, slice_get, Option, Some, unwrap_or, refl, ap, ◌∙◌}
 use Rattle.halfbrown.proofs.Common.{None, sym, ◌-◌, common_steps, get_or_default, slice_get-get_or, slice_get-map, IsEquivalence, IsDistinct, keys_of}
-use Rattle.halfbrown.proofs.Common.{values_of, lookup, option_map, index_of, swap_remove_at, set_value_at, length-set_value_at, value_of, holds_by, put, set_by}
+use Rattle.halfbrown.proofs.Common.{values_of, lookup, option_map, index_of, swap_remove_at, set_value_at, length-set_value_at, value_of, holds_by, put, set_value}
 use Rattle.halfbrown.proofs.Common.{take_out_by}
 use Rattle.std.proofs.Common.{sum}
 use Rattle.std.proofs.lemmas.List.{map_push}
@@ -20,7 +20,7 @@ use Rattle.halfbrown.proofs.lemmas.pairs.Changes.{IsPermutation-swap_remove_at}
 module _ {K V : Type 0} (f : V → ℕ) where
   -- where a value is set, it counts in the place of the old one
   pub sum_set : (test : K → Bool) (ps : List (K × V)) (w : V)
-      → sum_by f (values_of (set_by test ps w)) + unwrap_or (option_map f (lookup test ps)) 0
+      → sum_by f (values_of (set_value test ps w)) + unwrap_or (option_map f (lookup test ps)) 0
       ≡ sum_by f (values_of ps) + cond (holds_by test ps) (f w) 0
   sum_set test [] w = refl
   sum_set test (p ∷ ps) w = grind (arith, common_steps, sum_by-cons, sum_set test ps w)
@@ -61,10 +61,10 @@ module _ {K : Type 0} (test : K → Bool) (ps : List (K × ℕ)) where
   held_within = omega (arith, total_taken)
 
 module _ {K : Type 0} (from to : K → Bool) (ps : List (K × ℕ)) (n : ℕ) {v w : ℕ} (had : lookup from ps ≡ Some v) (enough : n ≤ v)
-    (has : lookup to (set_by from ps (v - n)) ≡ Some w) where
+    (has : lookup to (set_value from ps (v - n)) ≡ Some w) where
   -- a number to which some of another is moved is no more than the sum was
   pub moved_within : w + n ≤ sum (values_of ps)
-  moved_within = grind (arith, common_steps, sum_set (λ n. n) from ps (v - n), held_within to (set_by from ps (v - n)))
+  moved_within = grind (arith, common_steps, sum_set (λ n. n) from ps (v - n), held_within to (set_value from ps (v - n)))
 
 -- ---- a value that is set by its index
 

@@ -1,10 +1,11 @@
 -- What each step of a `Drain` gives and leaves, along a run.
-use Rattle.halfbrown.proofs.Common.{◌≡◌, ◌<◌, ◌≤◌, true, false, length, arith, [], ◌∷◌, refl, ap, subst, common_steps, StoreState, IsTableCapacity}
+use Rattle.halfbrown.proofs.Common.{◌≡◌, ◌<◌, ◌≤◌, true, false, length, arith, List, [], ◌∷◌, refl, ap, subst, common_steps, StoreState, IsTableCapacity}
 use mathlib.Core.HLevel.{is_prop→PathP}
 use Rattle.std.proofs.Props.{props}
 use Rattle.std.proofs.iter.runs.Sources.{as_is, from_front}
+use Rattle.std.specs.Iterator.{Yields}
 use Rattle.std.specs.Iterator.Runs.{YieldsInOrder}
-use Rattle.halfbrown.specs.Drain.{DrainsSameMap, KeepsAlong, DrainSteps, rest}
+use Rattle.halfbrown.specs.Drain.{DrainsSameMap, DrainSteps, rest}
 use Rattle.halfbrown.specs.declared.drain.Drain.{Drain}
 use Rattle.halfbrown.specs.Ghosts.{EqGhosts, HashGhosts, HasherGhosts, LimitGhosts}
 use Rattle.half_store.specs.declared.store.drain.IntoStore as taken
@@ -27,6 +28,7 @@ module _ {K V S L H : Type 0} {e : EqGhosts K} {h : HashGhosts K} {b : HasherGho
   pub runs : YieldsInOrder (DrainSteps {K = K} {V = V} {S = S} {L = L} {e = e} {h = h} {b = b} {l = l} {p = p}) rest
   runs r t = as_is r (rest r.from) (from_front DrainSteps (λ y. y) rest (λ s t h. ap length h.0) (λ s x t h. h.0) r t)
 
-  pub keeps_along : (s : Drain K V S L (StoreState K V) H e h b l p) → KeepsAlong s
+  pub keeps_along : (s : Drain K V S L (StoreState K V) H e h b l p) (ps : List (K × V)) (t : Drain K V S L (StoreState K V) H e h b l p)
+      → Yields DrainSteps s ps t → DrainsSameMap s t
   keeps_along s [] t y = subst (DrainsSameMap s) y (record { map = refl; form = refl; capacity = refl })
   keeps_along s (x ∷ xs) t y = grind (arith, common_steps, keeps_along y.0 xs t y.2)

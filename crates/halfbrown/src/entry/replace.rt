@@ -2,8 +2,9 @@
 ghost use Rattle.std.specs.Prelude.{◌≡◌, Some};
 ghost use Rattle.std.specs.Borrow.{Bor};
 ghost use Rattle.halfbrown.specs.Entry.{occupied, view};
-ghost use Rattle.halfbrown.specs.EntryView.{entry_pair};
-ghost use Rattle.halfbrown.specs.Replacement.{ReplacesOrRemoves, IsReplacementCost};
+ghost use Rattle.halfbrown.specs.EntryView.{entry_pair, map_of};
+ghost use Rattle.halfbrown.specs.Replacement.{ReplacesEntry, IsReplacementCost};
+ghost use Rattle.halfbrown.specs.State.{IsValid};
 
 use super::{Entry, OccupiedEntry, VacantEntry};
 use crate::{KeyHasher, Limit};
@@ -28,7 +29,9 @@ impl<'a, K: Eq + Hash, V, S: KeyHasher<K>, L: Limit> OccupiedEntry<'a, K, V, S, 
     pub fn replace_entry_with<F: FnOnce(&K, V) -> Option<V>>(self, f: F) -> Entry<'a, K, V, S, L>
         requires { (key : Bor K) (value : V) → entry_pair (occupied self) ≡ Some (key.now, value)
             → F.pre f key value }
-        ensures { ReplacesOrRemoves L.LIMIT K.eq (F.post f) (occupied self.entry) (view result) }
+        ensures replaced { ReplacesEntry (F.post f) (occupied self.entry) (view result) }
+        ensures same_map { (view result).map.ghost_name ≡ self.entry.map.ghost_name }
+        ensures valid { IsValid K.eq L.LIMIT (map_of (view result)) }
     {
         uncounted!(self.replace_entry_with_counted(f))
     }
@@ -42,8 +45,9 @@ impl<'a, K: Eq + Hash, V, S: KeyHasher<K>, L: Limit> OccupiedEntry<'a, K, V, S, 
     ) -> Entry<'a, K, V, S, L>
         requires { (key : Bor K) (value : V) → entry_pair (occupied self) ≡ Some (key.now, value)
             → F.pre f key value }
-        ensures replaced { ReplacesOrRemoves L.LIMIT K.eq (F.post f)
-            (occupied self.entry) (view result) }
+        ensures replaced { ReplacesEntry (F.post f) (occupied self.entry) (view result) }
+        ensures same_map { (view result).map.ghost_name ≡ self.entry.map.ghost_name }
+        ensures valid { IsValid K.eq L.LIMIT (map_of (view result)) }
         ensures cost { IsReplacementCost S.hash (view result) tally.old tally.new }
     {
         let index = self.index;

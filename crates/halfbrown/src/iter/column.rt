@@ -11,8 +11,8 @@ use std::slice;
 
 /// The keys or the values of a map, in order. `O` is the type of the other column.
 pub struct Column<'a, T, O> {
-    items: slice::Iter<'a, T>,
-    other: PhantomData<O>,
+    pub(crate) items: slice::Iter<'a, T>,
+    pub(crate) other: PhantomData<O>,
 }
 
 /// The keys of a map: what `keys` returns.
@@ -26,19 +26,6 @@ impl<'a, T, O> Drop for Column<'a, T, O> {
     fn drop(self) {
         let Column { items, other: _ } = self;
         drop(items);
-    }
-}
-
-impl<'a, T, O> Column<'a, T, O> {
-    /// What this slice holds.
-    #[inline(always)]
-    pub(crate) fn new(items: &'a [T]) -> Self
-        ensures { column_left result ≡ items.now }
-    {
-        Column {
-            items: items.iter(),
-            other: PhantomData,
-        }
     }
 }
 

@@ -1,5 +1,5 @@
 //! The pairs of a map, by value.
-ghost use Rattle.std.specs.Prelude.{◌≡◌, Some, length, zip, IsTrue, ◌↔◌, IfSome};
+ghost use Rattle.std.specs.Prelude.{◌≡◌, Some, length, IsTrue, ◌↔◌, IfSome};
 ghost use Rattle.std.specs.Iterator.{at_most, UpTo};
 ghost use Rattle.std.specs.Iterator.SizeHint.{IsWithinCount};
 ghost use Rattle.std.specs.Map.Iter.{TakesFirst};
@@ -16,8 +16,8 @@ use std::vec;
 /// ```
 #[derive(Drop)]
 pub struct IntoIter<K, V> {
-    keys: vec::IntoIter<K>,
-    values: vec::IntoIter<V>,
+    pub(crate) keys: vec::IntoIter<K>,
+    pub(crate) values: vec::IntoIter<V>,
 }
 
 impl<K, V> Model for IntoIter<K, V> {
@@ -33,18 +33,6 @@ impl<K, V> Model for IntoIter<K, V> {
 }
 
 impl<K, V> IntoIter<K, V> {
-    /// The pairs of these two columns.
-    #[inline(always)]
-    pub(crate) fn new(keys: Vec<K>, values: Vec<V>) -> Self
-        requires { length values.items ≡ length keys.items }
-        ensures { result ≡ zip keys.items values.items }
-    {
-        IntoIter {
-            keys: keys.into_iter(),
-            values: values.into_iter(),
-        }
-    }
-
     /// Returns the number of pairs that are left.
     ///
     /// ```

@@ -1,5 +1,5 @@
 //! The pairs of a map, the values lent to be written.
-ghost use Rattle.std.specs.Prelude.{◌≡◌, Some, length, zip, IfSome};
+ghost use Rattle.std.specs.Prelude.{◌≡◌, Some, length, IfSome};
 ghost use Rattle.std.specs.Iterator.{at_most, UpTo};
 ghost use Rattle.std.specs.Iterator.SizeHint.{IsWithinCount};
 ghost use Rattle.std.specs.Map.Iter.{LendsFirst};
@@ -12,26 +12,9 @@ use std::slice;
 // It has no model, so that a contract can say what becomes of the map.
 #[derive(Drop)]
 pub struct IterMut<'a, K, V> {
-    keys: slice::Iter<'a, K>,
-    values: slice::IterMut<'a, V>,
+    pub(crate) keys: slice::Iter<'a, K>,
+    pub(crate) values: slice::IterMut<'a, V>,
     ghost even: { length (iter_mut_rest values) ≡ length (iter_rest keys) },
-}
-
-impl<'a, K, V> IterMut<'a, K, V> {
-    ghost use Rattle.halfbrown.specs.Iter.{iter_mut_left, iter_mut_name};
-
-    /// The pairs of these two columns.
-    #[inline(always)]
-    pub(crate) fn new(keys: &'a [K], values: &'a mut [V]) -> Self
-        requires { length values.old ≡ length keys.now }
-        ensures left { iter_mut_left result ≡ zip keys.now values.old }
-        ensures name { iter_mut_name result ≡ values.entry.ghost_name }
-    {
-        IterMut {
-            keys: keys.iter(),
-            values: values.iter_mut(),
-        }
-    }
 }
 
 impl<'a, K, V> Iterator for IterMut<'a, K, V> {

@@ -2,7 +2,7 @@
 ghost use Rattle.std.specs.Prelude.{◌≡◌, Some, length, IfSome};
 ghost use Rattle.std.specs.Iterator.{at_most, UpTo};
 ghost use Rattle.std.specs.Iterator.SizeHint.{IsWithinCount};
-ghost use Rattle.halfbrown.specs.Iter.{values_mut_left, values_mut_name, ValuesMutSteps};
+ghost use Rattle.halfbrown.specs.Iter.{values_mut_left, ValuesMutSteps};
 
 use std::iter::FusedIterator;
 use std::marker::PhantomData;
@@ -12,22 +12,8 @@ use std::slice;
 // It has no model, so that a contract can say what becomes of the map.
 #[derive(Drop)]
 pub struct ValuesMut<'a, K, V> {
-    values: slice::IterMut<'a, V>,
-    keys: PhantomData<&'a K>,
-}
-
-impl<'a, K, V> ValuesMut<'a, K, V> {
-    /// These values.
-    #[inline(always)]
-    pub(crate) fn new(values: &'a mut [V]) -> Self
-        ensures left { values_mut_left result ≡ values.old }
-        ensures name { values_mut_name result ≡ values.entry.ghost_name }
-    {
-        ValuesMut {
-            values: values.iter_mut(),
-            keys: PhantomData,
-        }
-    }
+    pub(crate) values: slice::IterMut<'a, V>,
+    pub(crate) keys: PhantomData<&'a K>,
 }
 
 impl<'a, K, V> Iterator for ValuesMut<'a, K, V> {

@@ -8,7 +8,7 @@ ghost use Rattle.std.specs.Map.{lookup, lookup_entry};
 ghost use Rattle.std.specs.Map.Iter.{deref_pair};
 ghost use Rattle.std.specs.Option.{option_copied, option_copied_mut, option_map};
 ghost use Rattle.halfbrown.specs.Costs.{IsLookupCost};
-ghost use Rattle.halfbrown.specs.Pairs.{holds_by, set_by};
+ghost use Rattle.halfbrown.specs.Pairs.{holds_by, set_value};
 ghost use Rattle.halfbrown.specs.State.{IsValid};
 ghost use Rattle.halfbrown.specs.Updates.{HasSetBy};
 
@@ -94,7 +94,7 @@ impl<K: Eq + Hash, V, S: KeyHasher<K>, L: Limit> LimitedHashMap<K, V, S, L> {
             S.KeyHasher L.Limit self.entry (Q.equivalent key) result) }
         ensures value { option_copied_mut result ≡ lookup (Q.equivalent key) self.old.pairs }
         ensures written { OnSome result ((written : V) → HasSetBy K.eq (Q.equivalent key)
-            self.old.pairs written (set_by (Q.equivalent key) self.old.pairs written)) }
+            self.old.pairs written (set_value (Q.equivalent key) self.old.pairs written)) }
     {
         uncounted!(self.get_mut_counted(key))
     }
@@ -106,7 +106,7 @@ impl<K: Eq + Hash, V, S: KeyHasher<K>, L: Limit> LimitedHashMap<K, V, S, L> {
             S.KeyHasher L.Limit self.entry (Q.equivalent key) result) }
         ensures value { option_copied_mut result ≡ lookup (Q.equivalent key) self.old.pairs }
         ensures written { OnSome result ((written : V) → HasSetBy K.eq (Q.equivalent key)
-            self.old.pairs written (set_by (Q.equivalent key) self.old.pairs written)) }
+            self.old.pairs written (set_value (Q.equivalent key) self.old.pairs written)) }
         ensures cost { IsLookupCost S.KeyHasher Q.hash_input Q.equivalent key self.old
             tally.old tally.new }
         ensures valid { IsValid K.eq L.LIMIT self.old }

@@ -78,7 +78,10 @@ impl<K: Eq + Hash + Drop, V: Drop, S: KeyHasher<K> + Drop, L: Limit> IntoIterato
     // The builder and the table are dropped at once: the iterator has the two columns alone.
     fn into_iter(self) -> IntoIter<K, V> {
         let (keys, values) = self.into_columns();
-        IntoIter::new(keys, values)
+        IntoIter {
+            keys: keys.into_iter(),
+            values: values.into_iter(),
+        }
     }
 }
 

@@ -11,8 +11,9 @@ ghost use Rattle.halfbrown.specs.State.{IsValid};
 ghost use Rattle.halfbrown.specs.Updates.{KeepsKeys};
 
 use super::LimitedHashMap;
-use crate::{Iter, IterMut, KeyHasher, Keys, Limit, Values, ValuesMut};
+use crate::{Column, Iter, IterMut, KeyHasher, Keys, Limit, Values, ValuesMut};
 use std::hash::Hash;
+use std::marker::PhantomData;
 
 impl<K: Eq + Hash, V, S: KeyHasher<K>, L: Limit> LimitedHashMap<K, V, S, L> {
     ghost use Rattle.halfbrown.specs.Iter.{pairs_left, ShowsPairsInOrder};
@@ -36,7 +37,10 @@ impl<K: Eq + Hash, V, S: KeyHasher<K>, L: Limit> LimitedHashMap<K, V, S, L> {
         ensures valid { IsValid K.eq L.LIMIT self.now }
     {
         let columns = self.columns();
-        Iter::new(columns.keys(), columns.values())
+        Iter {
+            keys: columns.keys().iter(),
+            values: columns.values().iter(),
+        }
     }
 
     /// Returns the keys, in order.
@@ -51,7 +55,10 @@ impl<K: Eq + Hash, V, S: KeyHasher<K>, L: Limit> LimitedHashMap<K, V, S, L> {
         ensures runs { ShowsColumnInOrder K V }
         ensures valid { IsValid K.eq L.LIMIT self.now }
     {
-        Keys::new(self.columns().keys())
+        Column {
+            items: self.columns().keys().iter(),
+            other: PhantomData,
+        }
     }
 
     /// Returns the values, in order.
@@ -66,7 +73,10 @@ impl<K: Eq + Hash, V, S: KeyHasher<K>, L: Limit> LimitedHashMap<K, V, S, L> {
         ensures runs { ShowsColumnInOrder V K }
         ensures valid { IsValid K.eq L.LIMIT self.now }
     {
-        Values::new(self.columns().values())
+        Column {
+            items: self.columns().values().iter(),
+            other: PhantomData,
+        }
     }
 
     /// Returns the pairs, each as `(&K, &mut V)`, in order. The keys cannot be written. After a loop over them a proof
@@ -89,7 +99,10 @@ impl<K: Eq + Hash, V, S: KeyHasher<K>, L: Limit> LimitedHashMap<K, V, S, L> {
         ensures keeps { KeepsKeys L.LIMIT K.eq self.old }
     {
         let (keys, values) = self.store.columns_mut();
-        IterMut::new(keys, values)
+        IterMut {
+            keys: keys.iter(),
+            values: values.iter_mut(),
+        }
     }
 
     /// Returns the values, in order, to be written.
@@ -109,7 +122,10 @@ impl<K: Eq + Hash, V, S: KeyHasher<K>, L: Limit> LimitedHashMap<K, V, S, L> {
         ensures keeps { KeepsKeys L.LIMIT K.eq self.old }
     {
         let (_, values) = self.store.columns_mut();
-        ValuesMut::new(values)
+        ValuesMut {
+            values: values.iter_mut(),
+            keys: PhantomData,
+        }
     }
 
     /// Returns the values, in order, as a slice to be written. What a proof knows of the slice at the end, it knows of

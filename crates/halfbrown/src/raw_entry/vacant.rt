@@ -8,7 +8,7 @@ ghost use Rattle.std.specs.Prelude.{◌≡◌, false};
 ghost use Rattle.halfbrown.specs.Pairs.{holds};
 ghost use Rattle.halfbrown.specs.Entry.{occupied, raw_vacant};
 ghost use Rattle.halfbrown.specs.EntryView.{map_of, AddsEntry};
-ghost use Rattle.halfbrown.specs.RawEntry.{LendsPair, work_after_adding, work_after_probe};
+ghost use Rattle.halfbrown.specs.RawEntry.{work_after_adding, work_after_probe};
 
 use super::RawVacantEntryMut;
 use crate::{KeyHasher, Limit, OccupiedEntry};
@@ -26,7 +26,8 @@ impl<'a, K: Eq + Hash, V, S: KeyHasher<K>, L: Limit> RawVacantEntryMut<'a, K, V,
     #[inline]
     pub fn insert(self, key: K, value: V) -> (&'a K, &'a mut V)
         requires { holds K.eq (map_of (raw_vacant self)).pairs key ≡ false }
-        ensures { LendsPair key value result }
+        ensures key { result.0.now ≡ key }
+        ensures value { result.1.now ≡ value }
     {
         uncounted!(self.insert_counted(key, value))
     }
@@ -35,7 +36,8 @@ impl<'a, K: Eq + Hash, V, S: KeyHasher<K>, L: Limit> RawVacantEntryMut<'a, K, V,
     #[inline]
     pub fn insert_counted(self, key: K, value: V, tally: &mut Tally) -> (&'a K, &'a mut V)
         requires { holds K.eq (map_of (raw_vacant self)).pairs key ≡ false }
-        ensures lends { LendsPair key value result }
+        ensures key { result.0.now ≡ key }
+        ensures value { result.1.now ≡ value }
         ensures cost { tally.new
             ≡ work_after_adding S.hash (map_of (raw_vacant self.entry)) key tally.old }
     {
@@ -84,7 +86,8 @@ impl<'a, K: Eq + Hash, V, S: KeyHasher<K>, L: Limit> RawVacantEntryMut<'a, K, V,
     pub fn insert_hashed_nocheck(self, hash: u64, key: K, value: V) -> (&'a K, &'a mut V)
         requires hash { hash ≡ S.hash (map_of (raw_vacant self)).builder key }
         requires absent { holds K.eq (map_of (raw_vacant self)).pairs key ≡ false }
-        ensures { LendsPair key value result }
+        ensures key { result.0.now ≡ key }
+        ensures value { result.1.now ≡ value }
     {
         uncounted!(self.insert_hashed_nocheck_counted(hash, key, value))
     }
@@ -100,7 +103,8 @@ impl<'a, K: Eq + Hash, V, S: KeyHasher<K>, L: Limit> RawVacantEntryMut<'a, K, V,
     ) -> (&'a K, &'a mut V)
         requires hash { hash ≡ S.hash (map_of (raw_vacant self)).builder key }
         requires absent { holds K.eq (map_of (raw_vacant self)).pairs key ≡ false }
-        ensures lends { LendsPair key value result }
+        ensures key { result.0.now ≡ key }
+        ensures value { result.1.now ≡ value }
         ensures cost { tally.new
             ≡ work_after_probe S.hash (map_of (raw_vacant self.entry)) hash tally.old }
     {
@@ -162,7 +166,8 @@ impl<'a, K: Eq + Hash, V, S: KeyHasher<K>, L: Limit> RawVacantEntryMut<'a, K, V,
     ) -> (&'a K, &'a mut V)
         requires hash { hash ≡ S.hash (map_of (raw_vacant self)).builder key }
         requires absent { holds K.eq (map_of (raw_vacant self)).pairs key ≡ false }
-        ensures { LendsPair key value result }
+        ensures key { result.0.now ≡ key }
+        ensures value { result.1.now ≡ value }
     {
         uncounted!(self.insert_with_hasher_counted(hash, key, value, hasher))
     }
@@ -179,7 +184,8 @@ impl<'a, K: Eq + Hash, V, S: KeyHasher<K>, L: Limit> RawVacantEntryMut<'a, K, V,
     ) -> (&'a K, &'a mut V)
         requires hash { hash ≡ S.hash (map_of (raw_vacant self)).builder key }
         requires absent { holds K.eq (map_of (raw_vacant self)).pairs key ≡ false }
-        ensures lends { LendsPair key value result }
+        ensures key { result.0.now ≡ key }
+        ensures value { result.1.now ≡ value }
         ensures cost { tally.new
             ≡ work_after_probe S.hash (map_of (raw_vacant self.entry)) hash tally.old }
     {

@@ -1,6 +1,6 @@
 //! Values, in use: callers that are proved, and what no clause says.
 ghost use Rattle.std.specs.Prelude.{◌≡◌, ℕ, List, Some, OnOk, OnErr, OnSome, IsTrue, true, codes, ◌++◌, ◌≢◌};
-ghost use Rattle.halfbrown.specs.Pairs.{set_by};
+ghost use Rattle.halfbrown.specs.Pairs.{set_value};
 ghost use Rattle.json_value.specs.Members.{is_named, member, members_of};
 ghost use Rattle.json_value.specs.Pointer.{is_plain, value_at, PathsPart};
 ghost use Rattle.json_value.specs.declared.value.Value.{Bool};
@@ -13,7 +13,7 @@ use std::mem;
 fn replace_member(document: &mut Value, name: &str, value: Value) -> Option<Value>
     ensures before { result ≡ member document.old name.now }
     ensures after { OnSome result (members_of document.new
-        ≡ set_by (is_named name.now) (members_of document.old) value) }
+        ≡ set_value (is_named name.now) (members_of document.old) value) }
 {
     let member = document.as_object_mut()?.get_mut(name)?;
     Some(mem::replace(member, value))

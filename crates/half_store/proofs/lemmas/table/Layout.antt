@@ -2,11 +2,11 @@
 use Rattle.half_store.proofs.Common.{◌≡◌, ◌≤◌, length, ◌+◌, ◌++◌, inr, refl, ◌∙◌, arith, ℕ, ◌<◌, zero, suc, inl, sym, ap, Bool, List, Some, slice_index, Option}
 use Rattle.half_store.proofs.Common.{None, subst, [], ◌∷◌, ◌≢◌, true, set, replicate, cases_lt, cases_eq, common_steps, length-set, get_or_past}
 use Rattle.half_store.proofs.Common.{length-replicate, get_or-replicate, get_or_append_left, get_or_push, count_by-le-length, get_or_from_slice_get}
-use Rattle.half_store.proofs.Common.{slice_get-get_or, slice_get_within, same_Some, swap_remove, capacity_of, IsBucketCount, buckets_of, reach, probe_distance}
+use Rattle.half_store.proofs.Common.{slice_get-get_or, slice_get_within, same_Some, swap_remove, capacity_of, IsBucketCount, buckets_of, reach, probe_distance, probe_reads}
 use Rattle.half_store.proofs.Common.{home, slots_from, slot_at, hash_of_word, EachOnce, HasVacantSlot, ProbeInvariant, stored, IsSlotVacancy, TableState}
 use Rattle.half_store.proofs.Common.{IsIndexedButFor, IsEmptyBeside, state_of_words, IsIndexed, AreWordsFor}
 use Rattle.std.proofs.lemmas.List.{length_push}
-use Rattle.half_store.specs.Reach.{IsNearer, HomesApart}
+use Rattle.half_store.specs.Reach.{HomesApart}
 use Rattle.half_store.specs.Table.{HasGap, IsTable}
 use Rattle.half_store.proofs.lemmas.table.Buckets.{length-slots_from, hash_of_word-at, slots_from-set, slots_from-same, slot_of_word, slot_of_zero}
 use Rattle.half_store.proofs.lemmas.table.Buckets.{word_of_slot, zero_of_slot, word_set, word_other, word-lt, within-at, same_bucket}
@@ -111,7 +111,7 @@ module _ {hashes words : List ℕ} (x : IsIndexed hashes words) where
 
   -- a probe from the pair's home bucket comes to it sooner than an unsuccessful one ends
   pub nearer : (index bucket : ℕ) → index < length hashes → slice_index words bucket ≡ suc index
-      → IsNearer hashes (length words) (slice_index hashes index) bucket
+      → probe_reads (length words) (slice_index hashes index) bucket < reach hashes (length words) (slice_index hashes index)
   nearer index bucket in_hashes word = grind (arith, common_steps, index-counted, index-vacant, long, reach_past_pair, slice_index, slot_of_word, word-lt)
 
   module _ (p h : ℕ) (w : IsSlotVacancy slots h p) where

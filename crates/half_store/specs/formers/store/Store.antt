@@ -20,13 +20,7 @@ Rest = ℕ × (List ℕ × Contents)
 abbrev pub the_former : Former {0} → Type 0 → Former {0}
 the_former g K = via (pair (const Bool) (pair (list (entry g K)) (const Rest))) (λ X. StoreState K (g.Of X))
     (λ X s. (s.is_vec, (s.pairs, (s.capacity, (s.hashes, s.contents)))))
-    (λ X v. record {
-      is_vec = v.0;
-      pairs = v.1.0;
-      capacity = v.1.1.0;
-      hashes = v.1.1.1.0;
-      contents = v.1.1.1.1;
-    }) (λ X s. refl) (λ X v. refl)
+    (λ X v. record { is_vec = v.0; pairs = v.1.0; capacity = v.1.1.0; hashes = v.1.1.1.0; contents = v.1.1.1.1 }) (λ X s. refl) (λ X v. refl)
 
 abbrev pub the_weighed : {g : Former {0}} → Weighed g → (K : Type 0) → Weighed (the_former g K)
 the_weighed w K = record { weight = λ X μ s. most (w.weight X μ) (values_of s.pairs); puts = λ X μ s. entries_puts w K X μ s.pairs }

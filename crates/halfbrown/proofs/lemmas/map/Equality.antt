@@ -12,7 +12,7 @@ use Rattle.std.proofs.lemmas.Map.Entries.{place_from_lookup, lookup_from_place}
 use Rattle.std.proofs.lemmas.Map.Keys.{IsDistinct-cons}
 use Rattle.std.proofs.lemmas.Map.Made.{is_some-lookup}
 use Rattle.std.proofs.lemmas.Map.Steps.{length-le_from_keys}
-use Rattle.halfbrown.specs.Equality.{same_lookup, same_pairs, keys_while_same, searched_keys, equal_has_same, same_pairs-Decides}
+use Rattle.halfbrown.specs.Equality.{same_lookup, same_pairs, keys_while_same, searched_keys, same_pairs-Decides}
 use Rattle.std.proofs.Math.ListN.{drop_of_length-le}
 use Rattle.std.proofs.Math.Seq.{drop-cons}
 use Rattle.halfbrown.specs.Costs.{IsKeySearchCost, AreSearchCosts}
@@ -28,6 +28,10 @@ module _ {K V : Type 0} (eq : K → K → Bool) (value_eq : V → V → Bool) (l
   length_most : (ps qs : List (K × V)) → IsDistinct eq (keys_of ps)
       → ((k : K) → is_some (value_of eq ps k) ≡ true → is_some (value_of eq qs k) ≡ true) → length ps ≤ length qs
   length_most ps qs distinct has = grind (arith, common_steps, is_some-lookup, length-keys_of, length-le_from_keys)
+
+  -- an equal key has the same values
+  equal_has_same : (k q : K) → eq k q ≡ true → same_lookup eq value_eq left right k ≡ same_lookup eq value_eq left right q
+  equal_has_same k q same = λ i. option_eq value_eq (lookup_congr eq laws.congr left k q same i) (lookup_congr eq laws.congr right k q same i)
 
   module _ (left_distinct : IsDistinct eq (keys_of left)) where
     -- a pair of the left is held on the right exactly where its key has the same value in both
@@ -46,7 +50,7 @@ module _ {K V : Type 0} (eq : K → K → Bool) (value_eq : V → V → Bool) (l
     same_of_held all k v found =
         let at = place_from_lookup (eq k) left v found in
         let p : K × V = (at.1, v) in
-        equal_has_same eq value_eq laws left right k at.1 at.3 ∙ held_by_value at.0 p at.2
+        equal_has_same k at.1 at.3 ∙ held_by_value at.0 p at.2
         ∙ ap (holds_pair eq value_eq right) (sym (get_or_from_slice_get left at.0 p p at.2))
         ∙ AllPass-from_list_all (holds_pair eq value_eq right) left all at.0 p (slice_get_within left at.0 p at.2)
 

@@ -5,7 +5,7 @@ use Rattle.std.proofs.Common.{◌^◌}
 use Rattle.half_store.proofs.lemmas.store.States.{length-set_values}
 use Rattle.half_store.specs.PairLists.{set_values}
 use Rattle.half_store.specs.Store.{store_with_pairs}
-use Rattle.halfbrown.specs.Updates.{HasValues, KeepsKeys}
+use Rattle.halfbrown.specs.Updates.{KeepsKeys}
 use Rattle.halfbrown.proofs.lemmas.map.Layout.{kept_keys, state_of}
 use Rattle.std.proofs.iter.runs.Sources.{from_front, as_is}
 use Rattle.std.specs.Iterator.{YieldsFirstRef}
@@ -30,9 +30,6 @@ module _ {K V : Type 0} where
   values_of-set_values [] (v ∷ vs) even = absurd (omega arith)
   values_of-set_values (p ∷ ps) [] even = absurd (omega arith)
   values_of-set_values (p ∷ ps) (v ∷ vs) even = ap (λ l. v ∷ l) (values_of-set_values ps vs (omega arith))
-
-  has_values : (ps : List (K × V)) (vs : List V) → HasValues ps vs (set_values ps vs)
-  has_values ps vs = record { keys = keys_of-set_values ps vs; values = values_of-set_values ps vs; len = length-set_values ps vs }
 
   -- the fields keep what they keep, whatever values are written
   pub kept_written : (eq : K → K → Bool) (hash : K → ℕ) (limit : ℕ) (s : StoreState K V) → IsMapInvariant eq hash limit s → (vs : List V)
@@ -59,7 +56,9 @@ module _ {K V S : Type 0} (eq : K → K → Bool) (hash : K → ℕ) (limit : �
     pairs = ap (λ m. m.pairs) is;
     keeps = record {
       small = omega (arith, ap (λ m. length m.pairs) is);
-      written = has_values map.pairs;
+      len = length-set_values map.pairs;
+      keys = keys_of-set_values map.pairs;
+      values = values_of-set_values map.pairs;
       valid = λ vs. subst (IsValid eq limit) (comes_back vs)
           (state_of eq hash limit (store_with_pairs s (set_values s.pairs vs)) builder (kept_written eq hash limit s kept vs));
     };

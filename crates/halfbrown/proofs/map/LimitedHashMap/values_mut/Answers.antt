@@ -9,10 +9,10 @@ pub returns : goal.returns
 returns g c =
     let lent = lent_values _ _ _ c.self.inside.store c.self.inside.builder _ c.self.view_is c.self.invariant
     c.columns_mut-values.ensures.small in (
-      (sym c.new.ensures.name, lent.back),
+      (sym c.iter_mut.ensures.iter_mut_name, lent.back),
       record {
         writes_back = tt;
-        left = c.new.ensures.left ∙ c.columns_mut-values.ensures.values ∙ ap values_of lent.pairs;
+        left = c.iter_mut.ensures.rest ∙ c.columns_mut-values.ensures.values ∙ ap values_of lent.pairs;
         runs = values_lend_in_order;
         keeps = lent.keeps;
       },
