@@ -30,7 +30,7 @@ module _ {K : Type 0} (V : Type 0) {S : Type 0} (hash : S → K → ℕ) where
 module _ {K : Type 0} (V : Type 0) {S : Type 0} (limit : ℕ) (eq : K → K → Bool) (hash : S → K → ℕ) where
   abbrev pub HitHistoryLaw : Type 0
   HitHistoryLaw = (a b : State K V S) (wanted asked wanted' asked' : ℕ) (found found' : Option ℕ) (before after before' after' : Work)
-      → HoldSamePairs a b → IsValid eq limit a → a.is_vec ≡ false
+      → HoldSamePairs a b → IsValid limit eq a → a.is_vec ≡ false
       → IsSearchCost hash wanted a found asked before after → IsSearchCost hash wanted' b found' asked' before' after'
       → sum_below (length a.pairs) (λ index. hit_reads a index) ≡ sum_below (length b.pairs) (λ index. hit_reads b index)
 

@@ -85,42 +85,42 @@ module _ {K : Type 0} (V : Type 0) {S : Type 0} (limit : ℕ) (eq : K → K → 
 
   -- in two maps that hold the same pairs in any order, a command's cost has the same bounds, unless it finds its key in a vector
   abbrev pub CommandCostLaw : Type 0
-  CommandCostLaw = (a b : State K V S) (command : Command K V) (refused : Bool) → HoldSamePairs a b → finds_in_vector limit eq a command ≡ false
-      → command_cost limit eq hash a command refused ≡ command_cost limit eq hash b command refused
+  CommandCostLaw = (a b : State K V S) (command : Command K V) (granted : Bool) → HoldSamePairs a b → finds_in_vector limit eq a command ≡ false
+      → command_cost limit eq hash a command granted ≡ command_cost limit eq hash b command granted
 
   -- in two maps that hold the same pairs in any order, a command hashes as often, also where it finds its key in a vector
   abbrev pub CommandHashesLaw : Type 0
-  CommandHashesLaw = (a b : State K V S) (command : Command K V) (refused : Bool) → HoldSamePairs a b
-      → (command_cost limit eq hash a command refused).asked ≡ (command_cost limit eq hash b command refused).asked
+  CommandHashesLaw = (a b : State K V S) (command : Command K V) (granted : Bool) → HoldSamePairs a b
+      → (command_cost limit eq hash a command granted).asked ≡ (command_cost limit eq hash b command granted).asked
 
   -- in two maps that hold the same pairs in any order, a command reads at least and at most as many buckets, also where it finds its key in a
   -- vector
   abbrev pub CommandBucketsLaw : Type 0
-  CommandBucketsLaw = (a b : State K V S) (command : Command K V) (refused : Bool) → HoldSamePairs a b
-      → (command_cost limit eq hash a command refused).looked ≡ (command_cost limit eq hash b command refused).looked
+  CommandBucketsLaw = (a b : State K V S) (command : Command K V) (granted : Bool) → HoldSamePairs a b
+      → (command_cost limit eq hash a command granted).looked ≡ (command_cost limit eq hash b command granted).looked
 
   -- a search in a table, by any query for a key or by a match, passes only buckets that are crowded, whether it finds one or not
   abbrev pub CrowdedSearchLaw : Type 0
   CrowdedSearchLaw = (m : State K V S) (wanted : ℕ) (found : Option ℕ) (asked : ℕ) (before after : Work) (passed : ℕ)
-      → IsValid eq limit m → m.is_vec ≡ false → IsSearchCost hash wanted m found asked before after → before.looked + passed < after.looked
+      → IsValid limit eq m → m.is_vec ≡ false → IsSearchCost hash wanted m found asked before after → before.looked + passed < after.looked
       → IsCrowdedAround (hash m.builder) m.capacity m.pairs wanted passed
 
   -- an insertion that makes no capacity grow for its key passes only buckets that are crowded
   abbrev pub CrowdedInsertionLaw : Type 0
   CrowdedInsertionLaw = (m : State K V S) (k : K) (granted : Bool) (before after : Work) (passed : ℕ)
-      → IsValid eq limit m → insertion_grows limit eq m k granted ≡ false
+      → IsValid limit eq m → insertion_grows limit eq m k granted ≡ false
       → IsInsertCost limit eq hash m k granted before after → before.looked + passed < after.looked
       → IsCrowdedFor (hash m.builder) (capacity_after_switch limit m) m.pairs k passed
 
   -- an insertion that makes the capacity of a table grow for its key reads two unsuccessful probes, one before the growth and one after it
   abbrev pub CrowdedGrowthLaw : Type 0
   CrowdedGrowthLaw = (m : State K V S) (k : K) (granted : Bool) (before after : Work)
-      → IsValid eq limit m → is_vec_after limit m ≡ false → insertion_grows limit eq m k granted ≡ true
+      → IsValid limit eq m → is_vec_after limit m ≡ false → insertion_grows limit eq m k granted ≡ true
       → IsInsertCost limit eq hash m k granted before after
       → ReadsTwoProbes (hash m.builder) (capacity_after_switch limit m) (capacity_after_growth limit m) m.pairs k before after
 
   -- an insertion of a new key without a search passes only buckets that are crowded, in the capacity that it leaves
   abbrev pub CrowdedUncheckedLaw : Type 0
   CrowdedUncheckedLaw = (m : State K V S) (k : K) (granted : Bool) (before after : Work) (passed : ℕ)
-      → IsValid eq limit m → GrewBy (new_key_cost limit eq hash m k granted) before after → before.looked + passed < after.looked
+      → IsValid limit eq m → GrewBy (new_key_cost limit eq hash m k granted) before after → before.looked + passed < after.looked
       → IsCrowdedFor (hash m.builder) (capacity_after_growth limit m) m.pairs k passed

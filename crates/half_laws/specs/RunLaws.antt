@@ -89,18 +89,18 @@ module _ {K : Type 0} (V S : Type 0) (limit : ℕ) (eq : K → K → Bool) where
 
   -- without `Reserve` a map has capacity for at most eight pairs more than twice the most that it held at once, or for what it had at first
   abbrev pub CapacityLaw : Type 0
-  CapacityLaw = EachRun (λ old steps new. IsValid eq limit old → has_reserve (commands_of steps) ≡ false
+  CapacityLaw = EachRun (λ old steps new. IsValid limit eq old → has_reserve (commands_of steps) ≡ false
       → new.capacity ≤ max old.capacity (2 * most_held old steps + 8))
 
   -- so its arrays, and the block of its table, take at most the bytes of a table with that capacity, whatever bytes a key and a value have
   abbrev pub BytesLaw : Type 0
-  BytesLaw = EachRun (λ old steps new. IsValid eq limit old → has_reserve (commands_of steps) ≡ false → (key value : ℕ)
+  BytesLaw = EachRun (λ old steps new. IsValid limit eq old → has_reserve (commands_of steps) ≡ false → (key value : ℕ)
       → let most : ℕ = max old.capacity (2 * most_held old steps + 8) in
       bytes key value new.is_vec new.capacity ≤ bytes key value false most)
 
   -- without `Shrink` and `Reserve` a run moves at most two pairs for each command, and once those that it began with and twice the limit
   abbrev pub MovesLaw : Type 0
-  MovesLaw = EachRun (λ old steps new. IsValid eq limit old → has_shrink (commands_of steps) ≡ false
+  MovesLaw = EachRun (λ old steps new. IsValid limit eq old → has_shrink (commands_of steps) ≡ false
       → has_reserve (commands_of steps) ≡ false → sum_by moved steps ≤ 2 * length steps + (length old.pairs + 2 * limit))
 
   module _ (hash : S → K → ℕ) where

@@ -78,7 +78,7 @@ pub record HasGap (slots : List (Option ℕ)) (gap : ℕ) : Type 0 where
       distance_from_home slots hash bucket < distance_from_home slots hash vacant
 
 -- they are one but for a bucket that was emptied, whose pair has no stored hash any more
-pub record IsIndexedButFor (hashes words : List ℕ) (emptied : ℕ) : Type 0 where
+pub record IsIndexedWithGap (hashes words : List ℕ) (emptied : ℕ) : Type 0 where
   pub room : length hashes ≤ capacity_of (length words)
   pub each : EachOnce (length hashes) words
   pub gap : HasGap (slots_from hashes words) emptied

@@ -67,7 +67,7 @@ module _ {K V S L H : Type 0} {e : EqGhosts K} {h : HashGhosts K} {b : HasherGho
     pub new_key : IfOk result (λ entry. is_occupied (view entry) ≡ false → entry_key (view entry) ≡ Some k)
     pub writes : IfOk result (λ entry. PutsThroughEntry limit eq m.now k (view entry))
     pub returned : IfErr result (HandsBackKey k (insert_needs limit eq m.now k))
-    pub valid : IfOk result (λ entry. IsValid eq limit (map_of (view entry)))
+    pub valid : IfOk result (λ entry. IsValid limit eq (map_of (view entry)))
 
   pub still_within : (o : OccupiedEntry K V S L H e h b l) (value : V) → o.index < length (with_value (occupied o) value).pairs
   unfolding with_value

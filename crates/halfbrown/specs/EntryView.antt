@@ -85,7 +85,7 @@ module _ {K V S : Type 0} where
     pub value_is : entry_value written ≡ Some value
     pub key : entry_key written ≡ entry_key entry
     pub writes : (v : V) → with_value written v ≡ with_value entry v
-    pub pairs_left : pairs_without written ≡ pairs_without entry
+    pub without : pairs_without written ≡ pairs_without entry
 
   -- a call on the entry's pair, and none where it has none: the entry is the same one, and has the value that was left
   pub record ModifiesEntry (modifies : Option V → Type 0) (entry modified : EntryView K V S) : Type 0 where
@@ -98,7 +98,7 @@ module _ {K V S : Type 0} where
     pub key : entry_key modified ≡ entry_key entry
     pub writes : (value : V) → with_value modified value ≡ with_value entry value
     pub puts : (key : K) (value : V) → pairs_with_value modified key value ≡ pairs_with_value entry key value
-    pub pairs_left : pairs_without modified ≡ pairs_without entry
+    pub without : pairs_without modified ≡ pairs_without entry
 
   -- the entry is that of the pair at this index
   pub record IsEntryAt (m : MutBor (State K V S)) (index : ℕ) (entry : EntryView K V S) : Type 0 where
@@ -113,7 +113,7 @@ module _ {K V S : Type 0} where
     pub map : IfSome entry.index (λ index. WithPairs (map_of entry) (set_key_at (map_of entry).pairs index key) (map_of rekeyed))
     pub key_is : entry_key rekeyed ≡ Some key
     pub value : entry_value rekeyed ≡ entry_value entry
-    pub pairs_left : pairs_without rekeyed ≡ pairs_without entry
+    pub without : pairs_without rekeyed ≡ pairs_without entry
 
   module _ (limit : ℕ) (eq : K → K → Bool) where
     -- the entry's pair has this value, or, where it has none, the pair of this key is added; the result is its entry, in a map that is whole
@@ -123,11 +123,11 @@ module _ {K V S : Type 0} where
       pub key_is : entry_key result ≡ Some (unwrap_or (entry_key entry) key)
       pub value_is : entry_value result ≡ Some value
       pub writes : (v : V) → WithPairs (map_of entry) (pairs_with_value entry key v) (with_value result v)
-      pub pairs_left : pairs_without result ≡ pairs_without entry
-      pub valid : IsValid eq limit (map_of result)
+      pub without : pairs_without result ≡ pairs_without entry
+      pub valid : IsValid limit eq (map_of result)
 
     -- the pair of this key, which was not held, is put and so added, and has what is written to it
-    pub record AddsEntry (entry : EntryView K V S) (key : K) (value : V) (result : EntryView K V S) : Type 0 where
+    pub record PutsNewEntry (entry : EntryView K V S) (key : K) (value : V) (result : EntryView K V S) : Type 0 where
       pub puts : PutsEntry entry key value result
       pub put : HasPut eq (map_of entry).pairs key value (map_of result).pairs
       pub written : (v : V) → HasPut eq (map_of entry).pairs key v (with_value result v).pairs
@@ -136,7 +136,7 @@ module _ {K V S : Type 0} where
     pub record FindsRawEntry (test : K → Bool) (prepared : MutBor (State K V S)) (entry : EntryView K V S) : Type 0 where
       pub same_map : entry.map.ghost_name ≡ prepared.ghost_name
       pub finds : IsRawEntryOf eq test prepared.now entry
-      pub valid : IsValid eq limit (map_of entry)
+      pub valid : IsValid limit eq (map_of entry)
 
     -- the raw entry is that of a pair which the match accepts, under this hash, in the prepared map
     pub record FindsRawEntryByMatch (returns : K → Bool → Type 0) (hash : S → K → ℕ) (wanted : ℕ) (prepared : MutBor (State K V S)) (raw : EntryView K V S) : Type 0 where
@@ -144,4 +144,4 @@ module _ {K V S : Type 0} where
       pub map : map_of raw ≡ prepared.now
       pub found : ReadsMatch returns hash wanted prepared.now (entry_pair raw)
       pub entry : IfSome (entry_pair raw) (λ pair. IsRawEntryOf eq (eq pair.0) prepared.now raw)
-      pub valid : IsValid eq limit (map_of raw)
+      pub valid : IsValid limit eq (map_of raw)

@@ -42,7 +42,7 @@ module _ {K V S : Type 0} (limit : ℕ) (eq : K → K → Bool) where
   abbrev pub InsertsAll : State K V S → List (K × V) → State K V S → Type 0
   InsertsAll old [] new = new ≡ old
   InsertsAll old (p ∷ items) new = (next : State K V S)
-      × Puts limit eq old p.0 p.1 (insert_needs limit eq old p.0) next × IsValid eq limit next × InsertsAll next items new
+      × Puts limit eq old p.0 p.1 (insert_needs limit eq old p.0) next × IsValid limit eq next × InsertsAll next items new
 
   -- from old to new these items are inserted: new keys come behind those held, in order, and each key has the last value that was given for it
   pub record Extends (old : State K V S) (items : List (K × V)) (new : State K V S) : Type 0 where

@@ -74,7 +74,7 @@ module _ {K V S : Type 0} (limit : ℕ) where
     pub ok : OnOk result (IsReserved old additional new)
     pub refused : IfErr result (IsRefusal (reserve_needs limit old additional))
     pub err : OnErr result (new ≡ old)
-    pub valid : IsValid eq limit new
+    pub valid : IsValid limit eq new
 
   -- capacity is given back, and so is the table where the limit allows the pairs
   pub record IsShrunk (old new : State K V S) : Type 0 where

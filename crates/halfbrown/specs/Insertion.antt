@@ -37,7 +37,7 @@ module _ {K V S : Type 0} where
       pub ok : OnOk result (Puts limit eq old k v (insert_needs limit eq old k) new)
       pub put : OnOk result (HasPut eq old.pairs k v new.pairs)
       pub returned : IfErr result (HandsBack old k v (insert_needs limit eq old k) new)
-      pub valid : IsValid eq limit new
+      pub valid : IsValid limit eq new
 
     -- an insertion of (k, v) that returns the index of its pair too
     pub record InsertsAt (result : Result (ℕ × Option V) (Refused K V)) (new : State K V S) : Type 0 where
@@ -49,7 +49,7 @@ module _ {K V S : Type 0} where
       pub ok : OnOk result (Puts limit eq old k v (new_key_needs limit old) new)
       pub put : OnOk result (HasPut eq old.pairs k v new.pairs)
       pub returned : IfErr result (HandsBack old k v (new_key_needs limit old) new)
-      pub valid : IsValid eq limit new
+      pub valid : IsValid limit eq new
 
 module _ {K V S : Type 0} where
   -- the map with one pair more, which is added here
@@ -70,7 +70,7 @@ module _ {K V S : Type 0} where
     pub ok : OnOk result (Prepares limit old needs new)
     pub refused : IfErr result (IsRefusal needs)
     pub err : OnErr result (new ≡ old)
-    pub valid : IsValid eq limit new
+    pub valid : IsValid limit eq new
 
   module _ (eq : K → K → Bool) (hash : S → K → ℕ) where
     -- k is not held, and a pair of it may be added here: the capacity is enough for it

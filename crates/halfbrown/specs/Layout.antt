@@ -10,10 +10,10 @@ abbrev pub state_in : {K V S : Type 0} → StoreState K V → S → State K V S
 state_in store builder = make_state store.is_vec store.pairs store.capacity builder store.contents
 
 -- what the fields keep
-pub record IsMapInvariant {K V : Type 0} (eq : K → K → Bool) (hash : K → ℕ) (limit : ℕ) (store : StoreState K V) : Type 0 where
+pub record IsMapInvariant {K V : Type 0} (limit : ℕ) (eq : K → K → Bool) (hash : K → ℕ) (store : StoreState K V) : Type 0 where
   pub distinct : IsDistinct eq (keys_of store.pairs)
   pub fits : length store.pairs ≤ store.capacity
-  pub within : store.is_vec ≡ true → store.capacity ≤ limit
+  pub vector_capacity : store.is_vec ≡ true → store.capacity ≤ limit
   pub hashed : store.is_vec ≡ false → store.hashes ≡ map hash (keys_of store.pairs)
-  pub series : store.is_vec ≡ false → IsTableCapacity store.capacity
-  pub exceeds : store.is_vec ≡ false → limit < store.capacity
+  pub table_capacity : store.is_vec ≡ false → IsTableCapacity store.capacity
+  pub table_exceeds : store.is_vec ≡ false → limit < store.capacity

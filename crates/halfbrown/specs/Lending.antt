@@ -19,12 +19,12 @@ module _ (K V S L H : RattleType) (key : HashMembers K.Denot) (build : HasherGho
     LendsValueAt index r = Lends map_row V m r (λ w. map_with_pairs m.now (set_value_at m.now.pairs index w))
 
     -- the same, and where there is no pair at this index the map stays as it is
-    abbrev pub LendsValueIfAt : ℕ → Option (MutBor V.Denot) → Fml
-    LendsValueIfAt index r = LendsIf map_row V m r (λ w. map_with_pairs m.now (set_value_at m.now.pairs index w)) m.now
+    abbrev pub LendsValueIfWithin : ℕ → Option (MutBor V.Denot) → Fml
+    LendsValueIfWithin index r = LendsIf map_row V m r (λ w. map_with_pairs m.now (set_value_at m.now.pairs index w)) m.now
 
     -- the pair whose key passes the test has the last value written through the reference, and where none is held the map stays as it is
-    abbrev pub LendsValueBy : (K.Denot → Bool) → Option (MutBor V.Denot) → Fml
-    LendsValueBy test r = LendsIf map_row V m r (λ w. map_with_pairs m.now (set_value test m.now.pairs w)) m.now
+    abbrev pub LendsValueIfHeld : (K.Denot → Bool) → Option (MutBor V.Denot) → Fml
+    LendsValueIfHeld test r = LendsIf map_row V m r (λ w. map_with_pairs m.now (set_value test m.now.pairs w)) m.now
 
     -- once the loan of this name ends, the pairs have the values that were written through it, and the keys that they had; a proof knows
     -- these values where a slice was lent, and not where an iterator was

@@ -71,7 +71,7 @@ module _ {K V S L H : Type 0} {e : EqGhosts K} {h : HashGhosts K} {b : HasherGho
     pub ok : IfOk result (λ prepared. Prepares limit m.now (new_key_needs limit m.now) (prepared_map prepared))
     pub capacity : IfOk result (λ prepared. length (prepared_map prepared).pairs < (prepared_map prepared).capacity)
     pub refused : IfErr result (IsRefusal (new_key_needs limit m.now))
-    pub valid : IfOk result (λ prepared. IsValid eq limit (prepared_map prepared))
+    pub valid : IfOk result (λ prepared. IsValid limit eq (prepared_map prepared))
 
 module _ (K V S L H : RattleType) {e : EqGhosts K.Denot} {h : HashGhosts K.Denot} {b : HasherGhosts S.Denot K.Denot H.Denot} {l : LimitGhosts L.Denot} where
   -- where the capacity was refused the map is as it was

@@ -13,13 +13,13 @@ module _ {K V S : Type 0} where
   replaced_pairs entry key value = if (map_of entry).is_vec then pairs_without entry ++ (key, value) ∷ [] else (with_value entry value).pairs
 
   -- the stored key stays, with the value that was returned
-  pub record HasNewValue (entry : EntryView K V S) (key : K) (value : V) (result : EntryView K V S) : Type 0 where
+  pub record IsReplaced (entry : EntryView K V S) (key : K) (value : V) (result : EntryView K V S) : Type 0 where
     pub pair : entry_pair result ≡ Some (key, value)
     pub key_is : entry_key result ≡ Some key
     pub value_is : entry_value result ≡ Some value
     pub map : WithPairs (map_of entry) (replaced_pairs entry key value) (map_of result)
     pub writes : (v : V) → WithPairs (map_of entry) (replaced_pairs entry key v) (with_value result v)
-    pub pairs_left : pairs_without result ≡ pairs_without entry
+    pub without : pairs_without result ≡ pairs_without entry
 
   -- the pair is gone, and the entry is vacant, with the stored key
   pub record IsVacated (entry : EntryView K V S) (key : K) (result : EntryView K V S) : Type 0 where
@@ -27,7 +27,7 @@ module _ {K V S : Type 0} where
     pub no_value : entry_value result ≡ None
     pub map : WithPairs (map_of entry) (pairs_without entry) (map_of result)
     pub writes : (v : V) → WithPairs (map_of entry) (pairs_without entry ++ (key, v) ∷ []) (with_value result v)
-    pub pairs_left : pairs_without result ≡ pairs_without entry
+    pub without : pairs_without result ≡ pairs_without entry
 
   -- the closure was given the stored key and its value, and its answer decides what becomes of the pair
   pub record ReplacesEntry (returns : Bor K → V → Option V → Type 0) (entry result : EntryView K V S) : Type 0 where
@@ -36,7 +36,7 @@ module _ {K V S : Type 0} where
     pub answer : Option V
     pub pair : entry_pair entry ≡ Some (key, value)
     pub answered : ClosureAnswers returns key value answer
-    pub after : MatchOption answer (IsVacated entry key result) (λ v. HasNewValue entry key v result)
+    pub after : MatchOption answer (IsVacated entry key result) (λ v. IsReplaced entry key v result)
 
   -- one insertion probe where the pair is gone, and nothing else
   abbrev pub IsReplacementCost : (S → K → ℕ) → EntryView K V S → Work → Work → Type 0

@@ -1,5 +1,5 @@
 -- What one command replies and does; and whole runs, lists of such steps.
-use Rattle.std.specs.Prelude.{◌≡◌, ℕ, Bool, not, if◌then◌else◌, List, [], ◌∷◌, map, true, false, ◌&&◌, length, Option, None, Some, is_some, unwrap_or, MatchBool}
+use Rattle.std.specs.Prelude.{◌≡◌, ℕ, Bool, not, if◌then◌else◌, List, [], ◌∷◌, map, true, false, ◌&&◌, length, Option, None, Some, is_none, unwrap_or, MatchBool}
 use Rattle.std.specs.List.{list_any}
 use Rattle.halfbrown.specs.declared.run.Command.{Command}
 use Rattle.halfbrown.specs.declared.run.Command.TheVariants.{Insert, InsertNew, EntryOrInsert, RawOrInsert, Get, Remove, Clear, Reserve, Shrink, IsVec, Len}
@@ -63,9 +63,9 @@ abbrev pub refusal_in : {K V : Type 0} → Reply K V → Option Refusal
 refusal_in (Refused command why) = Some why
 refusal_in reply = None
 
--- whether the reply is a refusal
-abbrev pub is_refused : {K V : Type 0} → Reply K V → Bool
-is_refused reply = is_some (refusal_in reply)
+-- whether the reply is that of a granted command
+abbrev pub is_granted : {K V : Type 0} → Reply K V → Bool
+is_granted reply = is_none (refusal_in reply)
 
 -- whether the reply says that a pair was put
 abbrev pub says_put : {K V : Type 0} → Reply K V → Bool
@@ -112,7 +112,7 @@ module _ {K V S : Type 0} (limit : ℕ) (eq : K → K → Bool) where
   -- the steps lead from old to new: each begins where the last ended, is one its command may take, and leaves what holds of every map
   abbrev pub StepsLead : State K V S → List (Step K V S) → State K V S → Type 0
   StepsLead old [] new = new ≡ old
-  StepsLead old (s ∷ steps) new = (s.before ≡ old) × IsValidStep limit eq s × IsValid eq limit s.after × StepsLead s.after steps new
+  StepsLead old (s ∷ steps) new = (s.before ≡ old) × IsValidStep limit eq s × IsValid limit eq s.after × StepsLead s.after steps new
 
   -- there are steps that lead from old to new, and have these commands and these replies
   pub record Runs (old : State K V S) (commands : List (Command K V)) (replies : List (Reply K V)) (new : State K V S) : Type 0 where
@@ -122,25 +122,25 @@ module _ {K V S : Type 0} (limit : ℕ) (eq : K → K → Bool) where
     pub replies_are : replies ≡ replies_of steps
 
   module _ (hash : S → K → ℕ) where
-    -- what a command costs on a map, by whether it was refused
+    -- what a command costs on a map, by whether it was granted
     abbrev pub command_cost : State K V S → Command K V → Bool → Cost
-    command_cost m (Insert k v) refused = insert_cost limit eq hash m k (not refused)
-    command_cost m (InsertNew k v) refused =
-        add_costs (key_search_cost eq hash m k) (if holds eq m.pairs k then no_cost else new_key_cost limit eq hash m k (not refused))
-    command_cost m (EntryOrInsert k v) refused = insert_cost limit eq hash m k (not refused)
-    command_cost m (RawOrInsert k v) refused = raw_insert_cost limit eq hash m k (not refused)
-    command_cost m (Get k) refused = key_search_cost eq hash m k
-    command_cost m (Remove k) refused = key_search_cost eq hash m k
-    command_cost m command refused = no_cost
+    command_cost m (Insert k v) granted = insert_cost limit eq hash m k granted
+    command_cost m (InsertNew k v) granted =
+        add_costs (key_search_cost eq hash m k) (if holds eq m.pairs k then no_cost else new_key_cost limit eq hash m k granted)
+    command_cost m (EntryOrInsert k v) granted = insert_cost limit eq hash m k granted
+    command_cost m (RawOrInsert k v) granted = raw_insert_cost limit eq hash m k granted
+    command_cost m (Get k) granted = key_search_cost eq hash m k
+    command_cost m (Remove k) granted = key_search_cost eq hash m k
+    command_cost m command granted = no_cost
 
     -- from old, the command may have this reply and leave new, and the work grew by what it costs
     pub record ExecutesAtCost (old : State K V S) (command : Command K V) (reply : Reply K V) (new : State K V S) (before after : Work) : Type 0 where
       pub step : Executes limit eq old command reply new
-      pub cost : GrewBy (command_cost old command (is_refused reply)) before after
+      pub cost : GrewBy (command_cost old command (is_granted reply)) before after
 
     -- what a step costs
     abbrev pub step_cost : Step K V S → Cost
-    step_cost s = command_cost s.before s.command (is_refused s.reply)
+    step_cost s = command_cost s.before s.command (is_granted s.reply)
 
     -- what the steps cost together
     abbrev pub cost_of : List (Step K V S) → Cost

@@ -46,7 +46,7 @@ IsTableCapacity capacity = capacity ≡ least_table_capacity capacity
 
 -- what holds of every map: no two held keys are equal, the pairs fit in the capacity, a vector's capacity is at most the limit, and a
 -- table's is more than the limit and one of the series
-pub record IsValid {K V S : Type 0} (eq : K → K → Bool) (limit : ℕ) (m : State K V S) : Type 0 where
+pub record IsValid {K V S : Type 0} (limit : ℕ) (eq : K → K → Bool) (m : State K V S) : Type 0 where
   pub distinct : IsDistinct eq (keys_of m.pairs)
   pub fits : length m.pairs ≤ m.capacity
   pub vector_capacity : m.is_vec ≡ true → m.capacity ≤ limit

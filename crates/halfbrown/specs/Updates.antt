@@ -13,7 +13,7 @@ pub record KeepsKeys {K V S : Type 0} (limit : ℕ) (eq : K → K → Bool) (old
   pub len : (vs : List V) → length (set_values old.pairs vs) ≡ length old.pairs
   pub keys : (vs : List V) → keys_of (set_values old.pairs vs) ≡ keys_of old.pairs
   pub values : (vs : List V) → length vs ≡ length old.pairs → values_of (set_values old.pairs vs) ≡ vs
-  pub valid : (vs : List V) → IsValid eq limit (map_with_pairs old (set_values old.pairs vs))
+  pub valid : (vs : List V) → IsValid limit eq (map_with_pairs old (set_values old.pairs vs))
 
 module _ {K V : Type 0} (eq : K → K → Bool) where
   -- after the pair (k, v) is put: k is held with the value v, as are its equals; each other key has what it had; there is one pair more
@@ -66,7 +66,7 @@ pub record Removes {K V S R : Type 0} (limit : ℕ) (eq : K → K → Bool) (tes
   pub after : WithPairs old (take_out_by test old.pairs) new
   pub removed : HasRemovedBy eq test old.pairs new.pairs
   pub unchanged : IfNone result (new ≡ old)
-  pub valid : IsValid eq limit new
+  pub valid : IsValid limit eq new
 
 -- a removal of the pair at this index returns it, and the last pair takes its index: no key equal to its own is held then; or there is
 -- none, and nothing changes
@@ -75,7 +75,7 @@ pub record RemovesAt {K V S : Type 0} (limit : ℕ) (eq : K → K → Bool) (old
   pub after : OnSome result (WithPairs old (swap_remove_at old.pairs index) new)
   pub removed : IfSome result (λ pair. HasRemoved eq old.pairs pair.0 new.pairs)
   pub unchanged : IfNone result (new ≡ old)
-  pub valid : IsValid eq limit new
+  pub valid : IsValid limit eq new
 
 -- a removal of the pair whose key passes the test returns this of it, and each pair behind it gets the index before its own; or there is
 -- none, and nothing changes
@@ -84,7 +84,7 @@ pub record ShiftRemoves {K V S R : Type 0} (limit : ℕ) (eq : K → K → Bool)
   pub after : WithPairs old (remove_entry test old.pairs) new
   pub removed : HasRemovedBy eq test old.pairs new.pairs
   pub unchanged : IfNone result (new ≡ old)
-  pub valid : IsValid eq limit new
+  pub valid : IsValid limit eq new
 
 -- the same of the pair at this index: no key equal to its own is held then
 pub record ShiftRemovesAt {K V S : Type 0} (limit : ℕ) (eq : K → K → Bool) (old : State K V S) (index : ℕ) (result : Option (K × V)) (new : State K V S) : Type 0 where
@@ -92,4 +92,4 @@ pub record ShiftRemovesAt {K V S : Type 0} (limit : ℕ) (eq : K → K → Bool)
   pub after : OnSome result (WithPairs old (remove old.pairs index) new)
   pub removed : IfSome result (λ pair. HasRemoved eq old.pairs pair.0 new.pairs)
   pub unchanged : IfNone result (new ≡ old)
-  pub valid : IsValid eq limit new
+  pub valid : IsValid limit eq new

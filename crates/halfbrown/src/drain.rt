@@ -41,7 +41,7 @@ impl<'a, K: Eq + Hash + Drop, V: Drop, S: KeyHasher<K>, L: Limit, P: IntoStore<K
 
     fn drop(self)
         ensures after { WithPairs (map_after self.entry) [] self.exit.0.now }
-        ensures valid { IsValid K.eq L.LIMIT self.exit.0.now }
+        ensures valid { IsValid L.LIMIT K.eq self.exit.0.now }
     {
         let Drain { map, pairs } = self;
         map.put_back(pairs);

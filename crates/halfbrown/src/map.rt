@@ -76,7 +76,7 @@ impl<K: Eq + Hash, V, S: KeyHasher<K>, L: Limit> Model for LimitedHashMap<K, V, 
 
     ghost view = { λ m. state_in m.store m.builder };
 
-    ghost invariant = { λ m. IsMapInvariant K.eq (S.hash m.builder) L.LIMIT m.store };
+    ghost invariant = { λ m. IsMapInvariant L.LIMIT K.eq (S.hash m.builder) m.store };
 }
 
 // Written out, since the limit is a type that no value of the map holds.
@@ -103,7 +103,7 @@ impl<K: Eq + Hash, V, S: KeyHasher<K>, L: Limit> LimitedHashMap<K, V, S, L> {
     pub fn len(&self) -> usize
         ensures len { result ≡ length self.now.pairs }
         ensures small { result < 2 ^ 63 }
-        ensures valid { IsValid K.eq L.LIMIT self.now }
+        ensures valid { IsValid L.LIMIT K.eq self.now }
     {
         self.columns().len()
     }
@@ -128,7 +128,7 @@ impl<K: Eq + Hash, V, S: KeyHasher<K>, L: Limit> LimitedHashMap<K, V, S, L> {
     #[inline(always)]
     pub fn is_vec(&self) -> bool
         ensures form { result ≡ self.now.is_vec }
-        ensures valid { IsValid K.eq L.LIMIT self.now }
+        ensures valid { IsValid L.LIMIT K.eq self.now }
     {
         self.store.is_vec()
     }
@@ -182,7 +182,7 @@ impl<K: Eq + Hash, V, S: KeyHasher<K>, L: Limit> LimitedHashMap<K, V, S, L> {
         K: Drop,
         V: Drop,
         ensures after { WithPairs self.old [] self.new }
-        ensures valid { IsValid K.eq L.LIMIT self.new }
+        ensures valid { IsValid L.LIMIT K.eq self.new }
     {
         self.store.clear();
     }

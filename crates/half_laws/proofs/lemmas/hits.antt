@@ -42,7 +42,7 @@ module _ {K : Type 0} (V : Type 0) {S : Type 0} (hash : S → K → ℕ) where
   hit_total_law m wanted asked found before after table cost = cost.hits table
 
   -- fillings with the same pairs in another order
-  filling-same : (limit : ℕ) (eq : K → K → Bool) (a b : State K V S) → HoldSamePairs a b → IsValid eq limit a → a.is_vec ≡ false
+  filling-same : (limit : ℕ) (eq : K → K → Bool) (a b : State K V S) → HoldSamePairs a b → IsValid limit eq a → a.is_vec ≡ false
       → filling_reads (hash a.builder) a.capacity a.pairs ≡ filling_reads (hash b.builder) b.capacity b.pairs
   filling-same limit eq a b same is table =
       let hashes : List ℕ = map (hash a.builder) (keys_of a.pairs) in

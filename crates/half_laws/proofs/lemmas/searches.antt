@@ -109,7 +109,7 @@ module _ {K V S : Type 0} (hash : S → K → ℕ) where
     pub crowded_search_law : CrowdedSearchLaw V limit eq hash
     crowded_search_law m wanted found asked before after passed state form costs l = grind (arith, common_steps, crowded_probe_law, is_some, looks_most)
 
-    module _ (m : State K V S) (s : IsValid eq limit m) (stays : is_vec_after limit m ≡ false) where
+    module _ (m : State K V S) (s : IsValid limit eq m) (stays : is_vec_after limit m ≡ false) where
       -- once the form has changed, the capacity is that of a table that the pairs fit
       switched_fits : IsTableCapacity (capacity_after_switch limit m) × (length m.pairs ≤ capacity_after_switch limit m)
       switched_fits = grind (arith, common_steps, buckets_for-least, capacity_for-capacity_of, full_len, table_of)
@@ -319,25 +319,25 @@ module _ {K V S : Type 0} (hash : S → K → ℕ) where
               ≡ (if holds eq ys k then no_cost else new_key_cost limit eq hash second k granted)
           added-same = simp (long, held k, looked k)
 
-      hashes-same : (command : Command K V) (refused : Bool)
-          → (command_cost limit eq hash first command refused).asked ≡ (command_cost limit eq hash second command refused).asked
-      hashes-same (Insert k v) refused = insert-asked k (not refused)
-      hashes-same (InsertNew k v) refused = ap (λ cost. search_asked is_vec + cost.asked) (added-same k (not refused))
-      hashes-same (EntryOrInsert k v) refused = insert-asked k (not refused)
-      hashes-same (RawOrInsert k v) refused = raw-asked k (not refused)
-      hashes-same command refused = refl
+      hashes-same : (command : Command K V) (granted : Bool)
+          → (command_cost limit eq hash first command granted).asked ≡ (command_cost limit eq hash second command granted).asked
+      hashes-same (Insert k v) granted = insert-asked k granted
+      hashes-same (InsertNew k v) granted = ap (λ cost. search_asked is_vec + cost.asked) (added-same k granted)
+      hashes-same (EntryOrInsert k v) granted = insert-asked k granted
+      hashes-same (RawOrInsert k v) granted = raw-asked k granted
+      hashes-same command granted = refl
 
-      buckets-same : (command : Command K V) (refused : Bool)
-          → (command_cost limit eq hash first command refused).looked ≡ (command_cost limit eq hash second command refused).looked
-      buckets-same command refused = grind (arith, common_steps, added-same, insert-looked, not, raw-looked, search-looked)
+      buckets-same : (command : Command K V) (granted : Bool)
+          → (command_cost limit eq hash first command granted).looked ≡ (command_cost limit eq hash second command granted).looked
+      buckets-same command granted = grind (arith, common_steps, added-same, insert-looked, not, raw-looked, search-looked)
 
-      compared-same : (command : Command K V) (refused : Bool) → finds_in_vector limit eq first command ≡ false
-          → (command_cost limit eq hash first command refused).compared ≡ (command_cost limit eq hash second command refused).compared
-      compared-same command refused none = grind (arith, common_steps, added-same, insert-compared, not, raw-compared, search-compared)
+      compared-same : (command : Command K V) (granted : Bool) → finds_in_vector limit eq first command ≡ false
+          → (command_cost limit eq hash first command granted).compared ≡ (command_cost limit eq hash second command granted).compared
+      compared-same command granted none = grind (arith, common_steps, added-same, insert-compared, not, raw-compared, search-compared)
 
-      cost-same : (command : Command K V) (refused : Bool) → finds_in_vector limit eq first command ≡ false
-          → command_cost limit eq hash first command refused ≡ command_cost limit eq hash second command refused
-      cost-same command refused none = grind (arith, common_steps, buckets-same, compared-same, hashes-same, looked)
+      cost-same : (command : Command K V) (granted : Bool) → finds_in_vector limit eq first command ≡ false
+          → command_cost limit eq hash first command granted ≡ command_cost limit eq hash second command granted
+      cost-same command granted none = grind (arith, common_steps, buckets-same, compared-same, hashes-same, looked)
 
     -- two maps of the same form, capacity and builder
     module _ (a b : State K V S) (same : HoldSamePairs a b) where
@@ -365,17 +365,17 @@ module _ {K V S : Type 0} (hash : S → K → ℕ) where
     )
 
     pub command_cost_law : CommandCostLaw V limit eq hash
-    command_cost_law a b command refused same none = ap (λ m. command_cost limit eq hash m command refused) (alike a b same)
+    command_cost_law a b command granted same none = ap (λ m. command_cost limit eq hash m command granted) (alike a b same)
         ∙ cost-same b.is_vec a.pairs b.pairs b.capacity b.builder (contents_of a) (contents_of b) same.pairs command
         refused
         (subst (λ m. finds_in_vector limit eq m command ≡ false) (alike a b same) none)
 
     pub command_hashes_law : CommandHashesLaw V limit eq hash
-    command_hashes_law a b command refused same = ap (λ m. (command_cost limit eq hash m command refused).asked) (alike a b same)
+    command_hashes_law a b command granted same = ap (λ m. (command_cost limit eq hash m command granted).asked) (alike a b same)
         ∙ hashes-same b.is_vec a.pairs b.pairs b.capacity b.builder (contents_of a) (contents_of b) same.pairs command
         refused
 
     pub command_buckets_law : CommandBucketsLaw V limit eq hash
-    command_buckets_law a b command refused same = ap (λ m. (command_cost limit eq hash m command refused).looked) (alike a b same)
+    command_buckets_law a b command granted same = ap (λ m. (command_cost limit eq hash m command granted).looked) (alike a b same)
         ∙ buckets-same b.is_vec a.pairs b.pairs b.capacity b.builder (contents_of a) (contents_of b) same.pairs command
         refused

@@ -10,7 +10,7 @@ ghost use Rattle.half_store.specs.Capacity.{IsBucketCount};
 ghost use Rattle.half_store.specs.Work.{probe_reads, looked_more, ReadsWithin, removal_reads_left, removal_reads};
 ghost use Rattle.half_store.specs.Reach.{home, probe_distance, reach};
 ghost use Rattle.half_store.specs.StoreRemoval.{Renames, ShiftsUpTo};
-ghost use Rattle.half_store.specs.Table.{state_of_words, IsIndexed, IsIndexedButFor, TableSearch};
+ghost use Rattle.half_store.specs.Table.{state_of_words, IsIndexed, IsIndexedWithGap, TableSearch};
 
 use super::probe::{find_in, home, next};
 use crate::Tally;
@@ -185,7 +185,7 @@ fn if_less(first: usize, second: usize, lesser: usize, other: usize) -> usize
 /// whose home bucket is not after it. What the gap contains is not read; it is emptied at the end.
 fn backward_shift<B: Words>(buckets: &mut B, hashes: &[u64], removed: usize, tally: &mut Tally)
     requires count { IsBucketCount (length (B.words buckets.old)) }
-    requires removed { IsIndexedButFor hashes.now (slice_set (B.words buckets.old) removed 0)
+    requires removed { IsIndexedWithGap hashes.now (slice_set (B.words buckets.old) removed 0)
         removed }
     requires fits { length hashes.now ≤ B.most buckets.old }
     ensures indexed { IsIndexed hashes.now (B.words buckets.new) }

@@ -175,7 +175,7 @@ impl<'a, K: Eq + Hash, V, S: KeyHasher<K>, L: Limit> OccupiedEntry<'a, K, V, S, 
     pub fn insert(&mut self, value: V) -> V
         ensures old { entry_value (occupied self.old) ≡ Some result }
         ensures written { IsWritten (occupied self.old) value (occupied self.new) }
-        ensures valid { IsValid K.eq L.LIMIT (map_of (occupied self.new)) }
+        ensures valid { IsValid L.LIMIT K.eq (map_of (occupied self.new)) }
     {
         let old = std::mem::replace(self.get_mut(), value);
         // Of the map that is read here `len` states what holds of every map.
@@ -195,7 +195,7 @@ impl<'a, K: Eq + Hash, V, S: KeyHasher<K>, L: Limit> OccupiedEntry<'a, K, V, S, 
         ensures new { IsRekeyed (occupied self.old) key (occupied self.new) }
         ensures replaced { HasKeyReplaced K.eq (map_of (occupied self.old)).pairs key
             (map_of (occupied self.new)).pairs }
-        ensures valid { IsValid K.eq L.LIMIT (map_of (occupied self.new)) }
+        ensures valid { IsValid L.LIMIT K.eq (map_of (occupied self.new)) }
     {
         let index = self.index;
         self.map.set_key_at(index, key)
@@ -215,7 +215,7 @@ impl<'a, K: Eq + Hash, V, S: KeyHasher<K>, L: Limit> OccupiedEntry<'a, K, V, S, 
         ensures value { entry_value (occupied self.entry) ≡ Some result }
         ensures after { WithPairs (map_of (occupied self.entry))
             (pairs_without (occupied self.entry)) self.exit.0.now }
-        ensures valid { IsValid K.eq L.LIMIT self.exit.0.now }
+        ensures valid { IsValid L.LIMIT K.eq self.exit.0.now }
     {
         self.remove_entry().1
     }
@@ -233,7 +233,7 @@ impl<'a, K: Eq + Hash, V, S: KeyHasher<K>, L: Limit> OccupiedEntry<'a, K, V, S, 
         ensures value { entry_value (occupied self.entry) ≡ Some result.1 }
         ensures after { WithPairs (map_of (occupied self.entry))
             (pairs_without (occupied self.entry)) self.exit.0.now }
-        ensures valid { IsValid K.eq L.LIMIT self.exit.0.now }
+        ensures valid { IsValid L.LIMIT K.eq self.exit.0.now }
     {
         let index = self.index;
         self.map.take_at(index)

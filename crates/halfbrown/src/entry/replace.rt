@@ -31,7 +31,7 @@ impl<'a, K: Eq + Hash, V, S: KeyHasher<K>, L: Limit> OccupiedEntry<'a, K, V, S, 
             → F.pre f key value }
         ensures replaced { ReplacesEntry (F.post f) (occupied self.entry) (view result) }
         ensures same_map { (view result).map.ghost_name ≡ self.entry.map.ghost_name }
-        ensures valid { IsValid K.eq L.LIMIT (map_of (view result)) }
+        ensures valid { IsValid L.LIMIT K.eq (map_of (view result)) }
     {
         uncounted!(self.replace_entry_with_counted(f))
     }
@@ -47,7 +47,7 @@ impl<'a, K: Eq + Hash, V, S: KeyHasher<K>, L: Limit> OccupiedEntry<'a, K, V, S, 
             → F.pre f key value }
         ensures replaced { ReplacesEntry (F.post f) (occupied self.entry) (view result) }
         ensures same_map { (view result).map.ghost_name ≡ self.entry.map.ghost_name }
-        ensures valid { IsValid K.eq L.LIMIT (map_of (view result)) }
+        ensures valid { IsValid L.LIMIT K.eq (map_of (view result)) }
         ensures cost { IsReplacementCost S.hash (view result) tally.old tally.new }
     {
         let index = self.index;

@@ -18,7 +18,7 @@ use half_store::{Tally, uncounted};
 use std::hash::Hash;
 
 impl<K: Eq + Hash, V, S: KeyHasher<K>, L: Limit> LimitedHashMap<K, V, S, L> {
-    ghost use Rattle.halfbrown.specs.Lending.{LendsValueIfAt};
+    ghost use Rattle.halfbrown.specs.Lending.{LendsValueIfWithin};
 
     /// Returns the pair at this index in the order of the pairs, or none where the index is not below `len`. Nothing is
     /// hashed or compared.
@@ -50,11 +50,11 @@ impl<K: Eq + Hash, V, S: KeyHasher<K>, L: Limit> LimitedHashMap<K, V, S, L> {
     /// ```
     #[inline(always)]
     pub fn get_index_mut(&mut self, index: usize) -> Option<&mut V>
-        ensures* writes_back { sem 𝓛 (LendsValueIfAt K.row V.row S.row L.row S.Hasher.row K.Hash
+        ensures* writes_back { sem 𝓛 (LendsValueIfWithin K.row V.row S.row L.row S.Hasher.row K.Hash
             S.KeyHasher L.Limit self.entry index result) }
         ensures value { option_copied_mut result ≡ slice_get (values_of self.old.pairs) index }
         ensures held { IsSome result ↔ (index < length self.old.pairs) }
-        ensures valid { IsValid K.eq L.LIMIT self.old }
+        ensures valid { IsValid L.LIMIT K.eq self.old }
     {
         if index < self.len() {
             Some(self.pair_at_mut(index).1)
@@ -100,11 +100,11 @@ impl<K: Eq + Hash, V, S: KeyHasher<K>, L: Limit> LimitedHashMap<K, V, S, L> {
     /// ```
     #[inline(always)]
     pub fn first_mut(&mut self) -> Option<&mut V>
-        ensures* writes_back { sem 𝓛 (LendsValueIfAt K.row V.row S.row L.row S.Hasher.row K.Hash
+        ensures* writes_back { sem 𝓛 (LendsValueIfWithin K.row V.row S.row L.row S.Hasher.row K.Hash
             S.KeyHasher L.Limit self.entry 0 result) }
         ensures value { option_copied_mut result ≡ slice_get (values_of self.old.pairs) 0 }
         ensures held { IsSome result ↔ (0 < length self.old.pairs) }
-        ensures valid { IsValid K.eq L.LIMIT self.old }
+        ensures valid { IsValid L.LIMIT K.eq self.old }
     {
         self.get_index_mut(0)
     }
@@ -119,12 +119,12 @@ impl<K: Eq + Hash, V, S: KeyHasher<K>, L: Limit> LimitedHashMap<K, V, S, L> {
     /// ```
     #[inline(always)]
     pub fn last_mut(&mut self) -> Option<&mut V>
-        ensures* writes_back { sem 𝓛 (LendsValueIfAt K.row V.row S.row L.row S.Hasher.row K.Hash
+        ensures* writes_back { sem 𝓛 (LendsValueIfWithin K.row V.row S.row L.row S.Hasher.row K.Hash
             S.KeyHasher L.Limit self.entry (length self.old.pairs - 1) result) }
         ensures value { option_copied_mut result
             ≡ slice_get (values_of self.old.pairs) (length self.old.pairs - 1) }
         ensures held { IsSome result ↔ (0 < length self.old.pairs) }
-        ensures valid { IsValid K.eq L.LIMIT self.old }
+        ensures valid { IsValid L.LIMIT K.eq self.old }
     {
         let index = self.len().saturating_sub(1);
         self.get_index_mut(index)
@@ -150,7 +150,7 @@ impl<K: Eq + Hash, V, S: KeyHasher<K>, L: Limit> LimitedHashMap<K, V, S, L> {
         ensures found { FindsIndex (Q.equivalent key) self.now.pairs result }
         ensures cost { IsLookupCost S.KeyHasher Q.hash_input Q.equivalent key self.now
             tally.old tally.new }
-        ensures valid { IsValid K.eq L.LIMIT self.now }
+        ensures valid { IsValid L.LIMIT K.eq self.now }
     {
         self.find(key, tally).ok()
     }

@@ -43,7 +43,7 @@ impl<K: Eq + Hash, V, S: KeyHasher<K>, L: Limit> LimitedHashMap<K, V, S, L> {
     /// ```
     pub fn shrink_to_fit(&mut self)
         ensures after { Shrinks L.LIMIT self.old self.new }
-        ensures valid { IsValid K.eq L.LIMIT self.new }
+        ensures valid { IsValid L.LIMIT K.eq self.new }
     {
         // Where memory is refused, nothing has changed.
         let _ = self.store.shrink_to_fit(L::LIMIT);

@@ -34,7 +34,7 @@ impl<K: Eq + Hash, V, S: KeyHasher<K>, L: Limit> LimitedHashMap<K, V, S, L> {
             → S.is_clone self.now.builder copy → HashesAlike S.hash self.now copy }
         ensures cloned { IfOk result (IsCloneOf K.is_clone V.is_clone S.is_clone self.now) }
         ensures refused { IfErr result (λ why. why ≡ Refusal.Memory) }
-        ensures valid { IfOk result (IsValid K.eq L.LIMIT) }
+        ensures valid { IfOk result (IsValid L.LIMIT K.eq) }
     {
         let builder = self.builder.clone()?;
         self.clone_with(builder)
@@ -51,7 +51,7 @@ impl<K: Eq + Hash, V, S: KeyHasher<K>, L: Limit> LimitedHashMap<K, V, S, L> {
         ensures cloned { IfOk result (IsCloneOf K.is_clone V.is_clone
             (λ _ it. it ≡ builder) self.now) }
         ensures refused { IfErr result (λ why. why ≡ Refusal.Memory) }
-        ensures valid { IfOk result (IsValid K.eq L.LIMIT) }
+        ensures valid { IfOk result (IsValid L.LIMIT K.eq) }
     {
         let store = self.store.clone()?;
         Ok(LimitedHashMap {

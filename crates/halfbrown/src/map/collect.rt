@@ -43,7 +43,7 @@ impl<K: Eq + Hash + Drop, V: Drop, S: KeyHasher<K> + Default + Drop, L: Limit> L
             L.LIMIT K.eq I.IntoIter.remaining S.is_default items) }
         ensures refused { IfErr result (RefusedCollectIter I.into_iter_gives
             I.IntoIter.next_gives L.LIMIT K.eq I.IntoIter.remaining S.is_default items) }
-        ensures valid { IfOk result (IsValid K.eq L.LIMIT) }
+        ensures valid { IfOk result (IsValid L.LIMIT K.eq) }
     {
         uncounted!(LimitedHashMap::from_iter_counted(alloc, items))
     }
@@ -66,7 +66,7 @@ impl<K: Eq + Hash + Drop, V: Drop, S: KeyHasher<K> + Default + Drop, L: Limit> L
         // A vector has hashed nothing.
         ensures nothing_hashed { IfOk result
             (λ m. m.is_vec ≡ true → tally.new.asked ≡ tally.old.asked) }
-        ensures valid { IfOk result (IsValid K.eq L.LIMIT) }
+        ensures valid { IfOk result (IsValid L.LIMIT K.eq) }
     {
         let items = items.into_iter();
         let hint = items.size_hint().0;
@@ -83,7 +83,7 @@ impl<K: Eq + Hash + Drop, V: Drop, S: KeyHasher<K> + Default + Drop, L: Limit> L
         ensures collected { IfOk result (Collects L.LIMIT K.eq S.is_default N pairs) }
         ensures refused { IfErr result (λ why. (why ≡ Refusal.Memory)
             ⊎ RefusedCollect L.LIMIT K.eq S.is_default N (AreFirst pairs) why) }
-        ensures valid { IfOk result (IsValid K.eq L.LIMIT) }
+        ensures valid { IfOk result (IsValid L.LIMIT K.eq) }
     {
         // A vector is gone over whatever the size of a pair is.
         let Ok(pairs) = Vec::from_array(alloc, pairs) else {
@@ -109,7 +109,7 @@ impl<K: Eq + Hash + Drop, V: Drop, S: KeyHasher<K> + Default + Drop, L: Limit> L
             × GrewBy (refused_collection_cost L.LIMIT K.eq S.hash made) tally.old tally.new) }
         ensures nothing_hashed { IfOk result
             (λ m. m.is_vec ≡ true → tally.new.asked ≡ tally.old.asked) }
-        ensures valid { IfOk result (IsValid K.eq L.LIMIT) }
+        ensures valid { IfOk result (IsValid L.LIMIT K.eq) }
     {
         let mut map = LimitedHashMap::with_capacity_and_hasher(alloc, capacity, S::default())?;
         map.extend_counted(items, tally)?;

@@ -22,7 +22,7 @@ impl<K: Eq + Hash, V, S: KeyHasher<K>, L: Limit> LimitedHashMap<K, V, S, L> {
             (S.hash_writes self.now.builder (Q.hash_input key)) self.now result }
         ensures cost { IsLookupCost S.KeyHasher Q.hash_input Q.equivalent key self.now
             tally.old tally.new }
-        ensures valid { IsValid K.eq L.LIMIT self.now }
+        ensures valid { IsValid L.LIMIT K.eq self.now }
     {
         let hash = self.hash_in_table(&key, tally);
         self.find_hashed(hash, key, tally)
@@ -42,7 +42,7 @@ impl<K: Eq + Hash, V, S: KeyHasher<K>, L: Limit> LimitedHashMap<K, V, S, L> {
             (S.hash_writes self.now.builder (Q.hash_input key)) self.now result }
         ensures cost { IsHashedLookupCost S.KeyHasher Q.hash_input Q.equivalent key self.now
             tally.old tally.new }
-        ensures valid { IsValid K.eq L.LIMIT self.now }
+        ensures valid { IsValid L.LIMIT K.eq self.now }
     {
         let matches = move |held: &K| -> bool
             ensures { result ≡ Q.equivalent key held.now }
@@ -63,7 +63,7 @@ impl<K: Eq + Hash, V, S: KeyHasher<K>, L: Limit> LimitedHashMap<K, V, S, L> {
         ensures cost { IsSearchCost S.hash hash self.now (result_ok result) 0 tally.old tally.new }
         ensures in_order { self.now.is_vec ≡ true → tally.new.compared
             ≡ tally.old.compared + first_match_cost (result_ok result) (length self.now.pairs) }
-        ensures valid { IsValid K.eq L.LIMIT self.now }
+        ensures valid { IsValid L.LIMIT K.eq self.now }
     {
         self.store.find(hash, matches, Scan::ByKey, tally)
     }

@@ -19,7 +19,7 @@ use std::hash::Hash;
 use std::ops::Index;
 
 impl<K: Eq + Hash, V, S: KeyHasher<K>, L: Limit> LimitedHashMap<K, V, S, L> {
-    ghost use Rattle.halfbrown.specs.Lending.{LendsValueBy};
+    ghost use Rattle.halfbrown.specs.Lending.{LendsValueIfHeld};
 
     /// Returns the value of the held key that equals this one, or `None`. It costs one search.
     ///
@@ -41,7 +41,7 @@ impl<K: Eq + Hash, V, S: KeyHasher<K>, L: Limit> LimitedHashMap<K, V, S, L> {
         ensures value { option_copied result ≡ lookup (Q.equivalent key) self.now.pairs }
         ensures cost { IsLookupCost S.KeyHasher Q.hash_input Q.equivalent key self.now
             tally.old tally.new }
-        ensures valid { IsValid K.eq L.LIMIT self.now }
+        ensures valid { IsValid L.LIMIT K.eq self.now }
     {
         match self.find(key, tally) {
             Ok(index) => Some(self.pair_at(index).1),
@@ -72,7 +72,7 @@ impl<K: Eq + Hash, V, S: KeyHasher<K>, L: Limit> LimitedHashMap<K, V, S, L> {
             ≡ lookup_entry (Q.equivalent key) self.now.pairs }
         ensures cost { IsLookupCost S.KeyHasher Q.hash_input Q.equivalent key self.now
             tally.old tally.new }
-        ensures valid { IsValid K.eq L.LIMIT self.now }
+        ensures valid { IsValid L.LIMIT K.eq self.now }
     {
         match self.find(key, tally) {
             Ok(index) => Some(self.pair_at(index)),
@@ -90,7 +90,7 @@ impl<K: Eq + Hash, V, S: KeyHasher<K>, L: Limit> LimitedHashMap<K, V, S, L> {
     /// ```
     #[inline(always)]
     pub fn get_mut<Q: Equivalent<K>>(&mut self, key: Q) -> Option<&mut V>
-        ensures* writes_back { sem 𝓛 (LendsValueBy K.row V.row S.row L.row S.Hasher.row K.Hash
+        ensures* writes_back { sem 𝓛 (LendsValueIfHeld K.row V.row S.row L.row S.Hasher.row K.Hash
             S.KeyHasher L.Limit self.entry (Q.equivalent key) result) }
         ensures value { option_copied_mut result ≡ lookup (Q.equivalent key) self.old.pairs }
         ensures written { OnSome result ((written : V) → HasSetBy K.eq (Q.equivalent key)
@@ -102,14 +102,14 @@ impl<K: Eq + Hash, V, S: KeyHasher<K>, L: Limit> LimitedHashMap<K, V, S, L> {
     /// `get_mut`, with its work counted: that of one search.
     #[inline(always)]
     pub fn get_mut_counted<Q: Equivalent<K>>(&mut self, key: Q, tally: &mut Tally) -> Option<&mut V>
-        ensures* writes_back { sem 𝓛 (LendsValueBy K.row V.row S.row L.row S.Hasher.row K.Hash
+        ensures* writes_back { sem 𝓛 (LendsValueIfHeld K.row V.row S.row L.row S.Hasher.row K.Hash
             S.KeyHasher L.Limit self.entry (Q.equivalent key) result) }
         ensures value { option_copied_mut result ≡ lookup (Q.equivalent key) self.old.pairs }
         ensures written { OnSome result ((written : V) → HasSetBy K.eq (Q.equivalent key)
             self.old.pairs written (set_value (Q.equivalent key) self.old.pairs written)) }
         ensures cost { IsLookupCost S.KeyHasher Q.hash_input Q.equivalent key self.old
             tally.old tally.new }
-        ensures valid { IsValid K.eq L.LIMIT self.old }
+        ensures valid { IsValid L.LIMIT K.eq self.old }
     {
         match self.find(key, tally) {
             Ok(index) => Some(self.pair_at_mut(index).1),
@@ -136,7 +136,7 @@ impl<K: Eq + Hash, V, S: KeyHasher<K>, L: Limit> LimitedHashMap<K, V, S, L> {
         ensures held { result ≡ holds_by (Q.equivalent key) self.now.pairs }
         ensures cost { IsLookupCost S.KeyHasher Q.hash_input Q.equivalent key self.now
             tally.old tally.new }
-        ensures valid { IsValid K.eq L.LIMIT self.now }
+        ensures valid { IsValid L.LIMIT K.eq self.now }
     {
         self.find(key, tally).is_ok()
     }

@@ -30,7 +30,7 @@ impl<K: Eq + Hash, V, S: KeyHasher<K>, L: Limit> LimitedHashMap<K, V, S, L> {
     #[inline(always)]
     pub(crate) fn columns(&self) -> &Columns<K, V>
         ensures pairs { result.now.pairs ≡ self.now.pairs }
-        ensures valid { IsValid K.eq L.LIMIT self.now }
+        ensures valid { IsValid L.LIMIT K.eq self.now }
     {
         self.store.columns()
     }
@@ -66,7 +66,7 @@ impl<K: Eq + Hash, V, S: KeyHasher<K>, L: Limit> LimitedHashMap<K, V, S, L> {
         ensures old { slice_get (keys_of self.old.pairs) index ≡ Some result }
         ensures after { WithPairs self.old (set_key_at self.old.pairs index key) self.new }
         ensures replaced { HasKeyReplaced K.eq self.old.pairs key self.new.pairs }
-        ensures valid { IsValid K.eq L.LIMIT self.new }
+        ensures valid { IsValid L.LIMIT K.eq self.new }
     {
         self.store.set_key_at(index, key)
     }
@@ -89,7 +89,7 @@ impl<K: Eq + Hash, V, S: KeyHasher<K>, L: Limit> LimitedHashMap<K, V, S, L> {
         requires { index < length self.old.pairs }
         ensures old { slice_get (values_of self.old.pairs) index ≡ Some result }
         ensures after { WithPairs self.old (set_value_at self.old.pairs index value) self.new }
-        ensures valid { IsValid K.eq L.LIMIT self.new }
+        ensures valid { IsValid L.LIMIT K.eq self.new }
     {
         let (_, held) = self.store.pair_at_mut(index);
         replace(held, value)
@@ -104,7 +104,7 @@ impl<K: Eq + Hash, V, S: KeyHasher<K>, L: Limit> LimitedHashMap<K, V, S, L> {
             (S.hash self.old.builder key) vacancy }
         ensures exact { self.new ≡ pushed self.old key value vacancy }
         ensures after { WithPairs self.old (self.old.pairs ++ (key, value) ∷ []) self.new }
-        ensures valid { IsValid K.eq L.LIMIT self.new }
+        ensures valid { IsValid L.LIMIT K.eq self.new }
     {
         self.store.push(key, value, vacancy);
     }
@@ -116,7 +116,7 @@ impl<K: Eq + Hash, V, S: KeyHasher<K>, L: Limit> LimitedHashMap<K, V, S, L> {
         ensures taken { slice_get self.old.pairs index ≡ Some result }
         ensures value { slice_get (values_of self.old.pairs) index ≡ Some result.1 }
         ensures after { WithPairs self.old (swap_remove_at self.old.pairs index) self.new }
-        ensures valid { IsValid K.eq L.LIMIT self.new }
+        ensures valid { IsValid L.LIMIT K.eq self.new }
     {
         self.store.swap_remove(index)
     }
@@ -141,7 +141,7 @@ impl<K: Eq + Hash, V, S: KeyHasher<K>, L: Limit> LimitedHashMap<K, V, S, L> {
             (λ removed. self.new.is_vec ≡ false → removed.1 ≡ S.hash self.new.builder removed.0) }
         ensures absent { IfErr result (λ removed. holds K.eq self.new.pairs removed.0 ≡ false) }
         ensures capacity_left { OnErr result (length self.new.pairs < self.new.capacity) }
-        ensures valid { IsValid K.eq L.LIMIT self.new }
+        ensures valid { IsValid L.LIMIT K.eq self.new }
     {
         self.store.replace_with(index, f)
     }
@@ -171,7 +171,7 @@ impl<K: Eq + Hash, V, S: KeyHasher<K>, L: Limit> LimitedHashMap<K, V, S, L> {
         requires exceeds { (P.store drained).is_vec ≡ false → L.LIMIT < (P.store drained).capacity }
         ensures after { WithPairs (state_in (P.store drained) self.old.builder)
             [] self.new }
-        ensures valid { IsValid K.eq L.LIMIT self.new }
+        ensures valid { IsValid L.LIMIT K.eq self.new }
     {
         self.store = drained.into_store();
     }

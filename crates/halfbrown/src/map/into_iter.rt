@@ -22,7 +22,7 @@ impl<'a, K: Eq + Hash, V, S: KeyHasher<K>, L: Limit> IntoIterator
 
     ghost into_iter_gives = { λ map it. (pairs_left it ≡ map.now.pairs)
         × (length map.now.pairs < 2 ^ 63) × ShowsPairsInOrder K V
-        × IsValid K.eq L.LIMIT map.now };
+        × IsValid L.LIMIT K.eq map.now };
 
     /// Returns the pairs, each as `(&K, &V)`, in order, as `iter` lends them.
     ///
@@ -50,7 +50,7 @@ impl<'a, K: Eq + Hash, V, S: KeyHasher<K>, L: Limit> IntoIterator
 
     ghost into_iter_gives = { λ map it. (pairs_left it ≡ map.now.pairs)
         × (length map.now.pairs < 2 ^ 63) × ShowsPairsInOrder K V
-        × IsValid K.eq L.LIMIT map.now };
+        × IsValid L.LIMIT K.eq map.now };
 
     // The values can be read alone, as in the Rust crate. `iter_mut` lends them to be written.
     #[inline(always)]
@@ -59,7 +59,7 @@ impl<'a, K: Eq + Hash, V, S: KeyHasher<K>, L: Limit> IntoIterator
             (Rests K.row V.row S.row L.row S.Hasher.row K.Hash S.KeyHasher L.Limit self.entry) }
         ensures into_iter_gives { (pairs_left result ≡ self.old.pairs)
             × (length self.old.pairs < 2 ^ 63) × ShowsPairsInOrder K V
-            × IsValid K.eq L.LIMIT self.old }
+            × IsValid L.LIMIT K.eq self.old }
     {
         (&*self).into_iter()
     }
@@ -73,7 +73,7 @@ impl<K: Eq + Hash + Drop, V: Drop, S: KeyHasher<K> + Drop, L: Limit> IntoIterato
 
     ghost into_iter_gives = { λ map it. (it ≡ map.pairs) × (length map.pairs < 2 ^ 63)
         × GivesInOrder (K × V) × ShowsValuesInOrder (λ (pair : K × V). pair)
-        × IsValid K.eq L.LIMIT map };
+        × IsValid L.LIMIT K.eq map };
 
     // The builder and the table are dropped at once: the iterator has the two columns alone.
     fn into_iter(self) -> IntoIter<K, V> {
@@ -94,7 +94,7 @@ impl<K: Eq + Hash + Drop, V: Drop, S: KeyHasher<K> + Drop, L: Limit> LimitedHash
     pub fn into_keys(self) -> vec::IntoIter<K>
         ensures items { into_iter_items result ≡ keys_of self.pairs }
         ensures small { length self.pairs < 2 ^ 63 }
-        ensures valid { IsValid K.eq L.LIMIT self }
+        ensures valid { IsValid L.LIMIT K.eq self }
     {
         let (keys, values) = self.into_columns();
         drop(values);
@@ -109,7 +109,7 @@ impl<K: Eq + Hash + Drop, V: Drop, S: KeyHasher<K> + Drop, L: Limit> LimitedHash
     pub fn into_values(self) -> vec::IntoIter<V>
         ensures items { into_iter_items result ≡ values_of self.pairs }
         ensures small { length self.pairs < 2 ^ 63 }
-        ensures valid { IsValid K.eq L.LIMIT self }
+        ensures valid { IsValid L.LIMIT K.eq self }
     {
         let (keys, values) = self.into_columns();
         drop(keys);
@@ -121,7 +121,7 @@ impl<K: Eq + Hash + Drop, V: Drop, S: KeyHasher<K> + Drop, L: Limit> LimitedHash
         ensures keys { result.0.items ≡ keys_of self.pairs }
         ensures values { result.1.items ≡ values_of self.pairs }
         ensures small { length self.pairs < 2 ^ 63 }
-        ensures valid { IsValid K.eq L.LIMIT self }
+        ensures valid { IsValid L.LIMIT K.eq self }
     {
         let LimitedHashMap {
             store,

@@ -34,7 +34,7 @@ impl<K: Eq + Hash, V, S: KeyHasher<K>, L: Limit> LimitedHashMap<K, V, S, L> {
         ensures left { pairs_left result ≡ self.now.pairs }
         ensures small { length self.now.pairs < 2 ^ 63 }
         ensures runs { ShowsPairsInOrder K V }
-        ensures valid { IsValid K.eq L.LIMIT self.now }
+        ensures valid { IsValid L.LIMIT K.eq self.now }
     {
         let columns = self.columns();
         Iter {
@@ -53,7 +53,7 @@ impl<K: Eq + Hash, V, S: KeyHasher<K>, L: Limit> LimitedHashMap<K, V, S, L> {
         ensures left { column_left result ≡ keys_of self.now.pairs }
         ensures small { length self.now.pairs < 2 ^ 63 }
         ensures runs { ShowsColumnInOrder K V }
-        ensures valid { IsValid K.eq L.LIMIT self.now }
+        ensures valid { IsValid L.LIMIT K.eq self.now }
     {
         Column {
             items: self.columns().keys().iter(),
@@ -71,7 +71,7 @@ impl<K: Eq + Hash, V, S: KeyHasher<K>, L: Limit> LimitedHashMap<K, V, S, L> {
         ensures left { column_left result ≡ values_of self.now.pairs }
         ensures small { length self.now.pairs < 2 ^ 63 }
         ensures runs { ShowsColumnInOrder V K }
-        ensures valid { IsValid K.eq L.LIMIT self.now }
+        ensures valid { IsValid L.LIMIT K.eq self.now }
     {
         Column {
             items: self.columns().values().iter(),

@@ -20,7 +20,7 @@ impl<K: Eq + Hash, V, L: Limit> LimitedHashMap<K, V, DefaultHashBuilder, L> {
     /// ```
     pub fn new(alloc: Global) -> Self
         ensures made { IsNew IsDefaultBuilder result }
-        ensures valid { IsValid K.eq L.LIMIT result }
+        ensures valid { IsValid L.LIMIT K.eq result }
     {
         LimitedHashMap::with_hasher(alloc, BuildHasherDefault::new())
     }
@@ -40,7 +40,7 @@ impl<K: Eq + Hash, V, L: Limit> LimitedHashMap<K, V, DefaultHashBuilder, L> {
     pub fn with_capacity(alloc: Global, capacity: usize) -> Result<Self, Refusal>
         ensures makes { Makes IsDefaultBuilder (is_vec_for L.LIMIT capacity)
             capacity result }
-        ensures valid { IfOk result (IsValid K.eq L.LIMIT) }
+        ensures valid { IfOk result (IsValid L.LIMIT K.eq) }
     {
         LimitedHashMap::with_capacity_and_hasher(alloc, capacity, BuildHasherDefault::new())
     }
@@ -56,7 +56,7 @@ impl<K: Eq + Hash, V, L: Limit> LimitedHashMap<K, V, DefaultHashBuilder, L> {
     pub fn vec_with_capacity(alloc: Global, capacity: usize) -> Result<Self, Refusal>
         ensures makes { Makes IsDefaultBuilder true
             (min capacity L.LIMIT) result }
-        ensures valid { IfOk result (IsValid K.eq L.LIMIT) }
+        ensures valid { IfOk result (IsValid L.LIMIT K.eq) }
     {
         LimitedHashMap::with_capacity(alloc, capacity.min(L::LIMIT))
     }
@@ -71,7 +71,7 @@ impl<K: Eq + Hash, V, S: KeyHasher<K>, L: Limit> LimitedHashMap<K, V, S, L> {
     /// ```
     pub fn with_hasher(alloc: Global, builder: S) -> Self
         ensures made { IsNew (λ b. b ≡ builder) result }
-        ensures valid { IsValid K.eq L.LIMIT result }
+        ensures valid { IsValid L.LIMIT K.eq result }
     {
         LimitedHashMap {
             store: Store::new(alloc),
@@ -90,7 +90,7 @@ impl<K: Eq + Hash, V, S: KeyHasher<K>, L: Limit> LimitedHashMap<K, V, S, L> {
     where
         S: Default,
         ensures made { IsNew S.is_default result }
-        ensures valid { IsValid K.eq L.LIMIT result }
+        ensures valid { IsValid L.LIMIT K.eq result }
     {
         LimitedHashMap::with_hasher(alloc, S::default())
     }
@@ -111,7 +111,7 @@ impl<K: Eq + Hash, V, S: KeyHasher<K>, L: Limit> LimitedHashMap<K, V, S, L> {
     where
         S: Drop,
         ensures makes { Makes (λ b. b ≡ builder) (is_vec_for L.LIMIT capacity) capacity result }
-        ensures valid { IfOk result (IsValid K.eq L.LIMIT) }
+        ensures valid { IfOk result (IsValid L.LIMIT K.eq) }
     {
         Ok(LimitedHashMap {
             store: Store::with_capacity(alloc, capacity, L::LIMIT)?,

@@ -29,7 +29,7 @@ impl<K: Eq + Hash, V, S: KeyHasher<K>, L: Limit> LimitedHashMap<K, V, S, L> {
         ensures kept { RetainsPairs (CalledAtPair F.FnMut) f self.old.pairs self.new.pairs }
         ensures len { length self.new.pairs ≤ length self.old.pairs }
         ensures after { WithPairs self.old self.new.pairs self.new }
-        ensures valid { IsValid K.eq L.LIMIT self.new }
+        ensures valid { IsValid L.LIMIT K.eq self.new }
     {
         self.store.retain(f);
     }

@@ -7,7 +7,7 @@
 ghost use Rattle.std.specs.Prelude.{◌≡◌, false};
 ghost use Rattle.halfbrown.specs.Pairs.{holds};
 ghost use Rattle.halfbrown.specs.Entry.{occupied, raw_vacant};
-ghost use Rattle.halfbrown.specs.EntryView.{map_of, AddsEntry};
+ghost use Rattle.halfbrown.specs.EntryView.{map_of, PutsNewEntry};
 ghost use Rattle.halfbrown.specs.RawEntry.{work_after_adding, work_after_probe};
 
 use super::RawVacantEntryMut;
@@ -54,7 +54,7 @@ impl<'a, K: Eq + Hash, V, S: KeyHasher<K>, L: Limit> RawVacantEntryMut<'a, K, V,
     #[inline]
     pub fn insert_entry(self, key: K, value: V) -> OccupiedEntry<'a, K, V, S, L>
         requires { holds K.eq (map_of (raw_vacant self)).pairs key ≡ false }
-        ensures { AddsEntry L.LIMIT K.eq (raw_vacant self.entry) key value (occupied result) }
+        ensures { PutsNewEntry L.LIMIT K.eq (raw_vacant self.entry) key value (occupied result) }
     {
         uncounted!(self.insert_entry_counted(key, value))
     }
@@ -68,7 +68,7 @@ impl<'a, K: Eq + Hash, V, S: KeyHasher<K>, L: Limit> RawVacantEntryMut<'a, K, V,
         tally: &mut Tally,
     ) -> OccupiedEntry<'a, K, V, S, L>
         requires { holds K.eq (map_of (raw_vacant self)).pairs key ≡ false }
-        ensures adds { AddsEntry L.LIMIT K.eq (raw_vacant self.entry) key value (occupied result) }
+        ensures adds { PutsNewEntry L.LIMIT K.eq (raw_vacant self.entry) key value (occupied result) }
         ensures cost { tally.new
             ≡ work_after_adding S.hash (map_of (raw_vacant self.entry)) key tally.old }
     {
@@ -127,7 +127,7 @@ impl<'a, K: Eq + Hash, V, S: KeyHasher<K>, L: Limit> RawVacantEntryMut<'a, K, V,
     ) -> OccupiedEntry<'a, K, V, S, L>
         requires hash { hash ≡ S.hash (map_of (raw_vacant self)).builder key }
         requires absent { holds K.eq (map_of (raw_vacant self)).pairs key ≡ false }
-        ensures { AddsEntry L.LIMIT K.eq (raw_vacant self.entry) key value (occupied result) }
+        ensures { PutsNewEntry L.LIMIT K.eq (raw_vacant self.entry) key value (occupied result) }
     {
         uncounted!(self.insert_entry_hashed_nocheck_counted(hash, key, value))
     }
@@ -143,7 +143,7 @@ impl<'a, K: Eq + Hash, V, S: KeyHasher<K>, L: Limit> RawVacantEntryMut<'a, K, V,
     ) -> OccupiedEntry<'a, K, V, S, L>
         requires hash { hash ≡ S.hash (map_of (raw_vacant self)).builder key }
         requires absent { holds K.eq (map_of (raw_vacant self)).pairs key ≡ false }
-        ensures adds { AddsEntry L.LIMIT K.eq (raw_vacant self.entry) key value (occupied result) }
+        ensures adds { PutsNewEntry L.LIMIT K.eq (raw_vacant self.entry) key value (occupied result) }
         ensures cost { tally.new
             ≡ work_after_probe S.hash (map_of (raw_vacant self.entry)) hash tally.old }
     {
@@ -198,7 +198,7 @@ impl<'a, K: Eq + Hash, V, S: KeyHasher<K>, L: Limit> RawVacantEntryMut<'a, K, V,
         requires hash { (map_of (raw_vacant self)).is_vec ≡ false
             → hash ≡ S.hash (map_of (raw_vacant self)).builder key }
         requires absent { holds K.eq (map_of (raw_vacant self)).pairs key ≡ false }
-        ensures adds { AddsEntry L.LIMIT K.eq (raw_vacant self.entry) key value (occupied result) }
+        ensures adds { PutsNewEntry L.LIMIT K.eq (raw_vacant self.entry) key value (occupied result) }
         ensures cost { tally.new
             ≡ work_after_probe S.hash (map_of (raw_vacant self.entry)) hash tally.old }
     {

@@ -47,7 +47,7 @@ bytes-le key value true capacity most few = omega (arith, columns-le key value c
 bytes-le key value false capacity most few = omega (arith, columns-le key value capacity most few, words-le capacity most few)
 
 module _ {K V S : Type 0} (limit : ℕ) (eq : K → K → Bool) where
-  switch_due : (m : State K V S) → IsValid eq limit m → (needs : Option ℕ) → IsDue m needs
+  switch_due : (m : State K V S) → IsValid limit eq m → (needs : Option ℕ) → IsDue m needs
       → IsDue m (if is_full limit m then Some (limit + 1) else needs)
   switch_due m state needs due = by (is_full limit m) (λ e. e) where
     by : (full : Bool) → (full ≡ true → is_full limit m ≡ true) → IsDue m (if full then Some (limit + 1) else needs)
@@ -77,7 +77,7 @@ module _ {K V S : Type 0} (limit : ℕ) (eq : K → K → Bool) where
   shrunk_most old new shrunk =
       subst (IsModest old) (sym shrunk.capacity) (least_most old (is_vec_shrunk limit old.is_vec (length old.pairs)))
 
-  step_most : (s : Step K V S) → IsValid eq limit s.before → IsValidStep limit eq s → is_reserve s.command ≡ false
+  step_most : (s : Step K V S) → IsValid limit eq s.before → IsValidStep limit eq s → is_reserve s.command ≡ false
       → IsModest s.before s.after.capacity
   step_most s state step none = by (step_changes limit eq s step none) where
     by : Changes limit eq s.before s.command s.after → IsModest s.before s.after.capacity
@@ -86,7 +86,7 @@ module _ {K V S : Type 0} (limit : ℕ) (eq : K → K → Bool) where
     by (inr (inr has_shrink)) = shrunk_most s.before s.after has_shrink.1
 
   -- from a state that holds no more than `top`
-  steps_most : (old new : State K V S) (steps : List (Step K V S)) (top : ℕ) → StepsLead limit eq old steps new → IsValid eq limit old
+  steps_most : (old new : State K V S) (steps : List (Step K V S)) (top : ℕ) → StepsLead limit eq old steps new → IsValid limit eq old
       → has_reserve (commands_of steps) ≡ false → length old.pairs ≤ top
       → new.capacity ≤ max old.capacity (2 * fold (λ most s. max most (length s.after.pairs)) top steps + 8)
   steps_most old new [] top lead state none few = omega (arith, ap (λ m. m.capacity) lead)
@@ -97,7 +97,7 @@ module _ {K V S : Type 0} (limit : ℕ) (eq : K → K → Bool) where
         arith,
         ap (λ m. m.capacity) lead.0,
         ap (λ m. length m.pairs) lead.0,
-        step_most s (subst (IsValid eq limit) (sym lead.0) state) lead.1 parts.0,
+        step_most s (subst (IsValid limit eq) (sym lead.0) state) lead.1 parts.0,
         most_least (λ s. length s.after.pairs) steps next,
         steps_most s.after new steps next lead.3 lead.2 parts.1 (omega arith),
       )

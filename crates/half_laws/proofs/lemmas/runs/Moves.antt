@@ -64,7 +64,7 @@ module _ {K V S : Type 0} (limit : ℕ) (eq : K → K → Bool) where
   Pays old new = moved_from old new + credit new ≤ credit old + 2
 
   -- a step that adds one pair at most
-  module _ (old new : State K V S) (state : IsValid eq limit old) (few : length new.pairs ≤ length old.pairs + 1) where
+  module _ (old new : State K V S) (state : IsValid limit eq old) (few : length new.pairs ≤ length old.pairs + 1) where
     moves : moved_from old new ≤ length old.pairs
     moves = moved_by (new.capacity == old.capacity) (length old.pairs)
 
@@ -102,7 +102,7 @@ module _ {K V S : Type 0} (limit : ℕ) (eq : K → K → Bool) where
   put_few : (old new : State K V S) → PutsDue limit eq old new → length new.pairs ≤ length old.pairs + 1
   put_few old new put = grind (arith, common_steps, cond_most, len_put)
 
-  step_pays : (s : Step K V S) → IsValid eq limit s.before → IsValidStep limit eq s → is_shrink s.command ≡ false → is_reserve s.command ≡ false
+  step_pays : (s : Step K V S) → IsValid limit eq s.before → IsValidStep limit eq s → is_shrink s.command ≡ false → is_reserve s.command ≡ false
       → Pays s.before s.after
   step_pays s state step no_shrink no_reserve = by (step_changes limit eq s step no_reserve) where
     by : Changes limit eq s.before s.command s.after → Pays s.before s.after
@@ -110,7 +110,7 @@ module _ {K V S : Type 0} (limit : ℕ) (eq : K → K → Bool) where
     by (inr (inl keeps)) = stays_pays s.before s.after state (omega (arith, keeps.len)) keeps.form keeps.capacity
     by (inr (inr has_shrink)) = absurd (true≢false (sym has_shrink.0 ∙ no_shrink))
 
-  steps_pay : (old new : State K V S) (steps : List (Step K V S)) → StepsLead limit eq old steps new → IsValid eq limit old
+  steps_pay : (old new : State K V S) (steps : List (Step K V S)) → StepsLead limit eq old steps new → IsValid limit eq old
       → has_shrink (commands_of steps) ≡ false → has_reserve (commands_of steps) ≡ false → sum_by moved steps ≤ 2 * length steps + credit old
   steps_pay old new [] lead state no_shrink no_reserve = omega arith
   steps_pay old new (s ∷ steps) lead state no_shrink no_reserve =
@@ -120,7 +120,7 @@ module _ {K V S : Type 0} (limit : ℕ) (eq : K → K → Bool) where
         arith,
         sum_by-cons moved s steps,
         ap credit lead.0,
-        step_pays s (subst (IsValid eq limit) (sym lead.0) state) lead.1 shrink.0 reserve.0,
+        step_pays s (subst (IsValid limit eq) (sym lead.0) state) lead.1 shrink.0 reserve.0,
         steps_pay s.after new steps lead.3 lead.2 shrink.1 reserve.1,
       )
 

@@ -1,7 +1,7 @@
 -- Backward-shift deletion: what holds while the probe goes on, and that the order is whole again at its end.
 use Rattle.half_store.proofs.Common.{◌≡◌, ◌≤◌, length, ◌+◌, inr, ◌∙◌, arith, ℕ, ◌-◌, ◌<◌, inl, sym, ap, List, Some, slice_index, Option, None, subst, ◌≢◌, set}
 use Rattle.half_store.proofs.Common.{◌⊎◌, cases_eq, common_steps, length-set, same_Some, probe_distance, bucket_after, home, slots_from, slot_at, hash_of_word}
-use Rattle.half_store.proofs.Common.{EachOnce, HasVacantSlot, ProbeInvariant, IsIndexedButFor, IsEmptyBeside}
+use Rattle.half_store.proofs.Common.{EachOnce, HasVacantSlot, ProbeInvariant, IsIndexedWithGap, IsEmptyBeside}
 use Rattle.std.proofs.lemmas.List.{set-set}
 use Rattle.half_store.specs.Table.{HasGap}
 use Rattle.half_store.proofs.lemmas.table.Buckets.{length-slots_from, hash_of_word-at, slot_of_word, slot_of_zero, word_set, word_other, within-at}
@@ -45,7 +45,7 @@ pub record Ahead (m : ℕ) (hashes words : List ℕ) (start gap bucket vacant : 
   pub none : slot_at (around hashes words gap) vacant ≡ None
   pub near : probe_distance m start bucket ≤ probe_distance m start vacant
 
-module _ (m : ℕ) (hashes words : List ℕ) (start bucket : ℕ) (size : length words ≡ m) (x : IsIndexedButFor hashes (set words start 0) start)
+module _ (m : ℕ) (hashes words : List ℕ) (start bucket : ℕ) (size : length words ≡ m) (x : IsIndexedWithGap hashes (set words start 0) start)
     (e : bucket ≡ bucket_after m start 1) where
   long_start : length (around hashes words start) ≡ m
   long_start = length-slots_from hashes (set words start 0) ∙ length-set words start 0 ∙ size

@@ -4,7 +4,7 @@ use Rattle.half_store.proofs.Common.{None, subst, [], ◌∷◌, ◌≢◌, true
 use Rattle.half_store.proofs.Common.{length-replicate, get_or-replicate, get_or_append_left, get_or_push, count_by-le-length, get_or_from_slice_get}
 use Rattle.half_store.proofs.Common.{slice_get-get_or, slice_get_within, same_Some, swap_remove, capacity_of, IsBucketCount, buckets_of, reach, probe_distance, probe_reads}
 use Rattle.half_store.proofs.Common.{home, slots_from, slot_at, hash_of_word, EachOnce, HasVacantSlot, ProbeInvariant, stored, IsSlotVacancy, TableState}
-use Rattle.half_store.proofs.Common.{IsIndexedButFor, IsEmptyBeside, state_of_words, IsIndexed, AreWordsFor}
+use Rattle.half_store.proofs.Common.{IsIndexedWithGap, IsEmptyBeside, state_of_words, IsIndexed, AreWordsFor}
 use Rattle.std.proofs.lemmas.List.{length_push}
 use Rattle.half_store.specs.Reach.{HomesApart}
 use Rattle.half_store.specs.Table.{HasGap, IsTable}
@@ -214,7 +214,7 @@ module _ {hashes words : List ℕ} (x : IsIndexed hashes words) where
     some_vacant = index-vacant (let l = word-lt words bucket (omega arith) in omega arith)
 
     -- what the backward shift begins with
-    pub IsIndexed-remove : IsIndexedButFor hashes° words° bucket
+    pub IsIndexed-remove : IsIndexedWithGap hashes° words° bucket
     IsIndexed-remove =
         let same = length-remove each index bucket last_bucket at at_last in
         let full = full_from _ _ hash° in

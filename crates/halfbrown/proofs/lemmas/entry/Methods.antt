@@ -19,7 +19,7 @@ use Rattle.halfbrown.proofs.lemmas.pairs.Changes.{values_of-set_key_at, key-set_
 use Rattle.halfbrown.proofs.lemmas.pairs.Changes.{value-set_value_at, swap_remove_at-set_value_at, set_value_at-last, value-last, pair-last}
 use Rattle.halfbrown.proofs.lemmas.pairs.Changes.{length-swap_remove_at}
 use Rattle.half_store.specs.ValueReplacement.{kept_index, kept_pairs, ReplacesValue}
-use Rattle.halfbrown.specs.Replacement.{ReplacesEntry, HasNewValue, IsVacated}
+use Rattle.halfbrown.specs.Replacement.{ReplacesEntry, IsReplaced, IsVacated}
 use Rattle.halfbrown.specs.Ghosts.{EqGhosts, HashGhosts, HasherGhosts, LimitGhosts}
 
 module _ {K V S : Type 0} (same : K → K → Bool) (laws : IsEquivalence same) (m : MutBor (State K V S)) (distinct : IsDistinct same (keys_of m.now.pairs)) where
@@ -115,7 +115,7 @@ module _ {K V S L H : Type 0} {e : EqGhosts K} {h : HashGhosts K} {b : HasherGho
     value_is = value-set_value_at o.map.now.pairs o.index value o.within;
     key = ap (λ ks. slice_get ks o.index) (keys_of-set_value_at o.map.now.pairs o.index value);
     writes = λ v. ap (map_with_pairs o.map.now) (set_value_at-twice o.map.now.pairs o.index value v);
-    pairs_left = swap_remove_at-set_value_at o.map.now.pairs o.index value;
+    without = swap_remove_at-set_value_at o.map.now.pairs o.index value;
   }
 
   -- the pair has a value
@@ -149,7 +149,7 @@ module _ {K V S L H : Type 0} {e : EqGhosts K} {h : HashGhosts K} {b : HasherGho
         key = written.key;
         writes = written.writes;
         puts = λ key value. held_twice key left value;
-        pairs_left = written.pairs_left;
+        without = written.without;
       }
 
   -- the index is within where the map has the pairs with another key
@@ -221,14 +221,14 @@ module _ {K V S L H : Type 0} {e : EqGhosts K} {h : HashGhosts K} {b : HasherGho
     {returns : Bor K → V → Option V → Type 0} (o : OccupiedEntry K V S L H e h b l) where
   replaced_entry : {ps : List (K × V)} {gone : Option K} (r : ReplacesValue returns o.map.now.is_vec o.map.now.pairs o.index ps gone)
       (result : EntryView K V S) (answer : Option V) → r.answer ≡ answer
-      → MatchOption answer (IsVacated (occupied o) r.key result) (λ v. HasNewValue (occupied o) r.key v result) → ReplacesEntry returns (occupied o) result
+      → MatchOption answer (IsVacated (occupied o) r.key result) (λ v. IsReplaced (occupied o) r.key v result) → ReplacesEntry returns (occupied o) result
   replaced_entry r result answer is after = record {
     key = r.key;
     value = r.value;
     answer = r.answer;
     pair = r.pair;
     answered = r.answered;
-    after = subst (λ a. MatchOption a (IsVacated (occupied o) r.key result) (λ v. HasNewValue (occupied o) r.key v result)) (sym is) after;
+    after = subst (λ a. MatchOption a (IsVacated (occupied o) r.key result) (λ v. IsReplaced (occupied o) r.key v result)) (sym is) after;
   }
 
   -- the pair is gone
@@ -248,7 +248,7 @@ module _ {K V S L H : Type 0} {e : EqGhosts K} {h : HashGhosts K} {b : HasherGho
           capacity = after.capacity;
           builder = after.builder;
         };
-        pairs_left = lost.1;
+        without = lost.1;
       })
 
   -- the pair has another value
@@ -265,5 +265,5 @@ module _ {K V S L H : Type 0} {e : EqGhosts K} {h : HashGhosts K} {b : HasherGho
         value_is = there.value;
         map = record { pairs = kept.2; form = after.form; capacity = after.capacity; builder = after.builder };
         writes = λ u. record { pairs = there.writes u; form = after.form; capacity = after.capacity; builder = after.builder };
-        pairs_left = there.left;
+        without = there.left;
       })

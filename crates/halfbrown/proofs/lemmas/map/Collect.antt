@@ -68,8 +68,8 @@ module _ {K V S : Type 0} (limit : ℕ) (eq : K → K → Bool) where
   inserts_builder old new (p ∷ items) inserts = inserts_builder inserts.0 new items inserts.3 ∙ inserts.1.builder
 
   pub inserts_state : (old new : State K V S) (items : List (K × V)) → InsertsAll limit eq old items new
-      → IsValid eq limit old → IsValid eq limit new
-  inserts_state old new [] inserts state = subst (IsValid eq limit) (sym inserts) state
+      → IsValid limit eq old → IsValid limit eq new
+  inserts_state old new [] inserts state = subst (IsValid limit eq) (sym inserts) state
   inserts_state old new (p ∷ items) inserts state = inserts_state inserts.0 new items inserts.3 inserts.2
 
   abbrev pub extends_of : IsEquivalence eq → (old new : State K V S) (items : List (K × V))
@@ -89,7 +89,7 @@ module _ {K V S : Type 0} (limit : ℕ) (eq : K → K → Bool) where
   module _ (hash : S → K → ℕ) where
     -- one item more
     inserts_more : (old middle new : State K V S) (items : List (K × V)) (k : K) (v : V) (inserts : InsertsAll limit eq old items middle)
-        → Puts limit eq middle k v (insert_needs limit eq middle k) new → IsValid eq limit new
+        → Puts limit eq middle k v (insert_needs limit eq middle k) new → IsValid limit eq new
         → (more : InsertsAll limit eq old (items ++ (k, v) ∷ []) new) × (insertions_cost limit eq hash old (items ++ (k, v) ∷ []) new more
         ≡ add_costs (insertions_cost limit eq hash old items middle inserts) (insert_cost limit eq hash middle k true))
     inserts_more old middle new [] k v same puts state =
@@ -112,7 +112,7 @@ module _ {K V S : Type 0} (limit : ℕ) (eq : K → K → Bool) where
 
     pub item_more : (old now new : State K V S) (items : List (K × V)) (k : K) (v : V) (before middle after : Work)
         → InsertsSoFar old items now before middle
-        → Puts limit eq now k v (insert_needs limit eq now k) new → IsValid eq limit new
+        → Puts limit eq now k v (insert_needs limit eq now k) new → IsValid limit eq new
         → GrewBy (insert_cost limit eq hash now k true) middle after
         → InsertsSoFar old (items ++ (k, v) ∷ []) new before after
     item_more old now new items k v before middle after so_far puts state grew =

@@ -12,10 +12,10 @@ module _ {K V S : Type 0} (limit : ℕ) (eq : K → K → Bool) (laws : IsEquiva
   -- a granted insertion, by the index of the pair and the value that the key had in the map that was prepared
   pub inserted_at : Prepares limit old (insert_needs limit eq old k) middle → (index : ℕ) (before : Option V)
       → before ≡ value_of eq middle.pairs k → index_of (eq k) (keys_of ps) ≡ Some index
-      → IsValid eq limit new → InsertsAt limit eq old k v (Ok (index, before)) new
+      → IsValid limit eq new → InsertsAt limit eq old k v (Ok (index, before)) new
   inserted_at prepared index before was at now = grind (arith, common_steps, has_put eq laws old.pairs k v)
 
   -- a granted insertion without a search
-  pub inserted_unchecked : Prepares limit old (new_key_needs limit old) middle → IsValid eq limit new
+  pub inserted_unchecked : Prepares limit old (new_key_needs limit old) middle → IsValid limit eq new
       → InsertsNewKey limit eq old k v (Ok tt) new
   inserted_unchecked prepared now = grind (arith, common_steps, has_put eq laws old.pairs k v)

@@ -32,8 +32,8 @@ module _ {K V : Type 0} where
   values_of-set_values (p ∷ ps) (v ∷ vs) even = ap (λ l. v ∷ l) (values_of-set_values ps vs (omega arith))
 
   -- the fields keep what they keep, whatever values are written
-  pub kept_written : (eq : K → K → Bool) (hash : K → ℕ) (limit : ℕ) (s : StoreState K V) → IsMapInvariant eq hash limit s → (vs : List V)
-      → IsMapInvariant eq hash limit (store_with_pairs s (set_values s.pairs vs))
+  pub kept_written : (eq : K → K → Bool) (hash : K → ℕ) (limit : ℕ) (s : StoreState K V) → IsMapInvariant limit eq hash s → (vs : List V)
+      → IsMapInvariant limit eq hash (store_with_pairs s (set_values s.pairs vs))
   kept_written eq hash limit s kept vs =
       kept_keys eq hash limit s (set_values s.pairs vs) kept (keys_of-set_values s.pairs vs) (length-set_values s.pairs vs)
 
@@ -50,7 +50,7 @@ module _ {K V S : Type 0} (eq : K → K → Bool) (hash : K → ℕ) (limit : �
       → state_in (store_with_pairs s (set_values s.pairs vs)) builder ≡ map_with_pairs map (set_values map.pairs vs)
   comes_back vs = ap (λ m. map_with_pairs m (set_values m.pairs vs)) is
 
-  pub lent_values : IsMapInvariant eq hash limit s → length s.pairs < 2 ^ 63 → LentValues
+  pub lent_values : IsMapInvariant limit eq hash s → length s.pairs < 2 ^ 63 → LentValues
   lent_values kept small = record {
     back = comes_back;
     pairs = ap (λ m. m.pairs) is;
@@ -59,7 +59,7 @@ module _ {K V S : Type 0} (eq : K → K → Bool) (hash : K → ℕ) (limit : �
       len = length-set_values map.pairs;
       keys = keys_of-set_values map.pairs;
       values = values_of-set_values map.pairs;
-      valid = λ vs. subst (IsValid eq limit) (comes_back vs)
+      valid = λ vs. subst (IsValid limit eq) (comes_back vs)
           (state_of eq hash limit (store_with_pairs s (set_values s.pairs vs)) builder (kept_written eq hash limit s kept vs));
     };
   }

@@ -25,61 +25,61 @@ module _ {K V : Type 0} where
 
   module _ (eq : K → K → Bool) (hash : K → ℕ) (limit : ℕ) where
     -- other pairs in the same form, with their hashes
-    pub kept_as : (old new : StoreState K V) → IsMapInvariant eq hash limit old → SameFormAndCapacity old new → IsDistinct eq (keys_of new.pairs)
+    pub kept_as : (old new : StoreState K V) → IsMapInvariant limit eq hash old → SameFormAndCapacity old new → IsDistinct eq (keys_of new.pairs)
         → length new.pairs ≤ old.capacity → (old.is_vec ≡ false → new.hashes ≡ map hash (keys_of new.pairs))
-        → IsMapInvariant eq hash limit new
+        → IsMapInvariant limit eq hash new
     kept_as old new kept keeps distinct fits hashed = grind (arith, common_steps)
 
     -- the same keys
-    pub kept_keys : (s : StoreState K V) (ps : List (K × V)) → IsMapInvariant eq hash limit s → keys_of ps ≡ keys_of s.pairs
-        → length ps ≡ length s.pairs → IsMapInvariant eq hash limit (store_with_pairs s ps)
+    pub kept_keys : (s : StoreState K V) (ps : List (K × V)) → IsMapInvariant limit eq hash s → keys_of ps ≡ keys_of s.pairs
+        → length ps ≡ length s.pairs → IsMapInvariant limit eq hash (store_with_pairs s ps)
     kept_keys s ps kept keys len = grind (arith, common_steps)
 
     -- a pair has another value
-    pub kept_value : (s : StoreState K V) (i : ℕ) (v : V) → IsMapInvariant eq hash limit s
-        → IsMapInvariant eq hash limit (store_with_pairs s (set_value_at s.pairs i v))
+    pub kept_value : (s : StoreState K V) (i : ℕ) (v : V) → IsMapInvariant limit eq hash s
+        → IsMapInvariant limit eq hash (store_with_pairs s (set_value_at s.pairs i v))
     kept_value s i v kept =
         kept_keys s (set_value_at s.pairs i v) kept (keys_of-set_value_at s.pairs i v) (length-set_value_at s.pairs i v)
 
     -- one more pair, whose key is not held
-    pub kept_pushed : IsEquivalence eq → (s : StoreState K V) (k : K) (v : V) (vacancy : Vacancy) → IsMapInvariant eq hash limit s
+    pub kept_pushed : IsEquivalence eq → (s : StoreState K V) (k : K) (v : V) (vacancy : Vacancy) → IsMapInvariant limit eq hash s
         → IsAbsent (eq k) s.pairs → length s.pairs < s.capacity
-        → (s.is_vec ≡ false → vacancy.hash ≡ hash k) → IsMapInvariant eq hash limit (store_pushed s k v vacancy)
+        → (s.is_vec ≡ false → vacancy.hash ≡ hash k) → IsMapInvariant limit eq hash (store_pushed s k v vacancy)
     kept_pushed laws s k v vacancy kept absent room own = grind (arith, common_steps, IsDistinct-push, any_of_none, kept_as, length-append, map, map-append, none_of_index)
 
     -- a pair has another key, equal to its own and of the same hash
-    pub kept_key : IsEquivalence eq → (s : StoreState K V) (i : ℕ) (old new : K) → IsMapInvariant eq hash limit s
+    pub kept_key : IsEquivalence eq → (s : StoreState K V) (i : ℕ) (old new : K) → IsMapInvariant limit eq hash s
         → slice_get (keys_of s.pairs) i ≡ Some old → eq old new ≡ true → hash old ≡ hash new
-        → IsMapInvariant eq hash limit (store_with_pairs s (set_key_at s.pairs i new))
+        → IsMapInvariant limit eq hash (store_with_pairs s (set_key_at s.pairs i new))
     kept_key laws s i old new kept at same alike = grind (arith, common_steps, IsDistinct-set, kept_as, keys_of-set_key_at, length-set_key_at, map, map-set_alike)
 
     -- a pair is gone, the last one at its index
-    pub kept_taken : IsEquivalence eq → (old new : StoreState K V) (i : ℕ) → IsMapInvariant eq hash limit old → SameFormAndCapacity old new
+    pub kept_taken : IsEquivalence eq → (old new : StoreState K V) (i : ℕ) → IsMapInvariant limit eq hash old → SameFormAndCapacity old new
         → i < length old.pairs
         → new.pairs ≡ swap_remove_at old.pairs i → (old.is_vec ≡ false → new.hashes ≡ swap_remove_at old.hashes i)
-        → IsMapInvariant eq hash limit new
+        → IsMapInvariant limit eq hash new
     kept_taken laws old new i kept keeps within pairs hashes = grind (arith, common_steps, IsDistinct-swap_remove_at, kept_as, length-keys_of, length-swap_remove_at, map, map-swap_remove_at)
 
     -- no pairs
-    pub kept_none : (old new : StoreState K V) → IsMapInvariant eq hash limit old → SameFormAndCapacity old new → new.pairs ≡ [] → new.hashes ≡ []
-        → IsMapInvariant eq hash limit new
+    pub kept_none : (old new : StoreState K V) → IsMapInvariant limit eq hash old → SameFormAndCapacity old new → new.pairs ≡ [] → new.hashes ≡ []
+        → IsMapInvariant limit eq hash new
     unfolding IsDistinct
     kept_none old new kept keeps none no_hashes = grind (arith, common_steps)
 
     -- a new store
     pub kept_made : (s : StoreState K V) → s.pairs ≡ [] → s.hashes ≡ [] → (s.is_vec ≡ true → s.capacity ≤ limit)
         → (s.is_vec ≡ false → IsTableCapacity s.capacity)
-        → (s.is_vec ≡ false → limit < s.capacity) → IsMapInvariant eq hash limit s
+        → (s.is_vec ≡ false → limit < s.capacity) → IsMapInvariant limit eq hash s
     unfolding IsDistinct
     kept_made s none no_hashes within series exceeds = grind (arith, common_steps)
 
     -- a vector without memory
-    pub kept_empty : (s : StoreState K V) → s ≡ vector_of no_pairs → IsMapInvariant eq hash limit s
+    pub kept_empty : (s : StoreState K V) → s ≡ vector_of no_pairs → IsMapInvariant limit eq hash s
     unfolding IsDistinct
     kept_empty s is = grind (arith, common_steps)
 
     -- what the fields keep is what holds of the state
-    pub state_of : {S : Type 0} (s : StoreState K V) (builder : S) → IsMapInvariant eq hash limit s → IsValid eq limit (state_in s builder)
+    pub state_of : {S : Type 0} (s : StoreState K V) (builder : S) → IsMapInvariant limit eq hash s → IsValid limit eq (state_in s builder)
     state_of s builder kept = grind (arith, common_steps)
 
 module _ {F K V : Type 0} (T : F → K → V → Bool → V → F → Type 0) where
@@ -137,11 +137,11 @@ module _ {K : Type 0} (eq : K → K → Bool) (laws : IsEquivalence eq) where
   IsDistinct-zip (k ∷ ks) (l ∷ ls) zip distinct = (all_apart k l ks ls zip.0 zip.1 distinct.0, IsDistinct-zip ks ls zip.1 distinct.1)
 
   -- the fields of a clone
-  pub kept_cloned : {V : Type 0} (hash also_hash : K → ℕ) (limit : ℕ) (old new : StoreState K V) → IsMapInvariant eq hash limit old
+  pub kept_cloned : {V : Type 0} (hash also_hash : K → ℕ) (limit : ℕ) (old new : StoreState K V) → IsMapInvariant limit eq hash old
       → new.is_vec ≡ old.is_vec → length new.pairs ≡ length old.pairs
       → AllZip (λ x y. eq x y ≡ true) (keys_of old.pairs) (keys_of new.pairs)
       → (old.is_vec ≡ false → map also_hash (keys_of new.pairs) ≡ map hash (keys_of old.pairs))
-      → new.capacity ≡ cond old.is_vec (length old.pairs) old.capacity → new.hashes ≡ old.hashes → IsMapInvariant eq also_hash limit new
+      → new.capacity ≡ cond old.is_vec (length old.pairs) old.capacity → new.hashes ≡ old.hashes → IsMapInvariant limit eq also_hash new
   kept_cloned hash also_hash limit old new kept form len alike hashed capacity hashes =
       let distinct = IsDistinct-zip (keys_of old.pairs) (keys_of new.pairs) alike kept.distinct in
       grind (arith, common_steps)
@@ -163,7 +163,7 @@ module _ {K V : Type 0} where
       grind (arith, common_steps, own_index eq laws ps distinct i k v at, has_removed eq laws ps distinct k)
 
 module _ {K V : Type 0} (eq : K → K → Bool) (laws : IsEquivalence eq) (hash : K → ℕ) (limit : ℕ)
-    (old new : StoreState K V) (index : ℕ) (kept : IsMapInvariant eq hash limit old)
+    (old new : StoreState K V) (index : ℕ) (kept : IsMapInvariant limit eq hash old)
     (keeps : SameFormAndCapacity old new) where
   -- a pair that goes last
   moved_distinct : old.is_vec ≡ true → index < length old.pairs → (k : K) (v w : V) → slice_get old.pairs index ≡ Some (k, v)
@@ -178,7 +178,7 @@ module _ {K V : Type 0} (eq : K → K → Bool) (laws : IsEquivalence eq) (hash 
       (λ table. refl)).distinct
 
   kept_moved : (is_vec : Bool) → old.is_vec ≡ is_vec → index < length old.pairs → (k : K) (v w : V) → slice_get old.pairs index ≡ Some (k, v)
-      → new.pairs ≡ kept_pairs is_vec old.pairs index k w → new.hashes ≡ old.hashes → IsMapInvariant eq hash limit new
+      → new.pairs ≡ kept_pairs is_vec old.pairs index k w → new.hashes ≡ old.hashes → IsMapInvariant limit eq hash new
   kept_moved true vector within k v w at is stays =
       let shorter = length-swap_remove_at old.pairs index (omega (arith, within)) in
       kept_as eq hash limit old new kept keeps (subst (λ ps. IsDistinct eq (keys_of ps)) (sym is) (moved_distinct vector within k v w at))
@@ -190,7 +190,7 @@ module _ {K V : Type 0} (eq : K → K → Bool) (laws : IsEquivalence eq) (hash 
   pub kept_replaced : {returns : Bor K → V → Option V → Type 0} → index < length old.pairs → (result : Result ℕ (K × ℕ))
       → ReplacesValue returns old.is_vec old.pairs index new.pairs (option_map (λ removed. removed.0) (result_err result))
       → IfErr result (λ _. old.is_vec ≡ false → new.hashes ≡ swap_remove_at old.hashes index) → OnOk result (new.hashes ≡ old.hashes)
-      → IsMapInvariant eq hash limit new
+      → IsMapInvariant limit eq hash new
   kept_replaced within (Ok at) r lost stays =
       let kept = value_kept r in kept_moved old.is_vec refl within r.key r.value kept.0 r.pair kept.2 stays
   kept_replaced within (Err removed) r lost stays = kept_taken eq hash limit laws old new index kept keeps within (lost_pair r).1 lost

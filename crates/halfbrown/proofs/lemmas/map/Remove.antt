@@ -19,8 +19,8 @@ use Rattle.halfbrown.proofs.lemmas.pairs.Changes.{map-remove, IsDistinct-remove,
 
 module _ {K V S : Type 0} (limit : ℕ) (eq : K → K → Bool) (test : K → Bool) (old new : State K V S) where
   -- the pairs without the one whose key passes
-  pub removed_as : {R : Type 0} → IsEquivalence eq → ((k other : K) → test k ≡ true → test other ≡ eq k other) → IsValid eq limit old
-      → IsValid eq limit new
+  pub removed_as : {R : Type 0} → IsEquivalence eq → ((k other : K) → test k ≡ true → test other ≡ eq k other) → IsValid limit eq old
+      → IsValid limit eq new
       → WithPairs old (take_out_by test old.pairs) new → (held result : Option R) → result ≡ held → IfNone result (new ≡ old)
       → Removes limit eq test old held result new
   removed_as laws one_class before now after held result gives unchanged = grind (arith, common_steps, has_removed_by)
@@ -34,20 +34,20 @@ module _ {K V S : Type 0} (limit : ℕ) (eq : K → K → Bool) (test : K → Bo
 
 -- a store without the pair that a search of it found
 module _ {K V S : Type 0} (limit : ℕ) (eq : K → K → Bool) (laws : IsEquivalence eq) (hash : K → ℕ) (builder : S) (old new : StoreState K V)
-    (kept : IsMapInvariant eq hash limit old) where
+    (kept : IsMapInvariant limit eq hash old) where
   -- keeps what the fields of a map keep
-  pub kept_found : (search : Result ℕ Vacancy) (result : Option (K × V)) → RemovesFound old new search result → IsMapInvariant eq hash limit new
+  pub kept_found : (search : Result ℕ Vacancy) (result : Option (K × V)) → RemovesFound old new search result → IsMapInvariant limit eq hash new
   kept_found (Ok index) (Some pair) taken =
       kept_taken eq hash limit laws old new index kept taken.form (slice_get_within old.pairs index pair taken.removed) taken.pairs
       taken.hashes
   kept_found (Ok index) None taken = absurd taken
   kept_found (Err vacancy) (Some pair) taken = absurd taken
-  kept_found (Err vacancy) None same = subst (IsMapInvariant eq hash limit) (sym same) kept
+  kept_found (Err vacancy) None same = subst (IsMapInvariant limit eq hash) (sym same) kept
 
   abbrev was : State K V S
   was = state_in old builder
 
-  was_state : IsValid eq limit was
+  was_state : IsValid limit eq was
   was_state = state_of eq hash limit old builder kept
 
   -- is the map without the pair of the key that was searched for
@@ -70,7 +70,7 @@ module _ {K V S : Type 0} (limit : ℕ) (eq : K → K → Bool) (laws : IsEquiva
 
 module _ {K V S : Type 0} (limit : ℕ) (eq : K → K → Bool) (old : State K V S) (index : ℕ) where
   -- the pair at an index is taken out
-  pub removed_at : IsEquivalence eq → (pair : K × V) (new : State K V S) → IsValid eq limit old → IsValid eq limit new
+  pub removed_at : IsEquivalence eq → (pair : K × V) (new : State K V S) → IsValid limit eq old → IsValid limit eq new
       → slice_get old.pairs index ≡ Some pair
       → WithPairs old (swap_remove_at old.pairs index) new → RemovesAt limit eq old index (Some pair) new
   removed_at laws pair new before now at after =
@@ -85,7 +85,7 @@ module _ {K V S : Type 0} (limit : ℕ) (eq : K → K → Bool) (old : State K V
       }
 
   -- there is none
-  pub none_removed_at : IsValid eq limit old → length old.pairs ≤ index → RemovesAt limit eq old index None old
+  pub none_removed_at : IsValid limit eq old → length old.pairs ≤ index → RemovesAt limit eq old index None old
   none_removed_at before past =
       record { gives = sym (slice_get_past old.pairs index past); after = tt; removed = tt; unchanged = refl; valid = before }
 
@@ -98,10 +98,10 @@ module _ {K V S : Type 0} (limit : ℕ) (eq : K → K → Bool) (old new : State
 
 module _ {K V S : Type 0} (limit : ℕ) (eq : K → K → Bool) (laws : IsEquivalence eq) where
   -- a store without the pair at an index
-  module _ (hash : K → ℕ) (builder : S) (old new : StoreState K V) (kept : IsMapInvariant eq hash limit old) (index : ℕ) (pair : K × V)
+  module _ (hash : K → ℕ) (builder : S) (old new : StoreState K V) (kept : IsMapInvariant limit eq hash old) (index : ℕ) (pair : K × V)
       (told : StoreShiftRemoves old new index pair) where
     -- keeps what the fields of a map keep
-    pub kept_shifted : IsMapInvariant eq hash limit new
+    pub kept_shifted : IsMapInvariant limit eq hash new
     kept_shifted = grind (arith, common_steps, IsDistinct-remove, kept_as, length-keys_of, length-remove, map, map-remove, slice_get_within)
 
     -- and is the map without it
@@ -118,7 +118,7 @@ module _ {K V S : Type 0} (limit : ℕ) (eq : K → K → Bool) (laws : IsEquiva
           valid = state_of eq hash limit new builder kept_shifted;
         }
 
-  module _ (old : State K V S) (before : IsValid eq limit old) where
+  module _ (old : State K V S) (before : IsValid limit eq old) where
     -- there is none
     pub none_in_order : (index : ℕ) → length old.pairs ≤ index → ShiftRemovesAt limit eq old index None old
     none_in_order index past =

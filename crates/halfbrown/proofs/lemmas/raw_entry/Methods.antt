@@ -10,7 +10,7 @@ use Rattle.halfbrown.specs.declared.raw_entry.RawEntryMut.{RawEntryMut}
 use Rattle.halfbrown.specs.declared.raw_entry.RawEntryMut.TheVariants.{Occupied, Vacant}
 use Rattle.halfbrown.specs.Entry.{raw_view}
 use Rattle.halfbrown.specs.EntryView.{EntryView, entry_key, entry_pair, map_of, with_value}
-use Rattle.halfbrown.specs.EntryView.{FindsRawEntry, FindsRawEntryByMatch, PutsEntry, AddsEntry}
+use Rattle.halfbrown.specs.EntryView.{FindsRawEntry, FindsRawEntryByMatch, PutsEntry, PutsNewEntry}
 use Rattle.halfbrown.proofs.lemmas.pairs.Changes.{key_of-pair, value_of-pair, set_value_at-last, value-last, key-last}
 use Rattle.halfbrown.proofs.lemmas.entry.Methods.{swap_remove_at-last, held_with_pairs, found_raw, missing_raw}
 use Rattle.halfbrown.specs.Lookup.{IsMatch, ReadsMatch}
@@ -69,19 +69,19 @@ module _ {K V S L H : Type 0} {e : EqGhosts K} {h : HashGhosts K} {b : HasherGho
 
     -- a pair that is found and written is the one that is put
     pub written_puts : (key : K) (value : V) (written : EntryView K V S) → IsWritten (occupied o) value written
-        → IsValid same limit (map_of written) → PutsEntry limit same (occupied o) key value written
+        → IsValid limit same (map_of written) → PutsEntry limit same (occupied o) key value written
     written_puts key value written is valid = record {
       same_map = is.same_map;
       map = subst (WithPairs o.map.now (set_value_at o.map.now.pairs o.index value)) (sym is.map) (held_with_pairs o key value);
       key_is = is.key ∙ key_there key;
       value_is = is.value_is;
       writes = λ v. subst (WithPairs o.map.now (set_value_at o.map.now.pairs o.index v)) (sym (is.writes v)) (held_with_pairs o key v);
-      pairs_left = is.pairs_left;
+      without = is.without;
       valid = valid;
     }
 
     -- a pair that is found and left is put with its own value
-    pub held_puts : (key : K) (value : V) → IsValid same limit o.map.now
+    pub held_puts : (key : K) (value : V) → IsValid limit same o.map.now
         → PutsEntry limit same (occupied o) key (unwrap_or (entry_value (occupied o)) value) (occupied o)
     held_puts key value valid = record {
       same_map = refl;
@@ -89,19 +89,19 @@ module _ {K V S L H : Type 0} {e : EqGhosts K} {h : HashGhosts K} {b : HasherGho
       key_is = key_there key;
       value_is = some_at (values_of o.map.now.pairs) o.index value (omega (arith, length-values_of o.map.now.pairs, o.within));
       writes = held_with_pairs o key;
-      pairs_left = refl;
+      without = refl;
       valid = valid;
     }
 
     -- and with its own key
-    pub held_puts_pair : IsValid same limit o.map.now
+    pub held_puts_pair : IsValid limit same o.map.now
         → IfSome (entry_pair (occupied o)) (λ pair. PutsEntry limit same (occupied o) pair.0 pair.1 (occupied o))
     held_puts_pair valid = pair_there _ o.map.now.pairs o.index (λ pair held.
         subst (λ value. PutsEntry limit same (occupied o) pair.0 value (occupied o)) held (held_puts pair.0 pair.1 valid))
 
 module _ {K V S : Type 0} (limit : ℕ) (same : K → K → Bool) (prepared map : MutBor (State K V S)) (key : K) (value : V) (index : ℕ)
     (same_map : map.ghost_name ≡ prepared.ghost_name) (last : index ≡ length prepared.now.pairs)
-    (after : WithPairs prepared.now (prepared.now.pairs ++ (key, value) ∷ []) map.now) (valid : IsValid same limit map.now) where
+    (after : WithPairs prepared.now (prepared.now.pairs ++ (key, value) ∷ []) map.now) (valid : IsValid limit same map.now) where
   -- the pair that is appended is the one that is put
   added_puts : PutsEntry limit same (record { map = prepared; index = None; vacant = None }) key value (record { map = map; index = Some index; vacant = None })
   unfolding with_value
@@ -118,13 +118,13 @@ module _ {K V S : Type 0} (limit : ℕ) (same : K → K → Bool) (prepared map 
           capacity = after.capacity;
           builder = after.builder;
         };
-        pairs_left = (λ i. swap_remove_at (after.pairs i) (last i)) ∙ swap_remove_at-last ps (key, value);
+        without = (λ i. swap_remove_at (after.pairs i) (last i)) ∙ swap_remove_at-last ps (key, value);
         valid = valid;
       }
 
   -- where the key was not held its pair is put
   pub adds_pair : IsEquivalence same → holds same prepared.now.pairs key ≡ false
-      → AddsEntry limit same (record { map = prepared; index = None; vacant = None }) key value (record { map = map; index = Some index; vacant = None })
+      → PutsNewEntry limit same (record { map = prepared; index = None; vacant = None }) key value (record { map = map; index = Some index; vacant = None })
   adds_pair laws unheld =
       let absent = absent_of_unheld (same key) prepared.now.pairs unheld in
       record {
@@ -142,7 +142,7 @@ pub found_or : {K V S L H : Type 0} {e : EqGhosts K} {h : HashGhosts K} {b : Has
 found_or (Occupied o) key value = pair_or o.map.now.pairs o.index key value
 found_or (Vacant v) key value = refl
 
-module _ {K V S : Type 0} (limit : ℕ) (same : K → K → Bool) (laws : IsEquivalence same) (m : MutBor (State K V S)) (valid : IsValid same limit m.now) where
+module _ {K V S : Type 0} (limit : ℕ) (same : K → K → Bool) (laws : IsEquivalence same) (m : MutBor (State K V S)) (valid : IsValid limit same m.now) where
   -- the raw entry of the key which passes the test
   module _ (test : K → Bool) (one_class : (k other : K) → test k ≡ true → test other ≡ same k other) where
     pub finds_held : (index : ℕ) → IsIndexOf test m.now.pairs index → FindsRawEntry limit same test m (record { map = m; index = Some index; vacant = None })

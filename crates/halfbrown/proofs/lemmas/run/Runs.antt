@@ -38,7 +38,7 @@ module _ {K V S : Type 0} (limit : ℕ) (eq : K → K → Bool) where
       no_step = record { steps = []; lead = refl; commands_are = refl; replies_are = refl; spent = spent_none before }
 
       pub step_more : (s : Step K V S) (left : List (Command K V)) (replies : List (Reply K V)) (middle after : Work)
-          → RunSoFar s.before (s.command ∷ left) replies middle → IsValidStep limit eq s → IsValid eq limit s.after
+          → RunSoFar s.before (s.command ∷ left) replies middle → IsValidStep limit eq s → IsValid limit eq s.after
           → GrewBy (step_cost limit eq hash s) middle after → RunSoFar s.after left (replies ++ s.reply ∷ []) after
       step_more s left replies middle after so_far step state spent =
           let steps = so_far.steps in

@@ -41,38 +41,38 @@ fields K S L T = via (pair (store.the_former this K) (const S)) (λ X. Inside K 
     (λ X v. record { store = v.0; builder = v.1; limit = record {} }) (λ X u. refl) (λ X v. refl)
 
 module _ {K X : Type 0} (same : K → K → Bool) (hashed : K → ℕ) (limit : ℕ) (s : StoreState K X) where
-  Kept-prop : IsProp (IsMapInvariant same hashed limit s)
+  Kept-prop : IsProp (IsMapInvariant limit same hashed s)
   Kept-prop p q = λ i. record {
     distinct = IsDistinct-prop same (keys_of s.pairs) p.distinct q.distinct i;
     fits = le_prop p.fits q.fits i;
-    within = λ e. le_prop (p.within e) (q.within e) i;
+    vector_capacity = λ e. le_prop (p.vector_capacity e) (q.vector_capacity e) i;
     hashed = λ e. Coded-set (coded_list coded_ℕ) _ _ (p.hashed e) (q.hashed e) i;
-    series = λ e. ℕ_set _ _ (p.series e) (q.series e) i;
-    exceeds = λ e. le_prop (p.exceeds e) (q.exceeds e) i;
+    table_capacity = λ e. ℕ_set _ _ (p.table_capacity e) (q.table_capacity e) i;
+    table_exceeds = λ e. le_prop (p.table_exceeds e) (q.table_exceeds e) i;
   }
 
   module _ {Y : Type 0} (h : X → Y) where
     abbrev KeptMapped : Type 0
-    KeptMapped = IsMapInvariant same hashed limit ((store.the_former this K).map X Y h s)
+    KeptMapped = IsMapInvariant limit same hashed ((store.the_former this K).map X Y h s)
 
-    goes : IsMapInvariant same hashed limit s → KeptMapped
+    goes : IsMapInvariant limit same hashed s → KeptMapped
     goes p = record {
       distinct = subst (IsDistinct same) (sym (keys_on_values h s.pairs)) p.distinct;
       fits = subst (λ n. n ≤ s.capacity) (sym (length-map s.pairs (on_value h))) p.fits;
       hashed = λ e. p.hashed e ∙ ap (map hashed) (sym (keys_on_values h s.pairs));
-      within = p.within;
-      series = p.series;
-      exceeds = p.exceeds;
+      vector_capacity = p.vector_capacity;
+      table_capacity = p.table_capacity;
+      table_exceeds = p.table_exceeds;
     }
 
-    comes : KeptMapped → IsMapInvariant same hashed limit s
+    comes : KeptMapped → IsMapInvariant limit same hashed s
     comes p = record {
       distinct = subst (IsDistinct same) (keys_on_values h s.pairs) p.distinct;
       fits = subst (λ n. n ≤ s.capacity) (length-map s.pairs (on_value h)) p.fits;
       hashed = λ e. p.hashed e ∙ ap (map hashed) (keys_on_values h s.pairs);
-      within = p.within;
-      series = p.series;
-      exceeds = p.exceeds;
+      vector_capacity = p.vector_capacity;
+      table_capacity = p.table_capacity;
+      table_exceeds = p.table_exceeds;
     }
 
 module _ (K S L T : RattleType) (G : EqGhosts K.Denot) (H : HashGhosts K.Denot) (B : HasherGhosts S.Denot K.Denot T.Denot)

@@ -1,5 +1,5 @@
 use Rattle.half_store.proofs.Common.{◌≡◌, length, take, ◌+◌, refl, ◌∙◌, arith, ℕ, ◌-◌, ◌<◌, suc, sym, ap, List, slice_index, subst, set, length-set}
-use Rattle.half_store.proofs.Common.{get_or_default, swap_remove, probe_distance, slots_from, IsIndexedButFor, IsEmptyBeside, IsIndexed, Work, ReadsWithin}
+use Rattle.half_store.proofs.Common.{get_or_default, swap_remove, probe_distance, slots_from, IsIndexedWithGap, IsEmptyBeside, IsIndexed, Work, ReadsWithin}
 use Rattle.std.proofs.lemmas.Option.{slice_get_read}
 use Rattle.half_store.specs.Work.{removal_reads_left}
 use Rattle.half_store.specs.StoreRemoval.{Renames, ShiftsUpTo}
@@ -22,9 +22,9 @@ module _ {hs ws words : List ℕ} {index : ℕ} (bucket : ℕ) {old renamed : Wo
   renames : set ws r.bucket (suc index) ≡ words
   renames = sym (r.words ∙ ap (set ws r.bucket) one)
 
-  gap_left : IsIndexedButFor (swap_remove hs index 0) (set words bucket 0) bucket
+  gap_left : IsIndexedWithGap (swap_remove hs index 0) (set words bucket 0) bucket
   gap_left =
-      subst (λ y. IsIndexedButFor (swap_remove hs index 0) (set y bucket 0) bucket) renames
+      subst (λ y. IsIndexedWithGap (swap_remove hs index 0) (set y bucket 0) bucket) renames
       (IsIndexed-remove x index (length hs - 1) bucket r.bucket is_last (at ∙ one) (r.at ∙ sym is_last))
 
   cost_left : {new : Work} → ShiftsUpTo (swap_remove hs index 0) words bucket renamed new
@@ -46,7 +46,7 @@ backward_shift-requires-clause-removed g c =
     let words = g.B.Words.words c.rename_last.new.buckets in
     let r = subst (λ xs. Renames xs (g.B.Words.words c.args.buckets.now) c.args.index words c.args.tally.now c.rename_last.new.tally)
     c.as_slice.ensures.value c.rename_last.ensures.renames in
-    subst (λ y. IsIndexedButFor y (set words c.args.bucket 0) c.args.bucket)
+    subst (λ y. IsIndexedWithGap y (set words c.args.bucket 0) c.args.bucket)
     (sym (c.as_slice-2.ensures.value ∙ c.swap_remove-hash.ensures.items
     ∙ left c.args.hashes.now.items c.args.index c.swap_remove-hash.result c.requires.within))
     (gap_left c.args.bucket c.requires.indexed c.requires.within c.requires.at r)

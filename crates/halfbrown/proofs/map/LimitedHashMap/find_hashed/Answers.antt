@@ -32,5 +32,5 @@ returns g c =
           (subst (λ index. IsSearchCost hashing own was index 0 c.args.tally.now c.find.new.tally)
           (found_is_index test own was c.find.result found)
           (costs_for_other hashing c.args.hash own was c.args.tally.now c.find.new.tally (result_ok c.find.result) known spent));
-      valid = subst (IsValid g.K.PartialEq.eq g.L.Limit.LIMIT) c.self.view_is (state_of _ _ _ _ _ c.self.invariant);
+      valid = subst (IsValid g.L.Limit.LIMIT g.K.PartialEq.eq) c.self.view_is (state_of _ _ _ _ _ c.self.invariant);
     }

@@ -18,7 +18,7 @@ invariant_of-self g c =
     let builder = c.self.inside.builder in
     let law = g.met.S.KeyHasher.hash_is builder in
     let alike = law old ∙ ap (g.S.KeyHasher.hash_writes builder) (g.met.K.Hash.respects_eq old key same) ∙ sym (law key) in
-    subst (IsMapInvariant eq hash g.L.Limit.LIMIT) (sym c.set_key_at.ensures.after)
+    subst (IsMapInvariant g.L.Limit.LIMIT eq hash) (sym c.set_key_at.ensures.after)
     (kept_key eq hash g.L.Limit.LIMIT g.met.K.Eq.laws store c.args.index old key c.self.invariant at same alike)
 
 pub returns-clause-valid : goal.returns-clause-valid
