@@ -1,6 +1,6 @@
 -- Where a call needs more capacity, how much, and what the capacity is afterwards. A call is granted where it returns `Ok`, and refused where
 -- it returns `Err`. A switching call, an insertion, `entry` or `raw_entry_mut`, makes a full vector a table first, also where the key is held.
-use Rattle.std.specs.Prelude.{◌≡◌, ℕ, ◌+◌, ◌^◌, ◌<◌, ◌≤◌, ◌⊎◌, Bool, not, ◌&&◌, ◌==◌, nat_lt, length, Option, None, Some, IfNone, IfSome, MatchBool, MatchOption, Result, OnOk, OnErr, IfErr, if◌then◌else◌}
+use Rattle.std.specs.Prelude.{◌≡◌, ℕ, ◌+◌, ◌^◌, ◌<◌, ◌≤◌, Bool, not, ◌&&◌, ◌==◌, nat_lt, length, Option, None, Some, IfNone, IfSome, MatchBool, MatchOption, Result, OnOk, OnErr, IfErr, if◌then◌else◌}
 pub use Rattle.half_store.specs.declared.refusal.Refusal.{Refusal}
 use Rattle.half_store.specs.Refusal.{refusal_of}
 use Rattle.half_store.specs.Capacity.{least_table_capacity, generous_capacity, is_vec_shrunk, shrunk_capacity}

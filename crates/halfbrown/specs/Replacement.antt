@@ -1,5 +1,5 @@
 -- What an entry is after its value was handed to a closure, which returned another or none.
-use Rattle.std.specs.Prelude.{◌≡◌, ℕ, Bool, List, [], ◌∷◌, ◌++◌, Option, None, Some, IfSome, MatchOption, if◌then◌else◌}
+use Rattle.std.specs.Prelude.{◌≡◌, ℕ, List, [], ◌∷◌, ◌++◌, Option, None, Some, IfSome, MatchOption, if◌then◌else◌}
 use Rattle.std.specs.Borrow.{Bor}
 use Rattle.half_store.specs.Work.{Work}
 use Rattle.half_store.specs.ValueReplacement.{ClosureAnswers}

@@ -1,5 +1,5 @@
 -- What one command replies and does; and whole runs, lists of such steps.
-use Rattle.std.specs.Prelude.{◌≡◌, ℕ, Bool, not, if◌then◌else◌, List, [], ◌∷◌, map, true, false, ◌&&◌, length, Option, None, Some, is_none, unwrap_or, MatchBool}
+use Rattle.std.specs.Prelude.{◌≡◌, ℕ, Bool, if◌then◌else◌, List, [], ◌∷◌, map, true, false, ◌&&◌, length, Option, None, Some, is_none, unwrap_or, MatchBool}
 use Rattle.std.specs.List.{list_any}
 use Rattle.halfbrown.specs.declared.run.Command.{Command}
 use Rattle.halfbrown.specs.declared.run.Command.TheVariants.{Insert, InsertNew, EntryOrInsert, RawOrInsert, Get, Remove, Clear, Reserve, Shrink, IsVec, Len}
