@@ -9,6 +9,7 @@ use Rattle.std.specs.Str.{bytes_eq}
 use Rattle.std.specs.String.{string_bytes, string_eq}
 use Rattle.std.proofs.Math.ListN.{length-map}
 use Rattle.halfbrown.specs.Insertion.{Puts}
+use Rattle.halfbrown.specs.Making.{ArePairClones, ClonesAreCopies, IsCloneOf}
 use Rattle.halfbrown.specs.Updates.{HasRemoved}
 use Rattle.halfbrown.proofs.callers.Pairs.{has_put, has_removed}
 use Rattle.halfbrown.proofs.lemmas.pairs.Changes.{map-swap_remove_at}
@@ -80,6 +81,16 @@ module _ {K B : Type 0} (read : K → B) {same : B → B → Bool} (laws : IsEqu
       let most = count_fits laws counted (read k) in
       omega (arith, most, length-map xs of, ap (λ o. unwrap_or o 0) (lookup-keyed_by read (same (read k)) ps))
 
+-- clones that keep what is read of each key, and each value, keep the pairs under that
+pub keyed_by-clones : {K B V : Type 0} (read : K → B) {key_clone : K → K → Type 0} {value_clone : V → V → Type 0}
+    → ((k copy : K) → key_clone k copy → read copy ≡ read k) → ClonesAreCopies value_clone
+    → (old new : List (K × V)) → ArePairClones key_clone value_clone old new → keyed_by read new ≡ keyed_by read old
+keyed_by-clones read alike copies [] [] clones = refl
+keyed_by-clones read alike copies [] (q ∷ new) clones = absurd clones
+keyed_by-clones read alike copies (p ∷ old) [] clones = absurd clones
+keyed_by-clones read alike copies (p ∷ old) (q ∷ new) clones =
+    λ i. (alike p.0 q.0 clones.0.0 i, copies p.1 q.1 clones.0.1 i) ∷ keyed_by-clones read alike copies old new clones.1 i
+
 -- ---- keys that are strings, under their bytes
 
 module _ {V Y S : Type 0} {limit : ℕ} {old new : State (String Y) V S} {k : String Y} {v : V} {needs : Option ℕ} where
@@ -127,5 +138,11 @@ pub count_text_fits : {A Y : Type 0} (of : A → List ℕ) (xs : List A) (ps : L
     → (k : String Y) → unwrap_or (value_of string_eq ps k) 0 ≤ length xs
 count_text_fits = count_read_fits string_bytes nat_list_eq_equiv
 
+-- the clone of a map has its texts with their values, where these are copied
+pub cloned_texts : {V S Y : Type 0} {value_clone : V → V → Type 0} {builder_clone : S → S → Type 0} {old new : State (String Y) V S}
+    → ClonesAreCopies value_clone → IsCloneOf (λ k copy. string_bytes copy ≡ string_bytes k) value_clone builder_clone old new
+    → keyed_by string_bytes new.pairs ≡ keyed_by string_bytes old.pairs
+cloned_texts {old = old} {new = new} copies clone = keyed_by-clones string_bytes (λ k copy same. same) copies old.pairs new.pairs clone.pairs
+
 -- for functions over texts
-pub ruleset text_facts = (lookup-keyed_by, lookup_set_text, has_put_text, others_text, has_removed_text)
+pub ruleset text_facts = (lookup-keyed_by, lookup_set_text, has_put_text, others_text, has_removed_text, cloned_texts)
