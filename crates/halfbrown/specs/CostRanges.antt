@@ -38,7 +38,9 @@ plus_looked n cost = record cost { looked = add_ranges cost.looked (exactly n) }
 
 -- a cost, but none where the call was refused before it did anything
 abbrev pub unless_refused : Bool → Cost → Cost
-unless_refused refused cost = if refused then no_cost else cost
+unless_refused refused cost =
+    let unless : Range → Range = λ range. if refused then exactly 0 else range in
+    record { asked = if refused then 0 else cost.asked; compared = unless cost.compared; looked = unless cost.looked }
 
 -- a number grew by a number in this range
 pub record GrewWithin (range : Range) (before after : ℕ) : Type 0 where

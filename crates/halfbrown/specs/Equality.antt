@@ -1,6 +1,5 @@
 -- When two lists of pairs are equal as maps, the laws of that, and which keys are searched for to find out.
-use Rattle.std.specs.Prelude.{◌≡◌, ◌==◌, Bool, true, false, List, [], ◌∷◌, length, IsTrue, if◌then◌else◌}
-use Rattle.std.specs.Bool.{Decides}
+use Rattle.std.specs.Prelude.{◌≡◌, ◌==◌, Bool, true, false, List, [], ◌∷◌, length, IsTrue, if◌then◌else◌, Decides}
 use Rattle.std.specs.Cmp.{IsEquivalence, IsPartialEquivalence, equiv, partial_equiv_from_equiv}
 use Rattle.std.specs.HashMap.{hash_map_eq}
 use Rattle.half_store.specs.HashMap.{HashMap, hash_map}

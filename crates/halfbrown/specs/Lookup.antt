@@ -1,11 +1,10 @@
 -- What a search in a map returns, for a key, or by a match on keys under a hash that was handed in.
-use Rattle.std.specs.Prelude.{◌≡◌, ℕ, ◌<◌, Bool, true, false, List, [], ◌∷◌, ◌++◌, length, slice_get, Option, None, Some, Result, Ok, Err, ◌+◌, is_some}
+use Rattle.std.specs.Prelude.{◌≡◌, ℕ, ◌<◌, Bool, true, false, List, [], ◌∷◌, ◌++◌, length, slice_get, Option, None, Some, Result, Ok, Err, ◌+◌, is_some, option_and_then}
 use Rattle.std.specs.Map.{keys_of, values_of, lookup, lookup_entry}
 use Rattle.half_store.specs.Store.{IsVacancy}
 pub use Rattle.half_store.specs.declared.store.find.Vacancy.{Vacancy}
 use Rattle.halfbrown.specs.Pairs.{index_of, set_value_at, swap_remove_at, holds_by, set_value, put_by, take_out_by}
 use Rattle.halfbrown.specs.State.{State, contents_of}
-use Rattle.std.specs.Option.{option_and_then}
 use Rattle.half_store.specs.Search.{Accepts, AcceptsNone, SearchOutcome}
 use Rattle.half_store.specs.Work.{Work, first_match_cost}
 use Rattle.halfbrown.specs.Costs.{IsSearchCost}

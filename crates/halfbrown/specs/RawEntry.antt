@@ -1,6 +1,6 @@
 -- What contracts see of the calls that make a raw entry, and what those of a raw entry lend and cost.
 use Rattle.std.specs.Map.{lookup, lookup_entry}
-use Rattle.std.specs.Prelude.{◌≡◌, ℕ, Bool, Option, None, Some, IsSomeAnd, ◌<◌, length, Result, IfOk, IfErr, if◌then◌else◌}
+use Rattle.std.specs.Prelude.{◌≡◌, ℕ, Bool, Option, None, Some, IsSomeAnd, ◌<◌, length, Result, IfOk, IfErr, if◌then◌else◌, option_map}
 use Rattle.std.specs.Borrow.{Bor, MutBor, Fml, RattleType, RestsIfErr}
 use Rattle.std.specs.Fn.{Once}
 use Rattle.halfbrown.specs.Ghosts.{EqGhosts, HashGhosts, HasherGhosts, LimitGhosts}
@@ -9,7 +9,6 @@ use Rattle.halfbrown.specs.Costs.{probe_length, search_asked}
 use Rattle.halfbrown.specs.EntryView.{EntryView, map_of, is_occupied}
 use Rattle.halfbrown.specs.State.{State, IsValid}
 use Rattle.std.specs.Map.Iter.{deref_pair}
-use Rattle.std.specs.Option.{option_map}
 use Rattle.halfbrown.specs.declared.raw_entry.RawEntryBuilder.{RawEntryBuilder}
 use Rattle.halfbrown.specs.declared.raw_entry.RawEntryBuilderMut.{RawEntryBuilderMut}
 use Rattle.halfbrown.specs.declared.raw_entry.RawEntryBuilderMut.TheVariants.{Prepared}

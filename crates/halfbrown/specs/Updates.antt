@@ -1,10 +1,8 @@
 -- What a put and a removal leave, by what each key has then; and what calls that remove a pair return.
-use Rattle.std.specs.Prelude.{◌≡◌, ℕ, ◌+◌, ◌^◌, ◌<◌, Bool, true, false, List, [], ◌∷◌, ◌++◌, length, Some, None, if◌then◌else◌, Option, IfSome, IfNone, OnSome, slice_get}
+use Rattle.std.specs.Prelude.{◌≡◌, ℕ, ◌+◌, ◌^◌, ◌<◌, Bool, true, false, List, [], ◌∷◌, ◌++◌, length, Some, None, if◌then◌else◌, Option, IfSome, IfNone, OnSome, slice_get, option_map, remove}
 use Rattle.std.specs.Map.{keys_of, values_of, lookup, remove_entry}
-use Rattle.std.specs.Option.{option_map}
 use Rattle.halfbrown.specs.Pairs.{swap_remove_at, value_of, pair_of, holds, holds_by, set_values, take_out_by}
 use Rattle.halfbrown.specs.State.{State, IsValid, map_with_pairs, WithPairs}
-use Rattle.std.specs.List.{remove}
 
 -- whatever values are written into the pairs of a map: it has as many pairs, fewer than 2^63, with the same keys, and these values where there
 -- are as many; and `IsValid` still holds

@@ -367,15 +367,15 @@ module _ {K V S : Type 0} (hash : S → K → ℕ) where
     pub command_cost_law : CommandCostLaw V limit eq hash
     command_cost_law a b command granted same none = ap (λ m. command_cost limit eq hash m command granted) (alike a b same)
         ∙ cost-same b.is_vec a.pairs b.pairs b.capacity b.builder (contents_of a) (contents_of b) same.pairs command
-        refused
+        granted
         (subst (λ m. finds_in_vector limit eq m command ≡ false) (alike a b same) none)
 
     pub command_hashes_law : CommandHashesLaw V limit eq hash
     command_hashes_law a b command granted same = ap (λ m. (command_cost limit eq hash m command granted).asked) (alike a b same)
         ∙ hashes-same b.is_vec a.pairs b.pairs b.capacity b.builder (contents_of a) (contents_of b) same.pairs command
-        refused
+        granted
 
     pub command_buckets_law : CommandBucketsLaw V limit eq hash
     command_buckets_law a b command granted same = ap (λ m. (command_cost limit eq hash m command granted).looked) (alike a b same)
         ∙ buckets-same b.is_vec a.pairs b.pairs b.capacity b.builder (contents_of a) (contents_of b) same.pairs command
-        refused
+        granted
