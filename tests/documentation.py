@@ -6,7 +6,7 @@
   crates/halfbrown/src. A name in backticks such as `counting::hash_one` is that of an item in a module, of a crate or of std.
 - The folders of crates that users copy (COPIED) have a page and the licences, which are those at the top. A page has the line of
   crates.txt.
-- README's first example stands in half_tests, where it is proved with its clause, and halfmap, the program HALFMAP, answers its lines as it says.
+- README's first example stands in half_callers, where it is proved with its clause, and halfmap, the program HALFMAP, answers its lines as it says.
 - The imports of USING and PROOFS stand in the crates, their snippets in callers, which are proved, or in examples, and the lemmas in
   their modules.
 - CALLING has the clauses of its calls, the fields that these name and the list of all calls as they stand in the sources and specs
@@ -35,7 +35,7 @@ SPAN = re.compile(r"`([^`]+)`")
 LINK = re.compile(r"\[[^\]]*\]\(((?!\w+://)[^)\s]+)\)")
 PATH = re.compile(r"[\w.-]+/[\w./-]*|[\w-]+\.(?:antt|c|edits|md|py|rt|sh|svg|txt)")
 IMPORT = re.compile(r"^ *(?:ghost )?use (Rattle[\w.]*)\.\{(.*)\};?\n", re.M)
-CALLERS = ("half_tests/src/callers/*.rt", "half_uses/s*/*.*", "json_value/src/*.rt", "half_tests/proofs/*/*/*/*.antt")
+CALLERS = ("half_callers/src/*.rt", "half_uses/s*/*.*", "json_value/src/*.rt", "half_callers/proofs/*/*/*.antt")
 COPIED = "half_store halfbrown half_set half_serde half_uses json_value".split()
 USES = {  # The crates whose examples run, and what their tests import.
     "halfbrown": "use halfbrown::{run::run, *}; use std::hash::{BuildHasher, RandomState}; use std::test::Fail;",
@@ -76,7 +76,7 @@ def named(page, tree):
 
 
 def readme(page):
-    proved = re.search(r"^ghost use.*?^}\n", *texts("half_tests/src/callers/first_example.rt"), re.M | re.S)[0]
+    proved = re.search(r"^ghost use.*?^}\n", *texts("half_callers/src/first_example.rt"), re.M | re.S)[0]
     shown = re.findall(r"^```rust\n(.*?)^```$", page, re.M | re.S)  # It is plain Rust, and its clause is told below.
     contract = re.compile(r"^ghost use .*\n\n?|^    (ensures .*)\n", re.M)
     told = all(f"`{clause}`" in page for clause in contract.findall(proved) if clause)
@@ -112,7 +112,7 @@ def using(page):
 
 
 def callers(page):
-    """The caller of CALLING and its proof, which stand in half_tests."""
+    """The caller of CALLING and its proof, which stand in half_callers."""
     code = packed("\n".join(texts(*CALLERS)))
     for part in re.findall(r"^```(?:rust|antt)\n(.*?)^```", page, re.M | re.S):
         yield part, packed(part[max(part.find("///"), 0):]) in code

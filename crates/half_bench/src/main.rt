@@ -10,6 +10,7 @@ mod outside;
 mod reads;
 mod rounds;
 
+use std::time::CpuClock;
 use std::{env, io};
 
 const USAGE: &str = "half_bench times OPERATION u64|String SIZE ROUNDS
@@ -23,27 +24,43 @@ half_bench reads u64|String PAIRS
 
 fn main(rt: HostRuntime) -> io::Result<()> {
     let words: Vec<String> = env::args(&rt)?.skip(1).collect(rt.alloc())?;
-    match words.as_slice() {
+    run(&rt, words.as_slice())
+}
+
+fn run(rt: &(impl Print + Input + CpuClock + AllocGlobal), words: &[String]) -> io::Result<()> {
+    match words {
         [command, what, keys, size, count] => {
-            let (size, count) = (number(size)?, number(count)?);
-            match (command.as_str(), keys.as_str()) {
-                ("times", "u64") => rounds::print::<u64>(&rt, what.as_str(), size, count),
-                ("times", "String") => rounds::print::<String>(&rt, what.as_str(), size, count),
-                ("memory", "u64") => outside::hold::<u64>(&rt, what.as_str(), size, count),
-                ("memory", "String") => outside::hold::<String>(&rt, what.as_str(), size, count),
-                _ => Err(unknown()),
-            }
+            let words = [command.as_str(), keys.as_str(), what.as_str()];
+            measure(rt, words, number(size)?, number(count)?)
         }
         [command, keys, pairs] if command.as_str() == "reads" => {
-            let pairs = number(pairs)?;
-            match keys.as_str() {
-                "u64" => reads::print::<u64>(&rt, pairs),
-                "String" => reads::print::<String>(&rt, pairs),
-                _ => Err(unknown()),
-            }
+            print_reads(rt, keys.as_str(), number(pairs)?)
         }
-        [command, map] if command.as_str() == "words" => outside::count(&rt, map.as_str()),
+        [command, map] if command.as_str() == "words" => outside::count(rt, map.as_str()),
         [] => println!(rt; "{USAGE}"),
+        _ => Err(unknown()),
+    }
+}
+
+fn measure(
+    rt: &(impl Print + Input + CpuClock + AllocGlobal),
+    words: [&str; 3],
+    size: u64,
+    count: u64,
+) -> io::Result<()> {
+    match words {
+        ["times", "u64", operation] => rounds::print::<u64>(rt, operation, size, count),
+        ["times", "String", operation] => rounds::print::<String>(rt, operation, size, count),
+        ["memory", "u64", map] => outside::hold::<u64>(rt, map, size, count),
+        ["memory", "String", map] => outside::hold::<String>(rt, map, size, count),
+        _ => Err(unknown()),
+    }
+}
+
+fn print_reads(rt: &(impl Print + AllocGlobal), keys: &str, pairs: u64) -> io::Result<()> {
+    match keys {
+        "u64" => reads::print::<u64>(rt, pairs),
+        "String" => reads::print::<String>(rt, pairs),
         _ => Err(unknown()),
     }
 }

@@ -23,8 +23,8 @@ pub(crate) fn measure_ours<K: Key, const N: usize>(
 ) -> io::Result<()> {
     let (alloc, size, many) = (timer.alloc, timer.size, timer.look_up_passes());
     match operation {
-        "raw_hit" => timer.time(many, held(alloc, size)?, ask_hashed),
-        "raw_build" => timer.time(1, lists(alloc, size)?, build_hashed),
+        "raw_hit" => timer.time(many, held(alloc, size), ask_hashed),
+        "raw_build" => timer.time(1, lists(alloc, size), build_hashed),
         _ => measure(timer, operation),
     }
 }
@@ -37,27 +37,27 @@ pub(crate) fn measure<K: Key, M: Map<K>>(
     let (alloc, size, many) = (timer.alloc, timer.size, timer.look_up_passes());
     match operation {
         "hit" | "raw_hit" => {
-            timer.time(many, held(alloc, size)?, |given| ask(given, M::value_of))
+            timer.time(many, held(alloc, size), |given| ask(given, M::value_of))
         }
-        "miss" => timer.time(many, absent(alloc, size)?, |given| ask(given, M::value_of)),
+        "miss" => timer.time(many, absent(alloc, size), |given| ask(given, M::value_of)),
         "build" | "raw_build" => {
-            timer.time(1, lists(alloc, size)?, |given| build(given, M::insert_all))
+            timer.time(1, lists(alloc, size), |given| build(given, M::insert_all))
         }
-        "remove" => timer.time(1, filled(alloc, size)?, remove_all),
-        "churn" => timer.time(1, oldest(alloc, size)?, exchange),
-        "entry_few" => timer.time(1, words(alloc, size)?, |given| fill(given, M::count_all)),
-        "entry_many" => timer.time(1, lists_twice(alloc, size)?, |given| {
+        "remove" => timer.time(1, filled(alloc, size), remove_all),
+        "churn" => timer.time(1, oldest(alloc, size), exchange),
+        "entry_few" => timer.time(1, words(alloc, size), |given| fill(given, M::count_all)),
+        "entry_many" => timer.time(1, lists_twice(alloc, size), |given| {
             build(given, M::count_all)
         }),
-        "iter" => timer.time(10, maps(alloc, size)?, sum),
-        "values_mut" => timer.time(10, maps(alloc, size)?, raise),
-        "clone" => timer.time(1, maps(alloc, size)?, copy),
-        "retain" => timer.time(1, maps(alloc, size)?, keep_even),
-        "drain" => timer.time(1, maps(alloc, size)?, drain),
-        "from_iter" => timer.time(1, lists(alloc, size)?, collect),
-        "extend" => timer.time(1, halves(alloc, size)?, |given| fill(given, M::add_all)),
-        "equal" => timer.time(1, twins(alloc, size)?, compare),
-        "shrink_to_fit" => timer.time(1, emptied(alloc, size)?, shrink),
+        "iter" => timer.time(10, maps(alloc, size), sum),
+        "values_mut" => timer.time(10, maps(alloc, size), raise),
+        "clone" => timer.time(1, maps(alloc, size), copy),
+        "retain" => timer.time(1, maps(alloc, size), keep_even),
+        "drain" => timer.time(1, maps(alloc, size), drain),
+        "from_iter" => timer.time(1, lists(alloc, size), collect),
+        "extend" => timer.time(1, halves(alloc, size), |given| fill(given, M::add_all)),
+        "equal" => timer.time(1, twins(alloc, size), compare),
+        "shrink_to_fit" => timer.time(1, emptied(alloc, size), shrink),
         _ => Err(unknown()),
     }
 }

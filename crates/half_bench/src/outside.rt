@@ -39,13 +39,17 @@ pub(crate) fn count(rt: &(impl Print + Input + AllocGlobal), map: &str) -> io::R
     let mut bytes = Vec::new(rt.alloc());
     rt.reader().read_to_end(&mut bytes)?;
     let text = str::from_utf8(bytes.as_slice()).ok().ok_or(unknown())?;
-    let count = match map {
-        "limit_32" => differing::<AtLimit<&str, 32>>(rt.alloc(), text)?,
-        "std" => differing::<OfStd<&str>>(rt.alloc(), text)?,
-        "indexmap" => differing::<OfIndex<&str>>(rt.alloc(), text)?,
-        _ => return Err(unknown()),
-    };
+    let count = differing_by(rt.alloc(), map, text)?;
     println!(rt; "{count}")
+}
+
+fn differing_by(alloc: Global, map: &str, text: &str) -> io::Result<usize> {
+    match map {
+        "limit_32" => differing::<AtLimit<&str, 32>>(alloc, text),
+        "std" => differing::<OfStd<&str>>(alloc, text),
+        "indexmap" => differing::<OfIndex<&str>>(alloc, text),
+        _ => Err(unknown()),
+    }
 }
 
 fn differing<'a, M: Map<&'a str>>(alloc: Global, text: &'a str) -> io::Result<usize> {

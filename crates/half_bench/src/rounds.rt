@@ -1,7 +1,7 @@
 //! Rounds: the four maps in turn, with the same work, by the processor time of the thread.
 use crate::keys::Key;
 use crate::maps::{AtLimit, Map, OfIndex, OfStd};
-use crate::operations::given::Given;
+use crate::operations::given::{Given, Made};
 use crate::operations::{measure, measure_ours};
 use std::alloc::Global;
 use std::io;
@@ -98,13 +98,13 @@ impl<'a, C: CpuClock, K: Key, M: Map<K>> Timer<'a, C, K, M> {
     }
 
     /// Times work in this many passes.
-    pub fn time<T, W>(&mut self, passes: u64, given: Given<K, M, T>, work: W) -> io::Result<()>
+    pub fn time<T, W>(&mut self, passes: u64, given: Made<K, M, T>, work: W) -> io::Result<()>
     where
         T: Drop,
         W: Fn(&mut Given<K, M, T>) -> io::Result<u64>,
         requires work { W.IsAlwaysCallable work }
     {
-        let mut given = given;
+        let mut given = given?;
         let start = self.rt.thread_cpu_time()?;
         for _ in 0..passes {
             given.answer = work(&mut given)?;

@@ -1,6 +1,5 @@
-//! What callers build on the map, worked maps in numbers, and tests of what no script can say: proved, and run as tests.
+//! Tests of what no contract and no script says. There is nothing else here, so that what is tested is proved once.
 #![tactic(auto)]
 
-pub mod callers;
 #[cfg(test)]
 mod tests;

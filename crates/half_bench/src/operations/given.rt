@@ -52,12 +52,16 @@ impl<K: Key, M: Map<K>, T: Drop> Given<K, M, T> {
 
     /// The sum of the values that all maps have now.
     pub fn left(&self) -> u64 {
-        let mut sum = 0u64;
-        for map in self.maps.iter().chain(self.others.iter()) {
-            sum = sum.wrapping_add(map.sum());
-        }
-        sum
+        sum_of(self.maps.as_slice()).wrapping_add(sum_of(self.others.as_slice()))
     }
+}
+
+fn sum_of<K: Key, M: Map<K>>(maps: &[M]) -> u64 {
+    let mut sum = 0u64;
+    for map in maps {
+        sum = sum.wrapping_add(map.sum());
+    }
+    sum
 }
 
 // As many maps as a run has of this size, each of this many pairs, with lists of these numbers.
@@ -89,10 +93,14 @@ pub(crate) fn absent<K: Key, M: Map<K>>(alloc: Global, size: u64) -> Made<K, M, 
 pub(crate) fn oldest<K: Key, M: Map<K>>(alloc: Global, size: u64) -> Made<K, M, (K, K)> {
     let mut list = Vec::new(alloc);
     for number in 0..size.max(LEAST_KEYS) {
-        let new = K::of_number(alloc, number.saturating_add(size))?;
-        list.push((K::of_number(alloc, number)?, new))?;
+        list.push(old_and_new(alloc, number, number.saturating_add(size))?)?;
     }
     Given::of_one(alloc, size, list)
+}
+
+fn old_and_new<K: Key>(alloc: Global, old: u64, new: u64) -> io::Result<(K, K)> {
+    let new = K::of_number(alloc, new)?;
+    Ok((K::of_number(alloc, old)?, new))
 }
 
 /// An empty map, and words, of which each comes about four times or more.
@@ -109,11 +117,16 @@ pub(crate) fn lists<K: Key, M: Map<K>, T: OfNumber>(alloc: Global, size: u64) ->
 /// Lists of the keys of maps, each key twice.
 pub(crate) fn lists_twice<K: Key, M: Map<K>>(alloc: Global, size: u64) -> Made<K, M, K> {
     let mut given: Given<K, M, K> = lists(alloc, size)?;
-    for list in given.lists.as_mut_slice() {
-        list.append(&mut in_order(alloc, 0..size)?)?;
-    }
+    append_keys(alloc, given.lists.as_mut_slice(), size)?;
     given.operations = given.operations.saturating_mul(2);
     Ok(given)
+}
+
+fn append_keys<K: Key>(alloc: Global, lists: &mut [Vec<K>], size: u64) -> io::Result<()> {
+    for list in lists {
+        list.append(&mut in_order(alloc, 0..size)?)?;
+    }
+    Ok(())
 }
 
 /// Maps with half of their pairs, and for each a list of the others.

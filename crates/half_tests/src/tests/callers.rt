@@ -1,14 +1,15 @@
 //! The callers, in use: that their calls succeed. What they return is in their contracts.
 
-use crate::callers::basics::{add_label, declare, forget, keep_the_young, stored};
-use crate::callers::by_index::{forget_last, remove_by_index, set_at};
-use crate::callers::copies::{an_age_twice, five_ages, no_ages, numbered, one_age};
-use crate::callers::drains::{take_each, take_first};
-use crate::callers::entries::{count_up, meaning, toggle};
-use crate::callers::errors::{add_two, ages_of_main};
-use crate::callers::limits::{at_and_above_8, at_and_above_32, raw_look_up, raw_meaning};
-use crate::callers::raw_entries::{cached, respell};
-use crate::callers::worked::an_insertion_that_grows;
+use half_callers::basics::{add_label, declare, forget, keep_the_young, stored};
+use half_callers::by_index::{forget_last, remove_by_index, set_at};
+use half_callers::copies::{an_age_twice, five_ages, no_ages, numbered, one_age};
+use half_callers::drains::{take_each, take_first};
+use half_callers::entries::{count_up, meaning, toggle};
+use half_callers::errors::{add_two, ages_of_main};
+use half_callers::first_example::birthday;
+use half_callers::limits::{at_and_above_8, at_and_above_32, raw_look_up, raw_meaning};
+use half_callers::raw_entries::{cached, respell};
+use half_callers::worked::an_insertion_that_grows;
 use halfbrown::{DefaultHashBuilder, HashMap, SizedHashMap, Tally};
 use std::cell::Cell;
 use std::test::Fail;
@@ -54,6 +55,11 @@ fn ages(rt: HostRuntime) -> Result<(), Fail> {
     let capacity = an_age_twice(rt.alloc(), 36, 37)?.capacity();
     assert_same(capacity, 2, "for both")?;
     assert_same(ages_of_main(rt.alloc())?.len(), 2, "Ada's and Ben's")
+}
+
+#[test]
+fn ada_is_37(rt: HostRuntime) -> Result<(), Fail> {
+    assert_same(birthday(rt.alloc())?, 37, "the last value")
 }
 
 #[test]

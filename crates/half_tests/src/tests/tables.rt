@@ -1,82 +1,14 @@
 //! Tables worked out by hand, in the order of `tests/scripts/worked`: in which bucket each pair is, where a search ends, which
 //! pairs it asks for, and how many buckets it reads. The buckets count their reads themselves, so none is read beside the tally.
 
-use half_store::buckets::{Buckets, HashedBuckets};
-use half_store::table::probe::{first_empty, probe_for};
-use half_store::words::WordArray;
 use half_store::{Table, Tally};
 use std::alloc::Global;
-use std::cell::Cell;
 use std::test::Fail;
 use test_support::asserts::{assert_same, assert_same_at};
-
-// Buckets that count how often they are read.
-#[derive(Drop)]
-struct CountedBuckets<'a> {
-    buckets: HashedBuckets<'a, WordArray>,
-    reads: &'a Cell<u64>,
-}
-
-impl Buckets for CountedBuckets<'_> {
-    ghost use Rattle.half_store.specs.Words.{words_of};
-
-    ghost hashes = { λ s. s.buckets.hashes.now };
-
-    ghost words = { λ s. words_of s.buckets.buckets.now };
-
-    fn count(&self) -> usize {
-        self.buckets.count()
-    }
-
-    fn read(&self, bucket: usize, tally: &mut Tally) -> Option<(usize, u64)> {
-        self.reads.set(self.reads.get().wrapping_add(1));
-        self.buckets.read(bucket, tally)
-    }
-}
-
-const NONE: usize = usize::MAX;
+use test_support::probes::{NONE, Search, probed, searched};
 
 // The key of each pair is its entry index.
 const KEYS: [usize; 8] = [0, 1, 2, 3, 4, 5, 6, 7];
-
-// What a search does: it finds a pair, by its entry index and its bucket, or ends at an empty bucket; it asks for this many
-// pairs, and reads this many buckets.
-type Search = (Result<(usize, usize), usize>, u64, u64);
-
-// A search for this hash that accepts one of the keys.
-fn searched(table: &Table, keys: &[usize], hash: u64, accepted: usize) -> Search {
-    let (asked, reads) = (Cell::new(0u64), Cell::new(0));
-    let buckets = CountedBuckets {
-        buckets: table.hashed_buckets(),
-        reads: &reads,
-    };
-    if buckets.count() == 0 {
-        return (Err(NONE), 0, 0);
-    }
-    if table.len() > keys.len() {
-        return (Err(NONE), 0, 0);
-    }
-    let matches = |key: &usize| {
-        asked.set(asked.get().wrapping_add(1));
-        *key == accepted
-    };
-    let ended = probe_for(&buckets, keys, hash, &matches, &mut Tally::new());
-    (ended, asked.get(), reads.get())
-}
-
-// At which empty bucket an insertion probe for this hash ends, and how many buckets it reads.
-fn probed(table: &Table, hash: u64) -> (usize, u64) {
-    let reads = Cell::new(0);
-    let buckets = CountedBuckets {
-        buckets: table.hashed_buckets(),
-        reads: &reads,
-    };
-    if buckets.count() == 0 {
-        return (NONE, 0);
-    }
-    let bucket = first_empty(&buckets, hash, &mut Tally::new());
-    (bucket, reads.get())
-}
 
 // Makes the capacity enough for this many pairs, as a store does.
 fn reserve(alloc: Global, table: &mut Table, needed: usize) -> Result<(), Fail> {
@@ -127,7 +59,7 @@ fn remove(table: &mut Table, index: usize, hash: u64) -> Result<(), Fail> {
 
 // A search that accepts this entry index.
 fn assert_search(table: &Table, hash: u64, accepted: usize, search: Search) -> Result<(), Fail> {
-    let found = searched(table, &KEYS, hash, accepted);
+    let found = searched(table, &KEYS, hash, &accepted);
     assert_same_at(hash, found, search, "the search")
 }
 
@@ -221,7 +153,7 @@ fn three_of_one_hash(rt: HostRuntime) -> Result<(), Fail> {
 fn many_of_one_hash(rt: HostRuntime) -> Result<(), Fail> {
     let table = table_of(rt.alloc(), 0, &[0; 768])?;
     assert_same(table.capacity(), 768, "of 1,024 buckets")?;
-    let found = searched(&table, &[0; 768], 0, NONE);
+    let found = searched(&table, &[0; 768], 0, &NONE);
     assert_same(found, (Err(768), 768, 769), "all of them")
 }
 

@@ -1,6 +1,6 @@
 //! Maps of texts, printed and under random hashes, and the text of an error.
 
-use crate::callers::basics::ages_by_names_of_others;
+use half_callers::basics::ages_by_names_of_others;
 use halfbrown::{HashMap, Refusal, Refused, RefusedKey, SizedHashMap};
 use std::alloc::Global;
 use std::io;

@@ -1,7 +1,0 @@
-use Rattle.std.proofs.Common.{arith}
-use Rattle.half_store.proofs.lemmas.table.Layout.{index-vacant}
-use Rattle.half_bench.proofs.reads.reads.Goals as goal
-
-pub first_empty-requires-clause-vacant : goal.first_empty-requires-clause-vacant
-first_empty-requires-clause-vacant c =
-    index-vacant c.hashed_buckets.ensures.indexed (omega (arith, c.if-count-gt0.true, c.count.ensures))

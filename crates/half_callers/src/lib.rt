@@ -1,0 +1,22 @@
+//! What callers build on the map, and worked maps in numbers: proved from public contracts alone.
+#![tactic(auto)]
+
+pub mod basics;
+pub mod by_index;
+pub mod collections;
+pub mod conditions;
+pub mod copies;
+pub mod costs;
+pub mod counting;
+pub mod drains;
+pub mod entries;
+pub mod equality;
+pub mod errors;
+pub mod first_example;
+pub mod iteration;
+pub mod limits;
+pub mod raw_entries;
+pub mod retained;
+pub mod texts;
+pub mod threads;
+pub mod worked;

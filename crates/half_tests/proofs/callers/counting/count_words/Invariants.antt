@@ -1,6 +1,0 @@
-use Rattle.std.proofs.Common.{take}
-use Rattle.halfbrown.specs.CallerLoops.{CountsEach}
-use Rattle.half_tests.proofs.callers.counting.count_words.Given as goal
-
-abbrev pub invariant-loop-word : goal.invariant-loop-word
-invariant-loop-word g l = CountsEach g.K.PartialEq.eq (take l.word-index l.words) l.counts.pairs
