@@ -1,12 +1,12 @@
 //! The first map compared with one of another limit and rule, of clones of the pairs of the second one.
 
-use crate::first_line::rule_of;
 use crate::player::Player;
 use halfbrown::{AtMost, Limit, LimitedHashMap};
 use std::alloc::{AllocError, Global};
 use std::hash::{BuildHasher, Hash};
 use std::io;
 use test_support::builders::{Counting, Rule};
+use witness_script::calls::comparison::{Comparison, OtherLimit};
 
 impl<'a, R: Print, K: Eq + Hash + Clone + Drop, V: Clone + PartialEq + Drop, L: Limit> Player<
     'a,
@@ -17,21 +17,17 @@ impl<'a, R: Print, K: Eq + Hash + Clone + Drop, V: Clone + PartialEq + Drop, L: 
     L,
 > {
     /// Makes the other map, compares it with the first one, and prints the answer. Only the comparison is counted.
-    pub(crate) fn print_same(
-        &mut self,
-        limit: &str,
-        rule: &str,
-        is_from: bool,
-    ) -> Option<io::Result<()>> {
-        let rule = rule_of(rule)?;
-        Some(match limit {
-            "0" => self.print_same_at::<AtMost<0>>(is_from, rule),
-            "5" => self.print_same_at::<AtMost<5>>(is_from, rule),
-            "18446744073709551615" => {
-                self.print_same_at::<AtMost<18446744073709551615>>(is_from, rule)
-            }
-            _ => return None,
-        })
+    pub(crate) fn print_same(&mut self, comparison: Comparison) -> io::Result<()> {
+        let Comparison {
+            limit,
+            rule,
+            is_from,
+        } = comparison;
+        match limit {
+            OtherLimit::Zero => self.print_same_at::<AtMost<0>>(is_from, rule),
+            OtherLimit::Five => self.print_same_at::<AtMost<5>>(is_from, rule),
+            OtherLimit::Most => self.print_same_at::<AtMost<18446744073709551615>>(is_from, rule),
+        }
     }
 
     fn print_same_at<M: Limit>(&mut self, is_from: bool, rule: Rule) -> io::Result<()> {

@@ -6,14 +6,15 @@ ghost use Rattle.std.proofs.Common.{rules, ap, sym};
 ghost use Rattle.std.proofs.lemmas.Bool.{eqb-true};
 ghost use Rattle.std.specs.Cmp.{nat_eq_equiv};
 
-use crate::answer::{Answer, named};
-use crate::counts::Counts;
-use crate::key_traits::{Item, Made, Named};
-use crate::words::Name;
+use crate::made::Made;
 use halfbrown::{EqualClone, Equivalent};
 use std::alloc::{AllocError, Global};
 use std::fmt;
 use std::hash::{Hash, Hasher};
+use witness_script::answer::{Answer, named};
+use witness_script::counts::Counts;
+use witness_script::items::{Item, Named};
+use witness_script::words::Name;
 
 /// A key written `id#mark`. Keys of one id are equal, and the mark tells them apart. It is 48 bytes long.
 pub(crate) struct Key<'a> {

@@ -2,27 +2,20 @@
 //! after it. `docs/SCRIPTS.md` says how a script is written and what each line is answered.
 #![tactic(auto)]
 
-mod answer;
 mod compare;
-mod counts;
-mod entries;
-mod first_line;
+mod insertions;
 mod items;
-mod iterator_items;
-mod iterators;
-mod key_traits;
 mod keys;
-mod lines;
+mod made;
+mod makers;
 mod map_calls;
+mod perform;
+mod places;
 mod player;
-mod printed;
-mod raw;
 mod runs;
 mod script;
-mod searches;
-mod updates;
+mod states;
 mod values;
-mod words;
 
 use std::io;
 

@@ -1,15 +1,21 @@
 //! The calls on a map as a whole.
 
-use crate::answer::{Answer, of_bool, or_refused, refused, said};
-use crate::first_line::rule_name;
-use crate::key_traits::{Made, Named, Number, add_to};
-use crate::player::{Player, print_map};
+use crate::made::Made;
+use crate::player::Player;
+use crate::states::{print_lost, print_map};
 use halfbrown::{Limit, LimitedHashMap, Refusal};
 use std::hash::{BuildHasher, Hash};
 use std::io;
 use test_support::builders::Counting;
+use witness_entries::refusals::{or_refused, refused};
+use witness_lists::take;
+use witness_script::answer::{Answer, of_bool, said};
+use witness_script::calls::whole::WholeCall;
+use witness_script::counts::Counts;
+use witness_script::first_line::rule_name;
+use witness_script::items::{Named, Number, add_to};
 
-impl<'a, R: Print, K: Made, V: Number + Drop + Clone + PartialEq, L: Limit> Player<
+impl<'a, R: Print, K: Made, V: Number + Clone + PartialEq, L: Limit> Player<
     'a,
     R,
     K,
@@ -17,96 +23,48 @@ impl<'a, R: Print, K: Made, V: Number + Drop + Clone + PartialEq, L: Limit> Play
     Counting<'a>,
     L,
 > {
-    /// Makes the call of this name, which has no operand.
-    pub(crate) fn whole(&mut self, call: &str) -> Option<Answer> {
+    /// Makes the call, and prints the answer.
+    pub(crate) fn whole(&mut self, call: WholeCall) -> io::Result<()> {
+        self.mark();
         match call {
-            "clear" => self.open().clear(),
-            "shrink_to_fit" => self.open().shrink_to_fit(),
-            "drop" => drop(self.take()),
-            "swap" => self.swap(),
-            "clone" => return Some(or_refused(self.clone_first())),
-            "same" => return Some(self.same()),
-            "eq" => return Some(self.eq()),
-            "raw_entry_mut" => return Some(or_refused(self.raw_entry_mut())),
-            _ => return None,
+            WholeCall::State => self.print_own(),
+            WholeCall::Pairs => self.print_both(),
+            _ => {
+                let answer = self.change(call);
+                self.say(answer)
+            }
         }
-        Some(said("done"))
     }
 
-    fn swap(&mut self) {
-        self.mark();
-        std::mem::swap(&mut self.a, &mut self.b);
+    fn change(&mut self, call: WholeCall) -> Answer {
+        match call {
+            WholeCall::Clear => self.a.clear(),
+            WholeCall::ShrinkToFit => self.a.shrink_to_fit(),
+            WholeCall::Drop => drop(take(&mut self.a, self.alloc)),
+            WholeCall::Swap => std::mem::swap(&mut self.a, &mut self.b),
+            WholeCall::Clone => return or_refused(self.clone_first()),
+            WholeCall::Same => return of_bool(self.a.same_pairs(&self.b)),
+            WholeCall::Eq => return of_bool(self.a == self.b),
+            WholeCall::RawEntryMut => return or_refused(raw_entry_mut(&mut self.a)),
+            WholeCall::Reserve(more) => return reserve(&mut self.a, more),
+            WholeCall::IterMut(more) => iter_mut(&mut self.a, more),
+            WholeCall::ValuesMut(more) => values_mut(&mut self.a, more),
+            WholeCall::ValuesSliceMut(more) => values_slice_mut(&mut self.a, more),
+            WholeCall::Retain(divisor, more) => {
+                return retain(&mut self.a, self.counts, divisor, more);
+            }
+            WholeCall::State | WholeCall::Pairs => {}
+        }
+        said("done")
     }
 
     fn clone_first(&mut self) -> Result<Answer, Refusal> {
-        self.mark();
         self.b = self.a.clone()?;
         Ok(said("done"))
     }
 
-    fn same(&mut self) -> Answer {
-        self.mark();
-        of_bool(self.a.same_pairs(&self.b))
-    }
-
-    fn eq(&mut self) -> Answer {
-        self.mark();
-        of_bool(self.a == self.b)
-    }
-
-    // Raw entries that are dropped unused.
-    fn raw_entry_mut(&mut self) -> Result<Answer, Refusal> {
-        let _unused = self.open().raw_entry_mut()?;
-        Ok(said("done"))
-    }
-
-    /// `reserve`.
-    pub(crate) fn reserve(&mut self, more: usize) -> Answer {
-        match self.open().reserve(more) {
-            Ok(()) => said("done"),
-            Err(why) => refused(why),
-        }
-    }
-
-    /// Adds a number to each value by `iter_mut`.
-    pub(crate) fn iter_mut(&mut self, more: u64) -> Answer {
-        for (_, value) in self.open().iter_mut() {
-            add_to(value, more);
-        }
-        said("done")
-    }
-
-    /// Adds a number to each value by `values_mut`.
-    pub(crate) fn values_mut(&mut self, more: u64) -> Answer {
-        for value in self.open().values_mut() {
-            add_to(value, more);
-        }
-        said("done")
-    }
-
-    /// Adds a number to each value by `values_slice_mut`.
-    pub(crate) fn values_slice_mut(&mut self, more: u64) -> Answer {
-        for value in self.open().values_slice_mut() {
-            add_to(value, more);
-        }
-        said("done")
-    }
-
-    /// Adds a number to each value, and drops the pairs whose id and value add up to a multiple of the divisor.
-    pub(crate) fn retain(&mut self, divisor: u64, more: u64) -> Answer {
-        let counts = self.counts.of_closure();
-        self.open().retain(|key, value| {
-            counts.count_call();
-            add_to(value, more);
-            let sum = key.name().id.wrapping_add(value.number());
-            sum.checked_rem(divisor) != Some(0)
-        });
-        said("called").value(&counts.calls().unwrap_or(0))
-    }
-
-    /// Prints what the first map says of itself.
-    pub(crate) fn print_own(&mut self) -> io::Result<()> {
-        self.mark();
+    // What the first map says of itself.
+    fn print_own(&self) -> io::Result<()> {
         let map = &self.a;
         print!(self.rt;
             "is_empty={} is_vec={} is_map={} rule={}",
@@ -117,9 +75,8 @@ impl<'a, R: Print, K: Made, V: Number + Drop + Clone + PartialEq, L: Limit> Play
         )
     }
 
-    /// Prints all that both maps hold, and looks each key up. Nothing of it is counted.
-    pub(crate) fn print_both(&mut self) -> io::Result<()> {
-        self.mark();
+    // All that both maps hold, and what is found of each key. Nothing of it is counted.
+    fn print_both(&self) -> io::Result<()> {
         print!(self.rt; "a {} ", rule_name(self.a.hasher().rule))?;
         print_map(self.rt, &self.a)?;
         print!(self.rt; " b {} ", rule_name(self.b.hasher().rule))?;
@@ -131,16 +88,64 @@ impl<'a, R: Print, K: Made, V: Number + Drop + Clone + PartialEq, L: Limit> Play
     }
 }
 
-// The keys whose value, looked up, is not the one beside them.
-fn print_lost<K: Eq + Hash + Named, V: Number, S: BuildHasher, L: Limit>(
-    rt: &impl Print,
-    map: &LimitedHashMap<K, V, S, L>,
-) -> io::Result<()> {
-    for (key, value) in map {
-        let found = map.get(key).map(V::number);
-        if found != Some(value.number()) {
-            print!(rt; " lost {}", key.name())?;
-        }
+// Raw entries that are dropped unused.
+fn raw_entry_mut<K: Eq + Hash + Drop, V: Drop, S: BuildHasher, L: Limit>(
+    map: &mut LimitedHashMap<K, V, S, L>,
+) -> Result<Answer, Refusal> {
+    let _unused = map.raw_entry_mut()?;
+    Ok(said("done"))
+}
+
+fn reserve<K: Eq + Hash, V, S: BuildHasher, L: Limit>(
+    map: &mut LimitedHashMap<K, V, S, L>,
+    more: usize,
+) -> Answer {
+    match map.reserve(more) {
+        Ok(()) => said("done"),
+        Err(why) => refused(why),
     }
-    Ok(())
+}
+
+fn iter_mut<K: Eq + Hash, V: Number, S: BuildHasher, L: Limit>(
+    map: &mut LimitedHashMap<K, V, S, L>,
+    more: u64,
+) {
+    for (_, value) in map.iter_mut() {
+        add_to(value, more);
+    }
+}
+
+fn values_mut<K: Eq + Hash, V: Number, S: BuildHasher, L: Limit>(
+    map: &mut LimitedHashMap<K, V, S, L>,
+    more: u64,
+) {
+    for value in map.values_mut() {
+        add_to(value, more);
+    }
+}
+
+fn values_slice_mut<K: Eq + Hash, V: Number, S: BuildHasher, L: Limit>(
+    map: &mut LimitedHashMap<K, V, S, L>,
+    more: u64,
+) {
+    for value in map.values_slice_mut() {
+        add_to(value, more);
+    }
+}
+
+// Adds a number to each value, and drops the pairs whose id and value add up to a multiple of the divisor.
+fn retain<K: Eq + Hash + Named, V: Number, S: BuildHasher, L: Limit>(
+    map: &mut LimitedHashMap<K, V, S, L>,
+    counts: &Counts,
+    divisor: u64,
+    more: u64,
+) -> Answer {
+    let counts = counts.of_closure();
+    map.retain(|key, value| {
+        counts.count_call();
+        add_to(value, more);
+        let sum = key.name().id.wrapping_add(value.number());
+        sum.checked_rem(divisor) != Some(0)
+    });
+    said("called").value(&counts.calls().unwrap_or(0))
 }

@@ -1,12 +1,15 @@
 //! The two maps of a script, and the line that is played on them.
 
-use crate::counts::Counts;
-use crate::iterator_items::{of_pair, print_items};
-use crate::key_traits::{Named, Number};
+use crate::made::Made;
+use crate::states::print_state;
 use halfbrown::{Limit, LimitedHashMap};
 use std::alloc::{AllocError, Global};
 use std::hash::{BuildHasher, Hash};
 use std::io;
+use witness_script::answer::Answer;
+use witness_script::counts::Counts;
+use witness_script::items::Number;
+use witness_script::words::Name;
 
 /// Plays the lines of a script. Calls are made on the first map.
 #[derive(Drop)]
@@ -25,6 +28,15 @@ pub(crate) struct Player<'a, R, K: Eq + Hash, V, S: BuildHasher, L: Limit> {
 }
 
 impl<'a, R: Print, K: Eq + Hash, V, S: BuildHasher, L: Limit> Player<'a, R, K, V, S, L> {
+    /// Marks the call that comes next, for which the program itself asks for no more memory: it writes no bytes, once, and
+    /// twice where memory may be refused. Where that fails, so does the write of the answer.
+    pub(crate) fn mark(&self) {
+        let _ = self.rt.write_some(&[]);
+        if self.is_refused {
+            let _ = self.rt.write_some(&[]);
+        }
+    }
+
     /// The first map, on which the call of the line is made next.
     pub(crate) fn open(&mut self) -> &mut LimitedHashMap<K, V, S, L> {
         self.mark();
@@ -37,13 +49,12 @@ impl<'a, R: Print, K: Eq + Hash, V, S: BuildHasher, L: Limit> Player<'a, R, K, V
         self.alloc
     }
 
-    /// Marks the call that comes next, for which the program itself asks for no more memory: it writes no bytes, once, and
-    /// twice where memory may be refused. Where that fails, so does the write of the answer.
-    pub(crate) fn mark(&self) {
-        let _ = self.rt.write_some(&[]);
-        if self.is_refused {
-            let _ = self.rt.write_some(&[]);
-        }
+    /// The key of this name. None where there is no memory for it: only calls of the maps are refused any.
+    pub(crate) fn key(&self, name: Name) -> Option<K>
+    where
+        K: Made,
+    {
+        self.some_key.like(self.alloc, name).ok()
     }
 
     /// The value of this number.
@@ -54,13 +65,9 @@ impl<'a, R: Print, K: Eq + Hash, V, S: BuildHasher, L: Limit> Player<'a, R, K, V
         self.zero.like(number)
     }
 
-    /// The first map. An empty one with the same builder replaces it.
-    pub(crate) fn take(&mut self) -> LimitedHashMap<K, V, S, L>
-    where
-        S: Copy,
-    {
-        let empty = LimitedHashMap::with_hasher(self.alloc, *self.a.hasher());
-        std::mem::replace(self.open(), empty)
+    /// Prints an answer.
+    pub(crate) fn say(&self, answer: Answer) -> io::Result<()> {
+        print!(self.rt; "{answer}")
     }
 
     /// Begins a line, and returns the words of its call.
@@ -92,23 +99,4 @@ impl<'a, R: Print, K: Eq + Hash, V, S: BuildHasher, L: Limit> Player<'a, R, K, V
         let (keys, values) = self.counts.take_dropped();
         print!(self.rt; " | dropped {keys} {values}")
     }
-}
-
-/// Prints the form, the length and the capacity of a map.
-pub(crate) fn print_state<K: Eq + Hash, V, S: BuildHasher, L: Limit>(
-    rt: &impl Print,
-    map: &LimitedHashMap<K, V, S, L>,
-) -> io::Result<()> {
-    let form = if map.is_vec() { "vec" } else { "map" };
-    print!(rt; "{form} {} {}", map.len(), map.capacity())
-}
-
-/// Prints the same and the pairs.
-pub(crate) fn print_map<K: Eq + Hash + Named, V: Number, S: BuildHasher, L: Limit>(
-    rt: &impl Print,
-    map: &LimitedHashMap<K, V, S, L>,
-) -> io::Result<()> {
-    print_state(rt, map)?;
-    print!(rt; " ")?;
-    print_items(rt, &mut map.iter(), usize::MAX, of_pair)
 }

@@ -1,31 +1,45 @@
 //! The calls on maps whose values are plain numbers alone: a run of commands, and `or_default`.
 
-use crate::answer::{Answer, or_refused_key, print_gap, refused, said};
-use crate::key_traits::{Made, Named};
+use crate::keys::Id;
+use crate::made::Made;
 use crate::player::Player;
-use crate::words::{count, number};
 use halfbrown::run::run;
-use halfbrown::{Command, Limit, Reply};
+use halfbrown::{Command, Equivalent, Limit, Reply};
 use std::alloc::AllocError;
-use std::hash::BuildHasher;
 use std::io;
+use test_support::builders::Counting;
+use witness_entries::entries::or_default;
+use witness_entries::refusals::refused;
+use witness_script::answer::{Answer, said};
+use witness_script::calls::Call;
+use witness_script::items::Named;
+use witness_script::printing::print_gap;
+use witness_script::words::{Name, count, key_name, number};
 
-impl<R: Print, K: Made, S: BuildHasher, L: Limit> Player<'_, R, K, u64, S, L> {
-    /// Makes the call, and prints the answer. None where there is none.
-    pub(crate) fn perform_plain(&mut self, words: &[&str]) -> Option<io::Result<()>> {
-        match words {
-            ["run", commands @ ..] => match self.parse_commands(commands) {
-                Ok(commands) => Some(self.print_run(commands?)),
-                Err(err) => Some(Err(err.into())),
-            },
-            ["entry", key, "or_default"] => Some(self.print_or_default(self.key(key)?)),
-            _ => None,
+impl<'a, R: Print, K: Made, L: Limit> Player<'a, R, K, u64, Counting<'a>, L>
+where
+    Id: Equivalent<K>,
+{
+    /// Makes the call, and prints the answer. None where a word of it is missing or wrong.
+    pub(crate) fn perform_plain(&mut self, call: &Call<'_>) -> Option<io::Result<()>> {
+        match call {
+            Call::OrDefault(name) => self.print_or_default(*name),
+            Call::Run(words) => self.parse_and_run(words),
+            _ => self.perform(call),
         }
     }
 
-    fn print_or_default(&mut self, key: K) -> io::Result<()> {
-        let answered = self.or_default(key);
-        print!(self.rt; "{}", or_refused_key(answered))
+    fn print_or_default(&mut self, name: Name) -> Option<io::Result<()>> {
+        let key = self.key(name)?;
+        let answer = or_default(self.open(), key);
+        Some(self.say(answer))
+    }
+
+    fn parse_and_run(&mut self, words: &[&str]) -> Option<io::Result<()>> {
+        match self.parse_commands(words) {
+            Ok(commands) => Some(self.print_run(commands?)),
+            Err(err) => Some(Err(err.into())),
+        }
     }
 
     // None where a command is unknown, or a word of it is missing or wrong.
@@ -58,14 +72,14 @@ impl<R: Print, K: Made, S: BuildHasher, L: Limit> Player<'_, R, K, u64, S, L> {
             return Some((command, 1));
         }
         let value = number(rest.first()?)?;
-        Some((with_pair(call, self.key(first)?, value)?, 2))
+        Some((with_pair(call, self.key(key_name(first)?)?, value)?, 2))
     }
 
     fn with_operand(&self, call: &str, operand: &str) -> Option<Command<K, u64>> {
         Some(match call {
             "reserve" => Command::Reserve(count(operand)?),
-            "get" => Command::Get(self.key(operand)?),
-            "remove" => Command::Remove(self.key(operand)?),
+            "get" => Command::Get(self.key(key_name(operand)?)?),
+            "remove" => Command::Remove(self.key(key_name(operand)?)?),
             _ => return None,
         })
     }

@@ -1,10 +1,7 @@
 //! A script: the line that makes the maps, and the calls after it.
 
-use crate::answer::refused;
-use crate::counts::Counts;
-use crate::first_line::{First, Kind, parse_first};
-use crate::key_traits::{Made, Number};
 use crate::keys::{Id, Key, Small};
+use crate::made::Made;
 use crate::player::Player;
 use crate::values::{Nothing, Owned};
 use halfbrown::{AtMost, Equivalent, Limit, LimitedHashMap, Refusal};
@@ -12,6 +9,11 @@ use std::alloc::Global;
 use std::fmt::Debug;
 use std::io;
 use test_support::builders::Counting;
+use witness_entries::refusals::refused;
+use witness_script::calls::parse_call;
+use witness_script::counts::Counts;
+use witness_script::first_line::{First, Kind, parse_first};
+use witness_script::items::Number;
 
 /// Plays the script, and prints a line for each of its lines.
 pub(crate) fn play(rt: &(impl Print + AllocGlobal), text: &str) -> io::Result<()> {
@@ -136,9 +138,9 @@ where
     };
     for line in rest {
         let words = player.begin(line)?;
-        let printed = match player.perform_plain(words.as_slice()) {
-            Some(printed) => Some(printed),
-            None => player.perform(words.as_slice()),
+        let printed = match parse_call(words.as_slice()) {
+            Some(call) => player.perform_plain(&call),
+            None => None,
         };
         player.end(printed)?;
     }
@@ -146,7 +148,7 @@ where
 }
 
 // The lines that all values have.
-fn play_others<'a, R: Print + AllocGlobal, V: Number + Clone + PartialEq + Debug + Drop, L: Limit>(
+fn play_others<'a, R: Print + AllocGlobal, V: Number + Clone + PartialEq + Debug, L: Limit>(
     rt: &'a R,
     counts: &'a Counts,
     zero: V,
@@ -159,7 +161,10 @@ fn play_others<'a, R: Print + AllocGlobal, V: Number + Clone + PartialEq + Debug
     };
     for line in rest {
         let words = player.begin(line)?;
-        let printed = player.perform(words.as_slice());
+        let printed = match parse_call(words.as_slice()) {
+            Some(call) => player.perform(&call),
+            None => None,
+        };
         player.end(printed)?;
     }
     Ok(true)

@@ -3,11 +3,11 @@ ghost use Rattle.std.specs.Prelude.{◌≡◌, ◌==◌};
 ghost use Rattle.std.specs.Cmp.Rules.{comparing};
 ghost use Rattle.std.proofs.Common.{rules};
 
-use crate::answer::{Answer, numbered};
-use crate::counts::Counts;
-use crate::key_traits::{Item, Number};
 use std::alloc::AllocError;
 use std::fmt;
+use witness_script::answer::{Answer, numbered};
+use witness_script::counts::Counts;
+use witness_script::items::{Item, Number};
 
 /// A number that counts its drop. It is 48 bytes long.
 pub(crate) struct Owned<'a> {

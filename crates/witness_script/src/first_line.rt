@@ -5,7 +5,7 @@ use test_support::builders::Rule;
 
 /// The values of the maps, and their keys.
 #[derive(Clone, Copy)]
-pub(crate) enum Kind {
+pub enum Kind {
     /// Plain numbers.
     Map,
     /// Numbers that count their drops.
@@ -18,7 +18,7 @@ pub(crate) enum Kind {
 
 /// What a first line asks for.
 #[derive(Clone, Copy)]
-pub(crate) struct First<'a> {
+pub struct First<'a> {
     pub kind: Kind,
     /// The limit as it is written.
     pub limit: &'a str,
@@ -27,7 +27,7 @@ pub(crate) struct First<'a> {
 }
 
 /// Reads a first line. None where it is none.
-pub(crate) fn parse_first<'a>(words: &[&'a str]) -> Option<First<'a>> {
+pub fn parse_first<'a>(words: &[&'a str]) -> Option<First<'a>> {
     let (call, limit, rule, capacity) = match words {
         [call, limit, rule] => (call, limit, rule, None),
         [call, limit, rule, capacity] => (call, limit, rule, Some(count(capacity)?)),
@@ -49,7 +49,7 @@ pub(crate) fn parse_first<'a>(words: &[&'a str]) -> Option<First<'a>> {
 }
 
 /// The rule of this name.
-pub(crate) fn rule_of(word: &str) -> Option<Rule> {
+pub fn rule_of(word: &str) -> Option<Rule> {
     Some(match word {
         "plain" => Rule::Plain,
         "zero" => Rule::Zero,
@@ -59,7 +59,7 @@ pub(crate) fn rule_of(word: &str) -> Option<Rule> {
 }
 
 /// The name of a rule.
-pub(crate) fn rule_name(rule: Rule) -> &'static str {
+pub fn rule_name(rule: Rule) -> &'static str {
     match rule {
         Rule::Plain => "plain",
         Rule::Zero => "zero",

@@ -7,7 +7,7 @@ const MOST_DIGITS: usize = 20;
 
 /// A key as it is written. Those of one id are equal, and the mark tells them apart.
 #[derive(Clone, Copy)]
-pub(crate) struct Name {
+pub struct Name {
     pub id: u64,
     pub mark: u64,
 }
@@ -20,7 +20,7 @@ impl fmt::Display for Name {
 
 /// What a key is looked up by.
 #[derive(Clone, Copy)]
-pub(crate) enum Form {
+pub enum Form {
     /// A key.
     Key(Name),
     /// The number of a key.
@@ -29,7 +29,7 @@ pub(crate) enum Form {
 
 /// The keys that a match accepts.
 #[derive(Clone, Copy)]
-pub(crate) enum Which {
+pub enum Which {
     Any,
     None,
     /// The key of this number.
@@ -37,7 +37,7 @@ pub(crate) enum Which {
 }
 
 /// The number that a word writes.
-pub(crate) fn number(word: &str) -> Option<u64> {
+pub fn number(word: &str) -> Option<u64> {
     if word.len() > MOST_DIGITS || word.starts_with("+") {
         return None;
     }
@@ -45,12 +45,12 @@ pub(crate) fn number(word: &str) -> Option<u64> {
 }
 
 /// The number of pairs that a word writes.
-pub(crate) fn count(word: &str) -> Option<usize> {
+pub fn count(word: &str) -> Option<usize> {
     Some(number(word)? as usize)
 }
 
 /// The key that a word writes: a number, or a number, `#` and the mark.
-pub(crate) fn key_name(word: &str) -> Option<Name> {
+pub fn key_name(word: &str) -> Option<Name> {
     let (id, mark) = match word.split_once("#") {
         Some((id, mark)) => (number(id)?, number(mark)?),
         None => (number(word)?, 1),
@@ -59,7 +59,7 @@ pub(crate) fn key_name(word: &str) -> Option<Name> {
 }
 
 /// What a word looks up by: a key, or `@` and a number.
-pub(crate) fn parse_form(word: &str) -> Option<Form> {
+pub fn parse_form(word: &str) -> Option<Form> {
     match word.strip_prefix("@") {
         Some(id) => Some(Form::Id(number(id)?)),
         None => Some(Form::Key(key_name(word)?)),
@@ -67,7 +67,7 @@ pub(crate) fn parse_form(word: &str) -> Option<Form> {
 }
 
 /// The keys that a word lets a match accept.
-pub(crate) fn parse_which(word: &str) -> Option<Which> {
+pub fn parse_which(word: &str) -> Option<Which> {
     match word {
         "any" => Some(Which::Any),
         "none" => Some(Which::None),

@@ -1,12 +1,13 @@
-//! The iterators of a map, and how what they give is printed.
-ghost use Rattle.std.specs.Iterator.{IsFinite};
+//! The iterators of a map, and the calls that a walk makes on them.
 
-use crate::answer::{Answer, print_gap, said};
-use crate::key_traits::{Item, Named, Number, add_to};
+use crate::shown::{of_item, of_owned_pair, of_pair, of_written_pair, of_written_value};
 use halfbrown::{Column, Drain, IntoIter, Iter, IterMut, Limit, ValuesMut};
-use std::fmt::{Debug, Display};
+use std::fmt::Debug;
 use std::hash::{BuildHasher, Hash};
 use std::io;
+use witness_script::answer::Answer;
+use witness_script::items::{Item, Named, Number, add_to};
+use witness_script::printing::print_items;
 
 /// An iterator of a walk. The calls that not every kind has do nothing where they are left out.
 pub(crate) trait Walked: ExactSizeIterator {
@@ -35,75 +36,6 @@ pub(crate) trait Walked: ExactSizeIterator {
     fn print_debug<R: Print>(&self, _rt: &R) -> io::Result<()> {
         Ok(())
     }
-}
-
-pub(crate) fn of_pair<K: Named, V: Number>(pair: (&K, &V)) -> Answer {
-    let (key, value) = pair;
-    said("").pair(key, value)
-}
-
-fn of_written_pair<K: Named, V: Number>(pair: (&K, &mut V)) -> Answer {
-    let (key, value) = pair;
-    said("").pair(key, value)
-}
-
-pub(crate) fn of_owned_pair<K: Named + Drop, V: Number + Drop>(pair: (K, V)) -> Answer {
-    let (key, value) = pair;
-    said("").pair(&key, &value)
-}
-
-pub(crate) fn of_owned_item<T: Item + Drop>(item: T) -> Answer {
-    item.answer()
-}
-
-pub(crate) fn of_item<T: Item>(item: &T) -> Answer {
-    item.answer()
-}
-
-fn of_written_value<V: Number>(value: &mut V) -> Answer {
-    said("").value(value)
-}
-
-/// Prints the list of the items, or of the first of them where there are more than the most.
-pub(crate) fn print_items<I: Iterator, A: Display + Drop, F: Fn(I::Item) -> A>(
-    rt: &impl Print,
-    items: &mut I,
-    most: usize,
-    shown: F,
-) -> io::Result<()>
-    requires can { I.can_next items.old }
-    requires ends { IsFinite (I.remaining items.old) }
-    requires callable { F.IsAlwaysCallable shown }
-{
-    print!(rt; "[")?;
-    if most > 0 {
-        print_first(rt, items, most, shown)?;
-    }
-    print!(rt; "]")
-}
-
-fn print_first<I: Iterator, A: Display + Drop, F: Fn(I::Item) -> A>(
-    rt: &impl Print,
-    items: &mut I,
-    most: usize,
-    shown: F,
-) -> io::Result<()>
-    requires can { I.can_next items.old }
-    requires ends { IsFinite (I.remaining items.old) }
-    requires callable { F.IsAlwaysCallable shown }
-{
-    let mut is_first = true;
-    let mut left = most;
-    for item in &mut *items {
-        let answer = shown(item);
-        print_gap(rt, &mut is_first, " ")?;
-        print!(rt; "{answer}")?;
-        left = left.saturating_sub(1);
-        if left == 0 {
-            break;
-        }
-    }
-    Ok(())
 }
 
 impl<K: Named + Debug, V: Number + Debug> Walked for Iter<'_, K, V> {
@@ -175,7 +107,7 @@ impl<K, V: Number> Walked for ValuesMut<'_, K, V> {
     }
 }
 
-impl<K: Named + Drop, V: Number + Drop> Walked for IntoIter<K, V> {
+impl<K: Named, V: Number> Walked for IntoIter<K, V> {
     fn step(&mut self) -> Option<Answer> {
         Some(of_owned_pair(self.next()?))
     }
@@ -189,8 +121,7 @@ impl<K: Named + Drop, V: Number + Drop> Walked for IntoIter<K, V> {
     }
 }
 
-impl<K: Eq + Hash + Named + Drop, V: Number + Drop, S: BuildHasher, L: Limit> Walked
-    for Drain<'_, K, V, S, L> {
+impl<K: Eq + Hash + Named, V: Number, S: BuildHasher, L: Limit> Walked for Drain<'_, K, V, S, L> {
     fn step(&mut self) -> Option<Answer> {
         Some(of_owned_pair(self.next()?))
     }

@@ -5,7 +5,7 @@ use test_support::builders::{Counting, Rule};
 
 /// The work since the line began.
 #[derive(Drop)]
-pub(crate) struct Counts {
+pub struct Counts {
     hashes: Cell<u64>,
     comparisons: Cell<u64>,
     dropped_keys: Cell<u64>,
@@ -16,7 +16,7 @@ pub(crate) struct Counts {
 
 impl Counts {
     /// Nothing counted yet.
-    pub(crate) fn new() -> Counts {
+    pub fn new() -> Counts {
         Counts {
             hashes: Cell::new(0),
             comparisons: Cell::new(0),
@@ -27,56 +27,56 @@ impl Counts {
     }
 
     /// A builder whose hashes are counted here.
-    pub(crate) fn builder(&self, rule: Rule) -> Counting<'_> {
+    pub fn builder(&self, rule: Rule) -> Counting<'_> {
         Counting::new(rule, &self.hashes)
     }
 
     /// Two keys were compared.
-    pub(crate) fn count_comparison(&self) {
+    pub fn count_comparison(&self) {
         add_one(&self.comparisons);
     }
 
     /// A key was dropped.
-    pub(crate) fn count_dropped_key(&self) {
+    pub fn count_dropped_key(&self) {
         add_one(&self.dropped_keys);
     }
 
     /// A value was dropped.
-    pub(crate) fn count_dropped_value(&self) {
+    pub fn count_dropped_value(&self) {
         add_one(&self.dropped_values);
     }
 
     /// The same counts, for a closure that the line hands in.
-    pub(crate) fn of_closure(&self) -> &Counts {
+    pub fn of_closure(&self) -> &Counts {
         self.calls.set(Some(0));
         self
     }
 
     /// A closure of the line was called.
-    pub(crate) fn count_call(&self) {
+    pub fn count_call(&self) {
         let calls = self.calls.get().unwrap_or(0);
         self.calls.set(Some(calls.saturating_add(1)));
     }
 
     /// Begins a line.
-    pub(crate) fn begin(&self) {
+    pub fn begin(&self) {
         self.take_work();
         self.take_dropped();
         self.calls.set(None);
     }
 
     /// How often the builder made a hash and keys were compared. Both begin anew.
-    pub(crate) fn take_work(&self) -> (u64, u64) {
+    pub fn take_work(&self) -> (u64, u64) {
         (self.hashes.replace(0), self.comparisons.replace(0))
     }
 
     /// How many keys and values were dropped. Both begin anew.
-    pub(crate) fn take_dropped(&self) -> (u64, u64) {
+    pub fn take_dropped(&self) -> (u64, u64) {
         (self.dropped_keys.replace(0), self.dropped_values.replace(0))
     }
 
     /// How often the closure of the line was called, where it hands one in.
-    pub(crate) fn calls(&self) -> Option<u64> {
+    pub fn calls(&self) -> Option<u64> {
         self.calls.get()
     }
 }

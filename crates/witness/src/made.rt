@@ -1,0 +1,14 @@
+//! What the lines of a script need of its keys beside what their calls need.
+
+use halfbrown::EqualClone;
+use std::alloc::{AllocError, Global};
+use std::fmt::Debug;
+use std::hash::Hash;
+use witness_script::items::Named;
+use witness_script::words::Name;
+
+/// A key of a script, which lines ask for others.
+pub(crate) trait Made: Named + EqualClone + Hash + Debug {
+    /// Another key, of this name. It counts where this one does.
+    fn like(&self, alloc: Global, name: Name) -> Result<Self, AllocError>;
+}
