@@ -76,7 +76,7 @@ def named(page, tree):
 
 
 def readme(page):
-    proved = re.search(r"^ghost use.*?^}\n", *texts("half_callers/src/first_example.rt"), re.M | re.S)[0]
+    proved = re.search(r"^ghost use.*?^}\n", *texts("half_examples/src/first_example.rt"), re.M | re.S)[0]
     shown = re.findall(r"^```rust\n(.*?)^```$", page, re.M | re.S)  # It is plain Rust, and its clause is told below.
     contract = re.compile(r"^ghost use .*\n\n?|^    (ensures .*)\n", re.M)
     told = all(f"`{clause}`" in page for clause in contract.findall(proved) if clause)

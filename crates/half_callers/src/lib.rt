@@ -4,7 +4,6 @@
 pub mod basics;
 pub mod by_index;
 pub mod collections;
-pub mod conditions;
 pub mod copies;
 pub mod costs;
 pub mod counting;
@@ -12,7 +11,6 @@ pub mod drains;
 pub mod entries;
 pub mod equality;
 pub mod errors;
-pub mod first_example;
 pub mod iteration;
 pub mod limits;
 pub mod raw_entries;

@@ -6,7 +6,7 @@ use half_callers::copies::{an_age_twice, five_ages, no_ages, numbered, one_age};
 use half_callers::drains::{take_each, take_first};
 use half_callers::entries::{count_up, meaning, toggle};
 use half_callers::errors::{add_two, ages_of_main};
-use half_callers::first_example::birthday;
+use half_examples::first_example::birthday;
 use half_callers::limits::{at_and_above_8, at_and_above_32, raw_look_up, raw_meaning};
 use half_callers::raw_entries::{cached, respell};
 use half_callers::worked::an_insertion_that_grows;
