@@ -137,7 +137,6 @@ part "documentation" "build of halfmap" tests/documentation.py
 part "scripts" "build of witness" tests/scripts.py
 part "build of json_at" - build json_at
 part "build of word_count" - build word_count
-part "tests of json_value" - try_tests json_value
 part "tests of halfmap" - try_tests halfmap
 part "halfmap" proofs tests/halfmap.py
 part "documents" "build of json_at" tests/documents.py

@@ -12,8 +12,6 @@ mod change;
 mod error;
 mod pointer;
 mod read;
-#[cfg(test)]
-mod tests;
 mod write;
 
 pub use error::Error;

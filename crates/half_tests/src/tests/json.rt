@@ -5,7 +5,7 @@ ghost use Rattle.json_value.specs.Members.{is_named, member, members_of};
 ghost use Rattle.json_value.specs.Pointer.{is_plain, value_at, PathsPart};
 ghost use Rattle.json_value.specs.declared.value.Value.{Bool};
 
-use super::{Error, Value};
+use json_value::{Error, Value};
 use std::alloc::Global;
 use std::mem;
 
@@ -31,7 +31,7 @@ fn mark(document: &mut Value, path: &str) -> Result<(), Error>
 }
 
 // Marks the first user. The limits stay.
-#[tactic(auto, using(crate::proofs::PathFacts::path_facts))]
+#[tactic(auto, using(json_value::proofs::PathFacts::path_facts))]
 fn mark_first_user(document: &mut Value) -> Result<(), Error>
     ensures marked { OnOk result (value_at document.new (codes "/users/0") ≡ Some (Bool true)) }
     ensures limits { OnOk result (value_at document.new (codes "/limits") ≡ value_at document.old (codes "/limits")) }
@@ -41,7 +41,7 @@ fn mark_first_user(document: &mut Value) -> Result<(), Error>
 }
 
 // Marks a member. The members of other names stay.
-#[tactic(auto, using(crate::proofs::PathFacts::path_facts))]
+#[tactic(auto, using(json_value::proofs::PathFacts::path_facts))]
 fn mark_member(alloc: Global, document: &mut Value, name: &str) -> Result<(), Error>
     requires { IsTrue (is_plain name.now) }
     ensures marked { OnOk result (value_at document.new (codes "/" ++ name.now) ≡ Some (Bool true)) }
