@@ -64,7 +64,7 @@ def packed(first, items, indent="    "):
 
 @dataclasses.dataclass
 class Word:
-    """A record, or a name for what holds, which has one field without a name."""
+    """A record, or a data type or a name for what holds, which has one field without a name."""
 
     modules: list  # Each that it stands in, by file and line, with what it binds.
     parameters: list
@@ -92,6 +92,11 @@ def words():
             elif record := re.match(r"pub record (\w+)(.*?) : Type 0 where (.*)", text(at)):
                 fields = re.findall(r"pub (\w+) : (.*?)(?= pub \w+ : |$)", record[3])
                 found[record[1]] = Word(modules, inherited + bound(record[2]), fields)
+            elif data := re.match(r"pub data (\w+)(.*?) : Type 0 where (.*)", text(at)):
+                # Each way to make one: its name, and what it takes.
+                ways = re.findall(rf"([A-Z]\w*) : (.*?) → {data[1]}\b(?: [a-z]\w*)*", data[3])
+                taken = [" ".join([name, *(f"({it})" for it in said.split(" → "))]) for name, said in ways]
+                found[data[1]] = Word(modules, inherited + bound(data[2]), [("", " or ".join(taken))])
             elif named := re.match(r"abbrev pub ([A-Z]\w*) : .*\b(?:Type 0|Fml)$", text(at)):
                 if equation := re.fullmatch(rf"{named[1]}((?: [a-z]\w*| {{\w+}})*) = (.*)", text(end(at))):
                     own = [it for it in equation[1].split() if it[0] != "{"]
