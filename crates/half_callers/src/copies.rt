@@ -1,5 +1,7 @@
 //! What callers build on clones and on pairs that are written out, proved from the public contracts alone.
 ghost use Rattle.std.specs.Prelude.{◌≡◌, ◌+◌, ◌-◌, ◌<◌, ◌^◌, true, [], ◌∷◌, IfOk, IsOk};
+ghost use Rattle.std.specs.String.{string_bytes};
+ghost use Rattle.halfbrown.specs.CallerLoops.{keyed_by};
 
 use halfbrown::{DefaultHashBuilder, HashMap, Refusal, SizedHashMap, hashmap};
 use std::alloc::{AllocError, Global};
@@ -25,11 +27,14 @@ pub struct Users {
     pub ids: HashMap<String, u64>,
 }
 
-/// A clone has the same ages in the same order.
+/// A clone has the same ages in the same order, and the same names with their IDs.
 pub fn snapshot(users: &Users) -> Result<Users, AllocError>
     ensures ages { IfOk result (λ copy. copy.ages.pairs ≡ users.now.ages.pairs) }
+    ensures ids { IfOk result (λ copy. keyed_by string_bytes copy.ids.pairs
+        ≡ keyed_by string_bytes users.now.ids.pairs) }
 {
-    users.clone()
+    let copy = users.clone()?;
+    Ok(copy)
 }
 
 /// Of equal keys the last value counts, and the capacity is enough for all that is written. A last comma changes nothing.

@@ -145,4 +145,4 @@ pub cloned_texts : {V S Y : Type 0} {value_clone : V → V → Type 0} {builder_
 cloned_texts {old = old} {new = new} copies clone = keyed_by-clones string_bytes (λ k copy same. same) copies old.pairs new.pairs clone.pairs
 
 -- for functions over texts
-pub ruleset text_facts = (lookup-keyed_by, lookup_set_text, has_put_text, others_text, has_removed_text, cloned_texts)
+pub ruleset text_facts = (lookup-keyed_by, lookup_set_text, has_put_text, others_text, has_removed_text)
