@@ -49,10 +49,9 @@ impl From<Refusal> for Failure {
 }
 
 impl From<AllocError> for Failure {
-    ghost use Rattle.halfbrown.specs.Refusal.{Memory};
     ghost use Rattle.word_count.specs.declared.failure.Failure.TheVariants.{Refused};
 
-    ghost from_gives = { λ _ failure. failure ≡ Refused Memory };
+    ghost from_gives = { λ _ failure. failure ≡ Refused Refusal.Memory };
 
     fn from(_error: AllocError) -> Failure {
         Failure::Refused(Refusal::Memory)
