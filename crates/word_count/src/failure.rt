@@ -49,9 +49,10 @@ impl From<Refusal> for Failure {
 }
 
 impl From<AllocError> for Failure {
+    ghost use Rattle.half_store.specs.declared.refusal.Refusal.TheVariants.{Memory};
     ghost use Rattle.word_count.specs.declared.failure.Failure.TheVariants.{Refused};
 
-    ghost from_gives = { λ _ failure. failure ≡ Refused Refusal.Memory };
+    ghost from_gives = { λ _ failure. failure ≡ Refused Memory };
 
     fn from(_error: AllocError) -> Failure {
         Failure::Refused(Refusal::Memory)
