@@ -6,7 +6,7 @@
   crates/halfbrown/src. A name in backticks such as `counting::hash_one` is that of an item in a module, of a crate or of std.
 - The folders of crates that users copy (COPIED) have a page and the licences, which are those at the top. A page has the line of
   crates.txt.
-- README's first example stands in half_callers, where it is proved with its clause, and halfmap, the program HALFMAP, answers its lines as it says.
+- README's first example stands in half_examples, where it is proved with its clause, and halfmap, the program HALFMAP, answers its lines as it says.
 - The imports of USING and PROOFS stand in the crates, their snippets in callers, which are proved, or in examples, and the lemmas in
   their modules.
 - CALLING has the clauses of its calls, the fields that these name and the list of all calls as they stand in the sources and specs
