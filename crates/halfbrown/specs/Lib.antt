@@ -16,6 +16,7 @@ pub mod Lookup
 pub mod Making
 pub mod Pairs
 pub mod RawEntry
+pub mod Refusal
 pub mod Replacement
 pub mod Run
 pub mod State
@@ -25,7 +26,6 @@ pub mod formers
 pub use Rattle.half_store.specs.Capacity
 pub use Rattle.half_store.specs.Hash
 pub use Rattle.half_store.specs.Reach
-pub use Rattle.half_store.specs.Refusal
 pub use Rattle.half_store.specs.ValueReplacement
 pub use Rattle.half_store.specs.Search
 pub use Rattle.half_store.specs.Store

@@ -49,7 +49,7 @@ impl From<Refusal> for Failure {
 }
 
 impl From<AllocError> for Failure {
-    ghost use Rattle.half_store.specs.declared.refusal.Refusal.TheVariants.{Memory};
+    ghost use Rattle.halfbrown.specs.Refusal.{Memory};
     ghost use Rattle.word_count.specs.declared.failure.Failure.TheVariants.{Refused};
 
     ghost from_gives = { λ _ failure. failure ≡ Refused Memory };
