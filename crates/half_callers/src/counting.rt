@@ -1,10 +1,10 @@
-//! What callers build in a loop: counts of words, and values gathered by key.
-ghost use Rattle.std.specs.Prelude.{◌≡◌, true, IfOk, OnOk, map};
+//! What callers build in a loop: counts of words, and values summed or gathered by key.
+ghost use Rattle.std.specs.Prelude.{◌≡◌, true, IfOk, IfSome, OnOk, map};
 ghost use Rattle.std.specs.List.{list_any};
 ghost use Rattle.std.specs.Map.{keys_of};
 ghost use Rattle.std.specs.Str.{bytes_eq};
 ghost use Rattle.std.specs.String.{string_bytes};
-ghost use Rattle.halfbrown.specs.CallerLoops.{add_key, CountsEach, GroupsEach, keyed_by};
+ghost use Rattle.halfbrown.specs.CallerLoops.{add_key, CountsEach, GroupsEach, SumsEach, keyed_by};
 
 use halfbrown::{HashMap, Refusal};
 use std::alloc::Global;
@@ -48,6 +48,43 @@ pub fn count_texts(alloc: Global, words: &[&str]) -> Result<HashMap<String, u64>
         *counts.entry(String::from_str(alloc, word)?)?.or_insert(0) += 1;
     }
     Ok(counts)
+}
+
+/// The sum of the amounts of each key, or none where a sum does not fit. The keys are held in order of their first occurrence.
+pub fn sum_by_key<K: Eq + Hash + Copy>(
+    alloc: Global,
+    items: &[(K, u64)],
+) -> Result<Option<HashMap<K, u64>>, Refusal>
+    ensures { IfOk result (λ sums. IfSome sums (λ sums. SumsEach K.eq items.now sums.pairs)) }
+{
+    let mut sums = HashMap::new(alloc);
+    for (key, amount) in items {
+        let sum: &mut u64 = sums.entry(*key)?.or_insert(0);
+        let Some(more) = sum.checked_add(*amount) else {
+            return Ok(None);
+        };
+        *sum = more;
+    }
+    Ok(Some(sums))
+}
+
+/// The same of texts, as of the rows of a table. The map owns its keys, and the clause speaks of every text.
+pub fn sum_by_text(
+    alloc: Global,
+    rows: &[(&str, u64)],
+) -> Result<Option<HashMap<String, u64>>, Refusal>
+    ensures { IfOk result (λ sums. IfSome sums (λ sums. SumsEach bytes_eq (map (λ row. (row.0.now, row.1)) rows.now)
+        (keyed_by string_bytes sums.pairs))) }
+{
+    let mut sums = HashMap::new(alloc);
+    for (name, amount) in rows {
+        let sum: &mut u64 = sums.entry(String::from_str(alloc, name)?)?.or_insert(0);
+        let Some(more) = sum.checked_add(*amount) else {
+            return Ok(None);
+        };
+        *sum = more;
+    }
+    Ok(Some(sums))
 }
 
 /// Stores a pair. Its key is among the keys then, at the end where none equal to it was held.

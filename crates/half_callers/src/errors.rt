@@ -1,13 +1,23 @@
 //! What callers do with errors: `?` takes those of the map and those of std to one type.
-ghost use Rattle.std.specs.Prelude.{◌≡◌, Some, nat_eq, OnOk, IfOk, IfErr};
+ghost use Rattle.std.specs.Prelude.{◌≡◌, Some, nat_eq, OnOk, OnErr, IfOk, IfErr};
 ghost use Rattle.std.specs.IoError.{error_kind};
 ghost use Rattle.std.specs.declared.io.ErrorKind.TheVariants.{OutOfMemory};
+ghost use Rattle.halfbrown.specs.Growth.{insert_needs, IsRefusal};
 ghost use Rattle.halfbrown.specs.Pairs.{value_of};
 
 use halfbrown::{HashMap, Limit, LimitedHashMap, Refusal};
 use std::alloc::{AllocError, Global};
 use std::hash::BuildHasher;
 use std::io;
+
+/// Stores an age. It fails only if the insertion needs more capacity. On error nothing changes.
+pub fn store_age(ages: &mut HashMap<u64, u32>, id: u64, age: u32) -> Result<(), Refusal>
+    ensures refused { IfErr result (λ why. IsRefusal (insert_needs 32 nat_eq ages.old id) why) }
+    ensures err { OnErr result (ages.new ≡ ages.old) }
+{
+    ages.insert(id, age)?;
+    Ok(())
+}
 
 /// Makes the capacity enough for two ages more, and stores Ada's and Ben's. Two errors, one type: `?` converts both.
 pub fn add_two<S: BuildHasher, L: Limit>(

@@ -1,6 +1,6 @@
 //! What callers build on iteration, proved from its public contracts alone: sums and counts of what is held, a list, and values
 //! that are all written.
-ghost use Rattle.std.specs.Prelude.{◌≡◌, ◌+◌, ◌/◌, ◌^◌, ◌<◌, ◌==◌, count_by, map, min, sum, IfOk};
+ghost use Rattle.std.specs.Prelude.{◌≡◌, ◌+◌, ◌/◌, ◌^◌, ◌<◌, ◌==◌, count_by, filter, map, min, nat_lt, sum, IfOk};
 ghost use Rattle.std.specs.Map.{keys_of, values_of};
 
 use halfbrown::{Limit, LimitedHashMap};
@@ -37,6 +37,22 @@ pub fn votes_for<K: Eq + Hash, S: BuildHasher, L: Limit>(
     ensures { result ≡ count_by (λ vote. vote == candidate) (values_of votes.now.pairs) }
 {
     votes.values().filter(|vote| **vote == candidate).count()
+}
+
+/// The keys of the amounts above the least, in order.
+pub fn keys_above<S: BuildHasher, L: Limit>(
+    alloc: Global,
+    ledger: &LimitedHashMap<u64, u64, S, L>,
+    least: u64,
+) -> Result<Vec<u64>, AllocError>
+    ensures { IfOk result (λ keys. keys.items ≡ keys_of (filter (λ p. nat_lt least p.1) ledger.now.pairs)) }
+{
+    ledger
+        .iter()
+        .map(|(key, amount)| (*key, *amount))
+        .filter(|(_, amount)| *amount > least)
+        .map(|(key, _)| key)
+        .collect(alloc)
 }
 
 /// The pairs, in their order.

@@ -1,9 +1,8 @@
--- What a loop has made that counts keys, or gathers values by key; and pairs under what is read of their keys, as the bytes of texts.
-use Rattle.std.specs.Prelude.{◌≡◌, ℕ, Bool, List, [], ◌∷◌, ◌++◌, map, if◌then◌else◌, unwrap_or, count_by}
+-- What a loop has made that counts keys, or sums or gathers values by key; and pairs under what is read of their keys, as the bytes of texts.
+use Rattle.std.specs.Prelude.{◌≡◌, ℕ, Bool, List, [], ◌∷◌, ◌++◌, map, if◌then◌else◌, unwrap_or, count_by, sum}
 use Rattle.std.specs.List.{filter, fold, list_any}
-use Rattle.std.specs.Map.{keys_of, values_of}
 use Rattle.std.specs.Option.{option_map_or}
-use Rattle.halfbrown.specs.Pairs.{value_of}
+use Rattle.halfbrown.specs.Pairs.{keys_of, values_of, value_of}
 
 -- the pairs under what is read of their keys, in the same order
 abbrev pub keyed_by : {K B V : Type 0} → (K → B) → List (K × V) → List (B × V)
@@ -26,6 +25,11 @@ module _ {K : Type 0} (eq : K → K → Bool) where
   pub record CountsEach (xs : List K) (pairs : List (K × ℕ)) : Type 0 where
     pub counts : (q : K) → unwrap_or (value_of eq pairs q) 0 ≡ count_by (eq q) xs
     pub keys : keys_of pairs ≡ first_of_each xs
+
+  -- the pairs sum these items by key: each key has the sum of the values of its items, and the keys are in order of first occurrence
+  pub record SumsEach (xs : List (K × ℕ)) (pairs : List (K × ℕ)) : Type 0 where
+    pub sums : (q : K) → unwrap_or (value_of eq pairs q) 0 ≡ sum (values_of (filter (λ x. eq q x.0) xs))
+    pub keys : keys_of pairs ≡ first_of_each (keys_of xs)
 
   -- the pairs gather the values of these items by key: what is read of the value of each key are those of its items, in order, and the
   -- keys are in order of their first occurrence

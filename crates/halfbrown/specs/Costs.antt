@@ -1,6 +1,5 @@
 -- What the calls cost: how often a key is hashed, how many keys are compared, and how many buckets are read.
 use Rattle.std.specs.Prelude.{◌≡◌, ℕ, ◌+◌, ◌-◌, ◌≤◌, Bool, true, false, not, ◌&&◌, List, [], ◌∷◌, length, map, count_by, Option, IfSome, is_some, ◌==◌, nat_lt, if◌then◌else◌}
-use Rattle.std.specs.Map.{keys_of}
 use Rattle.std.specs.Hash.{HashWrites}
 use Rattle.halfbrown.specs.Ghosts.{HasherGhosts}
 use Rattle.half_store.specs.Reach.{reach, filling_reach, HomesApart}
@@ -9,7 +8,7 @@ use Rattle.half_store.specs.Table.{hit_reads_in, all_hit_reads_in}
 use Rattle.half_store.specs.Work.{Work, first_match_cost}
 use Rattle.halfbrown.specs.CostRanges.{Cost, Range, GrewBy, no_cost, plus_asked, plus_looked, unless_refused, exactly, between}
 use Rattle.halfbrown.specs.State.{State, make_state, contents_of}
-use Rattle.halfbrown.specs.Pairs.{index_of, holds}
+use Rattle.halfbrown.specs.Pairs.{keys_of, index_of, holds}
 use Rattle.halfbrown.specs.Growth.{is_full, is_vec_after}
 
 -- how often a search hashes its key: never in a vector, once in a table

@@ -2,7 +2,6 @@
 use Rattle.std.specs.Prelude.{◌≡◌, ℕ, Bool, true, false, List, [], ◌∷◌, ◌++◌, ◌⊎◌, Option, reverse}
 use Rattle.std.specs.Iterator.{Count, Yields, Drains}
 use Rattle.std.specs.Iterator.SizeHint.{IsWithinCount}
-use Rattle.std.specs.Map.{keys_of}
 use Rattle.std.specs.Option.{option_or}
 use mathlib.Core.Logic.{inl, inr}
 use Rattle.half_store.specs.Capacity.{is_vec_for}
@@ -12,7 +11,7 @@ use Rattle.halfbrown.specs.CallerLoops.{add_keys, first_of_each}
 use Rattle.halfbrown.specs.Growth.{making_needs, insert_needs, Refusal, IsRefusal}
 use Rattle.halfbrown.specs.Insertion.{Puts}
 use Rattle.halfbrown.specs.Making.{IsMade}
-use Rattle.halfbrown.specs.Pairs.{put, value_of}
+use Rattle.halfbrown.specs.Pairs.{keys_of, put, value_of}
 use Rattle.halfbrown.specs.State.{State, IsValid}
 
 module _ {K V : Type 0} (eq : K → K → Bool) where

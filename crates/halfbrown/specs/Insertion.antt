@@ -1,10 +1,9 @@
 -- What an insertion does or hands back, and the capacity for one pair more that it makes first.
 use Rattle.std.specs.Prelude.{◌≡◌, ℕ, Bool, Option, Some, Result, OnOk, OnErr, IfOk, IfErr, ◌+◌, ◌<◌, nat_lt, [], ◌∷◌, ◌++◌, length, if◌then◌else◌}
-use Rattle.std.specs.Map.{keys_of}
 use Rattle.std.specs.Result.{result_map_both}
 use Rattle.halfbrown.specs.declared.refused.Refused.{Refused}
 use Rattle.halfbrown.specs.Growth.{is_vec_after, insert_needs, new_key_needs, Refusal, IsRefusal, IsGrantable, HasCapacityAfter, Grants}
-use Rattle.halfbrown.specs.Pairs.{index_of, put, value_of}
+use Rattle.halfbrown.specs.Pairs.{keys_of, index_of, put, value_of}
 use Rattle.halfbrown.specs.State.{State, IsValid, make_state, contents_of}
 use Rattle.halfbrown.specs.Updates.{HasPut}
 use Rattle.half_store.specs.Capacity.{least_table_capacity}

@@ -1,9 +1,7 @@
 -- How the fields of a map make its state.
 use Rattle.std.specs.Prelude.{◌≡◌, ℕ, ◌<◌, ◌≤◌, Bool, true, false, length, map}
-use Rattle.std.specs.List.{IsDistinct}
-use Rattle.std.specs.Map.{keys_of}
 use Rattle.half_store.specs.Store.{StoreState}
-use Rattle.halfbrown.specs.State.{State, make_state, IsTableCapacity}
+use Rattle.halfbrown.specs.State.{State, IsDistinct, keys_of, make_state, IsTableCapacity}
 
 -- the state that these fields make
 abbrev pub state_in : {K V S : Type 0} → StoreState K V → S → State K V S

@@ -6,9 +6,8 @@ use Rattle.std.specs.declared.hash.BuildHasherDefault.{BuildHasherDefault}
 use Rattle.std.specs.declared.hash.FoldHasher.{FoldHasher}
 use Rattle.half_store.specs.Capacity.{least_capacity}
 use Rattle.halfbrown.specs.Growth.{making_needs, IsGrantable, Refusal, IsRefusal}
-use Rattle.halfbrown.specs.State.{State}
+use Rattle.halfbrown.specs.State.{State, keys_of}
 use Rattle.std.specs.List.{AllZip}
-use Rattle.std.specs.Map.{keys_of}
 
 -- the builder that a map has where the call that makes it is given none: `DefaultHashBuilder::new()`
 abbrev pub IsDefaultBuilder : BuildHasherDefault FoldHasher → Type 0

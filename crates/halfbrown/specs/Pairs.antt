@@ -1,8 +1,8 @@
 -- Lists of pairs with distinct keys: reading and changing the pair whose key passes a test, or equals k.
 use Rattle.std.specs.Prelude.{◌≡◌, Bool, true, List, [], ◌∷◌, ◌++◌, Option, is_some, if◌then◌else◌}
 use Rattle.std.specs.Option.{option_map_or}
-use Rattle.std.specs.Map.{keys_of, lookup, lookup_entry}
-pub use Rattle.std.specs.Map.{set_value}
+use Rattle.std.specs.Map.{lookup, lookup_entry}
+pub use Rattle.std.specs.Map.{keys_of, values_of, set_value}
 pub use Rattle.half_store.specs.PairLists.{index_of, set_key_at, set_value_at, set_values, swap_remove_at}
 
 -- the test of a lawful query for a key, as that of a text among keys that are strings: once it accepts a key, it accepts exactly its equals

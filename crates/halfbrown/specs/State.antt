@@ -1,7 +1,7 @@
 -- What contracts see of a map.
 use Rattle.std.specs.Prelude.{◌≡◌, ℕ, ◌<◌, ◌≤◌, Bool, true, false, List, length}
-use Rattle.std.specs.List.{IsDistinct}
-use Rattle.std.specs.Map.{keys_of}
+pub use Rattle.std.specs.List.{IsDistinct}
+pub use Rattle.std.specs.Map.{keys_of}
 use Rattle.half_store.specs.Capacity.{least_table_capacity}
 use Rattle.half_store.specs.Table.{Contents, contents_code}
 use base.Stored.{Coded, coded×, coded_list, coded_ℕ, coded_bool, coded_via}

@@ -4,7 +4,7 @@ use Rattle.halfbrown.proofs.Common.{Some, unwrap_or, refl, ap, ◌∙◌, common
 use Rattle.halfbrown.proofs.Common.{values_of, lookup, lookup_entry, option_map, index_of, swap_remove_at, value_of, holds, holds_by, put, set_value, take_out_by}
 use Rattle.halfbrown.proofs.Common.{HasPut}
 use Rattle.std.proofs.Common.{◌⊎◌}
-use Rattle.std.proofs.Common.{reverse, count_by}
+use Rattle.std.proofs.Common.{reverse, count_by, sum}
 use Rattle.std.proofs.Common.{append-nil}
 use Rattle.std.specs.List.{filter, list_any}
 use Rattle.std.specs.Option.{option_map_or}
@@ -18,7 +18,7 @@ use Rattle.halfbrown.specs.Pairs.{IsQuery}
 use Rattle.halfbrown.proofs.callers.Pairs.{value_of_equal, lookup_permuted}
 use Rattle.halfbrown.proofs.lemmas.pairs.Indices.{value_of_entry}
 use Rattle.halfbrown.proofs.lemmas.pairs.Changes.{map-swap_remove_at}
-use Rattle.halfbrown.specs.CallerLoops.{add_key, CountsEach, GroupsEach}
+use Rattle.halfbrown.specs.CallerLoops.{add_key, CountsEach, SumsEach, GroupsEach}
 
 -- ---- whether a key is held, and where
 
@@ -181,3 +181,32 @@ module _ {K X V : Type 0} {eq : K → K → Bool} (laws : IsEquivalence eq) (rea
       → read v ≡ read (unwrap_or (value_of eq old k) d) ++ x ∷ []
       → GroupsEach eq read (take (i + 1) xs) new
   grouped_step xs i x d {old} {new} {k} {v} before puts within item empty more = grind (arith, common_steps, grouped_more, take, take_more)
+
+-- ---- the step of a loop that sums by key
+
+sum_push_value : (xs : List ℕ) (n : ℕ) → sum (xs ++ n ∷ []) ≡ sum xs + n
+sum_push_value xs n = fold_push (λ a x. a + x) 0 xs n
+
+module _ {K : Type 0} {eq : K → K → Bool} (laws : IsEquivalence eq) where
+  sum_push : (q : K) (xs : List (K × ℕ)) (x : K × ℕ)
+      → sum (values_of (filter (λ x. eq q x.0) (xs ++ x ∷ []))) ≡ sum (values_of (filter (λ x. eq q x.0) xs)) + cond (eq q x.0) x.1 0
+  sum_push q xs x = grind (arith, common_steps, group_push eq q xs x, sum_push_value, append-nil)
+
+  sums_by : (xs : List (K × ℕ)) (n : ℕ) {old new : List (K × ℕ)} {k : K} {v : ℕ} → HasPut eq old k v new
+      → v ≡ unwrap_or (value_of eq old k) 0 + n
+      → (q : K) → unwrap_or (value_of eq old q) 0 ≡ sum (values_of (filter (λ x. eq q x.0) xs))
+      → unwrap_or (value_of eq new q) 0 ≡ sum (values_of (filter (λ x. eq q x.0) (xs ++ (k, n) ∷ [])))
+  sums_by xs n {old} {new} {k} {v} puts more q before =
+      grind (arith, common_steps, sum_push q xs (k, n), puts.equals q, puts.others q, laws.symm q k, value_of_equal eq laws old k q)
+
+  -- a put of what is held and n more sums one item more
+  pub summed_more : (xs : List (K × ℕ)) (n : ℕ) {old new : List (K × ℕ)} {k : K} {v : ℕ} → SumsEach eq xs old → HasPut eq old k v new
+      → v ≡ unwrap_or (value_of eq old k) 0 + n → SumsEach eq (xs ++ (k, n) ∷ []) new
+  summed_more xs n {old} {new} {k} {v} before puts more = grind (arith, common_steps, fold_push, sums_by, keys_after_put, map-append)
+
+  -- the same in a loop over a slice
+  pub summed_step : (xs : List (K × ℕ)) (i : ℕ) (d : K × ℕ) {old new : List (K × ℕ)} {k : K} {v : ℕ} → SumsEach eq (take i xs) old
+      → HasPut eq old k v new → i < length xs → k ≡ (get_or xs i d).0 → v ≡ unwrap_or (value_of eq old k) 0 + (get_or xs i d).1
+      → SumsEach eq (take (i + 1) xs) new
+  summed_step xs i d {old} {new} {k} {v} before puts within item more =
+      grind (arith, common_steps, summed_more (take i xs) (get_or xs i d).1 before puts more, take_more xs i d within)

@@ -13,8 +13,8 @@ use Rattle.halfbrown.specs.Making.{ArePairClones, ClonesAreCopies, IsCloneOf}
 use Rattle.halfbrown.specs.Updates.{HasRemoved}
 use Rattle.halfbrown.proofs.callers.Pairs.{has_put, has_removed}
 use Rattle.halfbrown.proofs.lemmas.pairs.Changes.{map-swap_remove_at}
-use Rattle.halfbrown.specs.CallerLoops.{CountsEach, keyed_by}
-use Rattle.halfbrown.proofs.callers.Keys.{count_fits, counted_more, lookup_set}
+use Rattle.halfbrown.specs.CallerLoops.{CountsEach, SumsEach, keyed_by}
+use Rattle.halfbrown.proofs.callers.Keys.{count_fits, counted_more, summed_more, lookup_set}
 
 module _ {K B V : Type 0} (read : K → B) (test : B → Bool) where
   -- what a test of what is read finds
@@ -74,6 +74,19 @@ module _ {K B : Type 0} (read : K → B) {same : B → B → Bool} (laws : IsEqu
       (ap (λ y. map of (take i xs) ++ y ∷ []) item
       ∙ sym (ap (map of) (take_more xs i d within) ∙ map-append of (take i xs) (get_or xs i d ∷ []))) counted
 
+  -- the step of one that sums by what is read of keys: `of` reads of an item what its key has, and the number
+  pub summed_read_step : {A S : Type 0} {limit : ℕ} (of : A → B × ℕ) (xs : List A) (i : ℕ) (d : A) {old new : State K ℕ S} {k : K} {v : ℕ}
+      {needs : Option ℕ} → SumsEach same (map of (take i xs)) (keyed_by read old.pairs)
+      → Puts limit (λ x y. same (read x) (read y)) old k v needs new → i < length xs → read k ≡ (of (get_or xs i d)).0
+      → v ≡ unwrap_or (lookup (λ x. same (read k) (read x)) old.pairs) 0 + (of (get_or xs i d)).1
+      → SumsEach same (map of (take (i + 1) xs)) (keyed_by read new.pairs)
+  summed_read_step of xs i d {old} {new} {k} {v} before puts within item more =
+      let summed = summed_more laws (map of (take i xs)) (of (get_or xs i d)).1 before (has_put_read puts)
+      (more ∙ ap (λ o. unwrap_or o 0 + (of (get_or xs i d)).1) (sym (lookup-keyed_by read (same (read k)) old.pairs))) in
+      subst (λ ys. SumsEach same ys (keyed_by read new.pairs))
+      (ap (λ y. map of (take i xs) ++ (y, (of (get_or xs i d)).1) ∷ []) item
+      ∙ sym (ap (map of) (take_more xs i d within) ∙ map-append of (take i xs) (get_or xs i d ∷ []))) summed
+
   -- no count is more than there are items
   pub count_read_fits : {A : Type 0} (of : A → B) (xs : List A) (ps : List (K × ℕ)) → CountsEach same (map of xs) (keyed_by read ps)
       → (k : K) → unwrap_or (lookup (λ x. same (read k) (read x)) ps) 0 ≤ length xs
@@ -131,6 +144,14 @@ pub counted_text_step :
     → i < length xs → string_bytes k ≡ of (get_or xs i d) → v ≡ unwrap_or (value_of string_eq old.pairs k) 0 + 1
     → CountsEach bytes_eq (map of (take (i + 1) xs)) (keyed_by string_bytes new.pairs)
 counted_text_step = counted_read_step string_bytes nat_list_eq_equiv
+
+-- the step of one that sums by text: `of` reads of an item its text and its number
+pub summed_text_step :
+    {A Y S : Type 0} {limit : ℕ} (of : A → List ℕ × ℕ) (xs : List A) (i : ℕ) (d : A) {old new : State (String Y) ℕ S} {k : String Y} {v : ℕ}
+    {needs : Option ℕ} → SumsEach bytes_eq (map of (take i xs)) (keyed_by string_bytes old.pairs) → Puts limit string_eq old k v needs new
+    → i < length xs → string_bytes k ≡ (of (get_or xs i d)).0 → v ≡ unwrap_or (value_of string_eq old.pairs k) 0 + (of (get_or xs i d)).1
+    → SumsEach bytes_eq (map of (take (i + 1) xs)) (keyed_by string_bytes new.pairs)
+summed_text_step = summed_read_step string_bytes nat_list_eq_equiv
 
 -- no count is more than there are items, so that one more fits
 pub count_text_fits : {A Y : Type 0} (of : A → List ℕ) (xs : List A) (ps : List (String Y × ℕ))
