@@ -25,6 +25,7 @@ pub fn saved(
 pub struct Users {
     pub ages: HashMap<u64, u32>,
     pub ids: HashMap<String, u64>,
+    pub next_id: u64,
 }
 
 /// A clone has the same ages in the same order, and the same names with their IDs.
@@ -32,6 +33,7 @@ pub fn snapshot(users: &Users) -> Result<Users, AllocError>
     ensures ages { IfOk result (λ copy. copy.ages.pairs ≡ users.now.ages.pairs) }
     ensures ids { IfOk result (λ copy. keyed_by string_bytes copy.ids.pairs
         ≡ keyed_by string_bytes users.now.ids.pairs) }
+    ensures next_id { IfOk result (λ copy. copy.next_id ≡ users.now.next_id) }
 {
     let copy = users.clone()?;
     Ok(copy)

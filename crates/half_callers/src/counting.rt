@@ -1,7 +1,7 @@
 //! What callers build in a loop: counts of words, and values summed or gathered by key.
-ghost use Rattle.std.specs.Prelude.{◌≡◌, true, IfOk, IfSome, OnOk, map};
+ghost use Rattle.std.specs.Prelude.{◌≡◌, ℕ, ◌^◌, ◌<◌, List, true, IfOk, IfSome, OnOk, filter, is_some, map, sum};
 ghost use Rattle.std.specs.List.{list_any};
-ghost use Rattle.std.specs.Map.{keys_of};
+ghost use Rattle.std.specs.Map.{keys_of, values_of};
 ghost use Rattle.std.specs.Str.{bytes_eq};
 ghost use Rattle.std.specs.String.{string_bytes};
 ghost use Rattle.halfbrown.specs.CallerLoops.{add_key, CountsEach, GroupsEach, SumsEach, keyed_by};
@@ -50,31 +50,30 @@ pub fn count_texts(alloc: Global, words: &[&str]) -> Result<HashMap<String, u64>
     Ok(counts)
 }
 
-/// The sum of the amounts of each key, or none where a sum does not fit. The keys are held in order of their first occurrence.
+/// The sum of the amounts of each key, where each fits. The keys are held in order of their first occurrence.
 pub fn sum_by_key<K: Eq + Hash + Copy>(
     alloc: Global,
     items: &[(K, u64)],
-) -> Result<Option<HashMap<K, u64>>, Refusal>
-    ensures { IfOk result (λ sums. IfSome sums (λ sums. SumsEach K.eq items.now sums.pairs)) }
+) -> Result<HashMap<K, u64>, Refusal>
+    requires fits { (key : K) → sum (values_of (filter (λ item. K.eq key item.0) items.now)) < 2 ^ 64 }
+    ensures { IfOk result (λ sums. SumsEach K.eq items.now sums.pairs) }
 {
     let mut sums = HashMap::new(alloc);
     for (key, amount) in items {
-        let sum: &mut u64 = sums.entry(*key)?.or_insert(0);
-        let Some(more) = sum.checked_add(*amount) else {
-            return Ok(None);
-        };
-        *sum = more;
+        *sums.entry(*key)?.or_insert(0) += *amount;
     }
-    Ok(Some(sums))
+    Ok(sums)
 }
 
-/// The same of texts, as of the rows of a table. The map owns its keys, and the clause speaks of every text.
+/// The sum of the amounts of each text, or none where one does not fit. The map owns its keys, and the clauses speak of every text.
 pub fn sum_by_text(
     alloc: Global,
     rows: &[(&str, u64)],
 ) -> Result<Option<HashMap<String, u64>>, Refusal>
-    ensures { IfOk result (λ sums. IfSome sums (λ sums. SumsEach bytes_eq (map (λ row. (row.0.now, row.1)) rows.now)
+    ensures sums { IfOk result (λ sums. IfSome sums (λ sums. SumsEach bytes_eq (map (λ row. (row.0.now, row.1)) rows.now)
         (keyed_by string_bytes sums.pairs))) }
+    ensures fits { ((text : List ℕ) → sum (values_of (filter (λ item. bytes_eq text item.0)
+        (map (λ row. (row.0.now, row.1)) rows.now))) < 2 ^ 64) → IfOk result (λ sums. is_some sums ≡ true) }
 {
     let mut sums = HashMap::new(alloc);
     for (name, amount) in rows {

@@ -1,11 +1,11 @@
 -- What follows of changed lists of pairs, for callers: the set `map_facts` has those that `grind` applies, and `using` takes it.
-use Rattle.halfbrown.proofs.Common.{◌≡◌, ℕ, ◌+◌, ◌<◌, ◌≤◌, Bool, true, false, length, arith, suc, cond, List, [], ◌∷◌, ◌++◌, take, get_or, slice_get, Option}
-use Rattle.halfbrown.proofs.Common.{Some, unwrap_or, refl, ap, ◌∙◌, common_steps, map-append, take_more, IsDistinct-tail, IsEquivalence, IsDistinct, keys_of}
+use Rattle.halfbrown.proofs.Common.{◌≡◌, ℕ, ◌+◌, ◌<◌, ◌≤◌, Bool, true, false, length, arith, zero, suc, cond, List, [], ◌∷◌, ◌++◌, take, get_or, slice_get, Option}
+use Rattle.halfbrown.proofs.Common.{Some, unwrap_or, refl, ap, ◌∙◌, subst, common_steps, map-append, take_more, IsDistinct-tail, IsEquivalence, IsDistinct, keys_of}
 use Rattle.halfbrown.proofs.Common.{values_of, lookup, lookup_entry, option_map, index_of, swap_remove_at, value_of, holds, holds_by, put, set_value, take_out_by}
 use Rattle.halfbrown.proofs.Common.{HasPut}
 use Rattle.std.proofs.Common.{◌⊎◌}
-use Rattle.std.proofs.Common.{reverse, count_by, sum}
-use Rattle.std.proofs.Common.{append-nil}
+use Rattle.std.proofs.Common.{reverse, count_by, map, sum}
+use Rattle.std.proofs.Common.{append-nil, map-id}
 use Rattle.std.specs.List.{filter, list_any}
 use Rattle.std.specs.Option.{option_map_or}
 use Rattle.std.proofs.lemmas.Cmp.{nat_eq_equiv}
@@ -184,6 +184,15 @@ module _ {K X V : Type 0} {eq : K → K → Bool} (laws : IsEquivalence eq) (rea
 
 -- ---- the step of a loop that sums by key
 
+-- the sum up to an item of those that pass a test, as it does, and its value are within the whole sum of these
+pub sum_within : {A K : Type 0} (of : A → K × ℕ) (test : K → Bool) (xs : List A) (i : ℕ) (d : A) → i < length xs
+    → test (of (get_or xs i d)).0 ≡ true
+    → sum (values_of (filter (λ x. test x.0) (map of (take i xs)))) + (of (get_or xs i d)).1
+    ≤ sum (values_of (filter (λ x. test x.0) (map of xs)))
+sum_within of test [] i d within passes = grind (arith, common_steps)
+sum_within of test (x ∷ xs) zero d within passes = grind (arith, common_steps)
+sum_within of test (x ∷ xs) (suc i) d within passes = grind (arith, common_steps, sum_within of test xs i d)
+
 sum_push_value : (xs : List ℕ) (n : ℕ) → sum (xs ++ n ∷ []) ≡ sum xs + n
 sum_push_value xs n = fold_push (λ a x. a + x) 0 xs n
 
@@ -210,3 +219,11 @@ module _ {K : Type 0} {eq : K → K → Bool} (laws : IsEquivalence eq) where
       → SumsEach eq (take (i + 1) xs) new
   summed_step xs i d {old} {new} {k} {v} before puts within item more =
       grind (arith, common_steps, summed_more (take i xs) (get_or xs i d).1 before puts more, take_more xs i d within)
+
+  -- no sum is more than that of all items of its key, so that one more fits where that does
+  pub sum_fits : (xs : List (K × ℕ)) (i : ℕ) (d : K × ℕ) (ps : List (K × ℕ)) (k : K) → SumsEach eq (take i xs) ps → i < length xs
+      → k ≡ (get_or xs i d).0
+      → unwrap_or (value_of eq ps k) 0 + (get_or xs i d).1 ≤ sum (values_of (filter (λ x. eq k x.0) xs))
+  sum_fits xs i d ps k before within item =
+      let same = subst (λ x. eq k x ≡ true) item (laws.refl k) in
+      grind (arith, common_steps, before.sums k, sum_within (λ x. x) (eq k) xs i d within same, map-id)

@@ -1,10 +1,10 @@
 -- Pairs under what is read of their keys, as texts under their bytes: a look-up, a put, a set value and a removal there.
-use Rattle.halfbrown.proofs.Common.{◌≡◌, ℕ, ◌+◌, ◌<◌, ◌≤◌, Bool, false, length, arith, cond, List, [], ◌∷◌, ◌++◌, take, get_or, Option, Some, unwrap_or, refl}
-use Rattle.halfbrown.proofs.Common.{ap, ◌∙◌, sym, subst, map, common_steps, map-append, take_more, IsEquivalence, AllByRecursion, keys_of, lookup, option_map}
+use Rattle.halfbrown.proofs.Common.{◌≡◌, ℕ, ◌+◌, ◌<◌, ◌≤◌, Bool, true, false, length, arith, cond, List, [], ◌∷◌, ◌++◌, take, get_or, Option, Some, unwrap_or, refl}
+use Rattle.halfbrown.proofs.Common.{ap, ◌∙◌, sym, subst, map, common_steps, map-append, take_more, IsEquivalence, AllByRecursion, keys_of, values_of, lookup, option_map}
 use Rattle.halfbrown.proofs.Common.{index_of, value_of, put, set_value, take_out_by, Removes, State, HasPut}
-use Rattle.std.proofs.Common.{String}
+use Rattle.std.proofs.Common.{String, sum}
 use Rattle.std.specs.Cmp.Lexicographic.{nat_list_eq_equiv}
-use Rattle.std.specs.List.{IsDistinct}
+use Rattle.std.specs.List.{IsDistinct, filter}
 use Rattle.std.specs.Str.{bytes_eq}
 use Rattle.std.specs.String.{string_bytes, string_eq}
 use Rattle.std.proofs.Math.ListN.{length-map}
@@ -14,7 +14,7 @@ use Rattle.halfbrown.specs.Updates.{HasRemoved}
 use Rattle.halfbrown.proofs.callers.Pairs.{has_put, has_removed}
 use Rattle.halfbrown.proofs.lemmas.pairs.Changes.{map-swap_remove_at}
 use Rattle.halfbrown.specs.CallerLoops.{CountsEach, SumsEach, keyed_by}
-use Rattle.halfbrown.proofs.callers.Keys.{count_fits, counted_more, summed_more, lookup_set}
+use Rattle.halfbrown.proofs.callers.Keys.{count_fits, counted_more, summed_more, sum_within, lookup_set}
 
 module _ {K B V : Type 0} (read : K → B) (test : B → Bool) where
   -- what a test of what is read finds
@@ -94,6 +94,16 @@ module _ {K B : Type 0} (read : K → B) {same : B → B → Bool} (laws : IsEqu
       let most = count_fits laws counted (read k) in
       omega (arith, most, length-map xs of, ap (λ o. unwrap_or o 0) (lookup-keyed_by read (same (read k)) ps))
 
+  -- no sum is more than that of all items which have what is read of the key
+  pub sum_read_fits : {A : Type 0} (of : A → B × ℕ) (xs : List A) (i : ℕ) (d : A) (ps : List (K × ℕ)) (k : K)
+      → SumsEach same (map of (take i xs)) (keyed_by read ps) → i < length xs → read k ≡ (of (get_or xs i d)).0
+      → unwrap_or (lookup (λ x. same (read k) (read x)) ps) 0 + (of (get_or xs i d)).1
+      ≤ sum (values_of (filter (λ x. same (read k) x.0) (map of xs)))
+  sum_read_fits of xs i d ps k before within item =
+      let passes = subst (λ b. same (read k) b ≡ true) item (laws.refl (read k)) in
+      let held = ap (λ o. unwrap_or o 0) (lookup-keyed_by read (same (read k)) ps) in
+      omega (arith, before.sums (read k), held, sum_within of (same (read k)) xs i d within passes)
+
 -- clones that keep what is read of each key, and each value, keep the pairs under that
 pub keyed_by-clones : {K B V : Type 0} (read : K → B) {key_clone : K → K → Type 0} {value_clone : V → V → Type 0}
     → ((k copy : K) → key_clone k copy → read copy ≡ read k) → ClonesAreCopies value_clone
@@ -152,6 +162,14 @@ pub summed_text_step :
     → i < length xs → string_bytes k ≡ (of (get_or xs i d)).0 → v ≡ unwrap_or (value_of string_eq old.pairs k) 0 + (of (get_or xs i d)).1
     → SumsEach bytes_eq (map of (take (i + 1) xs)) (keyed_by string_bytes new.pairs)
 summed_text_step = summed_read_step string_bytes nat_list_eq_equiv
+
+-- no sum is more than that of all items of its text, so that one more fits where that does
+pub sum_text_fits :
+    {A Y : Type 0} (of : A → List ℕ × ℕ) (xs : List A) (i : ℕ) (d : A) (ps : List (String Y × ℕ)) (k : String Y)
+    → SumsEach bytes_eq (map of (take i xs)) (keyed_by string_bytes ps) → i < length xs → string_bytes k ≡ (of (get_or xs i d)).0
+    → unwrap_or (value_of string_eq ps k) 0 + (of (get_or xs i d)).1
+    ≤ sum (values_of (filter (λ x. bytes_eq (string_bytes k) x.0) (map of xs)))
+sum_text_fits = sum_read_fits string_bytes nat_list_eq_equiv
 
 -- no count is more than there are items, so that one more fits
 pub count_text_fits : {A Y : Type 0} (of : A → List ℕ) (xs : List A) (ps : List (String Y × ℕ))
