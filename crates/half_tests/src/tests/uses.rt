@@ -205,10 +205,7 @@ fn values_are_summed_by_labels(rt: HostRuntime) -> Result<(), Fail> {
     assert_same((sums.total(), first), (820, Some(1)), "0 to 39, and 40")?;
     let last = [("path", "/39"), ("method", "GET")];
     assert_sum(rt.alloc(), &sums, &last, Some(40))?;
-    assert_labels(&labels_of(rt.alloc(), &last)?)
-}
-
-fn assert_labels(labels: &Labels) -> Result<(), Fail> {
+    let labels = labels_of(rt.alloc(), &last)?;
     let path = labels.get("path").map(|text| text.as_str());
     assert_same((path, labels.len()), (Some("/39"), 2), "each once")
 }
