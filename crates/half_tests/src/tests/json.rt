@@ -96,41 +96,43 @@ fn a_path_leads_to_a_value(rt: HostRuntime) -> Result<(), Fail> {
     assert_same(refused, Some(Error::Invalid), "an object that does not end")
 }
 
-// The table of RFC 6901, section 5, and what the RFC says of other paths.
+// The text and the table of RFC 6901, section 5, and what the RFC says of other paths. A constant is proved sooner than a list.
+const POINTED: &str =
+    r#"{"foo":["bar","baz"],"":0,"a/b":1,"c%d":2,"e^f":3,"g|h":4,"i\\j":5,"k\"l":6," ":7,"m~n":8}"#;
+
+const POINTERS: [(&str, Option<&str>); 25] = [
+    ("", Some(POINTED)),
+    ("/foo", Some(r#"["bar","baz"]"#)),
+    ("/foo/0", Some(r#""bar""#)),
+    ("/", Some("0")),
+    ("/a~1b", Some("1")),
+    ("/c%d", Some("2")),
+    ("/e^f", Some("3")),
+    ("/g|h", Some("4")),
+    (r"/i\j", Some("5")),
+    ("/k\"l", Some("6")),
+    ("/ ", Some("7")),
+    ("/m~0n", Some("8")),
+    // A slash always begins a step, and a ~ stands for nothing by itself.
+    ("/a/b", None),
+    ("/m~n", None),
+    ("/m~", None),
+    ("/m~2n", None),
+    // An index has digits alone, and no zero before them.
+    ("/foo/1", Some(r#""baz""#)),
+    ("/foo/2", None),
+    ("/foo/01", None),
+    ("/foo/00", None),
+    ("/foo/+1", None),
+    ("/foo/-", None),
+    ("/foo/", None),
+    ("/foo/18446744073709551616", None),
+    ("/foo/0/", None),
+];
+
 #[test]
 fn a_path_is_a_json_pointer(rt: HostRuntime) -> Result<(), Fail> {
-    let text =
-        r#"{"foo":["bar","baz"],"":0,"a/b":1,"c%d":2,"e^f":3,"g|h":4,"i\\j":5,"k\"l":6," ":7,"m~n":8}"#;
-    let cases = [
-        ("", Some(text)),
-        ("/foo", Some(r#"["bar","baz"]"#)),
-        ("/foo/0", Some(r#""bar""#)),
-        ("/", Some("0")),
-        ("/a~1b", Some("1")),
-        ("/c%d", Some("2")),
-        ("/e^f", Some("3")),
-        ("/g|h", Some("4")),
-        (r"/i\j", Some("5")),
-        ("/k\"l", Some("6")),
-        ("/ ", Some("7")),
-        ("/m~0n", Some("8")),
-        // A slash always begins a step, and a ~ stands for nothing by itself.
-        ("/a/b", None),
-        ("/m~n", None),
-        ("/m~", None),
-        ("/m~2n", None),
-        // An index has digits alone, and no zero before them.
-        ("/foo/1", Some(r#""baz""#)),
-        ("/foo/2", None),
-        ("/foo/01", None),
-        ("/foo/00", None),
-        ("/foo/+1", None),
-        ("/foo/-", None),
-        ("/foo/", None),
-        ("/foo/18446744073709551616", None),
-        ("/foo/0/", None),
-    ];
-    assert_paths(rt.alloc(), text, &cases)
+    assert_paths(rt.alloc(), POINTED, &POINTERS)
 }
 
 // The RFC takes `~1` first: `~01` is `~1`, and no slash.
@@ -191,7 +193,7 @@ fn remove_member(alloc: Global, value: &mut Value) -> Result<(), Fail> {
     assert_written(alloc, value, r#"{"b":{"c":true},"d":[]}"#)
 }
 
-// Where the path leads the new value stands from now on. There was one of this text.
+// Sets what the path leads to. The value before has this text.
 fn assert_set(
     alloc: Global,
     document: &mut Value,

@@ -60,30 +60,22 @@ fn limits_that_no_script_has(rt: HostRuntime) -> Result<(), Fail> {
 
 #[test]
 fn five_hundred_texts(rt: HostRuntime) -> Result<(), Fail> {
-    let mut map = HashMap::<String, u64>::new(rt.alloc());
-    add_texts(rt.alloc(), &mut map)?;
-    remove_half(rt.alloc(), &mut map)?;
+    let alloc = rt.alloc();
+    let mut map = HashMap::<String, u64>::new(alloc);
+    for number in 0..500u64 {
+        map.insert(format!(in alloc; "text {number}")?, number)?;
+    }
+    for number in 250..500u64 {
+        let text = format!(in alloc; "text {number}")?;
+        let held = map.get(text.as_str()).copied();
+        let removed = map.remove(text.as_str());
+        assert_same((held, removed), (Some(number), held), "held")?;
+    }
     map.shrink_to_fit();
     assert_same(map.capacity(), 384, "of 512 buckets")?;
     map.retain(|_, value| *value < 32);
     map.shrink_to_fit();
     assert_same((map.is_vec(), map.capacity()), (true, 32), "a full vector")
-}
-
-fn add_texts(alloc: Global, map: &mut HashMap<String, u64>) -> Result<(), Fail> {
-    for number in 0..500u64 {
-        map.insert(format!(in alloc; "text {number}")?, number)?;
-    }
-    Ok(())
-}
-
-fn remove_half(alloc: Global, map: &mut HashMap<String, u64>) -> Result<(), Fail> {
-    for number in 250..500u64 {
-        let text = format!(in alloc; "text {number}")?;
-        let seen = (map.get(text.as_str()).copied(), map.remove(text.as_str()));
-        assert_same(seen, (Some(number), Some(number)), "held")?;
-    }
-    Ok(())
 }
 
 // Of these many values a loop writes the first seven, and is broken off. The later ones are as before.

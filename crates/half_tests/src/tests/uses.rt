@@ -127,11 +127,7 @@ fn fill_the_small(cache: &mut BoundedCache<u64, u64>) -> Result<(), Fail> {
     let first = [cache.insert(1, 10), cache.insert(2, 20)];
     assert_same(first, [None, None], "there is room for two")?;
     let seen = (cache.get(&1), cache.peek(&2));
-    assert_same(
-        seen,
-        (Some(10), Some(&20)),
-        "1 is used thereby, and 2 is not",
-    )?;
+    assert_same(seen, (Some(10), Some(&20)), "1 alone is used")?;
     // 2 is the oldest, 1 gives up its own pair, and then 3 is the oldest.
     let gone = [(3, 30), (1, 11), (4, 40)].map(|(key, value)| cache.insert(key, value));
     let expected = [Some((2, 20)), Some((1, 10)), Some((3, 30))];
@@ -212,12 +208,13 @@ fn values_are_summed_by_labels(rt: HostRuntime) -> Result<(), Fail> {
 
 #[test]
 fn a_bank_keeps_its_total(rt: HostRuntime) -> Result<(), Fail> {
-    transfer_and_close(&mut Bank::new(rt.alloc()))
+    let mut bank = Bank::<u64>::new(rt.alloc());
+    bank.open(1, 50)?;
+    bank.open(2, 0)?;
+    transfer_and_close(&mut bank)
 }
 
 fn transfer_and_close(bank: &mut Bank<u64>) -> Result<(), Fail> {
-    bank.open(1, 50)?;
-    bank.open(2, 0)?;
     let done = [bank.transfer(&1, &2, 20), bank.transfer(&1, &1, 30)];
     assert_same(done, [Ok(()), Ok(())], "1 has enough, and for itself")?;
     let declined = [bank.transfer(&1, &2, 31), bank.transfer(&1, &3, 1)];
