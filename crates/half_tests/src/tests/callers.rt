@@ -21,16 +21,22 @@ type Scope = SizedHashMap<u64, u64, DefaultHashBuilder, 8>;
 
 #[test]
 fn names_and_labels(rt: HostRuntime) -> Result<(), Fail> {
-    let mut scope = Scope::new(rt.alloc());
-    assert_same(declare(&mut scope, 7, 70)?, None, "new")?;
-    assert_same(forget(&mut scope, &7), Some(70), "its meaning")?;
-    assert_same(stored(&mut scope, 9, 90)?, 90, "by index")?;
-    let means = (meaning(&mut scope, 1, 10)?, meaning(&mut scope, 1, 11)?);
-    assert_same(means, (10, 10), "new, and known")?;
-    let mut labels = HashMap::<u64, ()>::new(rt.alloc());
-    let is_new = (add_label(&mut labels, 3)?, add_label(&mut labels, 3)?);
+    use_names(&mut Scope::new(rt.alloc()))?;
+    use_labels(&mut HashMap::new(rt.alloc()))
+}
+
+fn use_names(scope: &mut Scope) -> Result<(), Fail> {
+    let names = (declare(scope, 7, 70)?, forget(scope, &7));
+    assert_same(names, (None, Some(70)), "new, and its meaning")?;
+    assert_same(stored(scope, 9, 90)?, 90, "by index")?;
+    let means = (meaning(scope, 1, 10)?, meaning(scope, 1, 11)?);
+    assert_same(means, (10, 10), "new, and known")
+}
+
+fn use_labels(labels: &mut HashMap<u64, ()>) -> Result<(), Fail> {
+    let is_new = (add_label(labels, 3)?, add_label(labels, 3)?);
     assert_same(is_new, (true, false), "added once")?;
-    let is_on = (toggle(&mut labels, 1)?, toggle(&mut labels, 1)?);
+    let is_on = (toggle(labels, 1)?, toggle(labels, 1)?);
     assert_same(is_on, (true, false), "on, and off")
 }
 
@@ -66,26 +72,20 @@ fn ada_is_37(rt: HostRuntime) -> Result<(), Fail> {
 fn written_pairs_and_limits(rt: HostRuntime) -> Result<(), Fail> {
     let alloc = rt.alloc();
     let mut evaluated = 0;
-    let five = five_ages(alloc, &mut evaluated)?;
-    assert_same((five.len(), evaluated), (5, 1), "by one allocator")?;
+    let five = five_ages(alloc, &mut evaluated)?.len();
+    assert_same((five, evaluated), (5, 1), "by one allocator")?;
     let ages = (no_ages(alloc)?.len(), one_age(alloc, 36)?.len());
     assert_same(ages, (0, 1), "as many as are written")?;
-    assert_same(
-        numbered(alloc, &mut 0)?.get(&3).copied(),
-        Some(4),
-        "the last",
-    )?;
+    let last = numbered(alloc, &mut 0)?.get(&3).copied();
+    assert_same(last, Some(4), "the last")?;
     assert_true(at_and_above_32(alloc)?.0.is_empty(), "two maps")?;
-    let mut scope = at_and_above_8(alloc)?.0;
-    let means = (
-        raw_meaning(&mut scope, 1, 10)?,
-        raw_meaning(&mut scope, 1, 11)?,
-    );
-    assert_same(
-        (means, raw_look_up(&scope, 1)),
-        ((10, 10), 10),
-        "new, and known",
-    )
+    use_raw_entries(&mut at_and_above_8(alloc)?.0)
+}
+
+fn use_raw_entries(scope: &mut Scope) -> Result<(), Fail> {
+    let means = (raw_meaning(scope, 1, 10)?, raw_meaning(scope, 1, 11)?);
+    let seen = (means, raw_look_up(scope, 1));
+    assert_same(seen, ((10, 10), 10), "new, and known")
 }
 
 #[test]

@@ -8,6 +8,8 @@ ghost use Rattle.json_value.specs.declared.value.Value.{Bool};
 use json_value::{Error, Value};
 use std::alloc::Global;
 use std::mem;
+use std::test::Fail;
+use test_support::asserts::{assert_same, assert_same_at};
 
 // Gives a member that is there a new value, through the map.
 fn replace_member(document: &mut Value, name: &str, value: Value) -> Option<Value>
@@ -63,160 +65,185 @@ fn text_at(alloc: Global, text: &str, path: &str) -> Result<Option<String>, Erro
     }
 }
 
+// Each path leads to a value of this text, or to none.
+fn assert_paths(alloc: Global, text: &str, cases: &[(&str, Option<&str>)]) -> Result<(), Fail> {
+    for (path, wanted) in cases {
+        let found = text_at(alloc, text, path)?;
+        let found = found.as_ref().map(|text| text.as_str());
+        assert_same_at(*path, found, *wanted, "the value there")?;
+    }
+    Ok(())
+}
+
+fn assert_written(alloc: Global, value: &Value, wanted: &str) -> Result<(), Fail> {
+    let text = value.to_string(alloc)?;
+    assert_same(text.as_str(), wanted, "its text")
+}
+
 #[test]
-fn a_path_leads_to_a_value(rt: HostRuntime) -> Result<(), Error> {
+fn a_path_leads_to_a_value(rt: HostRuntime) -> Result<(), Fail> {
     let text = r#"{"a": [1, {"b": 2}], "c": null, "a": [3, {"b": "x"}]}"#;
-    for (path, wanted) in [
+    let cases = [
         // Of members of one name the last value wins, at the place of the first.
         ("", Some(r#"{"a":[3,{"b":"x"}],"c":null}"#)),
         ("/a/1/b", Some(r#""x""#)),
         ("/a/2", None),
         // A path begins with a slash.
         ("a", None),
-    ] {
-        let found = text_at(rt.alloc(), text, path)?;
-        assert_eq!(rt; found.as_ref().map(|text| text.as_str()), wanted, "{path}");
-    }
+    ];
+    assert_paths(rt.alloc(), text, &cases)?;
     let refused = text_at(rt.alloc(), "{", "").err();
-    assert_eq!(rt;
-        refused,
-        Some(Error::Invalid),
-        "an object that does not end"
-    );
-    Ok(())
+    assert_same(refused, Some(Error::Invalid), "an object that does not end")
 }
 
-// The table of RFC 6901, section 5, and what the RFC says of other paths.
+// The text and the table of RFC 6901, section 5, and what the RFC says of other paths. A constant is proved sooner than a list.
+const POINTED: &str =
+    r#"{"foo":["bar","baz"],"":0,"a/b":1,"c%d":2,"e^f":3,"g|h":4,"i\\j":5,"k\"l":6," ":7,"m~n":8}"#;
+
+const POINTERS: [(&str, Option<&str>); 25] = [
+    ("", Some(POINTED)),
+    ("/foo", Some(r#"["bar","baz"]"#)),
+    ("/foo/0", Some(r#""bar""#)),
+    ("/", Some("0")),
+    ("/a~1b", Some("1")),
+    ("/c%d", Some("2")),
+    ("/e^f", Some("3")),
+    ("/g|h", Some("4")),
+    (r"/i\j", Some("5")),
+    ("/k\"l", Some("6")),
+    ("/ ", Some("7")),
+    ("/m~0n", Some("8")),
+    // A slash always begins a step, and a ~ stands for nothing by itself.
+    ("/a/b", None),
+    ("/m~n", None),
+    ("/m~", None),
+    ("/m~2n", None),
+    // An index has digits alone, and no zero before them.
+    ("/foo/1", Some(r#""baz""#)),
+    ("/foo/2", None),
+    ("/foo/01", None),
+    ("/foo/00", None),
+    ("/foo/+1", None),
+    ("/foo/-", None),
+    ("/foo/", None),
+    ("/foo/18446744073709551616", None),
+    ("/foo/0/", None),
+];
+
 #[test]
-fn a_path_is_a_json_pointer(rt: HostRuntime) -> Result<(), Error> {
-    let text =
-        r#"{"foo":["bar","baz"],"":0,"a/b":1,"c%d":2,"e^f":3,"g|h":4,"i\\j":5,"k\"l":6," ":7,"m~n":8}"#;
-    for (path, wanted) in [
-        ("", Some(text)),
-        ("/foo", Some(r#"["bar","baz"]"#)),
-        ("/foo/0", Some(r#""bar""#)),
-        ("/", Some("0")),
-        ("/a~1b", Some("1")),
-        ("/c%d", Some("2")),
-        ("/e^f", Some("3")),
-        ("/g|h", Some("4")),
-        (r"/i\j", Some("5")),
-        ("/k\"l", Some("6")),
-        ("/ ", Some("7")),
-        ("/m~0n", Some("8")),
-        // A slash always begins a step, and a ~ stands for nothing by itself.
-        ("/a/b", None),
-        ("/m~n", None),
-        ("/m~", None),
-        ("/m~2n", None),
-        // An index has digits alone, and no zero before them.
-        ("/foo/1", Some(r#""baz""#)),
-        ("/foo/2", None),
-        ("/foo/01", None),
-        ("/foo/00", None),
-        ("/foo/+1", None),
-        ("/foo/-", None),
-        ("/foo/", None),
-        ("/foo/18446744073709551616", None),
-        ("/foo/0/", None),
-    ] {
-        let found = text_at(rt.alloc(), text, path)?;
-        assert_eq!(rt; found.as_ref().map(|text| text.as_str()), wanted, "{path}");
-    }
-    Ok(())
+fn a_path_is_a_json_pointer(rt: HostRuntime) -> Result<(), Fail> {
+    assert_paths(rt.alloc(), POINTED, &POINTERS)
 }
 
 // The RFC takes `~1` first: `~01` is `~1`, and no slash.
 #[test]
-fn an_escape_stands_for_one_character(rt: HostRuntime) -> Result<(), Error> {
+fn an_escape_stands_for_one_character(rt: HostRuntime) -> Result<(), Fail> {
     let text = r#"{"~1":{"/":{"~~//":1}},"/":2,"~01":3,"~":4}"#;
-    for (path, wanted) in [
+    let cases = [
         ("/~01/~1/~0~0~1~1", Some("1")),
         ("/~1", Some("2")),
         ("/~001", Some("3")),
         ("/~0", Some("4")),
         ("/~01/~1/~0~0~1", None),
         ("/~01/~1/~0~0~1~1~1", None),
-    ] {
-        let found = text_at(rt.alloc(), text, path)?;
-        assert_eq!(rt; found.as_ref().map(|text| text.as_str()), wanted, "{path}");
-    }
-    Ok(())
+    ];
+    assert_paths(rt.alloc(), text, &cases)
 }
 
 #[test]
-fn members_are_compared_in_any_order(rt: HostRuntime) -> Result<(), Error> {
+fn members_are_compared_in_any_order(rt: HostRuntime) -> Result<(), Fail> {
     for (text, other, wanted) in [
         (r#"{"a": 1, "b": [2]}"#, r#"{"b": [2], "a": 1}"#, true),
         (r#"{"a": 1}"#, r#"{"a": 1, "b": 2}"#, false),
         ("[1, 2]", "[2, 1]", false),
     ] {
         let is_same = Value::parse(rt.alloc(), text)? == Value::parse(rt.alloc(), other)?;
-        assert_eq!(rt; is_same, wanted, "{text} and {other}");
+        assert_same_at((text, other), is_same, wanted, "equality")?;
     }
     Ok(())
 }
 
 #[test]
-fn members_are_changed_and_merged(rt: HostRuntime) -> Result<(), Error> {
-    let alloc = rt.alloc();
-    let mut value = Value::parse(alloc, r#"{"a": 1, "b": {"c": 2}}"#)?;
-    mark(&mut value, "/b/c")?;
-    assert_eq!(rt; replace_member(&mut value, "c", Value::Null), None);
-    let before = replace_member(&mut value, "a", Value::Bool(false));
-    assert_eq!(rt; before, Some(Value::parse(alloc, "1")?));
-    value.merge(Value::parse(alloc, r#"{"d": [], "a": null}"#)?)?;
-    let text = value.to_string(alloc)?;
-    assert_eq!(rt; text.as_str(), r#"{"a":null,"b":{"c":true},"d":[]}"#);
-    let refused = value.merge(Value::Null).err();
-    assert_eq!(rt; refused, Some(Error::NoObject));
-    let removed = value.remove("a");
-    assert_eq!(rt; removed, Some(Value::Null));
-    assert!(rt; value.remove("a").is_none());
-    assert_eq!(rt;
-        value.to_string(alloc)?.as_str(),
-        r#"{"b":{"c":true},"d":[]}"#
-    );
-    Ok(())
+fn members_are_changed_and_merged(rt: HostRuntime) -> Result<(), Fail> {
+    let mut value = Value::parse(rt.alloc(), r#"{"a": 1, "b": {"c": 2}}"#)?;
+    change_members(rt.alloc(), &mut value)?;
+    merge_members(rt.alloc(), &mut value)?;
+    remove_member(rt.alloc(), &mut value)
 }
 
-#[test]
-fn what_a_path_leads_to_is_set(rt: HostRuntime) -> Result<(), Error> {
-    let alloc = rt.alloc();
-    let mut value = Value::parse(alloc, r#"{"a":[1,{"b":2}],"m~n":[],"x/y":3}"#)?;
+fn change_members(alloc: Global, value: &mut Value) -> Result<(), Fail> {
+    mark(value, "/b/c")?;
+    let absent = replace_member(value, "c", Value::Null);
+    assert_same(absent, None, "no member")?;
+    let one = Value::parse(alloc, "1")?;
+    let before = replace_member(value, "a", Value::Bool(false));
+    assert_same(before, Some(one), "the value before")
+}
+
+fn merge_members(alloc: Global, value: &mut Value) -> Result<(), Fail> {
+    value.merge(Value::parse(alloc, r#"{"d": [], "a": null}"#)?)?;
+    assert_written(alloc, value, r#"{"a":null,"b":{"c":true},"d":[]}"#)?;
+    let refused = value.merge(Value::Null).err();
+    assert_same(refused, Some(Error::NoObject), "no object")
+}
+
+fn remove_member(alloc: Global, value: &mut Value) -> Result<(), Fail> {
+    let removed = (value.remove("a"), value.remove("a"));
+    assert_same(removed, (Some(Value::Null), None), "removed once")?;
+    assert_written(alloc, value, r#"{"b":{"c":true},"d":[]}"#)
+}
+
+// Sets what the path leads to. The value before has this text.
+fn assert_set(
+    alloc: Global,
+    document: &mut Value,
+    path: &str,
+    value: Value,
+    before: &str,
+) -> Result<(), Fail> {
+    let had = document.set_at(path, value)?;
+    assert_written(alloc, &had, before)
+}
+
+fn set_each_to_null(alloc: Global, value: &mut Value) -> Result<(), Fail> {
     for (path, before) in [
         ("/a/1/b", "2"),
         ("/a/0", "1"),
         ("/m~0n", "[]"),
         ("/x~1y", "3"),
     ] {
-        let had = value.set_at(path, Value::Null)?;
-        assert_eq!(rt; had.to_string(alloc)?.as_str(), before);
+        assert_set(alloc, value, path, Value::Null, before)?;
     }
-    let wanted = r#"{"a":[null,{"b":null}],"m~n":null,"x/y":null}"#;
+    Ok(())
+}
+
+fn assert_no_value_is_there(value: &mut Value) -> Result<(), Fail> {
     for path in ["/a/2", "/a/00", "/c", "a", "/m~n", "/a/1/b/0", "/x~0y"] {
-        assert_eq!(rt;
-            value.set_at(path, Value::Null).err(),
-            Some(Error::NotThere),
-            "{path}"
-        );
+        let refused = value.set_at(path, Value::Null).err();
+        assert_same_at(path, refused, Some(Error::NotThere), "no value")?;
     }
-    assert_eq!(rt; value.to_string(alloc)?.as_str(), wanted);
-    let whole = value.set_at("", Value::Bool(true))?;
-    assert_eq!(rt; whole.to_string(alloc)?.as_str(), wanted);
-    assert_eq!(rt; value, Value::Bool(true));
     Ok(())
 }
 
 #[test]
-fn other_paths_lead_where_they_led(rt: HostRuntime) -> Result<(), Error> {
+fn what_a_path_leads_to_is_set(rt: HostRuntime) -> Result<(), Fail> {
+    let alloc = rt.alloc();
+    let mut value = Value::parse(alloc, r#"{"a":[1,{"b":2}],"m~n":[],"x/y":3}"#)?;
+    set_each_to_null(alloc, &mut value)?;
+    assert_no_value_is_there(&mut value)?;
+    let wanted = r#"{"a":[null,{"b":null}],"m~n":null,"x/y":null}"#;
+    assert_written(alloc, &value, wanted)?;
+    assert_set(alloc, &mut value, "", Value::Bool(true), wanted)?;
+    assert_same(value, Value::Bool(true), "the whole")
+}
+
+#[test]
+fn other_paths_lead_where_they_led(rt: HostRuntime) -> Result<(), Fail> {
     let alloc = rt.alloc();
     let mut value = Value::parse(alloc, r#"{"users":[1,2],"limits":3}"#)?;
     mark_first_user(&mut value)?;
     mark_member(alloc, &mut value, "limits")?;
-    let text = value.to_string(alloc)?;
-    assert_eq!(rt; text.as_str(), r#"{"users":[true,2],"limits":true}"#);
-    Ok(())
+    assert_written(alloc, &value, r#"{"users":[true,2],"limits":true}"#)
 }
 
 // A list of 30,000 items, which takes 300 KB, and 999 more members.
@@ -233,17 +260,20 @@ fn large_text(alloc: Global) -> Result<String, Error> {
 
 // No contract says that memory is found: here none gives up for the size, and a held member needs none.
 #[test]
-fn a_large_text_is_read_written_and_changed(rt: HostRuntime) -> Result<(), Error> {
+fn a_large_text_is_read_written_and_changed(rt: HostRuntime) -> Result<(), Fail> {
     let alloc = rt.alloc();
     let text = large_text(alloc)?;
     let mut value = Value::parse(alloc, text.as_str())?;
-    assert_eq!(rt; value.to_string(alloc)?.as_str(), text.as_str());
-    let last = value.set_at("/items/29999", Value::Null)?;
-    assert_eq!(rt; last.to_string(alloc)?.as_str(), "123456789");
+    assert_written(alloc, &value, text.as_str())?;
+    assert_set(alloc, &mut value, "/items/29999", Value::Null, "123456789")?;
+    set_members(alloc, &mut value)
+}
+
+fn set_members(alloc: Global, value: &mut Value) -> Result<(), Fail> {
     for number in 1..1000u64 {
-        let name = format!(in alloc; "m{number}")?;
-        let before = value.set(name, Value::Null)?;
-        assert_eq!(rt; before, Some(Value::Number(format!(in alloc; "{number}")?)));
+        let before = value.set(format!(in alloc; "m{number}")?, Value::Null)?;
+        let wanted = Value::Number(format!(in alloc; "{number}")?);
+        assert_same(before, Some(wanted), "its number")?;
     }
     Ok(())
 }

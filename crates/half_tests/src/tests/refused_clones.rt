@@ -96,18 +96,18 @@ type Map<'a, const N: usize> = SizedHashMap<Item<'a>, Item<'a>, DefaultHashBuild
 
 type Values<'a, const N: usize> = SizedHashMap<u64, Item<'a>, DefaultHashBuilder, N>;
 
-fn filled<const N: usize>(alloc: Global, living: &Living) -> Result<Map<'_, N>, Refusal> {
-    let mut map = Map::<'_, N>::new(alloc);
+fn fill<'a, const N: usize>(map: &mut Map<'a, N>, living: &'a Living) -> Result<(), Refusal> {
     for id in HELD {
         map.insert(living.item(id), living.item(id))?;
     }
-    Ok(map)
+    Ok(())
 }
 
 // Six clones are needed. Where fewer are granted the map stays as it was, and no clone is left.
 fn clones_refused<const N: usize>(alloc: Global) -> Result<(), Fail> {
     let living = Living::new();
-    let map = filled::<N>(alloc, &living)?;
+    let mut map = Map::<'_, N>::new(alloc);
+    fill(&mut map, &living)?;
     for granted in 0..6u64 {
         living.granted.set(granted);
         let refused = map.clone().err();
@@ -131,18 +131,21 @@ fn clone_by<C: Clone>(it: &C) -> Result<C, AllocError> {
     it.clone()
 }
 
-fn two_thousand<const N: usize>(alloc: Global, living: &Living) -> Result<Values<'_, N>, Refusal> {
-    let mut map = Values::<'_, N>::new(alloc);
+fn add_two_thousand<'a, const N: usize>(
+    map: &mut Values<'a, N>,
+    living: &'a Living,
+) -> Result<(), Refusal> {
     for id in 0..2000 {
         map.insert(id, living.item(id))?;
     }
-    Ok(map)
+    Ok(())
 }
 
 // Of two thousand values each is cloned, or one is refused.
 fn clones_by_the_trait<const N: usize>(alloc: Global) -> Result<(), Fail> {
     let living = Living::new();
-    let map = two_thousand::<N>(alloc, &living)?;
+    let mut map = Values::<'_, N>::new(alloc);
+    add_two_thousand(&mut map, &living)?;
     living.granted.set(1999);
     assert_true(clone_by(&map).is_err(), "the last one is refused")?;
     assert_same(living.count.get(), 2000, "no clone is left")?;

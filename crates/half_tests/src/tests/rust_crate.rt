@@ -25,13 +25,18 @@
 //! | `RawEntryMut::and_modify` | `ponies_by_raw_entries` |
 //! | `hashmap!` | `tests::worked::written_pairs`, `a_map_of_maps` |
 
+use super::queries::by_index;
+use super::uses::assert_collected;
 use halfbrown::{Entry, HashMap, hashmap};
+use std::alloc::Global;
 use std::test::Fail;
 use test_support::asserts::{assert_same, assert_same_at, assert_true};
 
 type Letters = HashMap<u64, &'static str>;
 
 type Ponies = HashMap<&'static str, u64>;
+
+type Texts = HashMap<String, u64>;
 
 const PONIES: &str = "poneyland";
 
@@ -47,13 +52,13 @@ fn a_map_of_maps(rt: HostRuntime) -> Result<(), Fail> {
 fn going_over_three(rt: HostRuntime) -> Result<(), Fail> {
     let alloc = rt.alloc();
     let mut map: Ponies = hashmap! {in alloc; "a" => 1, "b" => 2, "c" => 3}?;
-    let keys = map.keys().copied().collect::<Vec<&str>>(alloc)?;
-    assert_same(keys.as_slice(), ["a", "b", "c"].as_slice(), "the keys")?;
+    let keys = map.keys().copied().collect(alloc);
+    assert_collected(keys, &["a", "b", "c"], "the keys")?;
     for value in map.values_mut() {
         *value = value.saturating_add(10);
     }
-    let values = map.values().copied().collect::<Vec<u64>>(alloc)?;
-    assert_same(values.as_slice(), [11, 12, 13].as_slice(), "ten more")?;
+    let values = map.values().copied().collect(alloc);
+    assert_collected(values, &[11, 12, 13], "ten more")?;
     for (_, value) in map.iter_mut() {
         *value = value.saturating_mul(2);
     }
@@ -75,18 +80,22 @@ fn counting_and_clearing(rt: HostRuntime) -> Result<(), Fail> {
 
 #[test]
 fn one_pair(rt: HostRuntime) -> Result<(), Fail> {
-    let mut map = HashMap::<String, u64>::new(rt.alloc());
-    let key = || String::from_str(rt.alloc(), "hello");
-    assert_same(map.insert(key()?, 41)?, None, "new")?;
-    assert_same(map.insert(key()?, 42)?, Some(41), "the value before")?;
-    assert_same(map.get("hello").copied(), Some(42), "held")?;
-    let value = if map.contains_key("hello") {
-        map["hello"]
-    } else {
-        0
-    };
-    assert_same(value, 42, "by a text")?;
-    assert_same(map.get("goodbye").copied(), None, "not held")?;
+    let mut map = Texts::new(rt.alloc());
+    insert_twice(rt.alloc(), &mut map)?;
+    assert_same(by_index(&map, "hello"), Some(42), "by a text")?;
+    change_and_remove(&mut map)
+}
+
+fn insert_twice(alloc: Global, map: &mut Texts) -> Result<(), Fail> {
+    let before = map.insert(String::from_str(alloc, "hello")?, 41)?;
+    assert_same(before, None, "new")?;
+    let before = map.insert(String::from_str(alloc, "hello")?, 42)?;
+    assert_same(before, Some(41), "the value before")
+}
+
+fn change_and_remove(map: &mut Texts) -> Result<(), Fail> {
+    let held = ["hello", "goodbye"].map(|text| map.get(text).copied());
+    assert_same(held, [Some(42), None], "one is held")?;
     if let Some(value) = map.get_mut("hello") {
         *value = 43;
     }
@@ -96,17 +105,26 @@ fn one_pair(rt: HostRuntime) -> Result<(), Fail> {
 
 #[test]
 fn ponies_by_entries(rt: HostRuntime) -> Result<(), Fail> {
-    let mut map = Ponies::new(rt.alloc());
-    assert_same(*map.entry(PONIES)?.key(), PONIES, "the key")?;
+    make_ponies(&mut Ponies::new(rt.alloc()))
+}
+
+fn make_ponies(map: &mut Ponies) -> Result<(), Fail> {
+    let key = *map.entry(PONIES)?.key();
     let made = *map.entry("horseyland")?.or_insert_with(|| 37);
-    assert_same(made, 37, "made")?;
-    assert_same(*map.entry("neverland")?.or_default(), 0, "by default")
+    let by_default = *map.entry("neverland")?.or_default();
+    assert_same((key, made, by_default), (PONIES, 37, 0), "key and values")
 }
 
 #[test]
 fn held_ponies(rt: HostRuntime) -> Result<(), Fail> {
     let mut map = Ponies::new(rt.alloc());
     map.insert(PONIES, 12)?;
+    change_held(&mut map)?;
+    map.insert(PONIES, 12)?;
+    remove_held(&mut map)
+}
+
+fn change_held(map: &mut Ponies) -> Result<(), Fail> {
     if let Entry::Occupied(mut entry) = map.entry(PONIES)? {
         assert_same((*entry.key(), *entry.get()), (PONIES, 12), "the pair")?;
         *entry.get_mut() = 22;
@@ -116,8 +134,10 @@ fn held_ponies(rt: HostRuntime) -> Result<(), Fail> {
     if let Entry::Occupied(entry) = map.entry(PONIES)? {
         assert_same(entry.remove(), 34, "the last value")?;
     }
-    assert_true(!map.contains_key(PONIES), "gone")?;
-    map.insert(PONIES, 12)?;
+    assert_true(!map.contains_key(PONIES), "gone")
+}
+
+fn remove_held(map: &mut Ponies) -> Result<(), Fail> {
     if let Entry::Occupied(entry) = map.entry(PONIES)? {
         assert_same(entry.remove_entry(), (PONIES, 12), "key and value")?;
     }
@@ -126,7 +146,10 @@ fn held_ponies(rt: HostRuntime) -> Result<(), Fail> {
 
 #[test]
 fn absent_ponies(rt: HostRuntime) -> Result<(), Fail> {
-    let mut map = Ponies::new(rt.alloc());
+    add_absent(&mut Ponies::new(rt.alloc()))
+}
+
+fn add_absent(map: &mut Ponies) -> Result<(), Fail> {
     if let Entry::Vacant(entry) = map.entry(PONIES)? {
         assert_same(*entry.key(), PONIES, "the key")?;
         assert_same(entry.into_key(), PONIES, "given back")?;

@@ -120,13 +120,25 @@ fn two_hundred_values_and_texts(rt: HostRuntime) -> Result<(), Fail> {
     let mut set = HashSet::<usize>::new(rt.alloc());
     let mut names = Interner::new(rt.alloc());
     for is_new in [true, false] {
-        for number in 0..200usize {
-            let inserted = (set.insert(number)?, set.insert(number)?);
-            assert_same_at(number, inserted, (is_new, false), "new once")?;
-            let name = format!(in rt.alloc(); "name {number}")?;
-            let numbers = (names.intern(name.as_str())?, names.intern(name.as_str())?);
-            assert_same(numbers, (number, number), "its number")?;
-        }
+        insert_values(&mut set, is_new)?;
+        intern_texts(rt.alloc(), &mut names)?;
+    }
+    Ok(())
+}
+
+fn insert_values(set: &mut HashSet<usize>, is_new: bool) -> Result<(), Fail> {
+    for number in 0..200usize {
+        let inserted = (set.insert(number)?, set.insert(number)?);
+        assert_same_at(number, inserted, (is_new, false), "new once")?;
+    }
+    Ok(())
+}
+
+fn intern_texts(alloc: Global, names: &mut Interner) -> Result<(), Fail> {
+    for number in 0..200usize {
+        let name = format!(in alloc; "name {number}")?;
+        let numbers = (names.intern(name.as_str())?, names.intern(name.as_str())?);
+        assert_same(numbers, (number, number), "its number")?;
     }
     Ok(())
 }
@@ -136,16 +148,25 @@ fn two_hundred_values_and_texts(rt: HostRuntime) -> Result<(), Fail> {
 fn twenty_scopes_of_twenty_names(rt: HostRuntime) -> Result<(), Fail> {
     let mut scopes = Scopes::<u64, u64>::new(rt.alloc());
     for scope in 0..20u64 {
-        scopes.enter()?;
-        for name in 0..20u64 {
-            let before = (scopes.declare(name, 0)?, scopes.declare(name, scope)?);
-            assert_same_at((scope, name), before, (None, Some(0)), "new here")?;
-        }
+        enter_and_declare(&mut scopes, scope)?;
     }
+    leave_each(&mut scopes)
+}
+
+fn enter_and_declare(scopes: &mut Scopes<u64, u64>, scope: u64) -> Result<(), Fail> {
+    scopes.enter()?;
+    for name in 0..20u64 {
+        let before = (scopes.declare(name, 0)?, scopes.declare(name, scope)?);
+        assert_same_at((scope, name), before, (None, Some(0)), "new here")?;
+    }
+    Ok(())
+}
+
+fn leave_each(scopes: &mut Scopes<u64, u64>) -> Result<(), Fail> {
     for left in 0..20u64 {
         let meaning = scopes.resolve(&19).copied();
-        assert_same(meaning, Some(19 - left), "of the innermost")?;
-        assert_true(scopes.leave(), "there are others")?;
+        let seen = (meaning, scopes.leave());
+        assert_same(seen, (Some(19 - left), true), "of the innermost")?;
     }
     Ok(())
 }

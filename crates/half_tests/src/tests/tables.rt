@@ -63,90 +63,137 @@ fn assert_search(table: &Table, hash: u64, accepted: usize, search: Search) -> R
     assert_same_at(hash, found, search, "the search")
 }
 
-// The only pair of this hash is in this bucket, and a search for it reads this many.
-fn assert_found(
-    table: &Table,
-    hash: u64,
-    index: usize,
-    bucket: usize,
-    reads: u64,
-) -> Result<(), Fail> {
-    assert_search(table, hash, index, (Ok((index, bucket)), 1, reads))
-}
-
-#[test]
-fn three_of_one_home(rt: HostRuntime) -> Result<(), Fail> {
-    let mut table = table_of(rt.alloc(), 0, &[3, 7, 11])?;
-    assert_found(&table, 3, 0, 3, 1)?;
-    assert_found(&table, 7, 1, 0, 2)?;
-    assert_found(&table, 11, 2, 1, 3)?;
-    assert_search(&table, 15, NONE, (Err(2), 0, 4))?;
-    assert_same(probed(&table, 15), (2, 4), "a placing")?;
-    // The other two move back.
-    remove(&mut table, 0, 3)?;
-    assert_found(&table, 7, 1, 3, 1)?;
-    assert_found(&table, 11, 0, 0, 2)?;
-    // The pair that is lost is placed anew.
-    assert_same(probed(&table, 3), (1, 3), "through buckets 3 and 0")?;
-    remove(&mut table, 0, 11)?;
-    remove(&mut table, 0, 7)?;
-    assert_search(&table, 15, NONE, (Err(3), 0, 1))
-}
-
 // Each of six pairs, of hashes 0 to 5, is found in the bucket of this number.
 fn assert_at_home(table: &Table) -> Result<(), Fail> {
     for hash in 0..6 {
-        assert_found(table, hash, hash as usize, hash as usize, 1)?;
+        let bucket = hash as usize;
+        assert_search(table, hash, bucket, (Ok((bucket, bucket)), 1, 1))?;
     }
     Ok(())
 }
 
+// A change of a table, or what is asserted of it. Tests are lists of steps, since each `?` of a function that owns a table is
+// one more path on which its drop is proved.
+#[derive(Clone, Copy)]
+enum Step {
+    Add(u64),
+    // The entry index and the hash.
+    Remove(usize, u64),
+    Reserve(usize),
+    MakeAnew(usize),
+    HasCapacity(usize),
+    AtHome,
+    // The only pair of this hash has this entry index, and is in this bucket. A search for it reads this many.
+    Found(u64, usize, usize, u64),
+    Searched(u64, usize, Search),
+    // An insertion probe for this hash ends at this empty bucket, and reads this many.
+    Probed(u64, usize, u64),
+}
+
+use Step::{Add, AtHome, Found, HasCapacity, MakeAnew, Probed, Remove, Reserve, Searched};
+
+fn take(alloc: Global, table: &mut Table, step: Step) -> Result<(), Fail> {
+    match step {
+        Add(hash) => add(alloc, table, hash),
+        Remove(index, hash) => remove(table, index, hash),
+        Reserve(needed) => reserve(alloc, table, needed),
+        MakeAnew(needed) => make_anew(alloc, table, needed),
+        HasCapacity(capacity) => assert_same(table.capacity(), capacity, "the capacity"),
+        AtHome => assert_at_home(table),
+        Found(hash, index, bucket, reads) => {
+            assert_search(table, hash, index, (Ok((index, bucket)), 1, reads))
+        }
+        Searched(hash, accepted, search) => assert_search(table, hash, accepted, search),
+        Probed(hash, bucket, reads) => {
+            assert_same_at(hash, probed(table, hash), (bucket, reads), "a placing")
+        }
+    }
+}
+
+fn take_each(alloc: Global, table: &mut Table, steps: &[Step]) -> Result<(), Fail> {
+    for step in steps {
+        take(alloc, table, *step)?;
+    }
+    Ok(())
+}
+
+// Takes these steps with a table of this capacity and these hashes.
+fn play(alloc: Global, capacity: usize, hashes: &[u64], steps: &[Step]) -> Result<(), Fail> {
+    let mut table = table_of(alloc, capacity, hashes)?;
+    take_each(alloc, &mut table, steps)
+}
+
+#[test]
+fn three_of_one_home(rt: HostRuntime) -> Result<(), Fail> {
+    let steps = [
+        Found(3, 0, 3, 1),
+        Found(7, 1, 0, 2),
+        Found(11, 2, 1, 3),
+        Searched(15, NONE, (Err(2), 0, 4)),
+        Probed(15, 2, 4),
+        // The other two move back.
+        Remove(0, 3),
+        Found(7, 1, 3, 1),
+        Found(11, 0, 0, 2),
+        // The pair that is lost is placed anew, through buckets 3 and 0.
+        Probed(3, 1, 3),
+        Remove(0, 11),
+        Remove(0, 7),
+        Searched(15, NONE, (Err(3), 0, 1)),
+    ];
+    play(rt.alloc(), 0, &[3, 7, 11], &steps)
+}
+
 #[test]
 fn a_bucket_each(rt: HostRuntime) -> Result<(), Fail> {
-    let mut table = table_of(rt.alloc(), 0, &[0, 1, 2, 3, 4, 5])?;
-    assert_at_home(&table)?;
-    reserve(rt.alloc(), &mut table, 13)?;
-    assert_same(table.capacity(), 24, "of 32 buckets")?;
-    make_anew(rt.alloc(), &mut table, 6)?;
-    assert_same(table.capacity(), 6, "of eight buckets")?;
-    assert_at_home(&table)
+    // Of eight buckets, then of 32, and of eight again.
+    let steps = [
+        AtHome,
+        Reserve(13),
+        HasCapacity(24),
+        MakeAnew(6),
+        HasCapacity(6),
+        AtHome,
+    ];
+    play(rt.alloc(), 0, &[0, 1, 2, 3, 4, 5], &steps)
 }
 
 #[test]
 fn around_the_end(rt: HostRuntime) -> Result<(), Fail> {
-    let mut table = table_of(rt.alloc(), 0, &[u64::MAX, 3, 0])?;
-    assert_found(&table, u64::MAX, 0, 3, 1)?;
-    assert_found(&table, 3, 1, 0, 2)?;
-    assert_found(&table, 0, 2, 1, 2)?;
-    remove(&mut table, 0, u64::MAX)?;
-    assert_found(&table, 3, 1, 3, 1)?;
-    assert_found(&table, 0, 0, 0, 1)
+    let steps = [
+        Found(u64::MAX, 0, 3, 1),
+        Found(3, 1, 0, 2),
+        Found(0, 2, 1, 2),
+        Remove(0, u64::MAX),
+        Found(3, 1, 3, 1),
+        Found(0, 0, 0, 1),
+    ];
+    play(rt.alloc(), 0, &[u64::MAX, 3, 0], &steps)
 }
 
 #[test]
 fn a_removal_around_the_end(rt: HostRuntime) -> Result<(), Fail> {
-    let mut table = table_of(rt.alloc(), 5, &[6, 14, 7, 15, 0])?;
-    assert_found(&table, 0, 4, 2, 3)?;
-    remove(&mut table, 0, 6)?;
-    assert_found(&table, 0, 0, 1, 2)
+    let steps = [Found(0, 4, 2, 3), Remove(0, 6), Found(0, 0, 1, 2)];
+    play(rt.alloc(), 5, &[6, 14, 7, 15, 0], &steps)
 }
 
 #[test]
 fn each_second_bucket(rt: HostRuntime) -> Result<(), Fail> {
-    let table = table_of(rt.alloc(), 12, &[0, 2, 4, 6, 8, 10])?;
-    assert_found(&table, 0, 0, 0, 1)
+    play(rt.alloc(), 12, &[0, 2, 4, 6, 8, 10], &[Found(0, 0, 0, 1)])
 }
 
 #[test]
 fn three_of_one_hash(rt: HostRuntime) -> Result<(), Fail> {
-    let zeros = table_of(rt.alloc(), 0, &[0, 0, 0])?;
-    assert_search(&zeros, 0, 2, (Ok((2, 2)), 3, 3))?;
+    let steps = [Searched(0, 2, (Ok((2, 2)), 3, 3))];
+    play(rt.alloc(), 0, &[0, 0, 0], &steps)?;
     let top = u64::MAX;
-    let mut tops = table_of(rt.alloc(), 0, &[top, top, top])?;
-    assert_search(&tops, top, 2, (Ok((2, 1)), 3, 3))?;
-    remove(&mut tops, 0, top)?;
-    // The third pair has entry index 0 now, and comes after the second.
-    assert_search(&tops, top, 0, (Ok((0, 0)), 2, 2))
+    let steps = [
+        Searched(top, 2, (Ok((2, 1)), 3, 3)),
+        Remove(0, top),
+        // The third pair has entry index 0 now, and comes after the second.
+        Searched(top, 0, (Ok((0, 0)), 2, 2)),
+    ];
+    play(rt.alloc(), 0, &[top, top, top], &steps)
 }
 
 #[test]
@@ -159,45 +206,47 @@ fn many_of_one_hash(rt: HostRuntime) -> Result<(), Fail> {
 
 #[test]
 fn a_removal_brings_a_pair_home(rt: HostRuntime) -> Result<(), Fail> {
-    let mut table = table_of(rt.alloc(), 0, &[0, 8, 1])?;
-    assert_found(&table, 0, 0, 0, 1)?;
-    assert_found(&table, 8, 1, 1, 2)?;
-    assert_found(&table, 1, 2, 2, 2)?;
-    remove(&mut table, 1, 8)?;
-    assert_found(&table, 1, 1, 1, 1)?;
-    assert_found(&table, 0, 0, 0, 1)?;
+    let steps = [
+        Found(0, 0, 0, 1),
+        Found(8, 1, 1, 2),
+        Found(1, 2, 2, 2),
+        Remove(1, 8),
+        Found(1, 1, 1, 1),
+        Found(0, 0, 0, 1),
+    ];
+    play(rt.alloc(), 0, &[0, 8, 1], &steps)?;
     // Of eight buckets 1 is the home of 1 and 9. The pair of 3 has its home, and stays.
-    let mut table = table_of(rt.alloc(), 5, &[1, 9, 3])?;
-    remove(&mut table, 0, 1)?;
-    assert_found(&table, 9, 1, 1, 1)?;
-    assert_found(&table, 3, 0, 3, 1)
+    let steps = [Remove(0, 1), Found(9, 1, 1, 1), Found(3, 0, 3, 1)];
+    play(rt.alloc(), 5, &[1, 9, 3], &steps)
 }
 
 #[test]
 fn a_removal_of_a_copy_leaves_the_table(rt: HostRuntime) -> Result<(), Fail> {
-    let table = table_of(rt.alloc(), 0, &[6, 14, 7, 15, 0])?;
+    let mut table = table_of(rt.alloc(), 0, &[6, 14, 7, 15, 0])?;
     let mut copy = table.copy()?;
-    remove(&mut copy, 1, 14)?;
-    assert_found(&copy, 15, 3, 0, 2)?;
-    assert_found(&copy, 0, 1, 1, 2)?;
-    assert_found(&table, 15, 3, 1, 3)?;
-    assert_found(&table, 0, 4, 2, 3)
+    let steps = [Remove(1, 14), Found(15, 3, 0, 2), Found(0, 1, 1, 2)];
+    take_each(rt.alloc(), &mut copy, &steps)?;
+    let steps = [Found(15, 3, 1, 3), Found(0, 4, 2, 3)];
+    take_each(rt.alloc(), &mut table, &steps)
 }
 
 #[test]
 fn eight_buckets_sixteen_and_eight(rt: HostRuntime) -> Result<(), Fail> {
-    // All of home 7.
-    let mut table = table_of(rt.alloc(), 0, &[7, 15, 23, 31, 39, 47])?;
-    assert_found(&table, 47, 5, 4, 6)?;
-    // Of homes 7, 15, 7, 15, 7 and 15.
-    reserve(rt.alloc(), &mut table, 7)?;
-    assert_found(&table, 47, 5, 1, 3)?;
-    add(rt.alloc(), &mut table, 55)?;
-    assert_same(probed(&table, 71), (11, 5), "after 55 in bucket 10")?;
-    // Those of 39 and 55 move back.
-    remove(&mut table, 2, 23)?;
-    assert_found(&table, 39, 4, 8, 2)?;
-    assert_found(&table, 55, 2, 9, 3)?;
-    make_anew(rt.alloc(), &mut table, 6)?;
-    assert_found(&table, 47, 5, 4, 6)
+    let steps = [
+        // All of home 7.
+        Found(47, 5, 4, 6),
+        // Of homes 7, 15, 7, 15, 7 and 15.
+        Reserve(7),
+        Found(47, 5, 1, 3),
+        // In bucket 10.
+        Add(55),
+        Probed(71, 11, 5),
+        // Those of 39 and 55 move back.
+        Remove(2, 23),
+        Found(39, 4, 8, 2),
+        Found(55, 2, 9, 3),
+        MakeAnew(6),
+        Found(47, 5, 4, 6),
+    ];
+    play(rt.alloc(), 0, &[7, 15, 23, 31, 39, 47], &steps)
 }

@@ -6,6 +6,8 @@ ghost use Rattle.std.specs.Hash as fed;
 ghost use Rattle.std.specs.Cmp.Rules.{comparing, hashing};
 ghost use Rattle.std.proofs.Common.{rules};
 
+use super::queries::by_index;
+use super::uses::assert_collected;
 use half_callers::drains::take_first;
 use halfbrown::{
     DefaultHashBuilder, Entry, HashMap, Limit, LimitedHashMap, RawEntryMut, Refusal, SizedHashMap,
@@ -23,23 +25,33 @@ type Letters = HashMap<u64, &'static str>;
 
 type Ponies = HashMap<&'static str, u64>;
 
+// Its keys have an owner: a caller whose key type holds a reference gets no proof of `replace_entry_with`.
+type Texts = HashMap<String, u64>;
+
 const PONIES: &str = "poneyland";
 
 const HORSES: &str = "horseyland";
 
-// The keys have an owner: a caller whose key type holds a reference gets no proof of `replace_entry_with`.
 #[test]
 fn a_pair_is_replaced_and_lost(rt: HostRuntime) -> Result<(), Fail> {
-    let mut map = HashMap::<String, u64>::new(rt.alloc());
+    let mut map = Texts::new(rt.alloc());
     let key = || String::from_str(rt.alloc(), PONIES);
     map.insert(key()?, 42)?;
-    if let Entry::Occupied(entry) = map.entry(key()?)? {
+    replace(&mut map, key()?)?;
+    lose(&mut map, key()?)
+}
+
+fn replace(map: &mut Texts, key: String) -> Result<(), Fail> {
+    if let Entry::Occupied(entry) = map.entry(key)? {
         let left = entry.replace_entry_with(|_, value| value.checked_add(1));
         let is_occupied = matches!(left, Entry::Occupied(_));
         assert_same((is_occupied, left.key().as_str()), (true, PONIES), "kept")?;
     }
-    assert_same(map.get(PONIES).copied(), Some(43), "one more")?;
-    if let Entry::Occupied(entry) = map.entry(key()?)? {
+    assert_same(map.get(PONIES).copied(), Some(43), "one more")
+}
+
+fn lose(map: &mut Texts, key: String) -> Result<(), Fail> {
+    if let Entry::Occupied(entry) = map.entry(key)? {
         let left = entry.replace_entry_with(|_, _| None);
         let is_vacant = matches!(left, Entry::Vacant(_));
         assert_same((is_vacant, left.key().as_str()), (true, PONIES), "lost")?;
@@ -47,31 +59,25 @@ fn a_pair_is_replaced_and_lost(rt: HostRuntime) -> Result<(), Fail> {
     assert_true(!map.contains_key(PONIES), "it is gone")
 }
 
-fn letter(map: &Letters, key: u64) -> Option<&'static str> {
-    if map.contains_key(&key) {
-        Some(map[&key])
-    } else {
-        None
-    }
-}
-
 #[test]
 fn a_letter_is_overwritten(rt: HostRuntime) -> Result<(), Fail> {
-    let mut map = Letters::new(rt.alloc());
+    overwrite(&mut Letters::new(rt.alloc()))
+}
+
+fn overwrite(map: &mut Letters) -> Result<(), Fail> {
     assert_same(map.insert(37, "a")?, None, "new")?;
     assert_true(!map.is_empty(), "it has a pair")?;
     assert_same(map.insert(37, "b")?, Some("a"), "the first letter")?;
     assert_same(map.insert(37, "c")?, Some("b"), "the second")?;
-    assert_same(letter(&map, 37), Some("c"), "the third")
+    assert_same(by_index(map, &37), Some("c"), "the third")
 }
 
 #[test]
 fn written_pairs(rt: HostRuntime) -> Result<(), Fail> {
     let alloc = rt.alloc();
     let names: Letters = hashmap! {in alloc; 1 => "one", 2 => "two"}?;
-    assert_same(names.len(), 2, "two names")?;
-    let two = (letter(&names, 1), letter(&names, 2));
-    assert_same(two, (Some("one"), Some("two")), "by index")?;
+    let two = (names.len(), by_index(&names, &1), by_index(&names, &2));
+    assert_same(two, (2, Some("one"), Some("two")), "two names, by index")?;
     assert_same(names.get(&3).copied(), None, "no third")?;
     let none: Letters = hashmap! {in alloc;}?;
     assert_same(none.len(), 0, "no names")
@@ -207,8 +213,8 @@ fn assert_even_keys_are_kept<const N: usize>(alloc: Global) -> Result<(bool, usi
         *key % 2 == 0
     });
     assert_same((calls.get(), map.len()), (8, 4), "calls, and pairs")?;
-    let keys = map.keys().copied().collect::<Vec<u64>>(alloc)?;
-    assert_same(keys.as_slice(), [0, 2, 4, 6].as_slice(), "their order")?;
+    let keys = map.keys().copied().collect(alloc);
+    assert_collected(keys, &[0, 2, 4, 6], "their order")?;
     for number in 0..8u64 {
         let value = (number % 2 == 0).then_some(10 * number);
         assert_same_at(number, map.get(&number).copied(), value, "its value")?;
