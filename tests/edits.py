@@ -7,8 +7,8 @@ tests/edits/CRATE/PATH.edits has those of crates/CRATE/src/PATH.rt, each below a
 of a line `old: TEXT` stands once in that file, and that of `new: TEXT` takes its place; `file: PATH` above them names another
 file of the crate. The prover has to refuse the edit: a contract that lets a fault through is too weak. With a line
 `refused by: CLAUSE` it has to be a goal of this clause that is not proved; where a call has one clause, the line names the goal of
-a return. Where no contract can, `found by: FILE` names the script or the search that finds it, or `the random run`, or `the tests
-of half_tests` (planted.py), and a comment says why.
+a return. Where no contract can, `found by: FILE` names the script or the search that finds it, or `the tests of half_tests`, or
+`the random run 1, work of clear` (planted.py), and a comment says why.
 
 The crates are proved first, where out/ lacks that. Then several checks run at a time, each in a copy of the sources with links
 of out/. A check tries several edits that change different functions: a caller is proved by the contracts of what it calls, so
@@ -184,11 +184,11 @@ def attempt(edits, crate, names):
 
 
 def try_in(copies, edits, names):
-    """`attempt` in a copy that no other check uses, and the seconds it took for each edit."""
+    """`attempt` in a copy that no other check uses, or planted's, and the seconds it took for each edit."""
     copy, began = copies.get(), time.monotonic()
     try:
         if edits[0].found_by:
-            found = [planted.attempt(edits[0])]
+            found = planted.attempt(edits)
         else:
             found = attempt(edits, copy / "crates" / edits[0].crate, names[edits[0].crate])
     except (OSError, ValueError) as error:
@@ -241,7 +241,7 @@ def main(words):
         sys.exit("\n".join([*map(str, known), f"none of these edits has {' or '.join(words)} in its path or name"]))
     refused = [it for it in edits if not it.found_by]
     names = {crate: prove(crate) for crate in planted.crates_of() if any(it.crate == crate for it in refused)}
-    batches = [[it] for it in edits if it.found_by]
+    batches = planted.in_programs([it for it in edits if it.found_by])
     for crate in names:
         batches += in_batches([it for it in refused if it.crate == crate], TOP / "crates" / crate, names[crate])
     memory = 1024 * int(re.search(r"MemAvailable:\s+(\d+)", pathlib.Path("/proc/meminfo").read_text())[1])
