@@ -113,7 +113,8 @@ def function_at(file, lines, at, names):
     indent, name = FUNCTION.match(lines[tops[-1]]).groups()
     end = re.compile(rf"{indent}}}|{indent}\S.*{{.*}}$")
     last = next((number for number in range(tops[-1], len(lines)) if end.match(lines[number])), len(lines))
-    headers = re.findall(r"^impl\b(?:<[^{}]*?>)? ([^{}]*?) \{", "\n".join(lines[: tops[-1]]), re.M) if indent else []
+    # What is given to an impl may have `> ` inside, as in `S: KeyHasher<K> + Drop`.
+    headers = re.findall(r"^impl\b(?:<[^{}]*?>)? (?!\+)([^{}]*?) \{", "\n".join(lines[: tops[-1]]), re.M) if indent else []
     parts = IMPL.fullmatch(headers[-1]) if headers else None
     if parts:
         # The name of an impl is made of these, and of what the type and the trait are given.
