@@ -34,14 +34,14 @@ TOP = planted.TOP
 EDITS = TOP / "tests/edits"
 # What memory a check takes at most, and how many edits are tried in one.
 MEMORY = 2_000_000_000
-BATCH = 12
+BATCH = 24
 PLACED = re.compile(r"(?:note: )?(?:\./)?((?:src|specs|proofs)/\S+?):(\d+):\d+: ?(?:error: (`[^`]*`: )?)?(.*)")
 # A proof misses a name, which says nothing of a contract.
 NO_NAME = re.compile(r"has no field|is not in scope|has no `|was not admitted|is no name")
 # A proof that was not read says nothing of a contract either.
 UNREAD = re.compile(r"was rejected, (?:was|were) not checked")
 FUNCTION = re.compile(r"( *)(?:pub(?:\([^)]*\))? )?(?:const |unsafe )*fn (\w+)")
-IMPL = re.compile(r"(?:[\w:]*?(\w+)(?:<.*>)?\s+for )?(&\S* )?(mut )?(\w+)(?:<.*>)?", re.S)
+IMPL = re.compile(r"(?:[\w:]*?(\w+)(?:<(\w*).*>)?\s+for )?(&(?:'\w+ )?)?(mut )?([\w:]+)(?:<.*>)?", re.S)
 
 
 class Edit:
@@ -105,6 +105,19 @@ class Function:
         return path.startswith(self.proofs) or self.file.endswith(f"/{path}") and self.first <= line - 1 <= self.last
 
 
+def names_above(header, file):
+    """What a check prints before the name of a function of an impl with this header, or of the file where it is empty: patterns of
+    which the first that fits is meant."""
+    parts = IMPL.fullmatch(header)
+    if not parts:
+        return [file.parent.parent.name if file.stem in ("lib", "main") else file.stem]
+    # The name of an impl is made of these, and of what the type and the trait are given. A type parameter gives none.
+    trait, given, lent, mutably, kind = parts.groups(default="")
+    words = [it[0].upper() + it[1:] for it in kind.split("::") if len(kind) > 1]
+    above = f"{'Ref' if lent else ''}{'Mut' if mutably else ''}{''.join(words)}" + r"(\+.*)?"
+    return [above] if trait in ("", "Drop") else [f"{above}{trait}{it}" for it in (given, ".*")]
+
+
 def function_at(file, lines, at, names):
     """The function around this line of the file; None where there is none, or where more than one of these names may be its."""
     tops = [number for number in range(at + 1) if FUNCTION.match(lines[number])]
@@ -115,16 +128,11 @@ def function_at(file, lines, at, names):
     last = next((number for number in range(tops[-1], len(lines)) if end.match(lines[number])), len(lines))
     # What is given to an impl may have `> ` inside, as in `S: KeyHasher<K> + Drop`.
     headers = re.findall(r"^impl\b(?:<[^{}]*?>)? (?!\+)([^{}]*?) \{", "\n".join(lines[: tops[-1]]), re.M) if indent else []
-    parts = IMPL.fullmatch(headers[-1]) if headers else None
-    if parts:
-        # The name of an impl is made of these, and of what the type and the trait are given.
-        trait, lent, mutably, kind = parts.groups(default="")
-        of_trait = f"{trait}.*" if trait not in ("", "Drop") else ""
-        above = f"{'Ref' if lent else ''}{'Mut' if mutably else ''}{kind}" + r"(\+.*)?" + of_trait
-    else:
-        above = file.parent.parent.name if file.stem in ("lib", "main") else file.stem
-    called = [it for it in names if re.search(rf"(?:^|::){above}::{name}$", it)]
-    return Function(called[0], file, tops[-1], last) if at <= last and len(called) == 1 else None
+    above = [re.compile(rf"(?:^|::){it}::{name}$") for it in names_above((headers or [""])[-1], file)]
+    called = next(filter(None, ([it for it in names if pattern.search(it)] for pattern in above)), [])
+    # A goal of a return is placed at the attribute above the function, if there is one.
+    first = tops[-1] - lines[tops[-1] - 1].lstrip().startswith("#[")
+    return Function(called[0], file, first, last) if at <= last and len(called) == 1 else None
 
 
 class Said:
