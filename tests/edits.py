@@ -7,8 +7,8 @@ tests/edits/CRATE/PATH.edits has those of crates/CRATE/src/PATH.rt, each below a
 of a line `old: TEXT` stands once in that file, and that of `new: TEXT` takes its place; `file: PATH` above them names another
 file of the crate. The prover has to refuse the edit: a contract that lets a fault through is too weak. With a line
 `refused by: CLAUSE` it has to be a goal of this clause that is not proved; where a call has one clause, the line names the goal of
-a return. Where no contract can, `found by: FILE` names the script or the search that finds it, or `the random run`, or `the tests
-of half_tests` (planted.py), and a comment says why.
+a return. Where no contract can, `found by: FILE` names the script or the search that finds it, or `the tests of half_tests`, or
+`the random run 1, work of clear` (planted.py), and a comment says why.
 
 The crates are proved first, where out/ lacks that. Then several checks run at a time, each in a copy of the sources with links
 of out/. A check tries several edits that change different functions: a caller is proved by the contracts of what it calls, so
@@ -34,14 +34,14 @@ TOP = planted.TOP
 EDITS = TOP / "tests/edits"
 # What memory a check takes at most, and how many edits are tried in one.
 MEMORY = 2_000_000_000
-BATCH = 12
+BATCH = 24
 PLACED = re.compile(r"(?:note: )?(?:\./)?((?:src|specs|proofs)/\S+?):(\d+):\d+: ?(?:error: (`[^`]*`: )?)?(.*)")
 # A proof misses a name, which says nothing of a contract.
 NO_NAME = re.compile(r"has no field|is not in scope|has no `|was not admitted|is no name")
 # A proof that was not read says nothing of a contract either.
 UNREAD = re.compile(r"was rejected, (?:was|were) not checked")
 FUNCTION = re.compile(r"( *)(?:pub(?:\([^)]*\))? )?(?:const |unsafe )*fn (\w+)")
-IMPL = re.compile(r"(?:[\w:]*?(\w+)(?:<.*>)?\s+for )?(&\S* )?(mut )?(\w+)(?:<.*>)?", re.S)
+IMPL = re.compile(r"(?:[\w:]*?(\w+)(?:<(\w*).*>)?\s+for )?(&(?:'\w+ )?)?(mut )?([\w:]+)(?:<.*>)?", re.S)
 
 
 class Edit:
@@ -105,6 +105,19 @@ class Function:
         return path.startswith(self.proofs) or self.file.endswith(f"/{path}") and self.first <= line - 1 <= self.last
 
 
+def names_above(header, file):
+    """What a check prints before the name of a function of an impl with this header, or of the file where it is empty: patterns of
+    which the first that fits is meant."""
+    parts = IMPL.fullmatch(header)
+    if not parts:
+        return [file.parent.parent.name if file.stem in ("lib", "main") else file.stem]
+    # The name of an impl is made of these, and of what the type and the trait are given. A type parameter gives none.
+    trait, given, lent, mutably, kind = parts.groups(default="")
+    words = [it[0].upper() + it[1:] for it in kind.split("::") if len(kind) > 1]
+    above = f"{'Ref' if lent else ''}{'Mut' if mutably else ''}{''.join(words)}" + r"(\+.*)?"
+    return [above] if trait in ("", "Drop") else [f"{above}{trait}{it}" for it in (given, ".*")]
+
+
 def function_at(file, lines, at, names):
     """The function around this line of the file; None where there is none, or where more than one of these names may be its."""
     tops = [number for number in range(at + 1) if FUNCTION.match(lines[number])]
@@ -113,17 +126,13 @@ def function_at(file, lines, at, names):
     indent, name = FUNCTION.match(lines[tops[-1]]).groups()
     end = re.compile(rf"{indent}}}|{indent}\S.*{{.*}}$")
     last = next((number for number in range(tops[-1], len(lines)) if end.match(lines[number])), len(lines))
-    headers = re.findall(r"^impl\b(?:<[^{}]*?>)? ([^{}]*?) \{", "\n".join(lines[: tops[-1]]), re.M) if indent else []
-    parts = IMPL.fullmatch(headers[-1]) if headers else None
-    if parts:
-        # The name of an impl is made of these, and of what the type and the trait are given.
-        trait, lent, mutably, kind = parts.groups(default="")
-        of_trait = f"{trait}.*" if trait not in ("", "Drop") else ""
-        above = f"{'Ref' if lent else ''}{'Mut' if mutably else ''}{kind}" + r"(\+.*)?" + of_trait
-    else:
-        above = file.parent.parent.name if file.stem in ("lib", "main") else file.stem
-    called = [it for it in names if re.search(rf"(?:^|::){above}::{name}$", it)]
-    return Function(called[0], file, tops[-1], last) if at <= last and len(called) == 1 else None
+    # What is given to an impl may have `> ` inside, as in `S: KeyHasher<K> + Drop`.
+    headers = re.findall(r"^impl\b(?:<[^{}]*?>)? (?!\+)([^{}]*?) \{", "\n".join(lines[: tops[-1]]), re.M) if indent else []
+    above = [re.compile(rf"(?:^|::){it}::{name}$") for it in names_above((headers or [""])[-1], file)]
+    called = next(filter(None, ([it for it in names if pattern.search(it)] for pattern in above)), [])
+    # A goal of a return is placed at the attribute above the function, if there is one.
+    first = tops[-1] - lines[tops[-1] - 1].lstrip().startswith("#[")
+    return Function(called[0], file, first, last) if at <= last and len(called) == 1 else None
 
 
 class Said:
@@ -184,11 +193,11 @@ def attempt(edits, crate, names):
 
 
 def try_in(copies, edits, names):
-    """`attempt` in a copy that no other check uses, and the seconds it took for each edit."""
+    """`attempt` in a copy that no other check uses, or planted's, and the seconds it took for each edit."""
     copy, began = copies.get(), time.monotonic()
     try:
         if edits[0].found_by:
-            found = [planted.attempt(edits[0])]
+            found = planted.attempt(edits)
         else:
             found = attempt(edits, copy / "crates" / edits[0].crate, names[edits[0].crate])
     except (OSError, ValueError) as error:
@@ -241,7 +250,7 @@ def main(words):
         sys.exit("\n".join([*map(str, known), f"none of these edits has {' or '.join(words)} in its path or name"]))
     refused = [it for it in edits if not it.found_by]
     names = {crate: prove(crate) for crate in planted.crates_of() if any(it.crate == crate for it in refused)}
-    batches = [[it] for it in edits if it.found_by]
+    batches = planted.in_programs([it for it in edits if it.found_by])
     for crate in names:
         batches += in_batches([it for it in refused if it.crate == crate], TOP / "crates" / crate, names[crate])
     memory = 1024 * int(re.search(r"MemAvailable:\s+(\d+)", pathlib.Path("/proc/meminfo").read_text())[1])

@@ -1,5 +1,10 @@
-"""Copies of the sources, in which an edit is planted that a script, the random run, the tests of half_tests or the search of the
-sources finds. Nothing is proved."""
+"""Copies of the sources, in which edits are planted that a script, the random run, the tests of half_tests or the search of the
+sources finds. Nothing is proved.
+
+A program takes half a minute to compile. So the edits with `found by: the random run N, PART of CALL` are planted in one program
+for each N. Each has to show in this part of the answers of this call, in which no other of them shows: the `answer` itself, the
+`work`, the `state` or the `drops`. One that does not is tried alone.
+"""
 
 import functools
 import itertools
@@ -11,15 +16,17 @@ import shutil
 import subprocess
 import tempfile
 
+from model.lines import name_of
 from random_scripts import FIRST_LINES, LONG, make_script
-from scripts import compile_allocator, play
-from witness import difference
+from scripts import agrees, compile_allocator, play
 
 TESTS = pathlib.Path(__file__).resolve().parent
 TOP = TESTS.parent
 PROGRAM = "witness"
-# The scripts of the random run that have to find an edit: their number, and their one limit, as each takes seconds to compile.
-RANDOM_RUN, SCRIPTS, LIMIT = "the random run", 60, 5
+# The scripts of the random run that have to find an edit: their number, and their one kind of values and one limit, as each takes
+# seconds to compile.
+RANDOM_RUN, SCRIPTS, MADE = re.compile(r"the random run (\d+), (.*)"), 60, ("map", "5")
+PARTS = ("answer", "work", "state", "drops")
 TESTED, OF_TESTS = "half_tests", "the tests of half_tests"
 
 
@@ -45,11 +52,14 @@ def copy_sources(folder, crates, proved=False):
     return folder
 
 
-def build(folder, limits):
-    """Builds the program of this copy, with these limits alone, and returns where it is."""
+def build(folder, made):
+    """Builds the program of this copy for maps of these kinds and limits, such as ("map", "5"), and returns where it is."""
     script = folder / "crates" / PROGRAM / "src/script.rt"
     arm = re.compile(r'^ +"(\d+)" => \w+::<.*>\(.*\),\n', re.M)
-    script.write_text(arm.sub(lambda it: it[0] if it[1] in limits else "", script.read_text()))
+    owning = re.compile(r"^ +Kind::Owning => \{\n.*\n +\}\n", re.M)
+    kinds, limits = zip(*made)
+    text = arm.sub(lambda it: it[0] if it[1] in limits else "", script.read_text())
+    script.write_text(text if "owning" in kinds else owning.sub("", text))
     (folder / "tests").mkdir()
     tool, program = shutil.copy(TESTS / "build_unproved.sh", folder / "tests"), folder / PROGRAM
     built = subprocess.run([tool, PROGRAM, program], capture_output=True, text=True)
@@ -60,7 +70,7 @@ def build(folder, limits):
 
 def said_by_script(script, folder):
     """What a script shows of a faulty program: a line with its name. One that fails for another reason shows none."""
-    program = build(folder, re.findall(r"^(?:map|owning|unit|small) (\d+)\b", (TESTS / script).read_text(), re.M))
+    program = build(folder, re.findall(r"^(map|owning|unit|small) (\d+)\b", (TESTS / script).read_text(), re.M))
     environment = os.environ | {"WITNESS": str(program)}
     ran = subprocess.run([TESTS / "scripts.py", script], env=environment, capture_output=True, text=True)
     return [line for line in ran.stdout.splitlines() if script in line] if ran.returncode else []
@@ -82,35 +92,64 @@ def said_by_tests(folder):
 
 @functools.cache
 def scripts_at_random():
-    indices = (it for it in itertools.count(len(LONG)) if FIRST_LINES[it % len(FIRST_LINES)][1] == LIMIT)
+    first_lines = [(kind, str(limit)) for kind, limit in FIRST_LINES]
+    indices = (it for it in itertools.count(len(LONG)) if first_lines[it % len(first_lines)] == MADE)
     return [make_script(random.Random(f"1 {it}"), it) for it in itertools.islice(indices, SCRIPTS)]
 
 
-def said_at_random(folder):
-    """The first line of a script that the faulty program answers otherwise than the model."""
-    program, library = build(folder, [str(LIMIT)]), compile_allocator(folder)
+def differences(script, printed):
+    """Each `PART of CALL` in which the program differs from the model, and the line, up to where its maps may differ too."""
+    for line, found, wanted in zip(script.lines, printed, script.wanted):
+        said = zip(PARTS, found.split(" | "), wanted.split(" | "))
+        parts = [part for part, *both in said if not agrees(*both)]
+        # With another answer the rest differs.
+        parts = parts[:1] if "answer" in parts else parts
+        call = name_of(line.removeprefix("refused ").split(" "))
+        yield from ((f"{part} of {call}", f"{line}: {found}, not {wanted}") for part in parts)
+        if {"answer", "state"} & {*parts}:
+            return
+
+
+def said_at_random(folder, edits):
+    """The first line of a script that shows each edit, or None."""
+    wanted = [RANDOM_RUN.fullmatch(edit.found_by)[2] for edit in edits]
+    if len({*wanted}) < len(edits):
+        raise ValueError("two edits of one program name the same part of the same call")
+    program, library, shown = build(folder, [MADE]), compile_allocator(folder), {}
     for script in scripts_at_random():
-        found = play(script.lines, library, script.refuse, program) + ["nothing"]
-        at = difference(found[:-1], script.wanted)
-        if at is not None:
-            return [f"{[*script.lines, 'the end'][at]}: {found[at]}, not {[*script.wanted, 'nothing'][at]}"]
-    return []
+        if shown.keys() >= {*wanted}:
+            break
+        for part, line in differences(script, play(script.lines, library, script.refuse, program)):
+            shown.setdefault(part, line)
+    return [shown.get(part) for part in wanted]
 
 
-def attempt(edit):
-    """Returns whether what an edit names finds it, and what it shows."""
-    finder, texts = TESTS / edit.found_by, {}
+def in_programs(edits):
+    """The edits in lists of those that are planted in one program."""
+    programs = {}
+    for edit in edits:
+        run = RANDOM_RUN.fullmatch(edit.found_by)
+        programs.setdefault(run[1] if run else str(edit), []).append(edit)
+    return [*programs.values()]
+
+
+def attempt(edits):
+    """Whether each edit of a program is found by what it names, and what that shows; None for one that has to be tried alone."""
+    found_by, texts = edits[0].found_by, {}
+    finder = TESTS / found_by
     is_search = finder.suffix == ".py"
     with tempfile.TemporaryDirectory(prefix="planted-") as folder:
-        crates = crates_of() if is_search else crates_of(TESTED if edit.found_by == OF_TESTS else PROGRAM, edit.crate)
-        folder = copy_sources(pathlib.Path(folder, "copy"), crates)
-        edit.apply(texts, folder / "crates" / edit.crate)
+        of_program = [TESTED if found_by == OF_TESTS else PROGRAM, *(edit.crate for edit in edits)]
+        folder = copy_sources(pathlib.Path(folder, "copy"), crates_of(*([] if is_search else of_program)))
+        for edit in edits:
+            edit.apply(texts, folder / "crates" / edit.crate)
         for file, text in texts.items():
             file.write_text(text)
-        if edit.found_by == RANDOM_RUN:
-            shown = said_at_random(folder)
-        elif edit.found_by == OF_TESTS:
+        if RANDOM_RUN.fullmatch(found_by):
+            shown = said_at_random(folder, edits)
+        elif found_by == OF_TESTS:
             shown = said_by_tests(folder)
         else:
-            shown = said_by_search(finder, folder, edit) if is_search else said_by_script(edit.found_by, folder)
-    return bool(shown), shown[0] if shown else f"{edit.found_by} does not find it"
+            shown = said_by_search(finder, folder, edits[0]) if is_search else said_by_script(found_by, folder)
+    found = [(bool(it), it or f"{edit.found_by} does not find it") for edit, it in zip(edits, [*shown, None])]
+    return found if len(edits) == 1 else [it if it[0] else None for it in found]
