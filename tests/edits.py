@@ -130,8 +130,10 @@ def function_at(file, lines, at, names):
     headers = re.findall(r"^impl\b(?:<[^{}]*?>)? (?!\+)([^{}]*?) \{", "\n".join(lines[: tops[-1]]), re.M) if indent else []
     above = [re.compile(rf"(?:^|::){it}::{name}$") for it in names_above((headers or [""])[-1], file)]
     called = next(filter(None, ([it for it in names if pattern.search(it)] for pattern in above)), [])
-    # A goal of a return is placed at the attribute above the function, if there is one.
-    first = tops[-1] - lines[tops[-1] - 1].lstrip().startswith("#[")
+    # A goal of a return is placed at the first attribute above the function, if there is one.
+    first = tops[-1]
+    while first and lines[first - 1].lstrip().startswith("#["):
+        first -= 1
     return Function(called[0], file, first, last) if at <= last and len(called) == 1 else None
 
 
