@@ -22,7 +22,7 @@ use witness_script::calls::search::{MatchCall, SearchCall};
 use witness_script::calls::walk::WalkKind;
 use witness_script::calls::{Call, DebugCall};
 use witness_script::items::Number;
-use witness_script::words::{Form, Name, Which};
+use witness_script::words::{Name, Query, Which};
 
 impl<'a, R: Print, K: Made, V: Number + Clone + PartialEq + Debug, L: Limit> Player<
     'a,
@@ -41,7 +41,7 @@ where
             Call::Entry(name, call) => self.enter(*name, *call),
             Call::Raw(name, call) => self.enter_raw(*name, *call),
             Call::Debug(call) => self.print_debug(*call),
-            Call::Search(call, form) => self.search(*call, *form),
+            Call::Search(call, query) => self.search(*call, *query),
             Call::Match(call, hash, which) => Some(self.search_match(*call, *hash, *which)),
             Call::Insert(call, name, value) => self.insert(*call, *name, *value),
             Call::Place(call) => Some(self.place(*call)),
@@ -69,10 +69,10 @@ where
         Some(self.say(answer))
     }
 
-    fn search(&mut self, call: SearchCall, form: Form) -> Option<io::Result<()>> {
-        match form {
-            Form::Key(name) => self.search_key(call, name),
-            Form::Id(id) => Some(self.search_id(call, id)),
+    fn search(&mut self, call: SearchCall, query: Query) -> Option<io::Result<()>> {
+        match query {
+            Query::Key(name) => self.search_key(call, name),
+            Query::Id(id) => Some(self.search_id(call, id)),
         }
     }
 

@@ -16,25 +16,25 @@ pub fn search<K: Eq + Hash + Named, V: Number, S: BuildHasher, L: Limit, Q: Equi
     map: &mut LimitedHashMap<K, V, S, L>,
     counts: &Counts,
     zero: &V,
-    form: Q,
+    query: Q,
     call: SearchCall,
 ) -> Answer {
     match call {
-        SearchCall::Get => of_value(map.get(form)),
-        SearchCall::GetKeyValue => of_pair(map.get_key_value(form)),
-        SearchCall::ContainsKey => of_bool(map.contains_key(form)),
-        SearchCall::GetIndexOf => get_index_of(map, form),
-        SearchCall::Index => index(map, counts, form),
-        SearchCall::GetMut(number) => get_mut(map, form, zero.like(number)),
-        SearchCall::Remove => remove(map, form),
-        SearchCall::RemoveEntry => remove_entry(map, form),
-        SearchCall::RemoveEntryHashed => remove_entry_hashed(map, counts, form),
-        SearchCall::ShiftRemove => shift_remove(map, form),
-        SearchCall::ShiftRemoveEntry => of_removed(map.shift_remove_entry(form)),
-        SearchCall::RawEntry => of_pair(map.raw_entry().from_key(form)),
-        SearchCall::RawEntryHashed => raw_entry_hashed(map, counts, form),
-        SearchCall::RawFind => or_refused(raw_find(map, form)),
-        SearchCall::RawFindHashed => or_refused(raw_find_hashed(map, counts, form)),
+        SearchCall::Get => of_value(map.get(query)),
+        SearchCall::GetKeyValue => of_pair(map.get_key_value(query)),
+        SearchCall::ContainsKey => of_bool(map.contains_key(query)),
+        SearchCall::GetIndexOf => get_index_of(map, query),
+        SearchCall::Index => index(map, counts, query),
+        SearchCall::GetMut(number) => get_mut(map, query, zero.like(number)),
+        SearchCall::Remove => remove(map, query),
+        SearchCall::RemoveEntry => remove_entry(map, query),
+        SearchCall::RemoveEntryHashed => remove_entry_hashed(map, counts, query),
+        SearchCall::ShiftRemove => shift_remove(map, query),
+        SearchCall::ShiftRemoveEntry => of_removed(map.shift_remove_entry(query)),
+        SearchCall::RawEntry => of_pair(map.raw_entry().from_key(query)),
+        SearchCall::RawEntryHashed => raw_entry_hashed(map, counts, query),
+        SearchCall::RawFind => or_refused(raw_find(map, query)),
+        SearchCall::RawFindHashed => or_refused(raw_find_hashed(map, counts, query)),
     }
 }
 
@@ -54,9 +54,9 @@ pub fn search_match<K: Eq + Hash + Named, V: Number, S: BuildHasher, L: Limit>(
 
 fn get_index_of<K: Eq + Hash + Named, V: Number, S: BuildHasher, L: Limit, Q: Equivalent<K>>(
     map: &mut LimitedHashMap<K, V, S, L>,
-    form: Q,
+    query: Q,
 ) -> Answer {
-    match map.get_index_of(form) {
+    match map.get_index_of(query) {
         Some(index) => of_index(index),
         None => said("none"),
     }
@@ -66,72 +66,72 @@ fn get_index_of<K: Eq + Hash + Named, V: Number, S: BuildHasher, L: Limit, Q: Eq
 fn index<K: Eq + Hash + Named, V: Number, S: BuildHasher, L: Limit, Q: Equivalent<K>>(
     map: &mut LimitedHashMap<K, V, S, L>,
     counts: &Counts,
-    form: Q,
+    query: Q,
 ) -> Answer {
-    if !is_held(map, counts, form) {
+    if !is_held(map, counts, query) {
         return said("not held");
     }
-    said("").value(&map[form])
+    said("").value(&map[query])
 }
 
 fn remove<K: Eq + Hash + Named, V: Number, S: BuildHasher, L: Limit, Q: Equivalent<K>>(
     map: &mut LimitedHashMap<K, V, S, L>,
-    form: Q,
+    query: Q,
 ) -> Answer {
-    let removed = map.remove(form);
+    let removed = map.remove(query);
     of_value(removed.as_ref())
 }
 
 fn remove_entry<K: Eq + Hash + Named, V: Number, S: BuildHasher, L: Limit, Q: Equivalent<K>>(
     map: &mut LimitedHashMap<K, V, S, L>,
-    form: Q,
+    query: Q,
 ) -> Answer {
-    of_removed(map.remove_entry(form))
+    of_removed(map.remove_entry(query))
 }
 
 fn remove_entry_hashed<K: Eq + Hash + Named, V: Number, S: BuildHasher, L: Limit, Q: Equivalent<K>>(
     map: &mut LimitedHashMap<K, V, S, L>,
     counts: &Counts,
-    form: Q,
+    query: Q,
 ) -> Answer {
-    let hash = map.hasher().hash_one(form);
+    let hash = map.hasher().hash_one(query);
     counts.take_work();
-    of_removed(map.remove_entry_hashed_nocheck(hash, form))
+    of_removed(map.remove_entry_hashed_nocheck(hash, query))
 }
 
 fn shift_remove<K: Eq + Hash + Named, V: Number, S: BuildHasher, L: Limit, Q: Equivalent<K>>(
     map: &mut LimitedHashMap<K, V, S, L>,
-    form: Q,
+    query: Q,
 ) -> Answer {
-    let removed = map.shift_remove(form);
+    let removed = map.shift_remove(query);
     of_value(removed.as_ref())
 }
 
 fn raw_entry_hashed<K: Eq + Hash + Named, V: Number, S: BuildHasher, L: Limit, Q: Equivalent<K>>(
     map: &mut LimitedHashMap<K, V, S, L>,
     counts: &Counts,
-    form: Q,
+    query: Q,
 ) -> Answer {
-    let hash = map.hasher().hash_one(form);
+    let hash = map.hasher().hash_one(query);
     counts.take_work();
-    of_pair(map.raw_entry().from_key_hashed_nocheck(hash, form))
+    of_pair(map.raw_entry().from_key_hashed_nocheck(hash, query))
 }
 
 pub(crate) fn raw_find<K: Eq + Hash + Named, V: Number, S: BuildHasher, L: Limit, Q: Equivalent<K>>(
     map: &mut LimitedHashMap<K, V, S, L>,
-    form: Q,
+    query: Q,
 ) -> Result<Answer, Refusal> {
-    Ok(of_found(map.raw_entry_mut()?.from_key(form)))
+    Ok(of_found(map.raw_entry_mut()?.from_key(query)))
 }
 
 fn raw_find_hashed<K: Eq + Hash + Named, V: Number, S: BuildHasher, L: Limit, Q: Equivalent<K>>(
     map: &mut LimitedHashMap<K, V, S, L>,
     counts: &Counts,
-    form: Q,
+    query: Q,
 ) -> Result<Answer, Refusal> {
-    let hash = map.hasher().hash_one(form);
+    let hash = map.hasher().hash_one(query);
     counts.take_work();
-    Ok(of_found(map.raw_entry_mut()?.from_key_hashed_nocheck(hash, form)))
+    Ok(of_found(map.raw_entry_mut()?.from_key_hashed_nocheck(hash, query)))
 }
 
 fn raw_entry_match<K: Eq + Hash + Named, V: Number, S: BuildHasher, L: Limit>(
@@ -157,10 +157,10 @@ fn raw_find_match<K: Eq + Hash + Named, V: Number, S: BuildHasher, L: Limit>(
 /// Writes a value where the key is held.
 pub(crate) fn get_mut<K: Eq + Hash + Named, V: Number, S: BuildHasher, L: Limit, Q: Equivalent<K>>(
     map: &mut LimitedHashMap<K, V, S, L>,
-    form: Q,
+    query: Q,
     value: V,
 ) -> Answer {
-    match map.get_mut(form) {
+    match map.get_mut(query) {
         Some(held) => said("was").value(&std::mem::replace(held, value)),
         None => said("none"),
     }
@@ -193,11 +193,11 @@ fn accepts<K: Named>(which: Which, counts: &Counts, held: &K) -> bool {
 pub(crate) fn is_held<K: Eq + Hash, V, S: BuildHasher, L: Limit, Q: Equivalent<K>>(
     map: &LimitedHashMap<K, V, S, L>,
     counts: &Counts,
-    form: Q,
+    query: Q,
 ) -> bool
-    ensures { result ≡ holds_by (Q.equivalent form) map.now.pairs }
+    ensures { result ≡ holds_by (Q.equivalent query) map.now.pairs }
 {
-    let is_held = map.contains_key(form);
+    let is_held = map.contains_key(query);
     counts.take_work();
     is_held
 }

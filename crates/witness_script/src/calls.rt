@@ -11,7 +11,7 @@ pub mod search;
 pub mod walk;
 pub mod whole;
 
-use crate::words::{Form, Name, Which, count, key_name, number, parse_form, parse_which};
+use crate::words::{Name, Query, Which, count, key_name, number, parse_query, parse_which};
 use comparison::{Comparison, parse_comparison};
 use entry::{EntryCall, parse_entry};
 use items_call::{ItemsCall, parse_items_call};
@@ -34,7 +34,7 @@ pub enum Call<'a> {
     /// Prints something of the raw entries, or an entry, by `{:?}`.
     Debug(DebugCall),
     /// A search by a query.
-    Search(SearchCall, Form),
+    Search(SearchCall, Query),
     /// A search by a hash and a match.
     Match(MatchCall, u64, Which),
     /// An insertion of a pair.
@@ -165,7 +165,7 @@ fn parse_one<'a>(call: &str, operand: &str) -> Option<Call<'a>> {
         return Some(Call::List(ListCall::Drain(count(operand)?)));
     }
     if let Some(call) = parse_search(call) {
-        return Some(Call::Search(call, parse_form(operand)?));
+        return Some(Call::Search(call, parse_query(operand)?));
     }
     if let Some(call) = parse_place(call, number(operand)?) {
         return Some(Call::Place(call));
@@ -180,7 +180,7 @@ fn parse_two<'a>(call: &str, first: &str, second: &str) -> Option<Call<'a>> {
     match call {
         "get_mut" => {
             let value = number(second)?;
-            Some(Call::Search(SearchCall::GetMut(value), parse_form(first)?))
+            Some(Call::Search(SearchCall::GetMut(value), parse_query(first)?))
         }
         "retain" => Some(Call::Whole(WholeCall::Retain(number(first)?, number(second)?))),
         "same_as" => Some(Call::Same(parse_comparison(first, second, false)?)),
