@@ -13,7 +13,7 @@ use witness_entries::refusals::refused;
 use witness_script::answer::{Answer, said};
 use witness_script::calls::Call;
 use witness_script::items::Named;
-use witness_script::printing::print_gap;
+use witness_script::printing::gap_before;
 use witness_script::words::{Name, count, key_name, number};
 
 impl<'a, R: Print, K: Made, L: Limit> Player<'a, R, K, u64, Counting<'a>, L>
@@ -93,8 +93,7 @@ where
         print!(self.rt; "[")?;
         let mut is_first = true;
         for reply in replies.as_slice() {
-            print_gap(self.rt, &mut is_first, "; ")?;
-            print!(self.rt; "{}", of_reply(reply))?;
+            print!(self.rt; "{}{}", gap_before(&mut is_first, "; "), of_reply(reply))?;
             if let Reply::Refused(command, _) = reply {
                 print_command(self.rt, command)?;
             }
