@@ -1,14 +1,14 @@
 //! The first map compared with one of another limit and rule, of clones of the pairs of the second one.
 
 use crate::player::Player;
-use halfbrown::{AtMost, Limit, LimitedHashMap};
-use std::alloc::{AllocError, Global};
-use std::hash::{BuildHasher, Hash};
+use halfbrown::{AtMost, EqualClone, Limit, LimitedHashMap, Refusal};
+use std::alloc::AllocError;
+use std::hash::Hash;
 use std::io;
 use test_support::builders::{Counting, Rule};
 use witness_script::calls::comparison::{Comparison, OtherLimit};
 
-impl<'a, R: Print, K: Eq + Hash + Clone + Drop, V: Clone + PartialEq + Drop, L: Limit> Player<
+impl<'a, R: Print, K: EqualClone + Hash + Drop, V: Clone + PartialEq + Drop, L: Limit> Player<
     'a,
     R,
     K,
@@ -31,8 +31,9 @@ impl<'a, R: Print, K: Eq + Hash + Clone + Drop, V: Clone + PartialEq + Drop, L: 
     }
 
     fn print_same_at<M: Limit>(&mut self, is_from: bool, rule: Rule) -> io::Result<()> {
-        let builder = self.counts.builder(rule);
-        let other: LimitedHashMap<K, V, Counting<'a>, M> = copy(self.alloc, &self.b, builder)?;
+        let Ok(other) = self.copy::<M>(rule) else {
+            return Err(AllocError.into());
+        };
         self.counts.take_work();
         self.mark();
         let is_same = if is_from {
@@ -42,19 +43,11 @@ impl<'a, R: Print, K: Eq + Hash + Clone + Drop, V: Clone + PartialEq + Drop, L: 
         };
         print!(self.rt; "{is_same}")
     }
-}
 
-// A map of another limit with this builder, of clones of the pairs in their order.
-fn copy<K: Eq + Hash + Clone + Drop, V: Clone + Drop, S: BuildHasher + Drop, L: Limit, M: Limit>(
-    alloc: Global,
-    map: &LimitedHashMap<K, V, S, L>,
-    builder: S,
-) -> Result<LimitedHashMap<K, V, S, M>, AllocError> {
-    let mut copy = LimitedHashMap::with_hasher(alloc, builder);
-    for (key, value) in map {
-        if copy.insert(key.clone()?, value.clone()?).is_err() {
-            return Err(AllocError);
-        }
+    // A map of another limit and rule, of clones of the second map's pairs in their order.
+    fn copy<M: Limit>(&self, rule: Rule) -> Result<LimitedHashMap<K, V, Counting<'a>, M>, Refusal> {
+        let mut copy = LimitedHashMap::with_hasher(self.alloc, self.counts.builder(rule));
+        copy.extend(self.b.clone()?)?;
+        Ok(copy)
     }
-    Ok(copy)
 }

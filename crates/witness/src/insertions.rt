@@ -4,7 +4,7 @@ ghost use Rattle.halfbrown.specs.Pairs.{holds};
 
 use crate::made::Made;
 use crate::player::Player;
-use halfbrown::{Limit, LimitedHashMap, Refused, RefusedKey};
+use halfbrown::{Limit, LimitedHashMap, Refused};
 use std::fmt::Debug;
 use std::hash::{BuildHasher, Hash};
 use std::io;
@@ -134,18 +134,10 @@ fn print_entry_error<K: Eq + Hash + Debug + Drop, V: Drop, S: BuildHasher, L: Li
     map: &mut LimitedHashMap<K, V, S, L>,
     key: K,
 ) -> io::Result<()> {
-    match enter(map, key) {
-        Ok(()) => print!(rt; "granted"),
+    match map.entry(key) {
+        Ok(_entry) => print!(rt; "granted"),
         Err(back) => print!(rt; "{back:?} / {back} / {:?}", back.why),
     }
-}
-
-fn enter<K: Eq + Hash + Drop, V: Drop, S: BuildHasher, L: Limit>(
-    map: &mut LimitedHashMap<K, V, S, L>,
-    key: K,
-) -> Result<(), RefusedKey<K>> {
-    let _entry = map.entry(key)?;
-    Ok(())
 }
 
 fn print_reserve_error<K: Eq + Hash, V, S: BuildHasher, L: Limit>(

@@ -1,16 +1,16 @@
 //! The calls that take a list of pairs.
 ghost use Rattle.std.specs.Prelude.{List};
 
-use crate::made::Made;
+use crate::made::{Made, made_of};
 use crate::makers::print_made_by;
 use crate::player::Player;
 use halfbrown::Limit;
-use std::alloc::AllocError;
+use std::alloc::{AllocError, Global};
 use std::hash::BuildHasher;
 use std::io;
 use witness_script::calls::items_call::ItemsCall;
 use witness_script::items::Number;
-use witness_script::words::{key_name, number};
+use witness_script::words::number;
 
 impl<R: Print, K: Made, V: Number, S: BuildHasher, L: Limit> Player<'_, R, K, V, S, L> {
     /// Makes the call with the pairs that the words write, and prints the answer. None where a word is missing or wrong.
@@ -19,27 +19,9 @@ impl<R: Print, K: Made, V: Number, S: BuildHasher, L: Limit> Player<'_, R, K, V,
         call: ItemsCall,
         words: &[&str],
     ) -> Option<io::Result<()>> {
-        match self.parse_items(words) {
+        match parse_items(self.alloc, &self.some_key, &self.zero, words) {
             Ok(items) => Some(self.pass_items(call, items?)),
             Err(err) => Some(Err(err.into())),
-        }
-    }
-
-    fn parse_items(&self, words: &[&str]) -> Result<Option<Vec<(K, V)>>, AllocError> {
-        let mut items = Vec::new(self.alloc);
-        for pair in words.chunks(2) {
-            let Some(item) = self.parse_item(pair) else {
-                return Ok(None);
-            };
-            items.push(item)?;
-        }
-        Ok(Some(items))
-    }
-
-    fn parse_item(&self, pair: &[&str]) -> Option<(K, V)> {
-        match pair {
-            [key, value] => Some((self.key(key_name(key)?)?, self.value(number(value)?))),
-            _ => None,
         }
     }
 
@@ -55,6 +37,37 @@ impl<R: Print, K: Made, V: Number, S: BuildHasher, L: Limit> Player<'_, R, K, V,
                 printed
             }
         }
+    }
+}
+
+fn parse_items<K: Made, V: Number>(
+    alloc: Global,
+    key: &K,
+    zero: &V,
+    words: &[&str],
+) -> Result<Option<Vec<(K, V)>>, AllocError> {
+    let mut items = Vec::new(alloc);
+    for pair in words.chunks(2) {
+        let Some(item) = parse_item(alloc, key, zero, pair) else {
+            return Ok(None);
+        };
+        items.push(item)?;
+    }
+    Ok(Some(items))
+}
+
+fn parse_item<K: Made, V: Number>(
+    alloc: Global,
+    key: &K,
+    zero: &V,
+    pair: &[&str],
+) -> Option<(K, V)> {
+    match pair {
+        [word, value] => {
+            let value = number(value)?;
+            Some((made_of(key, alloc, word)?, zero.like(value)))
+        }
+        _ => None,
     }
 }
 

@@ -127,11 +127,11 @@ impl fmt::Debug for Key<'_> {
 pub(crate) struct Id(pub u64);
 
 impl<'a> Equivalent<Key<'a>> for Id {
-    ghost equivalent = { λ form key. form.0 == key.id };
+    ghost equivalent = { λ query key. query.0 == key.id };
 
-    ghost hashes_alike = { λ form key same. ap fed.u64 (eqb-true form.0 key.id same) };
+    ghost hashes_alike = { λ query key same. ap fed.u64 (eqb-true query.0 key.id same) };
 
-    ghost stands_for_equals = { λ form key other. nat_eq_equiv.congr form.0 key.id other.id };
+    ghost stands_for_equals = { λ query key other. nat_eq_equiv.congr query.0 key.id other.id };
 
     fn equivalent(&self, key: &Key<'a>) -> bool {
         key.counts.count_comparison();
@@ -180,12 +180,12 @@ impl fmt::Debug for Small<'_> {
 }
 
 impl<'a> Equivalent<Small<'a>> for Id {
-    ghost equivalent = { λ form key. form.0 == key.0.value.id };
+    ghost equivalent = { λ query key. query.0 == key.0.value.id };
 
-    ghost hashes_alike = { λ form key same. ap fed.u64 (eqb-true form.0 key.0.value.id same) };
+    ghost hashes_alike = { λ query key same. ap fed.u64 (eqb-true query.0 key.0.value.id same) };
 
-    ghost stands_for_equals = { λ form key other.
-        nat_eq_equiv.congr form.0 key.0.value.id other.0.value.id };
+    ghost stands_for_equals = { λ query key other.
+        nat_eq_equiv.congr query.0 key.0.value.id other.0.value.id };
 
     fn equivalent(&self, key: &Small<'a>) -> bool {
         self.equivalent(key.0.as_ref())

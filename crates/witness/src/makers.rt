@@ -3,7 +3,7 @@ ghost use Rattle.std.specs.Prelude.{◌+◌, length};
 ghost use Rattle.std.specs.Iterator.{at_most};
 ghost use Rattle.std.specs.Vec.Iter.{into_iter_items};
 
-use crate::states::{print_map, print_state};
+use crate::states::{print_map, state_of};
 use halfbrown::{DefaultHashBuilder, HashMap, Limit, LimitedHashMap, Refusal, hashmap};
 use std::alloc::{AllocError, Global};
 use std::hash::{BuildHasher, Hash};
@@ -12,8 +12,8 @@ use witness_entries::refusals::refused;
 use witness_script::calls::items_call::{ItemsCall, Maker};
 use witness_script::items::{Named, Number};
 
-/// A map with the default builder, or why there is none.
-type Made<K, V, L> = Result<LimitedHashMap<K, V, DefaultHashBuilder, L>, Refusal>;
+/// A map, or why there is none. The functions below are of any builder: at a known one their proofs take longer.
+type Made<K, V, S, L> = Result<LimitedHashMap<K, V, S, L>, Refusal>;
 
 /// Items with a size hint of their own, which may be wrong.
 #[derive(Drop)]
@@ -45,36 +45,45 @@ pub(crate) fn print_made_by<R: Print, K: Eq + Hash + Named, V: Number, L: Limit>
     items: Vec<(K, V)>,
 ) -> io::Result<()> {
     match call {
-        ItemsCall::FromIterHint(low) => print_made(rt, of_hinted::<K, V, L>(alloc, items, low)),
-        ItemsCall::FromArray => print_made(rt, of_array::<K, V, L>(alloc, items)),
+        ItemsCall::FromIterHint(low) => {
+            print_made(
+                rt,
+                of_hinted::<K, V, DefaultHashBuilder, L>(alloc, items, low),
+            )
+        }
+        ItemsCall::FromArray => {
+            print_made(rt, of_array::<K, V, DefaultHashBuilder, L>(alloc, items))
+        }
         ItemsCall::Macro => print_made(rt, of_macro(alloc, items)),
-        ItemsCall::Collect => print_collected(rt, collect::<K, V, L>(alloc, items)),
+        ItemsCall::Collect => {
+            print_collected(rt, collect::<K, V, DefaultHashBuilder, L>(alloc, items))
+        }
         ItemsCall::Made(maker) => print_insertions(rt, make::<K, V, L>(alloc, maker), items),
-        _ => print_made(rt, of_items::<K, V, L>(alloc, items)),
+        _ => print_made(rt, of_items::<K, V, DefaultHashBuilder, L>(alloc, items)),
     }
 }
 
-fn of_items<K: Eq + Hash + Drop, V: Drop, L: Limit>(
+fn of_items<K: Eq + Hash + Drop, V: Drop, S: BuildHasher + Default + Drop, L: Limit>(
     alloc: Global,
     items: Vec<(K, V)>,
-) -> Made<K, V, L> {
+) -> Made<K, V, S, L> {
     LimitedHashMap::from_iter(alloc, items)
 }
 
-fn of_hinted<K: Eq + Hash + Drop, V: Drop, L: Limit>(
+fn of_hinted<K: Eq + Hash + Drop, V: Drop, S: BuildHasher + Default + Drop, L: Limit>(
     alloc: Global,
     items: Vec<(K, V)>,
     low: usize,
-) -> Made<K, V, L> {
+) -> Made<K, V, S, L> {
     let items = items.into_iter();
     LimitedHashMap::from_iter(alloc, Hinted { items, low })
 }
 
 // Of the first four pairs. No line has more.
-fn of_array<K: Eq + Hash + Drop, V: Drop, L: Limit>(
+fn of_array<K: Eq + Hash + Drop, V: Drop, S: BuildHasher + Default + Drop, L: Limit>(
     alloc: Global,
     items: Vec<(K, V)>,
-) -> Made<K, V, L> {
+) -> Made<K, V, S, L> {
     let mut items = items.into_iter();
     let Some(a) = items.next() else {
         return LimitedHashMap::from_array(alloc, []);
@@ -109,14 +118,17 @@ fn of_macro<K: Eq + Hash + Drop, V: Drop>(
     hashmap! {in alloc; a.0 => a.1, b.0 => b.1, c.0 => c.1}
 }
 
-fn collect<K: Eq + Hash + Drop, V: Drop, L: Limit>(
+fn collect<K: Eq + Hash + Drop, V: Drop, S: BuildHasher + Default + Drop, L: Limit>(
     alloc: Global,
     items: Vec<(K, V)>,
-) -> Result<LimitedHashMap<K, V, DefaultHashBuilder, L>, AllocError> {
+) -> Result<LimitedHashMap<K, V, S, L>, AllocError> {
     items.into_iter().collect(alloc)
 }
 
-fn make<K: Eq + Hash, V, L: Limit>(alloc: Global, maker: Maker) -> Made<K, V, L> {
+fn make<K: Eq + Hash, V, L: Limit>(
+    alloc: Global,
+    maker: Maker,
+) -> Made<K, V, DefaultHashBuilder, L> {
     let builder = DefaultHashBuilder::new();
     match maker {
         Maker::New => Ok(LimitedHashMap::new(alloc)),
@@ -130,9 +142,9 @@ fn make<K: Eq + Hash, V, L: Limit>(alloc: Global, maker: Maker) -> Made<K, V, L>
     }
 }
 
-fn print_made<K: Eq + Hash + Named, V: Number, L: Limit>(
+fn print_made<K: Eq + Hash + Named, V: Number, S: BuildHasher + Drop, L: Limit>(
     rt: &impl Print,
-    made: Made<K, V, L>,
+    made: Made<K, V, S, L>,
 ) -> io::Result<()> {
     match made {
         Ok(map) => print_map(rt, &map),
@@ -140,9 +152,9 @@ fn print_made<K: Eq + Hash + Named, V: Number, L: Limit>(
     }
 }
 
-fn print_collected<K: Eq + Hash + Named, V: Number, L: Limit>(
+fn print_collected<K: Eq + Hash + Named, V: Number, S: BuildHasher + Drop, L: Limit>(
     rt: &impl Print,
-    made: Result<LimitedHashMap<K, V, DefaultHashBuilder, L>, AllocError>,
+    made: Result<LimitedHashMap<K, V, S, L>, AllocError>,
 ) -> io::Result<()> {
     match made {
         Ok(map) => print_map(rt, &map),
@@ -151,9 +163,9 @@ fn print_collected<K: Eq + Hash + Named, V: Number, L: Limit>(
 }
 
 // Prints each state of an empty map that takes the pairs one by one, up to the first that is refused.
-fn print_insertions<K: Eq + Hash + Drop, V: Drop, L: Limit>(
+fn print_insertions<K: Eq + Hash + Drop, V: Drop, S: BuildHasher + Drop, L: Limit>(
     rt: &impl Print,
-    made: Made<K, V, L>,
+    made: Made<K, V, S, L>,
     items: Vec<(K, V)>,
 ) -> io::Result<()> {
     match made {
@@ -167,13 +179,12 @@ fn insert_each<K: Eq + Hash + Drop, V: Drop, S: BuildHasher + Drop, L: Limit>(
     mut map: LimitedHashMap<K, V, S, L>,
     items: Vec<(K, V)>,
 ) -> io::Result<()> {
-    print_state(rt, &map)?;
+    print!(rt; "{}", state_of(&map))?;
     for (key, value) in items {
-        print!(rt; "; ")?;
-        if let Err(back) = map.insert(key, value) {
-            return print!(rt; "{}", refused(back.why));
+        match map.insert(key, value) {
+            Ok(_) => print!(rt; "; {}", state_of(&map))?,
+            Err(back) => return print!(rt; "; {}", refused(back.why)),
         }
-        print_state(rt, &map)?;
     }
     Ok(())
 }

@@ -29,33 +29,15 @@ impl<'a, R: Print, K: Made, V: Number + Clone + PartialEq, L: Limit> Player<
         match call {
             WholeCall::State => self.print_own(),
             WholeCall::Pairs => self.print_both(),
+            WholeCall::Clone => {
+                let answer = or_refused(self.clone_first());
+                self.say(answer)
+            }
             _ => {
                 let answer = self.change(call);
                 self.say(answer)
             }
         }
-    }
-
-    fn change(&mut self, call: WholeCall) -> Answer {
-        match call {
-            WholeCall::Clear => self.a.clear(),
-            WholeCall::ShrinkToFit => self.a.shrink_to_fit(),
-            WholeCall::Drop => drop(take(&mut self.a, self.alloc)),
-            WholeCall::Swap => std::mem::swap(&mut self.a, &mut self.b),
-            WholeCall::Clone => return or_refused(self.clone_first()),
-            WholeCall::Same => return of_bool(self.a.same_pairs(&self.b)),
-            WholeCall::Eq => return of_bool(self.a == self.b),
-            WholeCall::RawEntryMut => return or_refused(raw_entry_mut(&mut self.a)),
-            WholeCall::Reserve(more) => return reserve(&mut self.a, more),
-            WholeCall::IterMut(more) => iter_mut(&mut self.a, more),
-            WholeCall::ValuesMut(more) => values_mut(&mut self.a, more),
-            WholeCall::ValuesSliceMut(more) => values_slice_mut(&mut self.a, more),
-            WholeCall::Retain(divisor, more) => {
-                return retain(&mut self.a, self.counts, divisor, more);
-            }
-            WholeCall::State | WholeCall::Pairs => {}
-        }
-        said("done")
     }
 
     fn clone_first(&mut self) -> Result<Answer, Refusal> {
@@ -85,6 +67,36 @@ impl<'a, R: Print, K: Made, V: Number + Clone + PartialEq, L: Limit> Player<
         print_lost(self.rt, &self.b)?;
         self.counts.take_work();
         Ok(())
+    }
+}
+
+// These are of any builder: at a known one their proofs take longer.
+impl<
+    R: Print,
+    K: Made,
+    V: Number + Clone + PartialEq,
+    S: BuildHasher + Copy + Drop,
+    L: Limit,
+> Player<'_, R, K, V, S, L> {
+    fn change(&mut self, call: WholeCall) -> Answer {
+        match call {
+            WholeCall::Clear => self.a.clear(),
+            WholeCall::ShrinkToFit => self.a.shrink_to_fit(),
+            WholeCall::Drop => drop(take(&mut self.a, self.alloc)),
+            WholeCall::Swap => std::mem::swap(&mut self.a, &mut self.b),
+            WholeCall::Same => return of_bool(self.a.same_pairs(&self.b)),
+            WholeCall::Eq => return of_bool(self.a == self.b),
+            WholeCall::RawEntryMut => return or_refused(raw_entry_mut(&mut self.a)),
+            WholeCall::Reserve(more) => return reserve(&mut self.a, more),
+            WholeCall::IterMut(more) => iter_mut(&mut self.a, more),
+            WholeCall::ValuesMut(more) => values_mut(&mut self.a, more),
+            WholeCall::ValuesSliceMut(more) => values_slice_mut(&mut self.a, more),
+            WholeCall::Retain(divisor, more) => {
+                return retain(&mut self.a, self.counts, divisor, more);
+            }
+            WholeCall::Clone | WholeCall::State | WholeCall::Pairs => {}
+        }
+        said("done")
     }
 }
 

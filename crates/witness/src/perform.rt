@@ -5,6 +5,7 @@ use crate::made::Made;
 use crate::player::Player;
 use halfbrown::{Equivalent, Limit};
 use std::fmt::Debug;
+use std::hash::BuildHasher;
 use std::io;
 use test_support::builders::Counting;
 use witness_entries::debug::{
@@ -20,9 +21,9 @@ use witness_script::calls::list::ListCall;
 use witness_script::calls::raw::RawCall;
 use witness_script::calls::search::{MatchCall, SearchCall};
 use witness_script::calls::walk::WalkKind;
-use witness_script::calls::{Call, DebugCall};
+use witness_script::calls::{Call, DebugCall, parse_call};
 use witness_script::items::Number;
-use witness_script::words::{Form, Name, Which};
+use witness_script::words::{Name, Query, Which};
 
 impl<'a, R: Print, K: Made, V: Number + Clone + PartialEq + Debug, L: Limit> Player<
     'a,
@@ -35,13 +36,23 @@ impl<'a, R: Print, K: Made, V: Number + Clone + PartialEq + Debug, L: Limit> Pla
 where
     Id: Equivalent<K>,
 {
+    /// Plays a line, of those that all values have.
+    pub(crate) fn play(&mut self, line: &str) -> io::Result<()> {
+        let words = self.begin(line)?;
+        let printed = match parse_call(words.as_slice()) {
+            Some(call) => self.perform(&call),
+            None => None,
+        };
+        self.end(printed)
+    }
+
     /// Makes the call, and prints the answer. None where these maps have no such call.
     pub(crate) fn perform(&mut self, call: &Call<'_>) -> Option<io::Result<()>> {
         match call {
             Call::Entry(name, call) => self.enter(*name, *call),
             Call::Raw(name, call) => self.enter_raw(*name, *call),
             Call::Debug(call) => self.print_debug(*call),
-            Call::Search(call, form) => self.search(*call, *form),
+            Call::Search(call, query) => self.search(*call, *query),
             Call::Match(call, hash, which) => Some(self.search_match(*call, *hash, *which)),
             Call::Insert(call, name, value) => self.insert(*call, *name, *value),
             Call::Place(call) => Some(self.place(*call)),
@@ -54,7 +65,17 @@ where
             Call::OrDefault(_) | Call::Run(_) => None,
         }
     }
+}
 
+// These are of any builder: at a known one their proofs take longer.
+impl<R: Print, K: Made, V: Number + Debug, S: BuildHasher + Copy + Drop, L: Limit> Player<
+    '_,
+    R,
+    K,
+    V,
+    S,
+    L,
+> {
     fn enter(&mut self, name: Name, call: EntryCall) -> Option<io::Result<()>> {
         let key = self.key(name)?;
         self.mark();
@@ -69,10 +90,13 @@ where
         Some(self.say(answer))
     }
 
-    fn search(&mut self, call: SearchCall, form: Form) -> Option<io::Result<()>> {
-        match form {
-            Form::Key(name) => self.search_key(call, name),
-            Form::Id(id) => Some(self.search_id(call, id)),
+    fn search(&mut self, call: SearchCall, query: Query) -> Option<io::Result<()>>
+    where
+        Id: Equivalent<K>,
+    {
+        match query {
+            Query::Key(name) => self.search_key(call, name),
+            Query::Id(id) => Some(self.search_id(call, id)),
         }
     }
 
@@ -83,7 +107,10 @@ where
         Some(self.say(answer))
     }
 
-    fn search_id(&mut self, call: SearchCall, id: u64) -> io::Result<()> {
+    fn search_id(&mut self, call: SearchCall, id: u64) -> io::Result<()>
+    where
+        Id: Equivalent<K>,
+    {
         self.mark();
         let answer = search(&mut self.a, self.counts, &self.zero, Id(id), call);
         self.say(answer)

@@ -4,7 +4,7 @@ use crate::player::Player;
 use halfbrown::{Limit, LimitedHashMap};
 use std::hash::{BuildHasher, Hash};
 use std::io;
-use witness_script::answer::{Answer, of_pair, of_removed, said};
+use witness_script::answer::{Answer, of_pair, of_removed, said, written};
 use witness_script::calls::place::PlaceCall;
 use witness_script::items::{Named, Number};
 
@@ -42,14 +42,6 @@ fn place<K: Eq + Hash + Named, V: Number, S: BuildHasher, L: Limit>(
             written(map.get_index_mut(index), zero.like(number))
         }
         PlaceCall::GetIndexEntry(index, number) => write_at(map, index, zero.like(number)),
-    }
-}
-
-// Writes a value where one is lent.
-fn written<V: Number>(held: Option<&mut V>, value: V) -> Answer {
-    match held {
-        Some(held) => said("was").value(&std::mem::replace(held, value)),
-        None => said("none"),
     }
 }
 

@@ -1,7 +1,7 @@
 //! The two maps of a script, and the line that is played on them.
 
 use crate::made::Made;
-use crate::states::print_state;
+use crate::states::state_of;
 use halfbrown::{Limit, LimitedHashMap};
 use std::alloc::{AllocError, Global};
 use std::hash::{BuildHasher, Hash};
@@ -74,8 +74,7 @@ impl<'a, R: Print, K: Eq + Hash, V, S: BuildHasher, L: Limit> Player<'a, R, K, V
     pub(crate) fn begin<'b>(&mut self, line: &'b str) -> Result<Vec<&'b str>, AllocError> {
         self.counts.begin();
         self.is_refused = line.starts_with("refused ");
-        let call = line.strip_prefix("refused ").unwrap_or(line);
-        call.split(" ").collect(self.alloc)
+        words(self.alloc, line.strip_prefix("refused ").unwrap_or(line))
     }
 
     /// Ends a line, of which this was printed by its call. It is a bad one where it made none.
@@ -85,18 +84,31 @@ impl<'a, R: Print, K: Eq + Hash, V, S: BuildHasher, L: Limit> Player<'a, R, K, V
             None => return println!(self.rt; "bad line"),
         }
         self.print_fields()?;
-        if let Some(calls) = self.counts.calls() {
-            print!(self.rt; " | called {calls}")?;
+        match self.counts.calls() {
+            Some(calls) => println!(self.rt; " | called {calls}"),
+            None => println!(self.rt),
         }
+    }
+
+    /// Prints the answer of a first line.
+    pub(crate) fn print_made(&self) -> io::Result<()> {
+        print!(self.rt; "made")?;
+        self.print_fields()?;
         println!(self.rt)
     }
 
-    /// Prints the fields after an answer: the work since the line began, the state of the first map, and what was dropped.
-    pub(crate) fn print_fields(&self) -> io::Result<()> {
+    // Prints the fields after an answer: the work since the line began, the state of the first map, and what was dropped.
+    fn print_fields(&self) -> io::Result<()> {
         let (hashes, comparisons) = self.counts.take_work();
-        print!(self.rt; " | {hashes} {comparisons} | ")?;
-        print_state(self.rt, &self.a)?;
         let (keys, values) = self.counts.take_dropped();
-        print!(self.rt; " | dropped {keys} {values}")
+        print!(self.rt;
+            " | {hashes} {comparisons} | {} | dropped {keys} {values}",
+            state_of(&self.a)
+        )
     }
+}
+
+/// The words of a line.
+pub(crate) fn words(alloc: Global, line: &str) -> Result<Vec<&str>, AllocError> {
+    line.split(" ").collect(alloc)
 }

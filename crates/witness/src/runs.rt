@@ -1,34 +1,48 @@
 //! The calls on maps whose values are plain numbers alone: a run of commands, and `or_default`.
 
 use crate::keys::Id;
-use crate::made::Made;
+use crate::made::{Made, made_of};
 use crate::player::Player;
 use halfbrown::run::run;
 use halfbrown::{Command, Equivalent, Limit, Reply};
-use std::alloc::AllocError;
+use std::alloc::{AllocError, Global};
+use std::hash::BuildHasher;
 use std::io;
 use test_support::builders::Counting;
 use witness_entries::entries::or_default;
 use witness_entries::refusals::refused;
 use witness_script::answer::{Answer, said};
-use witness_script::calls::Call;
+use witness_script::calls::{Call, parse_call};
 use witness_script::items::Named;
-use witness_script::printing::print_gap;
-use witness_script::words::{Name, count, key_name, number};
+use witness_script::printing::gap_before;
+use witness_script::words::{Name, count, number};
 
 impl<'a, R: Print, K: Made, L: Limit> Player<'a, R, K, u64, Counting<'a>, L>
 where
     Id: Equivalent<K>,
 {
-    /// Makes the call, and prints the answer. None where a word of it is missing or wrong.
-    pub(crate) fn perform_plain(&mut self, call: &Call<'_>) -> Option<io::Result<()>> {
+    /// Plays a line.
+    pub(crate) fn play_plain(&mut self, line: &str) -> io::Result<()> {
+        let words = self.begin(line)?;
+        let printed = match parse_call(words.as_slice()) {
+            Some(call) => self.perform_plain(&call),
+            None => None,
+        };
+        self.end(printed)
+    }
+
+    // Makes the call, and prints the answer. None where a word of it is missing or wrong.
+    fn perform_plain(&mut self, call: &Call<'_>) -> Option<io::Result<()>> {
         match call {
             Call::OrDefault(name) => self.print_or_default(*name),
             Call::Run(words) => self.parse_and_run(words),
             _ => self.perform(call),
         }
     }
+}
 
+// These are of any builder: at a known one their proofs take longer.
+impl<R: Print, K: Made, S: BuildHasher, L: Limit> Player<'_, R, K, u64, S, L> {
     fn print_or_default(&mut self, name: Name) -> Option<io::Result<()>> {
         let key = self.key(name)?;
         let answer = or_default(self.open(), key);
@@ -36,71 +50,87 @@ where
     }
 
     fn parse_and_run(&mut self, words: &[&str]) -> Option<io::Result<()>> {
-        match self.parse_commands(words) {
+        match parse_commands(self.alloc, &self.some_key, words) {
             Ok(commands) => Some(self.print_run(commands?)),
             Err(err) => Some(Err(err.into())),
         }
     }
 
-    // None where a command is unknown, or a word of it is missing or wrong.
-    fn parse_commands(&self, words: &[&str]) -> Result<Option<Vec<Command<K, u64>>>, AllocError> {
-        let mut commands = Vec::new(self.alloc);
-        // How many words of the last command are still to come.
-        let mut to_come = 0;
-        for index in 0..words.len() {
-            if to_come > 0 {
-                to_come -= 1;
-                continue;
-            }
-            let Some((command, operands)) = self.first_command(&words[index..]) else {
-                return Ok(None);
-            };
-            to_come = operands;
-            commands.push(command)?;
-        }
-        Ok(Some(commands))
-    }
-
-    // The first command, and how many operands it has.
-    fn first_command(&self, words: &[&str]) -> Option<(Command<K, u64>, usize)> {
-        let (call, operands) = words.split_first()?;
-        if let Some(command) = alone(call) {
-            return Some((command, 0));
-        }
-        let (first, rest) = operands.split_first()?;
-        if let Some(command) = self.with_operand(call, first) {
-            return Some((command, 1));
-        }
-        let value = number(rest.first()?)?;
-        Some((with_pair(call, self.key(key_name(first)?)?, value)?, 2))
-    }
-
-    fn with_operand(&self, call: &str, operand: &str) -> Option<Command<K, u64>> {
-        Some(match call {
-            "reserve" => Command::Reserve(count(operand)?),
-            "get" => Command::Get(self.key(key_name(operand)?)?),
-            "remove" => Command::Remove(self.key(key_name(operand)?)?),
-            _ => return None,
-        })
-    }
-
     // Runs the commands, and prints the replies.
     fn print_run(&mut self, commands: Vec<Command<K, u64>>) -> io::Result<()> {
         let alloc = self.marked_alloc();
-        let Ok(replies) = run(alloc, &mut self.a, commands) else {
-            return print!(self.rt; "refused memory");
-        };
-        print!(self.rt; "[")?;
-        let mut is_first = true;
-        for reply in replies.as_slice() {
-            print_gap(self.rt, &mut is_first, "; ")?;
-            print!(self.rt; "{}", of_reply(reply))?;
-            if let Reply::Refused(command, _) = reply {
-                print_command(self.rt, command)?;
-            }
+        match run(alloc, &mut self.a, commands) {
+            Ok(replies) => print_replies(self.rt, replies.as_slice()),
+            Err(_) => print!(self.rt; "refused memory"),
         }
-        print!(self.rt; "]")
     }
+}
+
+// None where a command is unknown, or a word of it is missing or wrong.
+fn parse_commands<K: Made>(
+    alloc: Global,
+    key: &K,
+    words: &[&str],
+) -> Result<Option<Vec<Command<K, u64>>>, AllocError> {
+    let mut commands = Vec::new(alloc);
+    // How many words of the last command are still to come.
+    let mut to_come = 0;
+    for index in 0..words.len() {
+        if to_come > 0 {
+            to_come -= 1;
+            continue;
+        }
+        let Some((command, operands)) = first_command(alloc, key, &words[index..]) else {
+            return Ok(None);
+        };
+        to_come = operands;
+        commands.push(command)?;
+    }
+    Ok(Some(commands))
+}
+
+// The first command, and how many operands it has.
+fn first_command<K: Made>(
+    alloc: Global,
+    key: &K,
+    words: &[&str],
+) -> Option<(Command<K, u64>, usize)> {
+    let (call, operands) = words.split_first()?;
+    if let Some(command) = alone(call) {
+        return Some((command, 0));
+    }
+    let (first, rest) = operands.split_first()?;
+    if let Some(command) = with_operand(alloc, key, call, first) {
+        return Some((command, 1));
+    }
+    let value = number(rest.first()?)?;
+    Some((with_pair(call, made_of(key, alloc, first)?, value)?, 2))
+}
+
+fn with_operand<K: Made>(
+    alloc: Global,
+    key: &K,
+    call: &str,
+    operand: &str,
+) -> Option<Command<K, u64>> {
+    match call {
+        "reserve" => Some(Command::Reserve(count(operand)?)),
+        "get" => Some(Command::Get(made_of(key, alloc, operand)?)),
+        "remove" => Some(Command::Remove(made_of(key, alloc, operand)?)),
+        _ => None,
+    }
+}
+
+fn print_replies<K: Named>(rt: &impl Print, replies: &[Reply<K, u64>]) -> io::Result<()> {
+    let mut is_first = true;
+    print!(rt; "[")?;
+    for reply in replies {
+        print!(rt; "{}{}", gap_before(&mut is_first, "; "), of_reply(reply))?;
+        if let Reply::Refused(command, _) = reply {
+            print_command(rt, command)?;
+        }
+    }
+    print!(rt; "]")
 }
 
 fn alone<K>(call: &str) -> Option<Command<K, u64>> {

@@ -2,7 +2,7 @@
 
 use crate::keys::{Id, Key, Small};
 use crate::made::Made;
-use crate::player::Player;
+use crate::player::{Player, words};
 use crate::values::{Nothing, Owned};
 use halfbrown::{AtMost, Equivalent, Limit, LimitedHashMap, Refusal};
 use std::alloc::Global;
@@ -10,7 +10,6 @@ use std::fmt::Debug;
 use std::io;
 use test_support::builders::Counting;
 use witness_entries::refusals::refused;
-use witness_script::calls::parse_call;
 use witness_script::counts::Counts;
 use witness_script::first_line::{First, Kind, parse_first};
 use witness_script::items::Number;
@@ -19,17 +18,20 @@ use witness_script::items::Number;
 pub(crate) fn play(rt: &(impl Print + AllocGlobal), text: &str) -> io::Result<()> {
     let lines: Vec<&str> = text.lines().collect(rt.alloc())?;
     for (index, line) in lines.iter().enumerate() {
-        let words: Vec<&str> = line.split(" ").collect(rt.alloc())?;
-        match parse_first(words.as_slice()) {
-            Some(first) => {
-                if begin(rt, first, &lines[index + 1..])? {
-                    return Ok(());
-                }
-            }
-            None => println!(rt; "bad line")?,
+        if play_from(rt, line, &lines[index + 1..])? {
+            break;
         }
     }
     Ok(())
+}
+
+// Plays a line, and where it makes the maps those after it. False where it made none.
+fn play_from<R: Print + AllocGlobal>(rt: &R, line: &str, rest: &[&str]) -> io::Result<bool> {
+    let words = words(rt.alloc(), line)?;
+    match parse_first(words.as_slice()) {
+        Some(first) => begin(rt, first, rest),
+        None => print_bad(rt),
+    }
 }
 
 // Plays the lines after a first one. False where it made no maps.
@@ -137,12 +139,7 @@ where
         return Ok(false);
     };
     for line in rest {
-        let words = player.begin(line)?;
-        let printed = match parse_call(words.as_slice()) {
-            Some(call) => player.perform_plain(&call),
-            None => None,
-        };
-        player.end(printed)?;
+        player.play_plain(line)?;
     }
     Ok(true)
 }
@@ -160,12 +157,7 @@ fn play_others<'a, R: Print + AllocGlobal, V: Number + Clone + PartialEq + Debug
         return Ok(false);
     };
     for line in rest {
-        let words = player.begin(line)?;
-        let printed = match parse_call(words.as_slice()) {
-            Some(call) => player.perform(&call),
-            None => None,
-        };
-        player.end(printed)?;
+        player.play(line)?;
     }
     Ok(true)
 }
@@ -196,9 +188,7 @@ fn make<'a, R: Print + AllocGlobal, K: Made, V: Drop, L: Limit>(
         zero,
         is_refused: false,
     };
-    print!(rt; "made")?;
-    player.print_fields()?;
-    println!(rt)?;
+    player.print_made()?;
     Ok(Some(player))
 }
 

@@ -6,7 +6,7 @@ use crate::replaced::{lose_insert, of_entry, replace};
 use halfbrown::{Entry, Limit, LimitedHashMap};
 use std::hash::{BuildHasher, Hash};
 use witness_script::answer::{Answer, said};
-use witness_script::calls::entry::EntryCall;
+use witness_script::calls::entry::{EntryCall, EntryInsert};
 use witness_script::counts::Counts;
 use witness_script::items::{Named, Number, add_to};
 
@@ -24,11 +24,7 @@ pub fn enter<K: Eq + Hash + Named, V: Number, S: BuildHasher, L: Limit>(
         EntryCall::Read => read(map, key),
         EntryCall::Key => stored_key(map, key),
         EntryCall::IntoKey => into_key(map, key),
-        EntryCall::OrInsert(number) => or_insert(map, key, zero.like(number)),
-        EntryCall::OrInsertWith(number) => or_insert_with(map, counts, key, zero.like(number)),
-        EntryCall::Insert(number) => insert(map, key, zero.like(number)),
-        EntryCall::LoseInsert(number) => lose_insert(map, counts, key, zero.like(number)),
-        EntryCall::AndModify(more, number) => and_modify(map, counts, key, more, zero.like(number)),
+        EntryCall::Insert(call, number) => insert(map, counts, key, zero.like(number), call),
     }
 }
 
@@ -65,65 +61,41 @@ fn into_key<K: Eq + Hash + Named, V: Number, S: BuildHasher, L: Limit>(
     }
 }
 
-fn or_insert<K: Eq + Hash + Named, V: Number, S: BuildHasher, L: Limit>(
-    map: &mut LimitedHashMap<K, V, S, L>,
-    key: K,
-    value: V,
-) -> Answer {
-    match map.entry(key) {
-        Ok(entry) => said("").value(entry.or_insert(value)),
-        Err(back) => refused_key(&back),
-    }
-}
-
-fn or_insert_with<K: Eq + Hash + Named, V: Number, S: BuildHasher, L: Limit>(
-    map: &mut LimitedHashMap<K, V, S, L>,
-    counts: &Counts,
-    key: K,
-    value: V,
-) -> Answer {
-    let counts = counts.of_closure();
-    let make = move || {
-        counts.count_call();
-        value
-    };
-    match map.entry(key) {
-        Ok(entry) => said("").value(entry.or_insert_with(make)),
-        Err(back) => refused_key(&back),
-    }
-}
-
 fn insert<K: Eq + Hash + Named, V: Number, S: BuildHasher, L: Limit>(
     map: &mut LimitedHashMap<K, V, S, L>,
-    key: K,
-    value: V,
-) -> Answer {
-    match map.entry(key) {
-        Ok(entry) => match entry {
-            Entry::Occupied(mut entry) => said("was").value(&entry.insert(value)),
-            Entry::Vacant(entry) => said("added").value(entry.insert(value)),
-        },
-        Err(back) => refused_key(&back),
-    }
-}
-
-fn and_modify<K: Eq + Hash + Named, V: Number, S: BuildHasher, L: Limit>(
-    map: &mut LimitedHashMap<K, V, S, L>,
     counts: &Counts,
     key: K,
-    more: u64,
     value: V,
+    call: EntryInsert,
 ) -> Answer {
-    let counts = counts.of_closure();
+    if let EntryInsert::Lose = call {
+        return lose_insert(map, counts, key, value);
+    }
+    if let EntryInsert::OrInsertWith | EntryInsert::AndModify(_) = call {
+        counts.of_closure();
+    }
     let entry = match map.entry(key) {
         Ok(entry) => entry,
         Err(back) => return refused_key(&back),
     };
-    let modified = entry.and_modify(|held| {
-        counts.count_call();
-        add_to(held, more);
-    });
-    said("").value(modified.or_insert(value))
+    match call {
+        EntryInsert::OrInsertWith => said("").value(entry.or_insert_with(move || {
+            counts.count_call();
+            value
+        })),
+        EntryInsert::AndModify(more) => {
+            let modified = entry.and_modify(|held| {
+                counts.count_call();
+                add_to(held, more);
+            });
+            said("").value(modified.or_insert(value))
+        }
+        EntryInsert::Insert => match entry {
+            Entry::Occupied(mut entry) => said("was").value(&entry.insert(value)),
+            Entry::Vacant(entry) => said("added").value(entry.insert(value)),
+        },
+        _ => said("").value(entry.or_insert(value)),
+    }
 }
 
 /// `or_default` of the entry of the key.

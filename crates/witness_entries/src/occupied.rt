@@ -83,7 +83,7 @@ fn call_lent<K: Eq + Hash + Named, V: Number, S: BuildHasher, L: Limit>(
         OccupiedCall::GetMut(more) => of_more(entry.get_mut(), more),
         OccupiedCall::KeyMut => said("").key(entry.key_mut()),
         OccupiedCall::GetKeyValueMut(more) => of_pair_more(entry.get_key_value_mut(), more),
-        _ => of_index(entry.index()),
+        _ => of_index(Some(entry.index())),
     }
 }
 
@@ -97,5 +97,18 @@ fn of_more<V: Number>(held: &mut V, more: u64) -> Answer {
 fn of_pair_more<K: Named, V: Number>(pair: (&K, &mut V), more: u64) -> Answer {
     let (key, held) = pair;
     add_to(held, more);
+    said("").pair(key, held)
+}
+
+/// The pair of an entry.
+pub(crate) fn of_held<K: Eq + Hash + Named, V: Number, S: BuildHasher, L: Limit>(
+    entry: &OccupiedEntry<'_, K, V, S, L>,
+) -> Answer {
+    said("").pair(entry.key(), entry.get())
+}
+
+/// The pair that a call lends.
+pub(crate) fn of_lent<K: Named, V: Number>(pair: (&K, &mut V)) -> Answer {
+    let (key, held) = pair;
     said("").pair(key, held)
 }

@@ -17,10 +17,23 @@ pub(crate) fn replace<K: Eq + Hash + Named, V: Number, S: BuildHasher, L: Limit>
     call: ReplaceCall,
 ) -> Answer {
     let counts = counts.of_closure();
+    let entry = match occupied(map, key) {
+        Ok(entry) => entry,
+        Err(answer) => return answer,
+    };
+    let handed = Cell::new(said("none"));
+    let left = entry.replace_entry_with(|key, value| {
+        counts.count_call();
+        handed.set(said("handed").key(key));
+        match call {
+            ReplaceCall::Keep(more) => Some(added_to(value, more)),
+            ReplaceCall::Lose => None,
+            ReplaceCall::Hand => Some(value),
+        }
+    });
     match call {
-        ReplaceCall::Keep(more) => keep(map, counts, key, more),
-        ReplaceCall::Lose => lose(map, counts, key),
-        ReplaceCall::Hand => hand(map, counts, key),
+        ReplaceCall::Hand => handed.get(),
+        _ => of_entry(&left, "lost"),
     }
 }
 
@@ -44,57 +57,6 @@ pub(crate) fn lose_insert<K: Eq + Hash + Named, V: Number, S: BuildHasher, L: Li
         Entry::Occupied(entry) => said("occupied").pair(entry.key(), entry.get()),
         Entry::Vacant(entry) => said("added").value(entry.insert(value)),
     }
-}
-
-fn keep<K: Eq + Hash + Named, V: Number, S: BuildHasher, L: Limit>(
-    map: &mut LimitedHashMap<K, V, S, L>,
-    counts: &Counts,
-    key: K,
-    more: u64,
-) -> Answer {
-    let entry = match occupied(map, key) {
-        Ok(entry) => entry,
-        Err(answer) => return answer,
-    };
-    let left = entry.replace_entry_with(|_, value| {
-        counts.count_call();
-        Some(added_to(value, more))
-    });
-    of_entry(&left, "lost")
-}
-
-fn lose<K: Eq + Hash + Named, V: Number, S: BuildHasher, L: Limit>(
-    map: &mut LimitedHashMap<K, V, S, L>,
-    counts: &Counts,
-    key: K,
-) -> Answer {
-    let entry = match occupied(map, key) {
-        Ok(entry) => entry,
-        Err(answer) => return answer,
-    };
-    let left = entry.replace_entry_with(|_, _value| {
-        counts.count_call();
-        None
-    });
-    of_entry(&left, "lost")
-}
-
-fn hand<K: Eq + Hash + Named, V: Number, S: BuildHasher, L: Limit>(
-    map: &mut LimitedHashMap<K, V, S, L>,
-    counts: &Counts,
-    key: K,
-) -> Answer {
-    let entry = match occupied(map, key) {
-        Ok(entry) => entry,
-        Err(answer) => return answer,
-    };
-    let handed = Cell::new(said("none"));
-    drop(entry.replace_entry_with(|key, value| {
-        counts.count_call();
-        handed.set(said("handed").key(key));
-        Some(value)
-    }));
-    handed.get()
 }
 
 /// The pair of an entry, or its key after this word.

@@ -2,11 +2,13 @@
 ghost use Rattle.std.specs.Prelude.{◌≡◌};
 ghost use Rattle.halfbrown.specs.Pairs.{holds_by};
 
-use crate::refusals::or_refused;
-use halfbrown::{Equivalent, Limit, LimitedHashMap, RawEntryMut, Refusal};
+use crate::refusals::refused;
+use halfbrown::{Equivalent, Limit, LimitedHashMap, RawEntryMut};
 use std::hash::{BuildHasher, Hash};
-use witness_script::answer::{Answer, of_bool, of_index, of_pair, of_removed, of_value, said};
-use witness_script::calls::search::{MatchCall, SearchCall};
+use witness_script::answer::{
+    Answer, of_bool, of_index, of_pair, of_removed, of_taken, of_value, said, written,
+};
+use witness_script::calls::search::{HashedCall, MatchCall, SearchCall};
 use witness_script::counts::Counts;
 use witness_script::items::{Named, Number};
 use witness_script::words::Which;
@@ -16,25 +18,23 @@ pub fn search<K: Eq + Hash + Named, V: Number, S: BuildHasher, L: Limit, Q: Equi
     map: &mut LimitedHashMap<K, V, S, L>,
     counts: &Counts,
     zero: &V,
-    form: Q,
+    query: Q,
     call: SearchCall,
 ) -> Answer {
     match call {
-        SearchCall::Get => of_value(map.get(form)),
-        SearchCall::GetKeyValue => of_pair(map.get_key_value(form)),
-        SearchCall::ContainsKey => of_bool(map.contains_key(form)),
-        SearchCall::GetIndexOf => get_index_of(map, form),
-        SearchCall::Index => index(map, counts, form),
-        SearchCall::GetMut(number) => get_mut(map, form, zero.like(number)),
-        SearchCall::Remove => remove(map, form),
-        SearchCall::RemoveEntry => remove_entry(map, form),
-        SearchCall::RemoveEntryHashed => remove_entry_hashed(map, counts, form),
-        SearchCall::ShiftRemove => shift_remove(map, form),
-        SearchCall::ShiftRemoveEntry => of_removed(map.shift_remove_entry(form)),
-        SearchCall::RawEntry => of_pair(map.raw_entry().from_key(form)),
-        SearchCall::RawEntryHashed => raw_entry_hashed(map, counts, form),
-        SearchCall::RawFind => or_refused(raw_find(map, form)),
-        SearchCall::RawFindHashed => or_refused(raw_find_hashed(map, counts, form)),
+        SearchCall::Get => of_value(map.get(query)),
+        SearchCall::GetKeyValue => of_pair(map.get_key_value(query)),
+        SearchCall::ContainsKey => of_bool(map.contains_key(query)),
+        SearchCall::GetIndexOf => of_index(map.get_index_of(query)),
+        SearchCall::Index => index(map, counts, query),
+        SearchCall::GetMut(number) => written(map.get_mut(query), zero.like(number)),
+        SearchCall::Remove => of_taken(map.remove(query)),
+        SearchCall::RemoveEntry => of_removed(map.remove_entry(query)),
+        SearchCall::ShiftRemove => of_taken(map.shift_remove(query)),
+        SearchCall::ShiftRemoveEntry => of_removed(map.shift_remove_entry(query)),
+        SearchCall::RawEntry => of_pair(map.raw_entry().from_key(query)),
+        SearchCall::RawFind => raw_find(map, query),
+        SearchCall::Hashed(call) => search_hashed(map, counts, query, call),
     }
 }
 
@@ -48,17 +48,7 @@ pub fn search_match<K: Eq + Hash + Named, V: Number, S: BuildHasher, L: Limit>(
 ) -> Answer {
     match call {
         MatchCall::RawEntry => raw_entry_match(map, counts, hash, which),
-        MatchCall::RawFind => or_refused(raw_find_match(map, counts, hash, which)),
-    }
-}
-
-fn get_index_of<K: Eq + Hash + Named, V: Number, S: BuildHasher, L: Limit, Q: Equivalent<K>>(
-    map: &mut LimitedHashMap<K, V, S, L>,
-    form: Q,
-) -> Answer {
-    match map.get_index_of(form) {
-        Some(index) => of_index(index),
-        None => said("none"),
+        MatchCall::RawFind => raw_find_match(map, counts, hash, which),
     }
 }
 
@@ -66,72 +56,40 @@ fn get_index_of<K: Eq + Hash + Named, V: Number, S: BuildHasher, L: Limit, Q: Eq
 fn index<K: Eq + Hash + Named, V: Number, S: BuildHasher, L: Limit, Q: Equivalent<K>>(
     map: &mut LimitedHashMap<K, V, S, L>,
     counts: &Counts,
-    form: Q,
+    query: Q,
 ) -> Answer {
-    if !is_held(map, counts, form) {
+    if !is_held(map, counts, query) {
         return said("not held");
     }
-    said("").value(&map[form])
-}
-
-fn remove<K: Eq + Hash + Named, V: Number, S: BuildHasher, L: Limit, Q: Equivalent<K>>(
-    map: &mut LimitedHashMap<K, V, S, L>,
-    form: Q,
-) -> Answer {
-    let removed = map.remove(form);
-    of_value(removed.as_ref())
-}
-
-fn remove_entry<K: Eq + Hash + Named, V: Number, S: BuildHasher, L: Limit, Q: Equivalent<K>>(
-    map: &mut LimitedHashMap<K, V, S, L>,
-    form: Q,
-) -> Answer {
-    of_removed(map.remove_entry(form))
-}
-
-fn remove_entry_hashed<K: Eq + Hash + Named, V: Number, S: BuildHasher, L: Limit, Q: Equivalent<K>>(
-    map: &mut LimitedHashMap<K, V, S, L>,
-    counts: &Counts,
-    form: Q,
-) -> Answer {
-    let hash = map.hasher().hash_one(form);
-    counts.take_work();
-    of_removed(map.remove_entry_hashed_nocheck(hash, form))
-}
-
-fn shift_remove<K: Eq + Hash + Named, V: Number, S: BuildHasher, L: Limit, Q: Equivalent<K>>(
-    map: &mut LimitedHashMap<K, V, S, L>,
-    form: Q,
-) -> Answer {
-    let removed = map.shift_remove(form);
-    of_value(removed.as_ref())
-}
-
-fn raw_entry_hashed<K: Eq + Hash + Named, V: Number, S: BuildHasher, L: Limit, Q: Equivalent<K>>(
-    map: &mut LimitedHashMap<K, V, S, L>,
-    counts: &Counts,
-    form: Q,
-) -> Answer {
-    let hash = map.hasher().hash_one(form);
-    counts.take_work();
-    of_pair(map.raw_entry().from_key_hashed_nocheck(hash, form))
+    said("").value(&map[query])
 }
 
 pub(crate) fn raw_find<K: Eq + Hash + Named, V: Number, S: BuildHasher, L: Limit, Q: Equivalent<K>>(
     map: &mut LimitedHashMap<K, V, S, L>,
-    form: Q,
-) -> Result<Answer, Refusal> {
-    Ok(of_found(map.raw_entry_mut()?.from_key(form)))
+    query: Q,
+) -> Answer {
+    match map.raw_entry_mut() {
+        Ok(entries) => of_found(entries.from_key(query)),
+        Err(why) => refused(why),
+    }
 }
 
-fn raw_find_hashed<K: Eq + Hash + Named, V: Number, S: BuildHasher, L: Limit, Q: Equivalent<K>>(
+fn search_hashed<K: Eq + Hash + Named, V: Number, S: BuildHasher, L: Limit, Q: Equivalent<K>>(
     map: &mut LimitedHashMap<K, V, S, L>,
     counts: &Counts,
-    form: Q,
-) -> Result<Answer, Refusal> {
-    let hash = map.hasher().hash_one(form);
+    query: Q,
+    call: HashedCall,
+) -> Answer {
+    let hash = map.hasher().hash_one(query);
     counts.take_work();
-    Ok(of_found(map.raw_entry_mut()?.from_key_hashed_nocheck(hash, form)))
+    match call {
+        HashedCall::RemoveEntry => of_removed(map.remove_entry_hashed_nocheck(hash, query)),
+        HashedCall::RawEntry => of_pair(map.raw_entry().from_key_hashed_nocheck(hash, query)),
+        HashedCall::RawFind => match map.raw_entry_mut() {
+            Ok(entries) => of_found(entries.from_key_hashed_nocheck(hash, query)),
+            Err(why) => refused(why),
+        },
+    }
 }
 
 fn raw_entry_match<K: Eq + Hash + Named, V: Number, S: BuildHasher, L: Limit>(
@@ -149,20 +107,10 @@ fn raw_find_match<K: Eq + Hash + Named, V: Number, S: BuildHasher, L: Limit>(
     counts: &Counts,
     hash: u64,
     which: Which,
-) -> Result<Answer, Refusal> {
-    let entries = map.raw_entry_mut()?;
-    Ok(of_found(entries.from_hash(hash, |held| accepts(which, counts, held))))
-}
-
-/// Writes a value where the key is held.
-pub(crate) fn get_mut<K: Eq + Hash + Named, V: Number, S: BuildHasher, L: Limit, Q: Equivalent<K>>(
-    map: &mut LimitedHashMap<K, V, S, L>,
-    form: Q,
-    value: V,
 ) -> Answer {
-    match map.get_mut(form) {
-        Some(held) => said("was").value(&std::mem::replace(held, value)),
-        None => said("none"),
+    match map.raw_entry_mut() {
+        Ok(entries) => of_found(entries.from_hash(hash, |held| accepts(which, counts, held))),
+        Err(why) => refused(why),
     }
 }
 
@@ -193,11 +141,11 @@ fn accepts<K: Named>(which: Which, counts: &Counts, held: &K) -> bool {
 pub(crate) fn is_held<K: Eq + Hash, V, S: BuildHasher, L: Limit, Q: Equivalent<K>>(
     map: &LimitedHashMap<K, V, S, L>,
     counts: &Counts,
-    form: Q,
+    query: Q,
 ) -> bool
-    ensures { result ≡ holds_by (Q.equivalent form) map.now.pairs }
+    ensures { result ≡ holds_by (Q.equivalent query) map.now.pairs }
 {
-    let is_held = map.contains_key(form);
+    let is_held = map.contains_key(query);
     counts.take_work();
     is_held
 }

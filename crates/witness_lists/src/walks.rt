@@ -10,7 +10,7 @@ use std::io;
 use witness_script::answer::or_none;
 use witness_script::calls::walk::{WalkKind, most_of};
 use witness_script::items::{Named, Number};
-use witness_script::printing::print_gap;
+use witness_script::printing::gap_before;
 
 /// Makes an iterator of this kind and the calls on it, and prints what they gave.
 pub fn walk<
@@ -114,7 +114,7 @@ fn play<I: Walked>(rt: &impl Print, items: &mut I, steps: &[&str]) -> io::Result
     let mut is_first = true;
     print!(rt; "[")?;
     for step in steps {
-        print_gap(rt, &mut is_first, "; ")?;
+        print!(rt; "{}", gap_before(&mut is_first, "; "))?;
         print_step(rt, items, step)?;
     }
     print!(rt; "]")

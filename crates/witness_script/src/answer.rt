@@ -87,14 +87,30 @@ pub fn of_value<V: Number>(value: Option<&V>) -> Answer {
     }
 }
 
+/// A value that was removed, or none.
+pub fn of_taken<V: Number>(removed: Option<V>) -> Answer {
+    of_value(removed.as_ref())
+}
+
+/// Writes a value where one is lent, and answers the one that was there.
+pub fn written<V: Number>(held: Option<&mut V>, value: V) -> Answer {
+    match held {
+        Some(held) => said("was").value(&std::mem::replace(held, value)),
+        None => said("none"),
+    }
+}
+
 /// What was answered, or none.
 pub fn or_none(answered: Option<Answer>) -> Answer {
     answered.unwrap_or(said("none"))
 }
 
-/// An index.
-pub fn of_index(index: usize) -> Answer {
-    said("").value(&(index as u64))
+/// An index, or none.
+pub fn of_index(index: Option<usize>) -> Answer {
+    match index {
+        Some(index) => numbered(index as u64),
+        None => said("none"),
+    }
 }
 
 /// True or false.

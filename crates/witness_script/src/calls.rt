@@ -11,14 +11,14 @@ pub mod search;
 pub mod walk;
 pub mod whole;
 
-use crate::words::{Form, Name, Which, count, key_name, number, parse_form, parse_which};
+use crate::words::{Name, Query, Which, count, key_name, number, parse_query, parse_which};
 use comparison::{Comparison, parse_comparison};
 use entry::{EntryCall, parse_entry};
 use items_call::{ItemsCall, parse_items_call};
 use list::{ListCall, parse_list};
 use place::{PlaceCall, parse_place, parse_write_at};
 use raw::{RawCall, parse_raw};
-use search::{MatchCall, SearchCall, parse_match, parse_search};
+use search::{MatchCall, SearchCall, parse_search};
 use walk::{WalkKind, are_steps, parse_kind};
 use whole::{WholeCall, parse_whole, parse_whole_with};
 
@@ -34,7 +34,7 @@ pub enum Call<'a> {
     /// Prints something of the raw entries, or an entry, by `{:?}`.
     Debug(DebugCall),
     /// A search by a query.
-    Search(SearchCall, Form),
+    Search(SearchCall, Query),
     /// A search by a hash and a match.
     Match(MatchCall, u64, Which),
     /// An insertion of a pair.
@@ -165,7 +165,7 @@ fn parse_one<'a>(call: &str, operand: &str) -> Option<Call<'a>> {
         return Some(Call::List(ListCall::Drain(count(operand)?)));
     }
     if let Some(call) = parse_search(call) {
-        return Some(Call::Search(call, parse_form(operand)?));
+        return Some(Call::Search(call, parse_query(operand)?));
     }
     if let Some(call) = parse_place(call, number(operand)?) {
         return Some(Call::Place(call));
@@ -174,29 +174,38 @@ fn parse_one<'a>(call: &str, operand: &str) -> Option<Call<'a>> {
 }
 
 fn parse_two<'a>(call: &str, first: &str, second: &str) -> Option<Call<'a>> {
-    if let Some(call) = parse_insertion(call) {
-        return Some(Call::Insert(call, key_name(first)?, number(second)?));
-    }
     match call {
-        "get_mut" => {
-            let value = number(second)?;
-            Some(Call::Search(SearchCall::GetMut(value), parse_form(first)?))
-        }
-        "retain" => Some(Call::Whole(WholeCall::Retain(number(first)?, number(second)?))),
-        "same_as" => Some(Call::Same(parse_comparison(first, second, false)?)),
-        "same_from" => Some(Call::Same(parse_comparison(first, second, true)?)),
-        "raw_entry_match" | "raw_find_match" => {
-            Some(Call::Match(parse_match(call)?, number(first)?, parse_which(second)?))
-        }
-        _ => Some(Call::Place(parse_write_at(call, count(first)?, number(second)?)?)),
+        "insert" => parse_insert(InsertCall::Insert, first, second),
+        "insert_nocheck" => parse_insert(InsertCall::InsertNocheck, first, second),
+        "insert_full" => parse_insert(InsertCall::InsertFull, first, second),
+        "get_mut" => parse_get_mut(first, second),
+        "raw_entry_match" => parse_match(MatchCall::RawEntry, first, second),
+        "raw_find_match" => parse_match(MatchCall::RawFind, first, second),
+        "same_as" => parse_same(first, second, false),
+        "same_from" => parse_same(first, second, true),
+        _ => parse_numbers(call, number(first)?, number(second)?),
     }
 }
 
-fn parse_insertion(call: &str) -> Option<InsertCall> {
-    Some(match call {
-        "insert" => InsertCall::Insert,
-        "insert_nocheck" => InsertCall::InsertNocheck,
-        "insert_full" => InsertCall::InsertFull,
-        _ => return None,
-    })
+fn parse_insert<'a>(call: InsertCall, key: &str, value: &str) -> Option<Call<'a>> {
+    Some(Call::Insert(call, key_name(key)?, number(value)?))
+}
+
+fn parse_get_mut<'a>(query: &str, value: &str) -> Option<Call<'a>> {
+    Some(Call::Search(SearchCall::GetMut(number(value)?), parse_query(query)?))
+}
+
+fn parse_match<'a>(call: MatchCall, hash: &str, which: &str) -> Option<Call<'a>> {
+    Some(Call::Match(call, number(hash)?, parse_which(which)?))
+}
+
+fn parse_same<'a>(limit: &str, rule: &str, is_from: bool) -> Option<Call<'a>> {
+    Some(Call::Same(parse_comparison(limit, rule, is_from)?))
+}
+
+fn parse_numbers<'a>(call: &str, first: u64, second: u64) -> Option<Call<'a>> {
+    match call {
+        "retain" => Some(Call::Whole(WholeCall::Retain(first, second))),
+        _ => Some(Call::Place(parse_write_at(call, first as usize, second)?)),
+    }
 }

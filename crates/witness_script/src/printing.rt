@@ -4,12 +4,13 @@ ghost use Rattle.std.specs.Iterator.{IsFinite};
 use std::fmt::Display;
 use std::io;
 
-/// Prints what stands between two parts of a list, and nothing before the first.
-pub fn print_gap(rt: &impl Print, is_first: &mut bool, gap: &str) -> io::Result<()> {
+/// What stands between two parts of a list, and nothing before the first.
+pub fn gap_before(is_first: &mut bool, gap: &'static str) -> &'static str {
     if std::mem::replace(is_first, false) {
-        return Ok(());
+        ""
+    } else {
+        gap
     }
-    print!(rt; "{gap}")
 }
 
 /// Prints the list of the items, or of the first of them where there are more than the most.
@@ -43,9 +44,7 @@ fn print_first<I: Iterator, A: Display + Drop, F: Fn(I::Item) -> A>(
     let mut is_first = true;
     let mut left = most;
     for item in &mut *items {
-        let answer = shown(item);
-        print_gap(rt, &mut is_first, " ")?;
-        print!(rt; "{answer}")?;
+        print!(rt; "{}{}", gap_before(&mut is_first, " "), shown(item))?;
         left = left.saturating_sub(1);
         if left == 0 {
             break;
@@ -58,8 +57,7 @@ fn print_first<I: Iterator, A: Display + Drop, F: Fn(I::Item) -> A>(
 pub fn print_in_one_line(rt: &impl Print, text: &str) -> io::Result<()> {
     let mut is_first = true;
     for line in text.split("\n") {
-        print_gap(rt, &mut is_first, "\\n")?;
-        print!(rt; "{line}")?;
+        print!(rt; "{}{line}", gap_before(&mut is_first, "\\n"))?;
     }
     Ok(())
 }

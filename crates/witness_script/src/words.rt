@@ -20,7 +20,7 @@ impl fmt::Display for Name {
 
 /// What a key is looked up by.
 #[derive(Clone, Copy)]
-pub enum Form {
+pub enum Query {
     /// A key.
     Key(Name),
     /// The number of a key.
@@ -59,10 +59,10 @@ pub fn key_name(word: &str) -> Option<Name> {
 }
 
 /// What a word looks up by: a key, or `@` and a number.
-pub fn parse_form(word: &str) -> Option<Form> {
+pub fn parse_query(word: &str) -> Option<Query> {
     match word.strip_prefix("@") {
-        Some(id) => Some(Form::Id(number(id)?)),
-        None => Some(Form::Key(key_name(word)?)),
+        Some(id) => Some(Query::Id(number(id)?)),
+        None => Some(Query::Key(key_name(word)?)),
     }
 }
 

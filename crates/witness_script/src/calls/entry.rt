@@ -13,13 +13,20 @@ pub enum EntryCall {
     Read,
     Key,
     IntoKey,
-    OrInsert(u64),
-    OrInsertWith(u64),
-    Insert(u64),
-    /// `replace_entry_with`, whose closure gives the pair up, and then `insert` of this value into the entry that is left.
-    LoseInsert(u64),
-    /// `and_modify`, which adds the first number to the value, and then `or_insert` of the second.
-    AndModify(u64, u64),
+    /// One that inserts this value.
+    Insert(EntryInsert, u64),
+}
+
+/// An insertion through an entry.
+#[derive(Clone, Copy)]
+pub enum EntryInsert {
+    OrInsert,
+    OrInsertWith,
+    Insert,
+    /// `replace_entry_with`, whose closure gives the pair up, and then `insert` into the entry that is left.
+    Lose,
+    /// `and_modify`, which adds this number to the value, and then `or_insert`.
+    AndModify(u64),
 }
 
 /// What the closure does that `replace_entry_with` calls.
@@ -41,7 +48,9 @@ pub(crate) fn parse_entry(words: &[&str]) -> Option<EntryCall> {
     match words {
         [call] => parse_alone(call),
         [call, operand] => parse_with(call, number(operand)?),
-        ["and_modify", more, value] => Some(EntryCall::AndModify(number(more)?, number(value)?)),
+        ["and_modify", more, value] => {
+            Some(EntryCall::Insert(EntryInsert::AndModify(number(more)?), number(value)?))
+        }
         _ => None,
     }
 }
@@ -58,13 +67,19 @@ fn parse_alone(call: &str) -> Option<EntryCall> {
 }
 
 fn parse_with(call: &str, operand: u64) -> Option<EntryCall> {
-    Some(match call {
-        "get_mut" => EntryCall::Occupied(OccupiedCall::GetMut(operand)),
-        "replace" => EntryCall::Replace(ReplaceCall::Keep(operand)),
-        "lose_insert" => EntryCall::LoseInsert(operand),
-        "or_insert" => EntryCall::OrInsert(operand),
-        "or_insert_with" => EntryCall::OrInsertWith(operand),
-        "insert" => EntryCall::Insert(operand),
-        _ => return None,
-    })
+    match call {
+        "get_mut" => Some(EntryCall::Occupied(OccupiedCall::GetMut(operand))),
+        "replace" => Some(EntryCall::Replace(ReplaceCall::Keep(operand))),
+        _ => Some(EntryCall::Insert(parse_insert(call)?, operand)),
+    }
+}
+
+fn parse_insert(call: &str) -> Option<EntryInsert> {
+    match call {
+        "or_insert" => Some(EntryInsert::OrInsert),
+        "or_insert_with" => Some(EntryInsert::OrInsertWith),
+        "insert" => Some(EntryInsert::Insert),
+        "lose_insert" => Some(EntryInsert::Lose),
+        _ => None,
+    }
 }

@@ -12,13 +12,20 @@ pub enum SearchCall {
     GetMut(u64),
     Remove,
     RemoveEntry,
-    RemoveEntryHashed,
     ShiftRemove,
     ShiftRemoveEntry,
     RawEntry,
-    RawEntryHashed,
     RawFind,
-    RawFindHashed,
+    /// One by the hash of the query, which is made beforehand.
+    Hashed(HashedCall),
+}
+
+/// A search by a query and its hash.
+#[derive(Clone, Copy)]
+pub enum HashedCall {
+    RemoveEntry,
+    RawEntry,
+    RawFind,
 }
 
 /// A search by a hash and a match.
@@ -38,22 +45,13 @@ pub(crate) fn parse_search(call: &str) -> Option<SearchCall> {
         "index" => SearchCall::Index,
         "remove" => SearchCall::Remove,
         "remove_entry" => SearchCall::RemoveEntry,
-        "remove_entry_hashed" => SearchCall::RemoveEntryHashed,
+        "remove_entry_hashed" => SearchCall::Hashed(HashedCall::RemoveEntry),
         "shift_remove" => SearchCall::ShiftRemove,
         "shift_remove_entry" => SearchCall::ShiftRemoveEntry,
         "raw_entry" => SearchCall::RawEntry,
-        "raw_entry_hashed" => SearchCall::RawEntryHashed,
+        "raw_entry_hashed" => SearchCall::Hashed(HashedCall::RawEntry),
         "raw_find" => SearchCall::RawFind,
-        "raw_find_hashed" => SearchCall::RawFindHashed,
+        "raw_find_hashed" => SearchCall::Hashed(HashedCall::RawFind),
         _ => return None,
     })
-}
-
-/// The search by a match of this name.
-pub(crate) fn parse_match(call: &str) -> Option<MatchCall> {
-    match call {
-        "raw_entry_match" => Some(MatchCall::RawEntry),
-        "raw_find_match" => Some(MatchCall::RawFind),
-        _ => None,
-    }
 }
