@@ -106,8 +106,8 @@ class Function:
 
 
 def names_above(header, file):
-    """What a check prints before the name of a function of an impl with this header, or of the file where it is empty: patterns of
-    which the first that fits is meant."""
+    """What a check prints before the name of a function of an impl with this header, or of the file where it is empty or not
+    understood: patterns of which the first that fits is meant."""
     parts = IMPL.fullmatch(header)
     if not parts:
         return [file.parent.parent.name if file.stem in ("lib", "main") else file.stem]

@@ -2,8 +2,9 @@
 sources finds. Nothing is proved.
 
 A program takes half a minute to compile. So the edits with `found by: the random run N, PART of CALL` are planted in one program
-for each N. Each has to show in this part of the answers of this call, in which no other of them shows: the `answer` itself, the
-`work`, the `state` or the `drops`. One that does not is tried alone.
+for each N. Each has to show in this part of the answers of this call: the `answer` itself, the `work`, the `state` or the `drops`.
+One that does not is tried alone. Whoever writes an edit sees that no other of its program shows there. How a program ends, what it
+leaks, its requests for memory and its calls of closures do not count.
 """
 
 import functools
@@ -25,7 +26,7 @@ TOP = TESTS.parent
 PROGRAM = "witness"
 # The scripts of the random run that have to find an edit: their number, and their one kind of values and one limit, as each takes
 # seconds to compile.
-RANDOM_RUN, SCRIPTS, MADE = re.compile(r"the random run (\d+), (.*)"), 60, ("map", "5")
+RANDOM_RUN, SCRIPTS, FIRST_LINE = re.compile(r"the random run (\d+), (.*)"), 60, ("map", "5")
 PARTS = ("answer", "work", "state", "drops")
 TESTED, OF_TESTS = "half_tests", "the tests of half_tests"
 
@@ -52,12 +53,13 @@ def copy_sources(folder, crates, proved=False):
     return folder
 
 
-def build(folder, made):
-    """Builds the program of this copy for maps of these kinds and limits, such as ("map", "5"), and returns where it is."""
+def build(folder, first_lines):
+    """Builds the program of this copy for scripts with these first lines, such as ("map", "5"), and returns where it is. It has no
+    other limits, and `owning` maps only where they are named."""
     script = folder / "crates" / PROGRAM / "src/script.rt"
     arm = re.compile(r'^ +"(\d+)" => \w+::<.*>\(.*\),\n', re.M)
     owning = re.compile(r"^ +Kind::Owning => \{\n.*\n +\}\n", re.M)
-    kinds, limits = zip(*made)
+    kinds, limits = zip(*first_lines)
     text = arm.sub(lambda it: it[0] if it[1] in limits else "", script.read_text())
     script.write_text(text if "owning" in kinds else owning.sub("", text))
     (folder / "tests").mkdir()
@@ -73,7 +75,9 @@ def said_by_script(script, folder):
     program = build(folder, re.findall(r"^(map|owning|unit|small) (\d+)\b", (TESTS / script).read_text(), re.M))
     environment = os.environ | {"WITNESS": str(program)}
     ran = subprocess.run([TESTS / "scripts.py", script], env=environment, capture_output=True, text=True)
-    return [line for line in ran.stdout.splitlines() if script in line] if ran.returncode else []
+    if not ran.returncode or re.search(r"no end within|ends badly", ran.stdout):
+        return []
+    return [line for line in ran.stdout.splitlines() if script in line]
 
 
 def said_by_search(search, folder, edit):
@@ -93,13 +97,16 @@ def said_by_tests(folder):
 @functools.cache
 def scripts_at_random():
     first_lines = [(kind, str(limit)) for kind, limit in FIRST_LINES]
-    indices = (it for it in itertools.count(len(LONG)) if first_lines[it % len(first_lines)] == MADE)
+    indices = (it for it in itertools.count(len(LONG)) if first_lines[it % len(first_lines)] == FIRST_LINE)
     return [make_script(random.Random(f"1 {it}"), it) for it in itertools.islice(indices, SCRIPTS)]
 
 
 def differences(script, printed):
     """Each `PART of CALL` in which the program differs from the model, and the line, up to where its maps may differ too."""
     for line, found, wanted in zip(script.lines, printed, script.wanted):
+        # How the program ended is no answer.
+        if found.startswith(("status ", "no end ")):
+            return
         said = zip(PARTS, found.split(" | "), wanted.split(" | "))
         parts = [part for part, *both in said if not agrees(*both)]
         # With another answer the rest differs.
@@ -113,9 +120,7 @@ def differences(script, printed):
 def said_at_random(folder, edits):
     """The first line of a script that shows each edit, or None."""
     wanted = [RANDOM_RUN.fullmatch(edit.found_by)[2] for edit in edits]
-    if len({*wanted}) < len(edits):
-        raise ValueError("two edits of one program name the same part of the same call")
-    program, library, shown = build(folder, [MADE]), compile_allocator(folder), {}
+    program, library, shown = build(folder, [FIRST_LINE]), compile_allocator(folder), {}
     for script in scripts_at_random():
         if shown.keys() >= {*wanted}:
             break
@@ -130,21 +135,30 @@ def in_programs(edits):
     for edit in edits:
         run = RANDOM_RUN.fullmatch(edit.found_by)
         programs.setdefault(run[1] if run else str(edit), []).append(edit)
+    for program in programs.values():
+        if len({edit.found_by for edit in program}) < len(program):
+            raise ValueError(f"two edits of one program name the same part: {program[0].found_by}")
     return [*programs.values()]
+
+
+def plant(edits, folder):
+    """Puts the edits into the crates of this copy."""
+    texts = {}
+    for edit in edits:
+        edit.apply(texts, folder / "crates" / edit.crate)
+    for file, text in texts.items():
+        file.write_text(text)
 
 
 def attempt(edits):
     """Whether each edit of a program is found by what it names, and what that shows; None for one that has to be tried alone."""
-    found_by, texts = edits[0].found_by, {}
+    found_by = edits[0].found_by
     finder = TESTS / found_by
     is_search = finder.suffix == ".py"
     with tempfile.TemporaryDirectory(prefix="planted-") as folder:
         of_program = [TESTED if found_by == OF_TESTS else PROGRAM, *(edit.crate for edit in edits)]
         folder = copy_sources(pathlib.Path(folder, "copy"), crates_of(*([] if is_search else of_program)))
-        for edit in edits:
-            edit.apply(texts, folder / "crates" / edit.crate)
-        for file, text in texts.items():
-            file.write_text(text)
+        plant(edits, folder)
         if RANDOM_RUN.fullmatch(found_by):
             shown = said_at_random(folder, edits)
         elif found_by == OF_TESTS:

@@ -122,7 +122,7 @@ def read_key(word):
     return Key(*map(read_number, word.split("#", 1)))
 
 
-def read_form_of_key(word):
+def read_query(word):
     return Key(read_number(word[1:]), None) if word.startswith("@") else read_key(word)
 
 
@@ -138,7 +138,7 @@ def read_maker(word):
 
 
 PLACES = dict.fromkeys(("V", "N", "M", "SIZE", "HASH"), read_number)
-PLACES |= {"KEY": read_key, "QUERY": read_form_of_key, "WHICH": read_which, "MAKER": read_maker}
+PLACES |= {"KEY": read_key, "QUERY": read_query, "WHICH": read_which, "MAKER": read_maker}
 PLACES |= {"LIMIT": read_one_of(OTHER_LIMITS), "RULE": read_one_of(RULES)}
 
 
