@@ -28,7 +28,7 @@ pub struct Users {
     pub next_id: u64,
 }
 
-/// A clone has the same ages in the same order, and the same names with their IDs.
+/// A clone has the same ages in the same order, the same names with their IDs, and the same next ID.
 pub fn snapshot(users: &Users) -> Result<Users, AllocError>
     ensures ages { IfOk result (λ copy. copy.ages.pairs ≡ users.now.ages.pairs) }
     ensures ids { IfOk result (λ copy. keyed_by string_bytes copy.ids.pairs

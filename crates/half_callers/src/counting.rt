@@ -70,7 +70,7 @@ pub fn sum_by_text(
     alloc: Global,
     rows: &[(&str, u64)],
 ) -> Result<Option<HashMap<String, u64>>, Refusal>
-    ensures sums { IfOk result (λ sums. IfSome sums (λ sums. SumsEach bytes_eq (map (λ row. (row.0.now, row.1)) rows.now)
+    ensures sums { IfOk result (λ found. IfSome found (λ sums. SumsEach bytes_eq (map (λ row. (row.0.now, row.1)) rows.now)
         (keyed_by string_bytes sums.pairs))) }
     ensures fits { ((text : List ℕ) → sum (values_of (filter (λ item. bytes_eq text item.0)
         (map (λ row. (row.0.now, row.1)) rows.now))) < 2 ^ 64) → IfOk result (λ sums. is_some sums ≡ true) }

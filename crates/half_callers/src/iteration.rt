@@ -1,6 +1,6 @@
 //! What callers build on iteration, proved from its public contracts alone: sums and counts of what is held, a list, and values
 //! that are all written.
-ghost use Rattle.std.specs.Prelude.{◌≡◌, ◌+◌, ◌/◌, ◌^◌, ◌<◌, ◌==◌, count_by, filter, map, min, nat_lt, sum, IfOk};
+ghost use Rattle.std.specs.Prelude.{◌≡◌, ◌+◌, ◌^◌, ◌<◌, ◌==◌, count_by, filter, map, min, nat_lt, sum, IfOk};
 ghost use Rattle.std.specs.Map.{keys_of, values_of};
 
 use halfbrown::{Limit, LimitedHashMap};

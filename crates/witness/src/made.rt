@@ -13,7 +13,7 @@ pub(crate) trait Made: Named + EqualClone + Hash + Debug {
     fn like(&self, alloc: Global, name: Name) -> Result<Self, AllocError>;
 }
 
-/// The key that the word writes, made of another one. None where the word is wrong.
+/// The key that the word writes, made of another one. None where the word is wrong, or there is no memory for the key.
 pub(crate) fn made_of<K: Made>(key: &K, alloc: Global, word: &str) -> Option<K> {
     key.like(alloc, key_name(word)?).ok()
 }

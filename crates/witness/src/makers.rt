@@ -12,7 +12,7 @@ use witness_entries::refusals::refused;
 use witness_script::calls::items_call::{ItemsCall, Maker};
 use witness_script::items::{Named, Number};
 
-/// A map, or why there is none. The functions below are of any builder: at a known one their proofs take longer.
+/// A map, or why there is none. Most functions below are of any builder: at a known one their proofs take longer.
 type Made<K, V, S, L> = Result<LimitedHashMap<K, V, S, L>, Refusal>;
 
 /// Items with a size hint of their own, which may be wrong.

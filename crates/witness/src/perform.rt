@@ -37,7 +37,7 @@ where
     Id: Equivalent<K>,
 {
     /// Plays a line, of those that all values have.
-    pub(crate) fn play(&mut self, line: &str) -> io::Result<()> {
+    pub(crate) fn play_line(&mut self, line: &str) -> io::Result<()> {
         let words = self.begin(line)?;
         let printed = match parse_call(words.as_slice()) {
             Some(call) => self.perform(&call),

@@ -91,7 +91,7 @@ impl<'a, R: Print, K: Eq + Hash, V, S: BuildHasher, L: Limit> Player<'a, R, K, V
     }
 
     /// Prints the answer of a first line.
-    pub(crate) fn print_made(&self) -> io::Result<()> {
+    pub(crate) fn print_begun(&self) -> io::Result<()> {
         print!(self.rt; "made")?;
         self.print_fields()?;
         println!(self.rt)

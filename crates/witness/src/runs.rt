@@ -22,7 +22,7 @@ where
     Id: Equivalent<K>,
 {
     /// Plays a line.
-    pub(crate) fn play_plain(&mut self, line: &str) -> io::Result<()> {
+    pub(crate) fn play_plain_line(&mut self, line: &str) -> io::Result<()> {
         let words = self.begin(line)?;
         let printed = match parse_call(words.as_slice()) {
             Some(call) => self.perform_plain(&call),

@@ -139,7 +139,7 @@ where
         return Ok(false);
     };
     for line in rest {
-        player.play_plain(line)?;
+        player.play_plain_line(line)?;
     }
     Ok(true)
 }
@@ -157,7 +157,7 @@ fn play_others<'a, R: Print + AllocGlobal, V: Number + Clone + PartialEq + Debug
         return Ok(false);
     };
     for line in rest {
-        player.play(line)?;
+        player.play_line(line)?;
     }
     Ok(true)
 }
@@ -188,7 +188,7 @@ fn make<'a, R: Print + AllocGlobal, K: Made, V: Drop, L: Limit>(
         zero,
         is_refused: false,
     };
-    player.print_made()?;
+    player.print_begun()?;
     Ok(Some(player))
 }
 

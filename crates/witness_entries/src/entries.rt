@@ -68,7 +68,7 @@ fn insert<K: Eq + Hash + Named, V: Number, S: BuildHasher, L: Limit>(
     value: V,
     call: EntryInsert,
 ) -> Answer {
-    if let EntryInsert::Lose = call {
+    if let EntryInsert::LoseInsert = call {
         return lose_insert(map, counts, key, value);
     }
     if let EntryInsert::OrInsertWith | EntryInsert::AndModify(_) = call {
@@ -94,7 +94,7 @@ fn insert<K: Eq + Hash + Named, V: Number, S: BuildHasher, L: Limit>(
             Entry::Occupied(mut entry) => said("was").value(&entry.insert(value)),
             Entry::Vacant(entry) => said("added").value(entry.insert(value)),
         },
-        _ => said("").value(entry.or_insert(value)),
+        EntryInsert::OrInsert | EntryInsert::LoseInsert => said("").value(entry.or_insert(value)),
     }
 }
 

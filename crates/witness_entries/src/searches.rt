@@ -6,7 +6,7 @@ use crate::refusals::refused;
 use halfbrown::{Equivalent, Limit, LimitedHashMap, RawEntryMut};
 use std::hash::{BuildHasher, Hash};
 use witness_script::answer::{
-    Answer, of_bool, of_index, of_pair, of_removed, of_taken, of_value, said, written,
+    Answer, of_bool, of_index, of_pair, of_removed, of_removed_value, of_value, said, written,
 };
 use witness_script::calls::search::{HashedCall, MatchCall, SearchCall};
 use witness_script::counts::Counts;
@@ -28,9 +28,9 @@ pub fn search<K: Eq + Hash + Named, V: Number, S: BuildHasher, L: Limit, Q: Equi
         SearchCall::GetIndexOf => of_index(map.get_index_of(query)),
         SearchCall::Index => index(map, counts, query),
         SearchCall::GetMut(number) => written(map.get_mut(query), zero.like(number)),
-        SearchCall::Remove => of_taken(map.remove(query)),
+        SearchCall::Remove => of_removed_value(map.remove(query)),
         SearchCall::RemoveEntry => of_removed(map.remove_entry(query)),
-        SearchCall::ShiftRemove => of_taken(map.shift_remove(query)),
+        SearchCall::ShiftRemove => of_removed_value(map.shift_remove(query)),
         SearchCall::ShiftRemoveEntry => of_removed(map.shift_remove_entry(query)),
         SearchCall::RawEntry => of_pair(map.raw_entry().from_key(query)),
         SearchCall::RawFind => raw_find(map, query),
@@ -137,8 +137,8 @@ fn accepts<K: Named>(which: Which, counts: &Counts, held: &K) -> bool {
     }
 }
 
-/// Whether the key is held, which is not counted.
-pub(crate) fn is_held<K: Eq + Hash, V, S: BuildHasher, L: Limit, Q: Equivalent<K>>(
+// Whether the key is held, which is not counted.
+fn is_held<K: Eq + Hash, V, S: BuildHasher, L: Limit, Q: Equivalent<K>>(
     map: &LimitedHashMap<K, V, S, L>,
     counts: &Counts,
     query: Q,

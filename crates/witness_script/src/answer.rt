@@ -88,7 +88,7 @@ pub fn of_value<V: Number>(value: Option<&V>) -> Answer {
 }
 
 /// A value that was removed, or none.
-pub fn of_taken<V: Number>(removed: Option<V>) -> Answer {
+pub fn of_removed_value<V: Number>(removed: Option<V>) -> Answer {
     of_value(removed.as_ref())
 }
 

@@ -10,11 +10,11 @@ use std::rc::RcStr;
 use std::test::Fail;
 use test_support::asserts::assert_same_at;
 
-// Two keys.
-type Made<K> = Result<(K, K), AllocError>;
+// Two keys, or that there was no memory for them.
+type TwoKeys<K> = Result<(K, K), AllocError>;
 
 // The query stands for the second of the two keys that `make` makes, in both forms of the map.
-fn assert_found<K: Eq + Hash + Debug + Drop, Q: Equivalent<K>, F: Fn() -> Made<K>>(
+fn assert_found<K: Eq + Hash + Debug + Drop, Q: Equivalent<K>, F: Fn() -> TwoKeys<K>>(
     alloc: Global,
     make: F,
     query: Q,
@@ -57,9 +57,9 @@ fn texts_are_looked_up_without_an_owner(rt: HostRuntime) -> Result<(), Fail> {
     let string = |text: &str| String::from_str(alloc, text);
     let boxed = |text: &str| BoxedStr::from_str(alloc, text);
     let counted = |text: &str| RcStr::from_str(alloc, text);
-    let strings = || -> Made<_> { Ok((string("ada")?, string("ben")?)) };
-    let boxes = || -> Made<_> { Ok((boxed("ada")?, boxed("ben")?)) };
-    let shared = || -> Made<_> { Ok((counted("ada")?, counted("ben")?)) };
+    let strings = || -> TwoKeys<_> { Ok((string("ada")?, string("ben")?)) };
+    let boxes = || -> TwoKeys<_> { Ok((boxed("ada")?, boxed("ben")?)) };
+    let shared = || -> TwoKeys<_> { Ok((counted("ada")?, counted("ben")?)) };
     assert_found(alloc, strings, "ben")?;
     assert_found(alloc, boxes, "ben")?;
     assert_found(alloc, shared, "ben")?;
@@ -77,8 +77,8 @@ fn slices_are_looked_up_without_an_owner(rt: HostRuntime) -> Result<(), Fail> {
     let alloc = rt.alloc();
     let (three, four) = ([1, 2, 3].as_slice(), [1, 2, 4].as_slice());
     let boxed = |items: &[u64]| BoxedSlice::from_slice(alloc, items);
-    let boxes = || -> Made<_> { Ok((boxed(three)?, boxed(four)?)) };
-    let vectors = || -> Made<_> { Ok((vec![in alloc; 1, 2, 3]?, vec![in alloc; 1, 2, 4]?)) };
+    let boxes = || -> TwoKeys<_> { Ok((boxed(three)?, boxed(four)?)) };
+    let vectors = || -> TwoKeys<_> { Ok((vec![in alloc; 1, 2, 3]?, vec![in alloc; 1, 2, 4]?)) };
     assert_found(alloc, vectors, four)?;
     assert_found(alloc, boxes, four)?;
     assert_found(alloc, || Ok((lent_slice(three), lent_slice(four))), four)?;

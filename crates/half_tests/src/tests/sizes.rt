@@ -12,7 +12,7 @@ use std::alloc::Global;
 use std::cell::Cell;
 use std::hash::BuildHasher;
 use std::test::Fail;
-use test_support::asserts::{assert_same, assert_same_at, assert_true};
+use test_support::asserts::{assert_same, assert_same_at};
 use test_support::builders::{Counting, NumberHasher, Rule};
 
 // A builder of eight bytes, by the plain rule. It counts the hashes that it makes.

@@ -92,7 +92,7 @@ enum Step {
 
 use Step::{Add, AtHome, Found, HasCapacity, MakeAnew, Probed, Remove, Reserve, Searched};
 
-fn take(alloc: Global, table: &mut Table, step: Step) -> Result<(), Fail> {
+fn play_step(alloc: Global, table: &mut Table, step: Step) -> Result<(), Fail> {
     match step {
         Add(hash) => add(alloc, table, hash),
         Remove(index, hash) => remove(table, index, hash),
@@ -110,9 +110,9 @@ fn take(alloc: Global, table: &mut Table, step: Step) -> Result<(), Fail> {
     }
 }
 
-fn take_each(alloc: Global, table: &mut Table, steps: &[Step]) -> Result<(), Fail> {
+fn play_steps(alloc: Global, table: &mut Table, steps: &[Step]) -> Result<(), Fail> {
     for step in steps {
-        take(alloc, table, *step)?;
+        play_step(alloc, table, *step)?;
     }
     Ok(())
 }
@@ -120,7 +120,7 @@ fn take_each(alloc: Global, table: &mut Table, steps: &[Step]) -> Result<(), Fai
 // Takes these steps with a table of this capacity and these hashes.
 fn play(alloc: Global, capacity: usize, hashes: &[u64], steps: &[Step]) -> Result<(), Fail> {
     let mut table = table_of(alloc, capacity, hashes)?;
-    take_each(alloc, &mut table, steps)
+    play_steps(alloc, &mut table, steps)
 }
 
 #[test]
@@ -225,9 +225,9 @@ fn a_removal_of_a_copy_leaves_the_table(rt: HostRuntime) -> Result<(), Fail> {
     let mut table = table_of(rt.alloc(), 0, &[6, 14, 7, 15, 0])?;
     let mut copy = table.copy()?;
     let steps = [Remove(1, 14), Found(15, 3, 0, 2), Found(0, 1, 1, 2)];
-    take_each(rt.alloc(), &mut copy, &steps)?;
+    play_steps(rt.alloc(), &mut copy, &steps)?;
     let steps = [Found(15, 3, 1, 3), Found(0, 4, 2, 3)];
-    take_each(rt.alloc(), &mut table, &steps)
+    play_steps(rt.alloc(), &mut table, &steps)
 }
 
 #[test]

@@ -24,7 +24,7 @@ pub enum EntryInsert {
     OrInsertWith,
     Insert,
     /// `replace_entry_with`, whose closure gives the pair up, and then `insert` into the entry that is left.
-    Lose,
+    LoseInsert,
     /// `and_modify`, which adds this number to the value, and then `or_insert`.
     AndModify(u64),
 }
@@ -79,7 +79,7 @@ fn parse_insert(call: &str) -> Option<EntryInsert> {
         "or_insert" => Some(EntryInsert::OrInsert),
         "or_insert_with" => Some(EntryInsert::OrInsertWith),
         "insert" => Some(EntryInsert::Insert),
-        "lose_insert" => Some(EntryInsert::Lose),
+        "lose_insert" => Some(EntryInsert::LoseInsert),
         _ => None,
     }
 }
