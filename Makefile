@@ -1,7 +1,7 @@
 # make run < FILE   runs halfmap on the lines of FILE: the proved program where that is up to date, and else one that is built
 #                   in about 20 seconds with nothing proved
 # make prove        proves what users run, where something has changed: half_store, halfbrown and halfmap
-# make test         proves what users run, where something has changed, and runs every test
+# make test         proves what users run, where something has changed, and runs most tests
 # make edits        puts one fault after another into the code: the prover, or a test, has to find each (WORD=.. picks some)
 # make scripts      plays the scripts of tests/scripts on the program witness, built unproved, and on a model (WORD=.. picks some)
 # make witness      plays N scripts at random (N=.., SEED=..) on both, and compares each line
