@@ -119,7 +119,7 @@ def print_times(rounds, words):
 
 
 def aligned(program, output):
-    """Links a program anew, with each function at a multiple of 64 bytes. Elsewhere the same code takes up to 1.2 times as long."""
+    """Links a program anew, with each function at a multiple of 64 bytes, since where code lies changes its time."""
     kit = pathlib.Path(shutil.which("rt")).resolve().parent.parent
     subprocess.run(["objcopy", "-w", "--set-section-alignment", ".text.*=64", f"{program}.o", f"{output}.o"], check=True)
     link = [kit / "bin/rattle-link", "--target", "x86_64-unknown-linux-gnu", "--toolchain", kit / "toolchain", "-o", output]
