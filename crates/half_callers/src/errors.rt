@@ -3,7 +3,7 @@ ghost use Rattle.std.specs.Prelude.{◌≡◌, Some, nat_eq, OnOk, OnErr, IfOk, 
 ghost use Rattle.std.specs.IoError.{error_kind};
 ghost use Rattle.std.specs.declared.io.ErrorKind.TheVariants.{OutOfMemory};
 ghost use Rattle.halfbrown.specs.Growth.{insert_needs, IsRefusal};
-ghost use Rattle.halfbrown.specs.Pairs.{value_of};
+ghost use Rattle.halfbrown.specs.Pairs.{put, value_of};
 
 use halfbrown::{HashMap, Limit, LimitedHashMap, Refusal};
 use std::alloc::{AllocError, Global};
@@ -12,6 +12,7 @@ use std::io;
 
 /// Stores an age. It fails only if the insertion needs more capacity. On error nothing changes.
 pub fn store_age(ages: &mut HashMap<u64, u32>, id: u64, age: u32) -> Result<(), Refusal>
+    ensures stored { OnOk result (ages.new.pairs ≡ put nat_eq ages.old.pairs id age) }
     ensures refused { IfErr result (λ why. IsRefusal (insert_needs 32 nat_eq ages.old id) why) }
     ensures err { OnErr result (ages.new ≡ ages.old) }
 {

@@ -3,9 +3,11 @@
 use half_callers::basics::{add_label, declare, forget, keep_the_young, stored};
 use half_callers::by_index::{forget_last, remove_by_index, set_at};
 use half_callers::copies::{an_age_twice, five_ages, no_ages, numbered, one_age};
+use half_callers::counting::{sum_by_key, sum_by_text};
 use half_callers::drains::{take_each, take_first};
 use half_callers::entries::{count_up, meaning, toggle};
-use half_callers::errors::{add_two, ages_of_main};
+use half_callers::errors::{add_two, ages_of_main, store_age};
+use half_callers::iteration::keys_above;
 use half_callers::limits::{at_and_above_8, at_and_above_32, raw_look_up, raw_meaning};
 use half_callers::raw_entries::{cached, respell};
 use half_callers::worked::an_insertion_that_grows;
@@ -60,7 +62,22 @@ fn ages(rt: HostRuntime) -> Result<(), Fail> {
     assert_true(ages.is_vec() && ages.len() == 1, "few are a vector again")?;
     let capacity = an_age_twice(rt.alloc(), 36, 37)?.capacity();
     assert_same(capacity, 2, "for both")?;
-    assert_same(ages_of_main(rt.alloc())?.len(), 2, "Ada's and Ben's")
+    assert_same(ages_of_main(rt.alloc())?.len(), 2, "Ada's and Ben's")?;
+    store_age(&mut ages, 3, 19)?;
+    assert_same(ages.get(&3).copied(), Some(19), "stored")
+}
+
+#[test]
+fn sums(rt: HostRuntime) -> Result<(), Fail> {
+    let alloc = rt.alloc();
+    let sums = sum_by_key(alloc, &[(7, 2), (8, 4), (7, 3)])?;
+    let above = keys_above(alloc, &sums, 4)?;
+    assert_same(above.as_slice(), [7].as_slice(), "5 in all")?;
+    let sums = sum_by_text(alloc, &[("ink", 2), ("pen", 4), ("ink", 3)])?;
+    let ink = sums.and_then(|sums| sums.get("ink").copied());
+    assert_same(ink, Some(5), "in all")?;
+    let rows = [("ink", u64::MAX), ("ink", 1)];
+    assert_true(sum_by_text(alloc, &rows)?.is_none(), "more than a u64 holds")
 }
 
 #[test]

@@ -18,4 +18,4 @@ returns-in_default-clause-fits c fits =
 pub loop-name-preserved : goal.loop-name-preserved
 loop-name-preserved c =
     let puts = c.in_ok-sums.ensures.makes.writes.puts c.in-Some.more in
-    search (rules, summed_text_step (λ row. (row.0.now, row.1)) _ _ any_row c.loop-name.invariant puts)
+    search (rules, summed_text_step _ _ _ any_row c.loop-name.invariant puts)
