@@ -60,8 +60,9 @@ def collect(a, items, limit=None, hint=None):
 
 
 def from_array(a, items, limit=None):
-    """Its array is memory, also that of no pairs."""
-    a.work.request(1)
+    """Its array is memory."""
+    if items:
+        a.work.request(1)
     return collect(a, items, limit)
 
 

@@ -154,7 +154,9 @@ macro_rules! impl_map {
 }
 
 impl_map!(AtLimit<K, N>, remove_entry, drain());
+
 impl_map!(OfStd<K>, remove_entry, drain());
+
 impl_map!(OfIndex<K>, swap_remove_entry, drain(..));
 
 /// Maps of the keys of the numbers below the size, each with its number.

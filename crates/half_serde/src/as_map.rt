@@ -1,6 +1,6 @@
 //! A map as the value of a field: `#[serde(with = "half_serde::as_map")]`. The field stays a map, of any limit.
 ghost use Rattle.std.specs.Prelude.{IfOk, OnOk};
-ghost use Rattle.serde.specs.Event.{WritesMap};
+ghost use Rattle.serde.specs.Event.{WritesEntry, WritesMap};
 ghost use Rattle.half_serde.specs.Reading.{ReadsMap};
 
 use crate::read::{Borrowing, read_map};
@@ -19,12 +19,24 @@ pub fn serialize<K: Serialize + Eq + Hash, V: Serialize, H: BuildHasher, L: Limi
 {
     out.begin_map(Some(map.len()))?;
     for (key, value) in map {
-        out.begin_key()?;
-        key.serialize(out)?;
-        out.end_key()?;
-        value.serialize(out)?;
+        write_entry(key, value, out)?;
     }
     out.end_map()
+}
+
+/// Writes a key between its two marks, and then its value.
+fn write_entry<K: Serialize, V: Serialize, S: Serializer>(
+    key: &K,
+    value: &V,
+    out: &mut S,
+) -> Result<(), S::Error>
+    ensures { OnOk result (WritesEntry K.writes V.writes (key.now, value.now) (S.written out.old)
+        (S.written out.new)) }
+{
+    out.begin_key()?;
+    key.serialize(out)?;
+    out.end_key()?;
+    value.serialize(out)
 }
 
 /// Reads a map, with the default of the builder's type. Each entry of the text is inserted, in order. Where memory is

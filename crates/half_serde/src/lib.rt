@@ -13,8 +13,8 @@
 //! assert_eq!(rt; serde_json::to_string(alloc, &order)?.as_str(), text);
 //! ```
 //!
-//! A field that is a map names the module `as_map`. Where a type has to implement the traits itself, such as a value of
-//! another map, or a whole document, it is an `Object` or a `Map`.
+//! A field that is a map names the module `as_map`. Where the map itself has to implement the traits, as a value of another
+//! map or as a whole document, it stands in a `Map`, or, with texts as keys, in an `Object`.
 //!
 //! Pairs are written in the order of the map, and read in the order of the text. Of equal keys the last value stands at
 //! the place of the first key, as `insert` has it.

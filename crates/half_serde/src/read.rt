@@ -47,15 +47,25 @@ pub fn read_map<
 {
     from.begin_map()?;
     let mut map = LimitedHashMap::default(alloc);
+    // The bound only lets the prover see that the loop ends: no text has as many entries.
     for _ in 0..u64::MAX {
         if !from.next_entry()? {
             return Ok(map);
         }
-        let key = R::part(alloc, from)?;
-        let value = R::part(alloc, from)?;
+        let (key, value) = read_pair::<R, K, V, F>(alloc, from)?;
         if map.insert(key, value).is_err() {
             return Err(from.no_memory());
         }
     }
     Err(from.wrong_len())
+}
+
+/// Reads a key, and then its value.
+fn read_pair<'de, R: Reads<'de, K> + Reads<'de, V>, K: Drop, V: Drop, F: Format>(
+    alloc: Global,
+    from: &mut Deserializer<'de, '_, F>,
+) -> Result<(K, V), F::Error> {
+    let key = R::part(alloc, from)?;
+    let value = R::part(alloc, from)?;
+    Ok((key, value))
 }

@@ -24,8 +24,9 @@ use std::alloc::Global;
 use std::hash::Hash;
 use std::marker::Model;
 
-/// A set. Up to 32 values stand in a vector, which is searched by `==`, and nothing is hashed. More are in a hash table, where a
-/// search hashes the value once. Contracts see a set as the list of its values, in order.
+/// A set. Its values stand in a vector, which is searched by `==`, and nothing is hashed, until one is inserted into 32. From then
+/// on, whatever is removed, they are in a hash table, where a search hashes the value once. Contracts see a set as the list of its
+/// values, in order.
 ///
 /// ```
 /// let mut names = HashSet::<String>::new(alloc);
@@ -267,7 +268,7 @@ impl<T: Eq + Hash + Drop> HashSet<T> {
     }
 
     /// Removes the value that equals this one, and returns whether there was one. The others keep their order. It costs one
-    /// search, and then a step for each of the others.
+    /// search, and then a step for each value behind it, and in a table one for each bucket.
     ///
     /// ```
     /// assert!(rt; seen.shift_remove(&1));

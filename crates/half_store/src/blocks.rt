@@ -1,4 +1,4 @@
-//! What both columns do, each of which is a vector: grow, move to another block, and be cloned.
+//! What is done with a column of keys, values or hashes, which is a vector: it grows, moves to another block, and is cloned.
 ghost use Rattle.std.specs.Prelude.{◌≡◌, ◌<◌, ◌≤◌, [], length, IfOk, OnOk, OnErr, vec_len, vec_capacity};
 ghost use Rattle.std.specs.List.{AllZip};
 

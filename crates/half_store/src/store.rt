@@ -2,7 +2,7 @@
 //! index.
 #![tactic(auto, using(crate::proofs::lemmas::store::States::store_steps))]
 
-ghost use Rattle.std.specs.Prelude.{◌≡◌, ◌<◌, [], length, nat_lt};
+ghost use Rattle.std.specs.Prelude.{◌≡◌, [], length, nat_lt};
 ghost use Rattle.half_store.specs.Columns.{no_pairs};
 ghost use Rattle.half_store.specs.Store.{vector_of, SameFormAndCapacity};
 
@@ -20,7 +20,7 @@ use std::marker::Model;
 #[derive(Drop)]
 pub struct Store<K, V> {
     columns: Columns<K, V>,
-    // by hash; a vector has none, and no room for one
+    // by hash, in a block of its own; a vector has none
     table: Option<Box<Table>>,
 }
 

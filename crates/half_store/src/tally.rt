@@ -5,9 +5,9 @@ ghost use Rattle.half_store.specs.Work.{Work, no_work, asked_more, compared_more
 
 use std::marker::Model;
 
-/// How often a key was hashed, two keys were compared, and a bucket was read.
+/// How often a key was hashed (`asked`), two keys were compared (`compared`), and a bucket was read (`looked`).
 ///
-/// Contracts see the three numbers, which have no upper bound. When the program runs a tally takes no bytes, and
+/// Contracts see these three numbers, which have no upper bound. When the program runs a tally takes no bytes, and
 /// counting costs nothing.
 #[derive(Drop)]
 pub struct Tally {

@@ -135,8 +135,8 @@ impl<K, V> Columns<K, V> {
         (self.keys.remove(index), self.values.remove(index))
     }
 
-    /// Hands the value of the pair at this index to `f`, with its key. Where `f` returns a value the pair has that one, at its
-    /// index, and else it is removed and its key returned: the last pair takes its index.
+    /// Hands the value of the pair at this index to `f`, with its key. Where `f` returns a value the pair keeps its index and has
+    /// that value. Else the pair is removed, the last pair takes its index, and the key is returned.
     pub fn replace_with<F: FnOnce(&K, V) -> Option<V>>(&mut self, index: usize, f: F) -> Option<K>
         requires within { index < length self.old.pairs }
         requires callable { (key : Bor K) (value : V)

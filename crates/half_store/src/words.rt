@@ -2,7 +2,7 @@
 //!
 //! A word takes four bytes where that is enough for as many pairs as the buckets may hold, and eight elsewhere. Nothing lends
 //! the words: each is read by `word_at`, which counts it.
-ghost use Rattle.std.specs.Prelude.{◌≡◌, ℕ, ◌-◌, ◌^◌, ◌<◌, ◌≤◌, List, [], length, replicate, slice_index, slice_set, IfOk, IsOk};
+ghost use Rattle.std.specs.Prelude.{◌≡◌, ℕ, ◌-◌, ◌^◌, ◌<◌, ◌≤◌, List, length, replicate, slice_index, slice_set, IfOk, IsOk};
 ghost use Rattle.half_store.specs.Capacity.{capacity_of, IsBucketCount};
 ghost use Rattle.half_store.specs.Words.{words_of, most_of, word_size, AreWordsFor};
 ghost use Rattle.half_store.specs.Work.{looked_more};

@@ -1,7 +1,7 @@
 //! A cache of a bounded size, which forgets the pair that was used longest ago.
 ghost use Rattle.std.specs.Map.{lookup, remove_entry};
 ghost use Rattle.std.specs.Option.{option_copied};
-ghost use Rattle.std.specs.Prelude.{◌≡◌, ◌+◌, ◌-◌, ◌<◌, ◌≤◌, true, false, None, Some, [], ◌∷◌, ◌++◌, length, IfErr, IfOk, IfSome, OnSome};
+ghost use Rattle.std.specs.Prelude.{◌≡◌, ◌+◌, ◌-◌, ◌<◌, ◌≤◌, true, false, Some, [], ◌∷◌, ◌++◌, length, IfErr, IfOk, IfSome};
 ghost use Rattle.halfbrown.specs.Pairs.{value_of, holds, holds_by};
 ghost use Rattle.halfbrown.specs.Refusal.{refusal_of};
 ghost use Rattle.halfbrown.specs.Updates.{HasPut};
@@ -35,7 +35,8 @@ pub struct BoundedCache<K: Eq + Hash, V> {
 }
 
 impl<K: Eq + Hash, V> BoundedCache<K, V> {
-    /// No pairs, and memory for as many as the bound, which is not 0. Fails only where that memory is refused.
+    /// No pairs, and memory for as many as the bound, which is not 0. Fails only where that memory is refused, or the bound is
+    /// more than 2^60.
     ///
     /// ```
     /// let cache = BoundedCache::<u64, u64>::new(alloc, 100)?;
@@ -90,8 +91,8 @@ impl<K: Eq + Hash, V> BoundedCache<K, V> {
         Some(value)
     }
 
-    /// Makes the pair of a key the newest, and returns whether it is held. No key's value changes. It costs two searches, and
-    /// moves each pair behind it; in a table it goes over all buckets.
+    /// Makes the pair of a key the newest, and returns whether it is held. No key's value changes. It costs one search, and moves
+    /// each pair behind it; in a table it also hashes and probes for the new place, and goes over all buckets.
     ///
     /// ```
     /// if cache.refresh(&1) {

@@ -19,9 +19,8 @@ pub struct Hashed<K> {
 
 /// Values that are expensive to compute, by the keys that they are computed from.
 ///
-/// Each key is hashed once, by `hashed`. No other call hashes any, as their clauses say: `hashes` for those that change the
-/// cache, and `Tally` counts the hashes of them all. The map is a table from the first value on, so no switch hashes again
-/// what is held.
+/// Each key is hashed once, by `hashed`. No other call hashes any: of the calls that change the cache their clause `hashes` says
+/// so, and of `get` its clause `cost`. The map is a table from the first value on, so no switch hashes again what is held.
 #[derive(Drop)]
 pub struct Cache<K: Eq + Hash, V, S: BuildHasher> {
     values: SizedHashMap<K, V, S, 0>,

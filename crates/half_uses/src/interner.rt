@@ -95,7 +95,7 @@ impl Interner {
         ensures number { IfSome result (λ text. number_of self.now text.now ≡ Some number) }
     {
         let (text, _) = self.texts.get_index(number)?;
-        // Of the map that is read here `len` states that its keys are distinct.
+        // Tells the prover that the keys are distinct: `len` states it of the map that it reads.
         prove!(number < self.texts.len());
         Some(text.as_str())
     }

@@ -44,8 +44,8 @@ impl<N: Eq + Hash, V> Object<N, V> {
         self.members.len()
     }
 
-    /// Gives a member its value, and returns the value that it had. A new member comes last. A held member is refused only
-    /// among exactly 32. On error nothing changes.
+    /// Gives a member its value, and returns the value that it had. A new member comes last. It fails where the map's `insert`
+    /// does: for a held member only where there are exactly 32. On error nothing changes.
     pub fn set(&mut self, name: N, value: V) -> Result<Option<V>, Refused<N, V>>
     where
         N: Drop,

@@ -106,6 +106,7 @@ module _ {K V S : Type 0} where
     pub map : map_of entry ≡ m.now
     pub pair : entry_pair entry ≡ slice_get m.now.pairs index
     pub writes : (value : V) → with_value entry value ≡ map_with_pairs m.now (set_value_at m.now.pairs index value)
+    pub takes : pairs_without entry ≡ swap_remove_at m.now.pairs index
 
   -- the entry is the same one, and its pair has this key
   pub record IsRekeyed (entry : EntryView K V S) (key : K) (rekeyed : EntryView K V S) : Type 0 where

@@ -43,8 +43,7 @@ module _ {K V : Type 0} (eq : K → K → Bool) where
     pub others : (q : K) → test q ≡ false → value_of eq new q ≡ value_of eq old q
     pub len : length old ≡ (if holds_by test old then length new + 1 else length new)
 
-  -- after the pair of k is removed: no equal key is held; each other key has what it had; there is one pair fewer exactly where k was
-  -- held
+  -- after the pair of k is removed: no equal key is held; each other key has what it had; there is one pair fewer exactly where k was held
   abbrev pub HasRemoved : List (K × V) → K → List (K × V) → Type 0
   HasRemoved old k new = HasRemovedBy (eq k) old new
 

@@ -33,7 +33,7 @@ pub enum Entry<'a, K: Eq + Hash, V, S: KeyHasher<K> = DefaultHashBuilder, L: Lim
     Vacant(VacantEntry<'a, K, V, S, L>),
 }
 
-/// The pair of a held key, in the entry of the key or in a raw entry whose search found it.
+/// The entry of a held pair: of its key, at its index, or a raw one whose search found it.
 ///
 /// ```
 /// fn take(entry: OccupiedEntry<'_, u64, u32>) -> u32 {

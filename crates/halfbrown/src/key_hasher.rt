@@ -22,7 +22,8 @@ use std::hash::{BuildHasher, Hash};
 /// assert!(rt; knows(&ages, 1));
 /// ```
 pub trait KeyHasher<K: Hash> {
-    /// The builder's hasher. It is named here too, so that a function needs no more than a map to hand it on.
+    /// The builder's hasher, which clauses name where a map is lent (`S.Hasher.row`). It stands here so that a function with
+    /// `S: KeyHasher<K>`, which is all that a map asks, can hand a map on.
     type Hasher;
 
     // The hash of a key, which `hash_one` returns.

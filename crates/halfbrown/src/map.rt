@@ -43,11 +43,12 @@ pub type SizedHashMap<K, V, S, const N: usize> = LimitedHashMap<K, V, S, AtMost<
 pub type HashMap<K, V, S = DefaultHashBuilder> = LimitedHashMap<K, V, S, AtMost<32>>;
 
 /// A map in two forms. Up to the limit its pairs are stored in a vector, which is searched by `==`, and nothing is
-/// hashed. A full vector becomes a hash table at the next insertion or entry that succeeds, even for a key that is
-/// already held. Only `shrink_to_fit` turns it back, where no more pairs are held than the limit.
+/// hashed. A full vector becomes a hash table at the next insertion, `entry` or `raw_entry_mut` that succeeds, even for
+/// a key that is already held. Only `shrink_to_fit` turns it back, where no more pairs are held than the limit.
 ///
 /// In both forms the pairs keep the order of their insertion, until a removal moves the last pair to the index that
-/// became free. `shift_remove` keeps the order, and takes longer.
+/// became free, or, in a vector, `replace_entry_with` moves its pair to the end. `shift_remove` keeps the order, and
+/// takes longer.
 ///
 /// A search in a vector compares keys in order, up to the one that it finds or a few more, and hashes nothing. A search
 /// in a table hashes the key once, probes from its home bucket on, and compares only keys of the same hash. How many
@@ -171,7 +172,8 @@ impl<K: Eq + Hash, V, S: KeyHasher<K>, L: Limit> LimitedHashMap<K, V, S, L> {
         self.store.capacity()
     }
 
-    /// Removes all pairs. The form, the capacity and the builder stay. Nothing is hashed.
+    /// Removes all pairs. The form, the capacity and the builder stay. Nothing is hashed, and a table empties all of its
+    /// buckets.
     ///
     /// ```
     /// ages.clear();

@@ -1,4 +1,4 @@
-//! Raw entries: pairs by a hash that the caller knows, or by a match on keys.
+//! Raw entries: pairs by a key, by a key whose hash the caller knows, or by a hash and a match on keys.
 ghost use Rattle.std.specs.Prelude.{◌<◌, length};
 
 mod debug;
@@ -9,7 +9,7 @@ mod vacant;
 use crate::{AtMost, DefaultHashBuilder, KeyHasher, Limit, LimitedHashMap, OccupiedEntry};
 use std::hash::Hash;
 
-/// Look-ups by a known hash or by a match on keys, which `raw_entry` returns.
+/// What `raw_entry` returns: look-ups by a key, by a key with its hash, and by a hash and a match on keys.
 ///
 /// ```
 /// fn age_of_1(ages: RawEntryBuilder<'_, u64, u32>) -> Option<u32> {

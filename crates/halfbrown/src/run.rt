@@ -102,8 +102,8 @@ pub fn run_counted<K: Eq + Hash + Drop, V: Copy, S: KeyHasher<K>, L: Limit>(
     ensures empty { commands.items ≡ [] → IsOk result }
     ensures memory { IfOk result (λ replies. vec_capacity replies ≡ length commands.items) }
 
-    // Without `Shrink`: once a table, always a table; a run that ends with a vector has hashed nothing; and no run hashes more than
-    // two keys for each command, and once as many as the limit.
+    // Without `Shrink`: once a table, always a table; a run that ends with a vector has hashed nothing; and a run hashes at most
+    // two keys for each command, and for its one switch at most as many as the limit.
     ensures stays_a_table { has_shrink commands.items ≡ false → map.old.is_vec ≡ false
         → map.new.is_vec ≡ false }
     ensures nothing_hashed { has_shrink commands.items ≡ false → map.new.is_vec ≡ true
@@ -173,7 +173,7 @@ fn insert<K: Eq + Hash + Drop, V, S: KeyHasher<K>, L: Limit>(
     }
 }
 
-// Inserts a pair whose key is not held.
+// Inserts a pair where the key is not held, by a search and an insertion without one.
 fn insert_new<K: Eq + Hash + Drop, V: Copy, S: KeyHasher<K>, L: Limit>(
     map: &mut LimitedHashMap<K, V, S, L>,
     key: K,

@@ -29,6 +29,7 @@ pub(crate) fn read_line<R: Read, W: Write + Drop>(
         (KeepsBytes (unread R.remaining reader.old) (unread R.remaining reader.new) line.new.items) }
 {
     line.clear();
+    // The bound only lets the prover see that the loop ends.
     for _ in 0..u64::MAX {
         if read_part(reader, line)? {
             return Ok(!line.is_empty());

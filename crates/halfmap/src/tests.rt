@@ -1,6 +1,6 @@
 //! Lines that are served in memory, and a writer that fails at once.
 
-use crate::session::{Stopped, serve};
+use crate::session::{Stopped, serve, serve_text};
 use std::io;
 use std::io::Write;
 
@@ -12,7 +12,7 @@ const ANSWERS: &str =
 
 #[test]
 fn a_full_vector(rt: HostRuntime) -> Result<(), Stopped> {
-    let answers = serve(rt.alloc(), LINES.as_bytes(), Vec::new(rt.alloc()))?;
+    let answers = serve_text(rt.alloc(), LINES.as_bytes())?;
     assert_eq!(rt; answers.as_slice(), ANSWERS.as_bytes());
     Ok(())
 }
@@ -41,7 +41,7 @@ fn numbers_and_a_failed_write(rt: HostRuntime) -> Result<(), Stopped> {
             "none\n7\nbad line\n",
         ),
     ] {
-        let answers = serve(rt.alloc(), lines.as_bytes(), Vec::new(rt.alloc()))?;
+        let answers = serve_text(rt.alloc(), lines.as_bytes())?;
         assert_eq!(rt; answers.as_slice(), wanted.as_bytes(), "{lines:?}");
     }
     assert_eq!(rt;

@@ -120,7 +120,7 @@ impl Value {
     }
 
     /// Takes the member of this name out, and returns its value. The others keep their order. Where there is none, nothing
-    /// changes. It costs one look-up, and then time that grows with the number of members.
+    /// changes. It costs one look-up, and then time that grows with the most members that there were.
     ///
     /// ```
     /// assert_eq!(rt; order.remove("paid"), Some(Value::Bool(true)));

@@ -68,7 +68,7 @@ impl<K, V> Store<K, V> {
 
     /// Hands the value of the pair at this index to `f`, with its key. Where `f` returns a value the pair has that one, and its
     /// index is returned: in a vector it goes last, and the last pair takes its index; in a table it stays. Where `f` returns
-    /// none the pair is removed, and its key returned with its hash, which is 0 in a vector: the last pair takes its index.
+    /// none the pair is removed, and the last pair takes its index. Then the key is returned with its hash, or with 0 in a vector.
     #[inline]
     pub fn replace_with<F: FnOnce(&K, V) -> Option<V>>(
         &mut self,

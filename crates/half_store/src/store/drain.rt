@@ -9,13 +9,14 @@ use std::collections::VecDeque;
 use std::marker::Model;
 use std::mem::replace;
 
-/// What was a store: the pairs that are still to be taken out of it, and its memory. Once they are gone it is a store again.
+/// What was a store: the pairs that are still to be taken out of it, and its memory. `into_store` makes it a store again, with no
+/// pair.
 #[derive(Drop)]
 pub struct Drained<K, V> {
     // queues in the blocks that the columns had
     keys: VecDeque<K>,
     values: VecDeque<V>,
-    // of the pairs that were there
+    // still of all pairs that were there, until `into_store` clears it
     table: Option<Box<Table>>,
 }
 

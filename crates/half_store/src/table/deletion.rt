@@ -1,7 +1,7 @@
 //! Backward-shift deletion: after a removal the pairs that follow move back, so that no tombstone is needed.
 #![tactic(auto, using(crate::proofs::lemmas::table::Layout::deletion_steps))]
 
-ghost use Rattle.std.specs.Prelude.{◌≡◌, ℕ, ◌+◌, ◌-◌, ◌^◌, ◌<◌, ◌≤◌, Some, IfOk, OnErr};
+ghost use Rattle.std.specs.Prelude.{◌≡◌, ◌+◌, ◌^◌, ◌<◌, ◌≤◌, Some, IfOk, OnErr};
 ghost use Rattle.std.specs.Prelude.{length, slice_get, slice_set, slice_index, vec_capacity};
 ghost use Rattle.std.specs.Fn.{FnReturnsAt};
 ghost use Rattle.std.specs.List.{swap_remove};
@@ -41,7 +41,7 @@ pub(super) fn remove_in<B: Words>(
     remove_at(buckets, hashes, index, bucket, tally)
 }
 
-/// `remove_in`, where the bucket of the pair is known. It reads that many fewer buckets as a probe for it reads.
+/// `remove_in`, where the bucket of the pair is known: it does not read the buckets that a probe for it would read.
 #[inline(always)]
 fn remove_at<B: Words>(
     buckets: &mut B,
@@ -167,22 +167,22 @@ fn probe_distance(from: usize, to: usize, count: usize) -> usize
     to + (count - from) & (count - 1)
 }
 
-/// Returns `lesser` where the first number is less than the second, and else `other`. It takes no branch, which would often be
+/// Returns `chosen` where the first number is less than the second, and else `other`. It takes no branch, which would often be
 /// mispredicted.
 #[inline(always)]
-fn if_less(first: usize, second: usize, lesser: usize, other: usize) -> usize
+fn if_less(first: usize, second: usize, chosen: usize, other: usize) -> usize
     requires first { first < 2 ^ 63 }
     requires second { second < 2 ^ 63 }
-    ensures less { first < second → result ≡ lesser }
+    ensures less { first < second → result ≡ chosen }
     ensures not_less { second ≤ first → result ≡ other }
 {
     // The sign of the difference: a comparison would be compiled to a branch.
     let is_less = first.wrapping_sub(second) >> 63;
-    lesser * is_less + other * (1 - is_less)
+    chosen * is_less + other * (1 - is_less)
 }
 
-/// Shifts pairs back into a bucket whose pair was removed: goes up to the next empty bucket, and moves each pair into the gap
-/// whose home bucket is not after it. What the gap contains is not read; it is emptied at the end.
+/// Shifts pairs back into a bucket whose pair was removed, the gap. It goes up to the next empty bucket. Each pair on the way
+/// whose home bucket is not after the gap moves there, and its own bucket is the gap then. No gap is read; the last is emptied.
 fn backward_shift<B: Words>(buckets: &mut B, hashes: &[u64], removed: usize, tally: &mut Tally)
     requires count { IsBucketCount (length (B.words buckets.old)) }
     requires removed { IsIndexedWithGap hashes.now (slice_set (B.words buckets.old) removed 0)

@@ -2,9 +2,7 @@
 //! bucket that it reads.
 #![tactic(auto, using(crate::proofs::lemmas::table::Probe::probe_steps))]
 
-ghost use Rattle.std.specs.Prelude.{◌≡◌, ℕ, ◌+◌, ◌-◌, ◌<◌, ◌≤◌, ◌==◌, true, false};
-ghost use Rattle.std.specs.Prelude.{Some, length, count_by, slice_get, slice_index, IfOk, IfErr, OnOk, OnErr};
-ghost use Rattle.std.specs.Borrow.{Bor};
+ghost use Rattle.std.specs.Prelude.{◌≡◌, ◌+◌, ◌<◌, ◌≤◌, true, length, slice_index, IfOk, IfErr, OnOk, OnErr};
 ghost use Rattle.std.specs.Fn.{FnReturnsAt};
 ghost use Rattle.half_store.specs.Reach.{home, bucket_after};
 ghost use Rattle.half_store.specs.Slots.{slots_from, WithinHashes, distance_from_home, slot_hash_count, IsSlotVacancy, EndsAtPair};

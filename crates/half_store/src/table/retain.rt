@@ -10,8 +10,9 @@ use super::memory::rehash;
 use crate::Columns;
 
 impl Table {
-    /// Calls `f` at each of these pairs, whose index this is, and keeps those that it accepts, as `Columns::retain` does. The
-    /// buckets stay, and no memory is taken.
+    /// Calls `f` at each of these pairs, over which this is the index, and keeps those that it accepts, as `Columns::retain` does.
+    /// There are as many buckets as before, and no memory is taken. Where a pair is gone, all buckets are emptied, and each pair
+    /// that is kept is probed for anew.
     pub fn retain<K: Drop, V: Drop, F: FnMut(&K, &mut V) -> bool>(
         &mut self,
         pairs: &mut Columns<K, V>,

@@ -9,7 +9,7 @@ ghost use Rattle.half_store.specs.Table.{IsIndexed};
 use super::Table;
 use super::deletion::remove_in;
 use crate::Tally;
-use crate::words::{WordArray, Words, of_either_size};
+use crate::words::{Words, of_either_size};
 
 impl Table {
     /// Removes the pair at this entry index. Each pair behind it gets the index before its own. It reads each bucket once, and
@@ -41,7 +41,7 @@ fn shift_in<B: Words>(buckets: &mut B, hashes: &mut Vec<u64>, index: usize, tall
     ensures cost { ReadsWithin (length (B.words buckets.old) + 2 * reach hashes.old.items
         (length (B.words buckets.old)) (slice_index hashes.old.items index)) tally.old tally.new }
 {
-    move_last(buckets, index, hashes.len(), tally);
+    move_to_end(buckets, index, hashes.len(), tally);
     let hash = hashes.remove(index);
     let last = hashes.len();
     hashes.push_reserved(hash);
@@ -50,7 +50,7 @@ fn shift_in<B: Words>(buckets: &mut B, hashes: &mut Vec<u64>, index: usize, tall
 
 /// Makes the pair at this entry index the last one, as far as the buckets go: each pair behind it gets the index before its own.
 #[tactic(auto)]
-fn move_last<B: Words>(buckets: &mut B, index: usize, pairs: usize, tally: &mut Tally)
+fn move_to_end<B: Words>(buckets: &mut B, index: usize, pairs: usize, tally: &mut Tally)
     requires within { index < pairs }
     requires each { EachOnce pairs (B.words buckets.old) }
     requires fits { pairs ≤ B.most buckets.old }

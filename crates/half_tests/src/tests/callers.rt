@@ -77,7 +77,10 @@ fn sums(rt: HostRuntime) -> Result<(), Fail> {
     let ink = sums.and_then(|sums| sums.get("ink").copied());
     assert_same(ink, Some(5), "in all")?;
     let rows = [("ink", u64::MAX), ("ink", 1)];
-    assert_true(sum_by_text(alloc, &rows)?.is_none(), "more than a u64 holds")
+    assert_true(
+        sum_by_text(alloc, &rows)?.is_none(),
+        "more than a u64 holds",
+    )
 }
 
 #[test]

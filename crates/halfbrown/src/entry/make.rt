@@ -65,6 +65,7 @@ impl<K: Eq + Hash, V, S: KeyHasher<K>, L: Limit> LimitedHashMap<K, V, S, L> {
             Err(why) => Err(RefusedKey { key, why }),
         }
     }
+
     /// Returns the entry of the pair at this index, or none where the index is not below `len`. Nothing is hashed or
     /// compared, and no memory is needed.
     ///

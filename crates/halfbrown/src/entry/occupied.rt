@@ -1,4 +1,4 @@
-//! The calls of an occupied entry, of a key or a raw one. In the examples it is the entry of 1:
+//! The calls of an occupied entry, of a key, at an index, or a raw one. In the examples it is the entry of 1:
 //!
 //! ```
 //! let Entry::Occupied(mut entry) = ages.entry(1)? else { unreachable!() };
@@ -44,7 +44,8 @@ impl<'a, K: Eq + Hash, V, S: KeyHasher<K>, L: Limit> OccupiedEntry<'a, K, V, S, 
         self.key()
     }
 
-    /// Returns the stored key, for as long as the map is borrowed.
+    /// Returns the stored key, for as long as the map is borrowed. No clause says what the map is afterwards: where a proof
+    /// needs that, call `key`.
     ///
     /// ```
     /// assert_eq!(rt; *entry.into_key(), 1);
@@ -150,7 +151,8 @@ impl<'a, K: Eq + Hash, V, S: KeyHasher<K>, L: Limit> OccupiedEntry<'a, K, V, S, 
         self.map.pair_at_mut(index)
     }
 
-    /// Returns the stored key, and the value to be written, for as long as the map is borrowed.
+    /// Returns the stored key, and the value to be written, for as long as the map is borrowed. No clause says what the map
+    /// is afterwards: where a proof needs that, call `into_mut`.
     ///
     /// ```
     /// let (_, age) = entry.into_key_value();
@@ -178,7 +180,7 @@ impl<'a, K: Eq + Hash, V, S: KeyHasher<K>, L: Limit> OccupiedEntry<'a, K, V, S, 
         ensures valid { IsValid L.LIMIT K.eq (map_of (occupied self.new)) }
     {
         let old = std::mem::replace(self.get_mut(), value);
-        // Of the map that is read here `len` states what holds of every map.
+        // Tells the prover what holds of every map: `len` states it of the one that it reads.
         prove!(self.index < self.map.len());
         old
     }

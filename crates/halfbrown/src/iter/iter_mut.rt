@@ -47,7 +47,7 @@ impl<'a, K, V> Iterator for IterMut<'a, K, V> {
 impl<'a, K, V> ExactSizeIterator for IterMut<'a, K, V> {
     #[inline(always)]
     fn len(&self) -> usize {
-        self.keys.len().min(self.values.len())
+        self.keys.len()
     }
 }
 

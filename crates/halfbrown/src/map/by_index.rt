@@ -156,7 +156,8 @@ impl<K: Eq + Hash, V, S: KeyHasher<K>, L: Limit> LimitedHashMap<K, V, S, L> {
     }
 
     /// Removes the pair at this index, and returns it. The last pair takes its index. Where the index is not below
-    /// `len`, nothing changes. The form and the capacity stay. Nothing is hashed or compared, and no memory is needed.
+    /// `len`, nothing changes. The form and the capacity stay. Nothing is hashed or compared, and no memory is needed. In a
+    /// table the bucket of the pair is probed for, and that of the last pair if it is another.
     ///
     /// ```
     /// assert_eq!(rt; ages.swap_remove_index(0), Some((1, 36)));
@@ -174,7 +175,7 @@ impl<K: Eq + Hash, V, S: KeyHasher<K>, L: Limit> LimitedHashMap<K, V, S, L> {
     }
 
     /// Removes the last pair, and returns it, or none where the map is empty. The form and the capacity stay. Nothing
-    /// is hashed or compared, and no memory is needed.
+    /// is hashed or compared, and no memory is needed. In a table the bucket of the pair is probed for.
     ///
     /// ```
     /// assert_eq!(rt; ages.pop(), Some((2, 41)));

@@ -1,5 +1,5 @@
 //! Maps made from items.
-ghost use Rattle.std.specs.Prelude.{◌≡◌, ◌⊎◌, ℕ, ⊤, true, List, IfOk, IfErr, OnOk, OnErr};
+ghost use Rattle.std.specs.Prelude.{◌≡◌, ◌<◌, ◌⊎◌, ℕ, ⊤, true, List, IfOk, IfErr, OnOk, OnErr};
 ghost use Rattle.std.specs.Iterator.{IsFinite, IsFiniteIterable, Drains, DrainsIf, ExtendsWithItems};
 ghost use Rattle.halfbrown.specs.FromIter.{Gives, AreFirst, Extends, ExtendsIter, RefusedExtendIter};
 ghost use Rattle.halfbrown.specs.FromIter.{Collects, CollectsIter, RefusedCollect, RefusedCollectIter};
@@ -26,7 +26,7 @@ impl<K: Eq + Hash + Drop, V: Drop, S: KeyHasher<K> + Default + Drop, L: Limit> L
     /// hint that is, and so neither the form nor the capacity.
     ///
     /// The items must end. Fails where `with_capacity` or `insert` would, and then drops what was collected, the
-    /// refused pair and the remaining items.
+    /// refused pair and the remaining items. It costs what the insertions cost.
     ///
     /// ```
     /// let ages = HashMap::<u64, u32>::from_iter(alloc, [(1, 36), (2, 41), (1, 37)])?;
@@ -73,7 +73,10 @@ impl<K: Eq + Hash + Drop, V: Drop, S: KeyHasher<K> + Default + Drop, L: Limit> L
         LimitedHashMap::collect(alloc, hint, items, tally)
     }
 
-    /// Returns a map of these pairs, with the default of the builder's type: `from_iter` of an array. `hashmap!` calls it.
+    /// Returns a map of these pairs, with the default of the builder's type, as `from_iter` makes it. `hashmap!` calls it.
+    ///
+    /// It is made with capacity for all of them, and costs what their insertions cost. The pairs first go into a vector of
+    /// their own, so it also fails with `Memory` where that is refused. Of no pairs it needs no memory.
     ///
     /// ```
     /// let ages = HashMap::<u64, u32>::from_array(alloc, [(1, 36), (2, 41)])?;
@@ -81,14 +84,12 @@ impl<K: Eq + Hash + Drop, V: Drop, S: KeyHasher<K> + Default + Drop, L: Limit> L
     /// ```
     pub fn from_array<const N: usize>(alloc: Global, pairs: [(K, V); N]) -> Result<Self, Refusal>
         ensures collected { IfOk result (Collects L.LIMIT K.eq S.is_default N pairs) }
-        ensures refused { IfErr result (λ why. (why ≡ Refusal.Memory)
+        ensures refused { IfErr result (λ why. ((why ≡ Refusal.Memory) × (0 < N))
             ⊎ RefusedCollect L.LIMIT K.eq S.is_default N (AreFirst pairs) why) }
         ensures valid { IfOk result (IsValid L.LIMIT K.eq) }
     {
-        // A vector is gone over whatever the size of a pair is.
-        let Ok(pairs) = Vec::from_array(alloc, pairs) else {
-            return Err(Refusal::Memory);
-        };
+        // What `into_iter` of an array requires depends on the size of a pair, which is not known.
+        let pairs = to_vec(alloc, pairs)?;
         uncounted!(LimitedHashMap::collect(alloc, N, pairs.into_iter()))
     }
 
@@ -121,7 +122,7 @@ impl<K: Eq + Hash + Drop, V: Drop, S: KeyHasher<K>, L: Limit> LimitedHashMap<K, 
     /// Inserts each item, in order. New keys come last; a held key stays where it is, with the last value.
     ///
     /// The items must end. Fails where `insert` would, and then the items before the refused one stay, and it and the
-    /// remaining items are dropped.
+    /// remaining items are dropped. It costs what the insertions cost, and makes no capacity in advance.
     ///
     /// ```
     /// ages.extend([(2, 42), (3, 5)])?;
@@ -208,4 +209,18 @@ impl<K: Eq + Hash + Drop, V: Drop, S: KeyHasher<K>, L: Limit> Extend<(K, V)>
             Err(_) => Err(AllocError),
         }
     }
+}
+
+/// Moves an array into a vector. Std's call takes memory for no items too.
+fn to_vec<T: Drop, const N: usize>(alloc: Global, items: [T; N]) -> Result<Vec<T>, AllocError>
+    ensures items { IfOk result (λ list. list.items ≡ items) }
+    ensures needed { OnErr result (0 < N) }
+{
+    if N == 0 {
+        return Ok(Vec::new(alloc));
+    }
+    let Ok(list) = Vec::from_array(alloc, items) else {
+        return Err(AllocError);
+    };
+    Ok(list)
 }

@@ -49,8 +49,8 @@ impl<K: Eq + Hash, V: PartialEq, S: KeyHasher<K>, L: Limit> LimitedHashMap<K, V,
         self.is_held_by(other, tally)
     }
 
-    /// Whether the other map holds each pair of this one. It searches for their keys there, in order, up to and with the
-    /// first whose pair it does not hold.
+    /// Whether the other map holds each pair of this one. The keys are searched for there, in order, and the search ends with
+    /// the first pair that is not held.
     fn is_held_by<S2: KeyHasher<K>, M: Limit>(
         &self,
         other: &LimitedHashMap<K, V, S2, M>,

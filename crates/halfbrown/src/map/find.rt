@@ -1,5 +1,5 @@
-//! The search for a key, or by a match on keys: in a vector by `==` alone, in a table by hash.
-ghost use Rattle.std.specs.Prelude.{◌≡◌, ◌+◌, ◌<◌, true, false, length};
+//! The search for a key, or by a match on keys: in a vector from first to last, in a table among the keys of one hash.
+ghost use Rattle.std.specs.Prelude.{◌≡◌, ◌+◌, true, false, length};
 ghost use Rattle.std.specs.Fn.{FnReturnsAt};
 ghost use Rattle.std.specs.Map.{keys_of};
 ghost use Rattle.std.specs.Result.{result_ok};
@@ -15,7 +15,7 @@ use half_store::{Scan, Tally, Vacancy};
 use std::hash::Hash;
 
 impl<K: Eq + Hash, V, S: KeyHasher<K>, L: Limit> LimitedHashMap<K, V, S, L> {
-    /// Searches for a key: in a vector by `==` alone, in a table among the keys of its hash.
+    /// Searches for a key: in a vector from first to last, in a table among the keys of its hash.
     #[inline(always)]
     pub(crate) fn find<Q: Equivalent<K>>(&self, key: Q, tally: &mut Tally) -> Result<usize, Vacancy>
         ensures found { KeySearch (Q.equivalent key)

@@ -2,7 +2,7 @@
 //!
 //! A clause `writes_back` says what the map is once the borrow that the call returns has ended. What stands between its
 //! first word and `self.entry` names types, and can be passed over; `self.entry` is the map when the call began.
-ghost use Rattle.std.specs.Prelude.{◌≡◌, IsTrue, Some, OnSome, ◌<◌};
+ghost use Rattle.std.specs.Prelude.{◌≡◌, IsTrue, Some, OnSome};
 ghost use Rattle.std.specs.Borrow.{sem};
 ghost use Rattle.std.specs.Map.{lookup, lookup_entry};
 ghost use Rattle.std.specs.Map.Iter.{deref_pair};

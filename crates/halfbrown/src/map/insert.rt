@@ -1,5 +1,5 @@
 //! Insertion, and what it writes: a value replaced, or a pair added whose key is not held.
-ghost use Rattle.std.specs.Prelude.{◌≡◌, ◌<◌, false, Some, is_ok};
+ghost use Rattle.std.specs.Prelude.{◌≡◌, false, is_ok};
 ghost use Rattle.halfbrown.specs.CostRanges.{GrewBy};
 ghost use Rattle.halfbrown.specs.Costs.{new_key_cost, IsInsertCost};
 ghost use Rattle.halfbrown.specs.Insertion.{Inserts, InsertsAt, InsertsNewKey};
@@ -20,7 +20,8 @@ impl<K: Eq + Hash, V, S: KeyHasher<K>, L: Limit> LimitedHashMap<K, V, S, L> {
     /// Fails only where more capacity is needed: for the switch, or for a new key where none is left. Then nothing
     /// changes, and the error has the pair.
     ///
-    /// It costs one search, and a switch hashes each key once. Growth hashes nothing.
+    /// It costs one search, and a switch hashes each key once. Growth hashes nothing, and a table that grows is probed a
+    /// second time.
     ///
     /// ```
     /// assert_eq!(rt; ages.insert(3, 5)?, None);
@@ -35,7 +36,8 @@ impl<K: Eq + Hash, V, S: KeyHasher<K>, L: Limit> LimitedHashMap<K, V, S, L> {
         uncounted!(self.insert_counted(key, value))
     }
 
-    /// `insert`, with its work counted.
+    /// `insert`, with its work counted: one search, one hash for each pair at a switch, and one insertion probe where a new
+    /// key makes the table grow.
     #[inline(always)]
     pub fn insert_counted(
         &mut self,
@@ -94,7 +96,8 @@ impl<K: Eq + Hash, V, S: KeyHasher<K>, L: Limit> LimitedHashMap<K, V, S, L> {
 
     /// Adds a pair without a search for its key, which must not be held.
     ///
-    /// Fails as `insert` of a new key does. It compares no key, and in a table it hashes the key once.
+    /// Fails as `insert` of a new key does. It compares no key. In a table it hashes the key once, and probes for an empty
+    /// bucket.
     ///
     /// ```
     /// if !ages.contains_key(&3) {
@@ -110,7 +113,8 @@ impl<K: Eq + Hash, V, S: KeyHasher<K>, L: Limit> LimitedHashMap<K, V, S, L> {
         uncounted!(self.insert_nocheck_counted(key, value))
     }
 
-    /// `insert_nocheck`, with its work counted: the hashes of the switch, and one hash in a table; no key is compared.
+    /// `insert_nocheck`, with its work counted: one hash for each pair at a switch, and in a table one hash of the key and
+    /// one insertion probe. No key is compared.
     #[inline(always)]
     pub fn insert_nocheck_counted(
         &mut self,

@@ -52,7 +52,16 @@ impl<'a, K: Eq + Hash, V, S: KeyHasher<K>, L: Limit> IntoIterator
         × (length map.now.pairs < 2 ^ 63) × ShowsPairsInOrder K V
         × IsValid L.LIMIT K.eq map.now };
 
-    // The values can be read alone, as in the Rust crate. `iter_mut` lends them to be written.
+    /// Returns the pairs, each as `(&K, &V)`, in order. As in the Rust crate the values can only be read: `iter_mut` lends
+    /// them to be written.
+    ///
+    /// ```
+    /// let mut oldest = 0;
+    /// for (_, age) in &mut ages {
+    ///     oldest = oldest.max(*age);
+    /// }
+    /// assert_eq!(rt; oldest, 41);
+    /// ```
     #[inline(always)]
     fn into_iter(self) -> Iter<'a, K, V>
         ensures* rests { sem 𝓛
@@ -75,7 +84,16 @@ impl<K: Eq + Hash + Drop, V: Drop, S: KeyHasher<K> + Drop, L: Limit> IntoIterato
         × GivesInOrder (K × V) × ShowsValuesInOrder (λ (pair : K × V). pair)
         × IsValid L.LIMIT K.eq map };
 
-    // The builder and the table are dropped at once: the iterator has the two columns alone.
+    /// Returns the pairs, in order, by value. The builder and the table are dropped at once: the iterator has the two
+    /// columns alone. It takes no memory.
+    ///
+    /// ```
+    /// let mut oldest = 0;
+    /// for (_, age) in ages {
+    ///     oldest = oldest.max(age);
+    /// }
+    /// assert_eq!(rt; oldest, 41);
+    /// ```
     fn into_iter(self) -> IntoIter<K, V> {
         let (keys, values) = self.into_columns();
         IntoIter {

@@ -23,7 +23,7 @@ pub(crate) enum Place {
 }
 
 impl<K: Eq + Hash, V, S: KeyHasher<K>, L: Limit> LimitedHashMap<K, V, S, L> {
-    /// Switches a full map and searches for a key; where it is not held, makes capacity for its pair.
+    /// Switches a full vector and searches for a key; where it is not held, makes capacity for its pair.
     #[inline(always)]
     pub(crate) fn prepare(&mut self, key: &K, tally: &mut Tally) -> Result<Place, Refusal>
         ensures prepares { PreparesOrRefuses L.LIMIT K.eq self.old
@@ -39,8 +39,8 @@ impl<K: Eq + Hash, V, S: KeyHasher<K>, L: Limit> LimitedHashMap<K, V, S, L> {
         }
     }
 
-    /// Switches a full map and makes capacity for the pair of a key that is not held. In a table the key is hashed, and a vacancy
-    /// probed for; nothing is searched.
+    /// Switches a full vector and makes capacity for the pair of a key that is not held. In a table the key is hashed, and a
+    /// vacancy probed for; no key is searched for.
     #[inline(always)]
     pub(crate) fn prepare_new(&mut self, key: &K, tally: &mut Tally) -> Result<Vacancy, Refusal>
         requires { holds K.eq self.old.pairs key.now ≡ false }
@@ -56,7 +56,7 @@ impl<K: Eq + Hash, V, S: KeyHasher<K>, L: Limit> LimitedHashMap<K, V, S, L> {
         Ok(self.vacancy_for(hash, tally))
     }
 
-    /// Switches a full map and makes capacity for one pair more, whatever its key. Nothing is searched.
+    /// Switches a full vector and makes capacity for one pair more, whatever its key. Nothing is searched for.
     #[inline(always)]
     pub(crate) fn prepare_any(&mut self, tally: &mut Tally) -> Result<(), Refusal>
         ensures prepares { PreparesOrRefuses L.LIMIT K.eq self.old

@@ -1,5 +1,5 @@
-//! Removal: by the last pair, which takes the index, or in order.
-ghost use Rattle.std.specs.Prelude.{◌≡◌, ◌<◌, false, Some};
+//! Removal: the last pair takes the index that becomes free, or all other pairs keep their order.
+ghost use Rattle.std.specs.Prelude.{◌≡◌, false};
 ghost use Rattle.std.specs.Map.{lookup, lookup_entry};
 ghost use Rattle.std.specs.Option.{option_map};
 ghost use Rattle.halfbrown.specs.Costs.{IsLookupCost, IsHashedLookupCost};
@@ -139,8 +139,8 @@ impl<K: Eq + Hash, V, S: KeyHasher<K>, L: Limit> LimitedHashMap<K, V, S, L> {
     /// Removes the pair of the held key that equals this one, and returns its value. Each pair behind it gets the index
     /// before its own. Where no such key is held, nothing changes. The form and the capacity stay, and no memory is needed.
     ///
-    /// It costs one search, and then time that grows with the number of pairs: the pairs behind it move, and a table goes
-    /// over all of its buckets. `remove` takes the time of a search.
+    /// It costs one search. Then the pairs behind it move, which takes time that grows with their number, and a table goes
+    /// over all of its buckets, which takes time that grows with the capacity. `remove` takes the time of a search.
     ///
     /// ```
     /// assert_eq!(rt; ages.shift_remove(&1), Some(36));

@@ -1,5 +1,5 @@
 //! The calls of a raw entry.
-ghost use Rattle.std.specs.Prelude.{◌≡◌, false, None, Some, IfSome, unwrap_or};
+ghost use Rattle.std.specs.Prelude.{◌≡◌, false, Some, IfSome, unwrap_or};
 ghost use Rattle.std.specs.Borrow.{Bor, MutBor};
 ghost use Rattle.std.specs.Option.{UnwrapsOrElse};
 ghost use Rattle.halfbrown.specs.Entry.{occupied, raw_view};
@@ -94,7 +94,8 @@ impl<'a, K: Eq + Hash, V, S: KeyHasher<K>, L: Limit> RawEntryMut<'a, K, V, S, L>
     {
         match self {
             RawEntryMut::Occupied(entry) => {
-                // Of the map that is read here `len` states what holds of every map.
+                // Tells the prover what holds of every map: `len` states it of the one that it reads. The `return` keeps the
+                // proofs of the two arms apart.
                 prove!(entry.index < entry.map.len());
                 return entry;
             }
@@ -199,7 +200,8 @@ impl<'a, K: Eq + Hash, V, S: KeyHasher<K>, L: Limit> RawEntryMut<'a, K, V, S, L>
     {
         match self {
             RawEntryMut::Occupied(entry) => {
-                // Of the map that is read here `len` states what holds of every map.
+                // Tells the prover what holds of every map: `len` states it of the one that it reads. The `return` keeps the
+                // proofs of the two arms apart.
                 prove!(entry.index < entry.map.len());
                 return entry;
             }

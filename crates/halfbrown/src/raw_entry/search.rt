@@ -21,7 +21,7 @@ use half_store::{Refusal, Tally, uncounted};
 use std::hash::Hash;
 
 impl<K: Eq + Hash, V, S: KeyHasher<K>, L: Limit> LimitedHashMap<K, V, S, L> {
-    /// Look-ups by a known hash, or by a match on keys. It costs nothing.
+    /// Returns what looks pairs up by a key, by a key with its hash, or by a hash and a match on keys. It costs nothing.
     ///
     /// ```
     /// assert_eq!(rt; ages.raw_entry().from_key(&2), Some((&2, &41)));
@@ -33,8 +33,8 @@ impl<K: Eq + Hash, V, S: KeyHasher<K>, L: Limit> LimitedHashMap<K, V, S, L> {
         RawEntryBuilder { map: self }
     }
 
-    /// Makes what a raw entry is searched through: by a known hash or by a match on keys, to read, write, remove or add
-    /// a pair.
+    /// Returns what finds a raw entry by a key, by a key with its hash, or by a hash and a match on keys. Through the entry
+    /// a pair is read, written, removed or added.
     ///
     /// A full vector becomes a table first, and the capacity is made enough for one more pair, whatever is searched
     /// afterwards. Fails only where more capacity is needed, and then nothing changes. No call on the entry fails.

@@ -10,7 +10,7 @@ use std::fmt;
 pub enum Error {
     /// The text is no JSON, or the value has none: a number is not written as one, or it nests too deep.
     Invalid,
-    /// A member was given to a value that is no object.
+    /// A member was given to a value that is no object, or one of two values that were to be merged is none.
     NoObject,
     /// A path leads to no value.
     NotThere,

@@ -1,9 +1,6 @@
 //! Following a path: JSON Pointer (RFC 6901).
-ghost use Rattle.std.specs.Prelude.{◌≡◌, ◌↔◌, [], ◌∷◌, IsTrue, IfSome, IfNone, Some, option_map, option_and_then};
-ghost use Rattle.std.specs.Map.{lookup};
+ghost use Rattle.std.specs.Prelude.{◌≡◌, ◌↔◌, [], ◌∷◌, IsTrue, IfSome, IfNone, Some, option_map};
 ghost use Rattle.std.specs.Option.{option_copied};
-ghost use Rattle.std.specs.Str.{bytes_eq};
-ghost use Rattle.std.specs.String.{string_bytes};
 ghost use Rattle.json_value.specs.Pointer.{name_of, index_of, child as child_at, value_at};
 ghost use Rattle.json_value.specs.Pointer.{member_place as place_in_members, place as place_of};
 

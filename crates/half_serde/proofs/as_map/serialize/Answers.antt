@@ -9,7 +9,7 @@ loop-key-init g c = WritesUpTo-start (WritesEntry g.K.Described.writes g.V.Descr
 
 pub loop-key-preserved : goal.loop-key-preserved
 loop-key-preserved g c = WritesUpTo-more (WritesEntry g.K.Described.writes g.V.Described.writes) _ _ _ (c.in-Some.key.now, c.in-Some.value.now) _ _ _ c.loop-key.invariant
-    c.in-Some.ensures.steps (_, _, _, c.in_ok-begin_key.ensures, c.in_ok-serialize.ensures, c.in_ok-end_key.ensures, c.in_ok-serialize-2.ensures)
+    c.in-Some.ensures.steps c.in_ok-write_entry.ensures
 
 pub returns : goal.returns
 returns g c =

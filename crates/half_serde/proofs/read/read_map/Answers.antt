@@ -12,10 +12,10 @@ loop-init g c =
 pub loop-preserved : goal.loop-preserved
 loop-preserved g c =
     let begins = rw c.if-not-branch.false at c.in_ok-next_entry.ensures in
-    let puts : c.insert.new.self.pairs ≡ put g.K.PartialEq.eq c.loop.map.pairs c.in_ok-key.key c.in_ok-value.value = grind (arith, common_steps) in
+    let puts : c.insert.new.self.pairs ≡ put g.K.PartialEq.eq c.loop.map.pairs c.in_ok-key.key c.in_ok-key.value = grind (arith, common_steps) in
     let same : c.insert.new.self.builder ≡ c.loop.map.builder = grind (arith, common_steps) in
     reads_more g.F.Format.gives g.K.PartialEq.eq g.H.Default.is_default c.begin_map.new.self c.loop.from c.next_entry.new.self
-    c.part-in-loop.new.from c.loop.map c.insert.new.self c.in_ok-key.key c.in_ok-value.value c.loop.invariant begins puts same
+    c.read_pair.new.from c.loop.map c.insert.new.self c.in_ok-key.key c.in_ok-key.value c.loop.invariant begins puts same
 
 pub returns-then-not-branch : goal.returns-then-not-branch
 returns-then-not-branch g c = record {

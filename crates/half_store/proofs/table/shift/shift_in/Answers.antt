@@ -11,9 +11,9 @@ remove_in-requires-clause-indexed g c =
     let len : c.len.result ≡ length hs = grind (arith, common_steps) in
     let hash = c.remove-hash.ensures.value ∙ get_or_default hs index c.remove-hash.result 0 c.requires.within in
     let same = c.push_reserved.ensures.items ∙ (λ i. c.remove-hash.ensures.items i ++ hash i ∷ []) in
-    subst (λ xs. IsIndexed xs (g.B.Words.words c.move_last.new.buckets)) (sym same)
+    subst (λ xs. IsIndexed xs (g.B.Words.words c.move_to_end.new.buckets)) (sym same)
     (IsIndexed-moved hs index c.requires.within c.requires.indexed
-    (subst (λ n. MovesToEnd n index (g.B.Words.words c.args.buckets.now) (g.B.Words.words c.move_last.new.buckets)) len c.move_last.ensures.moves))
+    (subst (λ n. MovesToEnd n index (g.B.Words.words c.args.buckets.now) (g.B.Words.words c.move_to_end.new.buckets)) len c.move_to_end.ensures.moves))
 
 pub returns-clause-cost : goal.returns-clause-cost
 returns-clause-cost g c =
@@ -23,10 +23,10 @@ returns-clause-cost g c =
     let last : suc c.len-last.result ≡ length hs = grind (arith, common_steps) in
     let hash = c.remove-hash.ensures.value ∙ get_or_default hs index c.remove-hash.result 0 c.requires.within in
     let same = c.push_reserved.ensures.items ∙ (λ i. c.remove-hash.ensures.items i ++ hash i ∷ []) in
-    let told = subst (λ xs. ReadsWithin (removal_reads xs m c.len-last.result) c.move_last.new.tally c.remove_in.new.tally) same
-    (subst (λ n. ReadsWithin (removal_reads c.push_reserved.new.self.items n c.len-last.result) c.move_last.new.tally c.remove_in.new.tally)
-    c.move_last.ensures.moves.len c.remove_in.ensures.cost) in
-    let pass = c.move_last.ensures.cost in
+    let told = subst (λ xs. ReadsWithin (removal_reads xs m c.len-last.result) c.move_to_end.new.tally c.remove_in.new.tally) same
+    (subst (λ n. ReadsWithin (removal_reads c.push_reserved.new.self.items n c.len-last.result) c.move_to_end.new.tally c.remove_in.new.tally)
+    c.move_to_end.ensures.moves.len c.remove_in.ensures.cost) in
+    let pass = c.move_to_end.ensures.cost in
     record {
       asked = told.asked ∙ ap (λ w. w.asked) pass;
       compared = told.compared ∙ ap (λ w. w.compared) pass;

@@ -11,13 +11,13 @@ returns-clause-collected g c =
     IfOk-weaker c.uncounted.result _ _
     (λ m h. subst (λ (xs : List (g.row.K.Denot × g.row.V.Denot)). Collects g.L.Limit.LIMIT g.K.PartialEq.eq g.S.Default.is_default
     g.row.N xs m)
-    (All-taken c.into_iter.result h.0 h.1 ∙ c.into_iter.ensures.rest ∙ c.in-Ok.ensures.items) h.2)
+    (All-taken c.into_iter.result h.0 h.1 ∙ c.into_iter.ensures.rest ∙ c.in_ok-pairs.ensures.items) h.2)
     c.uncounted.ensures.collected
 
 pub returns-clause-refused : goal.returns-clause-refused
 returns-clause-refused g c =
     let it = c.into_iter.result in
-    let is_all = c.into_iter.ensures.rest ∙ c.in-Ok.ensures.items in
+    let is_all = c.into_iter.ensures.rest ∙ c.in_ok-pairs.ensures.items in
     IfErr-weaker c.uncounted.result _ _
     (λ why h. inr (
     refusal_given g.L.Limit.LIMIT g.K.PartialEq.eq g.met.K.Eq.laws g.S.Default.is_default g.row.N (Gives into_iter_steps it)

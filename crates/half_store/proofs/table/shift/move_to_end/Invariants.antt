@@ -1,6 +1,6 @@
 use Rattle.half_store.proofs.Common.{◌≡◌, ◌≤◌, length, ℕ, ◌<◌, slice_index, looked_more}
 use Rattle.half_store.specs.StoreRemoval.{word_once_moved}
-use Rattle.half_store.proofs.table.shift.move_last.Given as goal
+use Rattle.half_store.proofs.table.shift.move_to_end.Given as goal
 
 -- the buckets before this one have their new words, and the others their old ones
 abbrev pub invariant-loop-bucket : goal.invariant-loop-bucket
