@@ -28,7 +28,8 @@ pub struct Arrays {
 }
 
 impl<K, V> Store<K, V> {
-    /// No pairs, with capacity for this many: a vector with exactly this capacity where the limit allows them, else a table.
+    /// No pairs, with capacity for this many: a vector with exactly this capacity where the limit allows them, else a table. Fails
+    /// with `Size` for more than 2^60 pairs, and with `Memory` where memory is refused.
     pub fn with_capacity(
         alloc: Global,
         capacity: usize,
