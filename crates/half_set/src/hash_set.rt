@@ -24,9 +24,9 @@ use std::alloc::Global;
 use std::hash::Hash;
 use std::marker::Model;
 
-/// A set. Its values stand in a vector, which is searched by `==`, and nothing is hashed, until one is inserted into 32. From then
-/// on, whatever is removed, they are in a hash table, where a search hashes the value once. Contracts see a set as the list of its
-/// values, in order.
+/// A set. Up to 32 values stand in a vector, which is searched by `==`, and nothing is hashed. The next insertion moves them into
+/// a hash table, where a search hashes the value once; no removal moves them back. Contracts see a set as the list of its values,
+/// in order.
 ///
 /// ```
 /// let mut names = HashSet::<String>::new(alloc);

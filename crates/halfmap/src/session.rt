@@ -26,7 +26,8 @@ impl From<io::Error> for Stopped {
 
 /// Answers each line of the reader by a line to the writer, until the input ends, and returns the writer.
 ///
-/// All answers are written out before a read that may have to wait, so a sender that waits for an answer gets it. The map begins empty. A line may have any length: of a long one only the first bytes are kept.
+/// All answers are written out before a read that may have to wait, so a sender that waits for an answer gets it. The map
+/// begins empty. A line may have any length: of a long one only the first bytes are kept.
 pub fn serve<R: Read + Drop, W: Write + Drop>(
     alloc: Global,
     reader: R,
