@@ -82,82 +82,203 @@ pub(crate) trait Map<K: Lawful>: PartialEq + Drop {
     fn shrink(&mut self) -> u64;
 }
 
-// Each map has these calls, but for what takes a pair out and what all pairs are drained by.
-macro_rules! impl_map {
-    ($map:ident<K $(, $limit:ident)?>, $take:ident, drain($($all:tt)?)) => {
-        impl<K: Lawful $(, const $limit: usize)?> Map<K> for $map<K $(, $limit)?> {
-            fn empty(alloc: Global) -> Self {
-                $map::new(alloc)
-            }
+impl<K: Lawful, const N: usize> Map<K> for AtLimit<K, N> {
+    fn empty(alloc: Global) -> Self {
+        SizedHashMap::new(alloc)
+    }
 
-            fn of_pairs(alloc: Global, pairs: Vec<(K, u64)>) -> io::Result<Self> {
-                Ok($map::from_iter(alloc, pairs)?)
-            }
+    fn of_pairs(alloc: Global, pairs: Vec<(K, u64)>) -> io::Result<Self> {
+        Ok(SizedHashMap::from_iter(alloc, pairs)?)
+    }
 
-            fn add_all(&mut self, pairs: Vec<(K, u64)>) -> io::Result<()> {
-                Ok(self.extend(pairs)?)
-            }
+    fn add_all(&mut self, pairs: Vec<(K, u64)>) -> io::Result<()> {
+        Ok(self.extend(pairs)?)
+    }
 
-            fn len(&self) -> usize {
-                $map::len(self)
-            }
+    fn len(&self) -> usize {
+        SizedHashMap::len(self)
+    }
 
-            #[inline(always)]
-            fn insert(&mut self, key: K, value: u64) -> io::Result<Option<u64>> {
-                Ok($map::insert(self, key, value)?)
-            }
+    #[inline(always)]
+    fn insert(&mut self, key: K, value: u64) -> io::Result<Option<u64>> {
+        Ok(SizedHashMap::insert(self, key, value)?)
+    }
 
-            fn value_of(&self, key: &K) -> Option<u64> {
-                self.get(key).copied()
-            }
+    fn value_of(&self, key: &K) -> Option<u64> {
+        self.get(key).copied()
+    }
 
-            fn take(&mut self, key: &K) -> Option<(K, u64)> {
-                self.$take(key)
-            }
+    fn take(&mut self, key: &K) -> Option<(K, u64)> {
+        self.remove_entry(key)
+    }
 
-            fn count(&mut self, key: K) -> io::Result<()> {
-                let count = self.entry(key)?.or_insert(0);
-                *count = count.wrapping_add(1);
-                Ok(())
-            }
+    fn count(&mut self, key: K) -> io::Result<()> {
+        let count = self.entry(key)?.or_insert(0);
+        *count = count.wrapping_add(1);
+        Ok(())
+    }
 
-            fn sum(&self) -> u64 {
-                sum!(self.iter(), value => *value)
-            }
+    fn sum(&self) -> u64 {
+        sum!(self.iter(), value => *value)
+    }
 
-            fn raise(&mut self) -> u64 {
-                for value in self.values_mut() {
-                    *value = value.wrapping_add(1);
-                }
-                self.len() as u64
-            }
-
-            fn copy(&self) -> io::Result<Self> {
-                Ok(self.clone()?)
-            }
-
-            fn keep_even(&mut self) -> u64 {
-                self.retain(|_, value| *value % 2 == 0);
-                self.len() as u64
-            }
-
-            fn drained(&mut self) -> u64 {
-                sum!(self.drain($($all)?), value => value)
-            }
-
-            fn shrink(&mut self) -> u64 {
-                self.shrink_to_fit();
-                self.len() as u64
-            }
+    fn raise(&mut self) -> u64 {
+        for value in self.values_mut() {
+            *value = value.wrapping_add(1);
         }
-    };
+        self.len() as u64
+    }
+
+    fn copy(&self) -> io::Result<Self> {
+        Ok(SizedHashMap::clone(self)?)
+    }
+
+    fn keep_even(&mut self) -> u64 {
+        self.retain(|_, value| *value % 2 == 0);
+        self.len() as u64
+    }
+
+    fn drained(&mut self) -> u64 {
+        sum!(self.drain(), value => value)
+    }
+
+    fn shrink(&mut self) -> u64 {
+        self.shrink_to_fit();
+        self.len() as u64
+    }
 }
 
-impl_map!(AtLimit<K, N>, remove_entry, drain());
+impl<K: Lawful> Map<K> for OfStd<K> {
+    fn empty(alloc: Global) -> Self {
+        HashMap::new(alloc)
+    }
 
-impl_map!(OfStd<K>, remove_entry, drain());
+    fn of_pairs(alloc: Global, pairs: Vec<(K, u64)>) -> io::Result<Self> {
+        Ok(HashMap::from_iter(alloc, pairs)?)
+    }
 
-impl_map!(OfIndex<K>, swap_remove_entry, drain(..));
+    fn add_all(&mut self, pairs: Vec<(K, u64)>) -> io::Result<()> {
+        Ok(self.extend(pairs)?)
+    }
+
+    fn len(&self) -> usize {
+        HashMap::len(self)
+    }
+
+    #[inline(always)]
+    fn insert(&mut self, key: K, value: u64) -> io::Result<Option<u64>> {
+        Ok(HashMap::insert(self, key, value)?)
+    }
+
+    fn value_of(&self, key: &K) -> Option<u64> {
+        self.get(key).copied()
+    }
+
+    fn take(&mut self, key: &K) -> Option<(K, u64)> {
+        self.remove_entry(key)
+    }
+
+    fn count(&mut self, key: K) -> io::Result<()> {
+        let count = self.entry(key)?.or_insert(0);
+        *count = count.wrapping_add(1);
+        Ok(())
+    }
+
+    fn sum(&self) -> u64 {
+        sum!(self.iter(), value => *value)
+    }
+
+    fn raise(&mut self) -> u64 {
+        for value in self.values_mut() {
+            *value = value.wrapping_add(1);
+        }
+        self.len() as u64
+    }
+
+    fn copy(&self) -> io::Result<Self> {
+        Ok(self.clone()?)
+    }
+
+    fn keep_even(&mut self) -> u64 {
+        self.retain(|_, value| *value % 2 == 0);
+        self.len() as u64
+    }
+
+    fn drained(&mut self) -> u64 {
+        sum!(self.drain(), value => value)
+    }
+
+    fn shrink(&mut self) -> u64 {
+        self.shrink_to_fit();
+        self.len() as u64
+    }
+}
+
+impl<K: Lawful> Map<K> for OfIndex<K> {
+    fn empty(alloc: Global) -> Self {
+        IndexMap::new(alloc)
+    }
+
+    fn of_pairs(alloc: Global, pairs: Vec<(K, u64)>) -> io::Result<Self> {
+        Ok(IndexMap::from_iter(alloc, pairs)?)
+    }
+
+    fn add_all(&mut self, pairs: Vec<(K, u64)>) -> io::Result<()> {
+        Ok(self.extend(pairs)?)
+    }
+
+    fn len(&self) -> usize {
+        IndexMap::len(self)
+    }
+
+    #[inline(always)]
+    fn insert(&mut self, key: K, value: u64) -> io::Result<Option<u64>> {
+        Ok(IndexMap::insert(self, key, value)?)
+    }
+
+    fn value_of(&self, key: &K) -> Option<u64> {
+        self.get(key).copied()
+    }
+
+    fn take(&mut self, key: &K) -> Option<(K, u64)> {
+        self.swap_remove_entry(key)
+    }
+
+    fn count(&mut self, key: K) -> io::Result<()> {
+        let count = self.entry(key)?.or_insert(0);
+        *count = count.wrapping_add(1);
+        Ok(())
+    }
+
+    fn sum(&self) -> u64 {
+        sum!(self.iter(), value => *value)
+    }
+
+    fn raise(&mut self) -> u64 {
+        for value in self.values_mut() {
+            *value = value.wrapping_add(1);
+        }
+        self.len() as u64
+    }
+
+    fn copy(&self) -> io::Result<Self> {
+        Ok(self.clone()?)
+    }
+
+    fn keep_even(&mut self) -> u64 {
+        self.retain(|_, value| *value % 2 == 0);
+        self.len() as u64
+    }
+
+    fn drained(&mut self) -> u64 {
+        sum!(self.drain(..), value => value)
+    }
+
+    fn shrink(&mut self) -> u64 {
+        self.shrink_to_fit();
+        self.len() as u64
+    }
+}
 
 /// Maps of the keys of the numbers below the size, each with its number.
 pub(crate) fn many_filled<K: Key, M: Map<K>>(
