@@ -51,7 +51,7 @@ RULES = (
      r"|\b(?:Add|Sub|Mul|Div|Rem|Neg|Not|Bit\w+|Sh[lr]|\w+Assign|Deref\w*|Index\w*|Fn\w*|AsRef|Borrow)\b(?:<[^{}]*>)? for\b"
      r"|(?<!')\bstatic\b|\bunsafe\b|\b(?:Ref)?Cell\b|\bAtomic"),
     ("Counted work is done in these places.", "32 65 0 0 0 8 0 0", rf"\b(?:{WORK}|read|\w+_counted)\("),
-    ("What does work is called by its name alone: nothing stands between that and its bracket.", "9 6 0 0 0 0 0 0",
+    ("What does work is called by its name alone: nothing, or a helper's types, stands between that and its bracket.", "9 6 0 0 0 0 0 0",
      rf"(?<!mod )\b(?:{WORK})\b(?!\()|[.:]read\b(?!\()|[=(,:] ?(?=\w+_)(?:HELPER)\b(?!(?:::<[^()]*>)?\()|[\w>]::[a-z]\w*(?![\w:(!])"),
     ("What no user can call, and what goes through a text or a map, is called in these places.", "110 80 7 5 22 14 5 25",
      r"(?<!fn )\b(?:HELPER|count_words|report|pointer|parse|from_utf8|flush|into|move_to|retain)(?:::<[^()]*>)?\("),

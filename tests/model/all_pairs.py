@@ -60,7 +60,7 @@ def collect(a, items, limit=None, hint=None):
 
 
 def from_array(a, items, limit=None):
-    """Its array is memory."""
+    """Its pairs first go into a vector, which takes memory unless there are none."""
     if items:
         a.work.request(1)
     return collect(a, items, limit)
@@ -134,7 +134,7 @@ OF_A_CALLS = {
     "from_iter_hint SIZE ITEMS": lambda a, hint, items: collect(a, items, hint=hint),
     "from_array ITEMS": from_array,
     # Without pairs there is no array.
-    "hashmap ITEMS": lambda a, items: (from_array if items else collect)(a, items, HASH_MAP_LIMIT),
+    "hashmap ITEMS": lambda a, items: from_array(a, items, HASH_MAP_LIMIT),
     "collect ITEMS": collect,
     "made MAKER ITEMS": made,
 }

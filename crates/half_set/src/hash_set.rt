@@ -24,9 +24,9 @@ use std::alloc::Global;
 use std::hash::Hash;
 use std::marker::Model;
 
-/// A set. Up to 32 values stand in a vector, which is searched by `==`, and nothing is hashed. The next insertion moves them into
-/// a hash table, where a search hashes the value once; no removal moves them back. Contracts see a set as the list of its values,
-/// in order.
+/// A set. Up to 32 values stand in a vector, which is searched by `==`, and nothing is hashed. An insertion into a vector of 32,
+/// even of a held value, moves them into a hash table, where a search hashes the value once; no removal moves them back.
+/// Contracts see a set as the list of its values, in order.
 ///
 /// ```
 /// let mut names = HashSet::<String>::new(alloc);

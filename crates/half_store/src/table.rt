@@ -29,9 +29,10 @@ use std::marker::Model;
 
 /// Buckets that lead from a hash to the entry indices of the pairs that have it.
 ///
-/// Entry indices count up in the order of insertion. `remove` and `take` give the last pair the index that became free, and
-/// `shift_remove` gives each pair behind it the index before its own. There are no buckets, or a power of two from 4 on, and
-/// the load factor is three quarters. A bucket takes four bytes where that is enough for as many pairs as fit, and else eight.
+/// Entry indices count up in the order of insertion. `remove` and `take` give the last pair the index that became free,
+/// `shift_remove` gives each pair behind the removed one the index before its own, and `retain` numbers the kept pairs anew. There
+/// are no buckets, or a power of two from 4 on, and the load factor is three quarters. A bucket takes four bytes where that is
+/// enough for as many pairs as fit, and else eight.
 #[derive(Drop)]
 pub struct Table {
     // 0 for an empty bucket, else the entry index and one more

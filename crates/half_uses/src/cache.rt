@@ -19,8 +19,8 @@ pub struct Hashed<K> {
 
 /// Values that are expensive to compute, by the keys that they are computed from.
 ///
-/// Each key is hashed once, by `hashed`. No other call hashes any: of the calls that change the cache their clause `hashes` says
-/// so, and of `get` its clause `cost`. The map is a table from the first value on, so no switch hashes again what is held.
+/// Each key is hashed once, by `hashed`. No other call hashes any: the clause `hashes` says so of each call that changes the cache,
+/// and the clause `cost` of `get`. The map is a table from the first value on, so no switch hashes again what is held.
 #[derive(Drop)]
 pub struct Cache<K: Eq + Hash, V, S: BuildHasher> {
     values: SizedHashMap<K, V, S, 0>,
@@ -85,7 +85,7 @@ impl<K: Eq + Hash, V, S: BuildHasher> Cache<K, V, S> {
         ensures cached { IfOk result (λ value. value_of K.eq self.new.pairs key.key ≡ Some value) }
         ensures others { OnOk result ((other : K) → K.eq key.key other ≡ false
             → value_of K.eq self.new.pairs other ≡ value_of K.eq self.old.pairs other) }
-        ensures hashes { OnOk result (tally.new.asked ≡ tally.old.asked) }
+        ensures hashes { tally.new.asked ≡ tally.old.asked }
         ensures builder { self.new.builder ≡ self.old.builder }
         ensures err { OnErr result (self.new ≡ self.old) }
     {
@@ -125,7 +125,7 @@ fn value_in<K: Eq + Hash + Drop, V: Copy, S: BuildHasher, F: FnOnce() -> V>(
     ensures cached { IfOk result (λ value. value_of K.eq values.new.pairs key ≡ Some value) }
     ensures others { OnOk result ((other : K) → K.eq key other ≡ false
         → value_of K.eq values.new.pairs other ≡ value_of K.eq values.old.pairs other) }
-    ensures hashes { OnOk result (tally.new.asked ≡ tally.old.asked) }
+    ensures hashes { tally.new.asked ≡ tally.old.asked }
     ensures builder { values.new.builder ≡ values.old.builder }
     ensures err { OnErr result (values.new ≡ values.old) }
 {

@@ -47,7 +47,7 @@ pub type HashMap<K, V, S = DefaultHashBuilder> = LimitedHashMap<K, V, S, AtMost<
 /// a key that is already held. Only `shrink_to_fit` turns it back, where no more pairs are held than the limit.
 ///
 /// In both forms the pairs keep the order of their insertion, until a removal moves the last pair to the index that
-/// became free, or, in a vector, `replace_entry_with` moves its pair to the end. `shift_remove` keeps the order, and
+/// became free, or, in a vector, `replace_entry_with` swaps its pair with the last. `shift_remove` keeps the order, and
 /// takes longer.
 ///
 /// A search in a vector compares keys in order, up to the one that it finds or a few more, and hashes nothing. A search

@@ -41,7 +41,7 @@ pub(super) fn remove_in<B: Words>(
     remove_at(buckets, hashes, index, bucket, tally)
 }
 
-/// `remove_in`, where the bucket of the pair is known: it does not read the buckets that a probe for it would read.
+/// `remove_in`, where the bucket of the pair is known: it makes no probe for that pair.
 #[inline(always)]
 fn remove_at<B: Words>(
     buckets: &mut B,
@@ -182,7 +182,7 @@ fn if_less(first: usize, second: usize, chosen: usize, other: usize) -> usize
 }
 
 /// Shifts pairs back into a bucket whose pair was removed, the gap. It goes up to the next empty bucket. Each pair on the way
-/// whose home bucket is not after the gap moves there, and its own bucket is the gap then. No gap is read; the last is emptied.
+/// whose home bucket is not after the gap moves into it, and leaves its own bucket as the gap. No gap is read; the last is emptied.
 fn backward_shift<B: Words>(buckets: &mut B, hashes: &[u64], removed: usize, tally: &mut Tally)
     requires count { IsBucketCount (length (B.words buckets.old)) }
     requires removed { IsIndexedWithGap hashes.now (slice_set (B.words buckets.old) removed 0)

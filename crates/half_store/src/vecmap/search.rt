@@ -31,8 +31,8 @@ pub(crate) fn first_match<K, F: Fn(&K) -> bool>(
     ensures first { IsFirstMatch (FnReturnsAt F.Fn matches.now) keys.now result }
     ensures work { ComparesInOrder scan result (length keys.now) tally.old tally.new }
 {
-    // Keys of at most eight bytes are small: to compare one costs less than a mispredicted branch. The prover knows only of keys
-    // that are there, and only of n times their size, that it fits a usize: hence the test for no keys, and the `1 *`.
+    // Keys of at most eight bytes are small: to compare one costs less than a mispredicted branch. The prover knows that n times
+    // the size of a key fits a usize only where there are n keys: hence the test for no keys, and the `1 *`.
     if let Scan::ByBlock = scan
         && !keys.is_empty()
         && 1 * size_of::<K>() <= 8

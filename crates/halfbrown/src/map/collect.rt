@@ -75,8 +75,9 @@ impl<K: Eq + Hash + Drop, V: Drop, S: KeyHasher<K> + Default + Drop, L: Limit> L
 
     /// Returns a map of these pairs, with the default of the builder's type, as `from_iter` makes it. `hashmap!` calls it.
     ///
-    /// It is made with capacity for all of them, and costs what their insertions cost. The pairs first go into a vector of
-    /// their own, so it also fails with `Memory` where that is refused. Of no pairs it needs no memory.
+    /// The map is made with capacity for all of them. The call costs what their insertions cost. The pairs first go into a
+    /// vector of their own, so it also fails with `Memory` where that is refused. For no pairs it needs no memory, and does
+    /// not fail.
     ///
     /// ```
     /// let ages = HashMap::<u64, u32>::from_array(alloc, [(1, 36), (2, 41)])?;
@@ -88,7 +89,8 @@ impl<K: Eq + Hash + Drop, V: Drop, S: KeyHasher<K> + Default + Drop, L: Limit> L
             ⊎ RefusedCollect L.LIMIT K.eq S.is_default N (AreFirst pairs) why) }
         ensures valid { IfOk result (IsValid L.LIMIT K.eq) }
     {
-        // What `into_iter` of an array requires depends on the size of a pair, which is not known.
+        // What `into_iter` of an array requires depends on the size of a pair, which is not known. So the pairs go through a
+        // vector.
         let pairs = to_vec(alloc, pairs)?;
         uncounted!(LimitedHashMap::collect(alloc, N, pairs.into_iter()))
     }
@@ -211,7 +213,7 @@ impl<K: Eq + Hash + Drop, V: Drop, S: KeyHasher<K>, L: Limit> Extend<(K, V)>
     }
 }
 
-/// Moves an array into a vector. Std's call takes memory for no items too.
+/// Moves an array into a vector. `Vec::from_array` takes memory even for no items.
 fn to_vec<T: Drop, const N: usize>(alloc: Global, items: [T; N]) -> Result<Vec<T>, AllocError>
     ensures items { IfOk result (λ list. list.items ≡ items) }
     ensures needed { OnErr result (0 < N) }
