@@ -17,7 +17,8 @@
 //! member `items`, and the empty path is the whole value. In a name `~1` stands for `/` and `~0` for `~`.
 //!
 //! A look-up compares a name with those of an object of up to 32 members. Once a member is set in an object of 32, also
-//! one that it has, look-ups hash the name. A step with an escape is compared with the names of all members. Only `parse`, `to_string`, `set` and `merge` take memory.
+//! one that it has, look-ups hash the name. A step with an escape is compared with the names of all members. Only `parse`,
+//! `to_string`, `set` and `merge` take memory.
 #![tactic(auto)]
 
 mod value;
