@@ -130,8 +130,8 @@ def aligned(program, output):
 def print_against(other, rounds, words, folder):
     """Prints how long this tree's maps take by those of another tree. Std's and indexmap's should be about 1.
 
-    Rows whose timed functions have the same machine code in both may still differ by a tenth, since what ran before them, such
-    as `many_filled`, has trained the branch predictor. Compare `objdump -d` of both before you look for a cause.
+    Rows whose timed functions have the same machine code in both may still differ by a tenth, where what makes their maps before,
+    such as `many_filled`, has not. Compare `objdump -d` of both before you look for a cause.
     """
     other = pathlib.Path(other).resolve() / "crates/half_bench/out/half_bench"
     if not other.exists():
