@@ -1,4 +1,4 @@
--- What contracts see of an entry, of a key or a raw one: its pair, and what the map is once that is written, added or taken out.
+-- What contracts see of an entry, of a key, at an index or a raw one: its pair, and what the map is once that is written, added or taken out.
 use Rattle.std.specs.Prelude.{◌≡◌, ℕ, Bool, true, false, List, [], ◌∷◌, ◌++◌, slice_get, Option, None, Some, IfSome, is_some, unwrap_or}
 use Rattle.std.specs.Borrow.{MutBor}
 use Rattle.std.specs.Map.{keys_of, values_of, lookup, lookup_entry}

@@ -80,7 +80,20 @@ pub(crate) fn build_hashed<K: Key, const N: usize>(
     Ok(sum)
 }
 
-/// Makes a map of each list, and keeps it.
+/// Makes a map of each list by `insert`, pair by pair, in a loop of its own, and keeps it.
+#[inline(never)]
+pub(crate) fn insert<K: Key, M: Map<K>>(given: &mut Given<K, M, (K, u64)>) -> io::Result<u64> {
+    for pairs in mem::replace(&mut given.lists, Vec::new(given.alloc)) {
+        let mut map = M::empty(given.alloc);
+        for (key, value) in pairs {
+            map.insert(key, value)?;
+        }
+        given.others.push(map)?;
+    }
+    Ok(0)
+}
+
+/// Makes a map of each list by `from_iter`, and keeps it.
 #[inline(never)]
 pub(crate) fn collect<K: Key, M: Map<K>>(given: &mut Given<K, M, (K, u64)>) -> io::Result<u64> {
     for pairs in mem::replace(&mut given.lists, Vec::new(given.alloc)) {

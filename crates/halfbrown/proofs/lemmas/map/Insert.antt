@@ -3,12 +3,17 @@ use Rattle.halfbrown.proofs.Common.{◌≡◌, ℕ, Bool, arith, List, Option, S
 use Rattle.halfbrown.proofs.Common.{WithPairs, IsValid}
 use Rattle.std.proofs.Common.{Ok}
 use Rattle.halfbrown.specs.Growth.{new_key_needs}
-use Rattle.halfbrown.specs.Insertion.{InsertsAt, InsertsNewKey}
+use Rattle.halfbrown.specs.Insertion.{Inserts, InsertsAt, InsertsNewKey}
 use Rattle.halfbrown.specs.Pairs.{index_of}
 use Rattle.halfbrown.proofs.callers.Pairs.{has_put}
 
 module _ {K V S : Type 0} (limit : ℕ) (eq : K → K → Bool) (laws : IsEquivalence eq) (old middle new : State K V S) (k : K) (v : V)
     (ps : List (K × V)) (written : WithPairs middle ps new) (put_is : put eq middle.pairs k v ≡ ps) where
+  -- a granted insertion, by the value that the key had in the map that was prepared
+  pub inserted : Prepares limit old (insert_needs limit eq old k) middle → (before : Option V)
+      → before ≡ value_of eq middle.pairs k → IsValid limit eq new → Inserts limit eq old k v (Ok before) new
+  inserted prepared before was now = grind (arith, common_steps, has_put eq laws old.pairs k v)
+
   -- a granted insertion, by the index of the pair and the value that the key had in the map that was prepared
   pub inserted_at : Prepares limit old (insert_needs limit eq old k) middle → (index : ℕ) (before : Option V)
       → before ≡ value_of eq middle.pairs k → index_of (eq k) (keys_of ps) ≡ Some index
