@@ -37,11 +37,12 @@ OPERATIONS = (
     " extend equal shrink_to_fit"
 ).split()
 OTHERS = ["memory", "reads", "halfmap", "word_count"]
-# Pairs in all maps whose memory is measured, lines that halfmap reads, and words that word_count counts.
+# Pairs in all maps whose memory is measured, lines that halfmap reads, and keys that it holds at look-ups.
 PAIRS = LINES = 1_000_000
 HELD = 100_000
 # Pairs and buckets of a full table, whose probes are counted.
 FULL, BUCKETS = 3 << 16, 4 << 16
+# Words that word_count counts, and how many of them differ.
 WORDS, DIFFERING = 2_000_000, 50_000
 
 Place = collections.namedtuple("Place", "operation keys pairs")
@@ -273,7 +274,9 @@ def print_machine(seconds):
 
 def main():
     began, words = time.monotonic(), sys.argv[1:]
-    other = words[1] if words[:1] == ["--against"] and len(words) > 1 else None
+    if words == ["--against"]:
+        sys.exit("--against: with which tree? Give its folder")
+    other = words[1] if words[:1] == ["--against"] else None
     words = words[2:] if other else words
     # A size is a number too, so the rounds are told by their place.
     rounds = int(words.pop(0)) if words and words[0].isdigit() else 9

@@ -71,8 +71,11 @@ def some_path(chance, value):
 
 
 def answer(text, path):
+    """What the program prints, None where it refuses, and else how it ended, which is no answer."""
     done = subprocess.run([PROGRAM, path], input=text.encode(), capture_output=True)
-    return done.stdout.decode().removesuffix("\n") if done.returncode == 0 else None
+    if done.returncode == 1 and done.stderr.startswith(b"json_at: "):
+        return None
+    return done.stdout.decode().removesuffix("\n") if done.returncode == 0 else done
 
 
 def files(chance):

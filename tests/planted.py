@@ -80,11 +80,19 @@ def said_by_script(script, folder):
     return [line for line in ran.stdout.splitlines() if script in line]
 
 
+@functools.cache
+def found_unedited(search):
+    """What the search of the sources finds where nothing is planted: nothing, unless they are wrong."""
+    return subprocess.run([search], capture_output=True, text=True).stdout.splitlines()
+
+
 def said_by_search(search, folder, edit):
+    """What the search finds in the edited file, and not without the edit."""
     (folder / "tests").mkdir()
     ran = subprocess.run([shutil.copy(search, folder / "tests")], capture_output=True, text=True)
     place = edit.place.replace("/", "/src/", 1)
-    return [line for line in ran.stdout.splitlines() if place in line] if ran.returncode else []
+    found = [line for line in ran.stdout.splitlines() if line not in found_unedited(search)]
+    return [line for line in found if place in line] if ran.returncode else []
 
 
 def said_by_tests(folder):

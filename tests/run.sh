@@ -40,5 +40,5 @@ statuses=("${PIPESTATUS[@]}")
 status=${statuses[0]}
 [ "$status" -ne 0 ] || status=${statuses[1]}
 [ "${statuses[1]}" -eq 141 ] || [ "$status" -eq 0 ] ||
-    fails "halfmap ended with status $status (1: its input or its output was closed, or the disk was full)"
+    fails "halfmap ended with status $status (1: its input or its output was closed, the disk was full, or it got no memory at its start)"
 rm "$why"

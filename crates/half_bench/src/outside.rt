@@ -38,7 +38,9 @@ fn hold_maps<K: Key, M: Map<K>>(
 pub(crate) fn count(rt: &(impl Print + Input + AllocGlobal), map: &str) -> io::Result<()> {
     let mut bytes = Vec::new(rt.alloc());
     rt.reader().read_to_end(&mut bytes)?;
-    let text = str::from_utf8(bytes.as_slice()).ok().ok_or(unknown())?;
+    let text = str::from_utf8(bytes.as_slice())
+        .ok()
+        .ok_or(io::Error::other("the input is not UTF-8"))?;
     let count = differing_by(rt.alloc(), map, text)?;
     println!(rt; "{count}")
 }

@@ -58,7 +58,7 @@ fn replacing<K: Key>(
     Ok(())
 }
 
-// A table that has memory for this many pairs, once each of its pairs was replaced, and the numbers of its keys.
+// A table that has memory for this many pairs, after as many replacements as it has pairs, and the numbers of its keys.
 fn replaced<K: Key>(alloc: Global, capacity: usize, pairs: u64) -> io::Result<(Table, Vec<u64>)> {
     let mut table = Table::with_capacity(alloc, capacity)?;
     let mut held: Vec<u64> = (0..pairs).collect(alloc)?;
@@ -94,7 +94,7 @@ fn print_row<K: Key>(
 
 /// Fills a table that has memory for this many pairs, and prints at a third, a half, two thirds, five sixths and all of
 /// them: the pairs, the buckets that as many searches for other keys read, those that the insertions have read, and those
-/// that one search for each pair reads in such a table whose pairs were replaced.
+/// that one search for each pair reads in such a table after as many replacements.
 pub(crate) fn print<K: Key>(rt: &(impl Print + AllocGlobal), capacity: u64) -> io::Result<()> {
     let alloc = rt.alloc();
     let mut table = Table::with_capacity(alloc, capacity as usize)?;

@@ -6,8 +6,8 @@ ghost use Rattle.half_store.specs.Work.{looked_more};
 use crate::Tally;
 use crate::words::Words;
 
-/// Buckets that tell their stored hashes and their entry indices. Probes read buckets through this trait alone, so a test can hand
-/// them buckets that count how often they are read.
+/// Buckets that tell their stored hashes and their entry indices. Searches and insertion probes read buckets through this trait
+/// alone, so a test can hand them buckets that count how often they are read. A removal reads their words.
 pub trait Buckets {
     // the stored hashes, by entry index
     ghost hashes: { Self → List ℕ };

@@ -17,7 +17,7 @@ pub trait Words {
     // the words
     ghost words: { Self → List ℕ };
 
-    // the greatest word that fits
+    // the greatest word that fits; of eight bytes, that of the most pairs that a table has memory for
     ghost most: { Self → ℕ };
 
     /// How many there are.
@@ -127,7 +127,7 @@ impl Words for WordVec<usize> {
     }
 }
 
-/// The largest capacity whose buckets take four bytes.
+/// Up to this capacity the words of buckets take four bytes.
 const MOST_IN_FOUR_BYTES: usize = u32::MAX as usize;
 
 /// The words of a table's buckets.

@@ -33,7 +33,7 @@ module _ {K V S : Type 0} where
   abbrev pub entry_value : EntryView K V S → Option V
   entry_value entry = option_and_then (slice_get (values_of (map_of entry).pairs)) entry.index
 
-  -- the stored key, where it has a pair, else the key that the entry was made for; a vacant raw entry has none
+  -- the stored key, where it has a pair, else the key of the pair that can be added; a vacant raw entry has none
   abbrev pub entry_key : EntryView K V S → Option K
   entry_key entry = option_map_or (slice_get (keys_of (map_of entry).pairs)) entry.index (option_map (λ new. new.0) entry.vacant)
 

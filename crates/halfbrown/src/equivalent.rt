@@ -18,8 +18,8 @@ use std::rc::RcStr;
 
 /// A query for a key: what `get`, `remove` and similar calls take.
 ///
-/// A `&K` is one for any keys, a `&str` for text keys, and a `&[T]` for keys that own a slice. So in a map of `String`
-/// keys a text is looked up without an allocation:
+/// A `&K` is one for any keys, a `&str` for text keys, and a `&[T]` for keys that are or own a slice. So in a map of
+/// `String` keys a text is looked up without an allocation:
 ///
 /// ```
 /// let mut people = HashMap::<String, u32>::new(alloc);

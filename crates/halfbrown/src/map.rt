@@ -44,15 +44,17 @@ pub type HashMap<K, V, S = DefaultHashBuilder> = LimitedHashMap<K, V, S, AtMost<
 
 /// A map in two forms. Up to the limit its pairs are stored in a vector, which is searched by `==`, and nothing is
 /// hashed. A full vector becomes a hash table at the next insertion, `entry` or `raw_entry_mut` that succeeds, even for
-/// a key that is already held. Only `shrink_to_fit` turns it back, where no more pairs are held than the limit.
+/// a key that is already held, and a map that is made with capacity for more pairs is a table at once. Only
+/// `shrink_to_fit` turns it back, where no more pairs are held than the limit, and a `Drain` that is forgotten.
 ///
 /// In both forms the pairs keep the order of their insertion, until a removal moves the last pair to the index that
 /// became free, or, in a vector, `replace_entry_with` swaps its pair with the last. `shift_remove` keeps the order, and
 /// takes longer.
 ///
-/// A search in a vector compares keys in order, up to the one that it finds or a few more, and hashes nothing. A search
-/// in a table hashes the key once, probes from its home bucket on, and compares only keys of the same hash. How many
-/// buckets it reads where it finds nothing is decided by the home buckets of the held keys, whatever the history.
+/// A search in a vector compares keys up to the first that is equal, or, where keys have at most eight bytes, up to 15
+/// more, and hashes nothing. A search in a table hashes the key once, probes from its home bucket on, and compares only
+/// keys of the same hash. How many buckets it reads where it finds nothing is decided by the home buckets of the held
+/// keys, whatever the history.
 ///
 /// Its limit `L` is a type, `AtMost<8>` for 8 pairs. `SizedHashMap` takes the number instead. A function of maps of
 /// every limit has `L: Limit` as a parameter. Most users need neither, and write `HashMap`.

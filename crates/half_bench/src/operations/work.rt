@@ -1,4 +1,4 @@
-//! The work, which is timed. Each returns a number that depends on all its answers.
+//! The work, which is timed. Each returns a number made of its answers, or 0 where it leaves maps, whose values are summed.
 use super::given::Given;
 use crate::hashed::{Filled, Hashed, value_by_hash};
 use crate::keys::Key;

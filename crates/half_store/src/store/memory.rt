@@ -51,7 +51,7 @@ impl<K, V> Store<K, V> {
         })
     }
 
-    /// For how many elements each array has memory.
+    /// For how many elements each array has memory. No map calls this: its clauses tie `bytes` to what the arrays take.
     pub fn arrays(&self) -> Arrays
         ensures each { result ≡ arrays_of self.now.is_vec self.now.capacity }
         ensures bytes { (key value : ℕ) → bytes_of key value result

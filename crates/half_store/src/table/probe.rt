@@ -1,5 +1,5 @@
-//! Linear probing: from the home bucket of a hash upwards. A probe reads stored hashes and nothing else, and counts each
-//! bucket that it reads.
+//! Linear probing: from the home bucket of a hash upwards. A probe counts each bucket that it reads, and compares only keys
+//! whose stored hash is the same.
 #![tactic(auto, using(crate::proofs::lemmas::table::Probe::probe_steps))]
 
 ghost use Rattle.std.specs.Prelude.{◌≡◌, ◌+◌, ◌<◌, ◌≤◌, true, length, slice_index, IfOk, IfErr, OnOk, OnErr};

@@ -90,7 +90,7 @@ impl<K, V> Columns<K, V> {
     }
 
     /// Grows to the capacity of an empty table, into which the pairs of this one move. They move before the values do, so that
-    /// the buckets and the values are not both there twice. On error nothing changes.
+    /// the buckets and the values are not both filled twice at a time. On error nothing changes.
     pub(crate) fn grow_with_table(
         &mut self,
         table: &mut Table,

@@ -1,4 +1,4 @@
-//! A search from first to last.
+//! A search for the first key that matches.
 ghost use Rattle.std.specs.Prelude.{◌≡◌, ℕ, ◌-◌, ◌<◌, ◌≤◌, true, false, length};
 ghost use Rattle.std.specs.Fn.{FnReturnsAt};
 ghost use Rattle.half_store.specs.Search.{CallableOnKeys, ReturnsAt, IsFirstMatch, ComparesInOrder};
@@ -12,7 +12,8 @@ use crate::{Tally, counting};
 pub enum Scan {
     /// Key by key, no further than the first that matches.
     ByKey,
-    /// Small keys a block at a time, and no further than the block of the first that matches. Others key by key.
+    /// Small keys a block at a time, each from its last key to its first, and no further than the block of the first that
+    /// matches. Others key by key.
     ByBlock,
 }
 

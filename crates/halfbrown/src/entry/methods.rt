@@ -15,7 +15,7 @@ use crate::{KeyHasher, Limit};
 use std::hash::Hash;
 
 impl<'a, K: Eq + Hash, V, S: KeyHasher<K>, L: Limit> Entry<'a, K, V, S, L> {
-    /// Returns the stored key where it is held, else the key that the entry was made for.
+    /// Returns the stored key where it is held, else the key of the pair that can be added.
     ///
     /// ```
     /// assert_eq!(rt; *ages.entry(1)?.key(), 1);

@@ -15,7 +15,8 @@ use crate::{KeyHasher, Limit};
 use std::hash::Hash;
 
 impl<'a, K: Eq + Hash, V, S: KeyHasher<K>, L: Limit> VacantEntry<'a, K, V, S, L> {
-    /// Returns the key that the entry was made for.
+    /// Returns the key of the pair that can be added: the given one, or the stored one where `replace_entry_with` has
+    /// removed its pair.
     ///
     /// ```
     /// assert_eq!(rt; *entry.key(), 3);
@@ -27,7 +28,7 @@ impl<'a, K: Eq + Hash, V, S: KeyHasher<K>, L: Limit> VacantEntry<'a, K, V, S, L>
         &self.key
     }
 
-    /// Returns the key that the entry was made for. The map stays as it is.
+    /// Returns the key of the pair that can be added. The map stays as it is.
     ///
     /// ```
     /// assert_eq!(rt; entry.into_key(), 3);
@@ -59,7 +60,7 @@ impl<'a, K: Eq + Hash, V, S: KeyHasher<K>, L: Limit> VacantEntry<'a, K, V, S, L>
     }
 
     /// Adds the pair at the end, and returns its value, to be written for as long as the map is borrowed. It needs no
-    /// more capacity and probes nothing: in a table the pair goes into the bucket where the search for the key ended.
+    /// more capacity and probes nothing: in a table the pair goes into the bucket that was found for it when the entry was made.
     ///
     /// ```
     /// *entry.insert(0) = 5;

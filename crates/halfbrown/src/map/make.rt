@@ -46,7 +46,8 @@ impl<K: Eq + Hash, V, L: Limit> LimitedHashMap<K, V, DefaultHashBuilder, L> {
     }
 
     /// Returns an empty vector with the default builder and capacity for this many pairs, or for as many as the limit
-    /// allows. It still becomes a table at the limit. Fails as `with_capacity` does.
+    /// allows. It still becomes a table at the limit. Fails as `with_capacity` does for the smaller of both
+    /// numbers.
     ///
     /// ```
     /// let ages = HashMap::<u64, u32>::vec_with_capacity(alloc, 100)?;

@@ -16,7 +16,7 @@ impl<'a, K: Eq + Hash, V, S: KeyHasher<K>, L: Limit> Debug for RawEntryBuilderMu
     }
 }
 
-// The pair that was found, under the name that is printed for its entry.
+// The pair that was found, under the alias of its entry, whose own name is `OccupiedEntry`.
 #[derive(Debug, Drop)]
 struct RawOccupiedEntryMut<'b, K, V> {
     key: &'b K,
