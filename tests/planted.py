@@ -82,7 +82,7 @@ def said_by_script(script, folder):
 
 @functools.cache
 def found_unedited(search):
-    """What the search of the sources finds where nothing is planted: nothing, unless they are wrong."""
+    """The lines that the search prints where nothing is planted."""
     return subprocess.run([search], capture_output=True, text=True).stdout.splitlines()
 
 

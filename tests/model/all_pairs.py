@@ -133,7 +133,6 @@ OF_A_CALLS = {
     "from_iter ITEMS": collect,
     "from_iter_hint SIZE ITEMS": lambda a, hint, items: collect(a, items, hint=hint),
     "from_array ITEMS": from_array,
-    # Without pairs there is no array.
     "hashmap ITEMS": lambda a, items: from_array(a, items, HASH_MAP_LIMIT),
     "collect ITEMS": collect,
     "made MAKER ITEMS": made,
