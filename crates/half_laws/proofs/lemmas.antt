@@ -6,3 +6,4 @@ pub mod hits
 pub mod probes
 pub mod runs
 pub mod searches
+pub mod tails

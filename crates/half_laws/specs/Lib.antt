@@ -4,6 +4,7 @@ pub mod MapLaws
 pub mod MeanLaws
 pub mod ProbeLaws
 pub mod RunLaws
+pub mod TailLaws
 -- What callers need of the words below, so that they list this crate alone.
 pub use Rattle.half_store.specs.Capacity
 pub use Rattle.half_store.specs.Work

@@ -8,3 +8,7 @@ pub mod Homes
 pub mod Means
 pub mod Filling
 pub mod Least
+pub mod Powers
+pub mod Crowds
+pub mod Tail
+pub mod TailLaws

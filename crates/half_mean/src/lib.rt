@@ -6,6 +6,7 @@ ghost use Rattle.std.specs.Prelude.{◌≡◌, ◌+◌};
 ghost use Rattle.half_mean.specs.Mean.{total_reach, total_filling, knuth_sum, MeanCasesLaw, ExactMeanLaw, KnuthRecursionLaw};
 ghost use Rattle.half_mean.specs.Mean.{HomesMeanLaw, MeanReachLaw, HalfFullMeanLaw, CapacityMeanLaw, MeanFillingLaw, HalfFullFillingLaw};
 ghost use Rattle.half_mean.specs.Mean.{CapacityFillingLaw, IsLeastOver};
+ghost use Rattle.half_mean.specs.Tail.{long_probes, long_tables, TailLaw, LongestLaw, HalfFullTailLaw, CapacityTailLaw, HalfFullLongestLaw, CapacityLongestLaw};
 
 /// There are `hashes ^ held` lists of `held` hashes below `hashes`. A mean is the total over all cases by their number: for
 /// a probe each list with each searched hash, and for a filling each list with each of its insertions.
@@ -34,6 +35,24 @@ pub fn mean_of_a_filling()
     ensures within_capacity { CapacityFillingLaw 5 2 }
 {}
 
+/// Where all lists of held hashes are equally likely, and all searched hashes, few probes that find nothing are long. If at least
+/// one bucket of `k` is empty, more than `d` buckets are read in at most `(1 - 1 / D)^d` of all cases, where `D` is `k * (2 * k -
+/// 1)`: 6 up to the half of a table, and 28 up to the capacity. So each 4 buckets more, up to the half, and each 20, up to
+/// the capacity, halve the bound.
+pub fn tail_of_a_probe()
+    ensures bound { TailLaw }
+    ensures half_full { HalfFullTailLaw 4 }
+    ensures within_capacity { CapacityTailLaw 20 }
+{}
+
+/// In few tables any probe is long: in a table of `2^b` buckets no probe reads more than `4 * (b + s)` buckets up to its half, and
+/// `20 * (b + s)` up to its capacity, except for one of `2^s` lists of held hashes.
+pub fn longest_probe_of_a_table()
+    ensures bound { LongestLaw }
+    ensures half_full { HalfFullLongestLaw 4 }
+    ensures within_capacity { CapacityLongestLaw 20 }
+{}
+
 /// These are the least of all halves that hold: 2.5 and 8.5 of a probe, and 1.5 and 2.5 of a filling. Probes of tables of 16
 /// and 512 buckets break smaller ones, and fillings of 4 and 64.
 pub fn bounds_are_least()
@@ -44,11 +63,14 @@ pub fn bounds_are_least()
 {}
 
 /// The totals of small tables, added up one by one: all probes of the tables of 4 buckets with 2 and 3 pairs, and of 8 with
-/// one, and all insertions that put 2 pairs into 4 buckets. 72 is half of `8^2` and of Knuth's sum, which is 80.
+/// one, and all insertions that put 2 pairs into 4 buckets. 72 is half of `8^2` and of Knuth's sum, which is 80. Of the 256 probes
+/// of 4 buckets with 3 pairs 128 read more than 2 buckets, and of the 16 tables with 2 pairs 12 have such a probe.
 pub fn totals_of_small_tables()
     ensures two_of_four { total_reach 4 4 2 ≡ 108 }
     ensures three_of_four { total_reach 4 4 3 ≡ 640 }
     ensures one_of_eight { total_reach 8 8 1 ≡ 72 }
     ensures filled { total_filling 4 4 2 ≡ 36 }
+    ensures long { long_probes 4 4 3 2 ≡ 128 }
+    ensures longest { long_tables 4 4 2 2 ≡ 12 }
     ensures knuths_sum { knuth_sum (λ k. k + 1) 8 1 ≡ 80 }
 {}

@@ -42,7 +42,7 @@ buckets-more capacity is some =
     omega arith
 
 -- a search in a table reads at most an unsuccessful probe
-looks_most : (held : Bool) (probe : ℕ) → (if held then between 1 (probe - 1) else exactly probe).greatest ≤ probe
+pub looks_most : (held : Bool) (probe : ℕ) → (if held then between 1 (probe - 1) else exactly probe).greatest ≤ probe
 looks_most held probe = grind (arith, common_steps)
 
 -- a range of one number

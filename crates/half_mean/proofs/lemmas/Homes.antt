@@ -10,7 +10,7 @@ use Rattle.half_mean.specs.Mean.{sum_below, sum_lists, total_reach, total_fillin
 use Rattle.half_mean.proofs.lemmas.Sums.{below-same, below-times, lists-times}
 
 -- the homes of a list
-abbrev homes : ℕ → List ℕ → List ℕ
+abbrev pub homes : ℕ → List ℕ → List ℕ
 homes m w = map (home m) w
 
 load-homes : (m : ℕ) (w : List ℕ) (last size : ℕ) → load w m last size ≡ load (homes m w) m last size
@@ -22,14 +22,14 @@ load-homes m (x ∷ w) last size =
     ∙ (λ i. tick (nat_lt (probe_distance m (sym (mod-mod x m) i) last) size) + load-homes m w last size i)
     ∙ sym (sum_by-cons near (home m x) (homes m w))
 
-reach-homes : (m : ℕ) (w : List ℕ) (h : ℕ) → reach (homes m w) m h ≡ reach w m h
+pub reach-homes : (m : ℕ) (w : List ℕ) (h : ℕ) → reach (homes m w) m h ≡ reach w m h
 reach-homes m w h = reach-loads (homes m w) w m (load-homes m w) h
 
-reach-home : (m : ℕ) (w : List ℕ) (h : ℕ) → reach w m (home m h) ≡ reach w m h
+pub reach-home : (m : ℕ) (w : List ℕ) (h : ℕ) → reach w m (home m h) ≡ reach w m h
 unfolding reach
 reach-home m w h = rw mod-mod
 
-below-split : (a b : ℕ) (f : ℕ → ℕ) → sum_below (a + b) f ≡ sum_below a (λ k. f (k + b)) + sum_below b f
+pub below-split : (a b : ℕ) (f : ℕ → ℕ) → sum_below (a + b) f ≡ sum_below a (λ k. f (k + b)) + sum_below b f
 below-split zero b f = ap (λ n. sum_below n f) (zero-add b) ∙ sym (zero-add (sum_below b f))
 below-split (suc a) b f = ap (λ n. sum_below n f) (suc-add a b) ∙ ap (λ s. f (a + b) + s) (below-split a b f) ∙ omega arith
 
@@ -45,7 +45,7 @@ below-homes (suc share) m f free =
     ∙ (λ i. below-same m (λ k. f (k + turn)) f same i + rest i) ∙ omega arith
 
 module _ (share m : ℕ) where
-  lists-homes : (n : ℕ) (f : List ℕ → ℕ) → ((w : List ℕ) → f (homes m w) ≡ f w)
+  pub lists-homes : (n : ℕ) (f : List ℕ → ℕ) → ((w : List ℕ) → f (homes m w) ≡ f w)
       → sum_lists (share * m) n f ≡ share ^ n * sum_lists m n f
   lists-homes zero f free = sym (ap (λ s. s * f []) (pow-zero share) ∙ omega arith)
   lists-homes (suc n) f free =
@@ -59,19 +59,24 @@ module _ (share m : ℕ) where
       ∙ ap (λ s. share ^ n * s) (below-homes share m after (λ x. ap (sum_lists m n) (λ i w. same x w i)))
       ∙ sym (mul_assoc (share ^ n) share (sum_below m after)) ∙ ap (λ p. p * sum_below m after) (sym (pow-suc share n))
 
+  -- the sum over all lists and searched hashes, of what depends on homes alone
+  pub probes-homes : (n : ℕ) (f : List ℕ → ℕ → ℕ) → ((w : List ℕ) (h : ℕ) → f (homes m w) h ≡ f w h) → ((w : List ℕ) (h : ℕ) → f w (home m h) ≡ f w h)
+      → sum_lists (share * m) n (λ w. sum_below (share * m) (λ h. f w h)) ≡ share ^ (n + 1) * sum_lists m n (λ w. sum_below m (λ h. f w h))
+  probes-homes n f lists searched =
+      let probes : List ℕ → ℕ = λ w. sum_below m (λ h. f w h) in
+      ap (sum_lists (share * m) n) (λ i w. below-homes share m (f w) (searched w) i)
+      ∙ lists-times (share * m) n share probes
+      ∙ ap (λ s. share * s) (lists-homes n probes (λ w. ap (sum_below m) (λ i h. lists w h i)))
+      ∙ sym (mul_assoc share (share ^ n) (sum_lists m n probes))
+      ∙ ap (λ p. p * sum_lists m n probes) (sym (ap (λ e. share ^ e) (add-one n) ∙ pow-succ' share n))
+
 filling-homes : (m : ℕ) (w : List ℕ) → filling_reach m (homes m w) ≡ filling_reach m w
 filling-homes m [] = refl
 filling-homes m (x ∷ w) = λ i. (reach-homes m w (home m x) ∙ reach-home m w x) i + filling-homes m w i
 
 pub homes_law : HomesMeanLaw
 unfolding total_reach
-homes_law share m n some =
-    let probes : List ℕ → ℕ = λ w. sum_below m (λ h. reach w m h) in
-    ap (sum_lists (share * m) n) (λ i w. below-homes share m (λ h. reach w m h) (reach-home m w) i)
-    ∙ lists-times (share * m) n share probes
-    ∙ ap (λ s. share * s) (lists-homes share m n probes (λ w. ap (sum_below m) (λ i h. reach-homes m w h i)))
-    ∙ sym (mul_assoc share (share ^ n) (sum_lists m n probes))
-    ∙ ap (λ p. p * sum_lists m n probes) (sym (ap (λ e. share ^ e) (add-one n) ∙ pow-succ' share n))
+homes_law share m n some = probes-homes share m n (λ w h. reach w m h) (reach-homes m) (reach-home m)
 
 pub filling_homes : (share m n : ℕ) → total_filling (share * m) m n ≡ share ^ n * total_filling m m n
 unfolding total_filling

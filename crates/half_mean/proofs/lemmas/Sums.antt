@@ -1,5 +1,5 @@
 -- Sums over numbers and over lists.
-use Rattle.std.proofs.Common.{◌≡◌, ℕ, zero, suc, ◌+◌, ◌*◌, ◌^◌, refl, sym, ap, ◌∙◌, arith, List, [], ◌∷◌, length, sum_by, IsPermutation}
+use Rattle.std.proofs.Common.{◌≡◌, ℕ, zero, suc, ◌+◌, ◌*◌, ◌^◌, ◌<◌, ◌≤◌, refl, sym, ap, ◌∙◌, arith, List, [], ◌∷◌, length, sum_by, IsPermutation}
 use Rattle.std.proofs.Math.Nat.{pow-zero, pow-succ', mul_assoc}
 use Rattle.std.proofs.lemmas.Grind.{common_steps}
 use Rattle.std.proofs.lemmas.List.Sorted.{IsPermutation-cons, IsPermutation-swap}
@@ -11,10 +11,19 @@ pub below-times : (m c : ℕ) (f : ℕ → ℕ) → sum_below m (λ k. c * f k) 
 below-times zero c f = omega arith
 below-times (suc m) c f = grind (arith, common_steps, below-times m c f)
 
+pub below-le : (m : ℕ) (f g : ℕ → ℕ) → ((k : ℕ) → k < m → f k ≤ g k) → sum_below m f ≤ sum_below m g
+below-le zero f g h = omega arith
+below-le (suc m) f g h = omega (arith, h m (omega arith), below-le m f g (λ k l. h k (omega arith)))
+
 pub lists-same : (m n : ℕ) (f g : List ℕ → ℕ) → ((list : List ℕ) → length list ≡ n → f list ≡ g list) → sum_lists m n f ≡ sum_lists m n g
 lists-same m zero f g h = h [] refl
 lists-same m (suc n) f g h =
     below-same m _ _ (λ x l. lists-same m n (λ w. f (x ∷ w)) (λ w. g (x ∷ w)) (λ w e. h (x ∷ w) (ap suc e)))
+
+pub lists-le : (m n : ℕ) (f g : List ℕ → ℕ) → ((list : List ℕ) → length list ≡ n → f list ≤ g list) → sum_lists m n f ≤ sum_lists m n g
+lists-le m zero f g h = h [] refl
+lists-le m (suc n) f g h =
+    below-le m _ _ (λ x l. lists-le m n (λ w. f (x ∷ w)) (λ w. g (x ∷ w)) (λ w e. h (x ∷ w) (ap suc e)))
 
 pub lists-plus : (m n : ℕ) (f g : List ℕ → ℕ) → sum_lists m n (λ w. f w + g w) ≡ sum_lists m n f + sum_lists m n g
 lists-plus m zero f g = refl

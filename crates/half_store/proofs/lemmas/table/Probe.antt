@@ -1,6 +1,6 @@
 -- Where probes end, and what they read and compare, over the held hashes alone.
 use Rattle.half_store.proofs.Common.{◌≡◌, ◌≤◌, length, ◌+◌, inr, refl, ◌∙◌, arith, ℕ, ◌-◌, ◌<◌, inl, sym, ap, Bool, List, Some, Option, None, ◌≢◌, true, false}
-use Rattle.half_store.proofs.Common.{◌==◌, count_by, nat_lt, eq-eqb, ne_eqb, lt-ltb, le-ltb, common_steps, count_by-le-length, same_Some, reach, probe_distance}
+use Rattle.half_store.proofs.Common.{◌==◌, count_by, nat_lt, eq-eqb, ne_eqb, lt-ltb, le-ltb, common_steps, count_by-le-length, same_Some, reach, probe_distance, subst}
 use Rattle.half_store.proofs.Common.{bucket_after, home, bucket_is_loaded, slot_at, HasVacantSlot, ProbeInvariant, stored, IsSlotVacancy, distance_from_home}
 use Rattle.half_store.proofs.Common.{Work, looked_more, compared_more}
 use Rattle.std.proofs.Common.{◌&&◌}
@@ -8,7 +8,7 @@ use Rattle.std.proofs.lemmas.Bool.{cases_Bool, and_parts, and_from, and_left, an
 use borrow.Author.Tests.{ltb-true, eqb-true}
 use Rattle.half_store.specs.Reach.{load}
 use Rattle.half_store.specs.Slots.{FullBefore}
-use Rattle.half_store.proofs.lemmas.table.Circle.{probe_distance-lt, bucket_after-lt, probe_distance-bucket_after}
+use Rattle.half_store.proofs.lemmas.table.Circle.{distance_is, probe_distance-lt, bucket_after-lt, probe_distance-bucket_after}
 use Rattle.half_store.proofs.lemmas.table.Circle.{bucket_after-probe_distance, distance_same}
 use Rattle.half_store.proofs.lemmas.table.Counts.{count_to, count_to-same, count_to-le, count_to_more, count_to-none, count_by-count_to}
 use Rattle.half_store.proofs.lemmas.table.Counts.{ahead_size}
@@ -92,7 +92,11 @@ module _ (slots : List (Option ℕ)) (ordered : ProbeInvariant slots) where
     pub loaded_where_full : (b : ℕ) → slot_at slots b ≢ None → HasVacantSlot slots → bucket_is_loaded hashes (m slots) b ≡ true
     unfolding load
     loaded_where_full b full v =
-        let l = full_loaded slots ordered b (full-lt slots b full) full v in
+        let in_b = full-lt slots b full in
+        let alone : (p : ℕ) → p < m slots → probe_distance (m slots) p b < 1 → slot_at slots p ≢ None = λ p in_p near.
+        let same : b ≡ p = omega (arith, distance_is (m slots) p b in_p) in
+        subst (λ q. slot_at slots q ≢ None) same full in
+        let l = full_loaded slots ordered b 1 in_b alone v in
         bucket_is_loaded-yes hashes (m slots) b
         (l.0, l.1, l.2, rw (counted (λ hash. nat_lt (probe_distance (m slots) (home (m slots) hash) b) l.0)) l.3)
 

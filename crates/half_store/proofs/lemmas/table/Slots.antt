@@ -104,9 +104,9 @@ module _ (slots : List (Option ℕ)) where
 
   module _ (ordered : ProbeInvariant slots) where
     -- the full buckets back to the nearest empty one are a stretch that holds the homes of all its pairs
-    pub full_loaded : (b : ℕ) → b < m → slot_at slots b ≢ None → HasVacantSlot slots → (size : ℕ) × (1 ≤ size) × (size < m)
-        × (size ≤ slots_load b size)
-    full_loaded b in_b full (v, in_v, none_v) =
+    pub full_loaded : (b run : ℕ) → b < m → ((p : ℕ) → p < m → probe_distance m p b < run → slot_at slots p ≢ None) → HasVacantSlot slots
+        → (size : ℕ) × (run ≤ size) × (size < m) × (size ≤ slots_load b size)
+    full_loaded b run in_b full (v, in_v, none_v) =
         elim (first_none (λ k. bucket_after m b (m - k)) m) [
           | inl all ↦ absurd (all (probe_distance m v b) (probe_distance-lt m v in_v b in_b)
               (ap (slot_at slots) (down-probe_distance m b in_b v in_v) ∙ none_v))
@@ -114,8 +114,7 @@ module _ (slots : List (Option ℕ)) where
               let e : ℕ = bucket_after m b (m - k) in
               let in_e : e < m = down-lt m b in_b k (omega arith) in
               let far : probe_distance m e b ≡ k = probe_distance-down m b in_b k l in
-              let some : 1 ≤ k = elim (cases_eq k 0)
-              [ inl z ↦ absurd (full (ap (slot_at slots) (omega (arith, after_is m b (m - k))) ∙ none)) | inr ne ↦ omega arith ] in
+              let long : run ≤ k = elim (cases_lt k run) [ inl near ↦ absurd (full e in_e (omega arith) none) | inr ge ↦ ge ] in
               let homes : (p : ℕ) → p < m → ltb (probe_distance m p b) k ≡ true → in_stretch b k p ≡ true = λ p in_p near.
               let n : probe_distance m p b < k = ltb-true _ _ near in
               elim (slot_cases (slot_at slots p)) [
@@ -127,7 +126,7 @@ module _ (slots : List (Option ℕ)) where
                     passes_stored (λ hash. nat_lt (probe_distance m (home m hash) b) k) (slot_at slots p) h is (lt-ltb _ _ (omega arith))
               ] in
               let count = count_to-le (λ p. ltb (probe_distance m p b) k) (in_stretch b k) m homes in
-              (k, some, l, omega (arith, stretch_size m b k in_b (omega arith), slots_load-count_to b k))
+              (k, long, l, omega (arith, stretch_size m b k in_b (omega arith), slots_load-count_to b k))
         ]
 
     -- no pair passes an empty bucket, so those in its home bucket in a stretch that ends there lie in the rest of it
