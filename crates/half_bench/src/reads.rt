@@ -49,7 +49,8 @@ fn replacing<K: Key>(
     for number in numbers {
         let index = (number.wrapping_mul(STRIDE) % held.len().max(1) as u64) as usize;
         if index < table.len() && index < held.len() {
-            table.remove(index, &mut Tally::new());
+            let bucket = table.bucket_of(index, &mut Tally::new());
+            table.remove_at(index, bucket, &mut Tally::new());
             held.swap_remove(index);
             held.push(number)?;
         }

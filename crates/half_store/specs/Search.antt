@@ -1,12 +1,12 @@
 -- What a search by a match on keys finds; the keys at which it may call the match, and those at which it was called.
-use Rattle.std.specs.Prelude.{◌≡◌, ℕ, ◌+◌, ◌<◌, ◌≤◌, Bool, true, false, List, length, slice_get, Option, Some, IfSome, IfNone, Result, Ok, Err, ◌-◌, slice_index}
+use Rattle.std.specs.Prelude.{◌≡◌, ℕ, ◌+◌, ◌<◌, ◌≤◌, Bool, true, false, List, length, slice_get, Option, Some, None, IfSome, IfNone, Result, Ok, Err, ◌-◌, slice_index}
 use Rattle.std.specs.Map.{keys_of}
 use Rattle.half_store.specs.Capacity.{buckets_of}
 use Rattle.half_store.specs.Work.{IsTableHitCost, work_after_missing, Work, first_match_cost}
 use Rattle.half_store.specs.Reach.{reach, filling_reach}
 use Rattle.half_store.specs.declared.vecmap.search.Scan.{Scan}
 use Rattle.half_store.specs.declared.vecmap.search.Scan.TheVariants.{ByKey}
-use Rattle.half_store.specs.Store.{StoreState, Vacancy, IsVacancy}
+use Rattle.half_store.specs.Store.{StoreState, Found, Vacancy, IsPlaced, IsVacancy}
 use Rattle.half_store.specs.Table.{Contents, hit_reads_in, all_hit_reads_in}
 use Rattle.std.specs.Borrow.{Bor}
 use Rattle.half_store.specs.Slots.{slots_from, slot_at}
@@ -34,15 +34,20 @@ module _ {K V : Type 0} (returns : K → Bool → Type 0) (is_vec : Bool) (pairs
   pub record AcceptsNone : Type 0 where
     pub rejected : (index : ℕ) (k : K) → slice_get (keys_of pairs) index ≡ Some k → (is_vec ≡ false → has_hash index k) → returns k false
 
-  -- the search found this index, or none, and where there is capacity a pair of the hash may be added here
-  abbrev pub SearchOutcome : ℕ → Contents → ℕ → Result ℕ Vacancy → Type 0
-  SearchOutcome capacity contents hash (Ok index) = Accepts index
+  -- the search found the pair that is held here, or none, and where there is capacity a pair of the hash may be added here
+  abbrev pub SearchOutcome : ℕ → Contents → ℕ → Result Found Vacancy → Type 0
+  SearchOutcome capacity contents hash (Ok found) = Accepts found.index × IsPlaced is_vec contents found
   SearchOutcome capacity contents hash (Err vacancy) = AcceptsNone × (0 < capacity → IsVacancy is_vec contents hash vacancy)
 
 -- a search of a store by the match under this hash
-abbrev pub StoreSearch : {K V : Type 0} → (K → Bool → Type 0) → StoreState K V → ℕ → Result ℕ Vacancy → Type 0
+abbrev pub StoreSearch : {K V : Type 0} → (K → Bool → Type 0) → StoreState K V → ℕ → Result Found Vacancy → Type 0
 StoreSearch returns s hash =
     SearchOutcome returns s.is_vec s.pairs (λ index k. slice_get s.hashes index ≡ Some hash) s.capacity s.contents hash
+
+-- the index that a search found
+abbrev pub found_index : Result Found Vacancy → Option ℕ
+found_index (Ok found) = Some found.index
+found_index (Err vacancy) = None
 
 -- a search from first to last among this many keys found this index, or none: it compared at least those up to and with the one that it found, and
 -- at most all; key by key it compared no more than it had to

@@ -4,11 +4,12 @@ use Rattle.std.specs.Prelude.{IfSome, Result, IsOk, OnOk, OnErr, IfOk, IfErr}
 use Rattle.std.specs.List.{AllZip}
 use Rattle.std.specs.declared.alloc.AllocError.{AllocError}
 use Rattle.std.specs.Global.{Box}
+pub use Rattle.half_store.specs.declared.store.find.Found.{Found}
 pub use Rattle.half_store.specs.declared.store.find.Vacancy.{Vacancy}
 use Rattle.half_store.specs.Capacity.{capacity_of, least_table_capacity, generous_capacity, least_capacity, is_vec_for, is_vec_shrunk, shrunk_capacity}
 use Rattle.half_store.specs.Refusal.{Refusal, refusal_of}
 use Rattle.half_store.specs.Columns.{ColumnsState}
-use Rattle.half_store.specs.Table.{TableState, Contents, table_contents, no_contents, contents_code, with_hash_in, IsTableVacancy}
+use Rattle.half_store.specs.Table.{TableState, Contents, table_contents, no_contents, contents_code, with_hash_in, IsTableVacancy, IsTablePlace}
 use base.Stored.{Coded, coded×, coded_list, coded_ℕ, coded_bool, coded_via}
 
 -- the form, the pairs in order, the capacity, and, in a table alone, the stored hashes by entry index and what the buckets contain
@@ -133,6 +134,10 @@ module _ {K V : Type 0} (limit : ℕ) (old new : StoreState K V) where
 -- a pair of this hash may be added here: in a table at the empty bucket where an insertion probe for it ends; a vector looks at neither
 abbrev pub IsVacancy : Bool → Contents → ℕ → Vacancy → Type 0
 IsVacancy is_vec contents hash vacancy = is_vec ≡ false → (vacancy.hash ≡ hash) × IsTableVacancy contents hash vacancy.bucket
+
+-- a pair is held here: in a table in this bucket; a vector looks at none
+abbrev pub IsPlaced : Bool → Contents → Found → Type 0
+IsPlaced is_vec contents found = is_vec ≡ false → IsTablePlace contents found.index found.bucket
 
 -- what the buckets contain once a pair is added here
 abbrev pub filled : Bool → Contents → Vacancy → Contents

@@ -1,13 +1,10 @@
 -- What a removal does to a store, in order or by the last pair, and to the buckets before pairs are shifted back.
-use Rattle.std.specs.Prelude.{◌≡◌, ℕ, ◌+◌, ◌-◌, ◌<◌, Bool, false, List, length, slice_get, slice_index, slice_set, Option, Some, None, Result, Ok, Err, suc, ◌==◌, nat_lt, if◌then◌else◌}
-use Rattle.std.specs.Result.{result_ok}
-use Rattle.half_store.specs.declared.vecmap.search.Scan.TheVariants.{ByKey}
+use Rattle.std.specs.Prelude.{◌≡◌, ℕ, ◌+◌, ◌-◌, ◌<◌, false, List, length, slice_get, slice_index, slice_set, Some, suc, ◌==◌, nat_lt, if◌then◌else◌}
 use Rattle.half_store.specs.PairLists.{swap_remove_at}
 use Rattle.half_store.specs.Work.{ReadsWithin, probe_reads, Work}
 use Rattle.half_store.specs.Slots.{slots_from}
 use Rattle.half_store.specs.Reach.{reach, probe_distance}
-use Rattle.half_store.specs.Search.{StoreSearch, IsStoreSearchCost}
-use Rattle.half_store.specs.Store.{StoreState, Vacancy, SameFormAndCapacity}
+use Rattle.half_store.specs.Store.{StoreState, SameFormAndCapacity}
 use Rattle.half_store.specs.Table.{IsEmptyBeside}
 use Rattle.std.specs.List.{remove}
 
@@ -31,20 +28,6 @@ module _ {K V : Type 0} (old new : StoreState K V) where
     pub pairs : new.pairs ≡ swap_remove_at old.pairs index
     pub hashes : old.is_vec ≡ false → new.hashes ≡ swap_remove_at old.hashes index
     pub form : SameFormAndCapacity old new
-
-  -- the pair that a search found is gone and returned, or it found none and nothing changed
-  abbrev pub RemovesFound : Result ℕ Vacancy → Option (K × V) → Type 0
-  RemovesFound (Ok index) (Some pair) = StoreSwapRemoves index pair
-  RemovesFound (Ok index) None = ⊥
-  RemovesFound (Err vacancy) (Some pair) = ⊥
-  RemovesFound (Err vacancy) None = new ≡ old
-
-  -- a search by the match under this hash, and the removal of what it found
-  pub record SearchesAndRemoves (returns : K → Bool → Type 0) (hash : ℕ) (result : Option (K × V)) (before after : Work) : Type 0 where
-    pub search : Result ℕ Vacancy
-    pub finds : StoreSearch returns old hash search
-    pub cost : IsStoreSearchCost old hash ByKey (result_ok search) before after
-    pub takes : RemovesFound search result
 
 -- the word of a bucket once the pair at this index is the last of `pairs`, and each pair behind it has the index before its own
 abbrev pub word_once_moved : ℕ → ℕ → ℕ → ℕ

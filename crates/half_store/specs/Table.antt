@@ -2,7 +2,7 @@
 use Rattle.std.specs.Prelude.{ℕ, suc, List, [], ◌∷◌, ◌++◌, length, Option, Some, slice_set, slice_index, ◌≡◌, ◌≢◌, ◌<◌, ◌≤◌, None, ◌+◌, Bool, true, false, slice_get, Result, IfOk, IfErr, OnErr}
 use Rattle.std.specs.Coded.{Coded, coded×, coded_list, coded_ℕ}
 use base.Stored.{coded_via}
-use Rattle.half_store.specs.Slots.{IsSlotVacancy, slot_at, distance_from_home, ProbeInvariant, IsFoundAt, slots_from, EachOnce, bucket_of}
+use Rattle.half_store.specs.Slots.{IsSlotVacancy, slot_at, distance_from_home, ProbeInvariant, slots_from, EachOnce, bucket_of}
 use Rattle.half_store.specs.Capacity.{capacity_of, IsBucketCount, buckets_of}
 use Rattle.half_store.specs.Words.{AreWordsFor}
 use Rattle.std.specs.List.{swap_remove}
@@ -34,6 +34,10 @@ no_contents = record { hashes = []; words = [] }
 -- an insertion probe for the hash ends at this bucket
 abbrev pub IsTableVacancy : Contents → ℕ → ℕ → Type 0
 IsTableVacancy c hash bucket = IsSlotVacancy (slots_from c.hashes c.words) hash bucket
+
+-- the pair of this entry index stands in this bucket
+abbrev pub IsTablePlace : Contents → ℕ → ℕ → Type 0
+IsTablePlace c index bucket = slice_index c.words bucket ≡ index + 1
 
 -- what the buckets contain once a pair of the hash is added in this bucket
 abbrev pub with_hash_in : Contents → ℕ → ℕ → Contents
@@ -94,7 +98,7 @@ pub record IsTable (hashes words : List ℕ) (most capacity : ℕ) : Type 0 wher
 -- ended, if there are buckets. The searches for all pairs, one each, read what insertions of their hashes read (`hits`)
 pub record TableSearch (returns : ℕ → Bool → Type 0) (t : TableState) (hash : ℕ) (result : Result (ℕ × ℕ) ℕ) (old new : Work) : Type 0 where
   pub found : IfOk result (λ pair. slice_get t.hashes pair.0 ≡ Some hash)
-  pub at : IfOk result (λ pair. IsFoundAt (table_slots t) hash pair.1)
+  pub at : IfOk result (λ pair. IsTablePlace (table_contents t) pair.0 pair.1)
   pub accepted : IfOk result (λ pair. returns pair.0 true)
   pub rejected : OnErr result ((index : ℕ) → slice_get t.hashes index ≡ Some hash → returns index false)
   pub vacancy : IfErr result (λ bucket. 0 < t.buckets → IsTableVacancy (table_contents t) hash bucket)

@@ -19,7 +19,7 @@ pub mod words;
 pub use refusal::Refusal;
 pub use store::Store;
 pub use store::drain::{Drained, IntoStore};
-pub use store::find::Vacancy;
+pub use store::find::{Found, Vacancy};
 pub use store::memory::Arrays;
 pub use table::Table;
 pub use tally::Tally;

@@ -5,13 +5,13 @@
 //! back what follows it, so no tombstone is left.
 #![tactic(auto, using(crate::proofs::lemmas::table::Find::table_steps))]
 
-ghost use Rattle.std.specs.Prelude.{◌≡◌, ◌^◌, ◌<◌, ◌≤◌, [], ◌∷◌, ◌++◌, length, IfOk, OnErr};
+ghost use Rattle.std.specs.Prelude.{◌≡◌, ◌^◌, ◌<◌, ◌≤◌, [], ◌∷◌, ◌++◌, length, slice_index};
 ghost use Rattle.std.specs.Fn.{FnReturnsAt};
 ghost use Rattle.half_store.specs.Search.{CallableOnHash, ReturnsAt};
 ghost use Rattle.half_store.specs.Reach.{reach};
 ghost use Rattle.half_store.specs.Capacity.{capacity_of, IsBucketCount, least_table_capacity, buckets_of};
-ghost use Rattle.half_store.specs.Work.{looked_more, ReadsWithin, removal_reads};
-ghost use Rattle.half_store.specs.Table.{table_contents, with_hash_in, IsTableVacancy, TableSearch, RemovesFromTable};
+ghost use Rattle.half_store.specs.Work.{looked_more, probe_reads, ReadsWithin, removal_reads_left};
+ghost use Rattle.half_store.specs.Table.{table_contents, with_hash_in, IsTablePlace, IsTableVacancy, TableSearch, RemovesFromTable};
 
 mod deletion;
 mod memory;
@@ -23,14 +23,14 @@ use crate::Tally;
 use crate::buckets::HashedBuckets;
 use crate::capacity::capacity_of;
 use crate::words::{WordArray, Words, of_either_size};
-use deletion::{remove_in, take_in};
+use deletion::{bucket_of, remove_at};
 use probe::{find_in, first_empty};
 use std::marker::Model;
 
 /// Buckets that lead from a hash to the entry indices of the pairs that have it.
 ///
-/// Entry indices count up in the order of insertion. `remove` and `take` give the last pair the index that became free,
-/// `shift_remove` gives each pair behind the removed one the index before its own, and `retain` numbers the kept pairs anew. There
+/// Entry indices count up in the order of insertion. `remove_at` gives the last pair the index that became free,
+/// `shift_remove_at` gives each pair behind the removed one the index before its own, and `retain` numbers the kept pairs anew. There
 /// are no buckets, or a power of two from 4 on, and the load factor is three quarters. A bucket takes four bytes where that is
 /// enough for as many pairs as fit, and else eight.
 #[derive(Drop)]
@@ -130,6 +130,7 @@ impl Table {
         ensures buckets { self.new.buckets ≡ self.old.buckets }
         ensures contents { table_contents self.new
             ≡ with_hash_in (table_contents self.old) hash bucket }
+        ensures at { IsTablePlace (table_contents self.new) (length self.old.hashes) bucket }
     {
         let word = self.len() + 1;
         self.buckets.set_word(bucket, word);
@@ -151,44 +152,37 @@ impl Table {
         self.add_at(hash, bucket);
     }
 
-    /// Removes the pair at this entry index, and returns its stored hash. The last pair takes its index. It reads fewer buckets
-    /// than two unsuccessful probes: for the hash of the pair, and for that of the last one.
-    #[inline]
-    pub fn remove(&mut self, index: usize, tally: &mut Tally) -> u64
-        requires { index < length self.old.hashes }
+    /// The bucket of the pair at this entry index, which is probed for by the stored hash. It reads as many buckets as a search
+    /// that finds the pair, fewer than an unsuccessful probe for its hash.
+    #[inline(always)]
+    pub fn bucket_of(&self, index: usize, tally: &mut Tally) -> usize
+        requires { index < length self.now.hashes }
+        ensures at { IsTablePlace (table_contents self.now) index result }
+        ensures cost { tally.new ≡ looked_more (probe_reads self.now.buckets
+            (slice_index self.now.hashes index) result) tally.old }
+        ensures near { probe_reads self.now.buckets (slice_index self.now.hashes index) result
+            < reach self.now.hashes self.now.buckets (slice_index self.now.hashes index) }
+    {
+        of_either_size!(
+            &self.buckets,
+            buckets => bucket_of(buckets, self.hashes.as_slice(), index, tally)
+        )
+    }
+
+    /// Removes the pair at this entry index, which stands in this bucket, and returns its stored hash. The last pair takes its
+    /// index. With what `bucket_of` reads it reads fewer buckets than two unsuccessful probes: for the hash of the pair, and for
+    /// that of the last one.
+    #[inline(always)]
+    pub fn remove_at(&mut self, index: usize, bucket: usize, tally: &mut Tally) -> u64
+        requires within { index < length self.old.hashes }
+        requires at { IsTablePlace (table_contents self.old) index bucket }
         ensures removes { RemovesFromTable self.old index self.new result }
-        ensures cost { ReadsWithin (removal_reads self.old.hashes self.old.buckets index)
+        ensures cost { ReadsWithin (removal_reads_left self.old.hashes self.old.buckets index bucket)
             tally.old tally.new }
     {
         of_either_size!(
             &mut self.buckets,
-            buckets => remove_in(buckets, &mut self.hashes, index, tally)
-        )
-    }
-
-    /// Searches as `find` does, and removes the pair that it finds, in the bucket where the probe ended. The last pair takes its
-    /// index. What the removal reads beside the search is counted apart, and is within the bound of `remove`.
-    #[inline(always)]
-    pub fn take<K, F: Fn(&K) -> bool>(
-        &mut self,
-        keys: &[K],
-        hash: u64,
-        matches: &F,
-        tally: &mut Tally,
-        removal: &mut Tally,
-    ) -> Result<(usize, usize), usize>
-        requires keys { length self.old.hashes ≤ length keys.now }
-        requires callable { CallableOnHash (F.pre matches.now) self.old.hashes hash keys.now }
-        ensures finds { TableSearch (ReturnsAt (FnReturnsAt F.Fn matches.now) keys.now) self.old
-            hash result tally.old tally.new }
-        ensures removes { IfOk result (λ pair. RemovesFromTable self.old pair.0 self.new hash) }
-        ensures cost { IfOk result (λ pair. ReadsWithin
-            (removal_reads self.old.hashes self.old.buckets pair.0) removal.old removal.new) }
-        ensures same { OnErr result ((self.new ≡ self.old) × (removal.new ≡ removal.old)) }
-    {
-        of_either_size!(
-            &mut self.buckets,
-            buckets => take_in(buckets, &mut self.hashes, keys, hash, matches, tally, removal)
+            buckets => remove_at(buckets, &mut self.hashes, index, bucket, tally)
         )
     }
 

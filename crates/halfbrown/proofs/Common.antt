@@ -17,6 +17,8 @@ pub use Rattle.std.specs.Vec.Iter.{into_iter_items}
 pub use Rattle.half_store.specs.PairLists.{index_of, swap_remove_at, set_value_at, length-set_value_at, set_key_at}
 pub use Rattle.half_store.specs.Store.{StoreState}
 pub use Rattle.half_store.specs.Work.{Work}
+pub use Rattle.half_store.specs.Search.{found_index}
+pub use Rattle.half_store.specs.declared.store.find.Found.{Found}
 pub use Rattle.half_store.specs.declared.store.find.Vacancy.{Vacancy}
 pub use Rattle.halfbrown.specs.CostRanges.{GrewBy, add_costs}
 pub use Rattle.halfbrown.specs.Costs.{IsSearchCost}

@@ -7,7 +7,7 @@ use Rattle.halfbrown.specs.Pairs.{keys_of, index_of, put, value_of}
 use Rattle.halfbrown.specs.State.{State, IsValid, make_state, contents_of}
 use Rattle.halfbrown.specs.Updates.{HasPut}
 use Rattle.half_store.specs.Capacity.{least_table_capacity}
-use Rattle.half_store.specs.Store.{IsVacancy, filled}
+use Rattle.half_store.specs.Store.{IsPlaced, IsVacancy, filled}
 use Rattle.halfbrown.specs.declared.map.prepare.Place.{Place}
 use Rattle.halfbrown.specs.declared.map.prepare.Place.TheVariants.{Held, Vacant}
 use Rattle.halfbrown.specs.Costs.{probe_length}
@@ -78,7 +78,7 @@ module _ {K V S : Type 0} where
       pub capacity : length m.pairs < m.capacity
       pub vacant : IsVacancy m.is_vec (contents_of m) (hash m.builder k) vacancy
 
-    -- an insertion of k needs no more: its index is found, or a vacancy for its pair
+    -- an insertion of k needs no more: its pair is found, or a vacancy for one
     abbrev pub IsPreparedFor : State K V S → K → Place → Type 0
-    IsPreparedFor m k (Held index) = IsIndexOf (eq k) m.pairs index
+    IsPreparedFor m k (Held found) = IsIndexOf (eq k) m.pairs found.index × IsPlaced m.is_vec (contents_of m) found
     IsPreparedFor m k (Vacant vacancy) = MayInsertAt m k vacancy

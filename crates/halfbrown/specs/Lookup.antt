@@ -1,7 +1,8 @@
 -- What a search in a map returns, for a key, or by a match on keys under a hash that was handed in.
 use Rattle.std.specs.Prelude.{◌≡◌, ℕ, ◌<◌, Bool, true, false, List, [], ◌∷◌, ◌++◌, length, slice_get, Option, None, Some, Result, Ok, Err, ◌+◌, is_some, option_and_then}
 use Rattle.std.specs.Map.{keys_of, values_of, lookup, lookup_entry}
-use Rattle.half_store.specs.Store.{IsVacancy}
+use Rattle.half_store.specs.Store.{IsPlaced, IsVacancy}
+pub use Rattle.half_store.specs.declared.store.find.Found.{Found}
 pub use Rattle.half_store.specs.declared.store.find.Vacancy.{Vacancy}
 use Rattle.halfbrown.specs.Pairs.{index_of, set_value_at, swap_remove_at, holds_by, set_value, put_by, take_out_by}
 use Rattle.halfbrown.specs.State.{State, contents_of}
@@ -35,9 +36,9 @@ module _ {K V : Type 0} (test : K → Bool) (pairs : List (K × V)) where
   FindsIndex (Some index) = IsIndexOf index
   FindsIndex None = IsAbsent
 
--- a search found the key that passes the test, or none is held, and where there is capacity a pair of the hash may be added here
-abbrev pub KeySearch : {K V S : Type 0} → (K → Bool) → ℕ → State K V S → Result ℕ Vacancy → Type 0
-KeySearch test hash m (Ok index) = IsIndexOf test m.pairs index
+-- a search found the key that passes the test here, or none is held, and where there is capacity a pair of the hash may be added here
+abbrev pub KeySearch : {K V S : Type 0} → (K → Bool) → ℕ → State K V S → Result Found Vacancy → Type 0
+KeySearch test hash m (Ok found) = IsIndexOf test m.pairs found.index × IsPlaced m.is_vec (contents_of m) found
 KeySearch test hash m (Err vacancy) = IsAbsent test m.pairs × (0 < m.capacity → IsVacancy m.is_vec (contents_of m) hash vacancy)
 
 module _ {K V S : Type 0} (returns : K → Bool → Type 0) (hash : S → K → ℕ) (wanted : ℕ) (m : State K V S) where
@@ -49,8 +50,8 @@ module _ {K V S : Type 0} (returns : K → Bool → Type 0) (hash : S → K → 
   abbrev pub HasNoMatch : Type 0
   HasNoMatch = AcceptsNone returns m.is_vec m.pairs (λ index k. hash m.builder k ≡ wanted)
 
-  -- a search by the match found this index, or none, and where there is capacity a pair of the hash may be added here
-  abbrev pub MatchSearch : Result ℕ Vacancy → Type 0
+  -- a search by the match found the pair that is held here, or none, and where there is capacity a pair of the hash may be added here
+  abbrev pub MatchSearch : Result Found Vacancy → Type 0
   MatchSearch = SearchOutcome returns m.is_vec m.pairs (λ index k. hash m.builder k ≡ wanted) m.capacity (contents_of m) wanted
 
   -- the search returned this pair, or none

@@ -1,6 +1,6 @@
 //! The entry of one key: the pair that is held for it, or a vacancy for the pair that is not.
 ghost use Rattle.std.specs.Prelude.{◌≡◌, ◌<◌, false, length};
-ghost use Rattle.half_store.specs.Store.{IsVacancy};
+ghost use Rattle.half_store.specs.Store.{IsPlaced, IsVacancy};
 ghost use Rattle.halfbrown.specs.Pairs.{holds};
 ghost use Rattle.halfbrown.specs.State.{contents_of};
 
@@ -49,8 +49,12 @@ pub struct OccupiedEntry<
     L: Limit = AtMost<32>,
 > {
     pub(crate) map: &'a mut LimitedHashMap<K, V, S, L>,
+    // not as one `Found`, since a field that is a struct makes the prover ask for the ghost fields once the pair is gone
     pub(crate) index: usize,
+    pub(crate) bucket: usize,
     ghost within: { index < length map.now.pairs },
+    ghost placed: { IsPlaced map.now.is_vec (contents_of map.now)
+        (record { index = index; bucket = bucket }) },
 }
 
 /// A vacancy for the pair of a key that is not held.

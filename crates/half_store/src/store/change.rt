@@ -1,106 +1,93 @@
 //! Adding and removing pairs.
 ghost use Rattle.std.specs.Prelude.{◌≡◌, ℕ, ◌<◌, ◌≤◌, false, Some, IfOk, IfErr, OnOk, length, map, slice_get};
 ghost use Rattle.std.specs.Borrow.{Bor};
-ghost use Rattle.std.specs.Fn.{FnReturnsAt};
 ghost use Rattle.std.specs.Map.{keys_of};
 ghost use Rattle.std.specs.Map.Calls.{CalledAtPair, TakesPair, CallableOnEachPair, RetainsPairs};
 ghost use Rattle.std.specs.Option.{option_map};
 ghost use Rattle.std.specs.Result.{result_err};
-ghost use Rattle.half_store.specs.Search.{CallableOnKeys};
 ghost use Rattle.half_store.specs.PairLists.{swap_remove_at};
-ghost use Rattle.half_store.specs.StoreRemoval.{StoreSwapRemoves, SearchesAndRemoves, StoreShiftRemoves};
+ghost use Rattle.half_store.specs.StoreRemoval.{StoreSwapRemoves, StoreShiftRemoves};
 ghost use Rattle.half_store.specs.ValueReplacement.{kept_index, ReplacesValue};
-ghost use Rattle.half_store.specs.Store.{store_pushed, IsVacancy, SameFormAndCapacity};
+ghost use Rattle.half_store.specs.Store.{store_pushed, IsPlaced, IsVacancy, SameFormAndCapacity};
 
 use super::Store;
-use super::find::Vacancy;
-use crate::vecmap::search::{Scan, first_match};
-use crate::{Tally, uncounted};
+use super::find::{Found, Vacancy};
+use crate::uncounted;
 
 impl<K, V> Store<K, V> {
-    /// Adds a pair at the end, at a vacancy for its hash. The capacity must be enough for it. It reads no bucket.
+    /// Adds a pair at the end, at a vacancy for its hash, and returns where it is held. The capacity must be enough for it. It
+    /// reads no bucket.
     #[inline(always)]
-    pub fn push(&mut self, key: K, value: V, vacancy: Vacancy)
+    pub fn push(&mut self, key: K, value: V, vacancy: Vacancy) -> Found
         requires capacity { length self.old.pairs < self.old.capacity }
         requires vacant { IsVacancy self.old.is_vec self.old.contents vacancy.hash vacancy }
-        ensures { self.new ≡ store_pushed self.old key value vacancy }
+        ensures after { self.new ≡ store_pushed self.old key value vacancy }
+        ensures index { result.index ≡ length self.old.pairs }
+        ensures placed { IsPlaced self.new.is_vec self.new.contents result }
     {
+        let index = self.columns.len();
         if let Some(table) = &mut self.table {
             table.add_at(vacancy.hash, vacancy.bucket);
         }
         self.columns.push(key, value);
+        Found {
+            index,
+            bucket: vacancy.bucket,
+        }
     }
 
-    /// Removes the pair at this index. The last pair takes its index.
+    /// Removes the pair that is held here. The last pair takes its index. No probe is made for the pair.
     #[inline(always)]
-    pub fn swap_remove(&mut self, index: usize) -> (K, V)
-        requires { index < length self.old.pairs }
-        ensures { StoreSwapRemoves self.old self.new index result }
+    pub fn take_at(&mut self, found: Found) -> (K, V)
+        requires within { found.index < length self.old.pairs }
+        requires placed { IsPlaced self.old.is_vec self.old.contents found }
+        ensures { StoreSwapRemoves self.old self.new found.index result }
     {
         if let Some(table) = &mut self.table {
-            uncounted!(table.remove(index));
+            uncounted!(table.remove_at(found.index, found.bucket));
         }
-        self.columns.swap_remove(index)
+        self.columns.swap_remove(found.index)
     }
 
-    /// Removes a pair whose key `matches` accepts, as `find` searches for one. The last pair takes its index. In a table the bucket
-    /// of the pair is the one where the search ended.
-    #[inline(always)]
-    pub fn take<F: Fn(&K) -> bool>(
-        &mut self,
-        hash: u64,
-        matches: &F,
-        tally: &mut Tally,
-    ) -> Option<(K, V)>
-        requires { CallableOnKeys (F.pre matches.now) (keys_of self.old.pairs) }
-        ensures { SearchesAndRemoves self.old self.new (FnReturnsAt F.Fn matches.now) hash result
-            tally.old tally.new }
-    {
-        let Some(table) = &mut self.table else {
-            let index = first_match(self.columns.keys(), matches, Scan::ByKey, tally)?;
-            return Some(self.columns.swap_remove(index));
-        };
-        match uncounted!(table.take(self.columns.keys(), hash, matches, tally)) {
-            Ok((index, _)) => Some(self.columns.swap_remove(index)),
-            Err(_) => None,
-        }
-    }
-
-    /// Hands the value of the pair at this index to `f`, with its key. Where `f` returns a value the pair has that one, and its
-    /// index is returned: in a vector it goes last, and the last pair takes its index; in a table it stays. Where `f` returns
-    /// none the pair is removed, and the last pair takes its index. Then the key is returned with its hash, or with 0 in a vector.
+    /// Hands the value of the pair that is held here to `f`, with its key. Where `f` returns a value the pair has that one, and
+    /// where it is held is returned: in a vector it goes last, and the last pair takes its index; in a table it stays. Where `f`
+    /// returns none the pair is removed, and the last pair takes its index. Then the key is returned with its hash, or with 0 in
+    /// a vector.
     #[inline]
     pub fn replace_with<F: FnOnce(&K, V) -> Option<V>>(
         &mut self,
-        index: usize,
+        found: Found,
         f: F,
-    ) -> Result<usize, (K, u64)>
-        requires within { index < length self.old.pairs }
+    ) -> Result<Found, (K, u64)>
+        requires within { found.index < length self.old.pairs }
+        requires placed { IsPlaced self.old.is_vec self.old.contents found }
         requires callable { (key : Bor K) (value : V)
-            → slice_get self.old.pairs index ≡ Some (key.now, value) → F.pre f key value }
-        ensures replaces { ReplacesValue (F.post f) self.old.is_vec self.old.pairs index
+            → slice_get self.old.pairs found.index ≡ Some (key.now, value) → F.pre f key value }
+        ensures replaces { ReplacesValue (F.post f) self.old.is_vec self.old.pairs found.index
             self.new.pairs (option_map (λ removed. removed.0) (result_err result)) }
-        ensures at { IfOk result (λ at. at ≡ kept_index self.old.is_vec self.old.pairs index) }
+        ensures at { IfOk result
+            (λ at. at.index ≡ kept_index self.old.is_vec self.old.pairs found.index) }
+        ensures placed { IfOk result (IsPlaced self.new.is_vec self.new.contents) }
         ensures hash { IfErr result (λ removed. self.old.is_vec ≡ false
-            → slice_get self.old.hashes index ≡ Some removed.1) }
+            → slice_get self.old.hashes found.index ≡ Some removed.1) }
         ensures hashes { IfErr result (λ _. self.old.is_vec ≡ false
-            → self.new.hashes ≡ swap_remove_at self.old.hashes index) }
+            → self.new.hashes ≡ swap_remove_at self.old.hashes found.index) }
         ensures kept { OnOk result (self.new.hashes ≡ self.old.hashes) }
         ensures form { SameFormAndCapacity self.old self.new }
     {
         let Some(table) = &mut self.table else {
-            let last = self.columns.len() - 1;
-            let (key, value) = self.columns.swap_remove(index);
+            let index = self.columns.len() - 1;
+            let (key, value) = self.columns.swap_remove(found.index);
             let Some(value) = f(&key, value) else {
                 return Err((key, 0));
             };
             self.columns.push(key, value);
-            return Ok(last);
+            return Ok(Found { index, bucket: 0 });
         };
-        let Some(key) = self.columns.replace_with(index, f) else {
-            return Ok(index);
+        let Some(key) = self.columns.replace_with(found.index, f) else {
+            return Ok(found);
         };
-        Err((key, uncounted!(table.remove(index))))
+        Err((key, uncounted!(table.remove_at(found.index, found.bucket))))
     }
 
     /// Calls `f` at each pair, in order, and keeps those that it accepts, in their order, with the values that it left.
@@ -122,14 +109,15 @@ impl<K, V> Store<K, V> {
         }
     }
 
-    /// Removes the pair at this index. Each pair behind it gets the index before its own.
-    pub fn shift_remove(&mut self, index: usize) -> (K, V)
-        requires { index < length self.old.pairs }
-        ensures { StoreShiftRemoves self.old self.new index result }
+    /// Removes the pair that is held here. Each pair behind it gets the index before its own.
+    pub fn shift_take_at(&mut self, found: Found) -> (K, V)
+        requires within { found.index < length self.old.pairs }
+        requires placed { IsPlaced self.old.is_vec self.old.contents found }
+        ensures { StoreShiftRemoves self.old self.new found.index result }
     {
         if let Some(table) = &mut self.table {
-            uncounted!(table.shift_remove(index));
+            uncounted!(table.shift_remove_at(found.index, found.bucket));
         }
-        self.columns.shift_remove(index)
+        self.columns.shift_remove(found.index)
     }
 }

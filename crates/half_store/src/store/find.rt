@@ -2,16 +2,24 @@
 ghost use Rattle.std.specs.Prelude.{◌≡◌, ◌<◌, length, if◌then◌else◌};
 ghost use Rattle.std.specs.Fn.{FnReturnsAt};
 ghost use Rattle.std.specs.Map.{keys_of};
-ghost use Rattle.std.specs.Result.{result_ok};
-ghost use Rattle.half_store.specs.Search.{CallableOnKeys, StoreSearch, IsStoreSearchCost};
+ghost use Rattle.half_store.specs.Search.{CallableOnKeys, StoreSearch, IsStoreSearchCost, found_index};
 ghost use Rattle.half_store.specs.Capacity.{buckets_of};
 ghost use Rattle.half_store.specs.Work.{looked_more};
 ghost use Rattle.half_store.specs.Reach.{reach};
-ghost use Rattle.half_store.specs.Store.{IsVacancy};
+ghost use Rattle.half_store.specs.Store.{IsPlaced, IsVacancy};
 
 use super::Store;
-use crate::Tally;
 use crate::vecmap::search::{Scan, first_match};
+use crate::{Tally, uncounted};
+
+/// Where a pair is held: at this index of the columns, and in a table in this bucket. A vector does not look at the bucket.
+#[derive(Clone, Copy)]
+pub struct Found {
+    /// The index.
+    pub index: usize,
+    /// The bucket.
+    pub bucket: usize,
+}
 
 /// Where a pair may be added: at the end of the columns, and in a table under this hash in this bucket, which is empty. A
 /// vector looks at neither.
@@ -32,20 +40,20 @@ impl<K, V> Store<K, V> {
         matches: &F,
         scan: Scan,
         tally: &mut Tally,
-    ) -> Result<usize, Vacancy>
+    ) -> Result<Found, Vacancy>
         requires { CallableOnKeys (F.pre matches.now) (keys_of self.now.pairs) }
         ensures found { StoreSearch (FnReturnsAt F.Fn matches.now) self.now hash result }
-        ensures cost { IsStoreSearchCost self.now hash scan (result_ok result) tally.old tally.new }
+        ensures cost { IsStoreSearchCost self.now hash scan (found_index result) tally.old tally.new }
     {
         // This test comes before the keys are read, so that LLVM can join it to the one before the hash.
         let Some(table) = &self.table else {
             return match first_match(self.columns.keys(), matches, scan, tally) {
-                Some(index) => Ok(index),
+                Some(index) => Ok(Found { index, bucket: 0 }),
                 None => Err(Vacancy { hash, bucket: 0 }),
             };
         };
         match table.find(self.columns.keys(), hash, matches, tally) {
-            Ok((index, _)) => Ok(index),
+            Ok((index, bucket)) => Ok(Found { index, bucket }),
             Err(bucket) => Err(Vacancy { hash, bucket }),
         }
     }
@@ -64,5 +72,18 @@ impl<K, V> Store<K, V> {
             None => 0,
         };
         Vacancy { hash, bucket }
+    }
+    /// Where the pair at this index is held. In a table its bucket is probed for, by the stored hash.
+    #[inline(always)]
+    pub fn place_of(&self, index: usize) -> Found
+        requires { index < length self.now.pairs }
+        ensures index { result.index ≡ index }
+        ensures placed { IsPlaced self.now.is_vec self.now.contents result }
+    {
+        let bucket = match &self.table {
+            Some(table) => uncounted!(table.bucket_of(index)),
+            None => 0,
+        };
+        Found { index, bucket }
     }
 }

@@ -1,49 +1,22 @@
 //! Backward-shift deletion: after a removal the pairs that follow move back, so that no tombstone is needed.
 #![tactic(auto, using(crate::proofs::lemmas::table::Layout::deletion_steps))]
 
-ghost use Rattle.std.specs.Prelude.{◌≡◌, ◌+◌, ◌^◌, ◌<◌, ◌≤◌, Some, IfOk, OnErr};
+ghost use Rattle.std.specs.Prelude.{◌≡◌, ◌+◌, ◌^◌, ◌<◌, ◌≤◌, Some};
 ghost use Rattle.std.specs.Prelude.{length, slice_get, slice_set, slice_index, vec_capacity};
-ghost use Rattle.std.specs.Fn.{FnReturnsAt};
 ghost use Rattle.std.specs.List.{swap_remove};
-ghost use Rattle.half_store.specs.Search.{CallableOnHash, ReturnsAt};
 ghost use Rattle.half_store.specs.Capacity.{IsBucketCount};
-ghost use Rattle.half_store.specs.Work.{probe_reads, looked_more, ReadsWithin, removal_reads_left, removal_reads};
+ghost use Rattle.half_store.specs.Work.{probe_reads, looked_more, ReadsWithin, removal_reads_left};
 ghost use Rattle.half_store.specs.Reach.{home, probe_distance, reach};
 ghost use Rattle.half_store.specs.StoreRemoval.{Renames, ShiftsUpTo};
-ghost use Rattle.half_store.specs.Table.{state_of_words, IsIndexed, IsIndexedWithGap, TableSearch};
+ghost use Rattle.half_store.specs.Table.{IsIndexed, IsIndexedWithGap};
 
-use super::probe::{find_in, home, next};
+use super::probe::{home, next};
 use crate::Tally;
-use crate::buckets::HashedBuckets;
 use crate::words::Words;
 
-/// Removes the pair at this entry index, and returns its stored hash. The last pair takes its index.
+/// Removes the pair at this entry index, which stands in this bucket, and returns its stored hash. The last pair takes its index.
 #[inline(always)]
-pub(super) fn remove_in<B: Words>(
-    buckets: &mut B,
-    hashes: &mut Vec<u64>,
-    index: usize,
-    tally: &mut Tally,
-) -> u64
-    requires indexed { IsIndexed hashes.old.items (B.words buckets.old) }
-    requires within { index < length hashes.old.items }
-    requires fits { length hashes.old.items ≤ B.most buckets.old }
-    ensures hash { slice_get hashes.old.items index ≡ Some result }
-    ensures hashes { hashes.new.items ≡ swap_remove hashes.old.items index 0 }
-    ensures capacity { vec_capacity hashes.new ≡ vec_capacity hashes.old }
-    ensures indexed { IsIndexed hashes.new.items (B.words buckets.new) }
-    ensures len { length (B.words buckets.new) ≡ length (B.words buckets.old) }
-    ensures most { B.most buckets.new ≡ B.most buckets.old }
-    ensures cost { ReadsWithin (removal_reads hashes.old.items (length (B.words buckets.old)) index)
-        tally.old tally.new }
-{
-    let bucket = bucket_of(buckets, hashes.as_slice(), index, tally);
-    remove_at(buckets, hashes, index, bucket, tally)
-}
-
-/// `remove_in`, where the bucket of the pair is known: it makes no probe for that pair.
-#[inline(always)]
-fn remove_at<B: Words>(
+pub(super) fn remove_at<B: Words>(
     buckets: &mut B,
     hashes: &mut Vec<u64>,
     index: usize,
@@ -94,51 +67,15 @@ fn rename_last<B: Words>(
     }
 }
 
-/// Searches as `find_in` does, and removes the pair that it finds, in the bucket where the probe ended. What the removal
-/// reads beside the search is counted apart.
-#[inline(always)]
-pub(super) fn take_in<B: Words, K, F: Fn(&K) -> bool>(
-    buckets: &mut B,
-    hashes: &mut Vec<u64>,
-    keys: &[K],
-    hash: u64,
-    matches: &F,
-    tally: &mut Tally,
-    removal: &mut Tally,
-) -> Result<(usize, usize), usize>
-    requires indexed { IsIndexed hashes.old.items (B.words buckets.old) }
-    requires fits { length hashes.old.items ≤ B.most buckets.old }
-    requires keys { length hashes.old.items ≤ length keys.now }
-    requires callable { CallableOnHash (F.pre matches.now) hashes.old.items hash keys.now }
-    ensures finds { TableSearch (ReturnsAt (FnReturnsAt F.Fn matches.now) keys.now)
-        (state_of_words hashes.old.items (B.words buckets.old))
-        hash result tally.old tally.new }
-    ensures hashes { IfOk result (λ pair. hashes.new.items
-        ≡ swap_remove hashes.old.items pair.0 0) }
-    ensures cost { IfOk result (λ pair. ReadsWithin (removal_reads
-        hashes.old.items (length (B.words buckets.old)) pair.0) removal.old removal.new) }
-    ensures capacity { vec_capacity hashes.new ≡ vec_capacity hashes.old }
-    ensures indexed { IsIndexed hashes.new.items (B.words buckets.new) }
-    ensures len { length (B.words buckets.new) ≡ length (B.words buckets.old) }
-    ensures most { B.most buckets.new ≡ B.most buckets.old }
-    ensures same { OnErr result ((hashes.new.items ≡ hashes.old.items)
-        × (B.words buckets.new ≡ B.words buckets.old) × (removal.new ≡ removal.old)) }
-{
-    let held = HashedBuckets {
-        buckets: &*buckets,
-        hashes: hashes.as_slice(),
-    };
-    let found = find_in(&held, keys, hash, matches, tally);
-    if let Ok((index, bucket)) = found {
-        remove_at(buckets, hashes, index, bucket, removal);
-    }
-    found
-}
-
 /// The bucket of the pair at this entry index: where a probe from its stored hash meets the index. It reads fewer buckets than
 /// an unsuccessful probe for that hash.
 #[inline(always)]
-fn bucket_of<B: Words>(buckets: &B, hashes: &[u64], index: usize, tally: &mut Tally) -> usize
+pub(super) fn bucket_of<B: Words>(
+    buckets: &B,
+    hashes: &[u64],
+    index: usize,
+    tally: &mut Tally,
+) -> usize
     requires indexed { IsIndexed hashes.now (B.words buckets.now) }
     requires within { index < length hashes.now }
     ensures within { result < length (B.words buckets.now) }

@@ -103,10 +103,9 @@ pub(super) fn find_in<P: Buckets, K, F: Fn(&K) -> bool>(
     requires indexed { IsIndexed (P.hashes buckets.now) (P.words buckets.now) }
     requires keys { length (P.hashes buckets.now) ≤ length keys.now }
     requires callable { CallableOnHash (F.pre matches.now) (P.hashes buckets.now) hash keys.now }
-    ensures finds { TableSearch (ReturnsAt (FnReturnsAt F.Fn matches.now) keys.now)
+    ensures { TableSearch (ReturnsAt (FnReturnsAt F.Fn matches.now) keys.now)
         (state_of_words (P.hashes buckets.now) (P.words buckets.now))
         hash result tally.old tally.new }
-    ensures word { IfOk result (λ pair. slice_index (P.words buckets.now) pair.1 ≡ pair.0 + 1) }
 {
     if buckets.count() == 0 {
         return Err(0);

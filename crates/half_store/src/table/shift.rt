@@ -4,18 +4,19 @@ ghost use Rattle.half_store.specs.Slots.{EachOnce};
 ghost use Rattle.half_store.specs.Work.{looked_more, ReadsWithin};
 ghost use Rattle.half_store.specs.Reach.{reach};
 ghost use Rattle.half_store.specs.StoreRemoval.{MovesToEnd};
-ghost use Rattle.half_store.specs.Table.{IsIndexed};
+ghost use Rattle.half_store.specs.Table.{table_contents, IsIndexed, IsTablePlace};
 
 use super::Table;
-use super::deletion::remove_in;
+use super::deletion::remove_at;
 use crate::Tally;
 use crate::words::{Words, of_either_size};
 
 impl Table {
-    /// Removes the pair at this entry index. Each pair behind it gets the index before its own. It reads each bucket once, and
-    /// then at most as many as two unsuccessful probes for the hash of the pair.
-    pub fn shift_remove(&mut self, index: usize, tally: &mut Tally)
-        requires { index < length self.old.hashes }
+    /// Removes the pair at this entry index, which stands in this bucket. Each pair behind it gets the index before its own. It
+    /// reads each bucket once, and then at most as many as two unsuccessful probes for the hash of the pair.
+    pub fn shift_remove_at(&mut self, index: usize, bucket: usize, tally: &mut Tally)
+        requires within { index < length self.old.hashes }
+        requires at { IsTablePlace (table_contents self.old) index bucket }
         ensures hashes { self.new.hashes ≡ remove self.old.hashes index }
         ensures buckets { self.new.buckets ≡ self.old.buckets }
         ensures cost { ReadsWithin (self.old.buckets + 2 * reach self.old.hashes self.old.buckets
@@ -23,15 +24,22 @@ impl Table {
     {
         of_either_size!(
             &mut self.buckets,
-            buckets => shift_in(buckets, &mut self.hashes, index, tally)
+            buckets => shift_in(buckets, &mut self.hashes, index, bucket, tally)
         )
     }
 }
 
-/// Removes the pair at this entry index, as `Table::shift_remove` does.
-fn shift_in<B: Words>(buckets: &mut B, hashes: &mut Vec<u64>, index: usize, tally: &mut Tally)
+/// Removes the pair at this entry index, as `Table::shift_remove_at` does.
+fn shift_in<B: Words>(
+    buckets: &mut B,
+    hashes: &mut Vec<u64>,
+    index: usize,
+    bucket: usize,
+    tally: &mut Tally,
+)
     requires indexed { IsIndexed hashes.old.items (B.words buckets.old) }
     requires within { index < length hashes.old.items }
+    requires at { slice_index (B.words buckets.old) bucket ≡ index + 1 }
     requires fits { length hashes.old.items ≤ B.most buckets.old }
     ensures hashes { hashes.new.items ≡ remove hashes.old.items index }
     ensures capacity { vec_capacity hashes.new ≡ vec_capacity hashes.old }
@@ -45,7 +53,7 @@ fn shift_in<B: Words>(buckets: &mut B, hashes: &mut Vec<u64>, index: usize, tall
     let hash = hashes.remove(index);
     let last = hashes.len();
     hashes.push_reserved(hash);
-    remove_in(buckets, hashes, last, tally);
+    remove_at(buckets, hashes, last, bucket, tally);
 }
 
 /// Makes the pair at this entry index the last one, as far as the buckets go: each pair behind it gets the index before its own.

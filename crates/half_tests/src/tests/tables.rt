@@ -53,7 +53,8 @@ fn remove(table: &mut Table, index: usize, hash: u64) -> Result<(), Fail> {
     if index >= table.len() {
         return Err(Fail::new("no pair has this entry index"));
     }
-    let removed = table.remove(index, &mut Tally::new());
+    let bucket = table.bucket_of(index, &mut Tally::new());
+    let removed = table.remove_at(index, bucket, &mut Tally::new());
     assert_same_at(index, removed, hash, "its hash")
 }
 

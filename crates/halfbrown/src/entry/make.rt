@@ -11,7 +11,7 @@ ghost use Rattle.halfbrown.specs.EntryView.{IsEntryAt};
 use super::{Entry, OccupiedEntry, VacantEntry};
 use crate::map::prepare::Place;
 use crate::{KeyHasher, Limit, LimitedHashMap, RefusedKey};
-use half_store::{Tally, uncounted};
+use half_store::{Found, Tally, uncounted};
 use std::hash::Hash;
 
 impl<K: Eq + Hash, V, S: KeyHasher<K>, L: Limit> LimitedHashMap<K, V, S, L> {
@@ -56,7 +56,11 @@ impl<K: Eq + Hash, V, S: KeyHasher<K>, L: Limit> LimitedHashMap<K, V, S, L> {
             tally.old tally.new }
     {
         match self.prepare(&key, tally) {
-            Ok(Place::Held(index)) => Ok(Entry::Occupied(OccupiedEntry { map: self, index })),
+            Ok(Place::Held(Found { index, bucket })) => Ok(Entry::Occupied(OccupiedEntry {
+                map: self,
+                index,
+                bucket,
+            })),
             Ok(Place::Vacant(vacancy)) => Ok(Entry::Vacant(VacantEntry {
                 map: self,
                 key,
@@ -67,7 +71,7 @@ impl<K: Eq + Hash, V, S: KeyHasher<K>, L: Limit> LimitedHashMap<K, V, S, L> {
     }
 
     /// Returns the entry of the pair at this index, or none where the index is not below `len`. Nothing is hashed or
-    /// compared, and no memory is needed.
+    /// compared, and no memory is needed. In a table the bucket of the pair is probed for.
     ///
     /// ```
     /// if let Some(mut entry) = ages.get_index_entry(1) {
@@ -84,7 +88,12 @@ impl<K: Eq + Hash, V, S: KeyHasher<K>, L: Limit> LimitedHashMap<K, V, S, L> {
         ensures held { IsSome result ↔ (index < length self.old.pairs) }
     {
         if index < self.len() {
-            Some(OccupiedEntry { map: self, index })
+            let Found { index, bucket } = self.place_of(index);
+            Some(OccupiedEntry {
+                map: self,
+                index,
+                bucket,
+            })
         } else {
             None
         }

@@ -15,6 +15,7 @@ ghost use Rattle.halfbrown.specs.Updates.{HasKeyReplaced};
 
 use super::OccupiedEntry;
 use crate::{KeyHasher, Limit};
+use half_store::Found;
 use std::hash::Hash;
 
 impl<'a, K: Eq + Hash, V, S: KeyHasher<K>, L: Limit> OccupiedEntry<'a, K, V, S, L> {
@@ -203,8 +204,8 @@ impl<'a, K: Eq + Hash, V, S: KeyHasher<K>, L: Limit> OccupiedEntry<'a, K, V, S, 
         self.map.set_key_at(index, key)
     }
 
-    /// Removes the pair, and returns its value. The last pair takes its index. Nothing is hashed or compared. In a table
-    /// the bucket of the pair is probed for, and that of the last pair if it is another.
+    /// Removes the pair, and returns its value. The last pair takes its index. Nothing is hashed or compared, and the pair is
+    /// not probed for. In a table the bucket of the last pair is, if it is another.
     ///
     /// ```
     /// assert_eq!(rt; entry.remove(), 36);
@@ -223,7 +224,7 @@ impl<'a, K: Eq + Hash, V, S: KeyHasher<K>, L: Limit> OccupiedEntry<'a, K, V, S, 
     }
 
     /// Removes the pair, and returns the stored key and the value. The last pair takes its index. Nothing is hashed or
-    /// compared. In a table the bucket of the pair is probed for, and that of the last pair if it is another.
+    /// compared, and the pair is not probed for. In a table the bucket of the last pair is, if it is another.
     ///
     /// ```
     /// assert_eq!(rt; entry.remove_entry(), (1, 36));
@@ -238,6 +239,7 @@ impl<'a, K: Eq + Hash, V, S: KeyHasher<K>, L: Limit> OccupiedEntry<'a, K, V, S, 
         ensures valid { IsValid L.LIMIT K.eq self.exit.0.now }
     {
         let index = self.index;
-        self.map.take_at(index)
+        let bucket = self.bucket;
+        self.map.take_at(Found { index, bucket })
     }
 }

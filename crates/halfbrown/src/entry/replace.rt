@@ -8,7 +8,7 @@ ghost use Rattle.halfbrown.specs.State.{IsValid};
 
 use super::{Entry, OccupiedEntry, VacantEntry};
 use crate::{KeyHasher, Limit};
-use half_store::{Tally, uncounted};
+use half_store::{Found, Tally, uncounted};
 use std::hash::Hash;
 
 impl<'a, K: Eq + Hash, V, S: KeyHasher<K>, L: Limit> OccupiedEntry<'a, K, V, S, L> {
@@ -51,9 +51,10 @@ impl<'a, K: Eq + Hash, V, S: KeyHasher<K>, L: Limit> OccupiedEntry<'a, K, V, S, 
         ensures cost { IsReplacementCost S.hash (view result) tally.old tally.new }
     {
         let index = self.index;
+        let bucket = self.bucket;
         let map = self.map;
-        match map.replace_at(index, f) {
-            Ok(index) => Entry::Occupied(OccupiedEntry { map, index }),
+        match map.replace_at(Found { index, bucket }, f) {
+            Ok(Found { index, bucket }) => Entry::Occupied(OccupiedEntry { map, index, bucket }),
             Err((key, hash)) => {
                 let vacancy = map.vacancy_for(hash, tally);
                 Entry::Vacant(VacantEntry { map, key, vacancy })

@@ -73,8 +73,7 @@ impl<'a, K: Eq + Hash, V, S: KeyHasher<K>, L: Limit> VacantEntry<'a, K, V, S, L>
         ensures value { result.now ≡ value }
     {
         let VacantEntry { map, key, vacancy } = self;
-        let index = map.len();
-        map.push(key, value, vacancy);
-        map.pair_at_mut(index).1
+        let added = map.push(key, value, vacancy);
+        map.pair_at_mut(added.index).1
     }
 }

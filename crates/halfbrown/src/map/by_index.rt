@@ -152,7 +152,10 @@ impl<K: Eq + Hash, V, S: KeyHasher<K>, L: Limit> LimitedHashMap<K, V, S, L> {
             tally.old tally.new }
         ensures valid { IsValid L.LIMIT K.eq self.now }
     {
-        self.find(key, tally).ok()
+        match self.find(key, tally) {
+            Ok(found) => Some(found.index),
+            Err(_) => None,
+        }
     }
 
     /// Removes the pair at this index, and returns it. The last pair takes its index. Where the index is not below
@@ -168,7 +171,8 @@ impl<K: Eq + Hash, V, S: KeyHasher<K>, L: Limit> LimitedHashMap<K, V, S, L> {
         ensures { RemovesAt L.LIMIT K.eq self.old index result self.new }
     {
         if index < self.len() {
-            Some(self.take_at(index))
+            let found = self.place_of(index);
+            Some(self.take_at(found))
         } else {
             None
         }

@@ -2,8 +2,7 @@
 ghost use Rattle.std.specs.Prelude.{◌≡◌, ◌+◌, true, false, length};
 ghost use Rattle.std.specs.Fn.{FnReturnsAt};
 ghost use Rattle.std.specs.Map.{keys_of};
-ghost use Rattle.std.specs.Result.{result_ok};
-ghost use Rattle.half_store.specs.Search.{CallableOnKeys};
+ghost use Rattle.half_store.specs.Search.{CallableOnKeys, found_index};
 ghost use Rattle.half_store.specs.Work.{asked_more, first_match_cost};
 ghost use Rattle.halfbrown.specs.Costs.{IsLookupCost, IsHashedLookupCost, IsSearchCost, search_asked};
 ghost use Rattle.halfbrown.specs.Lookup.{KeySearch, MatchSearch};
@@ -11,13 +10,13 @@ ghost use Rattle.halfbrown.specs.State.{IsValid};
 
 use super::LimitedHashMap;
 use crate::{Equivalent, KeyHasher, Limit};
-use half_store::{Scan, Tally, Vacancy};
+use half_store::{Found, Scan, Tally, Vacancy};
 use std::hash::Hash;
 
 impl<K: Eq + Hash, V, S: KeyHasher<K>, L: Limit> LimitedHashMap<K, V, S, L> {
     /// Searches for a key: in a vector from first to last, in a table among the keys of its hash.
     #[inline(always)]
-    pub(crate) fn find<Q: Equivalent<K>>(&self, key: Q, tally: &mut Tally) -> Result<usize, Vacancy>
+    pub(crate) fn find<Q: Equivalent<K>>(&self, key: Q, tally: &mut Tally) -> Result<Found, Vacancy>
         ensures found { KeySearch (Q.equivalent key)
             (S.hash_writes self.now.builder (Q.hash_input key)) self.now result }
         ensures cost { IsLookupCost S.KeyHasher Q.hash_input Q.equivalent key self.now
@@ -25,7 +24,7 @@ impl<K: Eq + Hash, V, S: KeyHasher<K>, L: Limit> LimitedHashMap<K, V, S, L> {
         ensures valid { IsValid L.LIMIT K.eq self.now }
     {
         let hash = self.hash_in_table(&key, tally);
-        self.find_hashed(hash, key, tally)
+        self.find_hashed(hash, key, Scan::ByBlock, tally)
     }
 
     /// `find`, under a hash that is known. A vector does not look at it.
@@ -34,8 +33,9 @@ impl<K: Eq + Hash, V, S: KeyHasher<K>, L: Limit> LimitedHashMap<K, V, S, L> {
         &self,
         hash: u64,
         key: Q,
+        scan: Scan,
         tally: &mut Tally,
-    ) -> Result<usize, Vacancy>
+    ) -> Result<Found, Vacancy>
         requires known { self.now.is_vec ≡ false
             → hash ≡ S.hash_writes self.now.builder (Q.hash_input key) }
         ensures found { KeySearch (Q.equivalent key)
@@ -47,7 +47,7 @@ impl<K: Eq + Hash, V, S: KeyHasher<K>, L: Limit> LimitedHashMap<K, V, S, L> {
         let matches = move |held: &K| -> bool
             ensures { result ≡ Q.equivalent key held.now }
         { key.equivalent(held) };
-        self.store.find(hash, &matches, Scan::ByBlock, tally)
+        self.store.find(hash, &matches, scan, tally)
     }
 
     /// Searches for a key that `matches` accepts: in a vector for the first, in a table among the keys of this hash.
@@ -57,12 +57,12 @@ impl<K: Eq + Hash, V, S: KeyHasher<K>, L: Limit> LimitedHashMap<K, V, S, L> {
         hash: u64,
         matches: &F,
         tally: &mut Tally,
-    ) -> Result<usize, Vacancy>
+    ) -> Result<Found, Vacancy>
         requires { CallableOnKeys (F.pre matches.now) (keys_of self.now.pairs) }
         ensures found { MatchSearch (FnReturnsAt F.Fn matches.now) S.hash hash self.now result }
-        ensures cost { IsSearchCost S.hash hash self.now (result_ok result) 0 tally.old tally.new }
+        ensures cost { IsSearchCost S.hash hash self.now (found_index result) 0 tally.old tally.new }
         ensures in_order { self.now.is_vec ≡ true → tally.new.compared
-            ≡ tally.old.compared + first_match_cost (result_ok result) (length self.now.pairs) }
+            ≡ tally.old.compared + first_match_cost (found_index result) (length self.now.pairs) }
         ensures valid { IsValid L.LIMIT K.eq self.now }
     {
         self.store.find(hash, matches, Scan::ByKey, tally)

@@ -44,7 +44,7 @@ impl<K: Eq + Hash, V, S: KeyHasher<K>, L: Limit> LimitedHashMap<K, V, S, L> {
         ensures valid { IsValid L.LIMIT K.eq self.now }
     {
         match self.find(key, tally) {
-            Ok(index) => Some(self.pair_at(index).1),
+            Ok(found) => Some(self.pair_at(found.index).1),
             Err(_) => None,
         }
     }
@@ -75,7 +75,7 @@ impl<K: Eq + Hash, V, S: KeyHasher<K>, L: Limit> LimitedHashMap<K, V, S, L> {
         ensures valid { IsValid L.LIMIT K.eq self.now }
     {
         match self.find(key, tally) {
-            Ok(index) => Some(self.pair_at(index)),
+            Ok(found) => Some(self.pair_at(found.index)),
             Err(_) => None,
         }
     }
@@ -112,7 +112,7 @@ impl<K: Eq + Hash, V, S: KeyHasher<K>, L: Limit> LimitedHashMap<K, V, S, L> {
         ensures valid { IsValid L.LIMIT K.eq self.old }
     {
         match self.find(key, tally) {
-            Ok(index) => Some(self.pair_at_mut(index).1),
+            Ok(found) => Some(self.pair_at_mut(found.index).1),
             Err(_) => None,
         }
     }

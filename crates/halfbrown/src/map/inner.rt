@@ -8,18 +8,18 @@ ghost use Rattle.std.specs.Option.{option_map};
 ghost use Rattle.std.specs.Result.{result_err};
 ghost use Rattle.half_store.specs.PairLists.{set_key_at, set_value_at, swap_remove_at};
 ghost use Rattle.half_store.specs.Work.{looked_more};
-ghost use Rattle.half_store.specs.Store.{IsVacancy};
+ghost use Rattle.half_store.specs.Store.{IsPlaced, IsVacancy};
 ghost use Rattle.half_store.specs.ValueReplacement.{kept_index, ReplacesValue};
 ghost use Rattle.halfbrown.specs.Costs.{probe_length};
 ghost use Rattle.halfbrown.specs.Pairs.{holds};
 ghost use Rattle.halfbrown.specs.Insertion.{pushed};
 ghost use Rattle.halfbrown.specs.State.{IsValid, IsTableCapacity, WithPairs, contents_of};
 ghost use Rattle.halfbrown.specs.Layout.{state_in};
-ghost use Rattle.halfbrown.specs.Updates.{HasKeyReplaced};
+ghost use Rattle.halfbrown.specs.Updates.{HasKeyReplaced, ShiftRemovesAt};
 
 use super::LimitedHashMap;
 use crate::{KeyHasher, Limit};
-use half_store::{Columns, Drained, IntoStore, Tally, Vacancy};
+use half_store::{Columns, Drained, Found, IntoStore, Tally, Vacancy};
 use std::hash::Hash;
 use std::mem::replace;
 
@@ -65,6 +65,7 @@ impl<K: Eq + Hash, V, S: KeyHasher<K>, L: Limit> LimitedHashMap<K, V, S, L> {
             (λ k. K.eq key k ≡ true) }
         ensures old { slice_get (keys_of self.old.pairs) index ≡ Some result }
         ensures after { WithPairs self.old (set_key_at self.old.pairs index key) self.new }
+        ensures contents { contents_of self.new ≡ contents_of self.old }
         ensures replaced { HasKeyReplaced K.eq self.old.pairs key self.new.pairs }
         ensures valid { IsValid L.LIMIT K.eq self.new }
     {
@@ -95,47 +96,73 @@ impl<K: Eq + Hash, V, S: KeyHasher<K>, L: Limit> LimitedHashMap<K, V, S, L> {
         replace(held, value)
     }
 
-    /// Adds a pair whose key is not held, at a vacancy for it. It probes nothing.
+    /// Where the pair at this index is held. In a table its bucket is probed for.
     #[inline(always)]
-    pub(crate) fn push(&mut self, key: K, value: V, vacancy: Vacancy)
+    pub(crate) fn place_of(&self, index: usize) -> Found
+        requires { index < length self.now.pairs }
+        ensures index { result.index ≡ index }
+        ensures placed { IsPlaced self.now.is_vec (contents_of self.now) result }
+    {
+        self.store.place_of(index)
+    }
+
+    /// Adds a pair whose key is not held, at a vacancy for it, and returns where it is held. It probes nothing.
+    #[inline(always)]
+    pub(crate) fn push(&mut self, key: K, value: V, vacancy: Vacancy) -> Found
         requires capacity { length self.old.pairs < self.old.capacity }
         requires absent { holds K.eq self.old.pairs key ≡ false }
         requires vacant { IsVacancy self.old.is_vec (contents_of self.old)
             (S.hash self.old.builder key) vacancy }
         ensures exact { self.new ≡ pushed self.old key value vacancy }
         ensures after { WithPairs self.old (self.old.pairs ++ (key, value) ∷ []) self.new }
+        ensures index { result.index ≡ length self.old.pairs }
+        ensures placed { IsPlaced self.new.is_vec (contents_of self.new) result }
         ensures valid { IsValid L.LIMIT K.eq self.new }
     {
-        self.store.push(key, value, vacancy);
+        self.store.push(key, value, vacancy)
     }
 
-    /// Removes the pair at this index.
+    /// Removes the pair that is held here. The last pair takes its index.
     #[inline(always)]
-    pub(crate) fn take_at(&mut self, index: usize) -> (K, V)
-        requires { index < length self.old.pairs }
-        ensures taken { slice_get self.old.pairs index ≡ Some result }
-        ensures value { slice_get (values_of self.old.pairs) index ≡ Some result.1 }
-        ensures after { WithPairs self.old (swap_remove_at self.old.pairs index) self.new }
+    pub(crate) fn take_at(&mut self, found: Found) -> (K, V)
+        requires within { found.index < length self.old.pairs }
+        requires placed { IsPlaced self.old.is_vec (contents_of self.old) found }
+        ensures taken { slice_get self.old.pairs found.index ≡ Some result }
+        ensures value { slice_get (values_of self.old.pairs) found.index ≡ Some result.1 }
+        ensures after { WithPairs self.old (swap_remove_at self.old.pairs found.index) self.new }
         ensures valid { IsValid L.LIMIT K.eq self.new }
     {
-        self.store.swap_remove(index)
+        self.store.take_at(found)
     }
 
-    /// Hands the value of the pair at this index to `f`, with its key. Where `f` returns a value the pair has that one, and
-    /// its index is returned: in a vector it goes last, and the last pair takes its index; in a table it stays. Where `f`
+    /// Removes the pair that is held here. Each pair behind it gets the index before its own.
+    #[inline]
+    pub(crate) fn shift_take_at(&mut self, found: Found) -> (K, V)
+        requires within { found.index < length self.old.pairs }
+        requires placed { IsPlaced self.old.is_vec (contents_of self.old) found }
+        ensures { ShiftRemovesAt L.LIMIT K.eq self.old found.index (Some result) self.new }
+    {
+        self.store.shift_take_at(found)
+    }
+
+    /// Hands the value of the pair that is held here to `f`, with its key. Where `f` returns a value the pair has that one, and
+    /// where it is held is returned: in a vector it goes last, and the last pair takes its index; in a table it stays. Where `f`
     /// returns none the pair is removed, and its key returned with its hash, at which a vector does not look.
     #[inline]
     pub(crate) fn replace_at<F: FnOnce(&K, V) -> Option<V>>(
         &mut self,
-        index: usize,
+        found: Found,
         f: F,
-    ) -> Result<usize, (K, u64)>
-        requires within { index < length self.old.pairs }
+    ) -> Result<Found, (K, u64)>
+        requires within { found.index < length self.old.pairs }
+        requires placed { IsPlaced self.old.is_vec (contents_of self.old) found }
         requires callable { (key : Bor K) (value : V)
-            → slice_get self.old.pairs index ≡ Some (key.now, value) → F.pre f key value }
-        ensures replaces { ReplacesValue (F.post f) self.old.is_vec self.old.pairs index
+            → slice_get self.old.pairs found.index ≡ Some (key.now, value) → F.pre f key value }
+        ensures replaces { ReplacesValue (F.post f) self.old.is_vec self.old.pairs found.index
             self.new.pairs (option_map (λ removed. removed.0) (result_err result)) }
-        ensures at { IfOk result (λ at. at ≡ kept_index self.old.is_vec self.old.pairs index) }
+        ensures at { IfOk result
+            (λ at. at.index ≡ kept_index self.old.is_vec self.old.pairs found.index) }
+        ensures placed { IfOk result (IsPlaced self.new.is_vec (contents_of self.new)) }
         ensures after { WithPairs self.old self.new.pairs self.new }
         ensures hash { IfErr result
             (λ removed. self.new.is_vec ≡ false → removed.1 ≡ S.hash self.new.builder removed.0) }
@@ -143,7 +170,7 @@ impl<K: Eq + Hash, V, S: KeyHasher<K>, L: Limit> LimitedHashMap<K, V, S, L> {
         ensures capacity_left { OnErr result (length self.new.pairs < self.new.capacity) }
         ensures valid { IsValid L.LIMIT K.eq self.new }
     {
-        self.store.replace_with(index, f)
+        self.store.replace_with(found, f)
     }
 
     /// Takes the store out, with all pairs. An empty vector without memory is left, and the builder.

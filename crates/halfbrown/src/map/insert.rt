@@ -53,7 +53,7 @@ impl<K: Eq + Hash, V, S: KeyHasher<K>, L: Limit> LimitedHashMap<K, V, S, L> {
     {
         // Not by `insert_full_counted`: some loops of a caller then take up to 1.3 times as long.
         match self.prepare(&key, tally) {
-            Ok(Place::Held(index)) => Ok(Some(self.set_at(index, value))),
+            Ok(Place::Held(found)) => Ok(Some(self.set_at(found.index, value))),
             Ok(Place::Vacant(vacancy)) => {
                 self.push(key, value, vacancy);
                 Ok(None)
@@ -92,11 +92,10 @@ impl<K: Eq + Hash, V, S: KeyHasher<K>, L: Limit> LimitedHashMap<K, V, S, L> {
             tally.old tally.new }
     {
         match self.prepare(&key, tally) {
-            Ok(Place::Held(index)) => Ok((index, Some(self.set_at(index, value)))),
+            Ok(Place::Held(found)) => Ok((found.index, Some(self.set_at(found.index, value)))),
             Ok(Place::Vacant(vacancy)) => {
-                let index = self.len();
-                self.push(key, value, vacancy);
-                Ok((index, None))
+                let added = self.push(key, value, vacancy);
+                Ok((added.index, None))
             }
             Err(why) => Err(Refused { key, value, why }),
         }

@@ -11,13 +11,13 @@ ghost use Rattle.halfbrown.specs.State.{contents_of};
 
 use super::LimitedHashMap;
 use crate::{KeyHasher, Limit};
-use half_store::{Refusal, Tally, Vacancy};
+use half_store::{Found, Refusal, Tally, Vacancy};
 use std::hash::Hash;
 
 /// Where the pair of a key is, or may be added.
 pub(crate) enum Place {
-    /// The key is held, at this index.
-    Held(usize),
+    /// The key is held, here.
+    Held(Found),
     /// It is not held, and its pair may be added here.
     Vacant(Vacancy),
 }
@@ -34,7 +34,7 @@ impl<K: Eq + Hash, V, S: KeyHasher<K>, L: Limit> LimitedHashMap<K, V, S, L> {
     {
         self.switch_if_full(tally)?;
         match self.find(key, tally) {
-            Ok(index) => Ok(Place::Held(index)),
+            Ok(found) => Ok(Place::Held(found)),
             Err(vacancy) => Ok(Place::Vacant(self.reserve_one_keeping(vacancy, tally)?)),
         }
     }

@@ -7,7 +7,7 @@ ghost use Rattle.halfbrown.specs.Updates.{Removes, ShiftRemoves, ShiftRemovesAt}
 
 use super::LimitedHashMap;
 use crate::{Equivalent, KeyHasher, Limit};
-use half_store::{Tally, uncounted};
+use half_store::{Scan, Tally, uncounted};
 use std::hash::Hash;
 
 impl<K: Eq + Hash, V, S: KeyHasher<K>, L: Limit> LimitedHashMap<K, V, S, L> {
@@ -130,10 +130,10 @@ impl<K: Eq + Hash, V, S: KeyHasher<K>, L: Limit> LimitedHashMap<K, V, S, L> {
         ensures cost { IsHashedLookupCost S.KeyHasher Q.hash_input Q.equivalent key self.old
             tally.old tally.new }
     {
-        let matches = move |held: &K| -> bool
-            ensures { result ≡ Q.equivalent key held.now }
-        { key.equivalent(held) };
-        self.store.take(hash, &matches, tally)
+        match self.find_hashed(hash, key, Scan::ByKey, tally) {
+            Ok(found) => Some(self.take_at(found)),
+            Err(_) => None,
+        }
     }
 
     /// Removes the pair of the held key that equals this one, and returns its value. Each pair behind it gets the index
@@ -196,8 +196,10 @@ impl<K: Eq + Hash, V, S: KeyHasher<K>, L: Limit> LimitedHashMap<K, V, S, L> {
         ensures cost { IsLookupCost S.KeyHasher Q.hash_input Q.equivalent key self.old
             tally.old tally.new }
     {
-        let index = self.get_index_of_counted(key, tally)?;
-        self.shift_remove_index(index)
+        match self.find(key, tally) {
+            Ok(found) => Some(self.shift_take_at(found)),
+            Err(_) => None,
+        }
     }
 
     /// Removes the pair at this index, and returns it. Each pair behind it gets the index before its own. Where the index is
@@ -212,7 +214,8 @@ impl<K: Eq + Hash, V, S: KeyHasher<K>, L: Limit> LimitedHashMap<K, V, S, L> {
         ensures { ShiftRemovesAt L.LIMIT K.eq self.old index result self.new }
     {
         if index < self.len() {
-            Some(self.store.shift_remove(index))
+            let found = self.place_of(index);
+            Some(self.shift_take_at(found))
         } else {
             None
         }

@@ -17,7 +17,7 @@ ghost use Rattle.halfbrown.specs.RawEntry.{map_in, prepared_map, prepared_ref, M
 
 use super::{Prepared, RawEntryBuilder, RawEntryBuilderMut, RawEntryMut, RawVacantEntryMut};
 use crate::{Equivalent, KeyHasher, Limit, LimitedHashMap, OccupiedEntry};
-use half_store::{Refusal, Tally, uncounted};
+use half_store::{Found, Refusal, Scan, Tally, uncounted};
 use std::hash::Hash;
 
 impl<K: Eq + Hash, V, S: KeyHasher<K>, L: Limit> LimitedHashMap<K, V, S, L> {
@@ -96,7 +96,7 @@ impl<'a, K: Eq + Hash, V, S: KeyHasher<K>, L: Limit> RawEntryBuilder<'a, K, V, S
             tally.old tally.new }
     {
         match self.map.find(key, tally) {
-            Ok(index) => Some(self.map.pair_at(index)),
+            Ok(found) => Some(self.map.pair_at(found.index)),
             Err(_) => None,
         }
     }
@@ -132,8 +132,8 @@ impl<'a, K: Eq + Hash, V, S: KeyHasher<K>, L: Limit> RawEntryBuilder<'a, K, V, S
         ensures cost { IsHashedLookupCost S.KeyHasher Q.hash_input Q.equivalent key (map_in self.entry)
             tally.old tally.new }
     {
-        match self.map.find_hashed(hash, key, tally) {
-            Ok(index) => Some(self.map.pair_at(index)),
+        match self.map.find_hashed(hash, key, Scan::ByBlock, tally) {
+            Ok(found) => Some(self.map.pair_at(found.index)),
             Err(_) => None,
         }
     }
@@ -171,7 +171,7 @@ impl<'a, K: Eq + Hash, V, S: KeyHasher<K>, L: Limit> RawEntryBuilder<'a, K, V, S
             tally.old tally.new }
     {
         match self.map.find_match(hash, &is_match, tally) {
-            Ok(index) => Some(self.map.pair_at(index)),
+            Ok(found) => Some(self.map.pair_at(found.index)),
             Err(_) => None,
         }
     }
@@ -209,9 +209,10 @@ impl<'a, K: Eq + Hash, V, S: KeyHasher<K>, L: Limit> RawEntryBuilderMut<'a, K, V
     {
         let RawEntryBuilderMut::Prepared(prepared) = self;
         match prepared.map.find(key, tally) {
-            Ok(index) => RawEntryMut::Occupied(OccupiedEntry {
+            Ok(Found { index, bucket }) => RawEntryMut::Occupied(OccupiedEntry {
                 map: prepared.map,
                 index,
+                bucket,
             }),
             Err(_) => RawEntryMut::Vacant(RawVacantEntryMut { map: prepared.map }),
         }
@@ -252,10 +253,11 @@ impl<'a, K: Eq + Hash, V, S: KeyHasher<K>, L: Limit> RawEntryBuilderMut<'a, K, V
             tally.old tally.new }
     {
         let RawEntryBuilderMut::Prepared(prepared) = self;
-        match prepared.map.find_hashed(hash, key, tally) {
-            Ok(index) => RawEntryMut::Occupied(OccupiedEntry {
+        match prepared.map.find_hashed(hash, key, Scan::ByBlock, tally) {
+            Ok(Found { index, bucket }) => RawEntryMut::Occupied(OccupiedEntry {
                 map: prepared.map,
                 index,
+                bucket,
             }),
             Err(_) => RawEntryMut::Vacant(RawVacantEntryMut { map: prepared.map }),
         }
@@ -297,9 +299,10 @@ impl<'a, K: Eq + Hash, V, S: KeyHasher<K>, L: Limit> RawEntryBuilderMut<'a, K, V
     {
         let RawEntryBuilderMut::Prepared(prepared) = self;
         match prepared.map.find_match(hash, &is_match, tally) {
-            Ok(index) => RawEntryMut::Occupied(OccupiedEntry {
+            Ok(Found { index, bucket }) => RawEntryMut::Occupied(OccupiedEntry {
                 map: prepared.map,
                 index,
+                bucket,
             }),
             Err(_) => RawEntryMut::Vacant(RawVacantEntryMut { map: prepared.map }),
         }

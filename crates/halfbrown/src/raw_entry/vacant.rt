@@ -12,7 +12,7 @@ ghost use Rattle.halfbrown.specs.RawEntry.{work_after_adding, work_after_probe};
 
 use super::RawVacantEntryMut;
 use crate::{KeyHasher, Limit, OccupiedEntry};
-use half_store::{Tally, uncounted};
+use half_store::{Found, Tally, uncounted};
 use std::hash::Hash;
 
 impl<'a, K: Eq + Hash, V, S: KeyHasher<K>, L: Limit> RawVacantEntryMut<'a, K, V, S, L> {
@@ -204,8 +204,7 @@ impl<'a, K: Eq + Hash, V, S: KeyHasher<K>, L: Limit> RawVacantEntryMut<'a, K, V,
     {
         let map = self.map;
         let vacancy = map.vacancy_for(hash, tally);
-        let index = map.len();
-        map.push(key, value, vacancy);
-        OccupiedEntry { map, index }
+        let Found { index, bucket } = map.push(key, value, vacancy);
+        OccupiedEntry { map, index, bucket }
     }
 }

@@ -4,6 +4,7 @@ use Rattle.half_store.proofs.Common.{slice_get_within, slice_get, ColumnsState, 
 use Rattle.half_store.proofs.Common.{Work}
 use Rattle.std.proofs.Common.{Ok, Err, true≢false}
 use Rattle.std.specs.Map.{keys_of}
+use Rattle.half_store.specs.declared.store.find.Found.{Found}
 use Rattle.half_store.specs.declared.store.find.Vacancy.{Vacancy}
 use Rattle.half_store.specs.declared.vecmap.search.Scan.{Scan}
 use Rattle.half_store.specs.Search.{IsFirstMatch, StoreSearch, ComparesInOrder, IsStoreSearchCost}
@@ -38,15 +39,18 @@ module _ {K V : Type 0} (columns : ColumnsState K V) {keys : List K} (same : key
       })
 
   module _ {returns : K → Bool → Type 0} {hash : ℕ} {s : StoreState K V} where
-    pub vector_accepts : vector_of columns ≡ s → {index : ℕ} → IsFirstMatch returns keys (Some index) → StoreSearch returns s hash (Ok index)
-    vector_accepts is {index} told =
-        subst (λ (s : StoreState K V). StoreSearch returns s hash (Ok index)) is
-        (record {
-          within = omega (arith, told.found, ap length same, length-keys_of columns.pairs);
-          accepted = read index told.found.1;
-          first = λ form earlier before. read earlier (told.none_before earlier before);
-          hashed = λ form. absurd (true≢false form);
-        })
+    pub vector_accepts : vector_of columns ≡ s → (found : Found) → IsFirstMatch returns keys (Some found.index) → StoreSearch returns s hash (Ok found)
+    vector_accepts is found told =
+        let index = found.index in
+        subst (λ (s : StoreState K V). StoreSearch returns s hash (Ok found)) is (
+          record {
+            within = omega (arith, told.found, ap length same, length-keys_of columns.pairs);
+            accepted = read index told.found.1;
+            first = λ form earlier before. read earlier (told.none_before earlier before);
+            hashed = λ form. absurd (true≢false form);
+          },
+          λ form. absurd (true≢false form),
+        )
 
     pub vector_refuses : vector_of columns ≡ s → {vacancy : Vacancy} → IsFirstMatch returns keys None → StoreSearch returns s hash (Err vacancy)
     vector_refuses is {vacancy} told =
@@ -60,15 +64,17 @@ module _ {K V : Type 0} (columns : ColumnsState K V) {keys : List K} (same : key
 
     module _ {t : TableState} (is : table_of columns t ≡ s) {old new : Work} where
       pub table_accepts : TableFitsColumns columns t → {index bucket : ℕ} → TableSearch (ReturnsAt returns keys) t hash (Ok (index, bucket)) old new
-          → StoreSearch returns s hash (Ok index)
-      table_accepts kept {index} found =
-          subst (λ (s : StoreState K V). StoreSearch returns s hash (Ok index)) is
-          (record {
-            within = omega (arith, slice_get_within t.hashes index hash found.found, kept.len);
-            accepted = read index found.accepted;
-            first = λ form. absurd (true≢false (sym form));
-            hashed = λ form k at. found.found;
-          })
+          → StoreSearch returns s hash (Ok (record { index = index; bucket = bucket }))
+      table_accepts kept {index} {bucket} found =
+          subst (λ (s : StoreState K V). StoreSearch returns s hash (Ok (record { index = index; bucket = bucket }))) is (
+            record {
+              within = omega (arith, slice_get_within t.hashes index hash found.found, kept.len);
+              accepted = read index found.accepted;
+              first = λ form. absurd (true≢false (sym form));
+              hashed = λ form k at. found.found;
+            },
+            λ form. found.at,
+          )
 
       pub table_refuses : {bucket : ℕ} → TableSearch (ReturnsAt returns keys) t hash (Err bucket) old new
           → StoreSearch returns s hash (Err (record { hash = hash; bucket = bucket }))

@@ -8,7 +8,7 @@ use Rattle.std.specs.Borrow.{Bor}
 use Rattle.std.specs.Global.{Box}
 use Rattle.half_store.specs.PairLists.{length-set_value_at}
 use Rattle.half_store.specs.ValueReplacement.{kept_pairs, with_answer, ReplacesValue}
-use Rattle.half_store.specs.Store.{StoreState, IsStore, TableFitsColumns, SameFormAndCapacity, store_of}
+use Rattle.half_store.specs.Store.{StoreState, IsStore, TableFitsColumns, store_of}
 
 module _ {K V : Type 0} where
   pub length-set_key_at : (ps : List (K × V)) (i : ℕ) (k : K) → length (set_key_at ps i k) ≡ length ps
@@ -40,12 +40,6 @@ module _ {K V : Type 0} where
   pub pairs_of-store : (columns : ColumnsState K V) (index : Option (Box TableState)) → (store_of columns index).pairs ≡ columns.pairs
   pairs_of-store columns None = refl
   pairs_of-store columns (Some t) = refl
-
-  -- the form stays where a table has another index with as many buckets, and the capacity of the columns stays
-  pub table_keeps_form : (old new : ColumnsState K V) {t : Box TableState} {after : TableState} {index : Option (Box TableState)} {s : StoreState K V}
-      → index ≡ Some t → store_of old index ≡ s → after.buckets ≡ t.value.buckets → new.capacity ≡ old.capacity
-      → SameFormAndCapacity s (table_of new after)
-  table_keeps_form old new {t} is view buckets columns = grind (arith, common_steps, table_view)
 
   -- as many pairs, with the same capacity, have the same index
   pub kept_store : (index : Option (Box TableState)) (old new : ColumnsState K V) → length new.pairs ≡ length old.pairs → new.capacity ≡ old.capacity

@@ -1,13 +1,13 @@
 -- What a search of a table finds, and what a probe costs.
 use Rattle.half_store.proofs.Common.{◌≡◌, ◌≤◌, length, ◌+◌, refl, ◌∙◌, arith, ℕ, ◌-◌, ◌<◌, sym, ap, Bool, List, Some, slice_index, Option, subst, ◌≢◌, true}
-use Rattle.half_store.proofs.Common.{false, ◌==◌, count_by, common_steps, count_by-le-length, get_or_from_slice_get, slice_get_within, slice_get, swap_remove}
+use Rattle.half_store.proofs.Common.{false, ◌==◌, count_by, common_steps, count_by-le-length, get_or_from_slice_get, slice_get_within, slice_get}
 use Rattle.half_store.proofs.Common.{reach, probe_distance, slots_from, slot_at, stored, IsSlotVacancy, distance_from_home, TableState, TableSearch}
-use Rattle.half_store.proofs.Common.{state_of_words, table_contents, IsIndexed, Work, probe_reads, looked_more, ReadsWithin, removal_reads}
+use Rattle.half_store.proofs.Common.{state_of_words, table_contents, IsIndexed, Work, probe_reads, looked_more}
 use Rattle.std.specs.Prelude.{Result, Ok, Err, IfOk, IfErr, OnOk, OnErr}
 use Rattle.half_store.specs.Slots.{EndsAtPair}
 use Rattle.half_store.specs.Reach.{HomesApart}
 use Rattle.half_store.specs.Work.{work_after_missing}
-use Rattle.half_store.specs.Table.{RemovesFromTable, hit_reads_in}
+use Rattle.half_store.specs.Table.{IsTablePlace, hit_reads_in}
 use Rattle.half_store.proofs.lemmas.table.Buckets.{length-slots_from, slot_of_word, slot_of_zero, some_bucket}
 use Rattle.half_store.proofs.lemmas.table.Circle.{distance_self}
 use Rattle.half_store.proofs.lemmas.capacity.{buckets_of-capacity_of, capacity_for-capacity_of}
@@ -56,13 +56,11 @@ module _ {hashes words : List ℕ} (x : IsIndexed hashes words) (hash : ℕ) whe
       → TableSearch returns (state_of_words hashes words) hash (Err 0) w w
   finds_none returns w none = grind (arith, common_steps, hits_add_up, buckets_seen, count_by-le-length, reach-none, same_work, short, slice_get_within)
 
-  -- the word of the bucket where a search ends leads to its pair
-  pub word_found : (result : Result (ℕ × ℕ) ℕ) (old new : ℕ) → IfOk result (λ found. EndsAtPair hashes words hash found.0 found.1 old new)
-      → IfOk result (λ pair. slice_index words pair.1 ≡ pair.0 + 1)
-  word_found (Ok (index, p)) old new ends =
+  -- the bucket where a search ends has its pair
+  placed : (index p old new : ℕ) → EndsAtPair hashes words hash index p old new → IsTablePlace (table_contents (state_of_words hashes words)) index p
+  placed index p old new ends =
       let some : slice_index words p ≢ 0 = λ none. full_from _ hash ends.found.found (slot_of_zero hashes words p none) in
       omega (arith, ends.entry, some)
-  word_found (Err bucket) old new ends = tt
 
   -- what a search says of the slots, where there are some, is what callers see
   pub finds : (returns : ℕ → Bool → Type 0) (result : Result (ℕ × ℕ) ℕ) (old new : Work)
@@ -83,7 +81,7 @@ module _ {hashes words : List ℕ} (x : IsIndexed hashes words) (hash : ℕ) whe
       let read = ends.looked in
       record {
         found = ap (slice_get hashes) ends.entry ∙ index_at p ends.found.found;
-        at = ends.found;
+        at = placed index p old.looked new.looked ends;
         accepted = accepted;
         rejected = tt;
         vacancy = tt;
@@ -136,24 +134,6 @@ module _ {hs ws hashes words : List ℕ} {t : TableState} (view : state_of_words
       subst (λ (t : TableState). new ≡ looked_more (reach t.hashes t.buckets hash) old) (view_lent view h w)
       (cost ∙ ap (λ n. looked_more n old) (sym (reach_at_vacancy (slots_from hashes words) lent.ordered hashes (index-counted lent) hash p vacant)
       ∙ ap (λ n. reach hashes n hash) (length-slots_from hashes words)))
-
--- A search that removes what it finds, in the words of callers.
-module _ (hashes words hashes' words' : List ℕ) {t : TableState} (view : state_of_words hashes words ≡ t) where
-  pub taken_removes : (hash : ℕ) (result : Result (ℕ × ℕ) ℕ) → length words' ≡ length words
-      → IfOk result (λ pair. slice_get t.hashes pair.0 ≡ Some hash) → IfOk result (λ pair. hashes' ≡ swap_remove hashes pair.0 0)
-      → IfOk result (λ pair. RemovesFromTable t pair.0 (state_of_words hashes' words') hash)
-  taken_removes hash result len found left = grind (arith, common_steps)
-
-  pub taken_cost : (old new : Work) (result : Result (ℕ × ℕ) ℕ)
-      → IfOk result (λ pair. ReadsWithin (removal_reads hashes (length words) pair.0) old new)
-      → IfOk result (λ pair. ReadsWithin (removal_reads t.hashes t.buckets pair.0) old new)
-  taken_cost old new result cost = grind (arith, common_steps)
-
-  pub taken_none : (old new : Work) (result : Result (ℕ × ℕ) ℕ)
-      → OnErr result ((hashes' ≡ hashes) × (words' ≡ words) × (new ≡ old))
-      → OnErr result ((state_of_words hashes' words' ≡ t) × (new ≡ old))
-  taken_none old new (Ok pair) same = tt
-  taken_none old new (Err bucket) (kept, also, unread) = ((λ i. state_of_words (kept i) (also i)) ∙ view, unread)
 
 -- what the proofs of `Table` go by
 pub ruleset table_steps = (common_steps, IsIndexed-as, buckets_of-capacity_of, buckets_seen, capacity_for-capacity_of, count_seen, index-vacant, view_lent)

@@ -1,13 +1,13 @@
 -- What a search costs.
 use Rattle.halfbrown.proofs.Common.{◌≡◌, ℕ, ◌+◌, ◌<◌, ◌≤◌, Bool, true, false, length, arith, List, get_or, slice_get, Option, map, IfSome, common_steps}
-use Rattle.halfbrown.proofs.Common.{length-keys_of, slice_get-get_or, slice_get-map, same_Some, IsDistinct, keys_of, result_ok, index_of, StoreState, Work}
-use Rattle.halfbrown.proofs.Common.{Vacancy, IsSearchCost, state_in, IsIndexOf, IsAbsent, KeySearch, State, contents_of}
+use Rattle.halfbrown.proofs.Common.{length-keys_of, slice_get-get_or, slice_get-map, same_Some, IsDistinct, keys_of, found_index, index_of, StoreState, Work}
+use Rattle.halfbrown.proofs.Common.{Found, Vacancy, IsSearchCost, state_in, IsIndexOf, IsAbsent, KeySearch, State, contents_of}
 use Rattle.std.proofs.Common.{IfNone}
 use Rattle.half_store.specs.Reach.{reach, filling_reach}
 use Rattle.half_store.specs.Capacity.{buckets_of}
 use Rattle.half_store.specs.Work.{IsTableHitCost, work_after_missing}
 use Rattle.std.proofs.Props.{props}
-use Rattle.half_store.specs.Store.{IsVacancy}
+use Rattle.half_store.specs.Store.{IsPlaced, IsVacancy}
 use Rattle.half_store.specs.Table.{Contents, hit_reads_in, all_hit_reads_in}
 use Rattle.half_store.specs.declared.vecmap.search.Scan.{Scan}
 use Rattle.std.specs.Prelude.{Result}
@@ -44,11 +44,20 @@ vacancy_for is_vec contents hash other same vacancy vacant = grind (arith, commo
 pub vacancy-prop : (is_vec : Bool) (contents : Contents) (hash : ℕ) (vacancy : Vacancy) → IsProp (IsVacancy is_vec contents hash vacancy)
 vacancy-prop is_vec contents hash vacancy = Prim.hlevel props
 
+-- and that one is held here
+pub placed-prop : (is_vec : Bool) (contents : Contents) (found : Found) → IsProp (IsPlaced is_vec contents found)
+placed-prop is_vec contents found = Prim.hlevel props
+
+-- it still is where form and buckets are as they were
+pub placed_as : (was is : Bool) (before after : Contents) (found : Found) → is ≡ was → after ≡ before → IsPlaced was before found
+    → IsPlaced is after found
+placed_as was is before after found form contents placed = grind (arith, common_steps)
+
 -- What a search by a match on keys says of a key, where the match is the test of one.
 
 -- the index that a search by a test found is that of the first key that passes
 module _ {K V S : Type 0} (test : K → Bool) (wanted : ℕ) (m : State K V S) where
-  pub found_is_index : (result : Result ℕ Vacancy) → KeySearch test wanted m result → result_ok result ≡ index_of test (keys_of m.pairs)
+  pub found_is_index : (result : Result Found Vacancy) → KeySearch test wanted m result → found_index result ≡ index_of test (keys_of m.pairs)
   found_is_index result at = grind (arith, common_steps)
 
 module _ {K V S : Type 0} (test : K → Bool) (returns : K → Bool → Type 0) (decides : (k : K) (b : Bool) → returns k b → b ≡ test k)
@@ -70,12 +79,12 @@ module _ {K V S : Type 0} (test : K → Bool) (returns : K → Bool → Type 0) 
         grind (arith, common_steps, decides k false, hashed k, none.rejected j k, slice_get-get_or (keys_of m.pairs) j d within)))
 
     -- a search by the match is one for the key, under its own hash
-    pub looks_up : (result : Result ℕ Vacancy) → MatchSearch returns hash wanted m result → KeySearch test own m result
+    pub looks_up : (result : Result Found Vacancy) → MatchSearch returns hash wanted m result → KeySearch test own m result
     looks_up result found = grind (arith, common_steps, absent_of_no_match, index_of_match, vacancy_for)
 
 module _ {K V S : Type 0} (returns : K → Bool → Type 0) (hash : S → K → ℕ) (wanted : ℕ) (s : StoreState K V) (builder : S)
     (hashed : s.is_vec ≡ false → s.hashes ≡ map (hash builder) (keys_of s.pairs)) where
   -- a search of the store by the match is one of the map
-  pub matches_of : (result : Result ℕ Vacancy) → StoreSearch returns s wanted result
+  pub matches_of : (result : Result Found Vacancy) → StoreSearch returns s wanted result
       → MatchSearch returns hash wanted (state_in s builder) result
   matches_of result found = grind (arith, common_steps, same_Some, slice_get, slice_get-map)

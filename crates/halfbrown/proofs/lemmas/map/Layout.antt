@@ -2,7 +2,7 @@
 use Rattle.halfbrown.proofs.Common.{◌≡◌, ℕ, ◌<◌, ◌≤◌, Bool, true, false, length, arith, suc, cond, List, [], ◌∷◌, ◌++◌, slice_get, Option, Some, refl, ap, ◌∙◌}
 use Rattle.halfbrown.proofs.Common.{sym, subst, map, length-append, common_steps, map-append, length-keys_of, IsDistinct-tail, slice_get-map, Bor}
 use Rattle.halfbrown.proofs.Common.{IsEquivalence, AllByRecursion, keys_of, option_map, swap_remove_at, set_value_at, length-set_value_at, set_key_at}
-use Rattle.halfbrown.proofs.Common.{StoreState, Vacancy, state_in, IsMapInvariant, IsIndexOf, IsAbsent, holds, IsTableCapacity, IsValid}
+use Rattle.halfbrown.proofs.Common.{StoreState, Found, Vacancy, state_in, IsMapInvariant, IsIndexOf, IsAbsent, holds, IsTableCapacity, IsValid}
 use Rattle.std.proofs.Common.{true≢false, Result, Ok, Err, IfErr, OnOk}
 use Rattle.std.specs.List.{IsDistinct, AllZip, Contains}
 use Rattle.std.proofs.lemmas.Map.Keys.{IsDistinct-push, IsDistinct-head, IsDistinct-cons}
@@ -187,7 +187,7 @@ module _ {K V : Type 0} (eq : K → K → Bool) (laws : IsEquivalence eq) (hash 
   kept_moved false table within k v w at is stays = grind (arith, common_steps, kept_as, keys_of-set_value_at, length-set_value_at, map)
 
   -- the fields once the closure has answered
-  pub kept_replaced : {returns : Bor K → V → Option V → Type 0} → index < length old.pairs → (result : Result ℕ (K × ℕ))
+  pub kept_replaced : {returns : Bor K → V → Option V → Type 0} → index < length old.pairs → (result : Result Found (K × ℕ))
       → ReplacesValue returns old.is_vec old.pairs index new.pairs (option_map (λ removed. removed.0) (result_err result))
       → IfErr result (λ _. old.is_vec ≡ false → new.hashes ≡ swap_remove_at old.hashes index) → OnOk result (new.hashes ≡ old.hashes)
       → IsMapInvariant limit eq hash new
@@ -196,13 +196,13 @@ module _ {K V : Type 0} (eq : K → K → Bool) (laws : IsEquivalence eq) (hash 
   kept_replaced within (Err removed) r lost stays = kept_taken eq hash limit laws old new index kept keeps within (lost_pair r).1 lost
 
   -- the hash that comes back with a key is its own
-  pub own_hash : {returns : Bor K → V → Option V → Type 0} → (result : Result ℕ (K × ℕ)) → ReplacesValue returns old.is_vec old.pairs index new.pairs (option_map (λ removed. removed.0) (result_err result))
+  pub own_hash : {returns : Bor K → V → Option V → Type 0} → (result : Result Found (K × ℕ)) → ReplacesValue returns old.is_vec old.pairs index new.pairs (option_map (λ removed. removed.0) (result_err result))
       → IfErr result (λ removed. old.is_vec ≡ false → slice_get old.hashes index ≡ Some removed.1)
       → IfErr result (λ removed. new.is_vec ≡ false → removed.1 ≡ hash removed.0)
   own_hash (Ok i) r at = tt
   own_hash (Err removed) r at = grind (arith, common_steps, hash_at hash old.pairs index r.key r.value r.pair, lost_pair r)
 
   -- no equal key is held any more
-  pub absent_replaced : {returns : Bor K → V → Option V → Type 0} → (result : Result ℕ (K × ℕ)) → ReplacesValue returns old.is_vec old.pairs index new.pairs (option_map (λ removed. removed.0) (result_err result))
+  pub absent_replaced : {returns : Bor K → V → Option V → Type 0} → (result : Result Found (K × ℕ)) → ReplacesValue returns old.is_vec old.pairs index new.pairs (option_map (λ removed. removed.0) (result_err result))
       → IfErr result (λ removed. holds eq new.pairs removed.0 ≡ false)
   absent_replaced result r = grind (arith, common_steps, lost_pair, unheld_after)

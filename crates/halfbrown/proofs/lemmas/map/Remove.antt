@@ -1,16 +1,16 @@
 -- Removals: what the map is without the pair that was found.
 use Rattle.halfbrown.proofs.Common.{◌≡◌, ℕ, ◌≤◌, Bool, true, length, arith, ◌++◌, slice_get, Option, Some, refl, ◌∙◌, None, sym, subst, map, ◌-◌, common_steps}
-use Rattle.halfbrown.proofs.Common.{length-keys_of, slice_get_within, IsEquivalence, lookup, lookup_entry, option_map, swap_remove_at, StoreState, Vacancy}
-use Rattle.halfbrown.proofs.Common.{state_in, IsMapInvariant, KeySearch, take_out_by, Removes, State, WithPairs, IsValid, HasRemovedBy}
+use Rattle.halfbrown.proofs.Common.{length-keys_of, slice_get_within, IsEquivalence, lookup, lookup_entry, option_map, swap_remove_at, StoreState}
+use Rattle.halfbrown.proofs.Common.{state_in, IsMapInvariant, IsIndexOf, IsAbsent, take_out_by, Removes, State, WithPairs, IsValid, HasRemovedBy}
 use Rattle.std.proofs.Common.{option_to_list}
 use Rattle.std.proofs.lemmas.List.{append-nil}
 use Rattle.std.proofs.lemmas.Option.{slice_get_past}
-use Rattle.std.specs.Prelude.{Result, Ok, Err, IfNone}
-use Rattle.half_store.specs.StoreRemoval.{RemovesFound, StoreShiftRemoves}
+use Rattle.std.specs.Prelude.{IfNone}
+use Rattle.half_store.specs.StoreRemoval.{StoreShiftRemoves}
 use Rattle.halfbrown.specs.Lookup.{FindsIndex}
 use Rattle.halfbrown.specs.Updates.{RemovesAt, ShiftRemoves, ShiftRemovesAt}
 use Rattle.halfbrown.proofs.callers.Pairs.{has_left, has_all, has_removed_by}
-use Rattle.halfbrown.proofs.lemmas.map.Layout.{kept_taken, state_of, kept_as}
+use Rattle.halfbrown.proofs.lemmas.map.Layout.{state_of, kept_as}
 use Rattle.halfbrown.proofs.lemmas.pairs.Indices.{value_of_entry, index_of_pair, last_taken, some_is_not_none}
 use Rattle.std.proofs.lemmas.List.Edits.{length-remove}
 use Rattle.std.proofs.lemmas.List.Sorted.{IsPermutation-remove}
@@ -32,41 +32,20 @@ module _ {K V S : Type 0} (limit : ℕ) (eq : K → K → Bool) (test : K → Bo
   removed_value None value is removes = grind (arith, common_steps, value_of_entry)
   removed_value (Some pair) value is removes = grind (arith, common_steps, value_of_entry test old.pairs, removes.gives)
 
--- a store without the pair that a search of it found
-module _ {K V S : Type 0} (limit : ℕ) (eq : K → K → Bool) (laws : IsEquivalence eq) (hash : K → ℕ) (builder : S) (old new : StoreState K V)
-    (kept : IsMapInvariant limit eq hash old) where
-  -- keeps what the fields of a map keep
-  pub kept_found : (search : Result ℕ Vacancy) (result : Option (K × V)) → RemovesFound old new search result → IsMapInvariant limit eq hash new
-  kept_found (Ok index) (Some pair) taken =
-      kept_taken eq hash limit laws old new index kept taken.form (slice_get_within old.pairs index pair taken.removed) taken.pairs
-      taken.hashes
-  kept_found (Ok index) None taken = absurd taken
-  kept_found (Err vacancy) (Some pair) taken = absurd taken
-  kept_found (Err vacancy) None same = subst (IsMapInvariant limit eq hash) (sym same) kept
+module _ {K V S : Type 0} (limit : ℕ) (eq : K → K → Bool) (laws : IsEquivalence eq) (test : K → Bool)
+    (one_class : (k other : K) → test k ≡ true → test other ≡ eq k other) (old : State K V S) (before : IsValid limit eq old) where
+  -- the pair that a search found is taken out
+  pub taken_found : (index : ℕ) (pair : K × V) (new : State K V S) → IsIndexOf test old.pairs index → slice_get old.pairs index ≡ Some pair
+      → WithPairs old (swap_remove_at old.pairs index) new → IsValid limit eq new
+      → Removes limit eq test old (lookup_entry test old.pairs) (Some pair) new
+  taken_found index pair new found at after now =
+      removed_as limit eq test old new laws one_class before now
+      (record { pairs = after.pairs ∙ sym found.take_is; form = after.form; capacity = after.capacity; builder = after.builder })
+      _ _ (sym at ∙ sym found.pair) tt
 
-  abbrev was : State K V S
-  was = state_in old builder
-
-  was_state : IsValid limit eq was
-  was_state = state_of eq hash limit old builder kept
-
-  -- is the map without the pair of the key that was searched for
-  pub removes_found : (test : K → Bool) (own : ℕ) → ((k other : K) → test k ≡ true → test other ≡ eq k other)
-      → (search : Result ℕ Vacancy) (result : Option (K × V)) → RemovesFound old new search result → KeySearch test own was search
-      → Removes limit eq test was (lookup_entry test old.pairs) result (state_in new builder)
-  removes_found test own one_class (Ok index) (Some pair) taken found =
-      removed_as limit eq test was (state_in new builder) laws one_class was_state
-      (state_of eq hash limit new builder (kept_found (Ok index) (Some pair) taken))
-      (record {
-        pairs = taken.pairs ∙ sym found.take_is;
-        form = taken.form.form;
-        capacity = taken.form.capacity;
-        builder = refl;
-      })
-      _ _ (sym taken.removed ∙ sym found.pair) tt
-  removes_found test own one_class (Ok index) None taken found = absurd taken
-  removes_found test own one_class (Err vacancy) (Some pair) taken found = absurd taken
-  removes_found test own one_class (Err vacancy) None same found = grind (arith, common_steps, removed_as, was_state)
+  -- it found none
+  pub none_found : IsAbsent test old.pairs → Removes limit eq test old (lookup_entry test old.pairs) None old
+  none_found absent = grind (arith, common_steps, removed_as)
 
 module _ {K V S : Type 0} (limit : ℕ) (eq : K → K → Bool) (old : State K V S) (index : ℕ) where
   -- the pair at an index is taken out

@@ -7,7 +7,7 @@ use Rattle.half_store.proofs.store.Store.find.Goals as goal
 pub returns-in-Some-first_match-clause-found : goal.returns-in-Some-first_match-clause-found
 returns-in-Some-first_match-clause-found g c =
     let columns = c.self.inside.columns in
-    vector_accepts columns c.keys.ensures.keys (vector_view columns c.in_default.is c.self.view_is) c.in-Some-first_match.ensures.first
+    vector_accepts columns c.keys.ensures.keys (vector_view columns c.in_default.is c.self.view_is) _ c.in-Some-first_match.ensures.first
 
 pub returns-in-None-clause-found : goal.returns-in-None-clause-found
 returns-in-None-clause-found g c =

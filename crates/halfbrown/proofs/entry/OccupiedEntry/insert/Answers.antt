@@ -2,6 +2,10 @@ use Rattle.halfbrown.proofs.Common.{arith, subst, with_entry_value, occupied, Is
 use Rattle.halfbrown.proofs.lemmas.entry.Methods.{written_entry}
 use Rattle.halfbrown.proofs.entry.OccupiedEntry.insert.Goals as goal
 
+pub invariant_of-self : goal.invariant_of-self
+invariant_of-self g c =
+    let o = with_entry_value c.args.self.now c.replace-old.new.dest in record { within = o.within; placed = o.placed }
+
 pub prove-unreachable-requires : goal.prove-unreachable-requires
 prove-unreachable-requires g c = omega (arith, (with_entry_value c.args.self.now c.replace-old.new.dest).within)
 

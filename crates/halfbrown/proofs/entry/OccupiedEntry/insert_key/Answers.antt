@@ -1,9 +1,16 @@
 use Rattle.halfbrown.proofs.Common.{refl}
 use Rattle.halfbrown.proofs.lemmas.entry.Methods.{rekeyed_within, rekeyed_entry}
+use Rattle.halfbrown.proofs.lemmas.map.Find.{placed_as}
 use Rattle.halfbrown.proofs.entry.OccupiedEntry.insert_key.Goals as goal
 
 pub invariant_of-self : goal.invariant_of-self
-invariant_of-self g c = record { within = rekeyed_within c.args.self.now c.args.key c.set_key_at.new.self c.set_key_at.ensures.after }
+invariant_of-self g c =
+    let o = c.args.self.now in
+    let told = c.set_key_at.ensures in
+    record {
+      within = rekeyed_within o c.args.key c.set_key_at.new.self told.after;
+      placed = placed_as _ _ _ _ _ told.after.form told.contents o.placed;
+    }
 
 pub returns-clause-new : goal.returns-clause-new
 returns-clause-new g c = rekeyed_entry c.args.self.now c.args.key _ refl c.set_key_at.ensures.after

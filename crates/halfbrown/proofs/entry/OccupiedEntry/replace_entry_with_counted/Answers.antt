@@ -4,7 +4,8 @@ use Rattle.halfbrown.proofs.lemmas.map.Find.{vacancy_for}
 use Rattle.halfbrown.proofs.entry.OccupiedEntry.replace_entry_with_counted.Goals as goal
 
 pub invariant_of-result : goal.invariant_of-result
-invariant_of-result g c = record { within = kept_within c.args.self.within c.in-Ok.ensures.replaces c.in-Ok.ensures.at }
+invariant_of-result g c =
+    let told = c.in-Ok.ensures in record { within = kept_within c.args.self.within told.replaces told.at; placed = told.placed }
 
 pub returns-in-Ok-clause-replaced : goal.returns-in-Ok-clause-replaced
 returns-in-Ok-clause-replaced g c =

@@ -5,8 +5,8 @@ use Rattle.halfbrown.proofs.lemmas.pairs.Changes.{set_value_at-last, value-last}
 use Rattle.halfbrown.proofs.lemmas.map.Find.{vacancy-prop}
 use Rattle.halfbrown.proofs.entry.VacantEntry.insert.Goals as goal
 
-pub push-requires-clause-vacant : goal.push-requires-clause-vacant
-push-requires-clause-vacant g c =
+pub push-added-requires-clause-vacant : goal.push-added-requires-clause-vacant
+push-added-requires-clause-vacant g c =
     let v = c.args.self in
     let m = v.map.now in
     ∥∥₁_elim v.vacant (vacancy-prop m.is_vec (contents_of m)

@@ -19,9 +19,9 @@ returns-in-Ok-Held g c =
         makes = record {
           same_map = refl;
           ok = prepares.ok;
-          entry = found_key limit same laws old key _ prepares.ok prepares.valid.distinct _ at;
+          entry = found_key limit same laws old key _ prepares.ok prepares.valid.distinct _ at.0;
           new_key = λ held. cc held;
-          writes = found_writes limit same laws old key _ prepares.ok prepares.valid.distinct _ at;
+          writes = found_writes limit same laws old key _ prepares.ok prepares.valid.distinct _ at.0;
           returned = tt;
           valid = prepares.valid;
         };

@@ -1,5 +1,4 @@
-use Rattle.halfbrown.proofs.Common.{◌≡◌, false, ap, ◌∙◌, sym, subst, result_ok, IsSearchCost, state_in, KeySearch, State, IsValid}
-use Rattle.half_store.specs.declared.vecmap.search.Scan.TheVariants.{ByBlock}
+use Rattle.halfbrown.proofs.Common.{◌≡◌, false, ap, ◌∙◌, sym, subst, found_index, IsSearchCost, state_in, KeySearch, State, IsValid}
 use Rattle.halfbrown.specs.Costs.{IsHashedLookupCost}
 use Rattle.halfbrown.proofs.lemmas.map.Find.{costs_for_other, found_is_index, looks_up, match_costs, matches_of}
 use Rattle.halfbrown.proofs.lemmas.map.Layout.{state_of}
@@ -23,7 +22,7 @@ returns g c =
     ∙ ap (g.S.KeyHasher.hash_writes builder) (sym (g.met.Q.Equivalent.hashes_alike c.args.key k passes)))
     c.find.result (matches_of _ hashing c.args.hash store builder c.self.invariant.hashed c.find.result told.found) in
     let spent = match_costs hashing c.args.hash was c.args.tally.now c.find.new.tally store.is_vec (λ i. store.is_vec)
-    ByBlock (result_ok c.find.result) store.hashes c.self.invariant.hashed told.cost.vector told.cost.found told.cost.missing told.cost.hit told.cost.hits told.cost.short in
+    c.args.scan (found_index c.find.result) store.hashes c.self.invariant.hashed told.cost.vector told.cost.found told.cost.missing told.cost.hit told.cost.hits told.cost.short in
     record {
       found = subst (λ (m : State g.row.K.Denot g.row.V.Denot g.row.S.Denot). KeySearch test
           (g.S.KeyHasher.hash_writes m.builder (g.Q.Hash.hash_input c.args.key)) m c.find.result) c.self.view_is found;
@@ -31,6 +30,6 @@ returns g c =
           g.Q.Equivalent.equivalent c.args.key m c.args.tally.now c.find.new.tally) c.self.view_is
           (subst (λ index. IsSearchCost hashing own was index 0 c.args.tally.now c.find.new.tally)
           (found_is_index test own was c.find.result found)
-          (costs_for_other hashing c.args.hash own was c.args.tally.now c.find.new.tally (result_ok c.find.result) known spent));
+          (costs_for_other hashing c.args.hash own was c.args.tally.now c.find.new.tally (found_index c.find.result) known spent));
       valid = subst (IsValid g.L.Limit.LIMIT g.K.PartialEq.eq) c.self.view_is (state_of _ _ _ _ _ c.self.invariant);
     }

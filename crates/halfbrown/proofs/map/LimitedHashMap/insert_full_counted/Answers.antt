@@ -13,9 +13,9 @@ returns-in-Ok-Held-clause-inserts g c =
     let found = c.in-Ok-Held.ensures in
     let place = subst (IsPreparedFor eq g.S.KeyHasher.hash middle key) c.in-Ok-Held.field-0-is found.place in
     inserted_at g.L.Limit.LIMIT eq g.met.K.Eq.laws c.args.self.now middle c.set_at.new.self key c.args.value _
-    c.set_at.ensures.after (place.put_is key c.args.value)
-    found.prepares.ok c.in-Ok-Held.index (Some c.set_at.result) (sym c.set_at.ensures.old ∙ sym place.value)
-    (ap (index_of (eq key)) (keys_of-set_value_at middle.pairs c.in-Ok-Held.index c.args.value) ∙ place.index_is) c.set_at.ensures.valid
+    c.set_at.ensures.after (place.0.put_is key c.args.value)
+    found.prepares.ok c.in-Ok-Held.found.index (Some c.set_at.result) (sym c.set_at.ensures.old ∙ sym place.0.value)
+    (ap (index_of (eq key)) (keys_of-set_value_at middle.pairs c.in-Ok-Held.found.index c.args.value) ∙ place.0.index_is) c.set_at.ensures.valid
 
 pub returns-in-Ok-Vacant-clause-inserts : goal.returns-in-Ok-Vacant-clause-inserts
 returns-in-Ok-Vacant-clause-inserts g c =
@@ -24,8 +24,8 @@ returns-in-Ok-Vacant-clause-inserts g c =
     let middle = c.prepare.new.self in
     let missing = c.in-Ok-Vacant.ensures in
     let place = subst (IsPreparedFor eq g.S.KeyHasher.hash middle key) c.in-Ok-Vacant.field-0-is missing.place in
-    inserted_at g.L.Limit.LIMIT eq g.met.K.Eq.laws c.args.self.now middle c.push.new.self key c.args.value _ c.push.ensures.after
+    inserted_at g.L.Limit.LIMIT eq g.met.K.Eq.laws c.args.self.now middle c.push-added.new.self key c.args.value _ c.push-added.ensures.after
     (place.absent.put_is key c.args.value)
-    missing.prepares.ok c.len-index.result None (sym place.absent.value)
-    (index_of-added (eq key) middle.pairs key c.args.value place.absent.index (g.met.K.Eq.laws.refl key) ∙ ap (λ n. Some n) (sym c.len-index.ensures.len))
-    c.push.ensures.valid
+    missing.prepares.ok c.push-added.result.index None (sym place.absent.value)
+    (index_of-added (eq key) middle.pairs key c.args.value place.absent.index (g.met.K.Eq.laws.refl key) ∙ ap (λ n. Some n) (sym c.push-added.ensures.index))
+    c.push-added.ensures.valid

@@ -15,7 +15,7 @@ returns-in-Ok-clause-cost g c =
     c.switch_if_full.new.self c.args.tally.now c.switch_if_full.new.tally c.find.new.tally
     switched.form (switched_capacity _ _ _ switched) switched.pairs switched.builder c.in_ok-switch_if_full.ensures.work searched
     c.in_ok-switch_if_full.ensures.same
-    (ap (λ ps. holds eq ps c.args.key.now) (sym switched.pairs) ∙ c.in-Ok.ensures.found.held)
+    (ap (λ ps. holds eq ps c.args.key.now) (sym switched.pairs) ∙ c.in-Ok.ensures.found.0.held)
 
 pub returns-in_ok-reserve_one_keeping-in-Err-clause-cost : goal.returns-in_ok-reserve_one_keeping-in-Err-clause-cost
 returns-in_ok-reserve_one_keeping-in-Err-clause-cost g c =

@@ -19,7 +19,7 @@ invariant_of-self g c =
     let vacant : IsVacancy store.is_vec store.contents (hash key) vacancy =
     subst (λ m. IsVacancy m.is_vec (contents_of m) (g.S.KeyHasher.hash m.builder key) vacancy)
     (sym c.self.view_is) c.requires.vacant in
-    subst (IsMapInvariant g.L.Limit.LIMIT eq hash) (sym c.push.ensures)
+    subst (IsMapInvariant g.L.Limit.LIMIT eq hash) (sym c.push.ensures.after)
     (kept_pushed eq hash g.L.Limit.LIMIT g.met.K.Eq.laws store key c.args.value vacancy c.self.invariant absent room
     (λ table. (vacant table).0))
 

@@ -5,7 +5,7 @@ use Rattle.halfbrown.proofs.map.LimitedHashMap.replace_at.Goals as goal
 pub invariant_of-self : goal.invariant_of-self
 invariant_of-self g c =
     let told = c.replace_with.ensures in
-    let within : c.args.index < length c.self.inside.store.pairs = omega (arith, c.requires.within, ap length (ap (λ m. m.pairs) c.self.view_is)) in
+    let within : c.args.found.index < length c.self.inside.store.pairs = omega (arith, c.requires.within, ap length (ap (λ m. m.pairs) c.self.view_is)) in
     kept_replaced _ g.met.K.Eq.laws _ _ _ _ _ c.self.invariant told.form within c.replace_with.result told.replaces told.hashes told.kept
 
 pub returns-clause-hash : goal.returns-clause-hash

@@ -5,8 +5,8 @@ use Rattle.halfbrown.proofs.map.LimitedHashMap.take_at.Goals as goal
 
 pub invariant_of-self : goal.invariant_of-self
 invariant_of-self g c =
-    let told = c.swap_remove.ensures in
-    let within : c.args.index < length c.self.inside.store.pairs = omega (arith, c.requires, ap length (ap (λ m. m.pairs) c.self.view_is)) in
+    let told = c.take_at.ensures in
+    let within : c.args.found.index < length c.self.inside.store.pairs = omega (arith, c.requires.within, ap length (ap (λ m. m.pairs) c.self.view_is)) in
     kept_taken _ _ _ g.met.K.Eq.laws _ _ _ c.self.invariant told.form within told.pairs told.hashes
 
 pub returns-clause-value : goal.returns-clause-value

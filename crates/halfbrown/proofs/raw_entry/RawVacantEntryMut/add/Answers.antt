@@ -3,20 +3,21 @@ use Rattle.halfbrown.proofs.lemmas.map.Find.{vacancy_for}
 use Rattle.halfbrown.proofs.lemmas.raw_entry.Methods.{adds_pair}
 use Rattle.halfbrown.proofs.raw_entry.RawVacantEntryMut.add.Goals as goal
 
-pub push-requires-clause-vacant : goal.push-requires-clause-vacant
-push-requires-clause-vacant g c = vacancy_for _ _ _ _ c.requires.hash _ c.vacancy_for-vacancy.ensures.vacant
+pub push-index-requires-clause-vacant : goal.push-index-requires-clause-vacant
+push-index-requires-clause-vacant g c = vacancy_for _ _ _ _ c.requires.hash _ c.vacancy_for-vacancy.ensures.vacant
 
 pub invariant_of-result : goal.invariant_of-result
 invariant_of-result g c = record {
   within = omega (
     arith,
-    c.len-index.ensures.len,
-    ap length c.push.ensures.after.pairs,
+    c.push-index.ensures.index,
+    ap length c.push-index.ensures.after.pairs,
     length-append c.args.self.map.now.pairs ((c.args.key, c.args.value) ∷ []),
   );
+  placed = c.push-index.ensures.placed;
 }
 
 pub returns-clause-adds : goal.returns-clause-adds
 returns-clause-adds g c =
-    adds_pair _ _ c.args.self.map _ c.args.key c.args.value _ refl c.len-index.ensures.len c.push.ensures.after c.push.ensures.valid
+    adds_pair _ _ c.args.self.map _ c.args.key c.args.value _ refl c.push-index.ensures.index c.push-index.ensures.after c.push-index.ensures.valid
     g.met.K.Eq.laws c.requires.absent
