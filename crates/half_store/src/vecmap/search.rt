@@ -67,7 +67,12 @@ fn first_match_by_block<K, F: Fn(&K) -> bool>(
             None
         };
     }
-    let mut start = 0;
+    // The length of this block is known, so its loop is unrolled.
+    let found = first_match_between(keys, 0, BLOCK, matches, tally);
+    if found < BLOCK {
+        return Some(found);
+    }
+    let mut start = BLOCK;
     while start < keys.len() {
         let end = start + BLOCK.min(keys.len() - start);
         let found = first_match_between(keys, start, end, matches, tally);

@@ -4,6 +4,7 @@ use Rattle.std.proofs.Common.{⊎_elim, eq-or-lt_of_le}
 use Rattle.half_store.specs.Work.{first_match_cost}
 use Rattle.half_store.specs.Search.{ComparesInOrder}
 use Rattle.half_store.specs.declared.vecmap.search.Scan.{Scan}
+use Rattle.half_store.specs.declared.vecmap.search.Scan.TheVariants.{ByBlock}
 
 -- what holds from an index on, and of the one before it, holds from that one on
 pub from_before : (P : ℕ → Type 0) (index end : ℕ) → 0 < index → ((k : ℕ) → index ≤ k → k < end → P k) → P (index - 1)
@@ -20,9 +21,17 @@ pub below_and_from : (P : ℕ → Type 0) (index end : ℕ) → ((k : ℕ) → k
     → (k : ℕ) → k < end → P k
 below_and_from P index end below from k within = ⊎_elim (λ less. below k less) (λ not_less. from k not_less within) (cases_lt k index)
 
-pub compared_all : (start more : ℕ) (w between after : Work) → between ≡ compared_more start w
-    → after ≡ compared_more (start + more - start) between → after ≡ compared_more (start + more) w
-compared_all start more w between after before then = grind (arith, common_steps)
+-- keys compared in turn, the first ones and those behind them
+pub compared_all : (first start more : ℕ) (w between after : Work) → first ≤ start → between ≡ compared_more (start - first) w
+    → after ≡ compared_more (start + more - start) between → after ≡ compared_more (start + more - first) w
+compared_all first start more w between after from before then = grind (arith, common_steps)
+
+pub compared_none : (w : Work) → w ≡ compared_more 0 w
+compared_none w = grind (arith, common_steps)
+
+pub compared_behind : (first n : ℕ) (w between after : Work) → first ≤ n → between ≡ compared_more first w
+    → after ≡ compared_more (n - first) between → after ≡ compared_more n w
+compared_behind first n w between after from before then = grind (arith, common_steps)
 
 -- each key up to where the search ended was compared once
 pub in_order : {scan : Scan} {found : Option ℕ} {n len : ℕ} {w after : Work} → after ≡ compared_more n w → n ≡ first_match_cost found len
@@ -36,3 +45,8 @@ in_order {w = w} work cost within =
       by_key = λ _. compared ∙ ap (λ n. w.compared + n) cost;
       looked = ap (λ v. v.looked) work;
     }
+
+-- each key up to the end of the block where the search ended was compared once
+pub by_block : {found : Option ℕ} {n len : ℕ} {w after : Work} → after ≡ compared_more n w → first_match_cost found len ≤ n → n ≤ len
+    → ComparesInOrder ByBlock found len w after
+by_block work cost within = grind (arith, common_steps)

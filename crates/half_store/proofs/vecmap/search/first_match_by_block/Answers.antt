@@ -1,5 +1,5 @@
 use Rattle.half_store.proofs.Common.{◌+◌, arith, false, FnReturnsAt, ReturnsAt}
-use Rattle.half_store.proofs.lemmas.vecmap.Search.{below_and_from, compared_all}
+use Rattle.half_store.proofs.lemmas.vecmap.Search.{below_and_from, by_block, compared_all, compared_behind, compared_none}
 use Rattle.half_store.proofs.vecmap.search.first_match_by_block.Goals as goal
 
 pub returns-then-found-keys-clause-first : goal.returns-then-found-keys-clause-first
@@ -35,7 +35,9 @@ loop-start-preserved g c = record {
   none_so_far = below_and_from (λ k. ReturnsAt (FnReturnsAt g.F.Fn c.args.matches.now) c.args.keys.now k false) c.loop-start.start
       (c.loop-start.start + c.min.result) c.loop-start.invariant.none_so_far
       (λ k from within. c.first_match_between-found-in-loop-start.ensures.none_before k from (omega (arith, within, c.if-found-end.false)));
-  work = compared_all c.loop-start.start c.min.result _ _ _ c.loop-start.invariant.work c.first_match_between-found-in-loop-start.ensures.work;
+  after_first = omega (arith, c.loop-start.invariant.after_first);
+  work = compared_all 16 c.loop-start.start c.min.result _ _ _ c.loop-start.invariant.after_first c.loop-start.invariant.work
+      c.first_match_between-found-in-loop-start.ensures.work;
 }
 
 pub returns-clause-first : goal.returns-clause-first
@@ -44,3 +46,35 @@ returns-clause-first g c = record {
   none_before = tt;
   absent = λ index within. c.loop-start.invariant.none_so_far index (omega (arith, within, c.loop-start-test.false));
 }
+
+pub returns-then-found-lt-BLOCK-clause-first : goal.returns-then-found-lt-BLOCK-clause-first
+returns-then-found-lt-BLOCK-clause-first g c =
+    let told = c.first_match_between-found-2.ensures in
+    record {
+      found = (omega (arith, c.if-found-lt-BLOCK.true, c.if-keys-le-BLOCK.false), told.found c.if-found-lt-BLOCK.true);
+      none_before = λ earlier before. told.none_before earlier (omega arith) before;
+      absent = tt;
+    }
+
+pub loop-start-init : goal.loop-start-init
+loop-start-init g c =
+    let told = c.first_match_between-found-2.ensures in
+    record {
+      after_first = omega arith;
+      within = omega (arith, c.if-keys-le-BLOCK.false);
+      none_so_far = λ earlier before. told.none_before earlier (omega arith) (omega (arith, before, c.if-found-lt-BLOCK.false));
+      work = compared_none _;
+    }
+
+pub returns-then-found-end-clause-work : goal.returns-then-found-end-clause-work
+returns-then-found-end-clause-work g c =
+    let l = c.loop-start.invariant in
+    let all = compared_all 16 c.loop-start.start c.min.result _ _ _ l.after_first l.work c.first_match_between-found-in-loop-start.ensures.work in
+    by_block (compared_behind 16 _ _ _ _ (omega (arith, l.after_first)) c.first_match_between-found-2.ensures.work all)
+    (omega (arith, c.if-found-end.true)) (omega (arith, c.min.ensures, c.loop-start-test.true))
+
+pub returns-clause-work : goal.returns-clause-work
+returns-clause-work g c =
+    let l = c.loop-start.invariant in
+    by_block (compared_behind 16 _ _ _ _ l.after_first c.first_match_between-found-2.ensures.work l.work)
+    (omega (arith, c.loop-start-test.false)) l.within
