@@ -1,8 +1,9 @@
 //! The memory of a store: capacity made and given back, and a table for a vector. All memory is had before anything changes.
-ghost use Rattle.std.specs.Prelude.{◌≡◌, ℕ, IfOk, IfErr, true, length};
+ghost use Rattle.std.specs.Prelude.{◌≡◌, ◌^◌, ◌<◌, ◌≤◌, ℕ, [], IfOk, IfErr, OnOk, true, length};
 ghost use Rattle.half_store.specs.Arrays.{arrays_of, bytes_of, bytes};
-ghost use Rattle.half_store.specs.Store.{IsStoreClone, MakesStore, StoreReserves, StoreShrinks, MakesTable, table_of};
-ghost use Rattle.half_store.specs.Capacity.{capacity_of};
+ghost use Rattle.half_store.specs.Store.{IsStoreClone, MakesStore, StoreReserves, StoreShrinks, MakesTable, TableFitsColumns, table_of, vector_of};
+ghost use Rattle.half_store.specs.Capacity.{capacity_of, least_buckets, least_table_capacity};
+ghost use Rattle.half_store.specs.Refusal.{refusal_of};
 
 use super::Store;
 use crate::capacity::{capacity_of, generous_capacity, least_buckets};
@@ -44,7 +45,7 @@ impl<K, V> Store<K, V> {
                 table: None,
             });
         }
-        let table = Box::new(alloc, Table::with_capacity(alloc, capacity)?)?;
+        let table = boxed_table(alloc, capacity)?;
         Ok(Store {
             columns: Columns::with_capacity(alloc, table.capacity())?,
             table: Some(table),
@@ -78,29 +79,13 @@ impl<K, V> Store<K, V> {
     /// Where it is not enough yet, a table gets the least of its series that is, and a vector grows as `generous_capacity` says. On error
     /// nothing changes.
     #[inline(never)]
-    #[tactic(auto)]
     pub fn reserve(&mut self, additional: usize, limit: usize) -> Result<(), Refusal>
         ensures reserves { StoreReserves limit self.old self.new additional result }
     {
-        let len = self.columns.len();
-        let Some(table) = &mut self.table else {
-            let needed = len.saturating_add(additional).min(limit);
-            let capacity = self.columns.capacity();
-            if capacity < needed {
-                check_size(needed)?;
-                self.columns
-                    .grow_to(generous_capacity(limit, capacity, needed))?;
-            }
-            return Ok(());
-        };
-        if additional <= table.capacity() - len {
-            return Ok(());
+        match &mut self.table {
+            Some(table) => reserve_in_table(&mut self.columns, table, additional, limit),
+            None => reserve_in_vector(&mut self.columns, additional, limit),
         }
-        let Some(needed) = len.checked_add(additional) else {
-            return Err(Refusal::Size);
-        };
-        let fresh = Table::with_capacity(self.columns.allocator(), needed)?;
-        Ok(self.columns.grow_with_table(table, fresh)?)
     }
 
     /// Makes a table of no more pairs than the limit a vector, and shrinks the capacity to the least that the pairs fit. On
@@ -109,20 +94,13 @@ impl<K, V> Store<K, V> {
         ensures shrinks { StoreShrinks limit self.old self.new result }
     {
         let len = self.columns.len();
-        let Some(table) = &mut self.table else {
-            return self.columns.shrink_to(len);
-        };
-        if len <= limit {
-            self.columns.shrink_to(len)?;
-            self.table = None;
-            return Ok(());
+        if let Some(table) = &mut self.table {
+            if limit < len {
+                return shrink_table(&mut self.columns, table, limit);
+            }
         }
-        let buckets = least_buckets(table.len());
-        if capacity_of(buckets) < table.capacity() {
-            let fresh = Table::empty(self.columns.allocator(), buckets)?;
-            self.columns.shrink_to(fresh.capacity())?;
-            table.move_to(fresh);
-        }
+        self.columns.shrink_to(len)?;
+        self.table = None;
         Ok(())
     }
 
@@ -154,8 +132,7 @@ impl<K, V> Store<K, V> {
         requires { self.old.is_vec ≡ true }
         ensures makes { MakesTable self.old self.new needed result }
     {
-        let alloc = self.columns.allocator();
-        let table = Box::new(alloc, Table::with_capacity(alloc, needed)?)?;
+        let table = boxed_table(self.columns.allocator(), needed)?;
         if self.columns.capacity() < table.capacity() {
             self.columns.grow_to(table.capacity())?;
         }
@@ -172,4 +149,85 @@ impl<K, V> Store<K, V> {
     {
         self.table = Some(table);
     }
+}
+
+// `reserve` of a vector of these columns.
+#[inline(always)]
+#[tactic(auto)]
+fn reserve_in_vector<K, V>(
+    columns: &mut Columns<K, V>,
+    additional: usize,
+    limit: usize,
+) -> Result<(), Refusal>
+    ensures reserves { StoreReserves limit (vector_of columns.old) (vector_of columns.new)
+        additional result }
+{
+    let needed = columns.len().saturating_add(additional).min(limit);
+    let capacity = columns.capacity();
+    if capacity < needed {
+        check_size(needed)?;
+        columns.grow_to(generous_capacity(limit, capacity, needed))?;
+    }
+    Ok(())
+}
+
+// `reserve` of a table over these columns. Its limit is that of the map, and changes nothing.
+#[inline(always)]
+#[tactic(auto)]
+fn reserve_in_table<K, V>(
+    columns: &mut Columns<K, V>,
+    table: &mut Table,
+    additional: usize,
+    _limit: usize,
+) -> Result<(), Refusal>
+    requires { TableFitsColumns columns.old table.old }
+    ensures reserves { StoreReserves _limit (table_of columns.old table.old)
+        (table_of columns.new table.new) additional result }
+    ensures fits { TableFitsColumns columns.new table.new }
+{
+    let len = columns.len();
+    if additional <= table.capacity() - len {
+        return Ok(());
+    }
+    let Some(needed) = len.checked_add(additional) else {
+        return Err(Refusal::Size);
+    };
+    let fresh = Table::with_capacity(columns.allocator(), needed)?;
+    Ok(columns.grow_with_table(table, fresh)?)
+}
+
+// `shrink_to_fit` of a table over these columns that stays one.
+#[inline(always)]
+#[tactic(auto)]
+fn shrink_table<K, V>(
+    columns: &mut Columns<K, V>,
+    table: &mut Table,
+    limit: usize,
+) -> Result<(), AllocError>
+    requires fits { TableFitsColumns columns.old table.old }
+    requires exceeds { limit < length columns.old.pairs }
+    ensures shrinks { StoreShrinks limit (table_of columns.old table.old)
+        (table_of columns.new table.new) result }
+    ensures fits { TableFitsColumns columns.new table.new }
+{
+    let buckets = least_buckets(table.len());
+    if capacity_of(buckets) < table.capacity() {
+        let fresh = Table::empty(columns.allocator(), buckets)?;
+        columns.shrink_to(fresh.capacity())?;
+        table.move_to(fresh);
+    }
+    Ok(())
+}
+
+// An empty table with capacity for this many pairs, in a block of its own.
+#[inline(always)]
+#[tactic(auto)]
+fn boxed_table(alloc: Global, needed: usize) -> Result<Box<Table>, Refusal>
+    ensures hashes { IfOk result (λ t. t.value.hashes ≡ []) }
+    ensures buckets { IfOk result (λ t. t.value.buckets ≡ least_buckets needed) }
+    ensures enough { OnOk result (needed ≤ least_table_capacity needed) }
+    ensures granted { OnOk result (needed ≤ 2 ^ 60) }
+    ensures refused { IfErr result (λ why. why ≡ refusal_of needed) }
+{
+    Ok(Box::new(alloc, Table::with_capacity(alloc, needed)?)?)
 }
