@@ -3,7 +3,7 @@
 figures, of which docs/SPEED.md has a part, and draws docs/speed.svg where it measured all of them.
 
     tests/bench.py [ROUNDS] [WORD..]                  9 rounds where none are given
-    tests/bench.py --against DIR [ROUNDS] [WORD..]    half_bench of this tree and of another, built there, in turns
+    tests/bench.py --against DIR [ROUNDS] [WORD..]    half_bench of this tree and of one built there, 3 rounds in each of six orders
 
 Words pick rows of times: operations, `u64`, `String` and sizes; `memory`, `reads`, `halfmap` and `word_count`
 those tables.
@@ -46,6 +46,8 @@ FULL, BUCKETS = 3 << 16, 4 << 16
 WORDS, DIFFERING = 2_000_000, 50_000
 
 Place = collections.namedtuple("Place", "operation keys pairs")
+# In so many random orders `--against` links the functions of a program: the order alone changes a time by .8 to 1.25.
+ORDERS = 6
 # What the picture shows of this map at limit 32, and of std's: times by place, and bytes by keys and pairs.
 DRAWN = {}
 
@@ -119,41 +121,42 @@ def print_times(rounds, words):
         print_table(heads, map(row, rows))
 
 
-def aligned(program, output):
-    """Links a program anew, with each function at a multiple of 64 bytes, since where code lies changes its time."""
-    kit = pathlib.Path(shutil.which("rt")).resolve().parent.parent
-    subprocess.run(["objcopy", "-w", "--set-section-alignment", ".text.*=64", f"{program}.o", f"{output}.o"], check=True)
-    link = [kit / "bin/rattle-link", "--target", "x86_64-unknown-linux-gnu", "--toolchain", kit / "toolchain", "-o", output]
-    subprocess.run([*link, f"{output}.o", *(kit / "c" / it for it in ("libos_c.a", "liblibc_c.a"))], check=True)
+def shuffled(program, order, folder):
+    """Links a program anew, its functions in a random order, by the kit's linker with an lld that gets one flag more."""
+    kit, tools = pathlib.Path(shutil.which("rt")).resolve().parent.parent, tempfile.mkdtemp(dir=folder)
+    shutil.copytree(kit / "toolchain", tools, symlinks=True, copy_function=os.symlink, dirs_exist_ok=True)
+    lld, output = pathlib.Path(tools, "bin/ld.lld"), pathlib.Path(tools, "program")
+    lld.unlink()
+    lld.write_text(f'#!/bin/sh\nexec "{kit}/toolchain/bin/ld.lld" "$@" "--shuffle-sections=.text*={order}"\n')
+    lld.chmod(0o755)
+    link = [kit / "bin/rattle-link", "--target", "x86_64-unknown-linux-gnu", "--toolchain", tools, "-o", output]
+    subprocess.run([*link, f"{program}.o", *(kit / "c" / it for it in ("libos_c.a", "liblibc_c.a"))], check=True)
     return output
 
 
 def print_against(other, rounds, words, folder):
-    """Prints how long this tree's maps take by those of another tree. Std's and indexmap's should be about 1.
-
-    Rows whose timed functions have the same machine code in both may still differ by a tenth, where what makes their maps before,
-    such as `many_filled`, has not. Compare `objdump -d` of both before you look for a cause.
-    """
+    """Prints how long this tree's maps take by those of another tree. The means of std's and indexmap's should be about 1."""
     other = pathlib.Path(other).resolve() / "crates/half_bench/out/half_bench"
     if not other.exists():
         sys.exit(f"{other}: not built")
-    if not shutil.which("objcopy"):
-        sys.exit("objcopy: not found; it is one of the binutils")
-    programs = [aligned(build("half_bench"), folder / "ours"), aligned(other, folder / "theirs")]
-    # Both run on one processor, so that neither has a better one, and take turns, also in which goes first.
+    built = build("half_bench"), other
+    orders = [[shuffled(program, order, folder) for program in built] for order in range(1, ORDERS + 1)]
+    # All run on one processor, so that none has a better one, and they take turns, also in which goes first.
     os.sched_setaffinity(0, {max(os.sched_getaffinity(0))})
 
     def row(place):
-        found = {program: {name: [] for name in MAPS} for program in programs}
-        for turn in range(rounds):
+        found = {program: {name: [] for name in MAPS} for programs in orders for program in programs}
+        for turn, programs in itertools.product(range(rounds), orders):
             for program in programs if turn % 2 == 0 else reversed(programs):
                 for name, nanoseconds in times(program, place, 1).items():
                     found[program][name] += nanoseconds
-        medians = [[statistics.median(found[it][name]) for it in programs] for name in MAPS]
-        return [*place, *(f"{ours / max(theirs, 0.01):.2f}" for ours, theirs in medians)]
+        for name in MAPS:
+            median = {program: statistics.median(it[name]) for program, it in found.items()}
+            ratios = [median[ours] / max(median[theirs], 0.01) for ours, theirs in orders]
+            yield " ".join(f"{it:.2f}" for it in (min(ratios), statistics.mean(ratios), max(ratios)))
 
-    print(f"How many times as long as there, by the medians of {rounds} rounds:\n")
-    print_table(["operation", "keys", "pairs", *MAPS], map(row, places(words)), texts=2)
+    print(f"How many times as long as there, by the medians of {rounds} rounds: least, mean and greatest of {ORDERS} orders\n")
+    print_table(["operation", "keys", "pairs", *MAPS], ([*place, *row(place)] for place in places(words)), texts=2)
 
 
 def peak_bytes(program, *words):
@@ -279,11 +282,12 @@ def main():
     other = words[1] if words[:1] == ["--against"] else None
     words = words[2:] if other else words
     # A size is a number too, so the rounds are told by their place.
-    rounds = int(words.pop(0)) if words and words[0].isdigit() else 9
+    rounds = int(words.pop(0)) if words and words[0].isdigit() else 3 if other else 9
     known = [*OPERATIONS, *KEYS, *map(str, SIZES), *([] if other else OTHERS)]
     if unknown := [it for it in words if it not in known]:
         sys.exit(f"{unknown[0]}: not one of {' '.join(known)}")
-    print(f"After the proofs, all rows take about {math.ceil(1.1 * rounds)} minutes", file=sys.stderr)
+    minutes = 1.1 * rounds * (2 * ORDERS if other else 1)
+    print(f"After the proofs, all rows take about {math.ceil(minutes)} minutes", file=sys.stderr)
     rows = [it for it in words if it not in OTHERS]
     with tempfile.TemporaryDirectory() as folder:
         if other:
