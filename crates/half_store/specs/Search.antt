@@ -49,7 +49,7 @@ abbrev pub found_index : Result Found Vacancy → Option ℕ
 found_index (Ok found) = Some found.index
 found_index (Err vacancy) = None
 
--- a search from first to last among this many keys found this index, or none: it compared at least those up to and with the one that it found, and
+-- a search for the first match among this many keys found this index, or none: it compared at least those up to and with the one that it found, and
 -- at most all; key by key it compared no more than it had to
 pub record ComparesInOrder (scan : Scan) (found : Option ℕ) (len : ℕ) (before after : Work) : Type 0 where
   pub asked : after.asked ≡ before.asked

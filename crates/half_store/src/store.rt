@@ -1,5 +1,5 @@
-//! Pairs in two forms over the same two columns: a vector, which is searched from first to last, or a table, which has an
-//! index.
+//! Pairs in two forms over the same two columns: a vector, which is searched for the first key that matches, or a table, which
+//! has an index.
 #![tactic(auto, using(crate::proofs::lemmas::store::States::store_steps))]
 
 ghost use Rattle.std.specs.Prelude.{◌≡◌, [], length, nat_lt};

@@ -1,4 +1,4 @@
-//! Pairs in two columns, one of keys and one of values: dense, in order, searched from first to last.
+//! Pairs in two columns, one of keys and one of values: dense, in order, searched for the first key that matches.
 #![tactic(auto, using(crate::proofs::lemmas::vecmap::Columns::opened))]
 
 ghost use Rattle.std.specs.Prelude.{◌≡◌, ◌^◌, ◌<◌, ◌≤◌, [], ◌∷◌, ◌++◌, length, slice_get, Some, remove, false};

@@ -51,10 +51,10 @@ pub type HashMap<K, V, S = DefaultHashBuilder> = LimitedHashMap<K, V, S, AtMost<
 /// became free, or, in a vector, `replace_entry_with` swaps its pair with the last. `shift_remove` keeps the order, and
 /// takes longer.
 ///
-/// A search in a vector compares keys up to the first that is equal, or, where keys have at most eight bytes, up to 15
-/// more, and hashes nothing. A search in a table hashes the key once, probes from its home bucket on, and compares only
-/// keys of the same hash. How many buckets it reads where it finds nothing is decided by the home buckets of the held
-/// keys, whatever the history.
+/// A search in a vector hashes nothing, and compares keys up to the first that is equal. Where keys have at most eight
+/// bytes, most calls compare them 16 at a time, from the last of these to the first. A search in a table hashes the key
+/// once, probes from its home bucket on, and compares only keys of the same hash. How many buckets it reads where it
+/// finds nothing is decided by the home buckets of the held keys, whatever the history.
 ///
 /// Its limit `L` is a type, `AtMost<8>` for 8 pairs. `SizedHashMap` takes the number instead. A function of maps of
 /// every limit has `L: Limit` as a parameter. Most users need neither, and write `HashMap`.

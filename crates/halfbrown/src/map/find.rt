@@ -1,4 +1,4 @@
-//! The search for a key, or by a match on keys: in a vector from first to last, in a table among the keys of one hash.
+//! The search for a key, or by a match on keys: in a vector among all keys, in a table among the keys of one hash.
 ghost use Rattle.std.specs.Prelude.{◌≡◌, ◌+◌, true, false, length};
 ghost use Rattle.std.specs.Fn.{FnReturnsAt};
 ghost use Rattle.std.specs.Map.{keys_of};
@@ -14,7 +14,7 @@ use half_store::{Found, Scan, Tally, Vacancy};
 use std::hash::Hash;
 
 impl<K: Eq + Hash, V, S: KeyHasher<K>, L: Limit> LimitedHashMap<K, V, S, L> {
-    /// Searches for a key: in a vector from first to last, in a table among the keys of its hash.
+    /// Searches for a key: in a vector among all keys, in a table among the keys of its hash.
     #[inline(always)]
     pub(crate) fn find<Q: Equivalent<K>>(&self, key: Q, tally: &mut Tally) -> Result<Found, Vacancy>
         ensures found { KeySearch (Q.equivalent key)
