@@ -14,7 +14,7 @@ import sys
 
 TOP = pathlib.Path(__file__).resolve().parent.parent / "crates"
 CRATES = "half_store halfbrown half_set half_serde json_value half_uses word_count halfmap".split()
-WORK = r"hash_one|hash_key|compare|word_at|search|first_(?:match\w*|empty)|find|find_\w+|vacancy_for|\w+_probe|same_text"
+WORK = r"hash_one|hash_key|compare|word_at|search|first_(?:match\w*|empty)|find|find_\w+|vacancy_for|place_of|bucket_of|\w+_probe|same_text"
 
 RULES = (
     ("Nothing is forgotten.", "0 0 0 0 0 0 0 0", r"\bforget\b|ManuallyDrop|\bleak|\binto_raw"),
@@ -33,31 +33,31 @@ RULES = (
     ("The map makes no plain call of its own: these are of entries, tables, std's traits, and of its users.", "4 20 6 1 9 32 0 3",
      r"(?<!fn )\b(?:PLAIN)(?:::<[^()]*>)?\(|::(?:PLAIN)\b(?!\()"),
     ("Slices are indexed, and no map.", "19 0 0 0 0 0 0 4", r"[\w\])]\["),
-    ("What compares keys is handed on, and only `compare` calls it.", "19 8 0 0 0 0 0 0", r"\b(?:matches|is_match)\b"),
+    ("What compares keys is handed on, and only `compare` calls it.", "20 8 0 0 0 0 0 0", r"\b(?:matches|is_match)\b"),
     ("No hasher is built: a key is hashed by `hash_one`.", "0 0 0 0 0 0 0 0", r"(?:\.|::)(?:hash(?:_slice)?\(|build_hasher\b)|::hash\b"),
     ("Keys, values and numbers are found equal in these places, and nothing is sorted.", "11 12 4 0 6 3 0 9",
      r"[!=]=|(?:\.|::)(?:eq|ne|\w*cmp|equivalent|contains|(?:start|end)s_with|strip_\w+|(?:sort|dedup|binary)\w*)\b"),
-    ("Sizes are compared, and ranges end, in these places.", "33 18 0 5 7 2 0 9",
+    ("Sizes are compared, and ranges end, in these places.", "34 18 0 5 7 2 0 9",
      r"(?<![-=]) [<>]=? ?(?=[\w(&*-])|[<>]=|\)[<>](?=[\w(]\w*[^\w(,>])|\b[a-z]\w*[<>](?!const)(?=[a-z\d])|\.\."
      r"|\b(?:min|max|clamp|[lg][te]|nth\w*|skip\w*|step_by|chunks\w*|windows|split_at\w*|(?:checked|saturating)_\w+)\b"),
-    ("Numbers beside 0 and 1, constants, products, shifts, casts and sizes of types stand in these places.", "51 19 0 3 2 3 4 12",
+    ("Numbers beside 0 and 1, constants, products, shifts, casts and sizes of types stand in these places.", "54 19 0 3 2 3 4 12",
      r"(?<![\w.])(?![01]\b)\d\w*|\b[A-Z][A-Z_]{2,}\b|\w+_of(?:_val\(|::)|[\w)](?: [*/%^&+] (?=[a-z(])| ?<< ?|[*/%^](?=\w))"
      r"| >> |>>\d|[*/%&|^]= |\bas [a-z]\w*|\w*(?:pow|ilog|isqrt|_mul|_sh[lr]|_zeros|_ones)\w*|\btry_(?:from|into)\b"),
-    ("Work is repeated, handed to a closure or broken off in these places.", "39 18 5 4 18 11 0 13",
+    ("Work is repeated, handed to a closure or broken off in these places.", "38 18 5 4 18 11 0 13",
      r"\b(?:while|loop|break|continue|return)\b|\bfor [^{}]*? in |(?:[=(,] ?|move )\|"
      r"|\.(?:all|any|map\w*|and_then|for_each|\w*fold|rev|\w*position|filter\w*|zip|chain|sum|chars|bytes|split\w*)(?:\(|::<)"),
     ("Operators, drops and macros are written in these places; no comment is in a line, nothing is shared.", "2 6 0 0 0 0 0 0",
      r"\bfn drop\b|macro_rules|\b(?!(?:prove|write|writeln|uncounted|of_either_size|unreachable|eprintln)!)\w+! ?[(\[{]|/\*"
      r"|\b(?:Add|Sub|Mul|Div|Rem|Neg|Not|Bit\w+|Sh[lr]|\w+Assign|Deref\w*|Index\w*|Fn\w*|AsRef|Borrow)\b(?:<[^{}]*>)? for\b"
      r"|(?<!')\bstatic\b|\bunsafe\b|\b(?:Ref)?Cell\b|\bAtomic"),
-    ("Counted work is done in these places.", "30 65 0 0 0 8 0 0", rf"\b(?:{WORK}|read|\w+_counted)\("),
-    ("What does work is called by its name alone: nothing, or a helper's types, stands between that and its bracket.", "9 6 0 0 0 0 0 0",
+    ("Counted work is done, and a pair is probed for, in these places.", "36 70 0 0 0 8 0 0", rf"\b(?:{WORK}|read|\w+_counted)\("),
+    ("What does work is called by its name alone: nothing, or a helper's types, stands between that and its bracket.", "10 6 0 0 0 0 0 0",
      rf"(?<!mod )\b(?:{WORK})\b(?!\()|[.:]read\b(?!\()|[=(,:] ?(?=\w+_)(?:HELPER)\b(?!(?:::<[^()]*>)?\()|[\w>]::[a-z]\w*(?![\w:(!])"),
-    ("What no user can call, and what goes through a text or a map, is called in these places.", "101 79 7 5 22 14 5 25",
+    ("What no user can call, and what goes through a text or a map, is called in these places.", "106 79 7 5 22 14 5 25",
      r"(?<!fn )\b(?:HELPER|count_words|report|pointer|parse|from_utf8|flush|into|move_to|retain)(?:::<[^()]*>)?\("),
     ("The words of buckets are read by `word_at` alone.", "42 0 0 0 0 0 0 0", r"(?<!mod )\bwords\b"),
     ("An allocator is named `alloc`.", "1 1 0 1 0 0 0 0", r"(?<!\balloc: )\bGlobal\b"),
-    ("Memory is taken, and values are cloned, in these places.", "99 70 5 19 24 38 8 18",
+    ("Memory is taken, and values are cloned, in these places.", "95 70 5 19 24 38 8 18",
      r"\balloc(?:ator)?\b|\b(?:clone_all|grow\w*)\(|\bBox::\w|\bwrite(?:ln)?!|[.:](?:push\w*|reserve\w*|extend\w*|append"
      r"|resize\w*|clone\w*|cop(?:y|ied)|collect|with_cap\w*|shrink_to\w*|from_[as]\w+|to_[osv]\w+|new_table)\b"),
     ("A refusal is made, handed on or looked at in these places.", "33 42 0 2 30 6 10 22",
