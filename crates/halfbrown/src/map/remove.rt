@@ -69,7 +69,7 @@ impl<K: Eq + Hash, V, S: KeyHasher<K>, L: Limit> LimitedHashMap<K, V, S, L> {
             tally.old tally.new }
     {
         let hash = self.hash_in_table(&key, tally);
-        self.remove_hashed(hash, key, tally)
+        self.remove_entry_hashed_nocheck_counted(hash, key, tally)
     }
 
     /// `remove_entry` by a hash that is known, which must be the builder's hash of the key. Nothing is hashed. It needs
@@ -94,7 +94,7 @@ impl<K: Eq + Hash, V, S: KeyHasher<K>, L: Limit> LimitedHashMap<K, V, S, L> {
         uncounted!(self.remove_entry_hashed_nocheck_counted(hash, key))
     }
 
-    /// `remove_entry_hashed_nocheck`, with its work counted: that of one search, with no hash.
+    /// `remove_entry_hashed_nocheck`, with its work counted: that of one search, with no hash. A vector does not look at the hash.
     #[inline(always)]
     pub fn remove_entry_hashed_nocheck_counted<Q: Equivalent<K>>(
         &mut self,
@@ -102,26 +102,7 @@ impl<K: Eq + Hash, V, S: KeyHasher<K>, L: Limit> LimitedHashMap<K, V, S, L> {
         key: Q,
         tally: &mut Tally,
     ) -> Option<(K, V)>
-        requires { hash ≡ S.hash_writes self.old.builder (Q.hash_input key) }
-        ensures removes { Removes L.LIMIT K.eq (Q.equivalent key) self.old
-            (lookup_entry (Q.equivalent key) self.old.pairs) result self.new }
-        ensures value { option_map (λ pair. pair.1) result
-            ≡ lookup (Q.equivalent key) self.old.pairs }
-        ensures cost { IsHashedLookupCost S.KeyHasher Q.hash_input Q.equivalent key self.old
-            tally.old tally.new }
-    {
-        self.remove_hashed(hash, key, tally)
-    }
-
-    // Removes the pair of the key, under a hash that is known. A vector does not look at it.
-    #[inline(always)]
-    fn remove_hashed<Q: Equivalent<K>>(
-        &mut self,
-        hash: u64,
-        key: Q,
-        tally: &mut Tally,
-    ) -> Option<(K, V)>
-        requires known { self.old.is_vec ≡ false
+        requires { self.old.is_vec ≡ false
             → hash ≡ S.hash_writes self.old.builder (Q.hash_input key) }
         ensures removes { Removes L.LIMIT K.eq (Q.equivalent key) self.old
             (lookup_entry (Q.equivalent key) self.old.pairs) result self.new }

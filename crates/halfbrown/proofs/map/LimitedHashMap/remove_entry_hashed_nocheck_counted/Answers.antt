@@ -1,5 +1,5 @@
 use Rattle.halfbrown.proofs.lemmas.map.Remove.{none_found, taken_found}
-use Rattle.halfbrown.proofs.map.LimitedHashMap.remove_hashed.Goals as goal
+use Rattle.halfbrown.proofs.map.LimitedHashMap.remove_entry_hashed_nocheck_counted.Goals as goal
 
 pub returns-in-Ok-clause-removes : goal.returns-in-Ok-clause-removes
 returns-in-Ok-clause-removes g c =
