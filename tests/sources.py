@@ -50,7 +50,7 @@ RULES = (
      r"\bfn drop\b|macro_rules|\b(?!(?:prove|write|writeln|uncounted|of_either_size|unreachable|eprintln)!)\w+! ?[(\[{]|/\*"
      r"|\b(?:Add|Sub|Mul|Div|Rem|Neg|Not|Bit\w+|Sh[lr]|\w+Assign|Deref\w*|Index\w*|Fn\w*|AsRef|Borrow)\b(?:<[^{}]*>)? for\b"
      r"|(?<!')\bstatic\b|\bunsafe\b|\b(?:Ref)?Cell\b|\bAtomic"),
-    ("Counted work is done, and a pair is probed for, in these places.", "36 71 0 0 0 8 0 0", rf"\b(?:{WORK}|read|\w+_counted)\("),
+    ("Counted work is done, and a pair is probed for, in these places.", "36 72 0 0 0 8 0 0", rf"\b(?:{WORK}|read|\w+_counted)\("),
     ("What does work is called by its name alone: nothing, or a helper's types, stands between that and its bracket.", "10 6 0 0 0 0 0 0",
      rf"(?<!mod )\b(?:{WORK})\b(?!\()|[.:]read\b(?!\()|[=(,:] ?(?=\w+_)(?:HELPER)\b(?!(?:::<[^()]*>)?\()|[\w>]::[a-z]\w*(?![\w:(!])"),
     ("What no user can call, and what goes through a text or a map, is called in these places.", "106 77 7 5 22 14 5 25",

@@ -94,7 +94,8 @@ impl<K: Eq + Hash, V, S: KeyHasher<K>, L: Limit> LimitedHashMap<K, V, S, L> {
         uncounted!(self.remove_entry_hashed_nocheck_counted(hash, key))
     }
 
-    /// `remove_entry_hashed_nocheck`, with its work counted: that of one search, with no hash. A vector does not look at the hash.
+    /// `remove_entry_hashed_nocheck`, with its work counted: that of one search, with no hash. A vector does not look at the
+    /// hash.
     #[inline(always)]
     pub fn remove_entry_hashed_nocheck_counted<Q: Equivalent<K>>(
         &mut self,

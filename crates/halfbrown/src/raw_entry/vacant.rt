@@ -73,7 +73,7 @@ impl<'a, K: Eq + Hash, V, S: KeyHasher<K>, L: Limit> RawVacantEntryMut<'a, K, V,
             ≡ work_after_adding S.hash (map_of (raw_vacant self.entry)) key tally.old }
     {
         let hash = self.map.hash_in_table(&key, tally);
-        self.add(hash, key, value, tally)
+        self.insert_entry_hashed_nocheck_counted(hash, key, value, tally)
     }
 
     /// `insert` by a hash that is known, which must be the builder's hash of the key. Nothing is hashed.
@@ -132,7 +132,8 @@ impl<'a, K: Eq + Hash, V, S: KeyHasher<K>, L: Limit> RawVacantEntryMut<'a, K, V,
         uncounted!(self.insert_entry_hashed_nocheck_counted(hash, key, value))
     }
 
-    /// `insert_entry_hashed_nocheck`, with its work counted: that of `insert_hashed_nocheck`.
+    /// `insert_entry_hashed_nocheck`, with its work counted: that of `insert_hashed_nocheck`. A vector does not look at the
+    /// hash.
     #[inline]
     pub fn insert_entry_hashed_nocheck_counted(
         self,
@@ -141,13 +142,17 @@ impl<'a, K: Eq + Hash, V, S: KeyHasher<K>, L: Limit> RawVacantEntryMut<'a, K, V,
         value: V,
         tally: &mut Tally,
     ) -> OccupiedEntry<'a, K, V, S, L>
-        requires hash { hash ≡ S.hash (map_of (raw_vacant self)).builder key }
+        requires hash { (map_of (raw_vacant self)).is_vec ≡ false
+            → hash ≡ S.hash (map_of (raw_vacant self)).builder key }
         requires absent { holds K.eq (map_of (raw_vacant self)).pairs key ≡ false }
         ensures adds { PutsNewEntry L.LIMIT K.eq (raw_vacant self.entry) key value (occupied result) }
         ensures cost { tally.new
             ≡ work_after_probe S.hash (map_of (raw_vacant self.entry)) hash tally.old }
     {
-        self.add(hash, key, value, tally)
+        let map = self.map;
+        let vacancy = map.vacancy_for(hash, tally);
+        let Found { index, bucket } = map.push(key, value, vacancy);
+        OccupiedEntry { map, index, bucket }
     }
 
     /// `insert_hashed_nocheck` with a function that hashes keys. The function is not called, since hashes are stored.
@@ -190,21 +195,5 @@ impl<'a, K: Eq + Hash, V, S: KeyHasher<K>, L: Limit> RawVacantEntryMut<'a, K, V,
             ≡ work_after_probe S.hash (map_of (raw_vacant self.entry)) hash tally.old }
     {
         self.insert_hashed_nocheck_counted(hash, key, value, tally)
-    }
-
-    // Adds a pair whose key is not held, under its hash, at which a vector does not look.
-    #[inline(always)]
-    fn add(self, hash: u64, key: K, value: V, tally: &mut Tally) -> OccupiedEntry<'a, K, V, S, L>
-        requires hash { (map_of (raw_vacant self)).is_vec ≡ false
-            → hash ≡ S.hash (map_of (raw_vacant self)).builder key }
-        requires absent { holds K.eq (map_of (raw_vacant self)).pairs key ≡ false }
-        ensures adds { PutsNewEntry L.LIMIT K.eq (raw_vacant self.entry) key value (occupied result) }
-        ensures cost { tally.new
-            ≡ work_after_probe S.hash (map_of (raw_vacant self.entry)) hash tally.old }
-    {
-        let map = self.map;
-        let vacancy = map.vacancy_for(hash, tally);
-        let Found { index, bucket } = map.push(key, value, vacancy);
-        OccupiedEntry { map, index, bucket }
     }
 }

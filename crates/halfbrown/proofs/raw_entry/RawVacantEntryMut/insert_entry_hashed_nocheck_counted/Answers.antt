@@ -1,7 +1,7 @@
 use Rattle.halfbrown.proofs.Common.{length, arith, [], ◌∷◌, refl, ap, length-append}
 use Rattle.halfbrown.proofs.lemmas.map.Find.{vacancy_for}
 use Rattle.halfbrown.proofs.lemmas.raw_entry.Methods.{adds_pair}
-use Rattle.halfbrown.proofs.raw_entry.RawVacantEntryMut.add.Goals as goal
+use Rattle.halfbrown.proofs.raw_entry.RawVacantEntryMut.insert_entry_hashed_nocheck_counted.Goals as goal
 
 pub push-index-requires-clause-vacant : goal.push-index-requires-clause-vacant
 push-index-requires-clause-vacant g c = vacancy_for _ _ _ _ c.requires.hash _ c.vacancy_for-vacancy.ensures.vacant
