@@ -33,8 +33,8 @@ MAPS = ["limit_0", "limit_32", "std", "indexmap"]
 KEYS = {"u64": 1_000_000, "String": 100_000}
 SIZES = [4, 16, 33, 100, 1_000, 100_000, 1_000_000]
 OPERATIONS = (
-    "hit miss raw_hit build raw_build insert remove churn entry_few entry_many iter values_mut clone retain drain from_iter"
-    " extend equal shrink_to_fit"
+    "hit miss raw_hit build raw_build insert remove churn entry_churn entry_few entry_many iter values_mut clone retain drain"
+    " from_iter extend equal shrink_to_fit"
 ).split()
 OTHERS = ["memory", "reads", "halfmap", "word_count"]
 # Pairs in all maps whose memory is measured, lines that halfmap reads, and keys that it holds at look-ups.

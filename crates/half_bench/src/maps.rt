@@ -1,9 +1,9 @@
 //! The maps that are compared, behind one trait. All hash by the same builder, which is the default of each.
 use crate::keys::{Key, Lawful};
 use halfbrown::{DefaultHashBuilder, SizedHashMap};
-use indexmap::IndexMap;
+use indexmap::{IndexMap, map};
 use std::alloc::Global;
-use std::collections::HashMap;
+use std::collections::{HashMap, hash_map};
 use std::io;
 
 // Adds up a number of each pair.
@@ -49,6 +49,9 @@ pub(crate) trait Map<K: Lawful>: PartialEq + Drop {
 
     /// Takes out the pair of this key.
     fn take(&mut self, key: &K) -> Option<(K, u64)>;
+
+    /// Takes out the pair of this key through its entry, and returns its value.
+    fn take_entry(&mut self, key: K) -> io::Result<Option<u64>>;
 
     /// Adds one to the value of this key, which is zero where it is not held, by `entry`.
     fn count(&mut self, key: K) -> io::Result<()>;
@@ -110,6 +113,14 @@ impl<K: Lawful, const N: usize> Map<K> for AtLimit<K, N> {
 
     fn take(&mut self, key: &K) -> Option<(K, u64)> {
         self.remove_entry(key)
+    }
+
+    #[inline(always)]
+    fn take_entry(&mut self, key: K) -> io::Result<Option<u64>> {
+        match self.entry(key)? {
+            halfbrown::Entry::Occupied(entry) => Ok(Some(entry.remove())),
+            halfbrown::Entry::Vacant(_) => Ok(None),
+        }
     }
 
     fn count(&mut self, key: K) -> io::Result<()> {
@@ -178,6 +189,14 @@ impl<K: Lawful> Map<K> for OfStd<K> {
         self.remove_entry(key)
     }
 
+    #[inline(always)]
+    fn take_entry(&mut self, key: K) -> io::Result<Option<u64>> {
+        match self.entry(key)? {
+            hash_map::Entry::Occupied(entry) => Ok(Some(entry.remove())),
+            hash_map::Entry::Vacant(_) => Ok(None),
+        }
+    }
+
     fn count(&mut self, key: K) -> io::Result<()> {
         let count = self.entry(key)?.or_insert(0);
         *count = count.wrapping_add(1);
@@ -242,6 +261,14 @@ impl<K: Lawful> Map<K> for OfIndex<K> {
 
     fn take(&mut self, key: &K) -> Option<(K, u64)> {
         self.swap_remove_entry(key)
+    }
+
+    #[inline(always)]
+    fn take_entry(&mut self, key: K) -> io::Result<Option<u64>> {
+        match self.entry(key)? {
+            map::Entry::Occupied(entry) => Ok(Some(entry.swap_remove())),
+            map::Entry::Vacant(_) => Ok(None),
+        }
     }
 
     fn count(&mut self, key: K) -> io::Result<()> {

@@ -12,8 +12,8 @@ use given::{
 use std::io;
 use std::time::CpuClock;
 use work::{
-    ask, ask_hashed, build, build_hashed, collect, compare, copy, drain, exchange, fill, insert,
-    keep_even, raise, remove_all, shrink, sum,
+    ask, ask_hashed, build, build_hashed, collect, compare, copy, drain, exchange,
+    exchange_by_entry, fill, insert, keep_even, raise, remove_all, shrink, sum,
 };
 
 /// Times an operation once on our map at limit N, which alone has calls by a known hash.
@@ -46,6 +46,7 @@ pub(crate) fn measure<K: Key, M: Map<K>>(
         "insert" => timer.time(1, lists(alloc, size), insert),
         "remove" => timer.time(1, filled(alloc, size), remove_all),
         "churn" => timer.time(1, oldest(alloc, size), exchange),
+        "entry_churn" => timer.time(1, oldest(alloc, size), exchange_by_entry),
         "entry_few" => timer.time(1, words(alloc, size), |given| fill(given, M::count_all)),
         "entry_many" => timer.time(1, lists_twice(alloc, size), |given| {
             build(given, M::count_all)

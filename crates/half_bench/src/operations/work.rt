@@ -116,6 +116,23 @@ pub(crate) fn exchange<K: Key, M: Map<K>>(given: &mut Given<K, M, (K, K)>) -> io
     Ok(sum)
 }
 
+/// Takes out the oldest pair through its entry, and inserts a new key with its value.
+#[inline(never)]
+pub(crate) fn exchange_by_entry<K: Key, M: Map<K>>(
+    given: &mut Given<K, M, (K, K)>,
+) -> io::Result<u64> {
+    let mut sum = 0u64;
+    let lists = mem::replace(&mut given.lists, Vec::new(given.alloc));
+    for (map, keys) in given.maps.iter_mut().zip(lists) {
+        for (old, new) in keys {
+            let value = map.take_entry(old)?.ok_or(io::ErrorKind::NotFound)?;
+            map.insert(new, value)?;
+            sum = sum.wrapping_add(value);
+        }
+    }
+    Ok(sum)
+}
+
 /// Takes out the pairs of all keys.
 #[inline(never)]
 pub(crate) fn remove_all<K: Key, M: Map<K>>(given: &mut Given<K, M, K>) -> io::Result<u64> {
