@@ -46,7 +46,7 @@ FULL, BUCKETS = 3 << 16, 4 << 16
 WORDS, DIFFERING = 2_000_000, 50_000
 
 Place = collections.namedtuple("Place", "operation keys pairs")
-# In so many random orders `--against` links the functions of a program: the order alone changes a time by .8 to 1.25.
+# In so many orders `--against` links the functions of each program, since the order alone changes a time by .8 to 1.25.
 ORDERS = 6
 # What the picture shows of this map at limit 32, and of std's: times by place, and bytes by keys and pairs.
 DRAWN = {}
@@ -126,7 +126,7 @@ def shuffled(program, order, folder):
     kit, tools = pathlib.Path(shutil.which("rt")).resolve().parent.parent, tempfile.mkdtemp(dir=folder)
     shutil.copytree(kit / "toolchain", tools, symlinks=True, copy_function=os.symlink, dirs_exist_ok=True)
     lld, output = pathlib.Path(tools, "bin/ld.lld"), pathlib.Path(tools, "program")
-    lld.unlink()
+    lld.unlink()  # else the file that it leads to would be written
     lld.write_text(f'#!/bin/sh\nexec "{kit}/toolchain/bin/ld.lld" "$@" "--shuffle-sections=.text*={order}"\n')
     lld.chmod(0o755)
     link = [kit / "bin/rattle-link", "--target", "x86_64-unknown-linux-gnu", "--toolchain", tools, "-o", output]
@@ -286,8 +286,8 @@ def main():
     known = [*OPERATIONS, *KEYS, *map(str, SIZES), *([] if other else OTHERS)]
     if unknown := [it for it in words if it not in known]:
         sys.exit(f"{unknown[0]}: not one of {' '.join(known)}")
-    minutes = 1.1 * rounds * (2 * ORDERS if other else 1)
-    print(f"After the proofs, all rows take about {math.ceil(minutes)} minutes", file=sys.stderr)
+    minutes = math.ceil(1.1 * rounds * (2 * ORDERS if other else 1))
+    print(f"After the proofs, all rows take about {minutes} minutes", file=sys.stderr)
     rows = [it for it in words if it not in OTHERS]
     with tempfile.TemporaryDirectory() as folder:
         if other:
