@@ -215,6 +215,19 @@ def a_limit_of_memory():
     assert (answers, errors, status) == (wanted, b"", 0) and 1000 < held < keys, f"no room at {held} pairs"
 
 
+def a_refused_growth_takes_no_longer_in_a_large_map():
+    """It fills no memory before all of it is granted: of a million insertions more than half are refused, in the time of a run."""
+    text = b"".join(b"i %d 1\n" % key for key in range(1_000_000))
+    times = []
+    for streams in ("", "ulimit -v 25000 &&"):
+        began = time.monotonic()
+        answers, errors, status = Run(streams).end(text)
+        times.append(time.monotonic() - began)
+    refused = answers.count(b"no room\n")
+    assert (errors, status) == (b"", 0) and refused > 500_000, f"{refused} were refused, {errors[:60]}, status {status}"
+    assert times[1] < 3 * times[0], f"{times[1]:.1f} seconds where most are refused, and {times[0]:.1f} where none is"
+
+
 def main():
     if not PROGRAM.is_file():
         print("halfmap is not built: make prove proves and builds it\n0 passed, 1 failed")

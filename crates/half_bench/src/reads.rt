@@ -1,6 +1,6 @@
 //! How many buckets probes read, by the hashes of keys. The buckets count their reads.
 use crate::keys::Key;
-use half_store::{Table, Tally};
+use half_store::{Table, TableMemory, Tally};
 use halfbrown::DefaultHashBuilder;
 use std::alloc::Global;
 use std::hash::{BuildHasher, BuildHasherDefault};
@@ -61,7 +61,7 @@ fn replacing<K: Key>(
 
 // A table that has memory for this many pairs, after as many replacements as it has pairs, and the numbers of its keys.
 fn replaced<K: Key>(alloc: Global, capacity: usize, pairs: u64) -> io::Result<(Table, Vec<u64>)> {
-    let mut table = Table::with_capacity(alloc, capacity)?;
+    let mut table = TableMemory::for_pairs(alloc, capacity)?.into_table();
     let mut held: Vec<u64> = (0..pairs).collect(alloc)?;
     adding::<K>(alloc, &mut table, 0..pairs)?;
     replacing::<K>(alloc, &mut table, &mut held, pairs..pairs.wrapping_mul(2))?;
@@ -98,7 +98,7 @@ fn print_row<K: Key>(
 /// that one search for each pair reads in such a table after as many replacements.
 pub(crate) fn print<K: Key>(rt: &(impl Print + AllocGlobal), capacity: u64) -> io::Result<()> {
     let alloc = rt.alloc();
-    let mut table = Table::with_capacity(alloc, capacity as usize)?;
+    let mut table = TableMemory::for_pairs(alloc, capacity as usize)?.into_table();
     let (mut held, mut added) = (0u64, 0u64);
     for sixths in 2..7 {
         let next = capacity.wrapping_mul(sixths) / 6;

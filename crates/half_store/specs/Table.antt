@@ -1,10 +1,12 @@
 -- The value of a table, how its fields make it, what a search of it finds and costs, and what a removal does.
-use Rattle.std.specs.Prelude.{ℕ, suc, List, [], ◌∷◌, ◌++◌, length, Option, Some, slice_set, slice_index, ◌≡◌, ◌≢◌, ◌<◌, ◌≤◌, None, ◌+◌, Bool, true, false, slice_get, Result, IfOk, IfErr, OnErr}
+use Rattle.std.specs.Prelude.{ℕ, suc, List, [], ◌∷◌, ◌++◌, length, Option, Some, slice_set, slice_index, ◌≡◌, ◌≢◌, ◌<◌, ◌≤◌, None, ◌+◌, Bool, true, false, slice_get, vec_capacity, Result, IfOk, IfErr, OnErr}
 use Rattle.std.specs.Coded.{Coded, coded×, coded_list, coded_ℕ}
 use base.Stored.{coded_via}
 use Rattle.half_store.specs.Slots.{IsSlotVacancy, slot_at, distance_from_home, ProbeInvariant, slots_from, EachOnce, bucket_of}
 use Rattle.half_store.specs.Capacity.{capacity_of, IsBucketCount, buckets_of}
-use Rattle.half_store.specs.Words.{AreWordsFor}
+use Rattle.half_store.specs.Words.{AreWordsFor, room_of, most_in, IsUnfilled, IsUnfilledVec}
+use Rattle.half_store.specs.declared.words.WordMemory.{WordMemory}
+use Rattle.std.specs.declared.vec.Vec.{Vec}
 use Rattle.std.specs.List.{swap_remove}
 use Rattle.half_store.specs.Work.{work_after_missing, IsTableHitCost, Work, probe_reads, sum_below}
 use Rattle.half_store.specs.Reach.{reach, filling_reach}
@@ -93,6 +95,14 @@ pub record IsTable (hashes words : List ℕ) (most capacity : ℕ) : Type 0 wher
   pub indexed : IsIndexed hashes words
   pub sized : AreWordsFor most (capacity_of (length words))
   pub exact : capacity ≡ capacity_of (length words)
+
+-- what is always true of memory for a table: nothing is filled, and it is as much as `IsTable` says
+pub record IsTableMemory {Z : Type 0} (hashes : Vec ℕ Z) (words : WordMemory) : Type 0 where
+  pub count : IsBucketCount (room_of words)
+  pub sized : AreWordsFor (most_in words) (capacity_of (room_of words))
+  pub exact : vec_capacity hashes ≡ capacity_of (room_of words)
+  pub no_hashes : IsUnfilledVec hashes
+  pub no_words : IsUnfilled words
 
 -- the entry index of a pair of this hash that the test accepts, and its bucket; or, where it rejects each, the empty bucket where the probe
 -- ended, if there are buckets. The searches for all pairs, one each, read what insertions of their hashes read (`hits`)

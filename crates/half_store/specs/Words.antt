@@ -1,7 +1,10 @@
 -- The words that stand in buckets, and how large they may be.
-use Rattle.std.specs.Prelude.{◌≡◌, ℕ, ◌-◌, ◌^◌, ◌≤◌, nat_lt, if◌then◌else◌, List}
+use Rattle.std.specs.Prelude.{◌≡◌, ℕ, ◌-◌, ◌^◌, ◌≤◌, nat_lt, if◌then◌else◌, List, [], vec_len, vec_capacity}
+use Rattle.std.specs.declared.vec.Vec.{Vec}
 use Rattle.half_store.specs.declared.words.WordArray.{WordArray}
 use Rattle.half_store.specs.declared.words.WordArray.TheVariants.{FourBytes, EightBytes}
+use Rattle.half_store.specs.declared.words.WordMemory.{WordMemory}
+use Rattle.half_store.specs.declared.words.WordMemory.TheVariants.{FourBytes as MemoryOfFour, EightBytes as MemoryOfEight}
 
 -- the words, in order
 abbrev pub words_of : WordArray → List ℕ
@@ -21,3 +24,23 @@ word_size most = if nat_lt most (2 ^ 32) then 4 else 8
 pub record AreWordsFor (most capacity : ℕ) : Type 0 where
   pub fits : capacity ≤ most
   pub size : word_size most ≡ word_size capacity
+
+-- for how many words there is memory
+abbrev pub room_of : WordMemory → ℕ
+room_of (MemoryOfFour v) = vec_capacity v
+room_of (MemoryOfEight v) = vec_capacity v
+
+-- the greatest word that will fit, as in `most_of`
+abbrev pub most_in : WordMemory → ℕ
+most_in (MemoryOfFour v) = 2 ^ 32 - 1
+most_in (MemoryOfEight v) = 2 ^ 62
+
+-- a vector with no element
+pub record IsUnfilledVec {Z : Type 0} (v : Vec ℕ Z) : Type 0 where
+  pub items : v.items ≡ []
+  pub len : vec_len v ≡ 0
+
+-- no word is there yet
+abbrev pub IsUnfilled : WordMemory → Type 0
+IsUnfilled (MemoryOfFour v) = IsUnfilledVec v
+IsUnfilled (MemoryOfEight v) = IsUnfilledVec v

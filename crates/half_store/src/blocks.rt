@@ -1,4 +1,4 @@
-//! What is done with a column of keys, values or hashes, which is a vector: it grows, moves to another block, and is cloned.
+//! What is done with a column of keys, values or hashes, which is a vector: it grows, moves to another block, and is copied or cloned.
 ghost use Rattle.std.specs.Prelude.{◌≡◌, ◌<◌, ◌≤◌, [], length, IfOk, OnOk, OnErr, vec_len, vec_capacity};
 ghost use Rattle.std.specs.List.{AllZip};
 
@@ -63,6 +63,21 @@ pub(crate) fn move_to<T>(column: &mut Vec<T>, mut fresh: Vec<T>)
     }
     left.destroy_empty();
     replace(column, fresh).destroy_empty();
+}
+
+/// Copies all elements, in order, into an empty column whose capacity is enough.
+pub(crate) fn copy_all<T: Copy>(from: &[T], mut to: Vec<T>) -> Vec<T>
+    requires empty { to.items ≡ [] }
+    requires len { vec_len to ≡ 0 }
+    requires fits { length from.now ≤ vec_capacity to }
+    ensures items { result.items ≡ from.now }
+    ensures len { vec_len result ≡ length from.now }
+    ensures capacity { vec_capacity result ≡ vec_capacity to }
+{
+    for item in from {
+        to.push_reserved(*item);
+    }
+    to
 }
 
 /// Clones all elements, in order, into an empty column whose capacity is enough.

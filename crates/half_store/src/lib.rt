@@ -22,6 +22,7 @@ pub use store::drain::{Drained, IntoStore};
 pub use store::find::{Found, Vacancy};
 pub use store::memory::Arrays;
 pub use table::Table;
+pub use table::memory::TableMemory;
 pub use tally::Tally;
 pub use vecmap::Columns;
 pub use vecmap::search::Scan;

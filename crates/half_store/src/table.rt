@@ -14,7 +14,7 @@ ghost use Rattle.half_store.specs.Work.{looked_more, probe_reads, ReadsWithin, r
 ghost use Rattle.half_store.specs.Table.{table_contents, with_hash_in, IsTablePlace, IsTableVacancy, TableSearch, RemovesFromTable};
 
 mod deletion;
-mod memory;
+pub mod memory;
 pub mod probe;
 mod retain;
 mod shift;

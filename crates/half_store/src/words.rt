@@ -2,12 +2,13 @@
 //!
 //! A word takes four bytes where that is enough for as many pairs as the buckets may hold, and eight elsewhere. Nothing lends
 //! the words: each is read by `word_at`, which counts it.
-ghost use Rattle.std.specs.Prelude.{◌≡◌, ℕ, ◌-◌, ◌^◌, ◌<◌, ◌≤◌, List, length, replicate, slice_index, slice_set, IfOk, IsOk};
+ghost use Rattle.std.specs.Prelude.{◌≡◌, ℕ, ◌-◌, ◌^◌, ◌<◌, ◌≤◌, List, [], length, replicate, slice_index, slice_set, IfOk, vec_len, vec_capacity};
 ghost use Rattle.half_store.specs.Capacity.{capacity_of, IsBucketCount};
-ghost use Rattle.half_store.specs.Words.{words_of, most_of, word_size, AreWordsFor};
+ghost use Rattle.half_store.specs.Words.{words_of, most_of, word_size, AreWordsFor, room_of, most_in, IsUnfilled};
 ghost use Rattle.half_store.specs.Work.{looked_more};
 
 use crate::Tally;
+use crate::blocks::copy_all;
 use crate::capacity::capacity_of;
 use std::alloc::{AllocError, Global};
 use std::marker::Model;
@@ -58,27 +59,28 @@ impl<T> Model for WordVec<T> {
 }
 
 impl<T: Copy> WordVec<T> {
-    /// The same word, `count` times.
-    fn of(alloc: Global, word: T, count: usize) -> Result<WordVec<T>, AllocError>
-        ensures { IfOk result (λ v. v ≡ replicate count word) }
+    /// The same word, as often as there is memory for it.
+    fn filled(mut words: Vec<T>, word: T) -> WordVec<T>
+        requires empty { words.items ≡ [] }
+        requires len { vec_len words ≡ 0 }
+        ensures { result ≡ replicate (vec_capacity words) word }
     {
-        let mut words = Vec::with_capacity(alloc, count)?;
+        let count = words.capacity();
         while words.len() < count {
             words.push_reserved(word);
         }
-        Ok(WordVec { words })
+        WordVec { words }
     }
 
-    /// A copy of the words.
-    fn copied(&self) -> Result<WordVec<T>, AllocError>
-        ensures { IfOk result (λ v. v ≡ self.now) }
+    /// A copy of the words, in memory for as many.
+    fn copied(&self, memory: Vec<T>) -> WordVec<T>
+        requires empty { memory.items ≡ [] }
+        requires len { vec_len memory ≡ 0 }
+        requires exact { vec_capacity memory ≡ length self.now }
+        ensures { result ≡ self.now }
     {
-        let words = Vec::from_slice(*self.words.allocator(), self.words.as_slice())?;
-        // `from_slice` takes no more memory than this, but its contract does not say so.
-        if words.capacity() == words.len() {
-            Ok(WordVec { words })
-        } else {
-            Err(AllocError)
+        WordVec {
+            words: copy_all(self.words.as_slice(), memory),
         }
     }
 }
@@ -173,41 +175,12 @@ impl Words for WordArray {
 }
 
 impl WordArray {
-    /// The words of this many empty buckets, each wide enough for the pairs that they may hold.
-    pub(crate) fn empty(alloc: Global, count: usize) -> Result<WordArray, AllocError>
-        requires { IsBucketCount count }
-        ensures words { IfOk result (λ a. words_of a ≡ replicate count 0) }
-        ensures sized { IfOk result (λ a. AreWordsFor (most_of a) (capacity_of count)) }
-        ensures granted { count ≡ 0 → IsOk result }
-    {
-        if count == 0 {
-            let words = Vec::new(alloc);
-            return Ok(WordArray::FourBytes(WordVec { words }));
-        }
-        if capacity_of(count) <= MOST_IN_FOUR_BYTES {
-            Ok(WordArray::FourBytes(WordVec::of(alloc, 0, count)?))
-        } else {
-            Ok(WordArray::EightBytes(WordVec::of(alloc, 0, count)?))
-        }
-    }
-
     /// Empties all buckets.
     pub(crate) fn clear(&mut self)
         ensures words { words_of self.new ≡ replicate (length (words_of self.old)) 0 }
         ensures most { most_of self.new ≡ most_of self.old }
     {
         of_either_size!(self, array => array.words.fill(0))
-    }
-
-    /// A copy of the words.
-    pub(crate) fn copied(&self) -> Result<WordArray, AllocError>
-        ensures words { IfOk result (λ a. words_of a ≡ words_of self.now) }
-        ensures most { IfOk result (λ a. most_of a ≡ most_of self.now) }
-    {
-        match self {
-            WordArray::FourBytes(words) => Ok(WordArray::FourBytes(words.copied()?)),
-            WordArray::EightBytes(words) => Ok(WordArray::EightBytes(words.copied()?)),
-        }
     }
 
     /// For how many words there is memory, and the bytes of one.
@@ -218,6 +191,62 @@ impl WordArray {
         match self {
             WordArray::FourBytes(array) => (array.words.capacity(), size_of::<u32>()),
             WordArray::EightBytes(array) => (array.words.capacity(), size_of::<usize>()),
+        }
+    }
+}
+
+/// Memory for the words of a table's buckets, in which there are none yet.
+#[derive(Drop)]
+pub enum WordMemory {
+    /// Of four bytes each.
+    FourBytes(Vec<u32>),
+    /// Of eight bytes each.
+    EightBytes(Vec<usize>),
+}
+
+impl WordMemory {
+    /// Memory for this many buckets, whose words are wide enough for the pairs that the buckets may hold.
+    pub(crate) fn for_buckets(alloc: Global, count: usize) -> Result<WordMemory, AllocError>
+        requires { IsBucketCount count }
+        ensures unfilled { IfOk result IsUnfilled }
+        ensures count { IfOk result (λ m. room_of m ≡ count) }
+        ensures sized { IfOk result (λ m. AreWordsFor (most_in m) (capacity_of count)) }
+    {
+        if capacity_of(count) <= MOST_IN_FOUR_BYTES {
+            Ok(WordMemory::FourBytes(Vec::with_capacity(alloc, count)?))
+        } else {
+            Ok(WordMemory::EightBytes(Vec::with_capacity(alloc, count)?))
+        }
+    }
+
+    /// The words of empty buckets, as many as there is memory for.
+    pub(crate) fn into_empty(self) -> WordArray
+        requires { IsUnfilled self }
+        ensures words { words_of result ≡ replicate (room_of self) 0 }
+        ensures most { most_of result ≡ most_in self }
+    {
+        match self {
+            WordMemory::FourBytes(words) => WordArray::FourBytes(WordVec::filled(words, 0)),
+            WordMemory::EightBytes(words) => WordArray::EightBytes(WordVec::filled(words, 0)),
+        }
+    }
+
+    /// A copy of words that take as much memory.
+    pub(crate) fn into_copy_of(self, words: &WordArray) -> WordArray
+        requires unfilled { IsUnfilled self }
+        requires count { room_of self ≡ length (words_of words.now) }
+        requires size { word_size (most_in self) ≡ word_size (most_of words.now) }
+        ensures words { words_of result ≡ words_of words.now }
+        ensures most { most_of result ≡ most_of words.now }
+    {
+        match (self, words) {
+            (WordMemory::FourBytes(memory), WordArray::FourBytes(words)) => {
+                WordArray::FourBytes(words.copied(memory))
+            }
+            (WordMemory::EightBytes(memory), WordArray::EightBytes(words)) => {
+                WordArray::EightBytes(words.copied(memory))
+            }
+            _ => unreachable!(),
         }
     }
 }

@@ -1,4 +1,5 @@
-//! The memory of a store: capacity made and given back, and a table for a vector. All memory is had before anything changes.
+//! The memory of a store: capacity made and given back, and a table for a vector. All memory is had before anything
+//! changes or is filled, so a refused call costs no more in a large store.
 ghost use Rattle.std.specs.Prelude.{◌≡◌, ◌^◌, ◌<◌, ◌≤◌, ℕ, [], IfOk, IfErr, OnOk, true, length};
 ghost use Rattle.half_store.specs.Arrays.{arrays_of, bytes_of, bytes};
 ghost use Rattle.half_store.specs.Store.{IsStoreClone, MakesStore, StoreReserves, StoreShrinks, MakesTable, TableFitsColumns, table_of, vector_of};
@@ -8,7 +9,7 @@ ghost use Rattle.half_store.specs.Refusal.{refusal_of};
 use super::Store;
 use crate::capacity::{capacity_of, generous_capacity, least_buckets};
 use crate::refusal::check_size;
-use crate::{Columns, Refusal, Table};
+use crate::{Columns, Refusal, Table, TableMemory};
 use std::alloc::{AllocError, Global};
 
 /// For how many elements each array of a store has memory. A vector has none for hashes and words, and no block of a table.
@@ -45,9 +46,11 @@ impl<K, V> Store<K, V> {
                 table: None,
             });
         }
-        let table = boxed_table(alloc, capacity)?;
+        let (memory, mut table) = boxed_memory(alloc, capacity)?;
+        let columns = Columns::with_capacity(alloc, memory.capacity())?;
+        *table = memory.into_table();
         Ok(Store {
-            columns: Columns::with_capacity(alloc, table.capacity())?,
+            columns,
             table: Some(table),
         })
     }
@@ -113,29 +116,36 @@ impl<K, V> Store<K, V> {
         ensures cloned { IfOk result (IsStoreClone K.is_clone V.is_clone self.now) }
         ensures refused { IfErr result (λ why. why ≡ Refusal.Memory) }
     {
+        let alloc = self.columns.allocator();
         let Some(table) = &self.table else {
+            let columns = Columns::with_capacity(alloc, self.columns.len())?;
             return Ok(Store {
-                columns: self.columns.clone_with_capacity(self.columns.len())?,
+                columns: self.columns.clone_into(columns)?,
                 table: None,
             });
         };
-        let copy = Box::new(self.columns.allocator(), table.copy()?)?;
+        let memory = table.memory_alike()?;
+        let mut copy = Box::new(alloc, Table::new(alloc))?;
+        let columns = Columns::with_capacity(alloc, table.capacity())?;
+        let columns = self.columns.clone_into(columns)?;
+        *copy = memory.into_copy_of(table);
         Ok(Store {
-            columns: self.columns.clone_with_capacity(table.capacity())?,
+            columns,
             table: Some(copy),
         })
     }
 
-    /// An empty table with capacity for this many pairs, in a block of its own. The columns get the same capacity, after the table
-    /// has all its memory. On error nothing changes.
+    /// An empty table with capacity for this many pairs, in a block of its own. The columns get the same capacity. On error
+    /// nothing changes.
     pub fn new_table(&mut self, needed: usize) -> Result<Box<Table>, Refusal>
         requires { self.old.is_vec ≡ true }
         ensures makes { MakesTable self.old self.new needed result }
     {
-        let table = boxed_table(self.columns.allocator(), needed)?;
-        if self.columns.capacity() < table.capacity() {
-            self.columns.grow_to(table.capacity())?;
+        let (memory, mut table) = boxed_memory(self.columns.allocator(), needed)?;
+        if self.columns.capacity() < memory.capacity() {
+            self.columns.grow_to(memory.capacity())?;
         }
+        *table = memory.into_table();
         Ok(table)
     }
 
@@ -192,8 +202,10 @@ fn reserve_in_table<K, V>(
     let Some(needed) = len.checked_add(additional) else {
         return Err(Refusal::Size);
     };
-    let fresh = Table::with_capacity(columns.allocator(), needed)?;
-    Ok(columns.grow_with_table(table, fresh)?)
+    let memory = TableMemory::for_pairs(columns.allocator(), needed)?;
+    columns.grow_to(memory.capacity())?;
+    table.move_to(memory);
+    Ok(())
 }
 
 // `shrink_to_fit` of a table over these columns that stays one.
@@ -212,22 +224,22 @@ fn shrink_table<K, V>(
 {
     let buckets = least_buckets(table.len());
     if capacity_of(buckets) < table.capacity() {
-        let fresh = Table::empty(columns.allocator(), buckets)?;
-        columns.shrink_to(fresh.capacity())?;
-        table.move_to(fresh);
+        let memory = TableMemory::for_buckets(columns.allocator(), buckets)?;
+        columns.shrink_to(memory.capacity())?;
+        table.move_to(memory);
     }
     Ok(())
 }
 
-// An empty table with capacity for this many pairs, in a block of its own.
+// Memory for a table with capacity for this many pairs, and the block that it will stand in, with a table of no buckets.
 #[inline(always)]
 #[tactic(auto)]
-fn boxed_table(alloc: Global, needed: usize) -> Result<Box<Table>, Refusal>
-    ensures hashes { IfOk result (λ t. t.value.hashes ≡ []) }
-    ensures buckets { IfOk result (λ t. t.value.buckets ≡ least_buckets needed) }
+fn boxed_memory(alloc: Global, needed: usize) -> Result<(TableMemory, Box<Table>), Refusal>
+    ensures buckets { IfOk result (λ m. m.0 ≡ least_buckets needed) }
     ensures enough { OnOk result (needed ≤ least_table_capacity needed) }
     ensures granted { OnOk result (needed ≤ 2 ^ 60) }
     ensures refused { IfErr result (λ why. why ≡ refusal_of needed) }
 {
-    Ok(Box::new(alloc, Table::with_capacity(alloc, needed)?)?)
+    let memory = TableMemory::for_pairs(alloc, needed)?;
+    Ok((memory, Box::new(alloc, Table::new(alloc))?))
 }

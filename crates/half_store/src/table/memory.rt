@@ -1,69 +1,129 @@
-//! Making a table, and moving its pairs into another one, by their stored hashes.
-ghost use Rattle.std.specs.Prelude.{◌≡◌, ◌^◌, ◌<◌, ◌≤◌, ◌↔◌, [], length, replicate, Err, IfOk, IsOk};
+//! The memory of a table: had first, and then filled with no pairs, with a copy, or with pairs that move, by their stored hashes.
+ghost use Rattle.std.specs.Prelude.{◌≡◌, ◌^◌, ◌<◌, ◌≤◌, ◌↔◌, [], length, replicate, Err, IfOk};
 ghost use Rattle.half_store.specs.Table.{IsIndexed};
-ghost use Rattle.half_store.specs.Capacity.{capacity_of, least_buckets, buckets_of, IsBucketCount};
+ghost use Rattle.half_store.specs.Capacity.{capacity_of, least_buckets, least_table_capacity, buckets_of, IsBucketCount};
 ghost use Rattle.half_store.specs.Words.{word_size};
 
 use super::Table;
 use super::probe::first_empty;
-use crate::blocks::{clone_all, move_to};
+use crate::blocks::{copy_all, move_to};
 use crate::buckets::HashedBuckets;
 use crate::capacity::{capacity_of, least_buckets};
 use crate::refusal::check_size;
-use crate::words::{WordArray, Words};
+use crate::words::{WordMemory, Words};
 use crate::{Refusal, uncounted};
 use std::alloc::{AllocError, Global};
+use std::marker::Model;
 
-impl Table {
-    /// An empty table with the least number of buckets whose capacity is enough for this many pairs.
+/// Memory for a table, all of which is granted, and nothing filled. Its value is how many buckets it is for.
+#[derive(Drop)]
+pub struct TableMemory {
+    buckets: WordMemory,
+    hashes: Vec<u64>,
+}
+
+impl Model for TableMemory {
+    ghost use Rattle.std.specs.Prelude.{ℕ};
+    ghost use Rattle.std.specs.Coded.{coded_ℕ};
+    ghost use Rattle.half_store.specs.Table.{IsTableMemory};
+    ghost use Rattle.half_store.specs.Words.{room_of};
+
+    ghost Value = { ℕ };
+
+    ghost coded = { coded_ℕ };
+
+    ghost view = { λ m. room_of m.buckets };
+
+    ghost invariant = { λ m. IsTableMemory m.hashes m.buckets };
+}
+
+impl TableMemory {
+    /// Memory for the least number of buckets whose capacity is enough for this many pairs.
     ///
     /// Fails with `Size` exactly for more than 2^60 pairs.
-    pub fn with_capacity(alloc: Global, needed: usize) -> Result<Table, Refusal>
-        ensures hashes { IfOk result (λ t. t.hashes ≡ []) }
-        ensures buckets { IfOk result (λ t. t.buckets ≡ least_buckets needed) }
-        ensures capacity { IfOk result (λ t. needed ≤ capacity_of t.buckets) }
+    pub fn for_pairs(alloc: Global, needed: usize) -> Result<TableMemory, Refusal>
+        ensures buckets { IfOk result (λ m. m ≡ least_buckets needed) }
+        ensures capacity { IfOk result (λ m. needed ≤ capacity_of m) }
         ensures size { (result ≡ Err Refusal.Size) ↔ (2 ^ 60 < needed) }
-        ensures granted { needed ≡ 0 → IsOk result }
     {
         check_size(needed)?;
-        Ok(Table::empty(alloc, least_buckets(needed))?)
+        Ok(TableMemory::for_buckets(alloc, least_buckets(needed))?)
     }
 
-    /// A table with as many buckets and the same stored hashes.
-    pub fn copy(&self) -> Result<Table, AllocError>
-        ensures ok { IfOk result (λ t. t ≡ self.now) }
-    {
-        let buckets = self.buckets.copied()?;
-        let hashes = Vec::with_capacity(*self.hashes.allocator(), self.capacity())?;
-        let hashes = clone_all(self.hashes.as_slice(), hashes)?;
-        Ok(Table { buckets, hashes })
-    }
-
-    /// An empty table of this many buckets.
-    pub(crate) fn empty(alloc: Global, buckets: usize) -> Result<Table, AllocError>
+    /// Memory for this many buckets.
+    pub(crate) fn for_buckets(alloc: Global, buckets: usize) -> Result<TableMemory, AllocError>
         requires { IsBucketCount buckets }
-        ensures hashes { IfOk result (λ t. t.hashes ≡ []) }
-        ensures buckets { IfOk result (λ t. t.buckets ≡ buckets) }
-        ensures granted { buckets ≡ 0 → IsOk result }
+        ensures { IfOk result (λ m. m ≡ buckets) }
     {
-        let hashes = Vec::with_capacity(alloc, capacity_of(buckets))?;
-        let buckets = WordArray::empty(alloc, buckets)?;
-        Ok(Table { buckets, hashes })
+        Ok(TableMemory {
+            buckets: WordMemory::for_buckets(alloc, buckets)?,
+            hashes: Vec::with_capacity(alloc, capacity_of(buckets))?,
+        })
     }
 
-    /// Moves the pairs into an empty table that has room for them: probes each anew, by its stored hash.
+    /// How many pairs the table will have capacity for.
+    pub fn capacity(&self) -> usize
+        ensures value { result ≡ capacity_of self.now }
+        ensures series { result ≡ least_table_capacity result }
+    {
+        self.hashes.capacity()
+    }
+
+    /// An empty table of as many buckets.
+    pub fn into_table(self) -> Table
+        ensures hashes { result.hashes ≡ [] }
+        ensures buckets { result.buckets ≡ self }
+    {
+        let TableMemory { buckets, hashes } = self;
+        Table {
+            buckets: buckets.into_empty(),
+            hashes,
+        }
+    }
+
+    /// A copy of a table that has as many buckets, with the same stored hashes.
+    pub fn into_copy_of(self, table: &Table) -> Table
+        requires { self ≡ table.now.buckets }
+        ensures { result ≡ table.now }
+    {
+        let TableMemory { buckets, hashes } = self;
+        Table {
+            buckets: buckets.into_copy_of(&table.buckets),
+            hashes: copy_all(table.hashes.as_slice(), hashes),
+        }
+    }
+}
+
+impl Table {
+    /// A table with no buckets. It takes no memory.
+    pub fn new(alloc: Global) -> Table
+        ensures hashes { result.hashes ≡ [] }
+        ensures buckets { result.buckets ≡ 0 }
+    {
+        let memory = TableMemory {
+            buckets: WordMemory::FourBytes(Vec::new(alloc)),
+            hashes: Vec::new(alloc),
+        };
+        memory.into_table()
+    }
+
+    /// Memory for as many buckets as it has.
+    pub fn memory_alike(&self) -> Result<TableMemory, AllocError>
+        ensures { IfOk result (λ m. m ≡ self.now.buckets) }
+    {
+        TableMemory::for_buckets(*self.hashes.allocator(), self.buckets.count())
+    }
+
+    /// Moves the pairs into memory that is enough for them: probes each anew, by its stored hash.
     #[cold]
     #[inline(never)]
-    pub fn move_to(&mut self, fresh: Table)
-        requires empty { fresh.hashes ≡ [] }
-        requires fits { length self.old.hashes ≤ capacity_of fresh.buckets }
+    pub fn move_to(&mut self, memory: TableMemory)
+        requires { length self.old.hashes ≤ capacity_of memory }
         ensures hashes { self.new.hashes ≡ self.old.hashes }
-        ensures buckets { self.new.buckets ≡ fresh.buckets }
+        ensures buckets { self.new.buckets ≡ memory }
     {
-        let Table {
-            mut buckets,
-            hashes,
-        } = fresh;
+        let TableMemory { buckets, hashes } = memory;
+        let mut buckets = buckets.into_empty();
         rehash(&mut buckets, self.hashes.as_slice());
         // The old buckets are freed before the hashes move.
         self.buckets = buckets;

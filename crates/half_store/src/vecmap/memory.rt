@@ -1,10 +1,8 @@
 //! The capacity of the two columns: making it, and giving it back. All memory is had before anything changes.
 ghost use Rattle.std.specs.Prelude.{◌≡◌, ◌<◌, ◌≤◌, min, [], length, IsOk, IfOk, OnOk, OnErr};
 ghost use Rattle.std.specs.List.{AllZip};
-ghost use Rattle.half_store.specs.Capacity.{capacity_of, least_table_capacity};
 
 use super::Columns;
-use crate::Table;
 use crate::blocks::{clone_all, grow_with_column, move_to};
 use std::alloc::{AllocError, Global};
 
@@ -25,19 +23,18 @@ impl<K, V> Columns<K, V> {
         }
     }
 
-    /// Clones of the pairs, in order, with exactly this capacity. Both columns get their memory before anything is cloned.
-    pub fn clone_with_capacity(&self, capacity: usize) -> Result<Columns<K, V>, AllocError>
+    /// Clones of the pairs, in order, in empty columns whose capacity is enough.
+    pub fn clone_into(&self, fresh: Columns<K, V>) -> Result<Columns<K, V>, AllocError>
     where
         K: Clone,
         V: Clone,
-        requires { length self.now.pairs ≤ capacity }
+        requires empty { fresh.pairs ≡ [] }
+        requires fits { length self.now.pairs ≤ fresh.capacity }
         ensures pairs { IfOk result (λ m. AllZip (λ p q. K.is_clone p.0 q.0 × V.is_clone p.1 q.1)
             self.now.pairs m.pairs) }
-        ensures capacity { IfOk result (λ m. m.capacity ≡ capacity) }
+        ensures capacity { IfOk result (λ m. m.capacity ≡ fresh.capacity) }
     {
-        let alloc = *self.keys.allocator();
-        let keys = Vec::with_capacity(alloc, capacity)?;
-        let values = Vec::with_capacity(alloc, capacity)?;
+        let Columns { keys, values } = fresh;
         let keys = clone_all(self.keys.as_slice(), keys)?;
         let values = clone_all(self.values.as_slice(), values)?;
         Ok(Columns { keys, values })
@@ -85,29 +82,6 @@ impl<K, V> Columns<K, V> {
         ensures err { OnErr result (self.new ≡ self.old) }
     {
         let values = grow_with_column(&mut self.keys, capacity)?;
-        move_to(&mut self.values, values);
-        Ok(())
-    }
-
-    /// Grows to the capacity of an empty table, into which the pairs of this one move. They move before the values do, so that
-    /// the buckets and the values are not both filled twice at a time. On error nothing changes.
-    pub(crate) fn grow_with_table(
-        &mut self,
-        table: &mut Table,
-        fresh: Table,
-    ) -> Result<(), AllocError>
-        requires empty { fresh.hashes ≡ [] }
-        requires fits { length table.old.hashes ≤ capacity_of fresh.buckets }
-        requires more { self.old.capacity < capacity_of fresh.buckets }
-        ensures pairs { self.new.pairs ≡ self.old.pairs }
-        ensures ok { OnOk result (self.new.capacity ≡ capacity_of fresh.buckets) }
-        ensures hashes { table.new.hashes ≡ table.old.hashes }
-        ensures buckets { OnOk result (table.new.buckets ≡ fresh.buckets) }
-        ensures series { OnOk result (self.new.capacity ≡ least_table_capacity self.new.capacity) }
-        ensures err { OnErr result ((self.new ≡ self.old) × (table.new ≡ table.old)) }
-    {
-        let values = grow_with_column(&mut self.keys, fresh.capacity())?;
-        table.move_to(fresh);
         move_to(&mut self.values, values);
         Ok(())
     }

@@ -1,7 +1,7 @@
 //! Tables worked out by hand, in the order of `tests/scripts/worked`: in which bucket each pair is, where a search ends, which
 //! pairs it asks for, and how many buckets it reads. The buckets count their reads themselves, so none is read beside the tally.
 
-use half_store::{Table, Tally};
+use half_store::{Table, TableMemory, Tally};
 use std::alloc::Global;
 use std::test::Fail;
 use test_support::asserts::{assert_same, assert_same_at};
@@ -18,13 +18,13 @@ fn reserve(alloc: Global, table: &mut Table, needed: usize) -> Result<(), Fail> 
     make_anew(alloc, table, needed)
 }
 
-// Moves the pairs into a table made for this many.
+// Moves the pairs into memory for this many.
 fn make_anew(alloc: Global, table: &mut Table, needed: usize) -> Result<(), Fail> {
-    let fresh = Table::with_capacity(alloc, needed)?;
-    if fresh.capacity() < table.len() {
+    let memory = TableMemory::for_pairs(alloc, needed)?;
+    if memory.capacity() < table.len() {
         return Err(Fail::new("the pairs do not fit"));
     }
-    table.move_to(fresh);
+    table.move_to(memory);
     Ok(())
 }
 
@@ -41,7 +41,7 @@ fn add(alloc: Global, table: &mut Table, hash: u64) -> Result<(), Fail> {
 
 // A table made for this capacity, to which pairs of these hashes were added in order.
 fn table_of(alloc: Global, capacity: usize, hashes: &[u64]) -> Result<Table, Fail> {
-    let mut table = Table::with_capacity(alloc, capacity)?;
+    let mut table = TableMemory::for_pairs(alloc, capacity)?.into_table();
     for hash in hashes {
         add(alloc, &mut table, *hash)?;
     }
@@ -224,7 +224,7 @@ fn a_removal_brings_a_pair_home(rt: HostRuntime) -> Result<(), Fail> {
 #[test]
 fn a_removal_of_a_copy_leaves_the_table(rt: HostRuntime) -> Result<(), Fail> {
     let mut table = table_of(rt.alloc(), 0, &[6, 14, 7, 15, 0])?;
-    let mut copy = table.copy()?;
+    let mut copy = table.memory_alike()?.into_copy_of(&table);
     let steps = [Remove(1, 14), Found(15, 3, 0, 2), Found(0, 1, 1, 2)];
     play_steps(rt.alloc(), &mut copy, &steps)?;
     let steps = [Found(15, 3, 1, 3), Found(0, 4, 2, 3)];

@@ -1,5 +1,5 @@
 use Rattle.half_store.proofs.Common.{◌≡◌, ◌≤◌, vec_len, vec_capacity, ◌-◌, replicate}
-use Rattle.half_store.proofs.words.WordVec.of.Given as goal
+use Rattle.half_store.proofs.words.WordVec.filled.Given as goal
 
 -- all words that are there are this one, and the block has room for the rest
 abbrev pub invariant-loop-word : goal.invariant-loop-word
