@@ -72,9 +72,9 @@ class Word:
 
 
 def words():
-    """The words of the specs, by name."""
+    """The words of the specs, by name: also of those of the store that say why a call is refused."""
     found = {}
-    for path in sorted(CRATE.glob("specs/*.antt")):
+    for path in [CRATE.parent / "half_store/specs/Refusal.antt", *sorted(CRATE.glob("specs/*.antt"))]:
         lines = [it for it in path.read_text().splitlines() if it.strip() and not it.lstrip().startswith("--")]
         depths, modules = [len(it) - len(it.lstrip()) for it in lines] + [0], []
 

@@ -1,15 +1,15 @@
 -- Tables made key by key.
 use Rattle.std.proofs.Common.{◌≡◌, ℕ, suc, ◌+◌, ◌<◌, ◌==◌, Bool, true, false, not, ◌&&◌, cond, ltb, eqb, List, [], ◌∷◌, ◌++◌, length}
-use Rattle.std.proofs.Common.{get_or, take, MatchBool, MatchOption, nat_lt, if◌then◌else◌, Option, None, Some, is_some, refl, sym, ap}
+use Rattle.std.proofs.Common.{get_or, take, nat_lt, if◌then◌else◌, Option, None, Some, is_some, refl, sym, ap}
 use Rattle.std.proofs.Common.{subst, ◌∙◌, arith}
 use Rattle.std.proofs.Math.ListN.{length-append, length-map}
-use Rattle.std.proofs.lemmas.Bool.{MatchBool-at_false, lt-ltb, ltb-true, ne_eqb, eqb-true, and_parts, true≢false, eqb-false}
+use Rattle.std.proofs.lemmas.Bool.{lt-ltb, ltb-true, ne_eqb, eqb-true, and_parts, true≢false, eqb-false}
 use Rattle.std.proofs.lemmas.List.{map-append, length-take, get_or-take, get_or_default}
 use Rattle.std.proofs.lemmas.Map.Keys.{apart_from_distinct}
 use Rattle.std.specs.List.{IsDistinct}
 use Rattle.std.specs.Map.{keys_of}
-use Rattle.half_store.specs.Capacity.{capacity_of, more_buckets, least_buckets, least_table_capacity, generous_capacity}
-use Rattle.halfbrown.specs.Growth.{is_full, is_vec_after, insert_needs, reserve_needs, HasCapacityAfter, IsReserved}
+use Rattle.half_store.specs.Capacity.{capacity_of, more_buckets, least_buckets, least_table_capacity}
+use Rattle.halfbrown.specs.Growth.{is_full, is_vec_after, insert_needs, reserve_needs, capacity_after, IsReserved}
 use Rattle.halfbrown.specs.Lookup.{IsAbsent}
 use Rattle.halfbrown.specs.Pairs.{holds, put, take_out}
 use Rattle.halfbrown.specs.State.{State, WithPairs, make_state, contents_of}
@@ -34,13 +34,6 @@ capacity_for-more n left =
     let next : n + 1 ≡ suc n = omega arith in
     ap least_table_capacity next ∙ ap (λ b. capacity_of (cond b (least_buckets n) (more_buckets (least_buckets n)))) (lt-ltb n (least_table_capacity n) left)
 
--- the capacity of a table after a granted call
-after_in_table : (old new : State ℕ ℕ Counting) (needs : Option ℕ) → new.is_vec ≡ false → HasCapacityAfter 0 old needs new
-    → MatchOption needs (new.capacity ≡ old.capacity) (λ size. new.capacity ≡ least_table_capacity size)
-after_in_table old new needs form after =
-    subst (λ is_vec. MatchOption needs (new.capacity ≡ old.capacity)
-    (λ size. MatchBool is_vec (new.capacity ≡ generous_capacity 0 old.capacity size) (new.capacity ≡ least_table_capacity size))) form after
-
 -- ---- one key more
 
 -- after one insertion it is no vector: it was one only while it held no key
@@ -49,8 +42,7 @@ form_by true n form = ap not (sym form)
 form_by false n form = refl
 
 capacity_by : (full held left : Bool) (n old new : ℕ) → held ≡ false → ltb n old ≡ left → old ≡ least_table_capacity n → (full ≡ true → n ≡ 0)
-    → MatchOption (cond full (Some (0 + 1)) (cond held None (cond left None (Some (n + 1))))) (new ≡ old) (λ size. new ≡ least_table_capacity size)
-    → new ≡ least_table_capacity (n + 1)
+    → new ≡ capacity_after 0 false old (cond full (Some (0 + 1)) (cond held None (cond left None (Some (n + 1))))) → new ≡ least_table_capacity (n + 1)
 capacity_by true held left n old new unheld test was none after = after ∙ ap least_table_capacity (let zero = none refl in omega arith)
 capacity_by false true left n old new unheld test was none after = absurd (true≢false unheld)
 capacity_by false false true n old new unheld test was none after = after ∙ was
@@ -67,7 +59,7 @@ keys_of-twins (k ∷ ks) = ap (λ l. k ∷ l) (keys_of-twins ks)
 module _ (rule : Rule) (keys : List ℕ) (k : ℕ) (old new : State ℕ ℕ Counting) (was : IsFilled rule keys old)
     (fresh : NonePasses (eqb k) keys)
     (pairs : new.pairs ≡ put eqb old.pairs k k) (form : new.is_vec ≡ is_vec_after 0 old)
-    (grows : HasCapacityAfter 0 old (insert_needs 0 eqb old k) new) (builder : new.builder ≡ old.builder) where
+    (grows : new.capacity ≡ capacity_after 0 (is_vec_after 0 old) old.capacity (insert_needs 0 eqb old k)) (builder : new.builder ≡ old.builder) where
   absent : IsAbsent (eqb k) (twins keys)
   absent = absent_of_none (eqb k) (twins keys) (subst (NonePasses (eqb k)) (sym (keys_of-twins keys)) fresh)
 
@@ -80,8 +72,8 @@ module _ (rule : Rule) (keys : List ℕ) (k : ℕ) (old new : State ℕ ℕ Coun
   form_was : old.is_vec ≡ (length old.pairs == 0)
   form_was = was.form ∙ ap (λ n. n == 0) (sym count)
 
-  in_table : new.is_vec ≡ false
-  in_table = form ∙ form_by old.is_vec (length old.pairs) form_was
+  table_after : is_vec_after 0 old ≡ false
+  table_after = form_by old.is_vec (length old.pairs) form_was
 
   none_held : is_full 0 old ≡ true → length old.pairs ≡ 0
   none_held full = eqb-true _ 0 (and_parts old.is_vec (length old.pairs == 0) full).1
@@ -89,13 +81,14 @@ module _ (rule : Rule) (keys : List ℕ) (k : ℕ) (old new : State ℕ ℕ Coun
   capacity_is : new.capacity ≡ least_table_capacity (length old.pairs + 1)
   capacity_is =
       capacity_by (is_full 0 old) (holds eqb old.pairs k) (ltb (length old.pairs) old.capacity) (length old.pairs) old.capacity new.capacity
-      unheld refl (was.capacity ∙ ap least_table_capacity (sym count)) none_held (after_in_table old new (insert_needs 0 eqb old k) in_table grows)
+      unheld refl (was.capacity ∙ ap least_table_capacity (sym count)) none_held
+      (grows ∙ ap (λ is_vec. capacity_after 0 is_vec old.capacity (insert_needs 0 eqb old k)) table_after)
 
   pub filled_more : IsFilled rule (keys ++ k ∷ []) new
   filled_more =
       let one : length (keys ++ k ∷ []) ≡ length keys + 1 = length-append keys (k ∷ []) in
       record {
-        form = in_table ∙ sym (ne_eqb _ 0 (λ e. omega arith));
+        form = form ∙ table_after ∙ sym (ne_eqb _ 0 (λ e. omega arith));
         pairs = pairs ∙ ap (λ ps. put eqb ps k k) was.pairs ∙ absent.put_is k k ∙ sym (twins-push keys k);
         capacity = capacity_is ∙ ap least_table_capacity (let c = count in omega arith);
         builder = ap (λ b. b.rule) builder ∙ was.builder;
@@ -114,11 +107,10 @@ fresh_at keys i distinct within =
 
 -- ---- a table after a call
 
-with_by : (left : Bool) (n old new : ℕ)
-    → MatchOption (if left then None else Some (n + 1)) (new ≡ old) (λ size. new ≡ least_table_capacity size)
-    → new ≡ (if left then old else least_table_capacity (n + 1))
-with_by true n old new after = after
-with_by false n old new after = after
+with_by : (left : Bool) (n old : ℕ)
+    → capacity_after 0 false old (if left then None else Some (n + 1)) ≡ (if left then old else least_table_capacity (n + 1))
+with_by true n old = refl
+with_by false n old = refl
 
 module _ (rule : Rule) (held : List (ℕ × ℕ)) (capacity : ℕ) (k : ℕ) (old : State ℕ ℕ Counting) (table : IsTableOf rule held capacity old)
     (new : State ℕ ℕ Counting) where
@@ -133,24 +125,23 @@ module _ (rule : Rule) (held : List (ℕ × ℕ)) (capacity : ℕ) (k : ℕ) (ol
 
   -- after a new key was inserted
   pub table_with : (v : ℕ) → holds eqb held k ≡ false → new.pairs ≡ put eqb old.pairs k v → new.is_vec ≡ is_vec_after 0 old
-      → HasCapacityAfter 0 old (insert_needs 0 eqb old k) new → new.builder ≡ old.builder
+      → new.capacity ≡ capacity_after 0 (is_vec_after 0 old) old.capacity (insert_needs 0 eqb old k) → new.builder ≡ old.builder
       → IsTableOf rule (put eqb held k v) (if nat_lt (length held) capacity then capacity else least_table_capacity (length held + 1)) new
   table_with v absent pairs form grows builder =
       let full : is_full 0 old ≡ false = ap (λ is_vec. is_vec && (length old.pairs == 0)) table.form in
-      let table_still : new.is_vec ≡ false = form ∙ ap (λ is_vec. is_vec && not (is_vec && (length old.pairs == 0))) table.form in
+      let table_still : is_vec_after 0 old ≡ false = ap (λ is_vec. is_vec && not (is_vec && (length old.pairs == 0))) table.form in
       let none : holds eqb old.pairs k ≡ false = ap (λ ps. holds eqb ps k) table.pairs ∙ absent in
-      let made = after_in_table old new (insert_needs 0 eqb old k) table_still grows in
       let needed : insert_needs 0 eqb old k ≡ (if nat_lt (length old.pairs) old.capacity then None else Some (length old.pairs + 1)) =
       ap (λ b. if b then Some (0 + 1)
       else (if holds eqb old.pairs k then None
       else (if nat_lt (length old.pairs) old.capacity then None else Some (length old.pairs + 1)))) full
       ∙ ap (λ b. if b then None else (if nat_lt (length old.pairs) old.capacity then None else Some (length old.pairs + 1))) none in
       record {
-        form = table_still;
+        form = form ∙ table_still;
         pairs = pairs ∙ ap (λ ps. put eqb ps k v) table.pairs;
         capacity =
-            with_by (nat_lt (length old.pairs) old.capacity) (length old.pairs) old.capacity new.capacity
-            (subst (λ size. MatchOption size (new.capacity ≡ old.capacity) (λ n. new.capacity ≡ least_table_capacity n)) needed made)
+            grows ∙ (λ i. capacity_after 0 (table_still i) old.capacity (needed i))
+            ∙ with_by (nat_lt (length old.pairs) old.capacity) (length old.pairs) old.capacity
             ∙ ap (λ ps. if nat_lt (length ps) old.capacity then old.capacity else least_table_capacity (length ps + 1)) table.pairs
             ∙ ap (λ n. if nat_lt (length held) n then n else least_table_capacity (length held + 1)) table.capacity;
         builder = ap (λ b. b.rule) builder ∙ table.builder;
@@ -160,14 +151,13 @@ module _ (rule : Rule) (held : List (ℕ × ℕ)) (capacity : ℕ) (k : ℕ) (ol
   pub table_reserved : (additional : ℕ) → nat_lt capacity (length held + additional) ≡ true → IsReserved 0 old additional new
       → IsTableOf rule held (least_table_capacity (length held + additional)) new
   table_reserved additional less reserved =
-      let still = reserved.granted.form ∙ table.form in
       let total = length held + additional in
       let needs : reserve_needs 0 old additional ≡ (if nat_lt capacity total then Some total else None) =
       λ i. reserve_needs 0 (make_state (table.form i) (table.pairs i) (table.capacity i) old.builder (contents_of old)) additional in
       let needed = needs ∙ ap (λ b. if b then Some total else None) less in
       record {
-        form = still;
+        form = reserved.granted.form ∙ table.form;
         pairs = reserved.granted.pairs ∙ table.pairs;
-        capacity = MatchBool-at_false _ _ still (subst (λ size. HasCapacityAfter 0 old size new) needed reserved.granted.capacity);
+        capacity = reserved.granted.capacity ∙ (λ i. capacity_after 0 (table.form i) old.capacity (needed i));
         builder = ap (λ b. b.rule) reserved.granted.builder ∙ table.builder;
       }

@@ -1,5 +1,6 @@
 -- The rules for growth: how many buckets a table has, how many pairs it may hold, and how far a vector grows.
-use Rattle.std.specs.Prelude.{◌≡◌, ℕ, zero, suc, ◌+◌, ◌-◌, ◌*◌, ◌/◌, ◌^◌, ◌≤◌, ◌⊎◌, Bool, ◌||◌, ◌==◌, min, max, nat_lt, nat_le, if◌then◌else◌}
+use Rattle.std.specs.Prelude.{◌≡◌, ℕ, zero, suc, ◌+◌, ◌-◌, ◌*◌, ◌/◌, ◌^◌, ◌<◌, ◌≤◌, ◌⊎◌, Bool, true, false, ◌||◌, ◌==◌, min, max, nat_lt, nat_le, Option, None, Some, if◌then◌else◌}
+use Rattle.std.specs.Option.{option_map_or}
 
 -- the capacity that a vector grows to where more is needed: twice what it was, at least eight and what is needed, at most the limit
 abbrev pub generous_capacity : ℕ → ℕ → ℕ → ℕ
@@ -34,6 +35,14 @@ least_buckets (suc pairs) = buckets_for_more pairs (least_buckets pairs)
 abbrev pub least_table_capacity : ℕ → ℕ
 least_table_capacity pairs = capacity_of (least_buckets pairs)
 
+-- a number of the series 0, 3, 6, 12, 24, ..
+abbrev pub IsTableCapacity : ℕ → Type 0
+IsTableCapacity capacity = capacity ≡ least_table_capacity capacity
+
+-- a capacity that this form may have: a vector's is at most the limit, and a table's is more, and one of the series
+abbrev pub IsFormCapacity : ℕ → Bool → ℕ → Type 0
+IsFormCapacity limit is_vec capacity = (is_vec ≡ true → capacity ≤ limit) × (is_vec ≡ false → (limit < capacity) × IsTableCapacity capacity)
+
 -- the least capacity of a form that is enough for this many pairs: a vector's is their number
 abbrev pub least_capacity : Bool → ℕ → ℕ
 least_capacity is_vec pairs = if is_vec then pairs else least_table_capacity pairs
@@ -49,6 +58,20 @@ is_vec_shrunk limit is_vec pairs = is_vec || is_vec_for limit pairs
 -- the capacity after `shrink_to_fit`
 abbrev pub shrunk_capacity : ℕ → Bool → ℕ → ℕ
 shrunk_capacity limit is_vec pairs = least_capacity (is_vec_shrunk limit is_vec pairs) pairs
+
+-- of this many pairs as many as a form may hold: in a vector no more than the limit, in a table all
+abbrev pub capped : ℕ → Bool → ℕ → ℕ
+capped limit is_vec pairs = if is_vec then min pairs limit else pairs
+
+-- the capacity that is wanted, if it is more than there is; else none
+abbrev pub capacity_needed : ℕ → ℕ → Option ℕ
+capacity_needed capacity wanted = if nat_lt capacity wanted then Some wanted else None
+
+-- the capacity after a granted call that needed this much: the same if it needed no more; else what a vector grows to, or a table's least
+-- that is enough
+abbrev pub capacity_after : ℕ → Bool → ℕ → Option ℕ → ℕ
+capacity_after limit is_vec capacity needs =
+    option_map_or (λ n. if is_vec then generous_capacity limit capacity n else least_table_capacity n) needs capacity
 
 -- the capacity of a bucket count is enough for this many pairs, and each other count that is enough for them is no smaller
 pub record IsLeastFor (pairs buckets : ℕ) : Type 0 where

@@ -1,13 +1,13 @@
 -- What contracts see of a store.
-use Rattle.std.specs.Prelude.{◌≡◌, ℕ, ◌+◌, ◌^◌, ◌<◌, ◌≤◌, Bool, true, false, List, [], ◌∷◌, ◌++◌, length, min, max, Option, None, Some, if◌then◌else◌}
-use Rattle.std.specs.Prelude.{IfSome, Result, IsOk, OnOk, OnErr, IfOk, IfErr}
+use Rattle.std.specs.Prelude.{◌≡◌, ℕ, ◌+◌, ◌^◌, ◌<◌, ◌≤◌, Bool, true, false, List, [], ◌∷◌, ◌++◌, length, max, Option, None, Some, if◌then◌else◌}
+use Rattle.std.specs.Prelude.{IfSome, Result, OnOk, OnErr, IfOk, IfErr}
 use Rattle.std.specs.List.{AllZip}
 use Rattle.std.specs.declared.alloc.AllocError.{AllocError}
 use Rattle.std.specs.Global.{Box}
 pub use Rattle.half_store.specs.declared.store.find.Found.{Found}
 pub use Rattle.half_store.specs.declared.store.find.Vacancy.{Vacancy}
-use Rattle.half_store.specs.Capacity.{capacity_of, least_table_capacity, generous_capacity, least_capacity, is_vec_for, is_vec_shrunk, shrunk_capacity}
-use Rattle.half_store.specs.Refusal.{Refusal, refusal_of}
+use Rattle.half_store.specs.Capacity.{capacity_of, least_table_capacity, least_capacity, capped, capacity_needed, capacity_after, IsFormCapacity, is_vec_for, is_vec_shrunk, shrunk_capacity}
+use Rattle.half_store.specs.Refusal.{Refusal, refusal_of, IsRefusal, IsGrantable}
 use Rattle.half_store.specs.Columns.{ColumnsState}
 use Rattle.half_store.specs.Table.{TableState, Contents, table_contents, no_contents, contents_code, with_hash_in, IsTableVacancy, IsTablePlace}
 use base.Stored.{Coded, coded×, coded_list, coded_ℕ, coded_bool, coded_via}
@@ -59,20 +59,6 @@ module _ {K V : Type 0} where
   abbrev pub store_with_pairs : StoreState K V → List (K × V) → StoreState K V
   store_with_pairs s ps = record s { pairs = ps }
 
--- of this many pairs as many as a form may hold: in a vector no more than the limit, in a table all
-abbrev pub capped : ℕ → Bool → ℕ → ℕ
-capped limit is_vec capacity = if is_vec then min capacity limit else capacity
-
-module _ {K V : Type 0} (limit : ℕ) where
-  -- how many pairs in all a reservation for this many more is for
-  abbrev pub reserve_wanted : StoreState K V → ℕ → ℕ
-  reserve_wanted s additional = capped limit s.is_vec (length s.pairs + additional)
-
-  -- the capacity that it makes where there is less: in a table the least of its series that is enough
-  abbrev pub reserve_capacity : StoreState K V → ℕ → ℕ
-  reserve_capacity s additional =
-      if s.is_vec then generous_capacity limit s.capacity (reserve_wanted s additional) else least_table_capacity (reserve_wanted s additional)
-
 module _ {K V : Type 0} (limit needed : ℕ) where
   -- a store with no pairs and the least capacity of its form for this many: a vector where the limit allows them, else a table
   pub record IsMadeFor (s : StoreState K V) : Type 0 where
@@ -80,15 +66,13 @@ module _ {K V : Type 0} (limit needed : ℕ) where
     pub pairs : s.pairs ≡ []
     pub hashes : s.hashes ≡ []
     pub capacity : s.capacity ≡ least_capacity s.is_vec needed
-    pub series : s.is_vec ≡ false → s.capacity ≡ least_table_capacity s.capacity
-    pub exceeds : s.is_vec ≡ false → limit < s.capacity
+    pub allowed : IsFormCapacity limit s.is_vec s.capacity
 
   -- such a store, or the reason why its memory was refused; for no pairs it takes none, and is not refused
   pub record MakesStore (result : Result (StoreState K V) Refusal) : Type 0 where
     pub made : IfOk result IsMadeFor
-    pub granted : OnOk result (needed ≤ 2 ^ 60)
-    pub refused : IfErr result (λ why. why ≡ refusal_of needed)
-    pub none : needed ≡ 0 → IsOk result
+    pub grantable : OnOk result (IsGrantable (capacity_needed 0 needed))
+    pub refused : IfErr result (IsRefusal (capacity_needed 0 needed))
 
 -- an empty table with capacity for this many pairs, and the columns of a vector with the same capacity; on error nothing changes
 pub record MakesTable {K V : Type 0} (old new : StoreState K V) (needed : ℕ) (result : Result (Box TableState) Refusal) : Type 0 where
@@ -103,20 +87,27 @@ pub record MakesTable {K V : Type 0} (old new : StoreState K V) (needed : ℕ) (
   pub refused : IfErr result (λ why. why ≡ refusal_of needed)
   pub err : OnErr result (new ≡ old)
 
+module _ {K V : Type 0} (limit : ℕ) (s : StoreState K V) (additional : ℕ) where
+  -- for how many pairs in all a reservation for this many more is
+  abbrev pub reserve_wanted : ℕ
+  reserve_wanted = capped limit s.is_vec (length s.pairs + additional)
+
+  -- the capacity that it needs, or none if there is enough
+  abbrev pub reserve_needs : Option ℕ
+  reserve_needs = capacity_needed s.capacity reserve_wanted
+
 module _ {K V : Type 0} (limit : ℕ) (old new : StoreState K V) where
-  -- a reservation for this many pairs more: where it is granted the capacity is enough for them, and where it is refused nothing changes
+  -- a reservation for this many pairs more: if it is granted the capacity is enough for them, and if it is refused nothing changes
   pub record StoreReserves (additional : ℕ) (result : Result (Unit {0}) Refusal) : Type 0 where
     pub pairs : new.pairs ≡ old.pairs
     pub form : new.is_vec ≡ old.is_vec
     pub hashes : new.hashes ≡ old.hashes
+    pub capacity : OnOk result (new.capacity ≡ capacity_after limit old.is_vec old.capacity (reserve_needs limit old additional))
     pub enough : OnOk result (reserve_wanted limit old additional ≤ new.capacity)
     pub unneeded : OnOk result (reserve_wanted limit old additional ≤ old.capacity → new ≡ old)
-    pub grown : OnOk result (old.capacity < reserve_wanted limit old additional → new.capacity ≡ reserve_capacity limit old additional)
-    pub more : old.capacity ≤ new.capacity
-    pub series : new.is_vec ≡ false → new.capacity ≡ least_table_capacity new.capacity
-    pub granted : OnOk result (old.capacity < reserve_wanted limit old additional → reserve_wanted limit old additional ≤ 2 ^ 60)
-    pub needed : OnErr result (old.capacity < reserve_wanted limit old additional)
-    pub refused : IfErr result (λ why. why ≡ refusal_of (reserve_wanted limit old additional))
+    pub allowed : IsFormCapacity limit old.is_vec old.capacity → IsFormCapacity limit new.is_vec new.capacity
+    pub grantable : OnOk result (IsGrantable (reserve_needs limit old additional))
+    pub refused : IfErr result (IsRefusal (reserve_needs limit old additional))
     pub err : OnErr result (new ≡ old)
 
   -- capacity, and a table that is not needed, are given back; only a smaller capacity for some pairs may be refused: then nothing changes
@@ -125,8 +116,8 @@ module _ {K V : Type 0} (limit : ℕ) (old new : StoreState K V) where
     pub form : OnOk result (new.is_vec ≡ is_vec_shrunk limit old.is_vec (length old.pairs))
     pub capacity : OnOk result (new.capacity ≡ shrunk_capacity limit old.is_vec (length old.pairs))
     pub hashes : new.is_vec ≡ false → new.hashes ≡ old.hashes
-    pub series : OnOk result (new.is_vec ≡ false → new.capacity ≡ least_table_capacity new.capacity)
     pub fits : OnOk result (length old.pairs ≤ new.capacity)
+    pub allowed : IsFormCapacity limit old.is_vec old.capacity → length old.pairs ≤ old.capacity → IsFormCapacity limit new.is_vec new.capacity
     pub err : OnErr result (new ≡ old)
     pub some : OnErr result (0 < shrunk_capacity limit old.is_vec (length old.pairs))
     pub less : OnErr result (shrunk_capacity limit old.is_vec (length old.pairs) < old.capacity)

@@ -1,10 +1,10 @@
 -- Where a call needs more capacity, how much, and what the capacity is afterwards. A call is granted where it returns `Ok`, and refused where
 -- it returns `Err`. A switching call, an insertion, `entry` or `raw_entry_mut`, makes a full vector a table first, also where the key is held.
-use Rattle.std.specs.Prelude.{◌≡◌, ℕ, ◌+◌, ◌^◌, ◌<◌, ◌≤◌, Bool, not, ◌&&◌, ◌==◌, nat_lt, length, Option, None, Some, IfNone, IfSome, MatchBool, MatchOption, Result, OnOk, OnErr, IfErr, if◌then◌else◌}
+use Rattle.std.specs.Prelude.{◌≡◌, ℕ, ◌+◌, ◌<◌, ◌≤◌, Bool, not, ◌&&◌, ◌==◌, List, nat_lt, length, Option, None, Some, Result, OnOk, OnErr, IfErr, if◌then◌else◌}
 pub use Rattle.half_store.specs.declared.refusal.Refusal.{Refusal}
-use Rattle.half_store.specs.Refusal.{refusal_of}
-use Rattle.half_store.specs.Capacity.{least_table_capacity, generous_capacity, is_vec_shrunk, shrunk_capacity}
-use Rattle.half_store.specs.Store.{capped}
+pub use Rattle.half_store.specs.Refusal.{IsRefusal, IsGrantable}
+pub use Rattle.half_store.specs.Capacity.{capped, capacity_needed, capacity_after}
+use Rattle.half_store.specs.Capacity.{is_vec_shrunk, shrunk_capacity}
 use Rattle.halfbrown.specs.State.{State, IsValid}
 use Rattle.halfbrown.specs.Pairs.{holds}
 
@@ -12,28 +12,13 @@ use Rattle.halfbrown.specs.Pairs.{holds}
 abbrev pub growth_needs : {K V S : Type 0} → State K V S → Option ℕ
 growth_needs m = if nat_lt (length m.pairs) m.capacity then None else Some (length m.pairs + 1)
 
--- the capacity after a granted call: the same where it needs no more; else a table's least that is enough, or what a vector grows to
-abbrev pub HasCapacityAfter : {K V S : Type 0} → ℕ → State K V S → Option ℕ → State K V S → Type 0
-HasCapacityAfter limit old needs new =
-    MatchOption needs (new.capacity ≡ old.capacity)
-    (λ n. MatchBool new.is_vec (new.capacity ≡ generous_capacity limit old.capacity n) (new.capacity ≡ least_table_capacity n))
-
 -- the capacity that a reservation for this many pairs more needs, or none where there is enough
 abbrev pub reserve_needs : {K V S : Type 0} → ℕ → State K V S → ℕ → Option ℕ
-reserve_needs limit m additional =
-    let wanted = capped limit m.is_vec (length m.pairs + additional) in if nat_lt m.capacity wanted then Some wanted else None
+reserve_needs limit m additional = capacity_needed m.capacity (capped limit m.is_vec (length m.pairs + additional))
 
 -- the capacity that a constructor for this many pairs needs
 abbrev pub making_needs : ℕ → Option ℕ
-making_needs needed = if needed == 0 then None else Some needed
-
--- a call that needs this much capacity was refused for this reason; one that needs none is never refused
-abbrev pub IsRefusal : Option ℕ → Refusal → Type 0
-IsRefusal needs why = IfNone needs ⊥ × IfSome needs (λ n. why ≡ refusal_of n)
-
--- what a granted call needed: capacity for no more than 2^60 pairs
-abbrev pub IsGrantable : Option ℕ → Type 0
-IsGrantable needs = IfSome needs (λ n. n ≤ 2 ^ 60)
+making_needs needed = capacity_needed 0 needed
 
 module _ {K V S : Type 0} (limit : ℕ) where
   -- a vector that holds as many pairs as the limit, whatever its capacity
@@ -56,17 +41,17 @@ module _ {K V S : Type 0} (limit : ℕ) where
   abbrev pub insert_needs : (K → K → Bool) → State K V S → K → Option ℕ
   insert_needs eq m k = if is_full m then Some (limit + 1) else (if holds eq m.pairs k then None else growth_needs m)
 
-  -- a granted call that needed this much capacity and changes no pair: the map is a vector exactly where `is_vec` says so
-  pub record Grants (is_vec : Bool) (old : State K V S) (needs : Option ℕ) (new : State K V S) : Type 0 where
-    pub pairs : new.pairs ≡ old.pairs
+  -- a granted call that needed this much capacity: the map has these pairs, and is a vector exactly if `is_vec` says so
+  pub record Grants (ps : List (K × V)) (is_vec : Bool) (old : State K V S) (needs : Option ℕ) (new : State K V S) : Type 0 where
+    pub pairs : new.pairs ≡ ps
     pub form : new.is_vec ≡ is_vec
-    pub capacity : HasCapacityAfter limit old needs new
+    pub capacity : new.capacity ≡ capacity_after limit is_vec old.capacity needs
     pub grantable : IsGrantable needs
     pub builder : new.builder ≡ old.builder
 
   -- a granted reservation for this many pairs more: the capacity is enough for them; in a vector for no more pairs in all than the limit
   pub record IsReserved (old : State K V S) (additional : ℕ) (new : State K V S) : Type 0 where
-    pub granted : Grants old.is_vec old (reserve_needs limit old additional) new
+    pub granted : Grants old.pairs old.is_vec old (reserve_needs limit old additional) new
     pub enough : capped limit old.is_vec (length old.pairs + additional) ≤ new.capacity
 
   -- a reservation for this many pairs more: it is granted, or it is refused and nothing has changed

@@ -2,7 +2,7 @@
 use Rattle.std.specs.Prelude.{◌≡◌, ℕ, ◌<◌, ◌≤◌, Bool, true, false, List, length}
 pub use Rattle.std.specs.List.{IsDistinct}
 pub use Rattle.std.specs.Map.{keys_of}
-use Rattle.half_store.specs.Capacity.{least_table_capacity}
+pub use Rattle.half_store.specs.Capacity.{IsTableCapacity}
 use Rattle.half_store.specs.Table.{Contents, contents_code}
 use base.Stored.{Coded, coded×, coded_list, coded_ℕ, coded_bool, coded_via}
 
@@ -40,12 +40,8 @@ state_code k v s = coded_via (coded× coded_bool (coded× (coded_list (coded× k
     (λ m. (m.is_vec, (m.pairs, (m.capacity, (m.builder, m.contents)))))
     (λ a b e i. make_state (e i).0 (e i).1.0 (e i).1.1.0 (e i).1.1.1.0 (e i).1.1.1.1)
 
--- a number of the series 0, 3, 6, 12, 24, ..; a map's table never has 0
-abbrev pub IsTableCapacity : ℕ → Type 0
-IsTableCapacity capacity = capacity ≡ least_table_capacity capacity
-
 -- what holds of every map: no two held keys are equal, the pairs fit in the capacity, a vector's capacity is at most the limit, and a
--- table's is more than the limit and one of the series
+-- table's is more than the limit, so never 0, and one of the series
 pub record IsValid {K V S : Type 0} (limit : ℕ) (eq : K → K → Bool) (m : State K V S) : Type 0 where
   pub distinct : IsDistinct eq (keys_of m.pairs)
   pub fits : length m.pairs ≤ m.capacity

@@ -2,7 +2,8 @@
 ghost use Rattle.std.specs.Prelude.{◌≡◌, ◌^◌, ◌<◌, ◌≤◌, true, false, [], length, Some, IfSome};
 ghost use Rattle.std.specs.Iterator.{at_most, UpTo};
 ghost use Rattle.std.specs.Iterator.SizeHint.{IsWithinCount};
-ghost use Rattle.halfbrown.specs.State.{IsValid, IsTableCapacity, WithPairs};
+ghost use Rattle.half_store.specs.Capacity.{IsFormCapacity};
+ghost use Rattle.halfbrown.specs.State.{IsValid, WithPairs};
 
 use crate::{AtMost, DefaultHashBuilder, KeyHasher, Limit, LimitedHashMap};
 use half_store::{Drained, IntoStore};
@@ -30,9 +31,7 @@ pub struct Drain<
     map: &'a mut LimitedHashMap<K, V, S, L>,
     // its store, with the pairs that are still to come
     pairs: P,
-    ghost within: { (P.store pairs).is_vec ≡ true → (P.store pairs).capacity ≤ L.LIMIT },
-    ghost series: { (P.store pairs).is_vec ≡ false → IsTableCapacity (P.store pairs).capacity },
-    ghost exceeds: { (P.store pairs).is_vec ≡ false → L.LIMIT < (P.store pairs).capacity },
+    ghost allowed: { IsFormCapacity L.LIMIT (P.store pairs).is_vec (P.store pairs).capacity },
 }
 
 impl<'a, K: Eq + Hash + Drop, V: Drop, S: KeyHasher<K>, L: Limit, P: IntoStore<K, V>> Drop

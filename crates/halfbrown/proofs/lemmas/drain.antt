@@ -1,9 +1,10 @@
 -- What each step of a `Drain` gives and leaves, along a run.
-use Rattle.halfbrown.proofs.Common.{◌≡◌, ◌<◌, ◌≤◌, true, false, length, arith, List, [], ◌∷◌, refl, ap, subst, common_steps, StoreState, IsTableCapacity}
+use Rattle.halfbrown.proofs.Common.{◌≡◌, length, arith, List, [], ◌∷◌, refl, ap, subst, common_steps, StoreState}
 use mathlib.Core.HLevel.{is_prop→PathP}
 use Rattle.std.proofs.Props.{props}
 use Rattle.std.proofs.iter.runs.Sources.{as_is, from_front}
 use Rattle.std.specs.Iterator.{Yields}
+use Rattle.half_store.specs.Capacity.{IsFormCapacity}
 use Rattle.std.specs.Iterator.Runs.{YieldsInOrder}
 use Rattle.halfbrown.specs.Drain.{DrainsSameMap, DrainSteps, rest}
 use Rattle.halfbrown.specs.declared.drain.Drain.{Drain}
@@ -17,12 +18,8 @@ module _ {K V S L H : Type 0} {e : EqGhosts K} {h : HashGhosts K} {b : HasherGho
   same_drain s t map pairs = λ i. record {
     map = map i;
     pairs = pairs i;
-    within = is_prop→PathP (λ j. (p.store (pairs j)).is_vec ≡ true → (p.store (pairs j)).capacity ≤ l.LIMIT) (λ j. Prim.hlevel props)
-        t.within s.within i;
-    series = is_prop→PathP (λ j. (p.store (pairs j)).is_vec ≡ false → IsTableCapacity (p.store (pairs j)).capacity) (λ j. Prim.hlevel props)
-        t.series s.series i;
-    exceeds = is_prop→PathP (λ j. (p.store (pairs j)).is_vec ≡ false → l.LIMIT < (p.store (pairs j)).capacity) (λ j. Prim.hlevel props)
-        t.exceeds s.exceeds i;
+    allowed = is_prop→PathP (λ j. IsFormCapacity l.LIMIT (p.store (pairs j)).is_vec (p.store (pairs j)).capacity) (λ j. Prim.hlevel props)
+        t.allowed s.allowed i;
   }
 
   pub runs : YieldsInOrder (DrainSteps {K = K} {V = V} {S = S} {L = L} {e = e} {h = h} {b = b} {l = l} {p = p}) rest

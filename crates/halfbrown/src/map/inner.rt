@@ -6,6 +6,7 @@ ghost use Rattle.std.specs.Borrow.{sem, Bor};
 ghost use Rattle.std.specs.Map.{keys_of, values_of};
 ghost use Rattle.std.specs.Option.{option_map};
 ghost use Rattle.std.specs.Result.{result_err};
+ghost use Rattle.half_store.specs.Capacity.{IsFormCapacity};
 ghost use Rattle.half_store.specs.PairLists.{set_key_at, set_value_at, swap_remove_at};
 ghost use Rattle.half_store.specs.Work.{looked_more};
 ghost use Rattle.half_store.specs.Store.{IsPlaced, IsVacancy};
@@ -13,7 +14,7 @@ ghost use Rattle.half_store.specs.ValueReplacement.{kept_index, ReplacesValue};
 ghost use Rattle.halfbrown.specs.Costs.{probe_length};
 ghost use Rattle.halfbrown.specs.Pairs.{holds};
 ghost use Rattle.halfbrown.specs.Insertion.{pushed};
-ghost use Rattle.halfbrown.specs.State.{IsValid, IsTableCapacity, WithPairs, contents_of};
+ghost use Rattle.halfbrown.specs.State.{IsValid, WithPairs, contents_of};
 ghost use Rattle.halfbrown.specs.Layout.{state_in};
 ghost use Rattle.halfbrown.specs.Updates.{HasKeyReplaced, ShiftRemovesAt};
 
@@ -179,9 +180,7 @@ impl<K: Eq + Hash, V, S: KeyHasher<K>, L: Limit> LimitedHashMap<K, V, S, L> {
         ensures after { WithPairs self.old self.old.pairs
             (state_in result self.new.builder) }
         ensures small { length result.pairs < 2 ^ 63 }
-        ensures within { result.is_vec ≡ true → result.capacity ≤ L.LIMIT }
-        ensures series { result.is_vec ≡ false → IsTableCapacity result.capacity }
-        ensures exceeds { result.is_vec ≡ false → L.LIMIT < result.capacity }
+        ensures allowed { IsFormCapacity L.LIMIT result.is_vec result.capacity }
     {
         self.store.drain()
     }
@@ -192,10 +191,7 @@ impl<K: Eq + Hash, V, S: KeyHasher<K>, L: Limit> LimitedHashMap<K, V, S, L> {
     where
         K: Drop,
         V: Drop,
-        requires within { (P.store drained).is_vec ≡ true → (P.store drained).capacity ≤ L.LIMIT }
-        requires series { (P.store drained).is_vec ≡ false
-            → IsTableCapacity (P.store drained).capacity }
-        requires exceeds { (P.store drained).is_vec ≡ false → L.LIMIT < (P.store drained).capacity }
+        requires { IsFormCapacity L.LIMIT (P.store drained).is_vec (P.store drained).capacity }
         ensures after { WithPairs (state_in (P.store drained) self.old.builder)
             [] self.new }
         ensures valid { IsValid L.LIMIT K.eq self.new }

@@ -2,13 +2,12 @@
 use Rattle.std.proofs.Common.{◌≡◌, ℕ, zero, suc, ◌+◌, ◌*◌, ◌≤◌, max, inl, inr, Bool, true, false, ◌&&◌, List, [], ◌∷◌, length, fold, Option}
 use Rattle.std.proofs.Common.{None, Some, sym, ap, refl, subst, arith, if◌then◌else◌}
 use Rattle.std.proofs.lemmas.Grind.{common_steps}
-use Rattle.std.specs.Prelude.{MatchBool}
-use Rattle.half_store.specs.Capacity.{IsBucketCount, capacity_of, buckets_of, buckets_for_more, least_buckets, least_table_capacity, generous_capacity}
+use Rattle.half_store.specs.Capacity.{IsBucketCount, capacity_of, buckets_of, buckets_for_more, least_buckets, least_table_capacity}
 use Rattle.half_store.specs.Capacity.{least_capacity, is_vec_shrunk}
 use Rattle.half_store.specs.Arrays.{bytes}
 use Rattle.half_store.specs.Words.{word_size}
 use Rattle.half_store.proofs.lemmas.capacity.{buckets_for-least}
-use Rattle.halfbrown.specs.Growth.{is_full, HasCapacityAfter, IsShrunk}
+use Rattle.halfbrown.specs.Growth.{is_full, is_vec_after, capacity_after, IsShrunk}
 use Rattle.halfbrown.specs.Run.{StepsLead, commands_of, Step, IsValidStep}
 use Rattle.halfbrown.specs.State.{State, IsValid}
 use Rattle.halfbrown.proofs.lemmas.map.Growth.{full_len}
@@ -60,14 +59,11 @@ module _ {K V S : Type 0} (limit : ℕ) (eq : K → K → Bool) where
   abbrev IsModest : State K V S → ℕ → Type 0
   IsModest old capacity = capacity ≤ max old.capacity (2 * length old.pairs + 8)
 
-  after_most : (old new : State K V S) (needs : Option ℕ) → IsDue old needs → HasCapacityAfter limit old needs new
-      → IsModest old new.capacity
-  after_most old new None due after = omega (arith, after)
-  after_most old new (Some n) due after = by new.is_vec after where
-    by : (is_vec : Bool) → MatchBool is_vec (new.capacity ≡ generous_capacity limit old.capacity n) (new.capacity ≡ least_table_capacity n)
-        → IsModest old new.capacity
-    by true e = omega (arith, e, due.0, due.1)
-    by false e = omega (arith, e, due.0, capacity_for-most n)
+  after_most : (old : State K V S) (is_vec : Bool) (needs : Option ℕ) → IsDue old needs
+      → IsModest old (capacity_after limit is_vec old.capacity needs)
+  after_most old is_vec None due = omega arith
+  after_most old true (Some n) due = omega (arith, due.0, due.1)
+  after_most old false (Some n) due = omega (arith, due.0, capacity_for-most n)
 
   least_most : (old : State K V S) (is_vec : Bool) → IsModest old (least_capacity is_vec (length old.pairs))
   least_most old true = omega arith
@@ -81,7 +77,8 @@ module _ {K V S : Type 0} (limit : ℕ) (eq : K → K → Bool) where
       → IsModest s.before s.after.capacity
   step_most s state step none = by (step_changes limit eq s step none) where
     by : Changes limit eq s.before s.command s.after → IsModest s.before s.after.capacity
-    by (inl put) = after_most s.before s.after _ (switch_due s.before state put.needs put.due) put.puts.capacity
+    by (inl put) = subst (IsModest s.before) (sym put.puts.capacity)
+        (after_most s.before (is_vec_after limit s.before) _ (switch_due s.before state put.needs put.due))
     by (inr (inl keeps)) = omega (arith, keeps.capacity)
     by (inr (inr has_shrink)) = shrunk_most s.before s.after has_shrink.1
 

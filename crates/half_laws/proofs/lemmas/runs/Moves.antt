@@ -2,11 +2,11 @@
 use Rattle.std.proofs.Common.{◌≡◌, ◌∙◌, ℕ, suc, ◌+◌, ◌-◌, ◌*◌, ◌≤◌, nat_lt, ◌==◌, inl, inr, Bool, true, false, true≢false, not, ◌&&◌, cond, List}
 use Rattle.std.proofs.Common.{[], ◌∷◌, length, sum_by, Option, Some, ap, sym, refl, subst, arith, if◌then◌else◌}
 use Rattle.std.proofs.lemmas.Grind.{common_steps}
-use Rattle.std.proofs.lemmas.Bool.{cases_lt, eq-eqb, le-ltb, MatchBool-at_false}
+use Rattle.std.proofs.lemmas.Bool.{cases_lt, eq-eqb, le-ltb}
 use Rattle.std.proofs.lemmas.List.Sums.{sum_by-cons}
 use Rattle.half_store.specs.Capacity.{IsBucketCount, capacity_of, more_buckets, least_buckets, least_table_capacity, generous_capacity}
 use Rattle.half_store.proofs.lemmas.capacity.{more_buckets-some, buckets_for-least, buckets_for-grown, quarter}
-use Rattle.halfbrown.specs.Growth.{is_full, HasCapacityAfter}
+use Rattle.halfbrown.specs.Growth.{is_full, capacity_after}
 use Rattle.halfbrown.specs.Pairs.{put}
 use Rattle.halfbrown.specs.Run.{StepsLead, has_shrink, commands_of, Step, IsValidStep, is_shrink}
 use Rattle.halfbrown.specs.State.{State, IsValid, IsTableCapacity}
@@ -85,19 +85,20 @@ module _ {K V S : Type 0} (limit : ℕ) (eq : K → K → Bool) where
     table_pays table form filled capacity = grind (arith, common_steps, moves, table_doubles)
 
     grown_pays : is_full limit old ≡ false → new.is_vec ≡ old.is_vec → (needs : Option ℕ) → IsDue old needs
-        → HasCapacityAfter limit old needs new → Pays old new
+        → new.capacity ≡ capacity_after limit old.is_vec old.capacity needs → Pays old new
     grown_pays full form needs due after = grind (arith, common_steps, stays_pays, table_pays, vector_pays)
 
     put_pays : (put : PutsDue limit eq old new) → Pays old new
     put_pays put = by (is_full limit old) (λ e. e) (λ e. e) put.puts.form put.puts.capacity where
       by : (full : Bool) → (full ≡ true → is_full limit old ≡ true) → (full ≡ false → is_full limit old ≡ false)
-          → new.is_vec ≡ (old.is_vec && not full) → HasCapacityAfter limit old (if full then Some (limit + 1) else put.needs) new
-          → Pays old new
+          → new.is_vec ≡ (old.is_vec && not full)
+          → new.capacity ≡ capacity_after limit (old.is_vec && not full) old.capacity (if full then Some (limit + 1) else put.needs) → Pays old new
       by true yes_full no_full form after =
-          let table = form ∙ and_false old.is_vec in
-          switch_pays (yes_full refl) table (MatchBool-at_false _ _ table after)
+          let table = and_false old.is_vec in
+          switch_pays (yes_full refl) (form ∙ table) (after ∙ ap (λ v. capacity_after limit v old.capacity (Some (limit + 1))) table)
       by false yes_full no_full form after =
-          grown_pays (no_full refl) (form ∙ sym (form_stays old.is_vec false refl)) put.needs put.due after
+          let stays = sym (form_stays old.is_vec false refl) in
+          grown_pays (no_full refl) (form ∙ stays) put.needs put.due (after ∙ ap (λ v. capacity_after limit v old.capacity put.needs) stays)
 
   put_few : (old new : State K V S) → PutsDue limit eq old new → length new.pairs ≤ length old.pairs + 1
   put_few old new put = grind (arith, common_steps, cond_most, len_put)

@@ -194,3 +194,14 @@ gave_first s (x ∷ xs) t y = y.1.0 ∙ ap (λ l. x ∷ l) (gave_first y.0 xs t 
 pub at_error : {A E : Type 0} (r : Result A E) (e : E) (P : Type 0) (Q : E → Type 0) → IsErr r × IsErrAnd r (λ why. why ≡ e) → Q e
     → OnOk r P × IfErr r Q
 at_error r e P Q told holds = grind (arith, common_steps)
+
+-- a map made with a builder is one made with a builder of its kind
+pub made_with : {K V S : Type 0} (is_builder : S → Type 0) {b : S} {is_vec : Bool} {needed : ℕ} {m : State K V S} → is_builder b
+    → IsMade (λ it. it ≡ b) is_vec needed m → IsMade is_builder is_vec needed m
+made_with is_builder holds told = record {
+  form = told.form;
+  pairs = told.pairs;
+  capacity = told.capacity;
+  builder = subst is_builder (sym told.builder) holds;
+  grantable = told.grantable;
+}

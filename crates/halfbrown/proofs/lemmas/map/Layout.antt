@@ -2,11 +2,12 @@
 use Rattle.halfbrown.proofs.Common.{◌≡◌, ℕ, ◌<◌, ◌≤◌, Bool, true, false, length, arith, suc, cond, List, [], ◌∷◌, ◌++◌, slice_get, Option, Some, refl, ap, ◌∙◌}
 use Rattle.halfbrown.proofs.Common.{sym, subst, map, length-append, common_steps, map-append, length-keys_of, IsDistinct-tail, slice_get-map, Bor}
 use Rattle.halfbrown.proofs.Common.{IsEquivalence, AllByRecursion, keys_of, option_map, swap_remove_at, set_value_at, length-set_value_at, set_key_at}
-use Rattle.halfbrown.proofs.Common.{StoreState, Found, Vacancy, state_in, IsMapInvariant, IsIndexOf, IsAbsent, holds, IsTableCapacity, IsValid}
+use Rattle.halfbrown.proofs.Common.{StoreState, Found, Vacancy, state_in, IsMapInvariant, IsIndexOf, IsAbsent, holds, IsValid}
 use Rattle.std.proofs.Common.{true≢false, Result, Ok, Err, IfErr, OnOk}
 use Rattle.std.specs.List.{IsDistinct, AllZip, Contains}
 use Rattle.std.proofs.lemmas.Map.Keys.{IsDistinct-push, IsDistinct-head, IsDistinct-cons}
 use Rattle.half_store.proofs.lemmas.store.States.{length-set_key_at, kept_value as value_kept, lost_pair}
+use Rattle.half_store.specs.Capacity.{IsFormCapacity}
 use Rattle.half_store.specs.Columns.{no_pairs}
 use Rattle.half_store.specs.Store.{SameFormAndCapacity, store_pushed, store_with_pairs, vector_of}
 use Rattle.halfbrown.proofs.lemmas.pairs.Changes.{keys_of-set_key_at, map-set_alike, IsDistinct-set, map-swap_remove_at, length-swap_remove_at}
@@ -67,11 +68,10 @@ module _ {K V : Type 0} where
     kept_none old new kept keeps none no_hashes = grind (arith, common_steps)
 
     -- a new store
-    pub kept_made : (s : StoreState K V) → s.pairs ≡ [] → s.hashes ≡ [] → (s.is_vec ≡ true → s.capacity ≤ limit)
-        → (s.is_vec ≡ false → IsTableCapacity s.capacity)
-        → (s.is_vec ≡ false → limit < s.capacity) → IsMapInvariant limit eq hash s
+    pub kept_made : (s : StoreState K V) → s.pairs ≡ [] → s.hashes ≡ [] → IsFormCapacity limit s.is_vec s.capacity
+        → IsMapInvariant limit eq hash s
     unfolding IsDistinct
-    kept_made s none no_hashes within series exceeds = grind (arith, common_steps)
+    kept_made s none no_hashes allowed = grind (arith, common_steps)
 
     -- a vector without memory
     pub kept_empty : (s : StoreState K V) → s ≡ vector_of no_pairs → IsMapInvariant limit eq hash s

@@ -45,10 +45,8 @@ module _ {K X : Type 0} (same : K → K → Bool) (hashed : K → ℕ) (limit : 
   Kept-prop p q = λ i. record {
     distinct = IsDistinct-prop same (keys_of s.pairs) p.distinct q.distinct i;
     fits = le_prop p.fits q.fits i;
-    vector_capacity = λ e. le_prop (p.vector_capacity e) (q.vector_capacity e) i;
+    allowed = (λ e. le_prop (p.allowed.0 e) (q.allowed.0 e) i, λ e. (le_prop (p.allowed.1 e).0 (q.allowed.1 e).0 i, ℕ_set _ _ (p.allowed.1 e).1 (q.allowed.1 e).1 i));
     hashed = λ e. Coded-set (coded_list coded_ℕ) _ _ (p.hashed e) (q.hashed e) i;
-    table_capacity = λ e. ℕ_set _ _ (p.table_capacity e) (q.table_capacity e) i;
-    table_exceeds = λ e. le_prop (p.table_exceeds e) (q.table_exceeds e) i;
   }
 
   module _ {Y : Type 0} (h : X → Y) where
@@ -60,9 +58,7 @@ module _ {K X : Type 0} (same : K → K → Bool) (hashed : K → ℕ) (limit : 
       distinct = subst (IsDistinct same) (sym (keys_on_values h s.pairs)) p.distinct;
       fits = subst (λ n. n ≤ s.capacity) (sym (length-map s.pairs (on_value h))) p.fits;
       hashed = λ e. p.hashed e ∙ ap (map hashed) (sym (keys_on_values h s.pairs));
-      vector_capacity = p.vector_capacity;
-      table_capacity = p.table_capacity;
-      table_exceeds = p.table_exceeds;
+      allowed = p.allowed;
     }
 
     comes : KeptMapped → IsMapInvariant limit same hashed s
@@ -70,9 +66,7 @@ module _ {K X : Type 0} (same : K → K → Bool) (hashed : K → ℕ) (limit : 
       distinct = subst (IsDistinct same) (keys_on_values h s.pairs) p.distinct;
       fits = subst (λ n. n ≤ s.capacity) (length-map s.pairs (on_value h)) p.fits;
       hashed = λ e. p.hashed e ∙ ap (map hashed) (keys_on_values h s.pairs);
-      vector_capacity = p.vector_capacity;
-      table_capacity = p.table_capacity;
-      table_exceeds = p.table_exceeds;
+      allowed = p.allowed;
     }
 
 module _ (K S L T : RattleType) (G : EqGhosts K.Denot) (H : HashGhosts K.Denot) (B : HasherGhosts S.Denot K.Denot T.Denot)

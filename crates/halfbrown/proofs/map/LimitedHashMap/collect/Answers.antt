@@ -1,9 +1,7 @@
 use Rattle.halfbrown.proofs.Common.{arith, sym, subst, inl, inr, common_steps, GrewBy, Gives}
 use Rattle.std.specs.Iterator.{Drains}
 use Rattle.halfbrown.specs.FromIter.{RefusedInsert, refused_cost}
-use Rattle.half_store.specs.Capacity.{is_vec_for}
-use Rattle.halfbrown.specs.Making.{IsMade}
-use Rattle.halfbrown.proofs.lemmas.map.Collect.{at_error, collection_of, inserts_asked, inserts_state}
+use Rattle.halfbrown.proofs.lemmas.map.Collect.{at_error, collection_of, inserts_asked, inserts_state, made_with}
 use Rattle.halfbrown.proofs.lemmas.map.Costs.{spent_none}
 use Rattle.halfbrown.proofs.map.LimitedHashMap.collect.Goals as goal
 
@@ -22,14 +20,7 @@ returns-in_err-extend_counted-clause-refused g c =
     let after = c.extend_counted.new.self in
     let before = c.args.tally.now in
     let refused = c.in_err-extend_counted.ensures.refused in
-    let told = c.in_ok-map.ensures.makes.ok in
-    let is_made : IsMade g.S.Default.is_default (is_vec_for L c.args.capacity) c.args.capacity made = record {
-      form = told.form;
-      pairs = told.pairs;
-      capacity = told.capacity;
-      builder = subst g.S.Default.is_default (sym told.builder) c.default.ensures;
-      grantable = told.grantable;
-    } in
+    let is_made = made_with g.S.Default.is_default c.default.ensures c.in_ok-map.ensures.makes.ok in
     let given = Gives g.I.Iterator.next_gives in
     let counted = subst (λ it. (insertion : RefusedInsert L E (given it) made why after)
     × GrewBy (refused_cost L E H insertion) before c.extend_counted.new.tally)
@@ -42,14 +33,7 @@ returns-clause-collected g c =
     let L = g.L.Limit.LIMIT in
     let E = g.K.PartialEq.eq in
     let made = c.in_ok-map.map in
-    let told = c.in_ok-map.ensures.makes.ok in
-    let is_made : IsMade g.S.Default.is_default (is_vec_for L c.args.capacity) c.args.capacity made = record {
-      form = told.form;
-      pairs = told.pairs;
-      capacity = told.capacity;
-      builder = subst g.S.Default.is_default (sym told.builder) c.default.ensures;
-      grantable = told.grantable;
-    } in
+    let is_made = made_with g.S.Default.is_default c.default.ensures c.in_ok-map.ensures.makes.ok in
     let all = c.in_ok-extend_counted.ensures.extended in (
       all.0.gave,
       subst (λ it. Drains g.I.Iterator.next_gives it all.0.gave) all.0.is_made all.0.drained,
