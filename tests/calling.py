@@ -72,7 +72,7 @@ class Word:
 
 
 def words():
-    """The words of the specs, by name: also of those of the store that say why a call is refused."""
+    """The words of the specs, and those of the store that say why a call is refused, by name."""
     found = {}
     for path in [CRATE.parent / "half_store/specs/Refusal.antt", *sorted(CRATE.glob("specs/*.antt"))]:
         lines = [it for it in path.read_text().splitlines() if it.strip() and not it.lstrip().startswith("--")]

@@ -1,6 +1,6 @@
 -- Where a call needs more capacity, how much, and what the capacity is afterwards. A call is granted where it returns `Ok`, and refused where
 -- it returns `Err`. A switching call, an insertion, `entry` or `raw_entry_mut`, makes a full vector a table first, also where the key is held.
-use Rattle.std.specs.Prelude.{◌≡◌, ℕ, ◌+◌, ◌<◌, ◌≤◌, Bool, not, ◌&&◌, ◌==◌, List, nat_lt, length, Option, None, Some, Result, OnOk, OnErr, IfErr, if◌then◌else◌}
+use Rattle.std.specs.Prelude.{◌≡◌, ℕ, ◌+◌, ◌<◌, ◌≤◌, Bool, not, ◌&&◌, ◌==◌, nat_lt, length, Option, None, Some, Result, OnOk, OnErr, IfErr, if◌then◌else◌}
 pub use Rattle.half_store.specs.declared.refusal.Refusal.{Refusal}
 pub use Rattle.half_store.specs.Refusal.{IsRefusal, IsGrantable}
 pub use Rattle.half_store.specs.Capacity.{capped, capacity_needed, capacity_after}
@@ -41,9 +41,9 @@ module _ {K V S : Type 0} (limit : ℕ) where
   abbrev pub insert_needs : (K → K → Bool) → State K V S → K → Option ℕ
   insert_needs eq m k = if is_full m then Some (limit + 1) else (if holds eq m.pairs k then None else growth_needs m)
 
-  -- a granted call that needed this much capacity: the map has these pairs, and is a vector exactly if `is_vec` says so
-  pub record Grants (ps : List (K × V)) (is_vec : Bool) (old : State K V S) (needs : Option ℕ) (new : State K V S) : Type 0 where
-    pub pairs : new.pairs ≡ ps
+  -- a granted call that needed this much capacity and changes no pair: the map is a vector exactly if `is_vec` says so
+  pub record Grants (is_vec : Bool) (old : State K V S) (needs : Option ℕ) (new : State K V S) : Type 0 where
+    pub pairs : new.pairs ≡ old.pairs
     pub form : new.is_vec ≡ is_vec
     pub capacity : new.capacity ≡ capacity_after limit is_vec old.capacity needs
     pub grantable : IsGrantable needs
@@ -51,7 +51,7 @@ module _ {K V S : Type 0} (limit : ℕ) where
 
   -- a granted reservation for this many pairs more: the capacity is enough for them; in a vector for no more pairs in all than the limit
   pub record IsReserved (old : State K V S) (additional : ℕ) (new : State K V S) : Type 0 where
-    pub granted : Grants old.pairs old.is_vec old (reserve_needs limit old additional) new
+    pub granted : Grants old.is_vec old (reserve_needs limit old additional) new
     pub enough : capped limit old.is_vec (length old.pairs + additional) ≤ new.capacity
 
   -- a reservation for this many pairs more: it is granted, or it is refused and nothing has changed

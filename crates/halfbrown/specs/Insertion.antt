@@ -2,7 +2,7 @@
 use Rattle.std.specs.Prelude.{◌≡◌, ℕ, Bool, Option, Some, Result, OnOk, OnErr, IfOk, IfErr, ◌+◌, ◌<◌, nat_lt, [], ◌∷◌, ◌++◌, length, if◌then◌else◌}
 use Rattle.std.specs.Result.{result_map_both}
 use Rattle.halfbrown.specs.declared.refused.Refused.{Refused}
-use Rattle.halfbrown.specs.Growth.{is_vec_after, insert_needs, new_key_needs, Refusal, IsRefusal, Grants}
+use Rattle.halfbrown.specs.Growth.{is_vec_after, insert_needs, new_key_needs, Refusal, IsRefusal, IsGrantable, capacity_after, Grants}
 use Rattle.halfbrown.specs.Pairs.{keys_of, index_of, put, value_of}
 use Rattle.halfbrown.specs.State.{State, IsValid, make_state, contents_of}
 use Rattle.halfbrown.specs.Updates.{HasPut}
@@ -15,8 +15,12 @@ use Rattle.halfbrown.specs.Lookup.{Vacancy, IsIndexOf, IsAbsent}
 
 module _ {K V S : Type 0} where
   -- a granted insertion of (k, v) that needed this much capacity: the pair is put, and a full vector has become a table
-  abbrev pub Puts : ℕ → (K → K → Bool) → State K V S → K → V → Option ℕ → State K V S → Type 0
-  Puts limit eq old k v = Grants limit (put eq old.pairs k v) (is_vec_after limit old) old
+  pub record Puts (limit : ℕ) (eq : K → K → Bool) (old : State K V S) (k : K) (v : V) (needs : Option ℕ) (new : State K V S) : Type 0 where
+    pub pairs : new.pairs ≡ put eq old.pairs k v
+    pub form : new.is_vec ≡ is_vec_after limit old
+    pub capacity : new.capacity ≡ capacity_after limit (is_vec_after limit old) old.capacity needs
+    pub grantable : IsGrantable needs
+    pub builder : new.builder ≡ old.builder
 
   -- a refused insertion of (k, v) that needed this much capacity: key and value come back with the reason, and nothing has changed
   pub record HandsBack (old : State K V S) (k : K) (v : V) (needs : Option ℕ) (new : State K V S) (refused : Refused K V) : Type 0 where
@@ -58,7 +62,7 @@ module _ {K V S : Type 0} where
 
   -- a granted call that makes capacity for an insertion, which needed this much: the same pairs, and a full vector is a table now
   abbrev pub Prepares : ℕ → State K V S → Option ℕ → State K V S → Type 0
-  Prepares limit old = Grants limit old.pairs (is_vec_after limit old) old
+  Prepares limit old = Grants limit (is_vec_after limit old) old
 
   -- a call that makes capacity for an insertion, which needs this much: it is granted, or it is refused and nothing has changed
   pub record PreparesOrRefuses {T : Type 0} (limit : ℕ) (eq : K → K → Bool) (old : State K V S) (needs : Option ℕ) (result : Result T Refusal) (new : State K V S) : Type 0 where

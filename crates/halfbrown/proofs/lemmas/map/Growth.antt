@@ -16,7 +16,7 @@ pub form_stays : (is_vec full : Bool) → full ≡ false → is_vec ≡ (is_vec 
 form_stays is_vec full e = grind (arith, common_steps)
 
 module _ {K V S : Type 0} (limit : ℕ) (old new : State K V S) where
-  capacity_by : (full : Bool) → Grants limit old.pairs (old.is_vec && not full) old (if full then Some (limit + 1) else None) new
+  capacity_by : (full : Bool) → Grants limit (old.is_vec && not full) old (if full then Some (limit + 1) else None) new
       → new.capacity ≡ (if full then least_table_capacity (limit + 1) else old.capacity)
   capacity_by full granted = grind (arith, common_steps)
 

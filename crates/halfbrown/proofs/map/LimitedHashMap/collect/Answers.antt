@@ -1,4 +1,4 @@
-use Rattle.halfbrown.proofs.Common.{arith, sym, subst, inl, inr, common_steps, GrewBy, Gives}
+use Rattle.halfbrown.proofs.Common.{arith, subst, inl, inr, common_steps, GrewBy, Gives}
 use Rattle.std.specs.Iterator.{Drains}
 use Rattle.halfbrown.specs.FromIter.{RefusedInsert, refused_cost}
 use Rattle.halfbrown.proofs.lemmas.map.Collect.{at_error, collection_of, inserts_asked, inserts_state, made_with}
