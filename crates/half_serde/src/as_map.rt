@@ -1,7 +1,7 @@
 //! A map as the value of a field: `#[serde(with = "half_serde::as_map")]`. The field stays a map, of any limit.
 ghost use Rattle.std.specs.Prelude.{IfOk, OnOk};
 ghost use Rattle.serde.specs.Event.{WritesEntry, WritesMap};
-ghost use Rattle.half_serde.specs.Reading.{ReadsMap};
+ghost use Rattle.half_serde.specs.Reading.{Anything, ReadsMap};
 
 use crate::read::{Borrowing, read_map};
 use halfbrown::{Limit, LimitedHashMap};
@@ -42,8 +42,9 @@ fn write_entry<K: Serialize, V: Serialize, S: Serializer>(
 /// Reads a map, with the default of the builder's type. Each entry of the text is inserted, in order. Where memory is
 /// refused, it fails with what the format has for that.
 ///
-/// The clause says that each entry that begins gives a pair. Which pair that is, no clause says: it is what the impls
-/// of the key and of the value read.
+/// The clause says that a map begins and ends, and that for each pair that the reading gave an entry begins. Which pair
+/// that is, and how far its reading goes, it leaves open (`Anything`), since serde's traits do. The loop behind this is
+/// proved for any reading of keys and values, and passes over no entry.
 pub fn deserialize<
     'de,
     K: Deserialize<'de> + Eq + Hash,
@@ -55,7 +56,7 @@ pub fn deserialize<
     alloc: Global,
     from: &mut Deserializer<'de, '_, F>,
 ) -> Result<LimitedHashMap<K, V, H, L>, F::Error>
-    ensures { IfOk result (λ map. ReadsMap F.gives K.eq H.is_default from.old map from.new) }
+    ensures { IfOk result (λ map. ReadsMap F.gives Anything Anything K.eq H.is_default from.old map from.new) }
 {
     read_map::<Borrowing, _, _, _, _, _>(alloc, from)
 }

@@ -1,7 +1,7 @@
 //! A map that implements the traits itself.
 ghost use Rattle.std.specs.Prelude.{◌≡◌, [], IfOk};
 ghost use Rattle.serde.specs.Event.{WritesMap};
-ghost use Rattle.half_serde.specs.Reading.{ReadsMap};
+ghost use Rattle.half_serde.specs.Reading.{Anything, ReadsMap};
 
 #[cfg(test)]
 mod tests;
@@ -75,7 +75,7 @@ impl<
         from: &mut Deserializer<'de, '_, F>,
     ) -> Result<Self, F::Error>
         ensures { IfOk result
-            (λ map. ReadsMap F.gives K.eq S.is_default from.old map.0 from.new) }
+            (λ map. ReadsMap F.gives Anything Anything K.eq S.is_default from.old map.0 from.new) }
     {
         Ok(Map(as_map::deserialize(alloc, from)?))
     }
@@ -93,7 +93,7 @@ impl<
         from: &mut Deserializer<'_, '_, F>,
     ) -> Result<Self, F::Error>
         ensures { IfOk result
-            (λ map. ReadsMap F.gives K.eq S.is_default from.old map.0 from.new) }
+            (λ map. ReadsMap F.gives Anything Anything K.eq S.is_default from.old map.0 from.new) }
     {
         Ok(Map(read_map::<Owning, _, _, _, _, _>(alloc, from)?))
     }

@@ -40,7 +40,20 @@ fn a_missing_map_is_empty_by_default(rt: HostRuntime) -> Result<(), Fail> {
     let order: Order = serde_json::from_str(alloc, r#"{"counts":{},"marks":{}}"#)?;
     assert!(rt; order.counts.is_empty() && order.prices.0.is_empty());
     assert!(rt; serde_json::from_str::<Order>(alloc, r#"{"counts":{}}"#).is_err());
-    assert!(rt; serde_json::from_str::<Object<u64>>(alloc, r#"{"a":1,}"#).is_err());
+    Ok(())
+}
+
+#[test]
+fn an_error_in_the_middle_fails_the_read(rt: HostRuntime) -> Result<(), Fail> {
+    let alloc = rt.alloc();
+    for text in [
+        r#"{"a":1,}"#,
+        r#"{"a":1,"b" 2,"c":3}"#,
+        r#"{"a":1,"b":true,"c":3}"#,
+        r#"{"a":1,2:2,"c":3}"#,
+    ] {
+        assert!(rt; serde_json::from_str::<Object<u64>>(alloc, text).is_err());
+    }
     Ok(())
 }
 
@@ -59,11 +72,12 @@ fn the_last_value_stands_at_the_first_place(rt: HostRuntime) -> Result<(), Fail>
 fn a_large_map_is_read_into_a_table(rt: HostRuntime) -> Result<(), Fail> {
     let alloc = rt.alloc();
     let mut squares = Map::from(HashMap::<u64, u64>::new(alloc));
-    for root in 0..33 {
-        squares.0.insert(33 - root, root * root)?;
+    for root in 0..300 {
+        squares.0.insert(300 - root, root * root)?;
     }
     let text = serde_json::to_string(alloc, &squares)?;
     let read: Map<u64, u64> = serde_json::from_str(alloc, &text)?;
+    assert_eq!(rt; read.0.len(), 300);
     assert!(rt; read.0.is_map());
     assert_eq!(rt; serde_json::to_string(alloc, &read)?, text);
     assert_eq!(rt; read, squares);

@@ -7,15 +7,17 @@ use Rattle.half_serde.proofs.read.read_map.Goals as goal
 pub loop-init : goal.loop-init
 loop-init g c =
     let made = c.default-map.ensures.made in
-    reads_none g.F.Format.gives g.K.PartialEq.eq g.H.Default.is_default c.begin_map.new.self c.default-map.result made.pairs made.builder
+    reads_none g.F.Format.gives g.R.Reads-1.reads g.R.Reads-2.reads g.K.PartialEq.eq g.H.Default.is_default c.begin_map.new.self
+    c.default-map.result made.pairs made.builder
 
 pub loop-preserved : goal.loop-preserved
 loop-preserved g c =
     let begins = rw c.if-not-branch.false at c.in_ok-next_entry.ensures in
     let puts : c.insert.new.self.pairs ≡ put g.K.PartialEq.eq c.loop.map.pairs c.in_ok-key.key c.in_ok-key.value = grind (arith, common_steps) in
     let same : c.insert.new.self.builder ≡ c.loop.map.builder = grind (arith, common_steps) in
-    reads_more g.F.Format.gives g.K.PartialEq.eq g.H.Default.is_default c.begin_map.new.self c.loop.from c.next_entry.new.self
-    c.read_pair.new.from c.loop.map c.insert.new.self c.in_ok-key.key c.in_ok-key.value c.loop.invariant begins puts same
+    reads_more g.F.Format.gives g.R.Reads-1.reads g.R.Reads-2.reads g.K.PartialEq.eq g.H.Default.is_default c.begin_map.new.self
+    c.loop.from c.read_pair.new.from c.loop.map c.insert.new.self c.in_ok-key.key c.in_ok-key.value c.loop.invariant
+    (c.next_entry.new.self, begins, c.in_ok-key.ensures) puts same
 
 pub returns-then-not-branch : goal.returns-then-not-branch
 returns-then-not-branch g c = record {
