@@ -208,9 +208,8 @@ impl<T: Eq + Hash + Drop> HashSet<T> {
     /// Inserts a value, and returns whether it is new. A new value comes last. Where an equal one is in the set, that one stays,
     /// and the given value is dropped.
     ///
-    /// Fails only where memory is needed: for a new value where no capacity is left, or to make a vector of 32 values a table,
-    /// also for a held one. Then nothing changes, and the given value is dropped. It costs one search, and that switch hashes
-    /// each value once.
+    /// It may fail for a new value, and for a held one only where there are exactly 32. Then nothing changes, and the given
+    /// value is dropped. It costs one search, and where a vector of 32 becomes a table, each value is hashed once.
     ///
     /// ```
     /// assert!(rt; seen.insert(3)?);

@@ -9,16 +9,16 @@ module _ {N M : Type 0} where
   abbrev pub innermost_first : {S : Type 0} → List (State N M S) → List (List (N × M))
   innermost_first scopes = reverse (map (λ scope. scope.pairs) scopes)
 
+  -- the names of the innermost scope, with their meanings
+  abbrev pub here : List (List (N × M)) → List (N × M)
+  here [] = []
+  here (scope ∷ outer) = scope
+
   module _ (eq : N → N → Bool) where
     -- what a name means in these scopes, the innermost first: what the first of them that declares it says
     abbrev pub meaning : List (List (N × M)) → N → Option M
     meaning [] name = None
     meaning (scope ∷ outer) name = option_or (value_of eq scope name) (meaning outer name)
-
-    -- what the innermost scope itself says of a name
-    abbrev pub meaning_here : List (List (N × M)) → N → Option M
-    meaning_here [] name = None
-    meaning_here (scope ∷ outer) name = value_of eq scope name
 
     -- the scopes once the innermost gives a name this meaning
     abbrev pub declared : List (List (N × M)) → N → M → List (List (N × M))

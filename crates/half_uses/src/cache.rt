@@ -1,8 +1,9 @@
 //! A cache whose keys are hashed once, by whoever asks for them.
-ghost use Rattle.std.specs.Prelude.{◌≡◌, None, Some, false, [], IfOk, OnOk, OnErr};
+ghost use Rattle.std.specs.Prelude.{◌≡◌, None, Some, false, [], IfErr, IfOk, OnOk, OnErr};
 ghost use Rattle.std.specs.Map.{keys_of};
 ghost use Rattle.std.specs.Option.{option_copied, UnwrapsOrElse};
 ghost use Rattle.halfbrown.specs.Costs.{IsSearchCost};
+ghost use Rattle.halfbrown.specs.Growth.{IsRefusal, new_key_needs};
 ghost use Rattle.halfbrown.specs.Pairs.{index_of, value_of, holds};
 
 use halfbrown::{KeyHasher, RawEntryMut, Refusal, SizedHashMap, Tally};
@@ -69,7 +70,8 @@ impl<K: Eq + Hash, V, S: BuildHasher> Cache<K, V, S> {
             .map(|pair| pair.1)
     }
 
-    /// The value of a key, which is computed where none is cached. Nothing is hashed. On error nothing changes.
+    /// The value of a key, which is computed where none is cached. Nothing is hashed. Fails only where the map needs memory for one
+    /// value more, also where this one is cached, and then nothing changes.
     pub fn get_or_insert_with<F: FnOnce() -> V>(
         &mut self,
         key: Hashed<K>,
@@ -87,6 +89,7 @@ impl<K: Eq + Hash, V, S: BuildHasher> Cache<K, V, S> {
             → value_of K.eq self.new.pairs other ≡ value_of K.eq self.old.pairs other) }
         ensures hashes { tally.new.asked ≡ tally.old.asked }
         ensures builder { self.new.builder ≡ self.old.builder }
+        ensures refused { IfErr result (IsRefusal (new_key_needs 0 self.old)) }
         ensures err { OnErr result (self.new ≡ self.old) }
     {
         value_in(&mut self.values, key.hash, key.key, compute, tally)
@@ -127,6 +130,7 @@ fn value_in<K: Eq + Hash + Drop, V: Copy, S: BuildHasher, F: FnOnce() -> V>(
         → value_of K.eq values.new.pairs other ≡ value_of K.eq values.old.pairs other) }
     ensures hashes { tally.new.asked ≡ tally.old.asked }
     ensures builder { values.new.builder ≡ values.old.builder }
+    ensures refused { IfErr result (IsRefusal (new_key_needs 0 values.old)) }
     ensures err { OnErr result (values.new ≡ values.old) }
 {
     let found = values

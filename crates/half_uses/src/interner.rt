@@ -1,6 +1,7 @@
 //! Texts as numbers, and numbers as texts.
-ghost use Rattle.std.specs.Prelude.{◌≡◌, ℕ, List, [], ◌∷◌, ◌++◌, length, slice_get, Some, None, IfOk, OnOk, OnErr, IfSome};
+ghost use Rattle.std.specs.Prelude.{◌≡◌, ◌⊎◌, ◌+◌, ℕ, List, [], ◌∷◌, ◌++◌, length, slice_get, Some, None, IfErr, IfOk, OnOk, OnErr, IfSome};
 ghost use Rattle.std.specs.Option.{option_copied};
+ghost use Rattle.halfbrown.specs.Refusal.{Memory, refusal_of};
 ghost use Rattle.half_uses.specs.Interner.{number_of, with_text};
 
 use halfbrown::{HashMap, Refusal};
@@ -52,7 +53,8 @@ impl Interner {
     }
 
     /// The number of a text, which is stored where it is new. Equal texts have equal numbers, different texts different ones, and
-    /// no later call changes a number. Only a new text can be refused. On error nothing changes.
+    /// no later call changes a number. Only a new text can be refused: memory, or that there are 2^60 texts. On error nothing
+    /// changes.
     pub fn intern(&mut self, text: &str) -> Result<usize, Refusal>
         ensures number { IfOk result (λ number. number_of self.new text.now ≡ Some number) }
         ensures resolves { IfOk result (λ number. slice_get self.new number ≡ Some text.now) }
@@ -60,6 +62,7 @@ impl Interner {
         ensures kept { (other : List ℕ) (number : ℕ) → number_of self.old other ≡ Some number
             → number_of self.new other ≡ Some number }
         ensures new { OnErr result (number_of self.old text.now ≡ None) }
+        ensures why { IfErr result (λ why. (why ≡ Memory) ⊎ (why ≡ refusal_of (length self.old + 1))) }
         ensures err { OnErr result (self.new ≡ self.old) }
     {
         if let Some(number) = self.get(text) {
@@ -74,6 +77,7 @@ impl Interner {
     fn push(&mut self, text: &str) -> Result<(), Refusal>
         requires { number_of self.old text.now ≡ None }
         ensures after { OnOk result (self.new ≡ self.old ++ text.now ∷ []) }
+        ensures why { IfErr result (λ why. (why ≡ Memory) ⊎ (why ≡ refusal_of (length self.old + 1))) }
         ensures err { OnErr result (self.new ≡ self.old) }
     {
         let stored = String::from_str(self.alloc, text)?;

@@ -6,7 +6,7 @@ ghost use Rattle.std.specs.Prelude.{◌≡◌, ◌≢◌, ◌+◌, ◌^◌, ◌<
 ghost use Rattle.std.specs.Prelude.{IfErr, IfOk, OnErr, OnOk};
 ghost use Rattle.std.specs.String.{string_eq};
 ghost use Rattle.std.proofs.Props.{props};
-ghost use Rattle.halfbrown.specs.Growth.{insert_needs};
+ghost use Rattle.halfbrown.specs.Growth.{insert_needs, IsRefusal};
 ghost use Rattle.halfbrown.specs.Iter.{pairs_left};
 ghost use Rattle.halfbrown.specs.Pairs.{value_of, put};
 ghost use Rattle.half_uses.specs.Labels.{labels_number, with_more};
@@ -66,8 +66,8 @@ impl Labels {
         self.texts.get(name)
     }
 
-    /// Gives a name its text, and returns the one that it had. It costs one search. Fails where the map's `insert` does, and then
-    /// nothing changes, and the error has name and text.
+    /// Gives a name its text, and returns the one that it had. It costs one search. Fails only where the map
+    /// needs memory, and then nothing changes, and the error has name, text and reason.
     ///
     /// ```
     /// let before = labels.set(String::from_str(alloc, "status")?, String::from_str(alloc, "404")?)?;
@@ -79,6 +79,7 @@ impl Labels {
     ) -> Result<Option<String>, Refused<String, String>>
         ensures before { IfOk result (λ old. old ≡ value_of string_eq self.old.texts.pairs name) }
         ensures after { OnOk result (self.new.texts.pairs ≡ put string_eq self.old.texts.pairs name text) }
+        ensures refused { IfErr result (λ refused. IsRefusal (insert_needs 32 string_eq self.old.texts name) refused.why) }
         ensures err { OnErr result (self.new.texts ≡ self.old.texts) }
         ensures handed_back { IfErr result (λ refused. (refused.key ≡ name) × (refused.value ≡ text)) }
     {

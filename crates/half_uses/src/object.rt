@@ -1,8 +1,9 @@
 //! Objects of a document: members by name, in the order of the document.
 ghost use Rattle.std.specs.Map.{lookup};
-ghost use Rattle.std.specs.Prelude.{◌≡◌, true, not, [], filter, length, IfOk, OnOk, OnErr, IfErr};
+ghost use Rattle.std.specs.Prelude.{◌≡◌, ◌+◌, true, not, [], filter, length, IfOk, OnOk, OnErr, IfErr};
 ghost use Rattle.std.specs.Option.{option_copied};
 ghost use Rattle.halfbrown.specs.Pairs.{value_of, holds, holds_by, put};
+ghost use Rattle.halfbrown.specs.Refusal.{refusal_of};
 ghost use Rattle.halfbrown.specs.Equality.{same_pairs};
 ghost use Rattle.halfbrown.specs.Iter.{pairs_left};
 
@@ -44,14 +45,15 @@ impl<N: Eq + Hash, V> Object<N, V> {
         self.members.len()
     }
 
-    /// Gives a member its value, and returns the value that it had. A new member comes last. It fails where the map's `insert`
-    /// does: for a held member only where there are exactly 32. On error nothing changes.
+    /// Gives a member its value, and returns the value that it had. A new member comes last. Setting a held one
+    /// fails only where there are exactly 32. On error nothing changes.
     pub fn set(&mut self, name: N, value: V) -> Result<Option<V>, Refused<N, V>>
     where
         N: Drop,
         ensures before { IfOk result (λ old. old ≡ value_of N.eq self.old name) }
         ensures after { OnOk result (self.new ≡ put N.eq self.old name value) }
         ensures held { OnErr result (holds N.eq self.old name ≡ true → length self.old ≡ 32) }
+        ensures why { IfErr result (λ refused. refused.why ≡ refusal_of (length self.old + 1)) }
         ensures err { OnErr result (self.new ≡ self.old) }
         ensures handed_back { IfErr result (λ refused. (refused.key ≡ name) × (refused.value ≡ value)) }
     {

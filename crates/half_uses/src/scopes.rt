@@ -1,7 +1,9 @@
 //! Names in scopes within one another, as a compiler keeps them.
-ghost use Rattle.std.specs.Prelude.{◌≡◌, [], ◌∷◌, drop, length, IfOk, OnOk, OnErr, IfErr, Some, false, IsTrue, IsFalse};
+ghost use Rattle.std.specs.Prelude.{◌≡◌, ◌+◌, [], ◌∷◌, drop, length, IfOk, OnOk, OnErr, IfErr, Some, true, false, IsTrue, IsFalse};
 ghost use Rattle.std.specs.Option.{option_copied};
-ghost use Rattle.half_uses.specs.Scopes.{innermost_first, meaning, meaning_here, declared};
+ghost use Rattle.halfbrown.specs.Pairs.{holds, value_of};
+ghost use Rattle.halfbrown.specs.Refusal.{refusal_of};
+ghost use Rattle.half_uses.specs.Scopes.{innermost_first, meaning, here, declared};
 
 use halfbrown::{DefaultHashBuilder, Refused, SizedHashMap};
 use std::alloc::{AllocError, Global};
@@ -70,15 +72,18 @@ impl<N: Eq + Hash, M> Scopes<N, M> {
         }
     }
 
-    /// Gives a name its meaning in the innermost scope, and returns the meaning that it had there. On error nothing changes.
+    /// Gives a name its meaning in the innermost scope, and returns the meaning that it had there. A name that it
+    /// has there is refused only where there are exactly 8. On error nothing changes.
     pub fn declare(&mut self, name: N, new_meaning: M) -> Result<Option<M>, Refused<N, M>>
     where
         N: Drop,
-        ensures before { IfOk result (λ old. old ≡ meaning_here N.eq self.old name) }
+        ensures before { IfOk result (λ old. old ≡ value_of N.eq (here self.old) name) }
         ensures after { OnOk result (self.new ≡ declared N.eq self.old name new_meaning) }
         ensures means { OnOk result (meaning N.eq self.new name ≡ Some new_meaning) }
         ensures others { OnOk result ((other : N) → N.eq name other ≡ false
             → meaning N.eq self.new other ≡ meaning N.eq self.old other) }
+        ensures held { OnErr result (holds N.eq (here self.old) name ≡ true → length (here self.old) ≡ 8) }
+        ensures why { IfErr result (λ refused. refused.why ≡ refusal_of (length (here self.old) + 1)) }
         ensures err { OnErr result (self.new ≡ self.old) }
         ensures handed_back { IfErr result (λ refused. (refused.key ≡ name) × (refused.value ≡ new_meaning)) }
     {
