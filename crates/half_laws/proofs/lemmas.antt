@@ -1,5 +1,4 @@
 -- Lemmas, by the module of src/ whose functions need them.
-pub mod crowding
 pub mod equality
 pub mod means
 pub mod hits

@@ -1,7 +1,7 @@
 -- How many buckets searches read that find their keys: together as many as insertions, whatever was inserted and removed before.
 --
 -- Keys do not appear in a mean, only the hashes that held keys may have. Nothing is said of how likely a builder makes them.
-use Rattle.std.specs.Prelude.{◌≡◌, ℕ, ◌+◌, ◌^◌, ◌<◌, ◌≤◌, Bool, false, length, Option, Some, IsPermutation, List}
+use Rattle.std.specs.Prelude.{◌≡◌, ℕ, ◌+◌, ◌<◌, Bool, false, length, Option, Some, IsPermutation, List}
 use Rattle.std.specs.Map.{keys_of}
 use Rattle.half_store.specs.Capacity.{buckets_of}
 use Rattle.half_store.specs.PairLists.{index_of}
@@ -9,8 +9,9 @@ use Rattle.half_store.specs.Reach.{filling_reach}
 use Rattle.half_store.specs.Work.{Work, sum_below}
 use Rattle.half_mean.specs.Mean.{sum_lists, filling_cases, MeanIsAtMost}
 use Rattle.halfbrown.specs.Costs.{IsSearchCost, hit_reads, filling_reads}
-use Rattle.halfbrown.specs.State.{State, IsValid, IsTableCapacity}
+use Rattle.halfbrown.specs.State.{State, IsValid}
 use Rattle.half_laws.specs.MapLaws.{HoldSamePairs}
+use Rattle.half_laws.specs.MeanLaws.{InHalfFullTables, InTables}
 
 module _ {K : Type 0} (V : Type 0) {S : Type 0} (hash : S → K → ℕ) where
   -- in a table a search that finds the pair at this index, by any query for its key, reads as many buckets each time
@@ -43,13 +44,12 @@ FillingOrderLaw = (buckets : ℕ) (some others : List ℕ) → length some < buc
 abbrev pub total_hits : (hashes capacity held : ℕ) → ℕ
 total_hits hashes capacity held = sum_lists hashes held (λ list. filling_reach (buckets_of capacity) list)
 
--- for hashes of `bits` bits the mean over these cases and their pairs is at most `over / under` in a table that is at most half full
-abbrev pub HalfFullHitLaw : (over under : ℕ) → Type 0
-HalfFullHitLaw over under = (bits capacity held : ℕ) → IsTableCapacity capacity → 0 < capacity → buckets_of capacity ≤ 2 ^ bits
-    → held + held ≤ buckets_of capacity
-    → MeanIsAtMost (total_hits (2 ^ bits) capacity held) (filling_cases (2 ^ bits) held) over under
+-- the mean over these cases and their pairs is at most `over / under`
+abbrev pub MeanHitIsAtMost : (over under hashes capacity held : ℕ) → Type 0
+MeanHitIsAtMost over under hashes capacity held = MeanIsAtMost (total_hits hashes capacity held) (filling_cases hashes held) over under
 
--- and in every table
+abbrev pub HalfFullHitLaw : (over under : ℕ) → Type 0
+HalfFullHitLaw over under = InHalfFullTables (MeanHitIsAtMost over under)
+
 abbrev pub CapacityHitLaw : (over under : ℕ) → Type 0
-CapacityHitLaw over under = (bits capacity held : ℕ) → IsTableCapacity capacity → 0 < capacity → buckets_of capacity ≤ 2 ^ bits → held ≤ capacity
-    → MeanIsAtMost (total_hits (2 ^ bits) capacity held) (filling_cases (2 ^ bits) held) over under
+CapacityHitLaw over under = InTables (MeanHitIsAtMost over under)

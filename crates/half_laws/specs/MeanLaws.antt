@@ -30,13 +30,22 @@ MissLaw {K} V {S} hash = (m : State K V S) (test : K → Bool) (wanted asked : �
 abbrev pub MissTotalLaw : Type 0
 MissTotalLaw = (hashes capacity held : ℕ) → total_misses hashes capacity held ≡ total_reach hashes (buckets_of capacity) held
 
--- for hashes of `bits` bits the mean of a table that is at most half full is at most `over / under`
-abbrev pub HalfFullMissLaw : (over under : ℕ) → Type 0
-HalfFullMissLaw over under = (bits capacity held : ℕ) → IsTableCapacity capacity → 0 < capacity → buckets_of capacity ≤ 2 ^ bits
-    → held + held ≤ buckets_of capacity
-    → MeanIsAtMost (total_misses (2 ^ bits) capacity held) (reach_cases (2 ^ bits) held) over under
+-- the law holds of all tables that are at most half full, for hashes of `bits` bits
+abbrev pub InHalfFullTables : (Law : (hashes capacity held : ℕ) → Type 0) → Type 0
+InHalfFullTables Law = (bits capacity held : ℕ) → IsTableCapacity capacity → 0 < capacity → buckets_of capacity ≤ 2 ^ bits
+    → held + held ≤ buckets_of capacity → Law (2 ^ bits) capacity held
 
--- and that of every table
+-- and of every table
+abbrev pub InTables : (Law : (hashes capacity held : ℕ) → Type 0) → Type 0
+InTables Law = (bits capacity held : ℕ) → IsTableCapacity capacity → 0 < capacity → buckets_of capacity ≤ 2 ^ bits → held ≤ capacity
+    → Law (2 ^ bits) capacity held
+
+-- the mean of a miss is at most `over / under`
+abbrev pub MeanMissIsAtMost : (over under hashes capacity held : ℕ) → Type 0
+MeanMissIsAtMost over under hashes capacity held = MeanIsAtMost (total_misses hashes capacity held) (reach_cases hashes held) over under
+
+abbrev pub HalfFullMissLaw : (over under : ℕ) → Type 0
+HalfFullMissLaw over under = InHalfFullTables (MeanMissIsAtMost over under)
+
 abbrev pub CapacityMissLaw : (over under : ℕ) → Type 0
-CapacityMissLaw over under = (bits capacity held : ℕ) → IsTableCapacity capacity → 0 < capacity → buckets_of capacity ≤ 2 ^ bits → held ≤ capacity
-    → MeanIsAtMost (total_misses (2 ^ bits) capacity held) (reach_cases (2 ^ bits) held) over under
+CapacityMissLaw over under = InTables (MeanMissIsAtMost over under)

@@ -2,8 +2,8 @@
 ghost use Rattle.half_laws.specs.MapLaws.{HistoryLaw, InsertionHistoryLaw, CommandCostLaw, CommandHashesLaw, CommandBucketsLaw};
 ghost use Rattle.half_laws.specs.MapLaws.{CrowdedSearchLaw, CrowdedInsertionLaw, CrowdedGrowthLaw, CrowdedUncheckedLaw, CrowdedProbeLaw};
 ghost use Rattle.half_laws.specs.HitLaws.{HitLaw, HitTotalLaw, HitHistoryLaw, FillingOrderLaw, HalfFullHitLaw, CapacityHitLaw};
-ghost use Rattle.half_laws.specs.MeanLaws.{MissLaw, MissTotalLaw, HalfFullMissLaw, CapacityMissLaw};
-ghost use Rattle.half_laws.specs.TailLaws.{HalfFullLongMissLaw, CapacityLongMissLaw, MostReadsLaw, HalfFullMostReadsLaw, CapacityMostReadsLaw};
+ghost use Rattle.half_laws.specs.MeanLaws.{MissLaw, MissTotalLaw, HalfFullMissLaw, CapacityMissLaw, InHalfFullTables, InTables};
+ghost use Rattle.half_laws.specs.TailLaws.{LongMissesAreRare, MostReadsLaw, LongSearchesAreRare};
 
 use halfbrown::{KeyHasher, Limit};
 use std::hash::Hash;
@@ -42,21 +42,21 @@ pub fn mean_of_a_miss<K: Eq + Hash, V, S: KeyHasher<K>>()
     ensures within_capacity { CapacityMissLaw 17 2 }
 {}
 
-/// How often a search that finds nothing reads many buckets, where all lists of the hashes of held keys are equally likely, and all
-/// searched hashes: more than `4 * s` in at most one of `2^s` cases in a table that is half full, and more than `20 * s` in
-/// any table. No hash function is known to make them so.
+/// How seldom a search that finds nothing reads many buckets, where all lists of the hashes of held keys are equally likely, and
+/// all searched hashes: more than `4 * s` in at most one of `2^s` cases in a table that is at most half full, and more than
+/// `20 * s` in any table. Nothing is said of how likely a builder makes a list of hashes.
 pub fn tail_of_a_miss()
-    ensures half_full { HalfFullLongMissLaw 4 }
-    ensures within_capacity { CapacityLongMissLaw 20 }
+    ensures half_full { InHalfFullTables (LongMissesAreRare 4) }
+    ensures within_capacity { InTables (LongMissesAreRare 20) }
 {}
 
-/// How many buckets any search in a table reads, whatever it finds and whatever was inserted and removed before, by any query for a
-/// key: in a table of at most `2^b` buckets at most `4 * (b + s)` where it is half full, and else at most `20 * (b + s)`, but for one
-/// of `2^s` lists of the hashes of held keys.
+/// How seldom any search in a table reads many buckets, by any query for a key, whatever it finds and whatever was inserted and
+/// removed before: in a table of at most `2^b` buckets no search reads more than `4 * (b + s)` where it is at most half full, and
+/// `20 * (b + s)` otherwise, but for at most one of `2^s` lists of the hashes of held keys.
 pub fn longest_search<K: Eq + Hash, V, S: KeyHasher<K>>()
     ensures reads { MostReadsLaw V S.hash }
-    ensures half_full { HalfFullMostReadsLaw 4 }
-    ensures within_capacity { CapacityMostReadsLaw 20 }
+    ensures half_full { InHalfFullTables (LongSearchesAreRare 4) }
+    ensures within_capacity { InTables (LongSearchesAreRare 20) }
 {}
 
 /// A search in a table that finds its key reads as many buckets each time, by any query for the key. The searches for all held

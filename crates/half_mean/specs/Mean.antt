@@ -81,15 +81,26 @@ abbrev pub MeanReachLaw : Type 0
 MeanReachLaw = (share buckets held : ℕ) → held < buckets
     → MeanReachIsAtMost (share * buckets) buckets held ((buckets - held) ^ 2 + buckets ^ 2) (2 * (buckets - held) ^ 2)
 
+-- the law holds of all tables of which at least one bucket in `per_empty` is empty, where each bucket is the home of `share` hashes
+abbrev pub AtLoad : (per_empty : ℕ) (Law : (hashes buckets held : ℕ) → Type 0) → Type 0
+AtLoad per_empty Law = (share buckets held : ℕ) → held < buckets → buckets ≤ per_empty * (buckets - held) → Law (share * buckets) buckets held
+
+-- it holds of all that are at most half full
+abbrev pub UpToHalf : (Law : (hashes buckets held : ℕ) → Type 0) → Type 0
+UpToHalf Law = (share buckets held : ℕ) → 0 < buckets → held + held ≤ buckets → Law (share * buckets) buckets held
+
+-- it holds of all within their capacity, for hashes of `bits` bits
+abbrev pub UpToCapacity : (Law : (hashes buckets held : ℕ) → Type 0) → Type 0
+UpToCapacity Law = (bits buckets held : ℕ) → 0 < buckets → IsBucketCount buckets → buckets ≤ 2 ^ bits → held ≤ capacity_of buckets
+    → Law (2 ^ bits) buckets held
+
 -- where at most half of the buckets are full, it is at most `over / under`
 abbrev pub HalfFullMeanLaw : (over under : ℕ) → Type 0
-HalfFullMeanLaw over under = (share buckets held : ℕ) → 0 < buckets → held + held ≤ buckets
-    → MeanReachIsAtMost (share * buckets) buckets held over under
+HalfFullMeanLaw over under = UpToHalf (λ hashes buckets held. MeanReachIsAtMost hashes buckets held over under)
 
--- within the capacity of a table it is, for hashes of `bits` bits
+-- within the capacity of a table it is
 abbrev pub CapacityMeanLaw : (over under : ℕ) → Type 0
-CapacityMeanLaw over under = (bits buckets held : ℕ) → 0 < buckets → IsBucketCount buckets → buckets ≤ 2 ^ bits → held ≤ capacity_of buckets
-    → MeanReachIsAtMost (2 ^ bits) buckets held over under
+CapacityMeanLaw over under = UpToCapacity (λ hashes buckets held. MeanReachIsAtMost hashes buckets held over under)
 
 -- the mean of the insertions that put `n` hashes into an empty table of `m` buckets is at most `(1 + m / (m - n)) / 2`
 abbrev pub MeanFillingLaw : Type 0
@@ -98,13 +109,11 @@ MeanFillingLaw = (share buckets held : ℕ) → held < buckets
 
 -- up to the half of a table it is at most `over / under`
 abbrev pub HalfFullFillingLaw : (over under : ℕ) → Type 0
-HalfFullFillingLaw over under = (share buckets held : ℕ) → 0 < buckets → held + held ≤ buckets
-    → MeanFillingIsAtMost (share * buckets) buckets held over under
+HalfFullFillingLaw over under = UpToHalf (λ hashes buckets held. MeanFillingIsAtMost hashes buckets held over under)
 
--- up to the capacity of a table it is at most `over / under`, for hashes of `bits` bits
+-- up to the capacity of a table it is at most `over / under`
 abbrev pub CapacityFillingLaw : (over under : ℕ) → Type 0
-CapacityFillingLaw over under = (bits buckets held : ℕ) → 0 < buckets → IsBucketCount buckets → buckets ≤ 2 ^ bits → held ≤ capacity_of buckets
-    → MeanFillingIsAtMost (2 ^ bits) buckets held over under
+CapacityFillingLaw over under = UpToCapacity (λ hashes buckets held. MeanFillingIsAtMost hashes buckets held over under)
 
 -- no bound over `under` holds that is smaller than `least / under`
 abbrev pub IsLeastOver : (ℕ → ℕ → Type 0) → (least under : ℕ) → Type 0

@@ -1,12 +1,12 @@
-//! How many buckets an unsuccessful probe reads on average, where all lists of held hashes are equally likely. These functions
-//! do nothing: the laws are their contracts.
+//! How many buckets an unsuccessful probe reads on average, and how seldom it reads many, where all lists of held hashes are
+//! equally likely. These functions do nothing: the laws are their contracts.
 #![tactic(auto)]
 
 ghost use Rattle.std.specs.Prelude.{◌≡◌, ◌+◌};
 ghost use Rattle.half_mean.specs.Mean.{total_reach, total_filling, knuth_sum, MeanCasesLaw, ExactMeanLaw, KnuthRecursionLaw};
 ghost use Rattle.half_mean.specs.Mean.{HomesMeanLaw, MeanReachLaw, HalfFullMeanLaw, CapacityMeanLaw, MeanFillingLaw, HalfFullFillingLaw};
-ghost use Rattle.half_mean.specs.Mean.{CapacityFillingLaw, IsLeastOver};
-ghost use Rattle.half_mean.specs.Tail.{long_probes, long_tables, TailLaw, LongestLaw, HalfFullTailLaw, CapacityTailLaw, HalfFullLongestLaw, CapacityLongestLaw};
+ghost use Rattle.half_mean.specs.Mean.{CapacityFillingLaw, IsLeastOver, UpToHalf, UpToCapacity};
+ghost use Rattle.half_mean.specs.Tail.{long_probes, long_tables, TailLaw, LongestLaw, LongProbesAreRare, LongTablesAreRare};
 
 /// There are `hashes ^ held` lists of `held` hashes below `hashes`. A mean is the total over all cases by their number: for
 /// a probe each list with each searched hash, and for a filling each list with each of its insertions.
@@ -36,21 +36,21 @@ pub fn mean_of_a_filling()
 {}
 
 /// Where all lists of held hashes are equally likely, and all searched hashes, few probes that find nothing are long. If at least
-/// one bucket of `k` is empty, more than `d` buckets are read in at most `(1 - 1 / D)^d` of all cases, where `D` is `k * (2 * k -
-/// 1)`: 6 up to the half of a table, and 28 up to the capacity. So each 4 buckets more, up to the half, and each 20, up to
-/// the capacity, halve the bound.
+/// one bucket in `k` is empty, more than `d` buckets are read in at most the part `(1 - 1 / D)^d` of all cases, where `D` is
+/// `k * (2 * k - 1)`: 6 up to the half of a table, and 28 up to its capacity. So more than `4 * s` up to the half, or `20 * s` up
+/// to the capacity, are read in at most one of `2^s` cases.
 pub fn tail_of_a_probe()
     ensures bound { TailLaw }
-    ensures half_full { HalfFullTailLaw 4 }
-    ensures within_capacity { CapacityTailLaw 20 }
+    ensures half_full { UpToHalf (LongProbesAreRare 4) }
+    ensures within_capacity { UpToCapacity (LongProbesAreRare 20) }
 {}
 
-/// In few tables any probe is long: in a table of `2^b` buckets no probe reads more than `4 * (b + s)` buckets up to its half, and
-/// `20 * (b + s)` up to its capacity, except for one of `2^s` lists of held hashes.
+/// Few tables have a long probe: the bound is that of one probe times the number of buckets. In a table of `2^b` buckets no
+/// probe reads more than `4 * (b + s)` up to the half, or `20 * (b + s)` up to the capacity, but for at most one of `2^s` lists.
 pub fn longest_probe_of_a_table()
-    ensures bound { LongestLaw }
-    ensures half_full { HalfFullLongestLaw 4 }
-    ensures within_capacity { CapacityLongestLaw 20 }
+    ensures bound { LongestLaw (λ buckets. buckets) }
+    ensures half_full { UpToHalf (LongTablesAreRare 4) }
+    ensures within_capacity { UpToCapacity (LongTablesAreRare 20) }
 {}
 
 /// These are the least of all halves that hold: 2.5 and 8.5 of a probe, and 1.5 and 2.5 of a filling. Probes of tables of 16

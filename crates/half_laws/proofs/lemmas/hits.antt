@@ -10,14 +10,13 @@ use Rattle.half_store.proofs.lemmas.capacity.{four-le_count}
 use Rattle.half_store.proofs.lemmas.table.Counts.{tick}
 use Rattle.half_store.proofs.lemmas.table.Filled.{IsTableOf, slots_with, table_of, filled}
 use Rattle.half_store.proofs.lemmas.table.Hits.{same_reads}
-use Rattle.half_mean.specs.Mean.{total_filling}
+use Rattle.half_mean.specs.Mean.{total_filling, MeanFillingIsAtMost}
 use Rattle.half_mean.proofs.lemmas.Filling.{filling_capacity_law, filling_half_full_law}
-use Rattle.half_mean.proofs.lemmas.Means.{bucket_share}
 use Rattle.halfbrown.specs.Costs.{hit_reads, filling_reads}
 use Rattle.halfbrown.specs.State.{State, IsValid}
 use Rattle.half_laws.specs.HitLaws.{HitLaw, HitTotalLaw, HitHistoryLaw, FillingOrderLaw, HalfFullHitLaw, CapacityHitLaw}
 use Rattle.half_laws.specs.MapLaws.{HoldSamePairs}
-use Rattle.half_laws.proofs.lemmas.means.{table_count}
+use Rattle.half_laws.proofs.lemmas.means.{table_count, in_half_full_tables, in_tables}
 
 pub filling_order : FillingOrderLaw
 filling_order m some others few p =
@@ -60,15 +59,10 @@ module _ {K : Type 0} (V : Type 0) {S : Type 0} (hash : S → K → ℕ) where
   hit_history_law limit eq a b wanted asked wanted' asked' found found' before after before' after' same is table cost cost' =
       cost.hits table ∙ filling-same limit eq a b same is table ∙ sym (cost'.hits (sym same.form ∙ table))
 
-pub capacity_hit_law : CapacityHitLaw 5 2
-unfolding total_filling
-capacity_hit_law bits capacity held is some fits within =
-    let count = table_count capacity is in
-    filling_capacity_law bits (buckets_of capacity) held (omega arith) count.0 fits (omega arith)
-
 pub half_full_hit_law : HalfFullHitLaw 3 2
 unfolding total_filling
-half_full_hit_law bits capacity held is some fits half =
-    let count = table_count capacity is in
-    let share = bucket_share bits (buckets_of capacity) 0 (omega arith) count.0 fits (omega arith) in
-    rw share.1 (filling_half_full_law share.0 (buckets_of capacity) held (omega arith) half)
+half_full_hit_law = in_half_full_tables (λ hashes m n. MeanFillingIsAtMost hashes m n 3 2) filling_half_full_law
+
+pub capacity_hit_law : CapacityHitLaw 5 2
+unfolding total_filling
+capacity_hit_law = in_tables (λ hashes m n. MeanFillingIsAtMost hashes m n 5 2) filling_capacity_law

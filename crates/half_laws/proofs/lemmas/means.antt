@@ -3,11 +3,11 @@ use Rattle.std.proofs.Common.{◌≡◌, ℕ, refl, arith}
 use Rattle.std.proofs.lemmas.Grind.{common_steps}
 use Rattle.half_store.specs.Capacity.{buckets_of, capacity_of, IsBucketCount}
 use Rattle.half_store.proofs.lemmas.capacity.{buckets_for-least, buckets_of-capacity_of}
-use Rattle.half_mean.specs.Mean.{total_reach}
+use Rattle.half_mean.specs.Mean.{total_reach, MeanReachIsAtMost, UpToHalf, UpToCapacity}
 use Rattle.half_mean.proofs.lemmas.Means.{bucket_share, half_full_law, capacity_law}
 use Rattle.halfbrown.specs.State.{IsTableCapacity}
 use Rattle.halfbrown.proofs.lemmas.pairs.Indices.{absent_of_unheld}
-use Rattle.half_laws.specs.MeanLaws.{MissLaw, MissTotalLaw, HalfFullMissLaw, CapacityMissLaw}
+use Rattle.half_laws.specs.MeanLaws.{MissLaw, MissTotalLaw, InHalfFullTables, InTables, HalfFullMissLaw, CapacityMissLaw}
 
 pub miss_law : {K : Type 0} (V : Type 0) {S : Type 0} (hash : S → K → ℕ) → MissLaw V hash
 miss_law V hash m test wanted asked before after table unheld costs =
@@ -23,15 +23,23 @@ miss_total_law hashes capacity held = refl
 pub table_count : (capacity : ℕ) → IsTableCapacity capacity → IsBucketCount (buckets_of capacity) × (capacity_of (buckets_of capacity) ≡ capacity)
 table_count capacity is = grind (arith, common_steps, buckets_for-least, buckets_of-capacity_of)
 
-pub capacity_miss_law : CapacityMissLaw 17 2
-unfolding total_reach
-capacity_miss_law bits capacity held is some fits within =
-    let count = table_count capacity is in
-    capacity_law bits (buckets_of capacity) held (omega arith) count.0 fits (omega arith)
+-- what holds of bucket counts holds of the capacities of tables
+module _ (Law : ℕ → ℕ → ℕ → Type 0) where
+  pub in_half_full_tables : UpToHalf Law → InHalfFullTables (λ hashes capacity held. Law hashes (buckets_of capacity) held)
+  in_half_full_tables law bits capacity held is some fits half =
+      let count = table_count capacity is in
+      let share = bucket_share bits (buckets_of capacity) (omega arith) count.0 fits in
+      rw share.1 (law share.0 (buckets_of capacity) held (omega arith) half)
+
+  pub in_tables : UpToCapacity Law → InTables (λ hashes capacity held. Law hashes (buckets_of capacity) held)
+  in_tables law bits capacity held is some fits within =
+      let count = table_count capacity is in
+      law bits (buckets_of capacity) held (omega arith) count.0 fits (omega arith)
 
 pub half_full_miss_law : HalfFullMissLaw 5 2
 unfolding total_reach
-half_full_miss_law bits capacity held is some fits half =
-    let count = table_count capacity is in
-    let share = bucket_share bits (buckets_of capacity) 0 (omega arith) count.0 fits (omega arith) in
-    rw share.1 (half_full_law share.0 (buckets_of capacity) held (omega arith) half)
+half_full_miss_law = in_half_full_tables (λ hashes m n. MeanReachIsAtMost hashes m n 5 2) half_full_law
+
+pub capacity_miss_law : CapacityMissLaw 17 2
+unfolding total_reach
+capacity_miss_law = in_tables (λ hashes m n. MeanReachIsAtMost hashes m n 17 2) capacity_law

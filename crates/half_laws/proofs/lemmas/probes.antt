@@ -1,23 +1,42 @@
 -- What holds of `reach` for every list of held hashes.
-use Rattle.std.proofs.Common.{◌≡◌, ℕ, zero, suc, ◌-◌, ◌<◌, ◌≤◌, true, false, nat_lt, inl, inr, refl, ap, subst, arith, List}
+use Rattle.std.proofs.Common.{◌≡◌, ℕ, zero, suc, ◌-◌, ◌<◌, ◌≤◌, true, false, leb, nat_lt, inl, inr, refl, ap, ◌∙◌, subst, arith, List}
 use Rattle.std.proofs.Common.{length, get_or, sum_by, Contains}
 use Rattle.std.proofs.lemmas.Grind.{common_steps}
-use Rattle.std.proofs.lemmas.Bool.{cases_lt, cases_eq, cases_Bool, lt-ltb, both_ways}
-use Rattle.std.proofs.lemmas.List.Sums.{get_or-le-sum_by}
-use Rattle.half_store.specs.Reach.{home, probe_distance, bucket_after, load, bucket_is_loaded, loaded_run, reach, IsLoaded}
+use Rattle.std.proofs.lemmas.Bool.{cases_lt, cases_eq, cases_Bool, or_cases, leb-true, lt-ltb, both_ways, false≢true}
+use Rattle.std.proofs.lemmas.List.Sums.{get_or-le-sum_by, count_by-le-length}
+use Rattle.half_store.specs.Reach.{home, probe_distance, bucket_after, load, loaded_within, bucket_is_loaded, loaded_run, reach, IsLoaded}
 use Rattle.half_laws.specs.ProbeLaws.{IsCrowded, PassesLoaded, ReachHistoryLaw, NoBucketsLaw, NothingHeldLaw, OneBucketLaw, SharedHomeLaw}
 use Rattle.half_laws.specs.ProbeLaws.{ShortLaw, OnceRoundLaw, CrowdingLaw, StopsLaw}
 use Rattle.half_store.proofs.lemmas.table.Circle.{distance_is, distance_self, after_is, bucket_after-zero, after_next, bucket_after-lt}
 use Rattle.half_store.proofs.lemmas.table.Counts.{tick, tick_yes}
-use Rattle.half_laws.proofs.lemmas.crowding.{load-le, loaded_from, run_leads}
+unfoldable use Rattle.half_store.proofs.lemmas.table.Filled.{stop}
+use Rattle.half_store.proofs.lemmas.table.Filled.{probe_stops, crowd_of_probe}
 use Rattle.half_store.proofs.lemmas.table.History.{reach-permutation}
-use Rattle.half_store.proofs.lemmas.table.Reach.{bucket_is_loaded-yes, loaded_run-is, reach-none, reach-some}
+use Rattle.half_store.proofs.lemmas.table.Reach.{bucket_is_loaded-yes, loaded_run-is, loaded_run-ge, reach-none, reach-some}
 use Rattle.half_store.proofs.lemmas.table.Slots.{home-lt}
 
 pub history_law : ReachHistoryLaw
 history_law some others m hash p = reach-permutation some others m hash p
 
 module _ (hashes : List ℕ) (m : ℕ) where
+  loaded_within-size : (last most : ℕ) → loaded_within hashes m last most ≡ true → (size : ℕ) × (1 ≤ size) × (size ≤ most)
+      × (size ≤ load hashes m last size)
+  unfolding loaded_within
+  loaded_within-size last zero e = absurd (false≢true e)
+  loaded_within-size last (suc most) e =
+      elim (or_cases (leb (suc most) (load hashes m last (suc most))) (loaded_within hashes m last most) e) [
+        | inl full ↦ (suc most, omega arith, omega arith, leb-true _ _ full)
+        | inr rest ↦ let r = loaded_within-size last most rest in (r.0, r.1, omega (arith, r.2), r.3)
+      ]
+
+  -- what the test of a loaded bucket says
+  loaded_from : (last : ℕ) → bucket_is_loaded hashes m last ≡ true → IsLoaded hashes m last
+  loaded_from last e = let r = loaded_within-size last (m - 1) e in (r.0, r.1, omega (arith, r.1, r.2), r.3)
+
+  load-le : (last size : ℕ) → load hashes m last size ≤ length hashes
+  unfolding load
+  load-le last size = count_by-le-length (λ hash. nat_lt (probe_distance m (home m hash) last) size) hashes
+
   pub loaded_run-le : (most bucket : ℕ) → loaded_run hashes m most bucket ≤ most
   unfolding loaded_run
   loaded_run-le zero bucket = omega arith
@@ -49,72 +68,44 @@ module _ (hashes : List ℕ) (m : ℕ) where
             ]
       ]
 
-  -- the bucket that follows a run that did not go on to the end is not
-  loaded_run-stops : (most b : ℕ) → b < m → most < m → loaded_run hashes m most b < most
-      → bucket_is_loaded hashes m (bucket_after m b (loaded_run hashes m most b)) ≡ false
-  unfolding loaded_run
-  loaded_run-stops zero b in_b in_most l = absurd (omega arith)
-  loaded_run-stops (suc most) b in_b in_most l =
-      elim (cases_Bool (bucket_is_loaded hashes m b)) [
-        | inr e ↦ rw (e, bucket_after-zero m b in_b) e
-        | inl e ↦
-            let l' : suc (loaded_run hashes m most (bucket_after m b 1)) < suc most = rw e at l in
-            let in_next = bucket_after-lt m b in_b 1 (omega arith) in
-            let rest = loaded_run-stops most (bucket_after m b 1) in_next (omega arith) (omega arith) in
-            rw (e, ← after_next m b in_b (loaded_run hashes m most (bucket_after m b 1)) (omega arith)) rest
-      ]
-
   pub not_loaded : (last : ℕ) → bucket_is_loaded hashes m last ≡ false → IsLoaded hashes m last → ⊥
   not_loaded last e loaded = both_ways (bucket_is_loaded hashes m last) e (bucket_is_loaded-yes hashes m last loaded)
 
   pub unloaded : (last : ℕ) → (IsLoaded hashes m last → ⊥) → bucket_is_loaded hashes m last ≡ false
   unloaded last free = grind (arith, common_steps, loaded_from)
 
-  -- a run of as many loaded buckets as the table has would be home to as many hashes
-  full_circle : (b : ℕ) → b < m → length hashes < m → ((k : ℕ) → k < m → bucket_is_loaded hashes m (bucket_after m b k) ≡ true) → ⊥
-  full_circle b in_b few run =
-      let last : ℕ = bucket_after m b (m - 1) in
-      let lead = run_leads hashes m last (bucket_after-lt m b in_b (m - 1) (omega arith)) few m
-      (λ back l.
-      let same : bucket_after m last (m - back) ≡ bucket_after m b (m - 1 - back) =
-      omega (arith, after_is m b (m - 1), after_is m last (m - back), after_is m b (m - 1 - back)) in
-      rw same (run (m - 1 - back) (omega arith))) in
-      absurd (omega (arith, lead.1, lead.2))
+  -- the first bucket after a run is not
+  run-stops : (hash : ℕ) → length hashes < m → IsLoaded hashes m (bucket_after m (home m hash) (loaded_run hashes m (m - 1) (home m hash))) → ⊥
+  unfolding stop
+  run-stops hash few =
+      let run : reach hashes m hash - 1 ≡ loaded_run hashes m (m - 1) (home m hash) = omega (arith, reach-some hashes m hash (omega arith)) in
+      not_loaded _ (subst (λ k. bucket_is_loaded hashes m (bucket_after m (home m hash) k) ≡ false) run (probe_stops m hashes hash few))
 
-  -- the bucket that a probe passed last, where `d` are passed
-  crowded_run : (hash d : ℕ) → 0 < m → length hashes < m → d ≤ loaded_run hashes m (m - 1) (home m hash) → IsCrowded hashes m hash d
-  crowded_run hash d some few long =
-      let b : ℕ = home m hash in
-      let in_b : b < m = home-lt m hash some in
-      let most = loaded_run-le (m - 1) b in
-      let last : ℕ = bucket_after m b (d - 1) in
-      let in_last : last < m = bucket_after-lt m b in_b (d - 1) (omega arith) in
-      let lead = run_leads hashes m last in_last few d
-      (λ back l.
-      let same : bucket_after m last (m - back) ≡ bucket_after m b (d - 1 - back) =
-      omega (arith, after_is m b (d - 1), after_is m last (m - back), after_is m b (d - 1 - back)) in
-      rw same (loaded_run-loaded (m - 1) b in_b (omega arith) (d - 1 - back) (omega arith))) in
-      record {
-        last = last;
-        size = lead.0;
-        within = in_last;
-        partial = lead.2;
-        long = lead.1;
-        covers = λ step l. omega (
-          arith,
-          lead.1,
-          after_is m b (d - 1),
-          after_is m b step,
-          distance_is m (bucket_after m b step) last (bucket_after-lt m b in_b step (omega arith)),
-        );
-        crowded = lead.3;
-      }
+pub crowding_law : CrowdingLaw
+crowding_law hashes m hash passed few more =
+    let b : ℕ = home m hash in
+    let in_b : b < m = home-lt m hash (omega arith) in
+    let last : ℕ = bucket_after m b (passed - 1) in
+    let crowd = crowd_of_probe m hashes hash few passed more in
+    let within : passed < m = omega (arith, crowd.1, crowd.2) in
+    record {
+      last = last;
+      size = crowd.0;
+      within = bucket_after-lt m b in_b (passed - 1) (omega arith);
+      partial = crowd.2;
+      long = crowd.1;
+      covers = λ step l. omega (
+        arith,
+        crowd.1,
+        after_is m b (passed - 1),
+        after_is m b step,
+        distance_is m (bucket_after m b step) last (bucket_after-lt m b in_b step (omega arith)),
+      );
+      crowded = crowd.3;
+    }
 
 pub no_buckets_law : NoBucketsLaw
 no_buckets_law hashes hash = reach-none hashes 0 hash refl
-
-pub crowding_law : CrowdingLaw
-crowding_law hashes m hash passed few l = grind (arith, common_steps, crowded_run, reach-some)
 
 pub once_round_law : OnceRoundLaw
 once_round_law hashes m hash =
@@ -128,12 +119,11 @@ short_law hashes m hash =
     elim (cases_lt (length hashes) m) [
       | inr ge ↦ omega (arith, once_round_law hashes m hash)
       | inl few ↦
-          let some : 0 < m = omega arith in
-          let run : ℕ = loaded_run hashes m (m - 1) (home m hash) in
-          let c = crowded_run hashes m hash run some few (omega arith) in
+          let is = reach-some hashes m hash (omega arith) in
+          let c = crowding_law hashes m hash (reach hashes m hash - 1) few (omega arith) in
           let long = c.long in
           let crowded = c.crowded in
-          omega (arith, reach-some hashes m hash some, load-le hashes m c.last c.size)
+          omega (arith, load-le hashes m c.last c.size)
     ]
 
 -- a probe reads one bucket where the first is not loaded, and one alone
@@ -145,9 +135,11 @@ one_bucket_law hashes m hash some =
     let is : reach hashes m hash ≡ suc (loaded_run hashes m (m - 1) b) = reach-some hashes m hash some in (
       λ one (loaded : IsLoaded hashes m b).
           let part : 1 < m = omega (arith, loaded.1, loaded.2) in
-          let none : loaded_run hashes m (m - 1) b ≡ 0 = omega arith in
-          let at = loaded_run-stops hashes m (m - 1) b in_b (omega arith) (omega arith) in
-          not_loaded hashes m b (subst (λ n. bucket_is_loaded hashes m n ≡ false) start (rw none at at)) loaded,
+          let first : (k : ℕ) → k < 1 → bucket_is_loaded hashes m (bucket_after m b k) ≡ true = λ k l.
+          let none : k ≡ 0 = omega arith in
+          rw (none, start) (bucket_is_loaded-yes hashes m b loaded) in
+          let run = loaded_run-ge hashes m (m - 1) 1 b in_b (omega arith) (omega arith) first in
+          omega arith,
       λ free.
           let none = loaded_run-is hashes m (m - 1) 0 b in_b (omega arith) (omega arith) (λ k l. absurd (omega arith))
           (λ l. rw start (unloaded hashes m b free)) in
@@ -190,25 +182,15 @@ module _ (hashes : List ℕ) (m hash passed : ℕ) (few : length hashes < m) whe
   stops_then e = record {
     loaded = λ step l. loaded_from hashes m (bucket_after m b step)
         (loaded_run-loaded hashes m (m - 1) b in_b (omega arith) step (omega arith));
-    ended = λ loaded. elim (cases_lt run (m - 1)) [
-      | inl l ↦ not_loaded hashes m (bucket_after m b run) (loaded_run-stops hashes m (m - 1) b in_b (omega arith) l) (rw e loaded)
-      | inr ge ↦
-          full_circle hashes m b in_b few (λ k l. elim (cases_lt k run) [
-            | inl below ↦ loaded_run-loaded hashes m (m - 1) b in_b (omega arith) k below
-            | inr past ↦
-                let at : passed ≡ k = omega (arith, loaded_run-le hashes m (m - 1) b) in
-                subst (λ n. bucket_is_loaded hashes m (bucket_after m b n) ≡ true) at (bucket_is_loaded-yes hashes m (bucket_after m b passed) loaded)
-          ])
-    ];
+    ended = λ loaded. run-stops hashes m hash few (rw e loaded);
   }
 
   stops_back : PassesLoaded hashes m hash passed → run ≡ passed
   stops_back p =
-      let all : (k : ℕ) → k < passed
-      → bucket_is_loaded hashes m (bucket_after m b k) ≡ true = λ k l. bucket_is_loaded-yes hashes m (bucket_after m b k) (p.loaded k l) in
-      elim (cases_lt passed m) [
-        | inr ge ↦ absurd (full_circle hashes m b in_b few (λ k l. all k (omega arith)))
-        | inl l ↦ loaded_run-is hashes m (m - 1) passed b in_b (omega arith) (omega arith) all
+      elim (cases_lt run passed) [
+        | inl l ↦ absurd (run-stops hashes m hash few (p.loaded run l))
+        | inr ge ↦ loaded_run-is hashes m (m - 1) passed b in_b (omega arith) (omega (arith, loaded_run-le hashes m (m - 1) b))
+            (λ k l. bucket_is_loaded-yes hashes m (bucket_after m b k) (p.loaded k l))
             (λ short. unloaded hashes m (bucket_after m b passed) p.ended)
       ]
 

@@ -3,11 +3,11 @@ use Rattle.std.proofs.Common.{◌≡◌, ℕ, zero, suc, ◌+◌, ◌-◌, ◌*�
 use Rattle.std.proofs.Math.Nat.{pow-succ', mul-pos, mul-le-mul_left, mul-le-mul_right, le_of_mul-le-mul_right}
 use Rattle.std.proofs.lemmas.Nat.{mul-pow}
 use Rattle.half_store.specs.Reach.{reach}
-use Rattle.half_mean.specs.Mean.{sum_below, sum_lists, total_reach, total_filling, filling_reach, filling_cases, MeanFillingIsAtMost, MeanFillingLaw, HalfFullFillingLaw, CapacityFillingLaw}
+use Rattle.half_mean.specs.Mean.{sum_below, sum_lists, total_reach, total_filling, filling_reach, filling_cases, MeanFillingIsAtMost, MeanFillingLaw, AtLoad, HalfFullFillingLaw, CapacityFillingLaw}
 use Rattle.half_mean.proofs.lemmas.Sums.{below-plus, below-const, lists-plus, lists-swap}
 use Rattle.half_mean.proofs.lemmas.Homes.{filling_homes}
 use Rattle.half_mean.proofs.lemmas.Algebra.{pow-two}
-use Rattle.half_mean.proofs.lemmas.Means.{mean_of_homes, scaled, bucket_share}
+use Rattle.half_mean.proofs.lemmas.Means.{mean_of_homes, scaled, up_to_half, up_to_capacity}
 
 -- the last insertion, and those before it
 pub filling-step : (m n : ℕ) → total_filling m m (suc n) ≡ total_reach m m n + m * total_filling m m n
@@ -60,20 +60,19 @@ filling_law share m n few =
     rw (filling_homes share m n, mul-pow share m n, times-swap n (share ^ n) (m ^ n))
     (scaled (share ^ n) (total_filling m m n) (2 * (m - n)) (m + (m - n)) (n * m ^ n) (filling_of_homes n m few))
 
-filling_half : (m d f c : ℕ) → m ≤ 2 * d → f * (2 * d) ≤ (m + d) * c → f * 2 * d ≤ 3 * c * d
-filling_half m d f c load mean = let most : (m + d) * c ≤ 3 * d * c = mul-le-mul_right c (omega arith) in grind arith
+load-sum : (t m d f c : ℕ) → m ≤ t * d → f * (2 * d) ≤ (m + d) * c → f * 2 * d ≤ (1 + t) * c * d
+load-sum t m d f c load mean =
+    let most : (m + d) * c ≤ (t * d + d) * c = mul-le-mul_right c (omega arith) in
+    grind arith
+
+-- where at least one bucket in `t` is empty
+filling_at_load : (t : ℕ) → AtLoad t (λ hashes m n. MeanFillingIsAtMost hashes m n (1 + t) 2)
+filling_at_load t share m n few load =
+    le_of_mul-le-mul_right
+    (load-sum t m (m - n) (total_filling (share * m) m n) (filling_cases (share * m) n) load (filling_law share m n few)) (omega arith)
 
 pub filling_half_full_law : HalfFullFillingLaw 3 2
-filling_half_full_law share m n some half =
-    le_of_mul-le-mul_right
-    (filling_half m (m - n) (total_filling (share * m) m n) (filling_cases (share * m) n) (omega arith) (filling_law share m n (omega arith)))
-    (omega arith)
-
-filling_load : (m d f c : ℕ) → m ≤ 4 * d → f * (2 * d) ≤ (m + d) * c → f * 2 * d ≤ 5 * c * d
-filling_load m d f c load mean = let most : (m + d) * c ≤ 5 * d * c = mul-le-mul_right c (omega arith) in grind arith
+filling_half_full_law = up_to_half (λ hashes m n. MeanFillingIsAtMost hashes m n 3 2) (filling_at_load 2)
 
 pub filling_capacity_law : CapacityFillingLaw 5 2
-filling_capacity_law bits m n some count fits within =
-    let s = bucket_share bits m n some count fits within in
-    rw s.1 (le_of_mul-le-mul_right
-    (filling_load m (m - n) (total_filling (s.0 * m) m n) (filling_cases (s.0 * m) n) s.3 (filling_law s.0 m n s.2)) (omega arith))
+filling_capacity_law = up_to_capacity (λ hashes m n. MeanFillingIsAtMost hashes m n 5 2) (filling_at_load 4)

@@ -4,7 +4,7 @@ use Rattle.std.proofs.Math.Nat.{pow-suc, mul_comm, mul-pos, mul-le-mul, mul-le-m
 use Rattle.std.proofs.lemmas.Bool.{cases_lt}
 use Rattle.std.proofs.lemmas.Nat.{pow-add, mul-pow, pow_pos, pow_below}
 use Rattle.half_store.specs.Capacity.{IsBucketCount, capacity_of}
-use Rattle.half_mean.specs.Mean.{sum_below, total_reach, MeanIsAtMost, MeanReachIsAtMost, MeanReachLaw, HalfFullMeanLaw, CapacityMeanLaw, ExactMeanLaw, KnuthRecursionLaw, MeanCasesLaw}
+use Rattle.half_mean.specs.Mean.{sum_below, total_reach, MeanIsAtMost, MeanReachIsAtMost, MeanReachLaw, AtLoad, UpToHalf, UpToCapacity, HalfFullMeanLaw, CapacityMeanLaw, ExactMeanLaw, KnuthRecursionLaw, MeanCasesLaw}
 use Rattle.half_mean.proofs.lemmas.Sums.{lists-const, lists-same, below-const}
 use Rattle.half_mean.proofs.lemmas.Homes.{homes_law}
 use Rattle.half_mean.proofs.lemmas.Recursion.{blocks, blocks_behind, blocks-step, behind-step, blocks-none, reach-blocks_total}
@@ -82,31 +82,40 @@ times-load : (t c dd sq tt : ℕ) → t * (2 * dd) ≤ (dd + sq) * c → sq ≤ 
 times-load t c dd sq tt mean small = let more : sq * c ≤ tt * dd * c = mul-le-mul_right c small in grind arith
 
 -- where at least one bucket in `t` is empty
-at_load : (t m n : ℕ) → n < m → m ≤ t * (m - n) → MeanReachIsAtMost m m n (1 + t * t) 2
-at_load t m n few load =
+mean_at_load : (t : ℕ) → AtLoad t (λ hashes m n. MeanReachIsAtMost hashes m n (1 + t * t) 2)
+mean_at_load t share m n few load =
     let some : 0 < (m - n) * (m - n) = mul-pos (omega arith) (omega arith) in
-    le_of_mul-le-mul_right
+    of_homes share m n (1 + t * t) 2 (omega arith) (le_of_mul-le-mul_right
     (times-load (total_reach m m n) (m ^ (n + 1)) ((m - n) ^ 2) (m ^ 2) (t * t) (mean_of_homes m n few) (square-le t (m - n) m load))
-    (omega (arith, pow-two (m - n)))
-
-pub half_full_law : HalfFullMeanLaw 5 2
-half_full_law share m n some half = of_homes share m n 5 2 some (at_load 2 m n (omega arith) (omega arith))
+    (omega (arith, pow-two (m - n))))
 
 -- a bucket count that hashes of some bits can have as homes divides their number
-pub bucket_share : (bits m n : ℕ) → 0 < m → IsBucketCount m → m ≤ 2 ^ bits → n ≤ capacity_of m
-    → (share : ℕ) × (2 ^ bits ≡ share * m) × (n < m) × (m ≤ 4 * (m - n))
-bucket_share bits m n some (inl none) fits within = absurd (omega arith)
-bucket_share bits m n some (inr (k, two, is)) fits within =
+pub bucket_share : (bits m : ℕ) → 0 < m → IsBucketCount m → m ≤ 2 ^ bits → (share : ℕ) × (2 ^ bits ≡ share * m)
+bucket_share bits m some (inl none) fits = absurd (omega arith)
+bucket_share bits m some (inr (k, two, is)) fits =
     let enough : k ≤ bits = elim (cases_lt bits k) [ inl few ↦ absurd (let p = pow_below bits k few in omega arith) | inr le ↦ le ] in
-    let quarter : 2 ^ k ≡ 2 ^ (k - 2) * 4 = ap (λ e. 2 ^ e) (omega arith) ∙ pow-add 2 (k - 2) 2 in
-    let part = pow_pos (k - 2) in (
-      2 ^ (bits - k),
-      ap (λ e. 2 ^ e) (omega arith) ∙ pow-add 2 (bits - k) k ∙ ap (λ b. 2 ^ (bits - k) * b) (sym is),
-      omega arith,
-      omega arith,
-    )
+    (2 ^ (bits - k), ap (λ e. 2 ^ e) (omega arith) ∙ pow-add 2 (bits - k) k ∙ ap (λ b. 2 ^ (bits - k) * b) (sym is))
+
+-- a quarter of the buckets is beyond the capacity
+quarter : (m n : ℕ) → 0 < m → IsBucketCount m → n ≤ capacity_of m → (n < m) × (m ≤ 4 * (m - n))
+quarter m n some (inl none) within = absurd (omega arith)
+quarter m n some (inr (k, two, is)) within =
+    let four : 2 ^ k ≡ 2 ^ (k - 2) * 4 = ap (λ e. 2 ^ e) (omega arith) ∙ pow-add 2 (k - 2) 2 in
+    let part = pow_pos (k - 2) in (omega arith, omega arith)
+
+-- what holds where at least half of the buckets are empty, or a quarter
+module _ (Law : ℕ → ℕ → ℕ → Type 0) where
+  pub up_to_half : AtLoad 2 Law → UpToHalf Law
+  up_to_half law share m n some half = law share m n (omega arith) (omega arith)
+
+  pub up_to_capacity : AtLoad 4 Law → UpToCapacity Law
+  up_to_capacity law bits m n some count fits within =
+      let s = bucket_share bits m some count fits in
+      let room = quarter m n some count within in
+      rw s.1 (law s.0 m n room.0 room.1)
+
+pub half_full_law : HalfFullMeanLaw 5 2
+half_full_law = up_to_half (λ hashes m n. MeanReachIsAtMost hashes m n 5 2) (mean_at_load 2)
 
 pub capacity_law : CapacityMeanLaw 17 2
-capacity_law bits m n some count fits within =
-    let s = bucket_share bits m n some count fits within in
-    rw s.1 (of_homes s.0 m n 17 2 some (at_load 4 m n s.2 s.3))
+capacity_law = up_to_capacity (λ hashes m n. MeanReachIsAtMost hashes m n 17 2) (mean_at_load 4)

@@ -1,15 +1,16 @@
 -- A table that insertions fill, and what searches for its pairs read.
 use Rattle.half_store.proofs.Common.{◌≡◌, ◌≤◌, length, inr, refl, ◌∙◌, arith, ℕ, ◌-◌, ◌<◌, inl, sym, ap, Bool, List, Some, Option, None, subst, [], ◌∷◌, true}
 use Rattle.half_store.proofs.Common.{set, replicate, cases_lt, length-set, get_or_past, length-replicate, get_or-replicate, sum_by-cons, count_by-le-length}
-use Rattle.half_store.proofs.Common.{reach, filling_reach, probe_distance, bucket_after, home, slot_at, HasVacantSlot, ProbeInvariant, stored, IsSlotVacancy}
+use Rattle.half_store.proofs.Common.{nat_lt, false, bucket_is_loaded, reach, filling_reach, probe_distance, bucket_after, home, slot_at, HasVacantSlot, ProbeInvariant, stored, IsSlotVacancy}
 use Rattle.half_store.proofs.Common.{probe_reads}
+use Rattle.half_store.specs.Reach.{load}
 use Rattle.std.proofs.lemmas.List.Folds.{sum_by-replicate}
 use Rattle.std.proofs.lemmas.List.Sums.{sum_by-set}
-use Rattle.half_store.proofs.lemmas.table.Circle.{bucket_after-probe_distance}
+use Rattle.half_store.proofs.lemmas.table.Circle.{bucket_after-probe_distance, distance_is, after_is, probe_distance-lt, bucket_after-lt}
 use Rattle.half_store.proofs.lemmas.table.Counts.{count_to-le, count_to-all, count_by-count_to, tick}
 use Rattle.half_store.proofs.lemmas.table.Layout.{ordered-add}
-use Rattle.half_store.proofs.lemmas.table.Probe.{SameCounts, reach_at_vacancy}
-use Rattle.half_store.proofs.lemmas.table.Slots.{slot_cases, slot_set, slot_other, full_from, home-lt, first_none, passes_stored, vacancy_for}
+use Rattle.half_store.proofs.lemmas.table.Probe.{SameCounts, reach_at_vacancy, unloaded_where_vacant}
+use Rattle.half_store.proofs.lemmas.table.Slots.{slot_cases, slot_set, slot_other, full_from, home-lt, first_none, passes_stored, vacancy_for, full_loaded}
 use Rattle.half_store.proofs.lemmas.table.Sums.{below-zero, below-more, of_slot, slot_reads}
 
 -- the bucket where an insertion probe for the hash ends
@@ -55,6 +56,29 @@ module _ (w : List ℕ) (slots : List (Option ℕ)) (ordered : ProbeInvariant sl
   pub stop-reads : (h : ℕ) → probe_reads m h (stop m w h) ≡ reach w m h
   stop-reads h = sym (reach_at_vacancy slots ordered w counted h (stop m w h) (at_stop h))
 
+  pub stop-unloaded : (h : ℕ) → bucket_is_loaded w m (stop m w h) ≡ false
+  stop-unloaded h = let s = at_stop h in unloaded_where_vacant slots ordered w counted (stop m w h) s.within s.vacant
+
+  -- a probe that reads more than some buckets has passed the last of a stretch that is home to as many hashes as it has buckets
+  pub crowd : (h passed : ℕ) → passed < reach w m h
+      → (size : ℕ) × (passed ≤ size) × (size < m) × (size ≤ load w m (bucket_after m (home m h) (passed - 1)) size)
+  unfolding load
+  crowd h passed more =
+      let s = at_stop h in
+      let read = reach_at_vacancy slots ordered w counted h (stop m w h) s in
+      let b : ℕ = home m h in
+      let in_b : b < m = home-lt m h (omega arith) in
+      let last : ℕ = bucket_after m b (passed - 1) in
+      let short = probe_distance-lt m b in_b (stop m w h) s.within in
+      let in_last : last < m = bucket_after-lt m b in_b (passed - 1) (omega arith) in
+      let is = full_loaded slots ordered last passed in_last (λ p in_p near. s.passed p in_p (omega (
+        arith,
+        after_is m b (passed - 1),
+        distance_is m p last in_p,
+        distance_is m b p in_b,
+      ))) some_vacant in
+      (is.0, is.1, is.2, rw (counted (λ hash. nat_lt (probe_distance m (home m hash) last) is.0)) is.3)
+
 counted-add : (w : List ℕ) (slots : List (Option ℕ)) (p x : ℕ) → IsSlotVacancy slots x p → SameCounts w slots
     → SameCounts (x ∷ w) (set slots p (Some x))
 counted-add w slots p x at counted test =
@@ -92,6 +116,24 @@ table_of m (x ∷ w) few =
       ordered = ordered-add (slots_with m w) (stop m w x) x v t.ordered;
       counted = counted-add w (slots_with m w) (stop m w x) x v t.counted;
     }
+
+module _ (m : ℕ) (w : List ℕ) (h : ℕ) (few : length w < m) where
+  abbrev made : IsTableOf m w (slots_with m w)
+  made = table_of m w (omega arith)
+
+  fewer : length w < length (slots_with m w)
+  fewer = subst (λ n. length w < n) (sym made.long) few
+
+  -- the bucket where a probe ends is not loaded
+  pub probe_stops : bucket_is_loaded w m (stop m w h) ≡ false
+  probe_stops = subst (λ n. bucket_is_loaded w n (stop n w h) ≡ false) made.long (stop-unloaded w (slots_with m w) made.ordered made.counted fewer h)
+
+  pub crowd_of_probe : (passed : ℕ) → passed < reach w m h
+      → (size : ℕ) × (passed ≤ size) × (size < m) × (size ≤ load w m (bucket_after m (home m h) (passed - 1)) size)
+  crowd_of_probe passed =
+      subst (λ n. passed < reach w n h → (size : ℕ) × (passed ≤ size) × (size < n)
+      × (size ≤ load w n (bucket_after n (home n h) (passed - 1)) size)) made.long
+      (crowd w (slots_with m w) made.ordered made.counted fewer h passed)
 
 -- the searches for the pairs of that table read what the insertions did
 pub filled : (m : ℕ) (w : List ℕ) → length w ≤ m → slot_reads m (slots_with m w) ≡ filling_reach m w
