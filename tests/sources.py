@@ -53,7 +53,7 @@ RULES = (
     ("Counted work is done, and a pair is probed for, in these places.", "36 72 0 0 0 8 0 0", rf"\b(?:{WORK}|read|\w+_counted)\("),
     ("What does work is called by its name alone: nothing, or a helper's types, stands between that and its bracket.", "10 6 0 0 0 0 0 0",
      rf"(?<!mod )\b(?:{WORK})\b(?!\()|[.:]read\b(?!\()|[=(,:] ?(?=\w+_)(?:HELPER)\b(?!(?:::<[^()]*>)?\()|[\w>]::[a-z]\w*(?![\w:(!])"),
-    ("What no user can call, and what goes through a text or a map, is called in these places.", "108 79 7 5 22 14 5 25",
+    ("What no user can call, and what goes through a text or a map, is called in these places.", "108 77 7 5 22 14 5 25",
      r"(?<!fn )\b(?:HELPER|count_words|report|pointer|parse|from_utf8|flush|into|move_to|retain)(?:::<[^()]*>)?\("),
     ("The words of buckets are read by `word_at` alone.", "43 0 0 0 0 0 0 0", r"(?<!mod )\bwords\b"),
     ("An allocator is named `alloc`.", "1 1 0 1 0 0 0 0", r"(?<!\balloc: )\bGlobal\b"),
