@@ -2,7 +2,7 @@
 -- makes a list, as in `Mean`.
 use Rattle.std.specs.Prelude.{ℕ, zero, suc, ◌+◌, ◌-◌, ◌*◌, ◌^◌, ◌≤◌, List, max, nat_lt, if◌then◌else◌}
 use Rattle.half_store.specs.Reach.{reach}
-use Rattle.half_mean.specs.Mean.{sum_below, sum_lists, reach_cases, AtLoad}
+use Rattle.half_mean.specs.Mean.{sum_below, sum_lists, reach_cases, MeanIsAtMost, AtLoad}
 
 -- 1 if more than `most` buckets are read, and otherwise 0
 abbrev pub reads_more_than : (most read : ℕ) → ℕ
@@ -25,9 +25,9 @@ long_tables hashes buckets held most = sum_lists hashes held (λ list. reads_mor
 abbrev pub decay : (per_empty : ℕ) → ℕ
 decay per_empty = per_empty * (2 * per_empty - 1)
 
--- `some` of `all` cases are at most the part `(1 - 1 / decay) ^ reads`
-abbrev pub TailIsAtMost : (per_empty reads some all : ℕ) → Type 0
-TailIsAtMost per_empty reads some all = decay per_empty ^ reads * some ≤ (decay per_empty - 1) ^ reads * all
+-- `long` of `all` cases are at most the part `(1 - 1 / decay) ^ reads`
+abbrev pub TailIsAtMost : (per_empty reads long all : ℕ) → Type 0
+TailIsAtMost per_empty reads long all = MeanIsAtMost long all ((decay per_empty - 1) ^ reads) (decay per_empty ^ reads)
 
 -- a probe reads more than `reads` buckets in at most that part of all cases
 abbrev pub TailLaw : Type 0

@@ -1,6 +1,6 @@
 -- The mean over the insertions that fill an empty table.
 use Rattle.std.proofs.Common.{◌≡◌, ℕ, zero, suc, ◌+◌, ◌-◌, ◌*◌, ◌^◌, ◌<◌, ◌≤◌, refl, sym, ap, ◌∙◌, arith, add-one}
-use Rattle.std.proofs.Math.Nat.{pow-succ', mul-pos, mul-le-mul_left, mul-le-mul_right, le_of_mul-le-mul_right}
+use Rattle.std.proofs.Math.Nat.{pow-succ', mul_left_comm, mul-pos, mul-le-mul_left, mul-le-mul_right, le_of_mul-le-mul_right}
 use Rattle.std.proofs.lemmas.Nat.{mul-pow}
 use Rattle.half_store.specs.Reach.{reach}
 use Rattle.half_mean.specs.Mean.{sum_below, sum_lists, total_reach, total_filling, filling_reach, filling_cases, MeanFillingIsAtMost, MeanFillingLaw, AtLoad, HalfFullFillingLaw, CapacityFillingLaw}
@@ -31,11 +31,8 @@ filling-sum e n m r f c is mean before =
     let terms = ap (λ s. c * s) (filling-terms e n m is) in
     grind arith
 
-times-swap : (a b c : ℕ) → a * (b * c) ≡ b * (a * c)
-times-swap a b c = grind arith
-
 cases-step : (m n : ℕ) → m * (n * m ^ n) ≡ n * m ^ suc n
-cases-step m n = times-swap m n (m ^ n) ∙ ap (λ s. n * s) (sym (pow-succ' m n))
+cases-step m n = mul_left_comm m n (m ^ n) ∙ ap (λ s. n * s) (sym (pow-succ' m n))
 
 pub filling-none : (m : ℕ) → total_filling m m 0 ≡ 0
 unfolding total_filling
@@ -57,7 +54,7 @@ filling_of_homes (suc n) m few =
 
 pub filling_law : MeanFillingLaw
 filling_law share m n few =
-    rw (filling_homes share m n, mul-pow share m n, times-swap n (share ^ n) (m ^ n))
+    rw (filling_homes share m n, mul-pow share m n, mul_left_comm n (share ^ n) (m ^ n))
     (scaled (share ^ n) (total_filling m m n) (2 * (m - n)) (m + (m - n)) (n * m ^ n) (filling_of_homes n m few))
 
 load-sum : (t m d f c : ℕ) → m ≤ t * d → f * (2 * d) ≤ (m + d) * c → f * 2 * d ≤ (1 + t) * c * d

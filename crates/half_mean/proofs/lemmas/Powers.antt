@@ -1,12 +1,9 @@
 -- Inequalities between powers.
 use Rattle.std.proofs.Common.{◌≡◌, ℕ, zero, suc, ◌+◌, ◌-◌, ◌*◌, ◌^◌, ◌<◌, ◌≤◌, inl, inr, ap, subst, arith}
-use Rattle.std.proofs.Math.Nat.{pow-zero, pow-succ', mul-le-mul_left, mul-le-mul_right, one-le-pow, le_of_mul-le-mul_left}
+use Rattle.std.proofs.Math.Nat.{pow-zero, pow-succ', mul_left_comm, mul-le-mul_left, mul-le-mul_right, one-le-pow, le_of_mul-le-mul_left}
 use Rattle.std.proofs.lemmas.Bool.{cases_eq}
 use Rattle.std.proofs.lemmas.Nat.{mul-pow}
 use Rattle.half_mean.specs.Tail.{decay, TailIsAtMost}
-
-pub swapped : (a b c : ℕ) → a * (b * c) ≡ b * (a * c)
-swapped a b c = grind arith
 
 flat-step : (n a b r s t : ℕ) → a ≡ suc n * b + r → (b + r) * s ≤ a * t → r * ((a + b) * s) ≤ a * (a * t)
 flat-step n a b r s t is before =
@@ -43,7 +40,7 @@ module _ (q d : ℕ) where
   even : Heavy d
   even =
       let all : q * d + d ≡ suc q * d = grind arith in
-      let is = swapped (suc q ^ d) (q ^ d) (d ^ d) in
+      let is = mul_left_comm (suc q ^ d) (q ^ d) (d ^ d) in
       rw (all, mul-pow q d d, mul-pow (suc q) d d) (omega arith)
 
   more-step : (p r a b c u v : ℕ) → p * (a * b) ≤ r * u → q * (u * c) ≤ b * v → b * (p * (q * a * c)) ≤ b * (r * v)
@@ -118,7 +115,7 @@ module _ (q : ℕ) where
       rw (e, pow-succ' odd d, pow-succ' (odd + 2) d)
       (shrink-sum (odd ^ d) ((odd + 2) ^ d) (suc (m + d) ^ n) ((m + d) ^ n) (m ^ n) (next n (m + d) (omega arith)) (shrink d m n few))
 
-  tail-sum : (p r a b c u v w : ℕ) → p * (a * b) ≤ r * u → c * u ≤ v * (a * w) → a * (p * c * b) ≤ a * (r * v * w)
+  tail-sum : (p r a b c u v w : ℕ) → p * (a * b) ≤ r * u → c * u ≤ v * (a * w) → a * (b * (p * c)) ≤ a * (r * v * w)
   tail-sum p r a b c u v w before small =
       let all : c * (p * (a * b)) ≤ c * (r * u) = mul-le-mul_left c before in
       let rest : r * (c * u) ≤ r * (v * (a * w)) = mul-le-mul_left r small in

@@ -1,6 +1,6 @@
 -- How seldom a probe from one home is long.
 use Rattle.std.proofs.Common.{◌≡◌, ℕ, zero, suc, ◌+◌, ◌-◌, ◌*◌, ◌^◌, ◌<◌, ◌≤◌, ◌==◌, ltb, refl, sym, ap, ◌∙◌, arith, List, ◌∷◌, length, map, nat_lt, min, true}
-use Rattle.std.proofs.Math.Nat.{pow-zero, mul-le-mul_left, mod-eq_of_lt}
+use Rattle.std.proofs.Math.Nat.{pow-zero, mul-le-mul_right, mod-eq_of_lt}
 use Rattle.std.proofs.lemmas.Bool.{eq-eqb, ne_eqb}
 use Rattle.std.proofs.lemmas.Bool.Decides.{nat_tests}
 use Rattle.std.proofs.lemmas.List.Folds.{fold-map}
@@ -72,6 +72,6 @@ long_from q m n h (suc d) some few small =
     let crowd : List ℕ → ℕ = λ w. tick (crowded (suc d) m w) in
     let all = lists-le m n (λ w. reads_more_than (suc d) (reach w m h)) (λ w. crowd (map (up_to m b) w))
     (λ w l. grind (arith, nat_tests, tick_yes, crowd-last m w h (suc d) (omega arith) (omega arith))) in
-    let less = mul-le-mul_left (decay (suc q) ^ suc d) all in
+    let less = mul-le-mul_right (decay (suc q) ^ suc d) all in
     let most = tail_of_weight q (suc d) m n (sum_lists m n crowd) some small (few_crowds q (suc d) (omega arith) m n (omega arith)) in
-    omega (arith, ap (λ s. decay (suc q) ^ suc d * s) (lists-distances m b in_b n crowd))
+    omega (arith, ap (λ s. s * decay (suc q) ^ suc d) (lists-distances m b in_b n crowd))

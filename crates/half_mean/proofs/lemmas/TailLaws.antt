@@ -1,6 +1,6 @@
 -- The laws of long probes.
 use Rattle.std.proofs.Common.{◌≡◌, ℕ, zero, suc, ◌+◌, ◌-◌, ◌*◌, ◌^◌, ◌<◌, ◌≤◌, inl, inr, refl, sym, ap, ◌∙◌, arith, add-one, List, max}
-use Rattle.std.proofs.Math.Nat.{pow-zero, pow-succ', mul-le-mul, mul-le-mul_left, mul-le-mul_right, le_of_mul-le-mul_left, one-le-pow}
+use Rattle.std.proofs.Math.Nat.{pow-zero, pow-succ', mul_comm, mul_left_comm, mul-le-mul, mul-le-mul_left, mul-le-mul_right, le_of_mul-le-mul_left, one-le-pow}
 use Rattle.std.proofs.lemmas.Bool.{cases_lt, cases_eq, leb-true}
 use Rattle.std.proofs.lemmas.Bool.Decides.{nat_tests}
 use Rattle.std.proofs.lemmas.Nat.{mul-pow, pow-add, pow_pos}
@@ -11,8 +11,7 @@ use Rattle.half_mean.specs.Mean.{sum_below, sum_lists, AtLoad, UpToHalf, UpToCap
 use Rattle.half_mean.specs.Tail.{reads_more_than, long_probes, long_tables, longest_reach, decay, TailIsAtMost, TailLaw, LongestLaw, LongProbesAreRare, LongTablesAreRare}
 use Rattle.half_mean.proofs.lemmas.Sums.{below-const, below-le, below-times, lists-le, lists-swap}
 use Rattle.half_mean.proofs.lemmas.Homes.{homes, reach-homes, reach-home, lists-homes, probes-homes}
-use Rattle.half_mean.proofs.lemmas.Means.{up_to_half, up_to_capacity}
-use Rattle.half_mean.proofs.lemmas.Powers.{swapped}
+use Rattle.half_mean.proofs.lemmas.Means.{scaled, up_to_half, up_to_capacity}
 use Rattle.half_mean.proofs.lemmas.Tail.{long_from}
 
 probes-share : (share m n d : ℕ) → long_probes (share * m) m n d ≡ share ^ (n + 1) * long_probes m m n d
@@ -61,29 +60,25 @@ probes-tail q m n d some few empty =
     let x : ℕ = decay (suc q) ^ d in
     let y : ℕ = (decay (suc q) - 1) ^ d in
     let from : ℕ → ℕ = λ h. sum_lists m n (λ w. reads_more_than d (reach w m h)) in
-    let all : x * sum_lists m n (λ w. sum_below m (λ h. reads_more_than d (reach w m h))) ≡ sum_below m (λ h. x * from h) =
-    ap (λ s. x * s) (lists-swap m n m (λ w h. reads_more_than d (reach w m h))) ∙ sym (below-times m x from) in
     let each = below-le m (λ h. x * from h) (λ h. y * m ^ n)
-    (λ h l. long_from q m n h d some few (at_most-load q n (m - n) m (omega arith) empty)) in
-    omega (arith, below-const m (y * m ^ n), swapped m y (m ^ n))
-
-shared : (c x y some all : ℕ) → x * some ≤ y * all → x * (c * some) ≤ y * (c * all)
-shared c x y some all less = let more : c * (x * some) ≤ c * (y * all) = mul-le-mul_left c less in grind arith
+    (λ h l. rw (mul_comm x (from h)) (long_from q m n h d some few (at_most-load q n (m - n) m (omega arith) empty))) in
+    rw (lists-swap m n m (λ w h. reads_more_than d (reach w m h)), mul_comm (sum_below m from) x)
+    (omega (arith, below-times m x from, below-const m (y * m ^ n), mul_left_comm m y (m ^ n)))
 
 pub tail_law : TailLaw
 tail_law zero d two share m n few empty = absurd (omega arith)
 tail_law (suc q) d two share m n few empty =
     rw (probes-share share m n d, mul-pow share m (n + 1))
-    (shared (share ^ (n + 1)) (decay (suc q) ^ d) ((decay (suc q) - 1) ^ d) (long_probes m m n d) (m ^ (n + 1))
+    (scaled (share ^ (n + 1)) (long_probes m m n d) (decay (suc q) ^ d) ((decay (suc q) - 1) ^ d) (m ^ (n + 1))
     (rw (add-one n, pow-succ' m n) (probes-tail q m n d (omega arith) few empty)))
 
 pub longest_law : LongestLaw (λ buckets. buckets)
 longest_law zero d two share m n few empty = absurd (omega arith)
 longest_law (suc q) d two share m n few empty =
-    let one = mul-le-mul_left (decay (suc q) ^ d) (tables-le m n d) in
+    let one = mul-le-mul_right (decay (suc q) ^ d) (tables-le m n d) in
     let tail = probes-tail q m n d (omega arith) few empty in
-    rw (tables-share share m n d, mul-pow share m n, swapped m (share ^ n) (m ^ n))
-    (shared (share ^ n) (decay (suc q) ^ d) ((decay (suc q) - 1) ^ d) (long_tables m m n d) (m * m ^ n) (omega arith))
+    rw (tables-share share m n d, mul-pow share m n, mul_left_comm m (share ^ n) (m ^ n))
+    (scaled (share ^ n) (long_tables m m n d) (decay (suc q) ^ d) ((decay (suc q) - 1) ^ d) (m * m ^ n) (omega arith))
 
 -- a part that halves with each step
 halves : (step x y s : ℕ) → 2 * y ^ step ≤ x ^ step → 2 ^ s * y ^ (step * s) ≤ x ^ (step * s)
@@ -93,27 +88,28 @@ halves step x y (suc s) less =
     let all = mul-le-mul less (halves step x y s less) in
     rw (e, pow-add x step (step * s), pow-add y step (step * s), pow-succ' 2 s) (grind arith)
 
-halved-sum : (x y t some all : ℕ) → t * y ≤ x → x * some ≤ y * all → x * (some * t) ≤ x * all
-halved-sum x y t some all less tail =
-    let more : t * (x * some) ≤ t * (y * all) = mul-le-mul_left t tail in
+halved-sum : (x y t long all : ℕ) → t * y ≤ x → long * x ≤ y * all → x * (long * t) ≤ x * all
+halved-sum x y t long all less tail =
+    let more : t * (long * x) ≤ t * (y * all) = mul-le-mul_left t tail in
     let most : t * y * all ≤ x * all = mul-le-mul_right all less in
     grind arith
 
 -- where at least one bucket in k is empty, and the tail of k halves with each step
 module _ (k step : ℕ) (two : 2 ≤ k) (some : 0 < decay k) (less : 2 * (decay k - 1) ^ step ≤ decay k ^ step) where
-  halved : (s part all : ℕ) → TailIsAtMost k (step * s) part all → part * 2 ^ s ≤ all
-  halved s part all tail =
+  halved : (s long all : ℕ) → TailIsAtMost k (step * s) long all → long * 2 ^ s ≤ all
+  halved s long all tail =
       le_of_mul-le-mul_left
-      (halved-sum (decay k ^ (step * s)) ((decay k - 1) ^ (step * s)) (2 ^ s) part all (halves step (decay k) (decay k - 1) s less) tail)
+      (halved-sum (decay k ^ (step * s)) ((decay k - 1) ^ (step * s)) (2 ^ s) long all (halves step (decay k) (decay k - 1) s less) tail)
       (one-le-pow (step * s) (decay k) some)
 
   pub rare_probes : AtLoad k (LongProbesAreRare step)
   rare_probes share m n few empty s = halved s _ _ (tail_law k (step * s) two share m n few empty)
 
-  of_size : (m size s part all : ℕ) → m ≤ 2 ^ size → part * 2 ^ (size + s) ≤ m * all → part * 2 ^ s ≤ all
-  of_size m size s part all small halves =
+  of_size : (m size s long all : ℕ) → m ≤ 2 ^ size → long * 2 ^ (size + s) ≤ m * all → long * 2 ^ s ≤ all
+  of_size m size s long all small halves =
       let most : m * all ≤ 2 ^ size * all = mul-le-mul_right all small in
-      let parts : part * 2 ^ (size + s) ≡ 2 ^ size * (part * 2 ^ s) = ap (λ p. part * p) (pow-add 2 size s) ∙ swapped part (2 ^ size) (2 ^ s) in
+      let parts : long * 2 ^ (size + s) ≡ 2 ^ size * (long * 2 ^ s) =
+      ap (λ p. long * p) (pow-add 2 size s) ∙ mul_left_comm long (2 ^ size) (2 ^ s) in
       le_of_mul-le-mul_left {k = 2 ^ size} (omega arith) (pow_pos size)
 
   pub rare_tables : AtLoad k (LongTablesAreRare step)
