@@ -11,7 +11,7 @@
   their modules.
 - CALLING has the clauses of its calls, the fields that these name and the list of all calls as they stand in the sources and specs
   (calling.py). `tests/documentation.py --write` prints them there anew.
-- docs/speed.svg shows the figures of SPEED.
+- docs/speed.svg shows the figures of SPEED, and docs/tail.svg those of TABLE, of which some are computed.
 - The examples in the documentation of the map and of the set run, with nothing proved. Those of a page, `//!`, stand before each
   that follows in the file, and those of the crate's page before all.
 """
@@ -173,6 +173,10 @@ claims += [*calling.claims(CALLING.read_text()), *callers(CALLING.read_text()), 
 claims += [it for page in (CALLING, USING, PROOFS) for it in imports(page.read_text())]
 drawn = picture.picture(*picture.figures((TOP / "docs/SPEED.md").read_text()))
 claims.append(("the picture of SPEED", drawn == (TOP / "docs/speed.svg").read_text()))
+TABLE = (TOP / "docs/TABLE.md").read_text()
+claims += [(row, f"{row}\n" in TABLE) for load, _ in picture.LOADS.values() for row in picture.tail_rows(load)]
+drawn = "\n".join(picture.tail_picture(picture.measured_tails(TABLE)))
+claims.append(("the picture of TABLE", drawn == (TOP / "docs/tail.svg").read_text()))
 claims += examples()
 failed = [what for what, stands in claims if not stands]
 print(*failed, f"{len(claims) - len(failed)} passed, {len(failed)} failed", sep="\n")

@@ -1,7 +1,9 @@
 #!/usr/bin/env python3
 """Draws docs/speed.svg: times and bytes of this map beside those of std's, from the figures in docs/SPEED.md, or from those that
-`make bench` has just measured."""
+`make bench` has just measured. And docs/tail.svg: how often a search reads many buckets, from the figures in docs/TABLE.md."""
 
+import functools
+import itertools
 import math
 import pathlib
 import re
@@ -12,6 +14,9 @@ PAIRS = {16: "16 pairs, a vector", 33: "33 pairs, a table", 1_000: "1,000", 100_
 MARKS = {16: "#c0392b", 33: "#9ecae1", 1_000: "#4292c6", 100_000: "#084594"}
 HERE, STD = "#c0392b", "#bbbbbb"
 LEFT, SCALE, ROW, TOP = 140, 130, 19, 62
+# Buckets of the table whose searches are counted, how full it is, and more than how many buckets these read.
+BUCKETS, MANY = 1 << 18, (10, 20, 40, 80)
+LOADS = {"half full": (0.5, "#084594"), "full": (0.75, HERE)}
 
 
 def figures(page):
@@ -72,9 +77,75 @@ def picture(times, memory):
     return "\n".join([head, '<rect width="100%" height="100%" fill="white"/>', *drawn, "</svg>\n"])
 
 
+def proved_tail(load, many):
+    """At most which part of the misses reads more than so many buckets, as half_mean proves."""
+    per_empty = max(2, math.ceil(1 / (1 - load)))
+    return (1 - 1 / (per_empty * (2 * per_empty - 1))) ** many
+
+
+@functools.cache
+def true_tails(load):
+    """Which part does, for each number of buckets, by Knuth's exact distribution, in floating point."""
+    held = int(BUCKETS * load)
+
+    def lists(buckets, held):  # The logarithm of how many lists of homes leave the last bucket empty.
+        return math.log(buckets - held) + (held - 1) * math.log(buckets)
+
+    def run(full):  # The chance that so many given neighbours are full, and the buckets beside them empty.
+        chosen = math.lgamma(held + 1) - math.lgamma(full + 1) - math.lgamma(held - full + 1)
+        return math.exp(chosen + lists(full + 1, full) + lists(BUCKETS - full - 1, held - full) - held * math.log(BUCKETS))
+
+    longest_first = map(run, range(100 * MANY[-1], -1, -1))
+    return list(itertools.accumulate(itertools.accumulate(longest_first)))[::-1]
+
+
+def one_in(part):
+    """Of how many searches one is of this part, rounded down to three digits; and where none is, a dash."""
+    if not part:
+        return "-"
+    digits = max(0, math.floor(math.log10(1 / part)) - 2)
+    return f"{math.floor(10 / part) / 10:.1f}" if part > 0.1 else f"{math.floor(1 / part / 10**digits) * 10**digits:,}"
+
+
+def tail_rows(load):
+    """The rows of docs/TABLE.md that are computed."""
+    yield " " * 24 + "true    " + "".join(f"{one_in(true_tails(load)[many]):>13}" for many in MANY)
+    yield " " * 24 + "proved  " + "".join(f"{one_in(proved_tail(load, many)):>13}" for many in MANY)
+
+
+def measured_tails(page):
+    """One miss in how many reads more than each of MANY buckets, by how full the table is, as the page has it."""
+    rows = re.findall(r"^    misses, (half full|full) +measured +(.*)$", page, re.M)
+    return {words: [it.replace(",", "") for it in numbers.split()] for words, numbers in rows}
+
+
+def tail_picture(measured):
+    """The lines of the picture of long misses."""
+    place = lambda many, count: f"{60 + 6 * many:g} {70 + 50 * math.log10(count):.1f}"
+    yield '<svg xmlns="http://www.w3.org/2000/svg" width="620" height="410" font-family="sans-serif" font-size="13">'
+    yield '<rect width="100%" height="100%" fill="white"/>'
+    yield text(10, 20, "One search that finds nothing, in so many, reads more than 0 to 80 buckets.")
+    yield text(10, 40, "Dashed: what is proved. Solid: Knuth's distribution. Dots: measured.")
+    for digits in range(7):
+        yield f'<path d="M60 {70 + 50 * digits}H540" stroke="#ddd"/>' + text(54, 74 + 50 * digits, f"{10**digits:,}", "end")
+    yield from (text(60 + 6 * many, 395, many, "middle") for many in range(0, 81, 20))
+    for words, (load, colour) in LOADS.items():
+        for dashes, parts in (("6 4", [proved_tail(load, many) for many in range(81)]), ("none", true_tails(load)[:81])):
+            points = [place(many, 1 / part) for many, part in enumerate(parts) if part > 1e-6]
+            yield f'<path d="M{"L".join(points)}" fill="none" stroke="{colour}" stroke-dasharray="{dashes}"/>'
+        x, y = map(float, points[-1].split())
+        yield text(x + 6, y, words)
+        for many, count in zip(MANY, measured[words]):
+            if count != "-":
+                x, y = place(many, float(count)).split()
+                yield f'<circle cx="{x}" cy="{y}" r="4" fill="{colour}"/>'
+    yield "</svg>\n"
+
+
 def write(times, memory):
     (DOCS / "speed.svg").write_text(picture(times, memory))
 
 
 if __name__ == "__main__":
     write(*figures((DOCS / "SPEED.md").read_text()))
+    (DOCS / "tail.svg").write_text("\n".join(tail_picture(measured_tails((DOCS / "TABLE.md").read_text()))))
