@@ -1,6 +1,6 @@
 -- Tables made key by key.
 use Rattle.std.proofs.Common.{◌≡◌, ℕ, suc, ◌+◌, ◌<◌, ◌==◌, Bool, true, false, not, ◌&&◌, cond, ltb, eqb, List, [], ◌∷◌, ◌++◌, length}
-use Rattle.std.proofs.Common.{get_or, take, nat_lt, if◌then◌else◌, Option, None, Some, is_some, refl, sym, ap}
+use Rattle.std.proofs.Common.{get_or, take, nat_lt, if◌then◌else◌, None, Some, is_some, refl, sym, ap}
 use Rattle.std.proofs.Common.{subst, ◌∙◌, arith}
 use Rattle.std.proofs.Math.ListN.{length-append, length-map}
 use Rattle.std.proofs.lemmas.Bool.{lt-ltb, ltb-true, ne_eqb, eqb-true, and_parts, true≢false, eqb-false}
