@@ -41,7 +41,7 @@ OTHERS = ["memory", "reads", "halfmap", "word_count"]
 PAIRS = LINES = 1_000_000
 HELD = 100_000
 # Pairs and buckets of a full table, whose probes are counted.
-FULL, BUCKETS = 3 << 16, 4 << 16
+FULL, BUCKETS = 3 << 16, picture.BUCKETS
 # Words that word_count counts, and how many of them differ.
 WORDS, DIFFERING = 2_000_000, 50_000
 
@@ -184,17 +184,33 @@ def memory_rows(program):
         yield [keys, f"{size:,}", f"{copies:,}", *pair]
 
 
-def reads_rows(program):
-    """The buckets that a miss reads on average, an insertion since the table was empty, and a hit: by proof, and as measured."""
+def reads_lines(program):
+    """For each load the lines that the program prints of each type of keys, as numbers: of reads, and of those of many buckets."""
     commands = [[program, "reads", keys, str(FULL)] for keys in KEYS]
     found = [subprocess.run(it, capture_output=True, text=True, check=True).stdout.splitlines() for it in commands]
-    for lines in zip(*found):
-        held, *_ = numbers = [int(word) for line in lines for word in line.split()]
+    lines = [[list(map(int, line.split())) for line in both] for both in zip(*found)]
+    size = 1 + len(picture.MANY)
+    return [lines[at : at + size] for at in range(0, len(lines), size)]
+
+
+def reads_rows(loads):
+    """The buckets that a miss reads on average, an insertion since the table was empty, and a hit: by proof, and as measured."""
+    for both, *_ in loads:
+        held = both[0][0]
         free = BUCKETS / (BUCKETS - held)
-        misses = [(1 + free**2) / 2, *(reads / FULL for reads in numbers[1::4])]
-        insertions = [(1 + free) / 2, *(reads / held for reads in numbers[2::4])]
-        hits = [(1 + free) / 2, *(reads / held for reads in numbers[3::4])]
+        misses = [(1 + free**2) / 2, *(reads / FULL for _, reads, _, _ in both)]
+        insertions = [(1 + free) / 2, *(reads / held for _, _, reads, _ in both)]
+        hits = [(1 + free) / 2, *(reads / held for _, _, _, reads in both)]
         yield [f"{held / BUCKETS:.3f}", *(f"{mean:.2f}" for mean in misses + insertions + hits)]
+
+
+def long_rows(loads):
+    """Of how many misses, and of how many hits, one reads more buckets than some number, by proof and as measured."""
+    for both in itertools.chain.from_iterable(lines for _, *lines in loads):
+        held, many = both[0][:2]
+        parts = [picture.proved_tail(held / BUCKETS, many), *(misses / FULL for _, _, misses, _ in both)]
+        parts += [hits / held for _, _, _, hits in both]
+        yield [f"{held / BUCKETS:.3f}", many, *map(picture.one_in, parts)]
 
 
 def processor_seconds(command, path):
@@ -251,7 +267,11 @@ def print_others(rounds, words, path):
     if "reads" in words:
         print(f"\nBuckets that a probe reads on average, in a table of {BUCKETS:,}:\n")
         heads = [f"{what}, {how}" for what in ("a miss", "an insertion", "a hit") for how in ("at most", *KEYS)]
-        print_table(["load", *heads], reads_rows(build("half_bench")))
+        loads = reads_lines(build("half_bench"))
+        print_table(["load", *heads], reads_rows(loads))
+        print("\nOne search in so many reads more buckets:\n")
+        heads = ["misses, by proof", *(f"{what}, {keys}" for what in ("misses", "hits") for keys in KEYS)]
+        print_table(["load", "more than", *heads], long_rows(loads))
     if "halfmap" in words:
         print(f"\nhalfmap, by the median of {rounds} rounds:\n")
         print_table(["lines", "halfmap to sort -u"], halfmap_rows(build("halfmap"), rounds, path))

@@ -20,7 +20,8 @@ half_bench memory limit_0|limit_32|std|indexmap u64|String SIZE COPIES
 half_bench words limit_32|std|indexmap
     counts the words of its input with a map, and prints how many differ
 half_bench reads u64|String PAIRS
-    fills a table, and prints at five loads the pairs, and the buckets that PAIRS misses read, the insertions, and a hit of each pair";
+    fills a table, and prints at five loads the pairs, and the buckets that PAIRS misses read, the insertions, and a hit of each pair,
+    and for 10, 20, 40 and 80 buckets the pairs, that number, and how many misses and hits read more";
 
 fn main(rt: HostRuntime) -> io::Result<()> {
     let words: Vec<String> = env::args(&rt)?.skip(1).collect(rt.alloc())?;

@@ -11,19 +11,48 @@ use test_support::probes::{probed, searched};
 // Which pair is replaced next: a prime, so that they lie all over the table.
 const STRIDE: u64 = 1_000_003;
 
+// Probes that read more buckets than one of these are counted.
+const MANY: [u64; 4] = [10, 20, 40, 80];
+
+// What probes have read: the buckets in all, and how many probes read more than each of MANY.
+#[derive(Drop)]
+struct Reads {
+    total: u64,
+    long: [u64; 4],
+}
+
+impl Reads {
+    fn new() -> Reads {
+        Reads {
+            total: 0,
+            long: [0; 4],
+        }
+    }
+
+    // Adds a probe that has read this many.
+    fn add(&mut self, read: u64) {
+        self.total = self.total.wrapping_add(read);
+        for at in 0..4 {
+            if read > MANY[at] {
+                self.long[at] = self.long[at].wrapping_add(1);
+            }
+        }
+    }
+}
+
 // The hash of the key of the number.
 fn hash_of<K: Key>(alloc: Global, number: u64) -> io::Result<u64> {
     let builder: DefaultHashBuilder = BuildHasherDefault::new();
     Ok(builder.hash_one(&K::of_number(alloc, number)?))
 }
 
-// How many buckets searches for the keys of these numbers read, none of which is held.
-fn missing<K: Key>(alloc: Global, table: &Table, numbers: Range<u64>) -> io::Result<u64> {
-    let mut read = 0u64;
+// What searches for the keys of these numbers read, none of which is held.
+fn missing<K: Key>(alloc: Global, table: &Table, numbers: Range<u64>) -> io::Result<Reads> {
+    let mut reads = Reads::new();
     for number in numbers {
-        read = read.wrapping_add(probed(table, hash_of::<K>(alloc, number)?).1);
+        reads.add(probed(table, hash_of::<K>(alloc, number)?).1);
     }
-    Ok(read)
+    Ok(reads)
 }
 
 // Adds the keys of these numbers, as far as there is capacity, and returns how many buckets that reads.
@@ -68,34 +97,46 @@ fn replaced<K: Key>(alloc: Global, capacity: usize, pairs: u64) -> io::Result<(T
     Ok((table, held))
 }
 
-// How many buckets the searches for all held keys read.
-fn finding<K: Key>(alloc: Global, table: &Table, held: &[u64]) -> io::Result<u64> {
-    let mut read = 0u64;
+// What the searches for all held keys read.
+fn finding<K: Key>(alloc: Global, table: &Table, held: &[u64]) -> io::Result<Reads> {
+    let mut reads = Reads::new();
     for number in held {
         let hash = hash_of::<K>(alloc, *number)?;
-        read = read.wrapping_add(searched(table, held, hash, number).2);
+        reads.add(searched(table, held, hash, number).2);
     }
-    Ok(read)
+    Ok(reads)
 }
 
-// Prints the row of a table with these pairs, whose insertions have read so many buckets.
-fn print_row<K: Key>(
+// Prints how many searches of each kind read more than each of MANY.
+fn print_long(rt: &impl Print, held: u64, missed: &Reads, found: &Reads) -> io::Result<()> {
+    for at in 0..4 {
+        let (many, misses, hits) = (MANY[at], missed.long[at], found.long[at]);
+        println!(rt; "{held} {many} {misses} {hits}")?;
+    }
+    Ok(())
+}
+
+// Prints the lines of a table with these pairs, whose insertions have read so many buckets.
+fn print_load<K: Key>(
     rt: &(impl Print + AllocGlobal),
-    table: &Table,
     capacity: u64,
     held: u64,
     added: u64,
 ) -> io::Result<()> {
     let alloc = rt.alloc();
-    let missed = missing::<K>(alloc, table, capacity..capacity.wrapping_mul(2))?;
-    let (after, numbers) = replaced::<K>(alloc, capacity as usize, held)?;
-    let found = finding::<K>(alloc, &after, numbers.as_slice())?;
-    println!(rt; "{held} {missed} {added} {found}")
+    let (table, numbers) = replaced::<K>(alloc, capacity as usize, held)?;
+    let others = capacity.wrapping_mul(2)..capacity.wrapping_mul(3);
+    let missed = missing::<K>(alloc, &table, others)?;
+    let found = finding::<K>(alloc, &table, numbers.as_slice())?;
+    let (misses, hits) = (missed.total, found.total);
+    println!(rt; "{held} {misses} {added} {hits}")?;
+    print_long(rt, held, &missed, &found)
 }
 
 /// Fills a table that has memory for this many pairs, and prints at a third, a half, two thirds, five sixths and all of
-/// them: the pairs, the buckets that as many searches for other keys read, those that the insertions have read, and those
-/// that one search for each pair reads in such a table after as many replacements.
+/// them: the pairs, the buckets that as many searches for other keys read as it has memory for, those that the insertions have
+/// read, and those that one search for each pair reads; and for each of MANY the pairs, that number, and how many of both
+/// searches read more. The searches are in such a table after as many replacements as it has pairs.
 pub(crate) fn print<K: Key>(rt: &(impl Print + AllocGlobal), capacity: u64) -> io::Result<()> {
     let alloc = rt.alloc();
     let mut table = TableMemory::for_pairs(alloc, capacity as usize)?.into_table();
@@ -104,7 +145,7 @@ pub(crate) fn print<K: Key>(rt: &(impl Print + AllocGlobal), capacity: u64) -> i
         let next = capacity.wrapping_mul(sixths) / 6;
         added = added.wrapping_add(adding::<K>(alloc, &mut table, held..next)?);
         held = next;
-        print_row::<K>(rt, &table, capacity, held, added)?;
+        print_load::<K>(rt, capacity, held, added)?;
     }
     Ok(())
 }
