@@ -119,7 +119,10 @@ impl<K: Lawful, const N: usize> Map<K> for AtLimit<K, N> {
     fn take_entry(&mut self, key: K) -> io::Result<Option<u64>> {
         match self.entry(key)? {
             halfbrown::Entry::Occupied(entry) => Ok(Some(entry.remove())),
-            halfbrown::Entry::Vacant(_) => Ok(None),
+            halfbrown::Entry::Vacant(entry) => {
+                let _ = entry.into_key();
+                Ok(None)
+            }
         }
     }
 
@@ -193,7 +196,10 @@ impl<K: Lawful> Map<K> for OfStd<K> {
     fn take_entry(&mut self, key: K) -> io::Result<Option<u64>> {
         match self.entry(key)? {
             hash_map::Entry::Occupied(entry) => Ok(Some(entry.remove())),
-            hash_map::Entry::Vacant(_) => Ok(None),
+            hash_map::Entry::Vacant(entry) => {
+                let _ = entry.into_key();
+                Ok(None)
+            }
         }
     }
 
@@ -267,7 +273,10 @@ impl<K: Lawful> Map<K> for OfIndex<K> {
     fn take_entry(&mut self, key: K) -> io::Result<Option<u64>> {
         match self.entry(key)? {
             map::Entry::Occupied(entry) => Ok(Some(entry.swap_remove())),
-            map::Entry::Vacant(_) => Ok(None),
+            map::Entry::Vacant(entry) => {
+                let _ = entry.into_key();
+                Ok(None)
+            }
         }
     }
 
