@@ -121,14 +121,14 @@ def measured_tails(page):
 
 def tail_picture(measured):
     """The lines of the picture of long misses."""
-    place = lambda many, count: f"{60 + 6 * many:g} {70 + 50 * math.log10(count):.1f}"
-    yield '<svg xmlns="http://www.w3.org/2000/svg" width="620" height="410" font-family="sans-serif" font-size="13">'
+    place = lambda many, count: f"{90 + 6 * many:g} {70 + 50 * math.log10(count):.1f}"
+    yield '<svg xmlns="http://www.w3.org/2000/svg" width="650" height="410" font-family="sans-serif" font-size="13">'
     yield '<rect width="100%" height="100%" fill="white"/>'
-    yield text(10, 20, "One search that finds nothing, in so many, reads more than 0 to 80 buckets.")
+    yield text(10, 20, "How many misses there are for each one that reads more than 0 to 80 buckets.")
     yield text(10, 40, "Dashed: what is proved. Solid: Knuth's distribution. Dots: measured.")
     for digits in range(7):
-        yield f'<path d="M60 {70 + 50 * digits}H540" stroke="#ddd"/>' + text(54, 74 + 50 * digits, f"{10**digits:,}", "end")
-    yield from (text(60 + 6 * many, 395, many, "middle") for many in range(0, 81, 20))
+        yield f'<path d="M90 {70 + 50 * digits}H570" stroke="#ddd"/>' + text(84, 74 + 50 * digits, f"{10**digits:,}", "end")
+    yield from (text(90 + 6 * many, 395, many, "middle") for many in range(0, 81, 20))
     for words, (load, colour) in LOADS.items():
         for dashes, parts in (("6 4", [proved_tail(load, many) for many in range(81)]), ("none", true_tails(load)[:81])):
             points = [place(many, 1 / part) for many, part in enumerate(parts) if part > 1e-6]
