@@ -4,7 +4,6 @@ mod callers;
 mod json;
 mod queries;
 mod refused_clones;
-mod rust_crate;
 mod sizes;
 mod tables;
 mod texts;

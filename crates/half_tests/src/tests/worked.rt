@@ -80,7 +80,9 @@ fn written_pairs(rt: HostRuntime) -> Result<(), Fail> {
     assert_same(two, (2, Some("one"), Some("two")), "two names, by index")?;
     assert_same(names.get(&3).copied(), None, "no third")?;
     let none: Letters = hashmap! {in alloc;}?;
-    assert_same(none.len(), 0, "no names")
+    assert_same(none.len(), 0, "no names")?;
+    let nested: HashMap<u64, Letters> = hashmap! {in alloc; 1 => names,}?;
+    assert_same(nested.len(), 1, "a map of maps")
 }
 
 #[test]
