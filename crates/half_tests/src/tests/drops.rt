@@ -35,7 +35,11 @@ impl<'a> Item<'a> {
 
 impl Drop for Item<'_> {
     fn drop(self) {
-        let Item { id: _, digit, dropped } = self;
+        let Item {
+            id: _,
+            digit,
+            dropped,
+        } = self;
         dropped.set(dropped.get().wrapping_mul(10).wrapping_add(digit));
     }
 }
