@@ -97,14 +97,21 @@ fn whole_maps<const N: usize>(alloc: Global) -> Result<(), Fail> {
     assert_same_at(N, dropped.replace(0), 142356, "a loop that is left")
 }
 
-fn drained<const N: usize>(alloc: Global, taken: usize) -> Result<u64, Fail> {
-    let dropped = Cell::new(0);
-    let mut map = filled::<N>(alloc, &dropped)?;
+// Takes this number of pairs, each of which is dropped at once, and drops the others.
+fn drain<K: Eq + Hash + Drop, V: Drop, const N: usize>(
+    map: &mut SizedHashMap<K, V, DefaultHashBuilder, N>,
+    taken: usize,
+) {
     let mut pairs = map.drain();
     for _ in 0..taken {
         drop(pairs.next());
     }
-    drop(pairs);
+}
+
+fn drained<const N: usize>(alloc: Global, taken: usize) -> Result<u64, Fail> {
+    let dropped = Cell::new(0);
+    let mut map = filled::<N>(alloc, &dropped)?;
+    drain(&mut map, taken);
     Ok(dropped.get())
 }
 
@@ -190,7 +197,7 @@ fn declare<'a>(
     name: u64,
     dropped: &'a Cell<u64>,
 ) -> Result<(), Refusal> {
-    scopes.declare(Item::new(name, dropped), Item::new(name + 4, dropped))?;
+    scopes.declare(Item::new(name, dropped), Item::new(name.saturating_add(4), dropped))?;
     Ok(())
 }
 

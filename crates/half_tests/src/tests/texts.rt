@@ -28,12 +28,14 @@ fn texts_are_printed_in_order(rt: HostRuntime) -> Result<(), Fail> {
 
 // Plain, in lines, with signs, and with a width, which is that of each key and of each value.
 fn assert_forms<T: Debug>(alloc: Global, shown: &T, expected: [&str; 4]) -> Result<(), Fail> {
-    let plain = format!(in alloc; "{shown:?}")?;
-    let lines = format!(in alloc; "{shown:#?}")?;
-    let signs = format!(in alloc; "{shown:+?}")?;
-    let width = format!(in alloc; "{shown:5?}")?;
-    let texts = [&plain, &lines, &signs, &width].map(|text| text.as_str());
-    assert_same(texts, expected, "the forms of a text")
+    let text = format!(in alloc; "{shown:?}")?;
+    assert_same(text.as_str(), expected[0], "plain")?;
+    let text = format!(in alloc; "{shown:#?}")?;
+    assert_same(text.as_str(), expected[1], "in lines")?;
+    let text = format!(in alloc; "{shown:+?}")?;
+    assert_same(text.as_str(), expected[2], "with signs")?;
+    let text = format!(in alloc; "{shown:5?}")?;
+    assert_same(text.as_str(), expected[3], "with a width")
 }
 
 #[test]
