@@ -80,9 +80,6 @@ build() { make --no-print-directory -s "out/unproved/$1" || { rm -f "out/unprove
 # Where it stands, or what `rt ci` has built.
 program() { [ "$mode" = proved ] && echo "$PWD/crates/$1/out/$1" || echo "$PWD/out/unproved/$1"; }
 
-# prints NAME: on its stored input a program prints its stored output.
-prints() { "$(program "$1")" <"crates/$1/stdin" | diff "crates/$1/stdout" -; }
-
 # Two megabytes of words are counted. They are long, since a program that is not proved counts slowly.
 counts_many() {
     local words="internationalization electroencephalographically otorhinolaryngological"
@@ -142,8 +139,8 @@ part "halfmap" proofs tests/halfmap.py
 part "documents" "build of json_at" tests/documents.py
 part "what make says" "build of halfmap" says
 part "many words" "build of word_count" counts_many
-part "json_at" "build of json_at" prints json_at
-part "word_count" "build of word_count" prints word_count
+part "json_at" "build of json_at" tests/programs.py json_at "$(program json_at)"
+part "word_count" "build of word_count" tests/programs.py word_count "$(program word_count)"
 part "sources" - tests/sources.py
 # Its tests are built where all is proved.
 [ "$mode" != proved ] || part "refused reads" - tests/refused_reads.py
