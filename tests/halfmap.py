@@ -89,7 +89,8 @@ class Run:
 
 def each_answer_comes_before_more_is_read():
     """Where parts are lines, and where lines end anywhere in them."""
-    lines = [(b"i 1 10\n", b"none\n"), (b"i 1 11\n", b"was 10\n"), (b"g 1\n", b"11\n"), (b"g \xff\n", b"bad line\n")]
+    lines = [(b"i 1 10\n", b"none\n"), (b"i 1 11\n", b"was 10\n"), (b"g 1\n", b"11\n")]
+    lines += [(line, b"bad line\n") for line in (b"i 1\n", b"g +1\n", b"g \xff\n")]
     parts = [(b"f\ni 2", b"vec 1\n"), (b" 10\r\n\ng", b"none\nbad line\n"), (b" 2\nf", b"10\n"), (b"\nr 1", b"vec 2\n")]
     run = Run()
     for part in [*lines, (b"f\n", b"vec 1\n"), *parts]:
