@@ -47,10 +47,10 @@ test:
 edits:
 	@tests/edits.py $(WORD)
 
-scripts: out/unproved/witness
+scripts: out/covered/witness
 	@WITNESS=$(CURDIR)/$< tests/scripts.py $(WORD)
 
-witness: out/unproved/witness
+witness: out/covered/witness
 	@WITNESS=$(CURDIR)/$< tests/witness.py $(or $(N),600) $(or $(SEED),1)
 
 bench:
@@ -59,7 +59,7 @@ bench:
 fmt:
 	@for crate in crates/*/; do (cd "$$crate" && rt fmt) || exit 1; done
 
-# A program that is built with nothing proved.
-out/unproved/%: $(wildcard crates/*/src/*.rt crates/*/src/*/*.rt crates/*/src/*/*/*.rt) crates.txt tests/build_unproved.sh
+# A program that is built with nothing proved, and whose runs say which blocks they enter.
+out/covered/%: $(wildcard crates/*/src/*.rt crates/*/src/*/*.rt crates/*/src/*/*/*.rt tests/coverage.*) crates.txt tests/build_unproved.sh
 	@echo "$* is built unproved, in about $(if $(filter witness,$*),a minute,20 seconds)." >&2
-	@tests/build_unproved.sh $* $@
+	@tests/build_unproved.sh $* $@ covered

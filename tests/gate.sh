@@ -3,6 +3,7 @@
 #
 #   tests/gate.sh            proves what users run, and builds the rest unproved beside that
 #   tests/gate.sh proved     takes what `rt ci` has proved and built
+#   tests/gate.sh covered    builds all unproved, and says which blocks no test enters
 #
 # As many parts run at once as there are processors, at most four. Each has its line when it ends, so that their order differs.
 set -uo pipefail
@@ -12,7 +13,7 @@ for it in rt python3 cc; do
 done
 [ "$missing" -eq 0 ] || { echo "0 passed, 1 failed"; exit 1; }
 cd "$(dirname "$0")/.." || exit 1
-mode=${1:-}
+mode=${1:-test}
 lanes=$(nproc)
 [ "$lanes" -le 4 ] || lanes=4
 folder=$(mktemp -d) || exit 1
@@ -23,17 +24,18 @@ declare -A first=() command=() running=() began=() ended=()
 below() { local it; for it; do echo "$it"; below $(ps -o pid= --ppid "$it"); done; }
 trap 'kill $(below $(jobs -p)) 2>/dev/null; rm -rf "$folder"' EXIT
 
-# part NAME FIRST COMMAND..: a part, which starts when the part FIRST has ended, if there is one of this name.
+# part MODES NAME FIRST COMMAND..: a part of the modes with these first letters, which starts when the part FIRST has ended, if
+# there is one of this name.
 part() {
-    [[ $mode != proved || $3 != @(proofs|build) ]] || return
-    waiting+=("$1") first[$1]=$2 command[$1]=${*:3}
+    [[ $1 = *${mode:0:1}* ]] || return
+    waiting+=("$2") first[$2]=$3 command[$2]=${*:4}
 }
 
 # start NAME: runs a part. The others give way to the proofs, which are long where something has changed, and to the longest build.
 start() {
     began[$1]=$SECONDS
     (
-        [[ $mode = proved || $1 = @(proofs|build of witness) ]] || renice -n 10 $BASHPID >/dev/null
+        [[ $mode != test || $1 = @(proofs|build of witness) ]] || renice -n 10 $BASHPID >/dev/null
         ${command[$1]}
     ) >"$folder/$1" 2>&1 </dev/null &
     running[$!]=$1
@@ -75,10 +77,10 @@ exec 3>&2
 proofs() { tests/prove.sh 2>&3 && echo "3 passed, 0 failed"; }
 
 # Builds a program unproved. Where that fails, no older one plays in its place.
-build() { make --no-print-directory -s "out/unproved/$1" || { rm -f "out/unproved/$1"; return 1; }; }
+build() { make --no-print-directory -s "out/covered/$1" || { rm -f "out/covered/$1"; return 1; }; }
 
 # Where it stands, or what `rt ci` has built.
-program() { [ "$mode" = proved ] && echo "$PWD/crates/$1/out/$1" || echo "$PWD/out/unproved/$1"; }
+program() { [ "$mode" = proved ] && echo "$PWD/crates/$1/out/$1" || echo "$PWD/out/covered/$1"; }
 
 # Two megabytes of words are counted. They are long, since a program that is not proved counts slowly.
 counts_many() {
@@ -112,38 +114,44 @@ says() {
 # The tests of a crate, unproved.
 try_tests() {
     local said
-    said=$(cd "crates/$1" && rt try --test --steps 1 2>&1)
+    said=$(tests/build_unproved.sh "$1" "out/covered/$1_tests" tests 2>&1)
     echo "$said"
-    # Where it does not compile there is no result, and rt's status is 0.
+    # Where it does not compile there is no result.
     sed -n -E 's/^test result: .* ([0-9]+) passed; ([0-9]+) failed;.*/\1 passed, \2 failed/p' <<<"$said" | grep . ||
         echo "0 passed, 1 failed"
 }
 
 rt version
-[ "$mode" = proved ] || echo "Beside the proofs the programs are built unproved, and tested."
+[ "$mode" != test ] || echo "Beside the proofs the programs are built unproved, and tested."
 WITNESS=$(program witness) JSON_AT=$(program json_at) HALFMAP=$(program halfmap)
 export WITNESS JSON_AT HALFMAP
+# What other runs have entered does not count.
+mkdir -p out/covered && rm -f out/covered/*.entered
 # The longest first, or what they wait for.
-part "proofs" - proofs
-part "build of witness" - build witness
-part "tests of half_tests" - try_tests half_tests
-part "must not compile" - tests/must_not_compile.py
-part "build of halfmap" - build halfmap
-part "random run" "build of witness" tests/witness.py
-part "documentation" "build of halfmap" tests/documentation.py
-part "scripts" "build of witness" tests/scripts.py
-part "build of json_at" - build json_at
-part "build of word_count" - build word_count
-part "tests of halfmap" - try_tests halfmap
-part "halfmap" proofs tests/halfmap.py
-part "documents" "build of json_at" tests/documents.py
-part "what make says" "build of halfmap" says
-part "many words" "build of word_count" counts_many
-part "json_at" "build of json_at" tests/programs.py json_at "$(program json_at)"
-part "word_count" "build of word_count" tests/programs.py word_count "$(program word_count)"
-part "sources" - tests/sources.py
+part t "proofs" - proofs
+part tc "build of witness" - build witness
+part tc "tests of half_tests" - try_tests half_tests
+part tp "must not compile" - tests/must_not_compile.py
+part tc "build of halfmap" - build halfmap
+part tpc "random run" "build of witness" tests/witness.py
+part tpc "documentation" "build of halfmap" tests/documentation.py
+part tpc "scripts" "build of witness" tests/scripts.py
+part tc "tests of half_serde" - try_tests half_serde
+part tc "build of json_at" - build json_at
+part tc "build of word_count" - build word_count
+part tc "tests of halfmap" - try_tests halfmap
+part tp "halfmap" proofs env -u HALFMAP tests/halfmap.py
+part tc "unproved halfmap" "build of halfmap" tests/halfmap.py
+part tpc "documents" "build of json_at" tests/documents.py
+part tp "what make says" "build of halfmap" says
+part tpc "many words" "build of word_count" counts_many
+part tpc "json_at" "build of json_at" tests/programs.py json_at "$(program json_at)"
+part tpc "word_count" "build of word_count" tests/programs.py word_count "$(program word_count)"
+part tp "sources" - tests/sources.py
 # Its tests are built where all is proved.
-[ "$mode" != proved ] || part "refused reads" - tests/refused_reads.py
+part p "refused reads" - tests/refused_reads.py
+run_parts
+part tc "what was entered" - tests/coverage.py out/covered/{witness,halfmap,json_at,word_count,half{_tests,_serde,map}_tests}
 run_parts
 # A part that has not ended has failed.
 failed=$((failed + ${#command[@]} - ${#ended[@]}))

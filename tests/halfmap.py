@@ -1,8 +1,8 @@
 #!/usr/bin/env python3
-"""Runs the proved program halfmap over pipes that nobody should have, and takes its input, its output and its memory away. What
-it answers to a line its contract says; here is shown when the answers come, and what is left where something fails.
+"""Runs halfmap over pipes that nobody should have, and takes its input, its output and its memory away. What it answers to a line
+its contract says; here is shown when the answers come, and what is left where something fails.
 
-The last line is "N passed, M failed".
+The program is the one that HALFMAP names, or the proved one. The last line is "N passed, M failed".
 """
 
 import os
@@ -15,7 +15,7 @@ import threading
 import time
 
 TESTS = pathlib.Path(__file__).resolve().parent
-PROGRAM = TESTS.parent / "crates/halfmap/out/halfmap"
+PROGRAM = pathlib.Path(os.environ.get("HALFMAP") or TESTS.parent / "crates/halfmap/out/halfmap")
 # Far more than any run takes, so that only one that does not end meets it.
 SECONDS = 60
 # What the program may take of memory where it holds few pairs, with the C library: its buffers have 8 KiB each.
@@ -89,7 +89,8 @@ class Run:
 
 def each_answer_comes_before_more_is_read():
     """Where parts are lines, and where lines end anywhere in them."""
-    lines = [(b"i 1 10\n", b"none\n"), (b"i 1 11\n", b"was 10\n"), (b"g 1\n", b"11\n"), (b"\n", b"bad line\n")]
+    lines = [(b"i 1 10\n", b"none\n"), (b"i 1 11\n", b"was 10\n"), (b"g 1\n", b"11\n")]
+    lines += [(line, b"bad line\n") for line in (b"i 1\n", b"g +1\n", b"g \xff\n")]
     parts = [(b"f\ni 2", b"vec 1\n"), (b" 10\r\n\ng", b"none\nbad line\n"), (b" 2\nf", b"10\n"), (b"\nr 1", b"vec 2\n")]
     run = Run()
     for part in [*lines, (b"f\n", b"vec 1\n"), *parts]:
@@ -225,7 +226,9 @@ def a_refused_growth_takes_no_longer_in_a_large_map():
         times.append(time.monotonic() - began)
     refused = answers.count(b"no room\n")
     assert (errors, status) == (b"", 0) and refused > 500_000, f"{refused} were refused, {errors[:60]}, status {status}"
-    assert times[1] < 3 * times[0], f"{times[1]:.1f} seconds where most are refused, and {times[0]:.1f} where none is"
+    # One that is not proved refuses slowly.
+    is_proved = "HALFMAP" not in os.environ
+    assert not is_proved or times[1] < 3 * times[0], f"{times[1]:.1f} seconds where most are refused, and {times[0]:.1f} where none is"
 
 
 def main():

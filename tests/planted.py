@@ -1,10 +1,13 @@
-"""Copies of the sources, in which edits are planted that a script, the random run, the tests of half_tests or the search of the
-sources finds. Nothing is proved.
+"""Copies of the sources, in which edits are planted that a script, the random run, the tests of half_tests, the search of the
+sources or what no test enters finds. Nothing is proved.
 
 A program takes half a minute to compile. So the edits with `found by: the random run N, PART of CALL` are planted in one program
 for each N. Each has to show in this part of the answers of this call: the `answer` itself, the `work`, the `state` or the `drops`.
 One that does not is tried alone. Whoever writes an edit sees that no other of its program shows there. How a program ends, what it
 leaks, its requests for memory and its calls of closures do not count.
+
+All edits with `found by: coverage.py FUNCTION` are planted in one copy too, and each has to show as one block more of this function
+that no test enters.
 """
 
 import functools
@@ -29,6 +32,7 @@ PROGRAM = "witness"
 RANDOM_RUN, SCRIPTS, FIRST_LINE = re.compile(r"the random run (\d+), (.*)"), 60, ("map", "5")
 PARTS = ("answer", "work", "state", "drops")
 TESTED, OF_TESTS = "half_tests", "the tests of half_tests"
+COVERAGE = "coverage.py "
 
 
 def crates_of(*names):
@@ -102,6 +106,16 @@ def said_by_tests(folder):
     return [line for line in ran.stdout.splitlines() if line.endswith(" ... FAILED")]
 
 
+def said_by_coverage(folder, edits):
+    """What is said of the function that each edit names, or None."""
+    shutil.copytree(TESTS, folder / "tests")
+    shutil.copy(TOP / "Makefile", folder)
+    said = subprocess.run([folder / "tests/gate.sh", "covered"], capture_output=True, text=True).stdout
+    functions = [edit.found_by.removeprefix(COVERAGE) for edit in edits]
+    found = [re.search(rf"^\S+::{re.escape(it)}: .* never entered .*", said, re.M) for it in functions]
+    return [it and it[0] for it in found]
+
+
 @functools.cache
 def scripts_at_random():
     first_lines = [(kind, str(limit)) for kind, limit in FIRST_LINES]
@@ -142,7 +156,8 @@ def in_programs(edits):
     programs = {}
     for edit in edits:
         run = RANDOM_RUN.fullmatch(edit.found_by)
-        programs.setdefault(run[1] if run else str(edit), []).append(edit)
+        is_covered = edit.found_by.startswith(COVERAGE)
+        programs.setdefault(run[1] if run else COVERAGE if is_covered else str(edit), []).append(edit)
     for program in programs.values():
         if len({edit.found_by for edit in program}) < len(program):
             raise ValueError(f"two edits of one program name the same part: {program[0].found_by}")
@@ -162,7 +177,7 @@ def attempt(edits):
     """Whether each edit of a program is found by what it names, and what that shows; None for one that has to be tried alone."""
     found_by = edits[0].found_by
     finder = TESTS / found_by
-    is_search = finder.suffix == ".py"
+    is_search = finder.name.partition(" ")[0].endswith(".py")
     with tempfile.TemporaryDirectory(prefix="planted-") as folder:
         of_program = [TESTED if found_by == OF_TESTS else PROGRAM, *(edit.crate for edit in edits)]
         folder = copy_sources(pathlib.Path(folder, "copy"), crates_of(*([] if is_search else of_program)))
@@ -171,6 +186,8 @@ def attempt(edits):
             shown = said_at_random(folder, edits)
         elif found_by == OF_TESTS:
             shown = said_by_tests(folder)
+        elif found_by.startswith(COVERAGE):
+            shown = said_by_coverage(folder, edits)
         else:
             shown = said_by_search(finder, folder, edits[0]) if is_search else said_by_script(found_by, folder)
     found = [(bool(it), it or f"{edit.found_by} does not find it") for edit, it in zip(edits, [*shown, None])]
