@@ -1,6 +1,8 @@
-//! The first map compared with one of another limit and rule, of clones of the pairs of the second one.
+//! A clone of the first map, and that compared with a map of another limit and rule, of clones of the second one's pairs.
+//! What clones a map knows its builder, since a clone of another one might hash otherwise.
 
-use crate::items::{Named, Number, Ruled};
+use crate::answer::{refused, said};
+use crate::items::{Named, Number};
 use crate::player::Player;
 use crate::script::rule_of;
 use crate::words::Words;
@@ -9,7 +11,17 @@ use std::alloc::AllocError;
 use std::io;
 use test_support::builders::{Counting, Rule};
 
-impl<'a, R: Print, K: Named, V: Number, S: Ruled, L: Limit> Player<'a, R, K, V, S, L> {
+impl<'a, R: Print, K: Named, V: Number, L: Limit> Player<'a, R, K, V, Counting<'a>, L> {
+    /// Makes the second map a clone of the first one.
+    pub(crate) fn clone_first(&mut self) -> io::Result<()> {
+        self.mark();
+        match self.a.clone() {
+            Ok(clone) => self.b = clone,
+            Err(why) => return self.say(refused(why)),
+        }
+        self.say(said("done"))
+    }
+
     /// Makes the other map, compares it with the first one, and prints the answer. Only the comparison is counted.
     pub(crate) fn print_same(&mut self, call: &str, words: &Words<'_>) -> io::Result<()> {
         let (limit, Some(rule)) = (words.next(), rule_of(words.next())) else {

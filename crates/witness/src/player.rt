@@ -10,6 +10,7 @@ use halfbrown::{Equivalent, Limit, LimitedHashMap};
 use std::alloc::{AllocError, Global};
 use std::hash::{BuildHasher, Hash};
 use std::io;
+use test_support::builders::Counting;
 
 /// Plays the lines of a script. Calls are made on the first map.
 #[derive(Drop)]
@@ -87,7 +88,7 @@ impl<R: Print, K: Named, V: Number, S: Ruled, L: Limit> Player<'_, R, K, V, S, L
     }
 }
 
-impl<R: Print, K: Named, V: Number, S: Ruled, L: Limit> Player<'_, R, K, V, S, L>
+impl<'a, R: Print, K: Named, V: Number, L: Limit> Player<'a, R, K, V, Counting<'a>, L>
 where
     Id: Equivalent<K>,
 {
@@ -120,11 +121,10 @@ where
             "from_iter" | "from_iter_hint" | "from_array" | "hashmap" | "collect" | "made" => {
                 self.collect(call, words)
             }
-            "clear" | "shrink_to_fit" | "drop" | "swap" | "clone" | "same" | "eq" => {
-                self.whole(call, words)
-            }
+            "clear" | "shrink_to_fit" | "drop" | "swap" | "same" | "eq" => self.whole(call, words),
             "raw_entry_mut" | "reserve" | "retain" => self.whole(call, words),
             "iter_mut" | "values_mut" | "values_slice_mut" => self.whole(call, words),
+            "clone" => self.clone_first(),
             "same_as" | "same_from" => self.print_same(call, words),
             "state" => self.print_own(),
             "pairs" => self.print_both(),

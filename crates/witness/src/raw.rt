@@ -25,8 +25,8 @@ impl<R: Print, K: Named, V: Number, S: Ruled, L: Limit> Player<'_, R, K, V, S, L
                 self.call_occupied(key, true, call, words.number())
             }
             "write" => self.write(&key, words),
-            "insert_key" => self.insert_key(key),
-            "read" => or_refused(self.raw_read(&key)),
+            "insert_key" => or_refused(self.insert_key(key)),
+            "read" => or_refused(self.raw_find(&key)),
             "handed" => or_refused(self.hand(&key)),
             "and_modify" => or_refused(self.and_modify_raw(&key, words.number())),
             "or_insert_with" => {
@@ -70,10 +70,6 @@ impl<R: Print, K: Named, V: Number, S: Ruled, L: Limit> Player<'_, R, K, V, S, L
         }
     }
 
-    fn raw_read(&mut self, key: &K) -> Result<Answer, Refusal> {
-        Ok(of_found(self.a.raw_entry_mut()?.from_key(key)))
-    }
-
     fn write(&mut self, key: &K, words: &Words<'_>) -> Answer {
         let value = self.value(words);
         match found(&mut self.a, key) {
@@ -82,11 +78,11 @@ impl<R: Print, K: Named, V: Number, S: Ruled, L: Limit> Player<'_, R, K, V, S, L
         }
     }
 
-    fn insert_key(&mut self, key: K) -> Answer {
-        match found(&mut self.a, &key) {
-            Ok(mut entry) => said("was").key(&entry.insert_key(key)),
-            Err(answer) => answer,
-        }
+    fn insert_key(&mut self, key: K) -> Result<Answer, Refusal> {
+        Ok(match self.a.raw_entry_mut()?.from_key(&key) {
+            RawEntryMut::Occupied(mut entry) => said("was").key(&entry.insert_key(key)),
+            RawEntryMut::Vacant(_vacant) => said("vacant"),
+        })
     }
 
     // The closure changes nothing, and says what it was handed.

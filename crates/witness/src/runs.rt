@@ -10,13 +10,14 @@ use halfbrown::run::run;
 use halfbrown::{Command, Equivalent, Limit, LimitedHashMap, Reply};
 use std::alloc::AllocError;
 use std::io;
+use test_support::builders::Counting;
 
-impl<R: Print, K: Named, S: Ruled, L: Limit> Player<'_, R, K, u64, S, L> {
+impl<'a, R: Print, K: Named, L: Limit> Player<'a, R, K, u64, Counting<'a>, L>
+where
+    Id: Equivalent<K>,
+{
     /// Plays a line.
-    pub(crate) fn play_plain_line(&mut self, line: &str) -> io::Result<()>
-    where
-        Id: Equivalent<K>,
-    {
+    pub(crate) fn play_plain_line(&mut self, line: &str) -> io::Result<()> {
         let all = self.begin(line)?;
         let words = Words::new(all.as_slice());
         match words.next() {
@@ -26,7 +27,9 @@ impl<R: Print, K: Named, S: Ruled, L: Limit> Player<'_, R, K, u64, S, L> {
         }
         self.end(&words)
     }
+}
 
+impl<R: Print, K: Named, S: Ruled, L: Limit> Player<'_, R, K, u64, S, L> {
     // `or_default` of the entry of a key.
     fn or_default(&mut self, words: &Words<'_>) -> io::Result<()> {
         let key = self.key(words)?;

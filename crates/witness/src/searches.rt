@@ -71,7 +71,8 @@ impl<R: Print, K: Named, V: Number, S: Ruled, L: Limit> Player<'_, R, K, V, S, L
         said("").value(&self.a[query])
     }
 
-    fn raw_find<Q: Equivalent<K>>(&mut self, query: Q) -> Result<Answer, Refusal> {
+    /// The pair that is found by a query, through a raw entry.
+    pub(crate) fn raw_find<Q: Equivalent<K>>(&mut self, query: Q) -> Result<Answer, Refusal> {
         Ok(of_found(self.a.raw_entry_mut()?.from_key(query)))
     }
 

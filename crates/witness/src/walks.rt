@@ -142,7 +142,7 @@ impl<R: Print, K: Named, V: Number, S: Ruled, L: Limit> Player<'_, R, K, V, S, L
     /// Makes an iterator of this kind, and prints the list of what it gives, or, for `walk`, of what the steps gave.
     pub(crate) fn walk(&mut self, call: &str, kind: &str, words: &Words<'_>) -> io::Result<()> {
         self.mark();
-        let (rt, map) = (self.rt, &mut self.a);
+        let (rt, alloc, map) = (self.rt, self.alloc, &mut self.a);
         match kind {
             "iter" => play(rt, &mut map.iter(), call, words),
             "keys" => play(rt, &mut map.keys(), call, words),
@@ -152,14 +152,9 @@ impl<R: Print, K: Named, V: Number, S: Ruled, L: Limit> Player<'_, R, K, V, S, L
             "drain" => play(rt, &mut map.drain(), call, words),
             "for" => play(rt, &mut (&*map).into_iter(), call, words),
             "for_mut" => play(rt, &mut map.into_iter(), call, words),
-            "into_iter" | "for_value" => play(
-                rt,
-                &mut take(map, self.alloc).into_iter(),
-                call,
-                words,
-            ),
-            "into_keys" => play(rt, &mut take(map, self.alloc).into_keys(), call, words),
-            "into_values" => play(rt, &mut take(map, self.alloc).into_values(), call, words),
+            "into_iter" | "for_value" => play(rt, &mut take(map, alloc).into_iter(), call, words),
+            "into_keys" => play(rt, &mut take(map, alloc).into_keys(), call, words),
+            "into_values" => play(rt, &mut take(map, alloc).into_values(), call, words),
             _ => words.fail(),
         }
     }

@@ -33,16 +33,10 @@ impl<R: Print, K: Named, V: Number, S: Ruled, L: Limit> Player<'_, R, K, V, S, L
         match call {
             "same" => of_bool(self.a.same_pairs(&self.b)),
             "eq" => of_bool(self.a == self.b),
-            "clone" => or_refused(self.clone_first()),
             "raw_entry_mut" => or_refused(self.raw_entry_mut()),
             "reserve" => or_refused(self.a.reserve(words.count()).map(|()| said("done"))),
             _ => self.retain(words.number(), words),
         }
-    }
-
-    fn clone_first(&mut self) -> Result<Answer, Refusal> {
-        self.b = self.a.clone()?;
-        Ok(said("done"))
     }
 
     // Raw entries that are dropped unused.
