@@ -61,8 +61,8 @@ def build(folder, first_lines):
     """Builds the program of this copy for scripts with these first lines, such as ("map", "5"), and returns where it is. It has no
     other limits, and `owning` maps only where they are named."""
     script = folder / "crates" / PROGRAM / "src/script.rt"
-    arm = re.compile(r'^ +"(\d+)" => \w+::<.*>\(.*\),\n', re.M)
-    owning = re.compile(r"^ +Kind::Owning => \{\n.*\n +\}\n", re.M)
+    arm = re.compile(r'^ +"(\d+)" => self\.\w+::<.*>\(.*\),\n', re.M)
+    owning = re.compile(r'^ +"owning" => .*\n', re.M)
     kinds, limits = zip(*first_lines)
     text = arm.sub(lambda it: it[0] if it[1] in limits else "", script.read_text())
     script.write_text(text if "owning" in kinds else owning.sub("", text))

@@ -7,7 +7,8 @@ import itertools
 
 from model.basics import ALL, GREATEST, MOST_PAIRS, RULES, Key
 from model.coverage import COMPARING, STATES
-from model.lines import CALLS, COMMANDS, LIMITS, MAKERS_FOR, OTHER_LIMITS, PLAIN_MAKERS, WITH_NUMBERS, WITH_TEXT, places_of
+from model.lines import CALLS, COMMANDS, LIMITS, MAKERS_FOR, OF_NUMBERS, OTHER_LIMITS, PLAIN_MAKERS
+from model.lines import WITH_NUMBERS, WITH_TEXT, places_of
 from model.session import Session
 from model.walk import steps_of
 
@@ -39,19 +40,6 @@ GOLDEN = (5**0.5 - 1) / 2
 REQUESTS = (1, 2, 2, 3, 3, 3, 4, 4, 5, 5, 6)
 # The calls after which a map of many pairs has many still.
 KEEPING = tuple(pattern for pattern in CALLS if pattern not in (*EMPTYING, "swap", "retain M N *"))
-NO_CALLS = (
-    "", " iter", "iter ", "iter 1", "insert 1", "insert  1 2", "insert +1 2", "insert 1 -2", "get", "get x", "GET 1",
-    "insert 1 18446744073709551616", "insert 1#2#3 4", "insert # 4", "entry 1", "entry 1 or_insert", "entry 1 take",
-    "raw 1", "raw 1 sell 5", "extend 1", "extend 1 2 3", "map 5 plain", "get 000000000000000000001", "clear 0", "run ",
-    "run  len", "run len clear 0", "run insert_new 1 2 get", "run clear sell 1", "run get @1", "from_array 1",
-    "from_array 1 1 2 2 3 3 4 4 5 5", "hashmap 1 1 2 2 3 3 4 4", "refused", "refused ", "refused refused get 1",
-    "refused map 5 plain", "get @", "get @1#2", "get @@1", "insert @1 2", "entry @1 read", "raw_entry_match 0 some",
-    "raw_entry_match any 1", "raw_find_match 0 1#1", "walk", "walk list", "walk iter take", "walk iter each next",
-    "walk drain len", "walk iter add", "walk into_iter clone", "walk keys debug", "walk iter is_empty",
-    "walk iter each:x", "walk iter each:", "walk iter next:1", "same_as 3 plain", "same_as 5 none", "same_from 05 plain",
-    "made", "made with_capacity", "made new:1", "made old", "made vec_with_capacity: 1 2", "error", "error get 1",
-    "error entry 1 2", "iter\r", "iter\r\r", "\riter", "get_index @1", "get_index_mut 1#2 3", "first 1", "drop 1",
-)
 
 
 class Script:
@@ -67,7 +55,6 @@ class Script:
         self.first = chance.choice((0, 0, 3, 1000, GREATEST - 2 * self.stride * keys))
         if chance.random() < 0.5:
             self.add(f"{kind} {limit} {rule} {chance.choice(TOO_GREAT)}")
-            self.add(chance.choice(("map", "map 6 plain", f"{kind} {limit} none", f"map 05 {rule}", "iter")))
         self.add(f"{kind} {limit} {rule}" + chance.choice(("", "", f" {chance.choice(SIZES)}")))
 
     @property
@@ -149,6 +136,8 @@ class Script:
 
     def any_call(self, pattern, is_held, is_refused):
         """A call, and often all pairs after it."""
+        if pattern in OF_NUMBERS and self.kind not in WITH_NUMBERS:
+            return
         chance, id_ = self.chance, self.held_id() if is_held else self.new_id()
         is_refused = (is_refused or self.refuse != ALL) and pattern not in WITH_TEXT
         self.add("refused " * is_refused + self.written(pattern, id_))
@@ -158,8 +147,6 @@ class Script:
             self.change_one()
         if pattern == "clone" or chance.random() < 0.01:
             self.call(COMPARING)
-        if chance.random() < 0.01:
-            self.add(chance.choice(NO_CALLS))
 
     def change_one(self):
         """Changes a pair, its place or its key, or nothing."""

@@ -21,7 +21,7 @@ from concurrent.futures import ProcessPoolExecutor
 
 from model.basics import ALL
 from model.coverage import COLUMNS, MET, demanded
-from model.session import answers
+from model.session import NO_LINE, answers
 from random_scripts import make_script
 from scripts import PROGRAM, agrees, compile_allocator, play
 
@@ -46,7 +46,8 @@ def shortest(lines, refuse, player):
         size, at = (size + 1) // 2, 0
         while at < len(lines) and time.monotonic() < end:
             shorter = lines[:at] + lines[at + size :]
-            if difference(player(shorter, refuse=refuse), answers(shorter, refuse)) is not None:
+            wanted = answers(shorter, refuse)
+            if NO_LINE not in wanted and difference(player(shorter, refuse=refuse), wanted) is not None:
                 lines = shorter
             else:
                 at += size

@@ -5,6 +5,9 @@ from model.coverage import MET, answered_by, met_by
 from model.lines import BYTES, CALLS, CALLS_ON_A, WITH_TEXT, keys_in, read_call, read_first
 from model.map import Map
 
+# What the model says of a line that is none, at which the program ends.
+NO_LINE = "no line"
+
 
 def refusal_of(call, why):
     """What a refused call is answered, with what it hands back."""
@@ -24,11 +27,10 @@ class Session:
         self.met = []
 
     def answer(self, line):
-        line = line.removesuffix("\r")
         try:
             return self.answer_call(line) if self.a else self.answer_first(line)
         except BadLine:
-            return "bad line"
+            return NO_LINE
 
     def answer_first(self, line):
         """Makes the maps."""

@@ -1,45 +1,51 @@
-//! The first map compared with one of another limit and rule, of clones of the pairs of the second one.
+//! A clone of the first map, and that compared with a map of another limit and rule, of clones of the second one's pairs.
+//! What clones a map knows its builder, since a clone of another one might hash otherwise.
 
+use crate::answer::{refused, said};
+use crate::items::{Named, Number};
 use crate::player::Player;
-use halfbrown::{AtMost, EqualClone, Limit, LimitedHashMap, Refusal};
+use crate::script::rule_of;
+use crate::words::Words;
+use halfbrown::{AtMost, Limit, LimitedHashMap, Refusal};
 use std::alloc::AllocError;
-use std::hash::Hash;
 use std::io;
 use test_support::builders::{Counting, Rule};
-use witness_script::calls::comparison::{Comparison, OtherLimit};
 
-impl<'a, R: Print, K: EqualClone + Hash + Drop, V: Clone + PartialEq + Drop, L: Limit> Player<
-    'a,
-    R,
-    K,
-    V,
-    Counting<'a>,
-    L,
-> {
+impl<'a, R: Print, K: Named, V: Number, L: Limit> Player<'a, R, K, V, Counting<'a>, L> {
+    /// Makes the second map a clone of the first one.
+    pub(crate) fn clone_first(&mut self) -> io::Result<()> {
+        self.mark();
+        match self.a.clone() {
+            Ok(clone) => self.b = clone,
+            Err(why) => return self.say(refused(why)),
+        }
+        self.say(said("done"))
+    }
+
     /// Makes the other map, compares it with the first one, and prints the answer. Only the comparison is counted.
-    pub(crate) fn print_same(&mut self, comparison: Comparison) -> io::Result<()> {
-        let Comparison {
-            limit,
-            rule,
-            is_from,
-        } = comparison;
+    pub(crate) fn print_same(&mut self, call: &str, words: &Words<'_>) -> io::Result<()> {
+        let (limit, Some(rule)) = (words.next(), rule_of(words.next())) else {
+            return words.fail();
+        };
         match limit {
-            OtherLimit::Zero => self.print_same_at::<AtMost<0>>(is_from, rule),
-            OtherLimit::Five => self.print_same_at::<AtMost<5>>(is_from, rule),
-            OtherLimit::Most => self.print_same_at::<AtMost<18446744073709551615>>(is_from, rule),
+            "0" => self.print_same_at::<AtMost<0>>(call, rule),
+            "5" => self.print_same_at::<AtMost<5>>(call, rule),
+            "18446744073709551615" => {
+                self.print_same_at::<AtMost<18446744073709551615>>(call, rule)
+            }
+            _ => words.fail(),
         }
     }
 
-    fn print_same_at<M: Limit>(&mut self, is_from: bool, rule: Rule) -> io::Result<()> {
+    fn print_same_at<M: Limit>(&mut self, call: &str, rule: Rule) -> io::Result<()> {
         let Ok(other) = self.copy::<M>(rule) else {
             return Err(AllocError.into());
         };
         self.counts.take_work();
         self.mark();
-        let is_same = if is_from {
-            other.same_pairs(&self.a)
-        } else {
-            self.a.same_pairs(&other)
+        let is_same = match call {
+            "same_from" => other.same_pairs(&self.a),
+            _ => self.a.same_pairs(&other),
         };
         print!(self.rt; "{is_same}")
     }

@@ -6,20 +6,17 @@ ghost use Rattle.std.proofs.Common.{rules, ap, sym};
 ghost use Rattle.std.proofs.lemmas.Bool.{eqb-true};
 ghost use Rattle.std.specs.Cmp.{nat_eq_equiv};
 
-use crate::made::Made;
+use crate::counts::{Counts, add_one};
+use crate::items::Named;
+use crate::words::Name;
 use halfbrown::{EqualClone, Equivalent};
 use std::alloc::{AllocError, Global};
 use std::fmt;
 use std::hash::{Hash, Hasher};
-use witness_script::answer::{Answer, named};
-use witness_script::counts::Counts;
-use witness_script::items::{Item, Named};
-use witness_script::words::Name;
 
 /// A key written `id#mark`. Keys of one id are equal, and the mark tells them apart. It is 48 bytes long.
 pub(crate) struct Key<'a> {
-    id: u64,
-    mark: u64,
+    name: Name,
     counts: &'a Counts,
     padding: [u64; 3],
 }
@@ -28,46 +25,32 @@ impl<'a> Key<'a> {
     /// A key that counts here each comparison that it is the left side of, and its drop.
     pub(crate) fn new(counts: &'a Counts) -> Key<'a> {
         Key {
-            id: 0,
-            mark: 1,
+            name: Name { id: 0, mark: 1 },
             counts,
             padding: [0; 3],
         }
     }
 }
 
-impl Made for Key<'_> {
+impl Named for Key<'_> {
+    fn name(&self) -> Name {
+        self.name
+    }
+
     fn like(&self, _alloc: Global, name: Name) -> Result<Self, AllocError> {
         Ok(Key {
-            id: name.id,
-            mark: name.mark,
+            name,
             counts: self.counts,
             padding: self.padding,
         })
     }
 }
 
-impl Item for Key<'_> {
-    fn answer(&self) -> Answer {
-        named(self.name())
-    }
-}
-
-impl Named for Key<'_> {
-    fn name(&self) -> Name {
-        Name {
-            id: self.id,
-            mark: self.mark,
-        }
-    }
-}
-
 impl Drop for Key<'_> {
     fn drop(self) {
-        self.counts.count_dropped_key();
+        add_one(&self.counts.dropped_keys);
         let Key {
-            id: _,
-            mark: _,
+            name: _,
             counts: _,
             padding: _,
         } = self;
@@ -75,12 +58,11 @@ impl Drop for Key<'_> {
 }
 
 impl Clone for Key<'_> {
-    ghost is_clone = { λ a b. b.id ≡ a.id };
+    ghost is_clone = { λ a b. b.name.id ≡ a.name.id };
 
     fn clone(&self) -> Result<Self, AllocError> {
         Ok(Key {
-            id: self.id,
-            mark: self.mark,
+            name: self.name,
             counts: self.counts,
             padding: self.padding,
         })
@@ -88,13 +70,13 @@ impl Clone for Key<'_> {
 }
 
 impl PartialEq for Key<'_> {
-    ghost eq = { λ a b. a.id == b.id };
+    ghost eq = { λ a b. a.name.id == b.name.id };
 
     ghost laws = { Prim.search (comparing, rules) };
 
     fn eq(&self, other: &Self) -> bool {
-        self.counts.count_comparison();
-        self.id == other.id
+        add_one(&self.counts.comparisons);
+        self.name.id == other.name.id
     }
 }
 
@@ -107,18 +89,18 @@ impl EqualClone for Key<'_> {
 }
 
 impl Hash for Key<'_> {
-    ghost hash_input = { λ key. fed.u64 key.id };
+    ghost hash_input = { λ key. fed.u64 key.name.id };
 
     ghost respects_eq = { Prim.search (hashing, rules) };
 
     fn hash<H: Hasher>(&self, state: &mut H) {
-        self.id.hash(state);
+        self.name.id.hash(state);
     }
 }
 
 impl fmt::Debug for Key<'_> {
     fn fmt<W: fmt::Write>(&self, f: &mut fmt::Formatter<W>) -> fmt::Result {
-        write!(f, "{}", self.name())
+        write!(f, "{}", self.name)
     }
 }
 
@@ -127,15 +109,15 @@ impl fmt::Debug for Key<'_> {
 pub(crate) struct Id(pub u64);
 
 impl<'a> Equivalent<Key<'a>> for Id {
-    ghost equivalent = { λ query key. query.0 == key.id };
+    ghost equivalent = { λ query key. query.0 == key.name.id };
 
-    ghost hashes_alike = { λ query key same. ap fed.u64 (eqb-true query.0 key.id same) };
+    ghost hashes_alike = { λ query key same. ap fed.u64 (eqb-true query.0 key.name.id same) };
 
-    ghost stands_for_equals = { λ query key other. nat_eq_equiv.congr query.0 key.id other.id };
+    ghost stands_for_equals = { λ query key other. nat_eq_equiv.congr query.0 key.name.id other.name.id };
 
     fn equivalent(&self, key: &Key<'a>) -> bool {
-        key.counts.count_comparison();
-        self.0 == key.id
+        add_one(&key.counts.comparisons);
+        self.0 == key.name.id
     }
 }
 
@@ -150,22 +132,14 @@ impl<'a> Small<'a> {
     }
 }
 
-impl Made for Small<'_> {
-    fn like(&self, alloc: Global, name: Name) -> Result<Self, AllocError> {
-        let key = self.0.as_ref().like(alloc, name)?;
-        Ok(Small(Box::new(alloc, key)?))
-    }
-}
-
-impl Item for Small<'_> {
-    fn answer(&self) -> Answer {
-        self.0.answer()
-    }
-}
-
 impl Named for Small<'_> {
     fn name(&self) -> Name {
         self.0.name()
+    }
+
+    fn like(&self, alloc: Global, name: Name) -> Result<Self, AllocError> {
+        let key = self.0.as_ref().like(alloc, name)?;
+        Ok(Small(Box::new(alloc, key)?))
     }
 }
 
@@ -180,12 +154,12 @@ impl fmt::Debug for Small<'_> {
 }
 
 impl<'a> Equivalent<Small<'a>> for Id {
-    ghost equivalent = { λ query key. query.0 == key.0.value.id };
+    ghost equivalent = { λ query key. query.0 == key.0.value.name.id };
 
-    ghost hashes_alike = { λ query key same. ap fed.u64 (eqb-true query.0 key.0.value.id same) };
+    ghost hashes_alike = { λ query key same. ap fed.u64 (eqb-true query.0 key.0.value.name.id same) };
 
     ghost stands_for_equals = { λ query key other.
-        nat_eq_equiv.congr query.0 key.0.value.id other.0.value.id };
+        nat_eq_equiv.congr query.0 key.0.value.name.id other.0.value.name.id };
 
     fn equivalent(&self, key: &Small<'a>) -> bool {
         self.equivalent(key.0.as_ref())

@@ -2,24 +2,37 @@
 //! after it. `docs/SCRIPTS.md` says how a script is written and what each line is answered.
 #![tactic(auto)]
 
+mod answer;
+mod collections;
 mod compare;
+mod counts;
+mod entries;
 mod insertions;
 mod items;
 mod keys;
-mod made;
-mod makers;
-mod map_calls;
-mod perform;
-mod places;
 mod player;
+mod printing;
+mod raw;
 mod runs;
 mod script;
-mod states;
+mod searches;
 mod values;
+mod walks;
+mod whole;
+mod words;
 
+use crate::counts::Counts;
 use std::io;
+use std::process::ExitCode;
 
-fn main(rt: HostRuntime) -> io::Result<()> {
+fn main(rt: HostRuntime) -> io::Result<ExitCode> {
     let text = io::read_to_string(rt.alloc(), rt.stdin())?;
-    script::play(&rt, text.as_str())
+    let counts = Counts::default();
+    match script::play(&rt, &counts, text.as_str()) {
+        Ok(()) => Ok(ExitCode::SUCCESS),
+        Err(err) => {
+            eprintln!(rt; "line {}: {err}", counts.lines.get())?;
+            Ok(ExitCode::FAILURE)
+        }
+    }
 }

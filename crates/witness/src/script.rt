@@ -1,198 +1,191 @@
 //! A script: the line that makes the maps, and the calls after it.
 
+use crate::answer::refused;
+use crate::counts::Counts;
+use crate::items::{Named, Number};
 use crate::keys::{Id, Key, Small};
-use crate::made::Made;
-use crate::player::{Player, words};
+use crate::player::Player;
 use crate::values::{Nothing, Owned};
 use halfbrown::{AtMost, Equivalent, Limit, LimitedHashMap, Refusal};
 use std::alloc::Global;
-use std::fmt::Debug;
 use std::io;
-use test_support::builders::Counting;
-use witness_entries::refusals::refused;
-use witness_script::counts::Counts;
-use witness_script::first_line::{First, Kind, parse_first};
-use witness_script::items::Number;
+use std::io::ErrorKind;
+use test_support::builders::{Counting, Rule};
 
-/// Plays the script, and prints a line for each of its lines.
-pub(crate) fn play(rt: &(impl Print + AllocGlobal), text: &str) -> io::Result<()> {
+/// What a first line says of the maps, and the lines after it. The kind says what keys and values are.
+#[derive(Drop)]
+struct Script<'a, R> {
+    rt: &'a R,
+    counts: &'a Counts,
+    kind: &'a str,
+    limit: &'a str,
+    rule: Rule,
+    capacity: Option<usize>,
+    rest: &'a [&'a str],
+}
+
+/// Plays the script, and prints a line for each of its lines, up to one that is no line.
+pub(crate) fn play<R: Print + AllocGlobal>(rt: &R, counts: &Counts, text: &str) -> io::Result<()> {
     let lines: Vec<&str> = text.lines().collect(rt.alloc())?;
     for (index, line) in lines.iter().enumerate() {
-        if play_from(rt, line, &lines[index + 1..])? {
-            break;
+        counts.begin();
+        let words: Vec<&str> = line.split(" ").collect(rt.alloc())?;
+        match parse_first(rt, counts, words.as_slice(), &lines[index + 1..]) {
+            Some(script) if script.begin()? => break,
+            Some(_) => {}
+            None => return no_line(),
         }
     }
     Ok(())
 }
 
-// Plays a line, and where it makes the maps those after it. False where it made none.
-fn play_from<R: Print + AllocGlobal>(rt: &R, line: &str, rest: &[&str]) -> io::Result<bool> {
-    let words = words(rt.alloc(), line)?;
-    match parse_first(words.as_slice()) {
-        Some(first) => begin(rt, first, rest),
-        None => print_bad(rt),
-    }
-}
-
-// Plays the lines after a first one. False where it made no maps.
-fn begin<R: Print + AllocGlobal>(rt: &R, first: First<'_>, rest: &[&str]) -> io::Result<bool> {
-    if let Kind::Small = first.kind {
-        return begin_small(rt, first, rest);
-    }
-    match first.limit {
-        "0" => begin_any::<R, AtMost<0>>(rt, first, rest),
-        "1" => begin_any::<R, AtMost<1>>(rt, first, rest),
-        "2" => begin_any::<R, AtMost<2>>(rt, first, rest),
-        "3" => begin_any::<R, AtMost<3>>(rt, first, rest),
-        "5" => begin_any::<R, AtMost<5>>(rt, first, rest),
-        "32" => begin_any::<R, AtMost<32>>(rt, first, rest),
-        "18446744073709551615" => begin_any::<R, AtMost<18446744073709551615>>(rt, first, rest),
-        "4" => begin_plain::<R, AtMost<4>>(rt, first, rest),
-        "8" => begin_plain::<R, AtMost<8>>(rt, first, rest),
-        "64" => begin_plain::<R, AtMost<64>>(rt, first, rest),
-        "1152921504606846976" => begin_plain::<R, AtMost<1152921504606846976>>(rt, first, rest),
-        "20" => begin_unit::<R, AtMost<20>>(rt, first, rest),
-        _ => print_bad(rt),
-    }
-}
-
-// A vector of at most 3 small keys is searched in one block, one of at most 32 in two.
-fn begin_small<R: Print + AllocGlobal>(
-    rt: &R,
-    first: First<'_>,
-    rest: &[&str],
-) -> io::Result<bool> {
-    match first.limit {
-        "3" => play_small::<R, AtMost<3>>(rt, first, rest),
-        "32" => play_small::<R, AtMost<32>>(rt, first, rest),
-        "64" => play_small::<R, AtMost<64>>(rt, first, rest),
-        _ => print_bad(rt),
-    }
-}
-
-fn play_small<R: Print + AllocGlobal, L: Limit>(
-    rt: &R,
-    first: First<'_>,
-    rest: &[&str],
-) -> io::Result<bool> {
-    let counts = Counts::new();
-    let key = Small::new(rt.alloc(), &counts)?;
-    play_plain::<R, Small<'_>, L>(rt, &counts, key, first, rest)
-}
-
-fn print_bad(rt: &impl Print) -> io::Result<bool> {
-    println!(rt; "bad line")?;
-    Ok(false)
-}
-
-// Of a limit that maps may have whose values count their drops. Other limits have one kind of values, since each takes time
-// to compile.
-fn begin_any<R: Print + AllocGlobal, L: Limit>(
-    rt: &R,
-    first: First<'_>,
-    rest: &[&str],
-) -> io::Result<bool> {
-    let counts = Counts::new();
-    match first.kind {
-        Kind::Map => play_plain::<R, Key<'_>, L>(rt, &counts, Key::new(&counts), first, rest),
-        Kind::Owning => {
-            play_others::<R, Owned<'_>, L>(rt, &counts, Owned::zero(&counts), first, rest)
-        }
-        _ => print_bad(rt),
-    }
-}
-
-fn begin_plain<R: Print + AllocGlobal, L: Limit>(
-    rt: &R,
-    first: First<'_>,
-    rest: &[&str],
-) -> io::Result<bool> {
-    let counts = Counts::new();
-    match first.kind {
-        Kind::Map => play_plain::<R, Key<'_>, L>(rt, &counts, Key::new(&counts), first, rest),
-        _ => print_bad(rt),
-    }
-}
-
-fn begin_unit<R: Print + AllocGlobal, L: Limit>(
-    rt: &R,
-    first: First<'_>,
-    rest: &[&str],
-) -> io::Result<bool> {
-    match first.kind {
-        Kind::Unit => play_others::<R, Nothing, L>(rt, &Counts::new(), Nothing, first, rest),
-        _ => print_bad(rt),
-    }
-}
-
-fn play_plain<'a, R: Print + AllocGlobal, K: Made, L: Limit>(
+fn parse_first<'a, R>(
     rt: &'a R,
     counts: &'a Counts,
-    key: K,
-    first: First<'_>,
-    rest: &[&str],
-) -> io::Result<bool>
-where
-    Id: Equivalent<K>,
-{
-    let Some(mut player) = make::<R, K, u64, L>(rt, counts, key, 0, first)? else {
-        return Ok(false);
+    words: &[&'a str],
+    rest: &'a [&'a str],
+) -> Option<Script<'a, R>> {
+    let (kind, limit, rule, capacity) = match words {
+        [kind, limit, rule] => (kind, limit, rule, None),
+        [kind, limit, rule, capacity] => (kind, limit, rule, Some(capacity.parse().ok()?)),
+        _ => return None,
     };
-    for line in rest {
-        player.play_plain_line(line)?;
-    }
-    Ok(true)
-}
-
-// The lines that all values have.
-fn play_others<'a, R: Print + AllocGlobal, V: Number + Clone + PartialEq + Debug, L: Limit>(
-    rt: &'a R,
-    counts: &'a Counts,
-    zero: V,
-    first: First<'_>,
-    rest: &[&str],
-) -> io::Result<bool> {
-    let Some(mut player) = make::<R, Key<'a>, V, L>(rt, counts, Key::new(counts), zero, first)?
-    else {
-        return Ok(false);
-    };
-    for line in rest {
-        player.play_line(line)?;
-    }
-    Ok(true)
-}
-
-// Answers a first line. None where its capacity was refused.
-fn make<'a, R: Print + AllocGlobal, K: Made, V: Drop, L: Limit>(
-    rt: &'a R,
-    counts: &'a Counts,
-    key: K,
-    zero: V,
-    first: First<'_>,
-) -> io::Result<Option<Player<'a, R, K, V, Counting<'a>, L>>> {
-    let (alloc, builder) = (rt.alloc(), counts.builder(first.rule));
-    let a = match make_map(alloc, builder, first.capacity) {
-        Ok(map) => map,
-        Err(why) => {
-            println!(rt; "{}", refused(why))?;
-            return Ok(None);
-        }
-    };
-    let player = Player {
+    Some(Script {
         rt,
-        alloc,
         counts,
-        a,
-        b: LimitedHashMap::with_hasher(alloc, builder),
-        some_key: key,
-        zero,
-        is_refused: false,
-    };
-    player.print_begun()?;
-    Ok(Some(player))
+        kind,
+        limit,
+        rule: rule_of(rule)?,
+        capacity,
+        rest,
+    })
 }
 
-fn make_map<'a, K: Made, V, L: Limit>(
+/// The rule of this name.
+pub(crate) fn rule_of(word: &str) -> Option<Rule> {
+    Some(match word {
+        "plain" => Rule::Plain,
+        "zero" => Rule::Zero,
+        "top" => Rule::Top,
+        _ => return None,
+    })
+}
+
+fn no_line<T>() -> io::Result<T> {
+    Err(ErrorKind::InvalidInput.into())
+}
+
+impl<R: Print + AllocGlobal> Script<'_, R> {
+    // Plays the lines after a first one. False if its capacity was refused.
+    fn begin(&self) -> io::Result<bool> {
+        if self.kind == "small" {
+            return self.begin_small();
+        }
+        match self.limit {
+            "0" => self.begin_any::<AtMost<0>>(),
+            "1" => self.begin_any::<AtMost<1>>(),
+            "2" => self.begin_any::<AtMost<2>>(),
+            "3" => self.begin_any::<AtMost<3>>(),
+            "5" => self.begin_any::<AtMost<5>>(),
+            "32" => self.begin_any::<AtMost<32>>(),
+            "18446744073709551615" => self.begin_any::<AtMost<18446744073709551615>>(),
+            "4" => self.begin_plain::<AtMost<4>>(),
+            "8" => self.begin_plain::<AtMost<8>>(),
+            "64" => self.begin_plain::<AtMost<64>>(),
+            "1152921504606846976" => self.begin_plain::<AtMost<1152921504606846976>>(),
+            "20" => self.begin_unit::<AtMost<20>>(),
+            _ => no_line(),
+        }
+    }
+
+    // A vector of at most 3 small keys is searched in one block, one of at most 32 in two.
+    fn begin_small(&self) -> io::Result<bool> {
+        let key = Small::new(self.rt.alloc(), self.counts)?;
+        match self.limit {
+            "3" => self.play_plain::<Small<'_>, AtMost<3>>(key),
+            "32" => self.play_plain::<Small<'_>, AtMost<32>>(key),
+            "64" => self.play_plain::<Small<'_>, AtMost<64>>(key),
+            _ => no_line(),
+        }
+    }
+
+    // Of a limit that maps may have whose values count their drops. Other limits have one kind of values, since each takes
+    // time to compile.
+    fn begin_any<L: Limit>(&self) -> io::Result<bool> {
+        match self.kind {
+            "owning" => self.play_others::<Owned<'_>, L>(Owned::zero(self.counts)),
+            _ => self.begin_plain::<L>(),
+        }
+    }
+
+    fn begin_plain<L: Limit>(&self) -> io::Result<bool> {
+        match self.kind {
+            "map" => self.play_plain::<Key<'_>, L>(Key::new(self.counts)),
+            _ => no_line(),
+        }
+    }
+
+    fn begin_unit<L: Limit>(&self) -> io::Result<bool> {
+        match self.kind {
+            "unit" => self.play_others::<Nothing, L>(Nothing),
+            _ => no_line(),
+        }
+    }
+
+    fn play_plain<K: Named, L: Limit>(&self, key: K) -> io::Result<bool>
+    where
+        Id: Equivalent<K>,
+    {
+        let Some(mut player) = self.make::<K, u64, L>(key, 0)? else {
+            return Ok(false);
+        };
+        for line in self.rest {
+            player.play_plain_line(line)?;
+        }
+        Ok(true)
+    }
+
+    // The lines that all values have.
+    fn play_others<V: Number, L: Limit>(&self, zero: V) -> io::Result<bool> {
+        let Some(mut player) = self.make::<Key<'_>, V, L>(Key::new(self.counts), zero)? else {
+            return Ok(false);
+        };
+        for line in self.rest {
+            player.play_line(line)?;
+        }
+        Ok(true)
+    }
+
+    // Answers a first line. None if its capacity was refused.
+    fn make<K: Named, V: Number, L: Limit>(
+        &self,
+        key: K,
+        zero: V,
+    ) -> io::Result<Option<Player<'_, R, K, V, Counting<'_>, L>>> {
+        let (alloc, builder) = (self.rt.alloc(), self.counts.builder(self.rule));
+        let a = match make_map(alloc, builder, self.capacity) {
+            Ok(map) => map,
+            Err(why) => {
+                println!(self.rt; "{:?}", refused(why))?;
+                return Ok(None);
+            }
+        };
+        let player = Player {
+            rt: self.rt,
+            alloc,
+            counts: self.counts,
+            a,
+            b: LimitedHashMap::with_hasher(alloc, builder),
+            some_key: key,
+            zero,
+            is_refused: false,
+        };
+        player.print_begun()?;
+        Ok(Some(player))
+    }
+}
+
+fn make_map<'a, K: Named, V, L: Limit>(
     alloc: Global,
     builder: Counting<'a>,
     capacity: Option<usize>,

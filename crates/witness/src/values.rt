@@ -3,11 +3,10 @@ ghost use Rattle.std.specs.Prelude.{◌≡◌, ◌==◌};
 ghost use Rattle.std.specs.Cmp.Rules.{comparing};
 ghost use Rattle.std.proofs.Common.{rules};
 
+use crate::counts::{Counts, add_one};
+use crate::items::Number;
 use std::alloc::AllocError;
 use std::fmt;
-use witness_script::answer::{Answer, numbered};
-use witness_script::counts::Counts;
-use witness_script::items::{Item, Number};
 
 /// A number that counts its drop. It is 48 bytes long.
 pub(crate) struct Owned<'a> {
@@ -24,12 +23,6 @@ impl<'a> Owned<'a> {
             counts,
             padding: [0; 4],
         }
-    }
-}
-
-impl Item for Owned<'_> {
-    fn answer(&self) -> Answer {
-        numbered(self.number)
     }
 }
 
@@ -53,7 +46,7 @@ impl Number for Owned<'_> {
 
 impl Drop for Owned<'_> {
     fn drop(self) {
-        self.counts.count_dropped_value();
+        add_one(&self.counts.dropped_values);
         let Owned {
             number: _,
             counts: _,
@@ -93,12 +86,6 @@ impl fmt::Debug for Owned<'_> {
 /// A value of no size. Its number is 0.
 #[derive(Clone, Copy, PartialEq)]
 pub(crate) struct Nothing;
-
-impl Item for Nothing {
-    fn answer(&self) -> Answer {
-        numbered(0)
-    }
-}
 
 impl Number for Nothing {
     fn number(&self) -> u64 {
