@@ -22,27 +22,26 @@ pub record IsFirstMatch {K : Type 0} (returns : K → Bool → Type 0) (keys : L
   pub absent : IfNone result ((index : ℕ) → index < length keys → ReturnsAt returns keys index false)
 
 -- of the pairs in either form, where `has_hash` says that the pair at an index, with this key, has the searched hash
-module _ {K V : Type 0} (returns : K → Bool → Type 0) (is_vec : Bool) (pairs : List (K × V)) (has_hash : ℕ → K → Type 0) where
+module _ {K V : Type 0} (returns : K → Bool → Type 0) (s : StoreState K V) (has_hash : ℕ → K → Type 0) where
   -- the match accepts the key at this index: in a vector it is the first that it accepts, in a table it is one of the hash
   pub record Accepts (index : ℕ) : Type 0 where
-    pub within : index < length pairs
-    pub accepted : ReturnsAt returns (keys_of pairs) index true
-    pub first : is_vec ≡ true → (earlier : ℕ) → earlier < index → ReturnsAt returns (keys_of pairs) earlier false
-    pub hashed : is_vec ≡ false → (k : K) → slice_get (keys_of pairs) index ≡ Some k → has_hash index k
+    pub within : index < length s.pairs
+    pub accepted : ReturnsAt returns (keys_of s.pairs) index true
+    pub first : s.is_vec ≡ true → (earlier : ℕ) → earlier < index → ReturnsAt returns (keys_of s.pairs) earlier false
+    pub hashed : s.is_vec ≡ false → (k : K) → slice_get (keys_of s.pairs) index ≡ Some k → has_hash index k
 
   -- the match rejects each held key, in a table each of the hash
   pub record AcceptsNone : Type 0 where
-    pub rejected : (index : ℕ) (k : K) → slice_get (keys_of pairs) index ≡ Some k → (is_vec ≡ false → has_hash index k) → returns k false
+    pub rejected : (index : ℕ) (k : K) → slice_get (keys_of s.pairs) index ≡ Some k → (s.is_vec ≡ false → has_hash index k) → returns k false
 
   -- the search found the pair that is held here, or none, and where there is capacity a pair of the hash may be added here
-  abbrev pub SearchOutcome : ℕ → (Found → Type 0) → (Vacancy → Type 0) → Result Found Vacancy → Type 0
-  SearchOutcome capacity is_placed is_vacancy (Ok found) = Accepts found.index × is_placed found
-  SearchOutcome capacity is_placed is_vacancy (Err vacancy) = AcceptsNone × (0 < capacity → is_vacancy vacancy)
+  abbrev pub SearchOutcome : ℕ → Result Found Vacancy → Type 0
+  SearchOutcome hash (Ok found) = Accepts found.index × IsPlaced s found
+  SearchOutcome hash (Err vacancy) = AcceptsNone × (0 < s.capacity → IsVacancy s hash vacancy)
 
 -- a search of a store by the match under this hash
 abbrev pub StoreSearch : {K V : Type 0} → (K → Bool → Type 0) → StoreState K V → ℕ → Result Found Vacancy → Type 0
-StoreSearch returns s hash =
-    SearchOutcome returns s.is_vec s.pairs (λ index k. slice_get s.table.hashes index ≡ Some hash) s.capacity (IsPlaced s.is_vec s.table) (IsVacancy s.is_vec s.table hash)
+StoreSearch returns s hash = SearchOutcome returns s (λ index k. slice_get s.table.hashes index ≡ Some hash) hash
 
 -- the index that a search found
 abbrev pub found_index : Result Found Vacancy → Option ℕ

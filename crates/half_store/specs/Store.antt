@@ -122,20 +122,18 @@ module _ {K V : Type 0} (limit : ℕ) (old new : StoreState K V) where
     pub less : OnErr result (shrunk_capacity limit old.is_vec (length old.pairs) < old.capacity)
 
 -- a pair of this hash may be added here: in a table at the empty bucket where an insertion probe for it ends; a vector looks at neither
-abbrev pub IsVacancy : Bool → TableState → ℕ → Vacancy → Type 0
-IsVacancy is_vec table hash vacancy = is_vec ≡ false → (vacancy.hash ≡ hash) × IsTableVacancy table hash vacancy.bucket
+abbrev pub IsVacancy : {K V : Type 0} → StoreState K V → ℕ → Vacancy → Type 0
+IsVacancy s hash vacancy = s.is_vec ≡ false → (vacancy.hash ≡ hash) × IsTableVacancy s.table hash vacancy.bucket
 
 -- a pair is held here: in a table in this bucket; a vector looks at none
-abbrev pub IsPlaced : Bool → TableState → Found → Type 0
-IsPlaced is_vec table found = is_vec ≡ false → IsTablePlace table found.index found.bucket
-
--- the table of this form once a pair is added here
-abbrev pub filled : Bool → TableState → Vacancy → TableState
-filled is_vec table vacancy = if is_vec then table else with_hash_in table vacancy.hash vacancy.bucket
+abbrev pub IsPlaced : {K V : Type 0} → StoreState K V → Found → Type 0
+IsPlaced s found = s.is_vec ≡ false → IsTablePlace s.table found.index found.bucket
 
 -- the store with one pair more, which is added here
 abbrev pub store_pushed : {K V : Type 0} → StoreState K V → K → V → Vacancy → StoreState K V
-store_pushed s k v vacancy = record s { pairs = s.pairs ++ (k, v) ∷ []; table = filled s.is_vec s.table vacancy }
+store_pushed s k v vacancy =
+    let table = if s.is_vec then s.table else with_hash_in s.table vacancy.hash vacancy.bucket in
+    record s { pairs = s.pairs ++ (k, v) ∷ []; table = table }
 
 abbrev pub store_code : {K V : Type 0} → Coded K → Coded V → Coded (StoreState K V)
 store_code k v = coded_via (coded× coded_bool (coded× (coded_list (coded× k v)) (coded× coded_ℕ table_code)))

@@ -1,6 +1,5 @@
-use Rattle.halfbrown.proofs.Common.{refl}
+use Rattle.halfbrown.proofs.Common.{refl, sym, subst, IsPlacedIn}
 use Rattle.halfbrown.proofs.lemmas.entry.Methods.{rekeyed_within, rekeyed_entry}
-use Rattle.halfbrown.proofs.lemmas.map.Find.{placed_as}
 use Rattle.halfbrown.proofs.entry.OccupiedEntry.insert_key.Goals as goal
 
 pub invariant_of-self : goal.invariant_of-self
@@ -9,7 +8,7 @@ invariant_of-self g c =
     let told = c.set_key_at.ensures in
     record {
       within = rekeyed_within o c.args.key c.set_key_at.new.self told.after;
-      placed = placed_as _ _ _ _ _ told.after.form told.contents o.placed;
+      placed = subst (λ m. IsPlacedIn m (record { index = o.index; bucket = o.bucket })) (sym told.exact) o.placed;
     }
 
 pub returns-clause-new : goal.returns-clause-new

@@ -14,6 +14,6 @@ returns-clause-cost g c =
     subst (λ (m : State g.row.K.Denot g.row.V.Denot g.row.S.Denot). IsSearchCost hashing c.args.hash m (found_index c.find.result) 0
     c.args.tally.now c.find.new.tally) c.self.view_is
     (match_costs hashing c.args.hash (state_in store c.self.inside.builder) c.args.tally.now c.find.new.tally store.is_vec
-    (λ i. store.is_vec) ByKey (found_index c.find.result) store.hashes
+    (λ i. store.is_vec) ByKey (found_index c.find.result) store.table.hashes
     c.self.invariant.hashed told.cost.vector told.cost.found
     told.cost.missing told.cost.hit told.cost.hits told.cost.short)
