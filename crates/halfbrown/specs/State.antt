@@ -3,7 +3,9 @@ use Rattle.std.specs.Prelude.{◌≡◌, ℕ, ◌<◌, ◌≤◌, Bool, true, fa
 pub use Rattle.std.specs.List.{IsDistinct}
 pub use Rattle.std.specs.Map.{keys_of}
 pub use Rattle.half_store.specs.Capacity.{IsTableCapacity}
-use Rattle.half_store.specs.Store.{StoreState, store_code, Found, Vacancy, IsPlaced, IsVacancy}
+use Rattle.half_store.specs.Store.{StoreState, store_code, IsPlaced, IsVacancy}
+use Rattle.half_store.specs.declared.store.find.Found.{Found}
+use Rattle.half_store.specs.declared.store.find.Vacancy.{Vacancy}
 use Rattle.half_store.specs.Table.{TableState}
 use base.Stored.{Coded, coded×, coded_via}
 

@@ -10,21 +10,9 @@ use Rattle.std.proofs.Props.{props}
 use Rattle.half_store.specs.Table.{hit_reads_in, all_hit_reads_in}
 use Rattle.half_store.specs.declared.vecmap.search.Scan.{Scan}
 use Rattle.std.specs.Prelude.{Result}
-use Rattle.half_store.specs.Search.{StoreSearch, ComparesInOrder}
+use Rattle.half_store.specs.Search.{StoreSearch, IsStoreSearchCost}
 use Rattle.halfbrown.specs.Lookup.{IsMatch, HasNoMatch, MatchSearch}
 use Rattle.halfbrown.proofs.lemmas.pairs.Indices.{first_matched, index_of_first, none_at, absent_of_none}
-
-module _ {K V S : Type 0} (hash : S → K → ℕ) (wanted : ℕ) (m : State K V S) (before after : Work) where
-  -- what a search by a match costs, from what the store says of its work
-  pub match_costs : (is_vec : Bool) → m.is_vec ≡ is_vec → (scan : Scan) (index : Option ℕ) (hashes : List ℕ)
-      → (is_vec ≡ false → hashes ≡ map (hash m.builder) (keys_of m.pairs))
-      → (is_vec ≡ true → ComparesInOrder scan index (length m.pairs) before after)
-      → (is_vec ≡ false → IfSome index (λ _. IsTableHitCost hashes (buckets_of m.capacity) wanted before after))
-      → (is_vec ≡ false → IfNone index (after ≡ work_after_missing hashes (buckets_of m.capacity) wanted before))
-      → (is_vec ≡ false → IfSome index (λ at. after.looked ≡ before.looked + hit_reads_in (store_in m).table at))
-      → (is_vec ≡ false → all_hit_reads_in (store_in m).table (length hashes) ≡ filling_reach (buckets_of m.capacity) hashes)
-      → (is_vec ≡ false → reach hashes (buckets_of m.capacity) wanted ≤ length hashes + 1) → IsSearchCost hash wanted m index 0 before after
-  match_costs is_vec form scan index hashes is_map vector found missing hit hits near = grind (arith, common_steps, length-keys_of)
 
 module _ {K V S : Type 0} (hash : S → K → ℕ) (wanted own : ℕ) (m : State K V S) (before after : Work) (index : Option ℕ) where
   -- the costs under one hash are those under another that is the same in a table
@@ -76,9 +64,14 @@ module _ {K V S : Type 0} (test : K → Bool) (returns : K → Bool → Type 0) 
     pub looks_up : (result : Result Found Vacancy) → MatchSearch returns hash wanted m result → KeySearch test own m result
     looks_up result found = grind (arith, common_steps, absent_of_no_match, index_of_match, vacancy_for)
 
-module _ {K V S : Type 0} (returns : K → Bool → Type 0) (hash : S → K → ℕ) (wanted : ℕ) (s : StoreState K V) (builder : S)
+module _ {K V S : Type 0} (hash : S → K → ℕ) (wanted : ℕ) (s : StoreState K V) (builder : S)
     (hashed : s.is_vec ≡ false → s.table.hashes ≡ map (hash builder) (keys_of s.pairs)) where
   -- a search of the store by the match is one of the map
-  pub matches_of : (result : Result Found Vacancy) → StoreSearch returns s wanted result
+  pub matches_of : (returns : K → Bool → Type 0) (result : Result Found Vacancy) → StoreSearch returns s wanted result
       → MatchSearch returns hash wanted (state_in s builder) result
-  matches_of result found = grind (arith, common_steps, same_Some, slice_get, slice_get-map)
+  matches_of returns result found = grind (arith, common_steps, same_Some, slice_get, slice_get-map)
+
+  -- and costs as much
+  pub match_costs : (scan : Scan) (index : Option ℕ) (before after : Work) → IsStoreSearchCost s wanted scan index before after
+      → IsSearchCost hash wanted (state_in s builder) index 0 before after
+  match_costs scan index before after cost = grind (arith, common_steps, length-keys_of)
