@@ -1,5 +1,5 @@
 -- What an insertion does or hands back, and the capacity for one pair more that it makes first.
-use Rattle.std.specs.Prelude.{◌≡◌, ℕ, Bool, Option, Some, Result, OnOk, OnErr, IfOk, IfErr, ◌+◌, ◌<◌, nat_lt, [], ◌∷◌, ◌++◌, length, if◌then◌else◌}
+use Rattle.std.specs.Prelude.{◌≡◌, ℕ, Bool, Option, Some, Result, OnOk, OnErr, IfOk, IfErr, ◌+◌, ◌<◌, nat_lt, length, if◌then◌else◌}
 use Rattle.std.specs.Result.{result_map_both}
 use Rattle.halfbrown.specs.declared.refused.Refused.{Refused}
 use Rattle.halfbrown.specs.Growth.{is_vec_after, insert_needs, new_key_needs, Refusal, IsRefusal, IsGrantable, capacity_after, Grants}

@@ -63,8 +63,7 @@ impl<K: Eq + Hash, V, S: KeyHasher<K>, L: Limit> LimitedHashMap<K, V, S, L> {
         requires equal { IfSome (slice_get (keys_of self.old.pairs) index)
             (λ k. K.eq key k ≡ true) }
         ensures old { slice_get (keys_of self.old.pairs) index ≡ Some result }
-        ensures after { WithPairs self.old (set_key_at self.old.pairs index key) self.new }
-        ensures exact { self.new ≡ map_with_pairs self.old (set_key_at self.old.pairs index key) }
+        ensures after { self.new ≡ map_with_pairs self.old (set_key_at self.old.pairs index key) }
         ensures replaced { HasKeyReplaced K.eq self.old.pairs key self.new.pairs }
         ensures valid { IsValid L.LIMIT K.eq self.new }
     {

@@ -159,12 +159,12 @@ module _ {K V S L H : Type 0} {e : EqGhosts K} {h : HashGhosts K} {b : HasherGho
       }
 
   -- the index is within where the map has the pairs with another key
-  pub rekeyed_within : (key : K) (m : State K V S) → WithPairs o.map.now (set_key_at o.map.now.pairs o.index key) m → o.index < length m.pairs
-  rekeyed_within key m after = omega (arith, ap length after.pairs, length-set_key_at o.map.now.pairs o.index key, o.within)
+  pub rekeyed_within : (key : K) → o.index < length (set_key_at o.map.now.pairs o.index key)
+  rekeyed_within key = omega (arith, length-set_key_at o.map.now.pairs o.index key, o.within)
 
   -- the entry where its map has the pairs with another key
   pub rekeyed_entry : (key : K) (map : MutBor (State K V S)) → map.ghost_name ≡ o.map.ghost_name
-      → WithPairs o.map.now (set_key_at o.map.now.pairs o.index key) map.now
+      → map.now ≡ map_with_pairs o.map.now (set_key_at o.map.now.pairs o.index key)
       → IsRekeyed (occupied o) key (record { map = map; index = Some o.index; vacant = None })
   rekeyed_entry key map same after = grind (arith, common_steps, o.within, key-set_key_at, slice_get, swap_remove_at-set_key_at, values_of-set_key_at)
 

@@ -1,13 +1,8 @@
 -- What a search costs.
-use Rattle.halfbrown.proofs.Common.{◌≡◌, ℕ, ◌+◌, ◌<◌, ◌≤◌, Bool, true, false, length, arith, List, get_or, slice_get, Option, map, IfSome, common_steps}
+use Rattle.halfbrown.proofs.Common.{◌≡◌, ℕ, ◌<◌, Bool, true, false, length, arith, get_or, slice_get, Option, map, common_steps}
 use Rattle.halfbrown.proofs.Common.{length-keys_of, slice_get-get_or, slice_get-map, same_Some, IsDistinct, keys_of, found_index, index_of, StoreState, Work}
-use Rattle.halfbrown.proofs.Common.{Found, Vacancy, IsSearchCost, state_in, IsIndexOf, IsAbsent, KeySearch, State, store_in, IsPlacedIn, IsVacancyIn}
-use Rattle.std.proofs.Common.{IfNone}
-use Rattle.half_store.specs.Reach.{reach, filling_reach}
-use Rattle.half_store.specs.Capacity.{buckets_of}
-use Rattle.half_store.specs.Work.{IsTableHitCost, work_after_missing}
+use Rattle.halfbrown.proofs.Common.{Found, Vacancy, IsSearchCost, state_in, IsIndexOf, IsAbsent, KeySearch, State, IsPlacedIn, IsVacancyIn}
 use Rattle.std.proofs.Props.{props}
-use Rattle.half_store.specs.Table.{hit_reads_in, all_hit_reads_in}
 use Rattle.half_store.specs.declared.vecmap.search.Scan.{Scan}
 use Rattle.std.specs.Prelude.{Result}
 use Rattle.half_store.specs.Search.{StoreSearch, IsStoreSearchCost}
